@@ -25,3 +25,25 @@ impl Clone for Epr {
         })
     }
 }
+
+/// Where an answer goes (WS-Addressing 1.0 Core, section 3.4).
+#[derive(Debug, PartialEq, Eq, Drop)]
+pub enum Reply {
+    /// Back on the connection that the request came on.
+    Anonymous,
+    /// Nowhere.
+    Nobody,
+    At(Epr),
+}
+
+impl Clone for Reply {
+    ghost is_clone = { λ reply copy. copy ≡ reply };
+
+    fn clone(&self) -> Result<Reply, AllocError> {
+        match self {
+            Reply::Anonymous => Ok(Reply::Anonymous),
+            Reply::Nobody => Ok(Reply::Nobody),
+            Reply::At(epr) => Ok(Reply::At(epr.clone()?)),
+        }
+    }
+}

@@ -1,6 +1,12 @@
-//! Plain data that every layer speaks: texts, ids, endpoints and names of the protocol.
+//! Plain data that every layer speaks: texts, ids, endpoints, messages, targets, records, events and outs.
 #![tactic(auto)]
 
 pub mod epr;
+pub mod event;
+pub mod id;
+pub mod message;
 pub mod notice;
+pub mod outs;
+pub mod record;
+pub mod target;
 pub mod text;

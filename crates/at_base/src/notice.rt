@@ -20,3 +20,11 @@ pub enum Notice {
     Aborted,
     Committed,
 }
+
+/// What a participant answers to Prepare (WS-AtomicTransaction 1.2, section 3.3.3).
+#[derive(Clone, Copy, Debug, PartialEq, Eq)]
+pub enum Vote {
+    Prepared,
+    ReadOnly,
+    Aborted,
+}
