@@ -1,0 +1,3 @@
+pub mod Forest
+pub mod Children
+pub mod Depth
