@@ -1,3 +1,4 @@
 pub mod Forest
 pub mod Children
 pub mod Depth
+pub mod Refusals

@@ -7,3 +7,4 @@ pub mod reader;
 mod scanner;
 mod scope;
 pub mod tree;
+pub mod writer;

@@ -1,6 +1,9 @@
 //! The reader of a document. This first form takes no reference, CDATA section, comment, XML declaration, byte order
 //! mark or value in single quotes.
 
+ghost use Rattle.std.specs.Prelude.{IfOk, IfErr};
+ghost use Rattle.xml_profile.specs.Refusals.{IsText, Refuses};
+
 use crate::chars::{is_char, parts};
 use crate::name::{Attribute, Attributes, QName};
 use crate::scanner::Scanner;
@@ -314,7 +317,10 @@ impl<'a> Reader<'a> {
     }
 }
 
-fn read_text(alloc: Global, bytes: &[u8]) -> Result<Tree, TreeRefusal> {
+fn read_text(alloc: Global, bytes: &[u8]) -> Result<Tree, TreeRefusal>
+    requires { IsText bytes.now }
+    ensures { IfErr result (Refuses bytes.now) }
+{
     let mut reader = Reader {
         alloc,
         scanner: Scanner::new(bytes),
@@ -338,7 +344,10 @@ fn read_text(alloc: Global, bytes: &[u8]) -> Result<Tree, TreeRefusal> {
 /// The tree that the bytes spell, or the first refusal that holds, in the order of [`TreeRefusal`].
 ///
 /// A document is white space, one element and white space. Depth and counts are judged of a text that is spelled.
-pub fn read_tree(alloc: Global, bytes: &[u8]) -> Result<Tree, TreeRefusal> {
+pub fn read_tree(alloc: Global, bytes: &[u8]) -> Result<Tree, TreeRefusal>
+    ensures ok { IfOk result (λ _. IsText bytes.now) }
+    ensures err { IfErr result (Refuses bytes.now) }
+{
     if bytes.len() > BYTES {
         return Err(TreeRefusal::TooLong);
     }
