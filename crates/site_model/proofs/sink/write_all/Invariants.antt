@@ -1,0 +1,13 @@
+use Rattle.std.proofs.Common.{ℕ, length, ◌≤◌, ◌-◌, take}
+use Rattle.std.specs.Io.KnownBytes.{Appends}
+use Rattle.site_model.proofs.sink.write_all.Given as goal
+
+abbrev pub invariant-loop-at : goal.invariant-loop-at
+invariant-loop-at g l = record {
+  within : l.at ≤ length l.bytes;
+  later : g.K.Sink.faults l.fn.sink ≤ g.K.Sink.faults l.sink;
+  written : Appends (g.K.Sink.contents l.fn.sink) (g.K.Sink.contents l.sink) (take l.at l.bytes);
+}
+
+abbrev pub decreases-loop-at : goal.decreases-loop-at
+decreases-loop-at g l = length l.bytes - l.at

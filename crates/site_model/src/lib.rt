@@ -1,0 +1,8 @@
+//! The outside: what a source, a sink and a node's machine may do, and counts of their faults.
+#![tactic(auto)]
+
+pub mod memory;
+pub mod sink;
+pub mod site;
+pub mod source;
+pub mod sure;
