@@ -3,3 +3,4 @@
 #![tactic(auto)]
 
 pub mod cells;
+pub mod names;
