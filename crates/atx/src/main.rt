@@ -1,0 +1,31 @@
+//! atx: atomic transactions between web services (WS-Coordination 1.2, WS-AtomicTransaction 1.2).
+#![tactic(auto)]
+
+mod cell;
+mod outside;
+pub mod run;
+pub mod wire;
+
+use std::env;
+use std::process::ExitCode;
+
+use site_model::sure::SureSite;
+
+use crate::outside::{Reading, Writing};
+use crate::run::{NO_JOB, NO_MEMORY, run};
+
+fn main(rt: HostRuntime) -> ExitCode {
+    let Ok(args) = env::args(&rt) else {
+        return ExitCode::from(NO_JOB);
+    };
+    let mut words = Vec::new(rt.alloc());
+    for word in args.skip(1) {
+        if words.push(word).is_err() {
+            return ExitCode::from(NO_MEMORY);
+        }
+    }
+    let mut source = Reading::new(rt.stdin());
+    let mut sink = Writing::new(rt.stdout());
+    let mut site = SureSite::new();
+    ExitCode::from(run(rt.alloc(), words.as_slice(), &mut source, &mut sink, &mut site))
+}

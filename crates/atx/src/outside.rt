@@ -1,0 +1,72 @@
+//! Standard input and output as a source and a sink.
+
+use std::io::{Read, Write};
+
+use site_model::sink::Sink;
+use site_model::source::{Failed, Source};
+
+/// A source over any reader.
+pub struct Reading<R: Read> {
+    inner: R,
+    given: u64,
+    faults: u64,
+}
+
+/// A sink over any writer.
+pub struct Writing<W: Write> {
+    inner: W,
+    faults: u64,
+}
+
+impl<R: Read> Reading<R> {
+    pub fn new(inner: R) -> Reading<R> {
+        Reading { inner, given: 0, faults: 0 }
+    }
+}
+
+impl<W: Write> Writing<W> {
+    pub fn new(inner: W) -> Writing<W> {
+        Writing { inner, faults: 0 }
+    }
+}
+
+impl<R: Read> Source for Reading<R> {
+    ghost left = { λ s. R.remaining s.inner };
+
+    ghost given = { λ s. s.given };
+
+    ghost faults = { λ s. s.faults };
+
+    fn read(&mut self, buf: &mut [u8]) -> Result<usize, Failed> {
+        match self.inner.read(buf) {
+            Ok(n) => {
+                self.given = self.given.saturating_add(n as u64);
+                Ok(n)
+            }
+            Err(_) => {
+                self.faults = self.faults.saturating_add(1);
+                Err(Failed)
+            }
+        }
+    }
+}
+
+impl<W: Write> Sink for Writing<W> {
+    ghost contents = { λ s. W.contents s.inner };
+
+    ghost faults = { λ s. s.faults };
+
+    fn write(&mut self, piece: &[u8]) -> Result<usize, Failed> {
+        match self.inner.write(piece) {
+            Ok(0) => {
+                self.faults = self.faults.saturating_add(1);
+                Ok(0)
+            }
+            Ok(n) => Ok(n),
+            Err(_) => {
+                self.faults = self.faults.saturating_add(1);
+                Err(Failed)
+            }
+        }
+    }
+}
