@@ -1,1 +1,3 @@
+pub mod IdText
+pub mod MessageId
 pub mod Numbers

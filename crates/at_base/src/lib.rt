@@ -5,6 +5,7 @@ pub mod epr;
 pub mod event;
 pub mod id;
 pub mod message;
+pub mod message_id;
 pub mod notice;
 pub mod outs;
 pub mod record;

@@ -1,0 +1,2 @@
+mod IdText
+mod Numbers
