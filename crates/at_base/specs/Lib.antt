@@ -1,3 +1,5 @@
+pub mod Chars
 pub mod IdText
 pub mod MessageId
 pub mod Numbers
+pub mod WellFormed

@@ -11,3 +11,4 @@ pub mod outs;
 pub mod record;
 pub mod target;
 pub mod text;
+pub mod well_formed;
