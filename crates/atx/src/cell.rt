@@ -1,13 +1,11 @@
 //! What `cell` prints for one envelope in one state.
 
-use std::alloc::{AllocError, Global};
-
-use at_tables::cells::{Act, Cell, State, coordinator_cell};
-
 use crate::wire::decode::{Arrival, decode};
 use crate::wire::encode::{Answer, Outgoing, encode};
 use crate::wire::endpoint::is_postable;
 use crate::wire::refusal::Refusal;
+use at_tables::cells::{Act, Cell, State, coordinator_cell};
+use std::alloc::{AllocError, Global};
 
 /// What is printed, and whether it is a refusal.
 #[derive(Drop)]
@@ -27,7 +25,12 @@ fn answer_of(act: Act) -> Option<Answer> {
     }
 }
 
-fn push_post(alloc: Global, arrival: &Arrival, act: Act, out: &mut Vec<u8>) -> Result<(), AllocError> {
+fn push_post(
+    alloc: Global,
+    arrival: &Arrival,
+    act: Act,
+    out: &mut Vec<u8>,
+) -> Result<(), AllocError> {
     let (Some(answer), Some(from), Some(to)) = (answer_of(act), &arrival.from, &arrival.to) else {
         return Ok(());
     };
@@ -39,7 +42,16 @@ fn push_post(alloc: Global, arrival: &Arrival, act: Act, out: &mut Vec<u8>) -> R
         Some(id) => Some(id.as_str()),
         None => None,
     };
-    encode(alloc, &Outgoing { answer, to: address, from: to.as_str(), relates }, out)?;
+    encode(
+        alloc,
+        &Outgoing {
+            answer,
+            to: address,
+            from: to.as_str(),
+            relates,
+        },
+        out,
+    )?;
     out.extend_from_slice(b"\n")
 }
 
@@ -53,7 +65,10 @@ fn push_cell(alloc: Global, cell: Cell, out: &mut Vec<u8>) -> Result<(), AllocEr
 fn refused(alloc: Global, line: &str) -> Result<Printed, AllocError> {
     let mut text = Vec::new(alloc);
     text.extend_from_slice(line.as_bytes())?;
-    Ok(Printed { text, is_refusal: true })
+    Ok(Printed {
+        text,
+        is_refusal: true,
+    })
 }
 
 /// What a refusal prints. Want of memory prints nothing.
@@ -76,5 +91,8 @@ pub fn cell(alloc: Global, bytes: &[u8], state: State) -> Result<Printed, AllocE
     let mut text = Vec::new(alloc);
     push_cell(alloc, cell, &mut text)?;
     push_post(alloc, &arrival, cell.act, &mut text)?;
-    Ok(Printed { text, is_refusal: false })
+    Ok(Printed {
+        text,
+        is_refusal: false,
+    })
 }

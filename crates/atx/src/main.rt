@@ -6,13 +6,11 @@ mod outside;
 pub mod run;
 pub mod wire;
 
-use std::env;
-use std::process::ExitCode;
-
-use site_model::sure::SureSite;
-
 use crate::outside::{Reading, Writing};
 use crate::run::{NO_JOB, NO_MEMORY, run};
+use site_model::sure::SureSite;
+use std::env;
+use std::process::ExitCode;
 
 fn main(rt: HostRuntime) -> ExitCode {
     let Ok(args) = env::args(&rt) else {
@@ -27,5 +25,11 @@ fn main(rt: HostRuntime) -> ExitCode {
     let mut source = Reading::new(rt.stdin());
     let mut sink = Writing::new(rt.stdout());
     let mut site = SureSite::new();
-    ExitCode::from(run(rt.alloc(), words.as_slice(), &mut source, &mut sink, &mut site))
+    ExitCode::from(run(
+        rt.alloc(),
+        words.as_slice(),
+        &mut source,
+        &mut sink,
+        &mut site,
+    ))
 }

@@ -1,9 +1,8 @@
 //! Standard input and output as a source and a sink.
 
-use std::io::{Read, Write};
-
 use site_model::sink::Sink;
 use site_model::source::{Failed, Source};
+use std::io::{Read, Write};
 
 /// A source over any reader.
 pub struct Reading<R: Read> {
@@ -20,7 +19,11 @@ pub struct Writing<W: Write> {
 
 impl<R: Read> Reading<R> {
     pub fn new(inner: R) -> Reading<R> {
-        Reading { inner, given: 0, faults: 0 }
+        Reading {
+            inner,
+            given: 0,
+            faults: 0,
+        }
     }
 }
 

@@ -5,14 +5,12 @@ ghost use Rattle.std.specs.Io.KnownBytes.{Appends};
 ghost use Rattle.site_model.specs.Counts.{capped, Rose};
 ghost use Rattle.atx.specs.Words.{IsJob, IsCellJob};
 
-use std::alloc::Global;
-
+use crate::cell::{Printed, cell};
 use at_tables::cells::State;
 use site_model::sink::{Sink, write_all};
 use site_model::site::Site;
 use site_model::source::{ReadFault, Source, read_all};
-
-use crate::cell::{Printed, cell};
+use std::alloc::Global;
 
 /// The job ended: all input was read and all output written.
 pub const DONE: u8 = 0;
@@ -54,9 +52,7 @@ fn print<K: Sink>(sink: &mut K, printed: &Printed) -> u8
     ensures cause { result ≡ 5 → Rose (K.faults sink.old) (K.faults sink.new) }
 {
     match write_all(sink, printed.text.as_slice()) {
-        Ok(()) => {
-            if printed.is_refusal { REFUSED } else { DONE }
-        }
+        Ok(()) => { if printed.is_refusal { REFUSED } else { DONE } }
         Err(_) => SINK_FAILED,
     }
 }

@@ -1,19 +1,17 @@
 //! From bytes to the message that arrived.
 
-use std::alloc::{AllocError, Global};
-
-use at_base::epr::Epr;
-use at_base::notice::{Kind, Notice};
-use at_base::target::Target;
-use at_base::text::Text;
-use xml_profile::reader::read_tree;
-
 use crate::wire::envelope::open_envelope;
 use crate::wire::headers::{Headers, read_headers};
 use crate::wire::names::{ATOMIC, SOAP};
 use crate::wire::refusal::Refusal;
 use crate::wire::target::{target_of, target_of_address};
 use crate::wire::values::is_named;
+use at_base::epr::Epr;
+use at_base::notice::{Kind, Notice};
+use at_base::target::Target;
+use at_base::text::Text;
+use std::alloc::{AllocError, Global};
+use xml_profile::reader::read_tree;
 
 /// A message that arrived.
 #[derive(Drop)]
@@ -42,10 +40,22 @@ impl Arrival {
 /// The notification that an action names, with its body's local name; of those that a coordinator's seat takes.
 fn notice_of(action: &str) -> Option<(Notice, &'static str)> {
     match action {
-        "http://docs.oasis-open.org/ws-tx/wsat/2006/06/Prepared" => Some((Notice::Prepared, "Prepared")),
-        "http://docs.oasis-open.org/ws-tx/wsat/2006/06/ReadOnly" => Some((Notice::ReadOnly, "ReadOnly")),
-        "http://docs.oasis-open.org/ws-tx/wsat/2006/06/Aborted" => Some((Notice::Aborted, "Aborted")),
-        "http://docs.oasis-open.org/ws-tx/wsat/2006/06/Committed" => Some((Notice::Committed, "Committed")),
+        "http://docs.oasis-open.org/ws-tx/wsat/2006/06/Prepared" => Some((
+            Notice::Prepared,
+            "Prepared",
+        )),
+        "http://docs.oasis-open.org/ws-tx/wsat/2006/06/ReadOnly" => Some((
+            Notice::ReadOnly,
+            "ReadOnly",
+        )),
+        "http://docs.oasis-open.org/ws-tx/wsat/2006/06/Aborted" => Some((
+            Notice::Aborted,
+            "Aborted",
+        )),
+        "http://docs.oasis-open.org/ws-tx/wsat/2006/06/Committed" => Some((
+            Notice::Committed,
+            "Committed",
+        )),
         _ => None,
     }
 }
@@ -74,8 +84,27 @@ pub fn decode(alloc: Global, bytes: &[u8], path: &str) -> Result<Arrival, Refusa
         return Err(Refusal::Action);
     };
     if !is_named(&envelope.body.name, ATOMIC, local) {
-        return Err(Refusal::Parameters { name: Text::copied(alloc, "body")? });
+        return Err(Refusal::Parameters {
+            name: Text::copied(alloc, "body")?,
+        });
     }
-    let Headers { to, id, relates, from, reply, fault, .. } = headers;
-    Ok(Arrival { target, notice, to, id, relates, from, reply, fault })
+    let Headers {
+        to,
+        id,
+        relates,
+        from,
+        reply,
+        fault,
+        ..
+    } = headers;
+    Ok(Arrival {
+        target,
+        notice,
+        to,
+        id,
+        relates,
+        from,
+        reply,
+        fault,
+    })
 }

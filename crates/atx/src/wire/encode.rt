@@ -1,13 +1,13 @@
 //! From a message to the bytes of its envelope.
 
-use std::alloc::{AllocError, Global};
-
+use crate::wire::names::{
+    ADDRESSING, ATOMIC, ATOMIC_FAULT, COORDINATION, COORDINATION_FAULT, NONE, SOAP,
+};
 use at_base::text::Text;
+use std::alloc::{AllocError, Global};
 use xml_profile::name::{Attributes, QName};
 use xml_profile::tree::{Child, Children, Tree};
 use xml_profile::writer::write_tree;
-
-use crate::wire::names::{ADDRESSING, ATOMIC, ATOMIC_FAULT, COORDINATION, COORDINATION_FAULT, NONE, SOAP};
 
 /// What a coordinator's seat answers.
 #[derive(Clone, Copy, Debug, PartialEq, Eq)]
@@ -32,16 +32,33 @@ fn name(alloc: Global, space: Option<&str>, local: &str) -> Result<QName, AllocE
         Some(space) => Some(Text::copied(alloc, space)?),
         None => None,
     };
-    Ok(QName { space, local: Text::copied(alloc, local)? })
+    Ok(QName {
+        space,
+        local: Text::copied(alloc, local)?,
+    })
 }
 
-fn element(alloc: Global, space: Option<&str>, local: &str, children: Vec<Child>) -> Result<Child, AllocError> {
+fn element(
+    alloc: Global,
+    space: Option<&str>,
+    local: &str,
+    children: Vec<Child>,
+) -> Result<Child, AllocError> {
     let name = name(alloc, space, local)?;
     let attributes = Attributes::from_vec(Vec::new(alloc));
-    Ok(Child::Element(Tree { name, attributes, children: Children::from_vec(children) }))
+    Ok(Child::Element(Tree {
+        name,
+        attributes,
+        children: Children::from_vec(children),
+    }))
 }
 
-fn text_element(alloc: Global, space: Option<&str>, local: &str, text: &str) -> Result<Child, AllocError> {
+fn text_element(
+    alloc: Global,
+    space: Option<&str>,
+    local: &str,
+    text: &str,
+) -> Result<Child, AllocError> {
     let mut children = Vec::new(alloc);
     children.push(Child::Text(Text::copied(alloc, text)?))?;
     element(alloc, space, local, children)
@@ -82,7 +99,13 @@ fn header(alloc: Global, outgoing: &Outgoing<'_>) -> Result<Child, AllocError> {
 }
 
 /// A fault of SOAP 1.1 (section 4.4), with the standard's name of it in its detail.
-fn fault(alloc: Global, space: &str, local: &str, code: &str, text: &str) -> Result<Child, AllocError> {
+fn fault(
+    alloc: Global,
+    space: &str,
+    local: &str,
+    code: &str,
+    text: &str,
+) -> Result<Child, AllocError> {
     let mut inside = Vec::new(alloc);
     inside.push(element(alloc, Some(space), local, Vec::new(alloc))?)?;
     let mut parts = Vec::new(alloc);
@@ -97,9 +120,21 @@ fn body(alloc: Global, answer: Answer) -> Result<Child, AllocError> {
     inside.push(match answer {
         Answer::Commit => element(alloc, Some(ATOMIC), "Commit", Vec::new(alloc))?,
         Answer::Rollback => element(alloc, Some(ATOMIC), "Rollback", Vec::new(alloc))?,
-        Answer::InvalidState => fault(alloc, COORDINATION, "InvalidState", "wscoor:InvalidState", "invalid state")?,
+        Answer::InvalidState => fault(
+            alloc,
+            COORDINATION,
+            "InvalidState",
+            "wscoor:InvalidState",
+            "invalid state",
+        )?,
         Answer::UnknownTransaction => {
-            fault(alloc, ATOMIC, "UnknownTransaction", "wsat:UnknownTransaction", "unknown transaction")?
+            fault(
+                alloc,
+                ATOMIC,
+                "UnknownTransaction",
+                "wsat:UnknownTransaction",
+                "unknown transaction",
+            )?
         }
     })?;
     element(alloc, Some(SOAP), "Body", inside)
@@ -112,6 +147,10 @@ pub fn encode(alloc: Global, outgoing: &Outgoing<'_>, out: &mut Vec<u8>) -> Resu
     parts.push(body(alloc, outgoing.answer)?)?;
     let name = name(alloc, Some(SOAP), "Envelope")?;
     let attributes = Attributes::from_vec(Vec::new(alloc));
-    let tree = Tree { name, attributes, children: Children::from_vec(parts) };
+    let tree = Tree {
+        name,
+        attributes,
+        children: Children::from_vec(parts),
+    };
     write_tree(alloc, &tree, out)
 }

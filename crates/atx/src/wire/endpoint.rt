@@ -1,14 +1,12 @@
 //! Endpoints (WS-Addressing 1.0 Core, section 2), and where a post to one goes.
 
-use std::alloc::{AllocError, Global};
-
-use at_base::epr::Epr;
-use at_base::text::Text;
-use url::{ParseError, Url};
-use xml_profile::tree::{Child, Tree};
-
 use crate::wire::names::ADDRESSING;
 use crate::wire::values::{is_named, value_of};
+use at_base::epr::Epr;
+use at_base::text::Text;
+use std::alloc::{AllocError, Global};
+use url::{ParseError, Url};
+use xml_profile::tree::{Child, Tree};
 
 /// The most bytes of an endpoint's address and reference parameters together.
 pub const ENDPOINT_BYTES: usize = 2_048;
@@ -39,9 +37,13 @@ pub fn read_epr(alloc: Global, tree: &Tree) -> Result<Option<Epr>, AllocError> {
         }
     }
     match address {
-        Some(address) if !address.as_str().is_empty() && address.as_str().len() <= ENDPOINT_BYTES => {
-            Ok(Some(Epr { address, params: Text::copied(alloc, "")? }))
-        }
+        Some(address) if !address.as_str().is_empty() && address.as_str().len() <= ENDPOINT_BYTES =>
+            {
+                Ok(Some(Epr {
+                    address,
+                    params: Text::copied(alloc, "")?,
+                }))
+            }
         _ => Ok(None),
     }
 }

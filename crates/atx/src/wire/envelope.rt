@@ -1,12 +1,10 @@
 //! Envelopes (SOAP 1.1, section 4).
 
-use std::alloc::Global;
-
-use xml_profile::tree::Tree;
-
 use crate::wire::names::{ADDRESSING, COORDINATION, NEXT_ACTOR, SOAP};
 use crate::wire::refusal::Refusal;
 use crate::wire::values::{attribute, elements, is_named};
+use std::alloc::Global;
+use xml_profile::tree::Tree;
 
 /// The header blocks and the one element of the body.
 #[derive(Drop)]
@@ -17,7 +15,10 @@ pub struct Envelope<'a> {
 
 /// Whether a block is a reference parameter (WS-Addressing 1.0 SOAP Binding, section 3.3).
 pub fn is_reference_parameter(block: &Tree) -> bool {
-    matches!(attribute(block, ADDRESSING, "IsReferenceParameter"), Some("true" | "1"))
+    matches!(
+        attribute(block, ADDRESSING, "IsReferenceParameter"),
+        Some("true" | "1")
+    )
 }
 
 fn is_understood(block: &Tree) -> bool {
@@ -28,12 +29,17 @@ fn is_understood(block: &Tree) -> bool {
         }
         _ => false,
     };
-    is_addressing || is_named(&block.name, COORDINATION, "CoordinationContext") || is_reference_parameter(block)
+    is_addressing
+        || is_named(&block.name, COORDINATION, "CoordinationContext")
+        || is_reference_parameter(block)
 }
 
 /// Whether a block is for this node and has to be understood (SOAP 1.1, sections 4.2.2 and 4.2.3).
 fn must_be_understood(block: &Tree) -> bool {
-    let is_ours = matches!(attribute(block, SOAP, "actor"), None | Some("" | NEXT_ACTOR));
+    let is_ours = matches!(
+        attribute(block, SOAP, "actor"),
+        None | Some("" | NEXT_ACTOR)
+    );
     is_ours && attribute(block, SOAP, "mustUnderstand") == Some("1")
 }
 
@@ -50,7 +56,9 @@ fn check_root(root: &Tree) -> Result<(), Refusal> {
 fn check_headers(headers: &[&Tree]) -> Result<(), Refusal> {
     for block in headers {
         if must_be_understood(block) && !is_understood(block) {
-            return Err(Refusal::MustUnderstand { name: block.name.local.clone()? });
+            return Err(Refusal::MustUnderstand {
+                name: block.name.local.clone()?,
+            });
         }
     }
     Ok(())
@@ -63,7 +71,10 @@ pub fn open_envelope(alloc: Global, root: &Tree) -> Result<Envelope<'_>, Refusal
     check_root(root)?;
     let parts = elements(alloc, root)?;
     let (headers, rest) = match parts.as_slice() {
-        [first, rest @ ..] if is_named(&first.name, SOAP, "Header") => (elements(alloc, first)?, rest),
+        [first, rest @ ..] if is_named(&first.name, SOAP, "Header") => (
+            elements(alloc, first)?,
+            rest,
+        ),
         all => (Vec::new(alloc), all),
     };
     let Some(body) = rest.first().copied() else {

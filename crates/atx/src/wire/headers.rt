@@ -1,16 +1,14 @@
 //! Addressing headers (WS-Addressing 1.0 Core section 3, SOAP Binding section 3).
 
-use std::alloc::{AllocError, Global};
-
-use at_base::epr::Epr;
-use at_base::text::Text;
-use xml_profile::tree::Tree;
-
 use crate::wire::endpoint::{is_postable, read_epr, url_of};
 use crate::wire::envelope::{Envelope, is_reference_parameter};
 use crate::wire::names::{ADDRESSING, ANONYMOUS, COORDINATION, NONE, REPLY_RELATION, SOAP};
 use crate::wire::refusal::Refusal;
 use crate::wire::values::{is_named, plain_attribute, value_of};
+use at_base::epr::Epr;
+use at_base::text::Text;
+use std::alloc::{AllocError, Global};
+use xml_profile::tree::Tree;
 
 /// What the headers of an envelope say.
 #[derive(Drop)]
@@ -27,15 +25,23 @@ pub struct Headers {
 }
 
 fn missing(alloc: Global, name: &str) -> Result<Refusal, AllocError> {
-    Ok(Refusal::MissingHeader { name: Text::copied(alloc, name)? })
+    Ok(Refusal::MissingHeader {
+        name: Text::copied(alloc, name)?,
+    })
 }
 
 fn invalid(alloc: Global, name: &str) -> Result<Refusal, AllocError> {
-    Ok(Refusal::InvalidHeader { name: Text::copied(alloc, name)? })
+    Ok(Refusal::InvalidHeader {
+        name: Text::copied(alloc, name)?,
+    })
 }
 
 /// The one header of a name, if any. A repeated one is invalid; a reference parameter is none.
-fn only<'a>(alloc: Global, envelope: &Envelope<'a>, local: &str) -> Result<Option<&'a Tree>, Refusal> {
+fn only<'a>(
+    alloc: Global,
+    envelope: &Envelope<'a>,
+    local: &str,
+) -> Result<Option<&'a Tree>, Refusal> {
     let mut found: Option<&'a Tree> = None;
     for block in envelope.headers.as_slice() {
         if is_named(&block.name, ADDRESSING, local) && !is_reference_parameter(block) {
@@ -69,7 +75,10 @@ fn endpoint_of(alloc: Global, block: Option<&Tree>, local: &str) -> Result<Optio
 fn relates_to(alloc: Global, envelope: &Envelope<'_>) -> Result<Option<Text>, AllocError> {
     for block in envelope.headers.as_slice() {
         if is_named(&block.name, ADDRESSING, "RelatesTo") && !is_reference_parameter(block) {
-            if matches!(plain_attribute(block, "RelationshipType"), None | Some(REPLY_RELATION)) {
+            if matches!(
+                plain_attribute(block, "RelationshipType"),
+                None | Some(REPLY_RELATION)
+            ) {
                 return Ok(Some(value_of(alloc, block)?));
             }
         }
@@ -107,12 +116,16 @@ fn check_answerable(alloc: Global, endpoint: &Option<Epr>, local: &str) -> Resul
 }
 
 const CREATE: &str = "http://docs.oasis-open.org/ws-tx/wscoor/2006/06/CreateCoordinationContext";
+
 const REGISTER: &str = "http://docs.oasis-open.org/ws-tx/wscoor/2006/06/Register";
+
 const WORK: &str = "http://example.org/atx/work/1/Work";
 
 fn has_context(envelope: &Envelope<'_>) -> bool {
     for block in envelope.headers.as_slice() {
-        if is_named(&block.name, COORDINATION, "CoordinationContext") && !is_reference_parameter(block) {
+        if is_named(&block.name, COORDINATION, "CoordinationContext")
+            && !is_reference_parameter(block)
+        {
             return true;
         }
     }
@@ -158,7 +171,15 @@ pub fn read_headers(alloc: Global, envelope: &Envelope<'_>) -> Result<Headers, R
     let id = text_of(alloc, id)?;
     let relates = relates_to(alloc, envelope)?;
     let from = from.filter(|from| is_place(from.address.as_str()));
-    let headers = Headers { to, action, id, relates, from, reply, fault };
+    let headers = Headers {
+        to,
+        action,
+        id,
+        relates,
+        from,
+        reply,
+        fault,
+    };
     check_request(alloc, envelope, &headers)?;
     Ok(headers)
 }

@@ -3,9 +3,8 @@
 ghost use Rattle.std.specs.Prelude.{◌≡◌};
 ghost use Rattle.atx.specs.declared.wire.refusal.Refusal.TheVariants.{NoMemory};
 
-use std::alloc::{AllocError, AllocFailed};
-
 use at_base::text::Text;
+use std::alloc::{AllocError, AllocFailed};
 use thiserror::Error;
 use xml_profile::reader::TreeRefusal;
 

@@ -1,12 +1,10 @@
 //! The targets of paths.
 
-use std::alloc::{AllocError, Global};
-
+use crate::wire::endpoint::url_of;
 use at_base::id::Id;
 use at_base::notice::Kind;
 use at_base::target::{Seat, Target};
-
-use crate::wire::endpoint::url_of;
+use std::alloc::{AllocError, Global};
 
 /// A decimal of 1 to 65,535 without sign or leading zero.
 fn seat_number(text: &str) -> Option<u16> {
@@ -26,7 +24,10 @@ pub fn target_of(path: &str) -> Option<Target> {
     let (id, number) = rest.split_once('/')?;
     let id = Id::read(id.as_bytes())?;
     let number = seat_number(number)?;
-    Some(Target::Coordinator { id, seat: Seat { number, kind } })
+    Some(Target::Coordinator {
+        id,
+        seat: Seat { number, kind },
+    })
 }
 
 /// The target of an address, by the path of its URL. The host isn't compared.

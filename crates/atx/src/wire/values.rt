@@ -1,8 +1,7 @@
 //! Texts, attributes and children of an element.
 
-use std::alloc::{AllocError, Global};
-
 use at_base::text::Text;
+use std::alloc::{AllocError, Global};
 use xml_profile::name::QName;
 use xml_profile::tree::{Child, Tree};
 
