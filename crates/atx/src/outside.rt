@@ -5,6 +5,7 @@ use site_model::source::{Failed, Source};
 use std::io::{Read, Write};
 
 /// A source over any reader.
+#[derive(Drop)]
 pub struct Reading<R: Read> {
     inner: R,
     given: u64,
@@ -12,6 +13,7 @@ pub struct Reading<R: Read> {
 }
 
 /// A sink over any writer.
+#[derive(Drop)]
 pub struct Writing<W: Write> {
     inner: W,
     faults: u64,

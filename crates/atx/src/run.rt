@@ -1,6 +1,7 @@
 //! The top call.
 
-ghost use Rattle.std.specs.Prelude.{ℕ, ◌≡◌, ◌+◌, ◌<◌, ◌≤◌, IsTrue, IfSome, IsNone, list_any, nat_eq, map, string_bytes, ◌∷◌, []};
+ghost use Rattle.std.specs.Prelude.{ℕ, ◌≡◌, ◌↔◌, ◌+◌, ◌<◌, ◌≤◌, IsTrue, IfSome, None, nat_eq, map, string_bytes, ◌∷◌, []};
+ghost use Rattle.std.specs.List.{list_any};
 ghost use Rattle.std.specs.Io.KnownBytes.{Appends};
 ghost use Rattle.site_model.specs.Counts.{capped, Rose};
 ghost use Rattle.atx.specs.Words.{IsJob, IsCellJob};
@@ -36,7 +37,7 @@ pub const TOO_LONG: u8 = 10;
 /// The state of `cell --state S`; none where the words are no job.
 fn job_of(words: &[String]) -> Option<State>
     ensures found { IfSome result (IsCellJob (map string_bytes words.now)) }
-    ensures only { IsNone result → ¬ (IsJob (map string_bytes words.now)) }
+    ensures only { result ≡ None → ¬ (IsJob (map string_bytes words.now)) }
 {
     match words {
         [command, option, name] if command.as_str() == "cell" && option.as_str() == "--state" => {
