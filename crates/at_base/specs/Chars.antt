@@ -6,7 +6,7 @@ use Rattle.std.specs.Str.{chars}
 abbrev pub is_xml_char : ℕ → Bool
 is_xml_char c =
     nat_eq c 0x9 || nat_eq c 0xA || nat_eq c 0xD || (nat_le 0x20 c && nat_le c 0xD7FF)
-        || (nat_le 0xE000 c && nat_le c 0xFFFD) || (nat_le 0x10000 c && nat_le c 0x10FFFF)
+    || (nat_le 0xE000 c && nat_le c 0xFFFD) || (nat_le 0x10000 c && nat_le c 0x10FFFF)
 
 -- a text of such characters, in UTF-8
 abbrev pub IsXmlText : List ℕ → Type 0

@@ -1,20 +1,20 @@
--- The printed names of states, and the printed texts of acts.
+-- How a state is named and how an act is printed.
 use Rattle.std.specs.Prelude.{ℕ, List, codes}
 use Rattle.at_tables.specs.declared.cells.State.{State}
 use Rattle.at_tables.specs.declared.cells.Act.{Act}
 use Rattle.at_tables.specs.declared.cells.State.TheVariants as states
 use Rattle.at_tables.specs.declared.cells.Act.TheVariants as acts
 
-abbrev pub state_text : State → List ℕ
-state_text states.None = codes "None"
-state_text states.Registering = codes "Registering"
-state_text states.Active = codes "Active"
-state_text states.Preparing = codes "Preparing"
-state_text states.Prepared = codes "Prepared"
-state_text states.PreparedSuccess = codes "PreparedSuccess"
-state_text states.Committing = codes "Committing"
-state_text states.Aborting = codes "Aborting"
-state_text states.Completing = codes "Completing"
+abbrev pub state_name : State → List ℕ
+state_name states.None = codes "None"
+state_name states.Registering = codes "Registering"
+state_name states.Active = codes "Active"
+state_name states.Preparing = codes "Preparing"
+state_name states.Prepared = codes "Prepared"
+state_name states.PreparedSuccess = codes "PreparedSuccess"
+state_name states.Committing = codes "Committing"
+state_name states.Aborting = codes "Aborting"
+state_name states.Completing = codes "Completing"
 
 abbrev pub act_text : Act → List ℕ
 act_text acts.Ignore = codes "ignore"

@@ -3,4 +3,7 @@
 #![tactic(auto)]
 
 pub mod cells;
+pub mod laws;
 pub mod names;
+#[cfg(test)]
+mod tests;

@@ -1,16 +1,14 @@
-//! The printed names of states and acts.
+//! The name of a state, and the text of an act.
 
 ghost use Rattle.std.specs.Prelude.{◌≡◌, IfSome, Some};
-ghost use Rattle.at_tables.specs.Texts.{state_text, act_text};
-ghost use Rattle.at_tables.specs.declared.cells.State.{State};
+ghost use Rattle.at_tables.specs.Texts.{state_name, act_text};
 
 use crate::cells::{Act, State};
-use std::fmt;
 
 impl State {
-    /// Its name.
+    /// The name of the state.
     pub fn name(self) -> &'static str
-        ensures { result.now ≡ state_text self }
+        ensures { result.now ≡ state_name self }
     {
         match self {
             State::None => "None",
@@ -25,10 +23,10 @@ impl State {
         }
     }
 
-    /// The state of this name. None exactly where no state has it.
-    pub fn named(name: &str) -> Option<State>
-        ensures found { IfSome result (λ state. state_text state ≡ name.now) }
-        ensures every { (state : State) → state_text state ≡ name.now → result ≡ Some state }
+    /// The state of that name. None exactly where no state has it.
+    pub fn from_name(name: &str) -> Option<State>
+        ensures named { IfSome result (λ state. name.now ≡ state_name state) }
+        ensures every { (state : State) → name.now ≡ state_name state → result ≡ Some state }
     {
         match name {
             "None" => Some(State::None),
@@ -46,7 +44,7 @@ impl State {
 }
 
 impl Act {
-    /// Its printed text.
+    /// The act as `cell` prints it.
     pub fn text(self) -> &'static str
         ensures { result.now ≡ act_text self }
     {
@@ -71,27 +69,5 @@ impl Act {
             Act::TellCommitted => "told committed",
             Act::TellAborted => "told aborted",
         }
-    }
-}
-
-impl fmt::Display for State {
-    ghost use Rattle.std.specs.Prelude.{Some};
-    ghost use Rattle.at_tables.specs.Texts.{state_text};
-
-    ghost output = { λ state. Some (state_text state) };
-
-    fn fmt<W: fmt::Write>(&self, f: &mut fmt::Formatter<W>) -> fmt::Result {
-        f.write_str(self.name())
-    }
-}
-
-impl fmt::Display for Act {
-    ghost use Rattle.std.specs.Prelude.{Some};
-    ghost use Rattle.at_tables.specs.Texts.{act_text};
-
-    ghost output = { λ act. Some (act_text act) };
-
-    fn fmt<W: fmt::Write>(&self, f: &mut fmt::Formatter<W>) -> fmt::Result {
-        f.write_str(self.text())
     }
 }

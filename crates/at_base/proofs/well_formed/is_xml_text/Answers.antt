@@ -10,5 +10,5 @@ pub returns : goal.returns
 returns c =
     let utf8 : IsUtf8 c.args.text.now = subst IsUtf8 c.as_str.ensures c.as_str.utf8 in
     let same : c.all.result ≡ list_all is_xml_char (chars c.args.text.now) =
-        all_from_yields_List is_xml_char _ _ _ c.all.ensures.ran (YieldsList-from_chars c.args.text.now utf8 (c.chars.ensures.rest ∙ c.as_str.ensures)) (λ x b q k. search (rules, tests)) in
+    all_from_yields_List is_xml_char _ _ _ c.all.ensures.ran (YieldsList-from_chars c.args.text.now utf8 (c.chars.ensures.rest ∙ c.as_str.ensures)) (λ x b q k. search (rules, tests)) in
     (λ t. subst IsTrue same t, λ t. subst IsTrue (sym same) t)

@@ -1,0 +1,152 @@
+use crate::epr::Epr;
+use crate::id::Id;
+use crate::message_id::message_id;
+use crate::record::{Record, Seated, Seats};
+use crate::text::Text;
+use crate::well_formed::is_well_formed;
+use std::alloc::{AllocError, Global};
+use std::test::Fail;
+
+// The identifiers were computed by Python's uuid.uuid5(uuid.NAMESPACE_URL, name).
+#[test]
+fn message_ids(rt: HostRuntime) -> Result<(), Fail> {
+    let table = [
+        ("", "urn:uuid:1b4db7eb-4057-5ddf-91e0-36dec72071f5"),
+        (
+            "http://n1.example/i/1-1#create",
+            "urn:uuid:f3ce039b-8bc3-5b00-94b2-fe179860606f",
+        ),
+        (
+            "http://n1.example/i/1-1#work-1",
+            "urn:uuid:979edfd3-ad30-5c3d-991d-b0aff7640695",
+        ),
+        (
+            "http://n3.example/p/d/1-1#register",
+            "urn:uuid:b62e7280-0c3c-5e24-8cfd-269197d5ce42",
+        ),
+    ];
+    for (name, id) in table {
+        assert_eq!(rt;
+            message_id(rt.alloc(), name.as_bytes())?.as_str(),
+            id,
+            "at {name}"
+        );
+    }
+    Ok(())
+}
+
+#[test]
+fn ids_at_their_bounds(rt: HostRuntime) -> Result<(), Fail> {
+    for text in ["1-1", "1-4294967295", "4294967295-1", "10-20"] {
+        let Some(id) = Id::read(text.as_bytes()) else {
+            return Err(Fail::new("no id"));
+        };
+        let mut out = vec![in rt.alloc(); b'x']?;
+        id.put(rt.alloc(), &mut out)?;
+        assert!(rt; &out[1..] == text.as_bytes(), "at {text}");
+    }
+    for text in [
+        "",
+        "-",
+        "1",
+        "1-",
+        "-1",
+        "0-1",
+        "1-0",
+        "01-1",
+        "1-01",
+        "+1-1",
+        "1-+1",
+        "1-1-1",
+        "1--1",
+        " 1-1",
+        "1-1 ",
+        "1_1",
+        "4294967296-1",
+        "1-4294967296",
+        "1-99999999999999999999",
+        "a-1",
+        "1-\u{661}",
+    ] {
+        assert!(rt; Id::read(text.as_bytes()).is_none(), "at {text}");
+    }
+    assert!(rt; Id::read(&[0x31, 0x2d, 0xff]).is_none());
+    Ok(())
+}
+
+fn endpoint(alloc: Global, address: usize, params: usize) -> Result<Epr, AllocError> {
+    Ok(Epr {
+        address: Text::from_string("a".repeat(alloc, address)?),
+        params: Text::from_string("p".repeat(alloc, params)?),
+    })
+}
+
+fn decided(alloc: Global, numbers: &[u16]) -> Result<Record, AllocError> {
+    let mut seats = Vec::new(alloc);
+    for number in numbers {
+        seats.push(Seated {
+            number: *number,
+            endpoint: endpoint(alloc, 1, 0)?,
+        })?;
+    }
+    Ok(Record::Decided {
+        id: Id::new(1, 1),
+        seats: Seats::from_vec(seats),
+    })
+}
+
+fn prepared(alloc: Global, epr: Epr, key: &str, value: usize) -> Result<Record, AllocError> {
+    Ok(Record::LeafPrepared {
+        id: Id::new(1, 1),
+        coordinator: epr,
+        key: Text::copied(alloc, key)?,
+        value: Text::from_string("v".repeat(alloc, value)?),
+    })
+}
+
+#[test]
+fn records_at_their_bounds(rt: HostRuntime) -> Result<(), Fail> {
+    let alloc = rt.alloc();
+    assert!(rt; is_well_formed(&Record::Start { incarnation: 1 }));
+    assert!(rt; !is_well_formed(&Record::Start { incarnation: 0 }));
+    for (address, params, good) in [
+        (1, 0, true),
+        (1, 2047, true),
+        (2048, 0, true),
+        (0, 1, false),
+        (1, 2048, false),
+    ] {
+        let entry = prepared(alloc, endpoint(alloc, address, params)?, "key", 256)?;
+        assert_eq!(rt; is_well_formed(&entry), good, "at {address} and {params}");
+    }
+    for (key, good) in [
+        (
+            "\u{9}\u{a}\u{d} \u{d7ff}\u{e000}\u{fffd}\u{10000}\u{10ffff}",
+            true,
+        ),
+        ("\u{b}", false),
+        ("\u{0}", false),
+        ("\u{fffe}", false),
+        ("\u{ffff}", false),
+    ] {
+        let entry = prepared(alloc, endpoint(alloc, 1, 0)?, key, 0)?;
+        assert_eq!(rt; is_well_formed(&entry), good, "at {key:?}");
+    }
+    assert!(rt; !is_well_formed(&prepared(alloc, endpoint(alloc, 1, 0)?, "key", 257)?));
+    let mut numbers = [0u16; 65];
+    for (place, number) in numbers.iter_mut().enumerate() {
+        *number = place as u16 + 1;
+    }
+    for (numbers, good) in [
+        (&numbers[..64], true),
+        (&numbers[63..], true),
+        (&numbers[..], false),
+        (&numbers[..0], false),
+    ] {
+        assert_eq!(rt; is_well_formed(&decided(alloc, numbers)?), good);
+    }
+    for numbers in [[0, 1], [1, 1], [2, 1]] {
+        assert!(rt; !is_well_formed(&decided(alloc, &numbers)?));
+    }
+    Ok(())
+}
