@@ -41,7 +41,7 @@ fn job_of(words: &[String]) -> Option<State>
 {
     match words {
         [command, option, name] if command.as_str() == "cell" && option.as_str() == "--state" => {
-            State::named(name.as_str())
+            State::from_name(name.as_str())
         }
         _ => None,
     }

@@ -1,5 +1,5 @@
 -- A list of children holds no more below it than it has nodes.
-use Rattle.std.specs.Prelude.{ℕ, List, [], ◌∷◌, ◌≤◌}
+use Rattle.std.specs.Prelude.{List, [], ◌∷◌, ◌≤◌}
 use Rattle.std.proofs.Common.{arith}
 use denote.Param.Weighed.{most}
 use Rattle.xml_profile.specs.Children.{forest_of, nodes}

@@ -1,5 +1,5 @@
 -- The children of an element as one list of nodes: each is a text or an element, with what follows it.
-use Rattle.std.specs.Prelude.{ℕ, List, ◌≡◌, ◌+◌, refl}
+use Rattle.std.specs.Prelude.{ℕ, List, ◌≡◌, refl}
 use base.Stored.{Coded, Gv, gnil, gcons, coded_list, coded_ℕ}
 use Rattle.xml_profile.specs.declared.name.QName.{QName}
 use Rattle.xml_profile.specs.declared.name.Attribute.{Attribute}

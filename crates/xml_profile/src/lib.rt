@@ -3,8 +3,14 @@
 
 mod chars;
 pub mod name;
+pub mod names;
 pub mod reader;
 mod scanner;
 mod scope;
+mod spaces;
+pub mod spellable;
+#[cfg(test)]
+mod tests;
 pub mod tree;
+mod used;
 pub mod writer;

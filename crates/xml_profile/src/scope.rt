@@ -1,14 +1,9 @@
 //! Namespace bindings in scope (Namespaces in XML 1.0, sections 3, 5 and 6).
 
+use crate::names::{XML, XMLNS};
 use at_base::text::Text;
 use std::alloc::{AllocError, AllocFailed, Global};
 use std::collections::BTreeMap;
-
-/// The namespace of prefix `xml`, which needs no declaration.
-pub const XML: &str = "http://www.w3.org/XML/1998/namespace";
-
-/// The namespace of prefix `xmlns`, which no declaration binds.
-pub const XMLNS: &str = "http://www.w3.org/2000/xmlns/";
 
 /// Why reading stops.
 #[derive(Debug, Drop)]

@@ -1,203 +1,249 @@
-//! The writer of the canonical text of a tree: fixed prefixes, all declarations at the root, double quotes.
+//! The writer of the canonical text (XML 1.0; Namespaces in XML 1.0).
+#![tactic(auto, using(crate::proofs::Extending::same, crate::proofs::Extending::by, crate::proofs::Extending::through))]
 
-use crate::name::QName;
-use crate::scope::XML;
+ghost use Rattle.std.specs.Prelude.{◌≡◌, ◌++◌, [], if◌then◌else◌, OnOk, OnErr, codes, map};
+ghost use Rattle.std.specs.List.{flat_map};
+ghost use Rattle.xml_profile.specs.Appending.{Extends};
+ghost use Rattle.xml_profile.specs.Canonical.{prefix_of, prefixed, name_text, text_byte, value_byte, text_text, value_text, equals_text, declaration_text, attribute_text, is_end, start_text, end_text, content_text, canonical_text};
+
+use crate::name::{Attribute, Attributes, QName};
+use crate::names::fixed_prefix;
+use crate::spaces::Spaces;
 use crate::tree::{Child, Children, Tree};
+use crate::used::used_by;
+use itoa::Buffer;
 use std::alloc::{AllocError, Global};
-use std::collections::BTreeMap;
 
-/// The prefix of a namespace of the protocols.
-fn known_prefix(space: &str) -> Option<&'static str> {
-    match space {
-        "http://schemas.xmlsoap.org/soap/envelope/" => Some("s"),
-        "http://www.w3.org/2005/08/addressing" => Some("wsa"),
-        "http://docs.oasis-open.org/ws-tx/wscoor/2006/06" => Some("wscoor"),
-        "http://docs.oasis-open.org/ws-tx/wsat/2006/06" => Some("wsat"),
-        "http://example.org/atx/work/1" => Some("work"),
-        XML => Some("xml"),
-        _ => None,
+/// Adds the canonical text of a tree at the end, in time linear in that text. After an error `out` is as before.
+///
+/// The text spells the tree where the tree can be spelled at all. It has no XML declaration.
+pub fn write_tree(alloc: Global, tree: &Tree, out: &mut Vec<u8>) -> Result<(), AllocError>
+    ensures ok { OnOk result (out.new.items ≡ out.old.items ++ canonical_text tree.now) }
+    ensures err { OnErr result (out.new.items ≡ out.old.items) }
+{
+    let before = out.len();
+    let written = push_tree(alloc, tree, out);
+    if written.is_err() {
+        out.truncate(before);
     }
+    written
 }
 
-/// The namespaces that a tree uses, in order of first use, and the numbers of those without a prefix of their own.
-#[derive(Drop)]
-struct Spaces<'a> {
-    order: Vec<&'a str>,
-    numbers: BTreeMap<&'a str, usize>,
-    unknown: usize,
+fn push_tree(alloc: Global, tree: &Tree, out: &mut Vec<u8>) -> Result<(), AllocError>
+    ensures done { OnOk result (out.new.items ≡ out.old.items ++ canonical_text tree.now) }
+    ensures kept { Extends out.old.items out.new.items }
+{
+    let used = used_by(alloc, tree)?;
+    push_start(&used.numbered, used.declared.as_slice(), tree, out)?;
+    push_content(&used.numbered, &tree.children, out)?;
+    push_end(&used.numbered, tree, out)
 }
 
-impl<'a> Spaces<'a> {
-    fn new(alloc: Global) -> Spaces<'a> {
-        Spaces {
-            order: Vec::new(alloc),
-            numbers: BTreeMap::new(alloc),
-            unknown: 0,
-        }
-    }
-
-    fn note(&mut self, name: &'a QName) -> Result<(), AllocError> {
-        let Some(space) = &name.space else {
-            return Ok(());
-        };
-        let space = space.as_str();
-        if self.numbers.contains_key(space) {
-            return Ok(());
-        }
-        if known_prefix(space).is_none() {
-            self.unknown = self.unknown.saturating_add(1);
-        }
-        self.numbers.insert(space, self.unknown)?;
-        self.order.push(space)?;
-        Ok(())
-    }
-}
-
-fn note_tag<'a>(tree: &'a Tree, spaces: &mut Spaces<'a>) -> Result<(), AllocError> {
-    spaces.note(&tree.name)?;
-    for attribute in tree.attributes.as_slice() {
-        spaces.note(&attribute.name)?;
-    }
-    Ok(())
-}
-
-fn note_children<'a>(children: &'a Children, spaces: &mut Spaces<'a>) -> Result<(), AllocError> {
-    for child in children.as_slice() {
-        match child {
-            Child::Element(inner) => {
-                note_tag(inner, spaces)?;
-                note_children(&inner.children, spaces)?;
-            }
-            Child::Text(_) => {}
-        }
-    }
-    Ok(())
-}
-
-fn push(out: &mut Vec<u8>, text: &str) -> Result<(), AllocError> {
-    out.extend_from_slice(text.as_bytes())
-}
-
-fn push_prefix(spaces: &Spaces<'_>, space: &str, out: &mut Vec<u8>) -> Result<(), AllocError> {
-    match known_prefix(space) {
-        Some(prefix) => push(out, prefix),
-        None => {
-            let number = spaces.numbers.get(space).copied().unwrap_or(0);
-            push(out, "n")?;
-            push(out, itoa::Buffer::new().format(number))
-        }
-    }
-}
-
-fn push_name(spaces: &Spaces<'_>, name: &QName, out: &mut Vec<u8>) -> Result<(), AllocError> {
-    if let Some(space) = &name.space {
-        push_prefix(spaces, space.as_str(), out)?;
-        push(out, ":")?;
-    }
-    push(out, name.local.as_str())
-}
-
-/// The escape of a byte of a text, or of a value in double quotes.
-fn escape(byte: u8, is_value: bool) -> Option<&'static str> {
-    match byte {
-        b'&' => Some("&amp;"),
-        b'<' => Some("&lt;"),
-        b'>' => Some("&gt;"),
-        b'\r' => Some("&#13;"),
-        b'"' if is_value => Some("&quot;"),
-        b'\t' if is_value => Some("&#9;"),
-        b'\n' if is_value => Some("&#10;"),
-        _ => None,
-    }
-}
-
-/// Appends a text with its escapes; in a value also `"`, TAB and LF are escaped.
-pub fn push_escaped(text: &str, is_value: bool, out: &mut Vec<u8>) -> Result<(), AllocError> {
-    for byte in text.as_bytes() {
-        match escape(*byte, is_value) {
-            Some(word) => push(out, word)?,
-            None => out.push(*byte)?,
-        }
-    }
-    Ok(())
-}
-
-fn push_value(text: &str, out: &mut Vec<u8>) -> Result<(), AllocError> {
-    push(out, "=\"")?;
-    push_escaped(text, true, out)?;
-    push(out, "\"")
-}
-
-fn push_declarations(spaces: &Spaces<'_>, out: &mut Vec<u8>) -> Result<(), AllocError> {
-    for space in spaces.order.as_slice() {
-        if *space != XML {
-            push(out, " xmlns:")?;
-            push_prefix(spaces, space, out)?;
-            push_value(space, out)?;
-        }
-    }
-    Ok(())
-}
-
-fn push_attributes(spaces: &Spaces<'_>, tree: &Tree, out: &mut Vec<u8>) -> Result<(), AllocError> {
-    for attribute in tree.attributes.as_slice() {
-        push(out, " ")?;
-        push_name(spaces, &attribute.name, out)?;
-        push_value(attribute.value.as_str(), out)?;
-    }
-    Ok(())
-}
-
-fn push_end(spaces: &Spaces<'_>, name: &QName, out: &mut Vec<u8>) -> Result<(), AllocError> {
-    push(out, "</")?;
-    push_name(spaces, name, out)?;
-    push(out, ">")
-}
-
-/// What stands behind a tag's name. True where children and an end tag follow; else it is one empty tag.
-fn push_rest(spaces: &Spaces<'_>, tree: &Tree, out: &mut Vec<u8>) -> Result<bool, AllocError> {
-    push_attributes(spaces, tree, out)?;
-    let is_empty = tree.children.as_slice().is_empty();
-    push(out, if is_empty { "/>" } else { ">" })?;
-    Ok(!is_empty)
-}
-
-fn push_children(
-    spaces: &Spaces<'_>,
+fn push_content(
+    numbered: &Spaces<'_>,
     children: &Children,
     out: &mut Vec<u8>,
-) -> Result<(), AllocError> {
+) -> Result<(), AllocError>
+    ensures done { OnOk result (out.new.items ≡ out.old.items ++ content_text numbered.now children.now) }
+    ensures kept { Extends out.old.items out.new.items }
+{
     for child in children.as_slice() {
         match child {
-            Child::Element(inner) => {
-                push(out, "<")?;
-                push_name(spaces, &inner.name, out)?;
-                if push_rest(spaces, inner, out)? {
-                    push_children(spaces, &inner.children, out)?;
-                    push_end(spaces, &inner.name, out)?;
-                }
+            Child::Text(text) => push_text(text.as_str(), out)?,
+            Child::Element(tree) => {
+                push_start(numbered, &[], tree, out)?;
+                push_content(numbered, &tree.children, out)?;
+                push_end(numbered, tree, out)?;
             }
-            Child::Text(text) => push_escaped(text.as_str(), false, out)?,
         }
     }
     Ok(())
 }
 
-fn push_root(spaces: &Spaces<'_>, tree: &Tree, out: &mut Vec<u8>) -> Result<(), AllocError> {
-    push(out, "<")?;
-    push_name(spaces, &tree.name, out)?;
-    push_declarations(spaces, out)?;
-    if push_rest(spaces, tree, out)? {
-        push_children(spaces, &tree.children, out)?;
-        push_end(spaces, &tree.name, out)?;
+fn push_start(
+    numbered: &Spaces<'_>,
+    declared: &[&str],
+    tree: &Tree,
+    out: &mut Vec<u8>,
+) -> Result<(), AllocError>
+    ensures done { OnOk result (out.new.items ≡ out.old.items ++ start_text numbered.now (map (λ s. s.now) declared.now) tree.now.name tree.now.attributes tree.now.children) }
+    ensures kept { Extends out.old.items out.new.items }
+{
+    push_open(numbered, &tree.name, out)?;
+    push_declarations(numbered, declared, out)?;
+    push_attributes(numbered, &tree.attributes, out)?;
+    push_start_close(&tree.children, out)
+}
+
+/// The open of a start tag, with its name.
+fn push_open(numbered: &Spaces<'_>, name: &QName, out: &mut Vec<u8>) -> Result<(), AllocError>
+    ensures done { OnOk result (out.new.items ≡ out.old.items ++ (codes "<" ++ name_text numbered.now name.now)) }
+    ensures kept { Extends out.old.items out.new.items }
+{
+    push_bytes(b"<", out)?;
+    push_name(numbered, name, out)
+}
+
+/// The close of a start tag, or of the tag of an element without children.
+fn push_start_close(children: &Children, out: &mut Vec<u8>) -> Result<(), AllocError>
+    ensures done { OnOk result (out.new.items ≡ out.old.items ++ (if is_end children.now then codes "/>" else codes ">")) }
+    ensures kept { Extends out.old.items out.new.items }
+{
+    if is_empty(children) {
+        return push_bytes(b"/>", out);
+    }
+    push_bytes(b">", out)
+}
+
+fn push_end(numbered: &Spaces<'_>, tree: &Tree, out: &mut Vec<u8>) -> Result<(), AllocError>
+    ensures done { OnOk result (out.new.items ≡ out.old.items ++ end_text numbered.now tree.now.name tree.now.children) }
+    ensures kept { Extends out.old.items out.new.items }
+{
+    if is_empty(&tree.children) {
+        return Ok(());
+    }
+    push_bytes(b"</", out)?;
+    push_name(numbered, &tree.name, out)?;
+    push_bytes(b">", out)
+}
+
+fn is_empty(children: &Children) -> bool
+    ensures { result ≡ is_end children.now }
+{
+    children.as_slice().is_empty()
+}
+
+fn push_declarations(
+    numbered: &Spaces<'_>,
+    declared: &[&str],
+    out: &mut Vec<u8>,
+) -> Result<(), AllocError>
+    ensures done { OnOk result (out.new.items ≡ out.old.items ++ flat_map (declaration_text numbered.now) (map (λ s. s.now) declared.now)) }
+    ensures kept { Extends out.old.items out.new.items }
+{
+    for space in declared {
+        push_declaration(numbered, space, out)?;
     }
     Ok(())
 }
 
-/// Appends the canonical text of a tree. After an error more may stand at the end than before.
-pub fn write_tree(alloc: Global, tree: &Tree, out: &mut Vec<u8>) -> Result<(), AllocError> {
-    let mut spaces = Spaces::new(alloc);
-    note_tag(tree, &mut spaces)?;
-    note_children(&tree.children, &mut spaces)?;
-    push_root(&spaces, tree, out)
+fn push_declaration(numbered: &Spaces<'_>, space: &str, out: &mut Vec<u8>) -> Result<(), AllocError>
+    ensures done { OnOk result (out.new.items ≡ out.old.items ++ declaration_text numbered.now space.now) }
+    ensures kept { Extends out.old.items out.new.items }
+{
+    push_bytes(b" xmlns:", out)?;
+    push_prefix(numbered, space, out)?;
+    push_equals(space, out)
+}
+
+fn push_attributes(
+    numbered: &Spaces<'_>,
+    attributes: &Attributes,
+    out: &mut Vec<u8>,
+) -> Result<(), AllocError>
+    ensures done { OnOk result (out.new.items ≡ out.old.items ++ flat_map (attribute_text numbered.now) attributes.now) }
+    ensures kept { Extends out.old.items out.new.items }
+{
+    for attribute in attributes.as_slice() {
+        push_attribute(numbered, attribute, out)?;
+    }
+    Ok(())
+}
+
+fn push_attribute(
+    numbered: &Spaces<'_>,
+    attribute: &Attribute,
+    out: &mut Vec<u8>,
+) -> Result<(), AllocError>
+    ensures done { OnOk result (out.new.items ≡ out.old.items ++ attribute_text numbered.now attribute.now) }
+    ensures kept { Extends out.old.items out.new.items }
+{
+    push_bytes(b" ", out)?;
+    push_name(numbered, &attribute.name, out)?;
+    push_equals(attribute.value.as_str(), out)
+}
+
+fn push_name(numbered: &Spaces<'_>, name: &QName, out: &mut Vec<u8>) -> Result<(), AllocError>
+    ensures done { OnOk result (out.new.items ≡ out.old.items ++ name_text numbered.now name.now) }
+    ensures kept { Extends out.old.items out.new.items }
+{
+    if let Some(space) = &name.space {
+        push_prefix(numbered, space.as_str(), out)?;
+        push_bytes(b":", out)?;
+    }
+    push_bytes(name.local.as_str().as_bytes(), out)
+}
+
+fn push_prefix(numbered: &Spaces<'_>, space: &str, out: &mut Vec<u8>) -> Result<(), AllocError>
+    ensures done { OnOk result (out.new.items ≡ out.old.items ++ prefix_of numbered.now space.now) }
+    ensures kept { Extends out.old.items out.new.items }
+{
+    if let Some(prefix) = fixed_prefix(space) {
+        return push_bytes(prefix.as_bytes(), out);
+    }
+    push_bytes(b"n", out)?;
+    let number = numbered.place(space) + 1;
+    push_bytes(Buffer::new().format(number).as_bytes(), out)
+}
+
+/// A value in its quotes, and the sign before it.
+fn push_equals(value: &str, out: &mut Vec<u8>) -> Result<(), AllocError>
+    ensures done { OnOk result (out.new.items ≡ out.old.items ++ equals_text value.now) }
+    ensures kept { Extends out.old.items out.new.items }
+{
+    push_bytes(b"=\"", out)?;
+    push_value(value, out)?;
+    push_bytes(b"\"", out)
+}
+
+fn push_value(value: &str, out: &mut Vec<u8>) -> Result<(), AllocError>
+    ensures done { OnOk result (out.new.items ≡ out.old.items ++ value_text value.now) }
+    ensures kept { Extends out.old.items out.new.items }
+{
+    for byte in value.as_bytes() {
+        push_value_byte(*byte, out)?;
+    }
+    Ok(())
+}
+
+fn push_text(text: &str, out: &mut Vec<u8>) -> Result<(), AllocError>
+    ensures done { OnOk result (out.new.items ≡ out.old.items ++ text_text text.now) }
+    ensures kept { Extends out.old.items out.new.items }
+{
+    for byte in text.as_bytes() {
+        push_text_byte(*byte, out)?;
+    }
+    Ok(())
+}
+
+fn push_value_byte(byte: u8, out: &mut Vec<u8>) -> Result<(), AllocError>
+    ensures done { OnOk result (out.new.items ≡ out.old.items ++ value_byte byte) }
+    ensures kept { Extends out.old.items out.new.items }
+{
+    match byte {
+        b'"' => push_bytes(b"&quot;", out),
+        b'\t' => push_bytes(b"&#9;", out),
+        b'\n' => push_bytes(b"&#10;", out),
+        _ => push_text_byte(byte, out),
+    }
+}
+
+fn push_text_byte(byte: u8, out: &mut Vec<u8>) -> Result<(), AllocError>
+    ensures done { OnOk result (out.new.items ≡ out.old.items ++ text_byte byte) }
+    ensures kept { Extends out.old.items out.new.items }
+{
+    match byte {
+        b'&' => push_bytes(b"&amp;", out),
+        b'<' => push_bytes(b"&lt;", out),
+        b'>' => push_bytes(b"&gt;", out),
+        b'\r' => push_bytes(b"&#13;", out),
+        _ => push_bytes(&[byte], out),
+    }
+}
+
+fn push_bytes(bytes: &[u8], out: &mut Vec<u8>) -> Result<(), AllocError>
+    ensures done { OnOk result (out.new.items ≡ out.old.items ++ bytes.now) }
+    ensures kept { Extends out.old.items out.new.items }
+{
+    out.extend_from_slice(bytes)
 }

@@ -7,7 +7,7 @@ pub returns-in-len3-clause-found : goal.returns-in-len3-clause-found
 returns-in-len3-clause-found c =
     is_job
         (map string_bytes c.args.words.now)
-        c.named.result
+        c.from_name.result
         (string_bytes c.command-item.result)
         (string_bytes c.option-item.result)
         (string_bytes c.name-item.result)
@@ -16,4 +16,4 @@ returns-in-len3-clause-found c =
         (sym c.as_str.ensures.value ∙ told_text c.as_str.result.now (codes "cell") true c.if-eq.ensures)
         (sym c.as_str-then-eq.ensures.value ∙ told_text c.as_str-then-eq.result.now (codes "--state") true c.if-eq-2.ensures)
         c.as_str-in-len3.ensures.value
-        c.named.ensures.found
+        c.from_name.ensures.named

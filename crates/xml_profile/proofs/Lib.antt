@@ -1,0 +1,5 @@
+mod InOrder
+mod Extending
+mod Noted
+mod Ends
+mod Apart

@@ -1,0 +1,10 @@
+use Rattle.std.proofs.Common.{◌≡◌, ◌++◌, drop}
+use Rattle.xml_profile.specs.Appending.{Extends}
+use Rattle.xml_profile.specs.Canonical.{text_text}
+use Rattle.xml_profile.proofs.writer.push_text.Given as goal
+
+abbrev pub invariant-loop-byte : goal.invariant-loop-byte
+invariant-loop-byte l = record {
+  rest : l.out.items ++ text_text (drop l.byte-index l.byte-items) ≡ l.fn.out.items ++ text_text l.text;
+  kept : Extends l.fn.out.items l.out.items;
+}
