@@ -1,173 +1,87 @@
+//! Every cell of the four tables, written out by hand.
+
 use crate::cells::{
     Cell, State, completion_cell, coordinator_cell, initiator_cell, participant_cell,
 };
 use at_base::notice::{Kind, Notice};
 use std::test::Fail;
 
-// The tables as they are printed: a state, and its cell under each message, in the order that the test names them.
-const COORDINATOR: [(&str, [&str; 4]); 8] = [
-    (
-        "None, durable",
-        [
-            "send Rollback -> None",
-            "ignore -> None",
-            "ignore -> None",
-            "ignore -> None",
-        ],
-    ),
-    (
-        "None, volatile",
-        [
-            "fault UnknownTransaction -> None",
-            "ignore -> None",
-            "ignore -> None",
-            "ignore -> None",
-        ],
-    ),
-    (
-        "Active",
-        [
-            "fault InvalidState +abort -> Aborting",
-            "leave -> None",
-            "leave +abort -> None",
-            "fault InvalidState +abort -> Aborting",
-        ],
-    ),
-    (
-        "Preparing",
-        [
-            "vote -> Prepared",
-            "leave -> None",
-            "leave +abort -> None",
-            "fault InvalidState +abort -> Aborting",
-        ],
-    ),
-    (
-        "Prepared",
-        [
-            "ignore -> Prepared",
-            "fault InvalidState -> Prepared",
-            "fault InvalidState -> Prepared",
-            "fault InvalidState -> Prepared",
-        ],
-    ),
-    (
-        "PreparedSuccess",
-        [
-            "ignore -> PreparedSuccess",
-            "fault InvalidState -> PreparedSuccess",
-            "fault InvalidState -> PreparedSuccess",
-            "fault InvalidState -> PreparedSuccess",
-        ],
-    ),
-    (
-        "Committing",
-        [
-            "send Commit -> Committing",
-            "fault InvalidState -> Committing",
-            "fault InvalidState -> Committing",
-            "leave -> None",
-        ],
-    ),
-    (
-        "Aborting",
-        [
-            "send Rollback -> Aborting",
-            "leave -> None",
-            "leave -> None",
-            "fault InvalidState -> Aborting",
-        ],
-    ),
-];
+const COORDINATOR: &str = "\
+None, durable, Prepared: send Rollback -> None\n\
+None, durable, ReadOnly: ignore -> None\n\
+None, durable, Aborted: ignore -> None\n\
+None, durable, Committed: ignore -> None\n\
+None, volatile, Prepared: fault UnknownTransaction -> None\n\
+None, volatile, ReadOnly: ignore -> None\n\
+None, volatile, Aborted: ignore -> None\n\
+None, volatile, Committed: ignore -> None\n\
+Active, Prepared: fault InvalidState +abort -> Aborting\n\
+Active, ReadOnly: leave -> None\n\
+Active, Aborted: leave +abort -> None\n\
+Active, Committed: fault InvalidState +abort -> Aborting\n\
+Preparing, Prepared: vote -> Prepared\n\
+Preparing, ReadOnly: leave -> None\n\
+Preparing, Aborted: leave +abort -> None\n\
+Preparing, Committed: fault InvalidState +abort -> Aborting\n\
+Prepared, Prepared: ignore -> Prepared\n\
+Prepared, ReadOnly: fault InvalidState -> Prepared\n\
+Prepared, Aborted: fault InvalidState -> Prepared\n\
+Prepared, Committed: fault InvalidState -> Prepared\n\
+PreparedSuccess, Prepared: ignore -> PreparedSuccess\n\
+PreparedSuccess, ReadOnly: fault InvalidState -> PreparedSuccess\n\
+PreparedSuccess, Aborted: fault InvalidState -> PreparedSuccess\n\
+PreparedSuccess, Committed: fault InvalidState -> PreparedSuccess\n\
+Committing, Prepared: send Commit -> Committing\n\
+Committing, ReadOnly: fault InvalidState -> Committing\n\
+Committing, Aborted: fault InvalidState -> Committing\n\
+Committing, Committed: leave -> None\n\
+Aborting, Prepared: send Rollback -> Aborting\n\
+Aborting, ReadOnly: leave -> None\n\
+Aborting, Aborted: leave -> None\n\
+Aborting, Committed: fault InvalidState -> Aborting\n\
+";
 
-const PARTICIPANT: [(&str, [&str; 3]); 7] = [
-    (
-        "None",
-        [
-            "send Aborted -> None",
-            "send Committed -> None",
-            "send Aborted -> None",
-        ],
-    ),
-    (
-        "Registering",
-        [
-            "ignore -> Registering",
-            "fault InvalidState +abort -> None",
-            "abort send Aborted -> None",
-        ],
-    ),
-    (
-        "Active",
-        [
-            "gather -> Preparing",
-            "fault InvalidState +abort -> None",
-            "abort send Aborted -> None",
-        ],
-    ),
-    (
-        "Preparing",
-        [
-            "ignore -> Preparing",
-            "fault InvalidState +abort -> None",
-            "abort send Aborted -> None",
-        ],
-    ),
-    (
-        "Prepared",
-        [
-            "ignore -> Prepared",
-            "fault InvalidState -> Prepared",
-            "record send Aborted -> None",
-        ],
-    ),
-    (
-        "PreparedSuccess",
-        [
-            "send Prepared -> PreparedSuccess",
-            "commit -> Committing",
-            "record send Aborted -> None",
-        ],
-    ),
-    (
-        "Committing",
-        [
-            "ignore -> Committing",
-            "ignore -> Committing",
-            "fault InvalidState -> Committing",
-        ],
-    ),
-];
+const PARTICIPANT: &str = "\
+None, Prepare: send Aborted -> None\n\
+None, Commit: send Committed -> None\n\
+None, Rollback: send Aborted -> None\n\
+Registering, Prepare: ignore -> Registering\n\
+Registering, Commit: fault InvalidState +abort -> None\n\
+Registering, Rollback: abort send Aborted -> None\n\
+Active, Prepare: gather -> Preparing\n\
+Active, Commit: fault InvalidState +abort -> None\n\
+Active, Rollback: abort send Aborted -> None\n\
+Preparing, Prepare: ignore -> Preparing\n\
+Preparing, Commit: fault InvalidState +abort -> None\n\
+Preparing, Rollback: abort send Aborted -> None\n\
+Prepared, Prepare: ignore -> Prepared\n\
+Prepared, Commit: fault InvalidState -> Prepared\n\
+Prepared, Rollback: record send Aborted -> None\n\
+PreparedSuccess, Prepare: send Prepared -> PreparedSuccess\n\
+PreparedSuccess, Commit: commit -> Committing\n\
+PreparedSuccess, Rollback: record send Aborted -> None\n\
+Committing, Prepare: ignore -> Committing\n\
+Committing, Commit: ignore -> Committing\n\
+Committing, Rollback: fault InvalidState -> Committing\n\
+";
 
-const COMPLETION: [(&str, [&str; 2]); 3] = [
-    (
-        "None",
-        [
-            "fault UnknownTransaction -> None",
-            "fault UnknownTransaction -> None",
-        ],
-    ),
-    (
-        "Active",
-        ["complete -> Completing", "abort send Aborted -> None"],
-    ),
-    (
-        "Completing",
-        ["ignore -> Completing", "fault InvalidState -> Completing"],
-    ),
-];
+const COMPLETION: &str = "\
+None, Commit: fault UnknownTransaction -> None\n\
+None, Rollback: fault UnknownTransaction -> None\n\
+Active, Commit: complete -> Completing\n\
+Active, Rollback: abort send Aborted -> None\n\
+Completing, Commit: ignore -> Completing\n\
+Completing, Rollback: fault InvalidState -> Completing\n\
+";
 
-const INITIATOR: [(&str, [&str; 2]); 3] = [
-    ("None", ["ignore -> None", "ignore -> None"]),
-    (
-        "Active",
-        ["fault InvalidState -> Active", "told aborted -> None"],
-    ),
-    (
-        "Completing",
-        ["told committed -> None", "told aborted -> None"],
-    ),
-];
+const INITIATOR: &str = "\
+None, Committed: ignore -> None\n\
+None, Aborted: ignore -> None\n\
+Active, Committed: fault InvalidState -> Active\n\
+Active, Aborted: told aborted -> None\n\
+Completing, Committed: told committed -> None\n\
+Completing, Aborted: told aborted -> None\n\
+";
 
 const STATES: [State; 9] = [
     State::None,
@@ -191,67 +105,78 @@ const NOTICES: [Notice; 7] = [
     Notice::Committed,
 ];
 
-fn printed(rt: HostRuntime, cell: Option<Cell>) -> Result<String, Fail> {
-    match cell {
-        Some(cell) => Ok(format!(in rt.alloc(); "{} -> {}", cell.act.text(), cell.next.name())?),
-        None => Ok(String::new(rt.alloc())),
-    }
-}
-
-fn expected<'a, const N: usize>(
-    rows: &'a [(&'a str, [&'a str; N])],
-    notices: &[Notice],
-    state: &str,
+/// Whether a cell is the one that the table's line of this row and notice has; none where there is no such line.
+fn stands(
+    rt: HostRuntime,
+    table: &str,
+    row: &str,
     notice: Notice,
-) -> &'a str {
-    for (name, cells) in rows {
-        for (place, of) in notices.iter().enumerate() {
-            if *name == state && *of == notice && place < N {
-                return cells[place];
-            }
+    cell: Option<Cell>,
+) -> Result<bool, Fail> {
+    let head = format!(in rt.alloc(); "{row}, {notice:?}: ")?;
+    for line in table.lines() {
+        if let Some(rest) = line.strip_prefix(head.as_str()) {
+            return match cell {
+                Some(cell) => {
+                    let text = format!(in rt.alloc();
+                        "{} -> {}",
+                        cell.act.text(),
+                        cell.next.name()
+                    )?;
+                    Ok(text.as_str() == rest)
+                }
+                None => Ok(false),
+            };
         }
     }
-    ""
+    Ok(cell.is_none())
+}
+
+fn seat_row(kind: Kind, state: State) -> &'static str {
+    match (state, kind) {
+        (State::None, Kind::Durable) => "None, durable",
+        (State::None, Kind::Volatile) => "None, volatile",
+        _ => state.name(),
+    }
 }
 
 #[test]
 fn every_cell(rt: HostRuntime) -> Result<(), Fail> {
-    let seat = [
-        Notice::Prepared,
-        Notice::ReadOnly,
-        Notice::Aborted,
-        Notice::Committed,
-    ];
-    let participant = [Notice::Prepare, Notice::Commit, Notice::Rollback];
-    let completion = [Notice::Commit, Notice::Rollback];
-    let initiator = [Notice::Committed, Notice::Aborted];
     for state in STATES {
         for notice in NOTICES {
-            let name = state.name();
-            assert!(rt; State::from_name(name) == Some(state));
-            for (kind, none) in [
-                (Kind::Durable, "None, durable"),
-                (Kind::Volatile, "None, volatile"),
-            ] {
-                let row = if state == State::None { none } else { name };
-                assert_eq!(rt;
-                    printed(rt, coordinator_cell(kind, state, notice))?.as_str(),
-                    expected(&COORDINATOR, &seat, row, notice)
-                );
-                assert_eq!(rt;
-                    printed(rt, participant_cell(kind, state, notice))?.as_str(),
-                    expected(&PARTICIPANT, &participant, name, notice)
-                );
+            for kind in [Kind::Durable, Kind::Volatile] {
+                let cell = coordinator_cell(kind, state, notice);
+                assert!(rt; stands(rt, COORDINATOR, seat_row(kind, state), notice, cell)?);
+                let cell = participant_cell(kind, state, notice);
+                assert!(rt; stands(rt, PARTICIPANT, state.name(), notice, cell)?);
             }
-            assert_eq!(rt;
-                printed(rt, completion_cell(state, notice))?.as_str(),
-                expected(&COMPLETION, &completion, name, notice)
+            assert!(rt;
+                stands(
+                    rt,
+                    COMPLETION,
+                    state.name(),
+                    notice,
+                    completion_cell(state, notice)
+                )?
             );
-            assert_eq!(rt;
-                printed(rt, initiator_cell(state, notice))?.as_str(),
-                expected(&INITIATOR, &initiator, name, notice)
+            assert!(rt;
+                stands(
+                    rt,
+                    INITIATOR,
+                    state.name(),
+                    notice,
+                    initiator_cell(state, notice)
+                )?
             );
         }
+    }
+    Ok(())
+}
+
+#[test]
+fn every_name(rt: HostRuntime) -> Result<(), Fail> {
+    for state in STATES {
+        assert!(rt; State::from_name(state.name()) == Some(state));
     }
     assert!(rt; State::from_name("none").is_none() && State::from_name("").is_none());
     Ok(())
