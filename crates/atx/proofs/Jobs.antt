@@ -19,4 +19,3 @@ pub is_job : (words : List (List ℕ)) (o : Option State) (a b c name : List ℕ
     → IfSome o (λ s. name ≡ state_name s) → IfSome o (IsCellJob words)
 is_job words None a b c name e p q r h = tt
 is_job words (Some s) a b c name e p q r h = e ∙ (λ i. p i ∷ q i ∷ (sym r ∙ h) i ∷ [])
-

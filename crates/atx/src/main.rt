@@ -4,6 +4,8 @@
 mod cell;
 mod outside;
 pub mod run;
+#[cfg(test)]
+mod tests;
 pub mod wire;
 
 use crate::outside::{Reading, Writing};
