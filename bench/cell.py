@@ -1,0 +1,125 @@
+#!/usr/bin/env python3
+"""Times `atx cell` beside xmllint and expat, on the same files, in one run.
+
+Usage: bench/cell.py [ROUNDS]
+
+Each figure is the least of ROUNDS runs (default 15). A process's start is taken out: of atx that of a faulty command
+line, of xmllint that of a tiny file. expat parses in this process. The last column compares whole runs of `atx cell`,
+start included, with that on the plain text.
+"""
+import os
+import shutil
+import subprocess
+import sys
+import tempfile
+import time
+from xml.parsers import expat
+
+TOP = os.path.dirname(os.path.dirname(os.path.abspath(__file__)))
+PROGRAM = os.path.join(TOP, "crates", "atx", "out", "atx")
+SOAP = "http://schemas.xmlsoap.org/soap/envelope/"
+ADDRESSING = "http://www.w3.org/2005/08/addressing"
+ATOMIC = "http://docs.oasis-open.org/ws-tx/wsat/2006/06"
+SIZE = 61_440
+
+
+def envelope(inside, attributes=""):
+    """A durable Prepared with more inside its body's element, and more attributes on it."""
+    return (
+        f'<s:Envelope xmlns:s="{SOAP}" xmlns:a="{ADDRESSING}"><s:Header>'
+        f"<a:To>http://n2.example/c/d/1-1/1</a:To><a:Action>{ATOMIC}/Prepared</a:Action>"
+        f"<a:From><a:Address>http://n3.example/p/d/1-1</a:Address></a:From></s:Header>"
+        f'<s:Body><w:Prepared xmlns:w="{ATOMIC}"{attributes}>{inside}</w:Prepared></s:Body></s:Envelope>'
+    )
+
+
+def repeated(item, end=""):
+    number = 0
+    parts = []
+    length = len(envelope("")) + len(end)
+    while True:
+        piece = item(number)
+        if length + len(piece) > SIZE:
+            return "".join(parts) + end
+        parts.append(piece)
+        length += len(piece)
+        number += 1
+
+
+def inputs():
+    yield "600 bytes", envelope("x" * (600 - len(envelope(""))))
+    yield "plain: long text", envelope(repeated(lambda n: "plain text "))
+    yield "siblings", envelope("<x/>" * 4000)
+    yield "attributes", envelope("", repeated(lambda n: f' a{n}="v"'))
+    yield "attributes, prefixed", envelope("", repeated(lambda n: f' xmlns:p{n}="u{n}" p{n}:a="v"'))
+    yield "declarations", envelope("", repeated(lambda n: f' xmlns:p{n}="u"'))
+    yield "declarations, used", envelope(
+        "".join(f"<p{n}:x/>" for n in range(1500)), "".join(f' xmlns:p{n}="u"' for n in range(1500))
+    )
+    yield "32 levels", envelope("<x>" * 29 + "deep " * 100 + "</x>" * 29)
+    yield "too deep", envelope("<x>" * 8000 + "</x>" * 8000)
+    yield "open levels", envelope("<x>" * 19_000)
+    yield "quotes and line ends", envelope(repeated(lambda n: "a\r\nb\rc\td "))
+
+
+def least(rounds, call):
+    best = None
+    for _ in range(rounds):
+        start = time.perf_counter()
+        call()
+        spent = time.perf_counter() - start
+        best = spent if best is None else min(best, spent)
+    return best
+
+
+def process(words, path):
+    def call():
+        with open(path, "rb") as source:
+            subprocess.run(words, stdin=source, stdout=subprocess.DEVNULL, stderr=subprocess.DEVNULL, check=False)
+
+    return call
+
+
+def parse(data):
+    def call():
+        try:
+            expat.ParserCreate(namespace_separator=" ").Parse(data, True)
+        except expat.ExpatError:
+            pass
+
+    return call
+
+
+def main():
+    rounds = int(sys.argv[1]) if len(sys.argv) > 1 else 15
+    if not os.access(PROGRAM, os.X_OK):
+        sys.exit("bench: build the program first: ./atx cell --state None < examples/prepared.xml")
+    lint = shutil.which("xmllint")
+    with tempfile.TemporaryDirectory() as folder:
+        tiny = os.path.join(folder, "tiny.xml")
+        with open(tiny, "w") as file:
+            file.write("<a/>")
+        atx_start = least(rounds, process([PROGRAM], tiny))
+        lint_start = least(rounds, process([lint, "--noout", "--huge", "-"], tiny)) if lint else 0.0
+        print(f"start of a process: atx {atx_start * 1e3:.2f} ms, xmllint {lint_start * 1e3:.2f} ms")
+        print(f"{'input':<22}{'bytes':>7}{'atx ms':>9}{'xmllint ms':>12}{'expat ms':>10}{'to expat':>10}{'to plain':>10}")
+        plain = None
+        for name, text in inputs():
+            data = text.encode()
+            path = os.path.join(folder, "input.xml")
+            with open(path, "wb") as file:
+                file.write(data)
+            whole = least(rounds, process([PROGRAM, "cell", "--state", "None"], path))
+            atx = max(whole - atx_start, 1e-6)
+            xml = max(least(rounds, process([lint, "--noout", "--huge", "-"], path)) - lint_start, 1e-6) if lint else 0.0
+            sax = least(rounds, parse(data))
+            if name.startswith("plain"):
+                plain = whole
+            ratio = f"{whole / plain:.2f}" if plain else "-"
+            print(
+                f"{name:<22}{len(data):>7}{atx * 1e3:>9.2f}{xml * 1e3:>12.2f}{sax * 1e3:>10.2f}{atx / sax:>10.2f}{ratio:>10}"
+            )
+
+
+if __name__ == "__main__":
+    main()
