@@ -12,11 +12,14 @@ use crate::outside::{Reading, Writing};
 use crate::run::{NO_JOB, NO_MEMORY, run};
 use site_model::sure::SureSite;
 use std::env;
+use std::io::ErrorKind;
 use std::process::ExitCode;
 
 fn main(rt: HostRuntime) -> ExitCode {
-    let Ok(args) = env::args(&rt) else {
-        return ExitCode::from(NO_JOB);
+    let args = match env::args(&rt) {
+        Ok(args) => args,
+        Err(fault) if fault.kind() == ErrorKind::OutOfMemory => return ExitCode::from(NO_MEMORY),
+        Err(_) => return ExitCode::from(NO_JOB),
     };
     let mut words = Vec::new(rt.alloc());
     for word in args.skip(1) {
