@@ -1,5 +1,5 @@
 -- One pass over children finds two adjacent texts.
-use Rattle.std.proofs.Common.{◌≡◌, refl, List, [], ◌∷◌, Bool, true, false, not, ◌&&◌}
+use Rattle.std.proofs.Common.{◌≡◌, List, [], ◌∷◌, Bool, true, false, not, ◌&&◌}
 use Rattle.xml_profile.specs.declared.tree.Child.{Child}
 use Rattle.xml_profile.specs.declared.tree.Child.TheVariants.{Element, Text}
 use Rattle.xml_profile.specs.Forest.{Forest}

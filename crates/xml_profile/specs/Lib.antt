@@ -6,3 +6,5 @@ pub mod Prefixes
 pub mod Canonical
 pub mod Appending
 pub mod Spellable
+pub mod Declaring
+pub mod Examples

@@ -2,6 +2,7 @@
 #![tactic(auto)]
 
 mod chars;
+pub mod laws;
 pub mod name;
 pub mod names;
 pub mod reader;

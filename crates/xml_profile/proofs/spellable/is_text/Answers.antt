@@ -1,6 +1,6 @@
-use Rattle.std.proofs.Common.{rules, ◌≡◌, ap, sym, tests, ◌∙◌, ◌&&◌}
+use Rattle.std.proofs.Common.{rules, ap, sym, tests, ◌∙◌, ◌&&◌}
 use Rattle.std.specs.List.{list_all}
-use Rattle.std.specs.Str.{chars, is_utf8}
+use Rattle.std.specs.Str.{chars}
 use Rattle.std.proofs.lemmas.Iterator.{YieldsList-from_chars}
 use Rattle.std.proofs.lemmas.Iterator.Search.{all_from_yields_List}
 use Rattle.std.proofs.lemmas.Str.{is_utf8-from_IsUtf8}

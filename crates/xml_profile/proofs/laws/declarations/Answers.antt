@@ -1,0 +1,10 @@
+use Rattle.std.proofs.Common.{[]}
+use Rattle.xml_profile.specs.Canonical.{spaces_of}
+use Rattle.xml_profile.proofs.Declaring.{all_declared, all_prefixed}
+use Rattle.xml_profile.proofs.laws.declarations.Goals as goal
+
+pub returns-clause-declared : goal.returns-clause-declared
+returns-clause-declared c = all_declared [] (spaces_of c.args.tree.now)
+
+pub returns-clause-prefixed : goal.returns-clause-prefixed
+returns-clause-prefixed c = all_prefixed [] (spaces_of c.args.tree.now)
