@@ -1,0 +1,3 @@
+pub mod Ahead
+pub mod Spelled
+pub mod Utf8

@@ -1,0 +1,55 @@
+//! Laws of steps and of recovery, over every book, event and journal.
+
+ghost use Rattle.at_model.specs.Laws.{StepsAnswerFirst, StepsKeepPlace, RecoversTheLive, IncarnationsRise, MakesUnderTheNextId};
+ghost use Rattle.at_model.specs.Rules.{DecidesBehindAnswers, EndsAreUndone, VotesAreRecorded};
+ghost use Rattle.at_model.specs.Shapes.{StepsTouchOne};
+
+/// A step moves one item at most, or makes one; it has one record at most.
+#[tactic(auto, using(crate::proofs::Shaping::steps_touch_one))]
+pub fn steps_touch_one()
+    ensures { StepsTouchOne }
+{}
+
+/// A step sends at most one answer, and then posts.
+#[tactic(auto, using(crate::proofs::Shaping::steps_answer_first))]
+pub fn steps_answer_first()
+    ensures { StepsAnswerFirst }
+{}
+
+/// A step leaves base and incarnation as they are, and draws one id at most.
+#[tactic(auto, using(crate::proofs::Shaping::steps_keep_place))]
+pub fn steps_keep_place()
+    ensures { StepsKeepPlace }
+{}
+
+/// Recovery depends on live records alone: dead ones may be left out.
+#[tactic(auto, using(crate::proofs::Recovering::recovers_the_live))]
+pub fn recovers_the_live()
+    ensures { RecoversTheLive }
+{}
+
+/// A node's next incarnation is greater than each in its records.
+#[tactic(auto, using(crate::proofs::Recovering::incarnations_rise))]
+pub fn incarnations_rise()
+    ensures { IncarnationsRise }
+{}
+
+/// A vote or a decision is recorded only behind every answer: the volatile ones, and then the durable ones.
+pub fn decides_behind_answers()
+    ensures { DecidesBehindAnswers }
+{}
+
+/// What ends something is undone where its record is absent, and leaves the book as it was.
+pub fn ends_are_undone()
+    ensures { EndsAreUndone }
+{}
+
+/// A durable vote Prepared, and a decision over one, are recorded; a volatile leaf records nothing.
+pub fn votes_are_recorded()
+    ensures { VotesAreRecorded }
+{}
+
+/// The next id is none that was drawn before, and what is made under it has it.
+pub fn makes_under_the_next_id()
+    ensures { MakesUnderTheNextId }
+{}

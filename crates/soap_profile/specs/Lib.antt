@@ -1,0 +1,5 @@
+pub mod Values
+pub mod Building
+pub mod Envelopes
+pub mod Faults
+pub mod Examples

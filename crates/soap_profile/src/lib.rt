@@ -1,0 +1,10 @@
+//! SOAP 1.1: envelopes opened and built, faults built, and the values that elements hold.
+#![tactic(auto)]
+
+pub mod build;
+pub mod envelope;
+pub mod fault;
+#[cfg(test)]
+mod tests;
+pub mod trees;
+pub mod value;

@@ -1,0 +1,122 @@
+use crate::envelope::{SoapRefusal, envelope_tree, open_envelope};
+use crate::fault::fault_tree;
+use crate::trees::Trees;
+use std::alloc::Global;
+use std::test::Fail;
+use xml_profile::reader::read_tree;
+use xml_profile::writer::write_tree;
+
+/// How many header blocks a spelled envelope has and the local name in its body, or its refusal.
+fn outcome(alloc: Global, spelled: &str) -> Result<String, Fail> {
+    let tree = read_tree(alloc, spelled.as_bytes())?;
+    match open_envelope(alloc, tree) {
+        Ok(envelope) => {
+            let count = envelope.headers.as_slice().len();
+            Ok(format!(in alloc; "{count} {}", envelope.body.name.local)?)
+        }
+        Err(SoapRefusal::MustUnderstand { name }) => Ok(format!(in alloc;
+            "MustUnderstand {name}"
+        )?),
+        Err(refusal) => Ok(format!(in alloc; "{refusal}")?),
+    }
+}
+
+/// What stands between the tags of an Envelope, and the outcome.
+const INSIDE: [(&str, &str); 16] = [
+    ("", "not an envelope"),
+    ("<s:Header/>", "not an envelope"),
+    ("<s:Body/>", "not an envelope"),
+    ("<s:Body>text</s:Body>", "not an envelope"),
+    ("<s:Body><a/><b/></s:Body>", "not an envelope"),
+    ("<s:Body><a/></s:Body>", "0 a"),
+    ("<s:Header/><s:Body> x<a/>x</s:Body><b/>x<s:Body/>", "0 a"),
+    (
+        "<s:Header><x/>y<z/></s:Header>y<s:Body><a/></s:Body>",
+        "2 a",
+    ),
+    ("<s:Body><a/></s:Body><s:Header/>", "0 a"),
+    ("<s:Header/><b/><s:Body><a/></s:Body>", "not an envelope"),
+    (
+        "<s:Header/><s:Header/><s:Body><a/></s:Body>",
+        "not an envelope",
+    ),
+    (
+        "<s:Header><b/><x s:mustUnderstand=\" 1 \"/></s:Header><s:Body><a/></s:Body>",
+        "MustUnderstand x",
+    ),
+    (
+        "<s:Header><x s:mustUnderstand=\"true\"/><y mustUnderstand=\"1\"/></s:Header><s:Body><a/></s:Body>",
+        "2 a",
+    ),
+    (
+        "<s:Header><x s:mustUnderstand=\"1\" s:actor=\"urn:other\"/></s:Header><s:Body><a/></s:Body>",
+        "1 a",
+    ),
+    (
+        "<s:Header><x s:actor=\"http://schemas.xmlsoap.org/soap/actor/next\" s:mustUnderstand=\"1\"/></s:Header><s:Body><a/></s:Body>",
+        "MustUnderstand x",
+    ),
+    (
+        "<s:Header xmlns:w=\"http://www.w3.org/2005/08/addressing\"><w:Action s:mustUnderstand=\"1\"/><x s:mustUnderstand=\"1\" w:IsReferenceParameter=\"true\"/></s:Header><s:Body><a/></s:Body>",
+        "2 a",
+    ),
+];
+
+/// Whole documents, and the outcome.
+const WHOLE: [(&str, &str); 5] = [
+    ("<a/>", "not an envelope"),
+    ("<Envelope/>", "not an envelope"),
+    (
+        "<Envelope xmlns=\"http://www.w3.org/2003/05/soap-envelope\"/>",
+        "wrong envelope version",
+    ),
+    (
+        "<soapenv:Envelope xmlns:soapenv=\"http://schemas.xmlsoap.org/soap/envelope/\"><soapenv:Header/><soapenv:Body><Prepare xmlns=\"http://docs.oasis-open.org/ws-tx/wsat/2006/06\"/></soapenv:Body></soapenv:Envelope>",
+        "0 Prepare",
+    ),
+    (
+        "<Envelope xmlns=\"http://schemas.xmlsoap.org/soap/envelope/\"><Body><Prepare xmlns=\"http://docs.oasis-open.org/ws-tx/wsat/2006/06\"/></Body></Envelope>",
+        "0 Prepare",
+    ),
+];
+
+#[test]
+fn opens_and_refuses(rt: HostRuntime) -> Result<(), Fail> {
+    let alloc = rt.alloc();
+    for (inside, wanted) in INSIDE {
+        let spelled = format!(in alloc;
+            "<s:Envelope xmlns:s=\"http://schemas.xmlsoap.org/soap/envelope/\">{inside}</s:Envelope>"
+        )?;
+        assert_eq!(rt;
+            outcome(alloc, spelled.as_str())?.as_str(),
+            wanted,
+            "at {inside}"
+        );
+    }
+    for (spelled, wanted) in WHOLE {
+        assert_eq!(rt; outcome(alloc, spelled)?.as_str(), wanted, "at {spelled}");
+    }
+    Ok(())
+}
+
+#[test]
+fn builds_a_fault(rt: HostRuntime) -> Result<(), Fail> {
+    let alloc = rt.alloc();
+    let detail = read_tree(
+        alloc,
+        b"<UnknownTransaction xmlns=\"http://docs.oasis-open.org/ws-tx/wsat/2006/06\"/>",
+    )?;
+    let fault = fault_tree(
+        alloc,
+        "wsat:UnknownTransaction",
+        "unknown transaction",
+        Some(&detail.name),
+    )?;
+    let tree = envelope_tree(alloc, Trees::new(alloc), fault)?;
+    let mut out = Vec::new(alloc);
+    write_tree(alloc, &tree, &mut out)?;
+    let wanted =
+        "<s:Envelope xmlns:s=\"http://schemas.xmlsoap.org/soap/envelope/\" xmlns:wsat=\"http://docs.oasis-open.org/ws-tx/wsat/2006/06\"><s:Header/><s:Body><s:Fault><faultcode>wsat:UnknownTransaction</faultcode><faultstring>unknown transaction</faultstring><detail><wsat:UnknownTransaction/></detail></s:Fault></s:Body></s:Envelope>";
+    assert_eq!(rt; out.as_slice(), wanted.as_bytes());
+    Ok(())
+}

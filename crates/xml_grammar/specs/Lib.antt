@@ -1,0 +1,10 @@
+pub mod Characters
+pub mod Tokens
+pub mod Namespaces
+pub mod Spells
+pub mod Reading
+pub mod Machine
+pub mod Whole
+pub mod Views
+pub mod Digits
+pub mod Examples

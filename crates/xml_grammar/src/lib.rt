@@ -1,0 +1,8 @@
+//! The grammar of the XML profile, as a relation between texts and trees, and the readers of its tokens.
+#![tactic(auto)]
+
+pub mod declaration;
+pub mod laws;
+pub mod lexing;
+pub mod lines;
+pub mod markup;
