@@ -1,3 +1,5 @@
+pub mod Calls
 pub mod Counts
 pub mod Site
 pub mod Source
+pub mod Told

@@ -1,6 +1,9 @@
 //! A source and a sink in memory, for tests.
 
-ghost use Rattle.std.specs.Prelude.{◌≡◌, ◌≤◌, ◌<◌, IfOk, vec_len, Some, drop, []};
+ghost use Rattle.std.specs.Prelude.{◌≡◌, ◌≢◌, ◌↔◌, ◌≤◌, ◌<◌, ◌+◌, ◌-◌, IfOk, IsErr, OnErr, Ok, vec_len, Some, drop, length, []};
+ghost use Rattle.std.specs.Io.{ReadsAtMost, WritesAtMost};
+ghost use Rattle.std.specs.Io.KnownBytes.{ReadConsumes, WriteAppends};
+ghost use Rattle.site_model.specs.Counts.{HasCause, RisesBy, Rose, capped};
 
 use crate::sink::Sink;
 use crate::source::{Failed, Source};
@@ -51,7 +54,16 @@ impl Source for MemSource {
 
     ghost faults = { λ s. s.faults };
 
-    fn read(&mut self, buf: &mut [u8]) -> Result<usize, Failed> {
+    fn read(&mut self, buf: &mut [u8]) -> Result<usize, Failed>
+        ensures bound { ReadsAtMost result buf.new }
+        ensures bytes { ReadConsumes (Some (drop self.old.at self.old.bytes.items)) (Some (drop self.new.at self.new.bytes.items)) result buf.new }
+        ensures count { IfOk result (λ n. RisesBy n self.old.given self.new.given) }
+        ensures none_given { OnErr result (self.new.given ≡ self.old.given) }
+        ensures cause { HasCause self.old.faults self.new.faults result }
+        ensures armed { IsErr result ↔ (self.old.fail_in ≡ 1) }
+        ensures next { self.new.fail_in ≡ self.old.fail_in - 1 }
+        ensures counted { OnErr result (self.new.faults ≡ capped (self.old.faults + 1)) }
+    {
         if self.fail_in == 1 {
             self.fail_in = 0;
             self.faults = self.faults.saturating_add(1);
@@ -116,7 +128,15 @@ impl Sink for MemSink {
 
     ghost faults = { λ s. s.faults };
 
-    fn write(&mut self, piece: &[u8]) -> Result<usize, Failed> {
+    fn write(&mut self, piece: &[u8]) -> Result<usize, Failed>
+        ensures bound { WritesAtMost result piece.now }
+        ensures bytes { WriteAppends (Some self.old.bytes.items) (Some self.new.bytes.items) result piece.now }
+        ensures cause { HasCause self.old.faults self.new.faults result }
+        ensures zero { result ≡ Ok 0 → 0 < length piece.now → Rose self.old.faults self.new.faults }
+        ensures fails { self.old.fail_in ≡ 1 → IsErr result }
+        ensures idles { self.old.fail_in ≢ 1 → self.old.idle_in ≡ 1 → result ≡ Ok 0 }
+        ensures next { (self.new.fail_in ≡ self.old.fail_in - 1) × (self.new.idle_in ≡ self.old.idle_in - 1) }
+    {
         let fails = self.fail_in == 1;
         let idles = self.idle_in == 1;
         self.fail_in = self.fail_in.saturating_sub(1);

@@ -1,6 +1,7 @@
 //! A machine that never fails and does nothing.
 
 ghost use Rattle.std.specs.Prelude.{◌≡◌};
+ghost use Rattle.site_model.specs.Told.{silent};
 
 use crate::site::{AttachFailed, Site, Taken};
 use crate::source::Failed;
@@ -21,7 +22,11 @@ impl SureSite {
 }
 
 impl Site for SureSite {
-    ghost counts = { λ s. record { disk = 0; gate = 0; accept = 0; receive = 0; link = 0; taken = 0; closings = s.closings } };
+    ghost told = { λ s. silent (record { disk = 0; gate = 0; accept = 0; receive = 0; link = 0; taken = 0; closings = s.closings }) };
+
+    ghost counts_now = { λ s t l c le is now. now };
+
+    ghost only_now = { λ s l c left. absurd left };
 
     fn attach(&mut self, _journal: &str, _listen: &str) -> Result<(), AttachFailed> {
         Ok(())

@@ -1,4 +1,4 @@
-use Rattle.std.proofs.Common.{ℕ, length, ◌+◌, ◌-◌, ◌≤◌, arith}
+use Rattle.std.proofs.Common.{arith}
 use Rattle.std.proofs.lemmas.List.{length-drop, length-take}
 use Rattle.site_model.proofs.Known.{written_on}
 use Rattle.site_model.proofs.sink.write_all.Goals as goal

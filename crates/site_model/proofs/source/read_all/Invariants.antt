@@ -1,4 +1,4 @@
-use Rattle.std.proofs.Common.{ℕ, length, ◌≤◌, ◌-◌}
+use Rattle.std.proofs.Common.{length, ◌≤◌, ◌-◌}
 use Rattle.std.specs.Io.KnownBytes.{Consumes}
 use Rattle.site_model.specs.Counts.{RisesBy}
 use Rattle.site_model.proofs.source.read_all.Given as goal
