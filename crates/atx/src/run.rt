@@ -1,9 +1,9 @@
 //! The top call.
 
-ghost use Rattle.std.specs.Prelude.{ℕ, ◌≡◌, ◌↔◌, ◌+◌, ◌<◌, ◌≤◌, IsTrue, IfSome, None, nat_eq, map, string_bytes, ◌∷◌, []};
+ghost use Rattle.std.specs.Prelude.{ℕ, ◌≡◌, ◌↔◌, ◌+◌, ◌<◌, ◌≤◌, IsTrue, IfSome, None, nat_eq, map, string_bytes, length, ◌∷◌, []};
 ghost use Rattle.std.specs.List.{list_any};
 ghost use Rattle.std.specs.Io.KnownBytes.{Appends};
-ghost use Rattle.site_model.specs.Counts.{capped, Rose};
+ghost use Rattle.site_model.specs.Counts.{capped, RisesBy, Rose};
 ghost use Rattle.atx.specs.Words.{IsJob, IsCellJob};
 
 use crate::cell::{Printed, cell};
@@ -76,6 +76,8 @@ pub fn run<S: Source, K: Sink, H: Site>(
     ensures sink_failed { result ≡ 5 → Rose (K.faults sink.old) (K.faults sink.new) }
     ensures too_long { result ≡ 10 → capped (S.given source.old + 1048577) ≤ S.given source.new }
     ensures not_longer { S.given source.old + 1048576 < S.given source.new → result ≡ 10 }
+    ensures longer { result ≡ 10 → IfSome (S.left source.old) (λ input. 1048576 < length input) }
+    ensures whole { IsTrue (list_any (nat_eq result) (0 ∷ 3 ∷ 5 ∷ [])) → IfSome (S.left source.old) (λ input. RisesBy (length input) (S.given source.old) (S.given source.new)) }
     ensures quiet { IsTrue (list_any (nat_eq result) (2 ∷ 4 ∷ 9 ∷ 10 ∷ [])) → Appends (K.contents sink.old) (K.contents sink.new) [] }
 {
     let Some(state) = job_of(words) else {

@@ -1,6 +1,8 @@
 //! Worked envelopes through the top call.
 
 use crate::run::run;
+use crate::wire::decode::decode;
+use crate::wire::refusal::Refusal;
 use site_model::memory::{MemSink, MemSource};
 use site_model::sure::SureSite;
 use std::test::Fail;
@@ -15,12 +17,14 @@ xmlns:wsat=\"http://docs.oasis-open.org/ws-tx/wsat/2006/06\">\
 <wsa:ReplyTo><wsa:Address>http://www.w3.org/2005/08/addressing/none</wsa:Address></wsa:ReplyTo></s:Header>\
 <s:Body><wsat:Rollback/></s:Body></s:Envelope>\n";
 
-const FAULT: &str = "fault UnknownTransaction -> None\n\
+const FAULT_HEADER: &str = "fault UnknownTransaction -> None\n\
 <s:Envelope xmlns:s=\"http://schemas.xmlsoap.org/soap/envelope/\" \
 xmlns:wsa=\"http://www.w3.org/2005/08/addressing\" \
 xmlns:wsat=\"http://docs.oasis-open.org/ws-tx/wsat/2006/06\">\
 <s:Header><wsa:To>http://n3.example/p/v/1-1</wsa:To>\
-<wsa:Action>http://docs.oasis-open.org/ws-tx/wsat/2006/06/fault</wsa:Action></s:Header>\
+<wsa:Action>http://docs.oasis-open.org/ws-tx/wsat/2006/06/fault</wsa:Action>";
+
+const FAULT_BODY: &str = "</s:Header>\
 <s:Body><s:Fault><faultcode>wsat:UnknownTransaction</faultcode><faultstring>unknown transaction</faultstring>\
 <detail><wsat:UnknownTransaction/></detail></s:Fault></s:Body></s:Envelope>\n";
 
@@ -58,9 +62,18 @@ fn prints(rt: HostRuntime, state: &str, input: &[u8], printed: &str) -> Result<(
 fn worked_cells(rt: HostRuntime) -> Result<(), Fail> {
     let durable = envelope(rt, "d", "Prepared", "")?;
     let volatile = envelope(rt, "v", "Prepared", "")?;
+    let named = envelope(rt, "v", "Prepared", "<MessageID> urn:a </MessageID>")?;
+    let unnamed = envelope(rt, "v", "Prepared", "<MessageID> </MessageID>")?;
+    let fault = format!(in rt.alloc(); "{FAULT_HEADER}{FAULT_BODY}")?;
+    let named_fault = format!(in rt.alloc();
+        "{FAULT_HEADER}<wsa:RelatesTo>urn:a</wsa:RelatesTo>{FAULT_BODY}"
+    )?;
+    let unnamed_fault = format!(in rt.alloc(); "{FAULT_HEADER}<wsa:RelatesTo/>{FAULT_BODY}")?;
     for (state, input, status, printed) in [
         ("None", &durable, 0, ROLLBACK),
-        ("None", &volatile, 0, FAULT),
+        ("None", &volatile, 0, fault.as_str()),
+        ("None", &named, 0, named_fault.as_str()),
+        ("None", &unnamed, 0, unnamed_fault.as_str()),
         ("Preparing", &durable, 0, "vote -> Prepared\n"),
         ("Registering", &durable, 3, "refused 15 NoState\n"),
         ("none", &durable, 2, ""),
@@ -104,6 +117,29 @@ fn refusals(rt: HostRuntime) -> Result<(), Fail> {
         assert!(rt; prints(rt, "None", input.as_bytes(), printed)? == (3, true));
     }
     assert!(rt; prints(rt, "None", b"\xff", "refused 2 NotUtf8\n")? == (3, true));
+    Ok(())
+}
+
+const WITHOUT_TO: &[u8] =
+    b"<e:Envelope xmlns:e=\"http://schemas.xmlsoap.org/soap/envelope/\" xmlns=\"http://www.w3.org/2005/08/addressing\">\
+<e:Header><Action>http://docs.oasis-open.org/ws-tx/wsat/2006/06/Prepared</Action></e:Header>\
+<e:Body><Prepared xmlns=\"http://docs.oasis-open.org/ws-tx/wsat/2006/06\"/></e:Body></e:Envelope>";
+
+#[test]
+fn the_path_of_a_request_without_to(rt: HostRuntime) -> Result<(), Fail> {
+    for (path, is_target) in [
+        ("/c/d/1-1/1", true),
+        ("/c/v/1-1/65535?a=/b", true),
+        ("/c/d/1-1/0", false),
+        ("/c/d/1-1/65536", false),
+        ("/c/d/1-1/1/", false),
+        ("/", false),
+    ] {
+        match decode(rt.alloc(), WITHOUT_TO, path) {
+            Ok(_) => assert!(rt; is_target),
+            Err(refusal) => assert!(rt; !is_target && refusal == Refusal::NoTarget),
+        }
+    }
     Ok(())
 }
 

@@ -60,16 +60,24 @@ fn notice_of(action: &str) -> Option<(Notice, &'static str)> {
     }
 }
 
+fn without_query(path: &str) -> &str {
+    match path.split_once('?') {
+        Some((before, _)) => before,
+        None => path,
+    }
+}
+
 fn target(alloc: Global, headers: &Headers, path: &str) -> Result<Option<Target>, AllocError> {
     match &headers.to {
         Some(to) => target_of_address(alloc, to.as_str()),
-        None => Ok(target_of(path)),
+        None => Ok(target_of(without_query(path))),
     }
 }
 
 /// The message that the bytes of a request at this path mean, or the first refusal that holds.
 ///
-/// The target is the path of the To, or the request's path where there is none or it is anonymous.
+/// The target is the path of the To, or the request's path where there is none or it is anonymous. A query is
+/// dropped.
 pub fn decode(alloc: Global, bytes: &[u8], path: &str) -> Result<Arrival, Refusal> {
     let tree = read_tree(alloc, bytes)?;
     let envelope = open_envelope(alloc, &tree)?;

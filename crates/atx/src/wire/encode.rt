@@ -53,6 +53,7 @@ fn element(
     }))
 }
 
+/// An element with a text. A tree has no empty text.
 fn text_element(
     alloc: Global,
     space: Option<&str>,
@@ -60,7 +61,9 @@ fn text_element(
     text: &str,
 ) -> Result<Child, AllocError> {
     let mut children = Vec::new(alloc);
-    children.push(Child::Text(Text::copied(alloc, text)?))?;
+    if !text.is_empty() {
+        children.push(Child::Text(Text::copied(alloc, text)?))?;
+    }
     element(alloc, space, local, children)
 }
 
