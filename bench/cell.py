@@ -4,8 +4,8 @@
 Usage: bench/cell.py [ROUNDS]
 
 Each figure is the least of ROUNDS runs (default 15). A process's start is taken out: of atx that of a faulty command
-line, of xmllint that of a tiny file. expat parses in this process. The last column compares whole runs of `atx cell`,
-start included, with that on the plain text.
+line, of xmllint that of a tiny file. expat parses in this process. The last two columns compare `atx cell` with its
+run on the plain text: `net` without the start of a process, `whole` with it.
 """
 import os
 import shutil
@@ -102,7 +102,7 @@ def main():
         atx_start = least(rounds, process([PROGRAM], tiny))
         lint_start = least(rounds, process([lint, "--noout", "--huge", "-"], tiny)) if lint else 0.0
         print(f"start of a process: atx {atx_start * 1e3:.2f} ms, xmllint {lint_start * 1e3:.2f} ms")
-        print(f"{'input':<22}{'bytes':>7}{'atx ms':>9}{'xmllint ms':>12}{'expat ms':>10}{'to expat':>10}{'to plain':>10}")
+        print(f"{'input':<22}{'bytes':>7}{'atx ms':>9}{'xmllint ms':>12}{'expat ms':>10}{'to expat':>10}{'net':>8}{'whole':>8}")
         plain = None
         for name, text in inputs():
             data = text.encode()
@@ -114,10 +114,11 @@ def main():
             xml = max(least(rounds, process([lint, "--noout", "--huge", "-"], path)) - lint_start, 1e-6) if lint else 0.0
             sax = least(rounds, parse(data))
             if name.startswith("plain"):
-                plain = whole
-            ratio = f"{whole / plain:.2f}" if plain else "-"
+                plain = (atx, whole)
+            net = f"{atx / plain[0]:.2f}" if plain else "-"
+            run = f"{whole / plain[1]:.2f}" if plain else "-"
             print(
-                f"{name:<22}{len(data):>7}{atx * 1e3:>9.2f}{xml * 1e3:>12.2f}{sax * 1e3:>10.2f}{atx / sax:>10.2f}{ratio:>10}"
+                f"{name:<22}{len(data):>7}{atx * 1e3:>9.2f}{xml * 1e3:>12.2f}{sax * 1e3:>10.2f}{atx / sax:>10.2f}{net:>8}{run:>8}"
             )
 
 
