@@ -6,3 +6,8 @@ pub mod UntilLaws
 pub mod ValueLaws
 pub mod PairLaws
 pub mod StartLaws
+pub mod ShallowLaws
+pub mod ReaderLaws
+pub mod MeaningLaws
+pub mod Turns
+pub mod FrameLaws

@@ -8,3 +8,9 @@ pub mod Whole
 pub mod Views
 pub mod Digits
 pub mod Examples
+pub mod Limits
+pub mod Shallow
+pub mod Open
+pub mod Joining
+pub mod Refusals
+pub mod Found

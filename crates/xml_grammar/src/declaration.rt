@@ -65,7 +65,7 @@ fn is_end(cs: &[char]) -> bool
 }
 
 /// Whether the text is the word of ASCII characters.
-fn is_word(cs: &[char], word: &[u8]) -> bool
+pub fn is_word(cs: &[char], word: &[u8]) -> bool
     ensures { result ≡ same cs.now word.now }
 {
     let mut rest = cs;

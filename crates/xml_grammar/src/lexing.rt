@@ -3,7 +3,7 @@
 ghost use Rattle.std.specs.Prelude.{◌≡◌, ℕ, Option, option_map, encode_utf8, not, nat_eq, length, ◌≤◌, ◌<◌, IfSome, false};
 ghost use Rattle.xml_grammar.specs.Views.{parts_of};
 ghost use Rattle.std.specs.List.{prefix_len};
-ghost use Rattle.xml_grammar.specs.Characters.{is_white, is_digit, is_letter, begins_part, continues_part, is_name_char, is_quote, strip_at, behind_white, begins_white, until, is_part, parts, name_at};
+ghost use Rattle.xml_grammar.specs.Characters.{same, is_white, is_digit, is_letter, begins_part, continues_part, is_name_char, is_quote, strip_at, behind_white, begins_white, until, is_part, parts, name_at};
 ghost use Rattle.std.specs.List.{list_all};
 ghost use Rattle.xml_grammar.specs.Tokens.{is_plain, spaced, hexadecimal, decimal_digit, reference_at, numbered};
 ghost use Rattle.xml_grammar.specs.Digits.{digit_in, add_digit, capped_from};
@@ -71,6 +71,21 @@ pub fn strip<'a>(cs: &'a [char], word: &[u8]) -> Option<&'a [char]>
         }
     }
     Some(rest)
+}
+
+/// Whether two names are spelled alike.
+pub fn is_same(a: &[char], b: &[char]) -> bool
+    ensures { result ≡ same a.now b.now }
+{
+    a == b
+}
+
+/// Whether two texts are the same.
+#[tactic(auto, using(crate::proofs::MeaningLaws::bytes_same))]
+pub fn is_same_text(a: &str, b: &str) -> bool
+    ensures { result ≡ same a.now b.now }
+{
+    a == b
 }
 
 /// What is behind white space.

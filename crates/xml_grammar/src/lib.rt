@@ -5,4 +5,8 @@ pub mod declaration;
 pub mod laws;
 pub mod lexing;
 pub mod lines;
+mod machine;
 pub mod markup;
+mod meaning;
+pub mod reader;
+mod scope;

@@ -190,7 +190,8 @@ fn read_comment(cs: &[char]) -> Option<&[char]>
     strip(closing, b">")
 }
 
-fn utf8(alloc: Global, cs: &[char]) -> Result<Text, AllocError>
+/// The characters in UTF-8.
+pub fn utf8(alloc: Global, cs: &[char]) -> Result<Text, AllocError>
     ensures { IfOk result (λ t. t ≡ encode_utf8_all cs.now) }
 {
     let mut out = String::new(alloc);
