@@ -4,7 +4,7 @@ use at_base::epr::{Epr, Reply};
 use at_base::text::Text;
 use std::alloc::Global;
 use std::test::Fail;
-use xml_profile::reader::read_tree;
+use xml_grammar::reader::read_tree;
 
 /// The address and the reference parameters of the endpoint with these parts in it.
 fn read(alloc: Global, parts: &str) -> Result<Option<Epr>, Fail> {

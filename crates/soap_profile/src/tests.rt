@@ -3,7 +3,7 @@ use crate::fault::fault_tree;
 use crate::trees::Trees;
 use std::alloc::Global;
 use std::test::Fail;
-use xml_profile::reader::read_tree;
+use xml_grammar::reader::read_tree;
 use xml_profile::writer::write_tree;
 
 /// How many header blocks a spelled envelope has and the local name in its body, or its refusal.

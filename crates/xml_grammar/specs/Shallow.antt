@@ -106,4 +106,3 @@ levels_at (f ∷ fs) e = open_levels (f ∷ fs)
 -- what is read of a state
 abbrev pub shallow : State → Reading
 shallow s = reading (levels_at s.frames s.ended) (cut_state s)
-

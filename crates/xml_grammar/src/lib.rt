@@ -1,4 +1,4 @@
-//! The grammar of the XML profile, as a relation between texts and trees, and the readers of its tokens.
+//! The grammar of the XML profile, as a relation between texts and trees, and the reader that is exactly it.
 #![tactic(auto)]
 
 pub mod declaration;
@@ -10,3 +10,5 @@ pub mod markup;
 mod meaning;
 pub mod reader;
 mod scope;
+#[cfg(test)]
+mod tests;

@@ -99,9 +99,7 @@ fn may_bind(binding: &Binding<'_>) -> bool
     if is_word(binding.prefix, b"xml") {
         return is_same_text(space, XML);
     }
-    !is_same_text(space, XML)
-        && !is_same_text(space, XMLNS)
-        && may_undeclare(binding.prefix, space)
+    !is_same_text(space, XML) && !is_same_text(space, XMLNS) && may_undeclare(binding.prefix, space)
 }
 
 /// No prefix but that of the default namespace is bound to none.

@@ -1,13 +1,9 @@
-//! The XML profile: trees with expanded names, a reader of their spellings, and the writer of their canonical text.
+//! The XML profile: trees with expanded names, which of them can be spelled, and the writer of their canonical text.
 #![tactic(auto)]
 
-mod chars;
 pub mod laws;
 pub mod name;
 pub mod names;
-pub mod reader;
-mod scanner;
-mod scope;
 mod spaces;
 pub mod spellable;
 #[cfg(test)]

@@ -1,8 +1,7 @@
-//! Canonical texts written out by hand, and spellings that are read or refused.
+//! Canonical texts written out by hand, and what no spelling has.
 
 use crate::name::{Attribute, Attributes, QName};
 use crate::names::{ADDRESSING, SOAP, XML, XMLNS};
-use crate::reader::{TreeRefusal, read_tree};
 use crate::spellable::can_be_spelled;
 use crate::tree::{Child, Children, Tree};
 use crate::writer::write_tree;
@@ -139,55 +138,6 @@ fn knows_what_is_not_spelled(rt: HostRuntime) -> Result<(), Fail> {
         list.push(Child::Text(Text::copied(alloc, children[1])?))?;
         let tree = element(alloc, ("", "a"), &[], Children::from_vec(list))?;
         assert!(rt; !can_be_spelled(&tree));
-    }
-    Ok(())
-}
-
-/// Spellings, and the canonical texts of their trees.
-const READ: [(&str, &str); 5] = [
-    ("<a></a>", "<a/>"),
-    (
-        " \n<a\tb = \"x\ty\" >1\r\n2</a >\r",
-        "<a b=\"x y\">1\n2</a>",
-    ),
-    (
-        "<p:a xmlns:p=\"urn:x\" xmlns:q=\"urn:x\"><q:b p:c=\"1\"/></p:a>",
-        "<n1:a xmlns:n1=\"urn:x\"><n1:b n1:c=\"1\"/></n1:a>",
-    ),
-    (
-        "<a xmlns=\"urn:x\" b=\"1\"><c xmlns=\"\"/></a>",
-        "<n1:a xmlns:n1=\"urn:x\" b=\"1\"><c/></n1:a>",
-    ),
-    ("<a xml:lang=\"en\"/>", "<a xml:lang=\"en\"/>"),
-];
-
-/// What spells no tree.
-const REFUSED: [&str; 12] = [
-    "",
-    "<a>",
-    "<a></b>",
-    "<a/><a/>",
-    "<a b=\"1\"c=\"2\"/>",
-    "<a b=\"1\" b=\"2\"/>",
-    "<a xmlns:p=\"u\" xmlns:q=\"u\" p:b=\"1\" q:b=\"2\"/>",
-    "<p:a/>",
-    "<a xmlns:p=\"\"/>",
-    "<a xmlns:xmlns=\"u\"/>",
-    "<a>]]></a>",
-    "<a b=\"<\"/>",
-];
-
-#[test]
-fn reads_spellings(rt: HostRuntime) -> Result<(), Fail> {
-    for (spelling, wanted) in READ {
-        let tree = read_tree(rt.alloc(), spelling.as_bytes())?;
-        let mut out = Vec::new(rt.alloc());
-        write_tree(rt.alloc(), &tree, &mut out)?;
-        assert_eq!(rt; out.as_slice(), wanted.as_bytes());
-    }
-    for spelling in REFUSED {
-        let refusal = read_tree(rt.alloc(), spelling.as_bytes()).err();
-        assert_eq!(rt; refusal, Some(TreeRefusal::NotSpelled));
     }
     Ok(())
 }

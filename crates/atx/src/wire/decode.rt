@@ -11,7 +11,7 @@ use at_base::notice::{Kind, Notice};
 use at_base::target::Target;
 use at_base::text::Text;
 use std::alloc::{AllocError, Global};
-use xml_profile::reader::read_tree;
+use xml_grammar::reader::read_tree;
 
 /// A message that arrived.
 #[derive(Drop)]

@@ -6,7 +6,7 @@ ghost use Rattle.atx.specs.declared.wire.refusal.Refusal.TheVariants.{NoMemory};
 use at_base::text::Text;
 use std::alloc::{AllocError, AllocFailed};
 use thiserror::Error;
-use xml_profile::reader::TreeRefusal;
+use xml_grammar::reader::TreeRefusal;
 
 /// Why an envelope is refused: the first that holds, in this order, where MissingHeader and InvalidHeader stand together.
 #[derive(Debug, PartialEq, Eq, Drop, Error)]

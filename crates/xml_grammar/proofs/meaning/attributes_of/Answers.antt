@@ -19,11 +19,11 @@ returns-in_default c =
 pub loop-attribute-preserved : goal.loop-attribute-preserved
 loop-attribute-preserved c = record {
   named =
-    ap (attributes_of (bindings_of c.args.scope.now)) (map-append spelled_of c.loop-attribute.yielded (c.in-Some.attribute ∷ []))
-    ∙ (attributes_more (bindings_of c.args.scope.now) (map spelled_of c.loop-attribute.yielded) (spelled_of c.in-Some.attribute) c.in-Some-2.name c.loop-attribute.found.items c.loop-attribute.invariant.named
-    (sym c.in_ok-name.ensures ∙ c.in-Some-2.is)
-    ∙ ap Some (sym c.in_ok-push.ensures.items));
+      ap (attributes_of (bindings_of c.args.scope.now)) (map-append spelled_of c.loop-attribute.yielded (c.in-Some.attribute ∷ []))
+      ∙ (attributes_more (bindings_of c.args.scope.now) (map spelled_of c.loop-attribute.yielded) (spelled_of c.in-Some.attribute) c.in-Some-2.name c.loop-attribute.found.items c.loop-attribute.invariant.named
+      (sym c.in_ok-name.ensures ∙ c.in-Some-2.is)
+      ∙ ap Some (sym c.in_ok-push.ensures.items));
   rest =
-    turn_next c.loop-attribute.attribute-iterator c.next.new.self c.next.result c.in-Some.attribute c.loop-attribute.yielded c.args.attributes.items c.in-Some.is c.next.ensures.steps
-    c.loop-attribute.invariant.rest;
+      turn_next c.loop-attribute.attribute-iterator c.next.new.self c.next.result c.in-Some.attribute c.loop-attribute.yielded c.args.attributes.items c.in-Some.is c.next.ensures.steps
+      c.loop-attribute.invariant.rest;
 }

@@ -18,9 +18,9 @@ returns-in_default c =
 pub loop-pair-preserved : goal.loop-pair-preserved
 loop-pair-preserved c = record {
   sorted =
-    ap sort (map-append pair_of c.loop-pair.yielded (c.in-Some.pair ∷ []))
-    ∙ (sort_more (map pair_of c.loop-pair.yielded) (pair_of c.in-Some.pair) (parts_of c.in-Some-split_name.name) (sorted_of c.loop-pair.sorted) c.loop-pair.invariant.sorted
-    (sym c.split_name.ensures ∙ ap (option_map parts_of) c.in-Some-split_name.is)
-    ∙ ap Some (sym c.in_ok-add.ensures));
+      ap sort (map-append pair_of c.loop-pair.yielded (c.in-Some.pair ∷ []))
+      ∙ (sort_more (map pair_of c.loop-pair.yielded) (pair_of c.in-Some.pair) (parts_of c.in-Some-split_name.name) (sorted_of c.loop-pair.sorted) c.loop-pair.invariant.sorted
+      (sym c.split_name.ensures ∙ ap (option_map parts_of) c.in-Some-split_name.is)
+      ∙ ap Some (sym c.in_ok-add.ensures));
   rest = turn_next c.loop-pair.pair-iterator c.next.new.self c.next.result c.in-Some.pair c.loop-pair.yielded c.args.pairs.items c.in-Some.is c.next.ensures.steps c.loop-pair.invariant.rest;
 }

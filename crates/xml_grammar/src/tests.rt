@@ -1,0 +1,221 @@
+//! Spellings with the canonical texts of their trees, what is refused, and each limit at its number and past it.
+
+use crate::reader::{BYTES, ELEMENTS, TreeRefusal, read_tree};
+use std::alloc::{AllocError, Global};
+use std::test::Fail;
+use xml_profile::writer::write_tree;
+
+/// A spelling of each construct, and the canonical text of its tree.
+const READ: [(&str, &str); 26] = [
+    ("<a></a>", "<a/>"),
+    (
+        " \n<a\tb = \"x\ty\" >1\r\n2</a >\r",
+        "<a b=\"x y\">1\n2</a>",
+    ),
+    (
+        "<p:a xmlns:p=\"urn:x\" xmlns:q=\"urn:x\"><q:b p:c=\"1\"/></p:a>",
+        "<n1:a xmlns:n1=\"urn:x\"><n1:b n1:c=\"1\"/></n1:a>",
+    ),
+    (
+        "<a xmlns=\"urn:x\" b=\"1\"><c xmlns=\"\"/></a>",
+        "<n1:a xmlns:n1=\"urn:x\" b=\"1\"><c/></n1:a>",
+    ),
+    ("<a xmlns=\"\"/>", "<a/>"),
+    ("<a xml:lang=\"en\"/>", "<a xml:lang=\"en\"/>"),
+    (
+        "<a xmlns:xml=\"http://www.w3.org/XML/1998/namespace\"/>",
+        "<a/>",
+    ),
+    ("\u{feff}<?xml version=\"1.0\"?><a/>", "<a/>"),
+    (
+        "<?xml version='1.1' encoding='utf-8' standalone = \"no\" ?>\n<a/>",
+        "<a/>",
+    ),
+    ("<!-- a - b --><a/><!---->", "<a/>"),
+    ("<a>1<!--x-->2</a>", "<a>12</a>"),
+    (
+        "<a><![CDATA[<&]]]]><![CDATA[>]]></a>",
+        "<a>&lt;&amp;]]&gt;</a>",
+    ),
+    ("<a><![CDATA[]]></a>", "<a/>"),
+    (
+        "<a>&amp;&lt;&gt;&apos;&quot;</a>",
+        "<a>&amp;&lt;&gt;'\"</a>",
+    ),
+    ("<a>&#65;&#x42;&#x0000043;&#00068;</a>", "<a>ABCD</a>"),
+    ("<a>&#13;&#10;&#9;</a>", "<a>&#13;\n\t</a>"),
+    ("<a b='&#13;&#10;&#9;'/>", "<a b=\"&#13;&#10;&#9;\"/>"),
+    ("<a b='\"' c=\"'\"/>", "<a b=\"&quot;\" c=\"'\"/>"),
+    ("<a b=']]>' c='>'/>", "<a b=\"]]&gt;\" c=\"&gt;\"/>"),
+    ("<a>]]<!---->&gt;</a>", "<a>]]&gt;</a>"),
+    ("<a b='1\r\n2\r3\n4'/>", "<a b=\"1 2 3 4\"/>"),
+    ("<a>\r\r\n\n</a>", "<a>\n\n\n</a>"),
+    ("<\u{e9}.-1/>", "<\u{e9}.-1/>"),
+    (
+        "<a xmlns:p='u'><b xmlns:p='v' p:c=''/><b p:c=''/></a>",
+        "<a xmlns:n1=\"v\" xmlns:n2=\"u\"><b n1:c=\"\"/><b n2:c=\"\"/></a>",
+    ),
+    (
+        "<p:a xmlns:p='u' xmlns='u' p:b='1' b='2'/>",
+        "<n1:a xmlns:n1=\"u\" n1:b=\"1\" b=\"2\"/>",
+    ),
+    (
+        "<a xmlns:p='urn&#58;x' p:b='&#x10FFFF;'/>",
+        "<a xmlns:n1=\"urn:x\" n1:b=\"\u{10ffff}\"/>",
+    ),
+];
+
+/// What spells no tree, a text for each rule.
+const REFUSED: [&str; 58] = [
+    "",
+    "<a>",
+    "<a></b>",
+    "<a/><a/>",
+    "a<a/>",
+    "<a/>&#32;",
+    "<![CDATA[]]><a/>",
+    "<a/>\u{0}",
+    "< a/>",
+    "<a/ >",
+    "</a>",
+    "<1a/>",
+    "<-a/>",
+    "<a:b:c xmlns:a='u'/>",
+    "<:a/>",
+    "<a:/>",
+    "<a b=\"1\"c=\"2\"/>",
+    "<a b=1/>",
+    "<a b/>",
+    "<a b='1\"/>",
+    "<a b=\"1\" b=\"2\"/>",
+    "<a xmlns:p=\"u\" xmlns:q=\"u\" p:b=\"1\" q:b=\"2\"/>",
+    "<a xmlns:p='u' xmlns:q='&#117;' p:b='' q:b=''/>",
+    "<p:a/>",
+    "<a p:b=''/>",
+    "<a><b xmlns:p='u'/><p:c/></a>",
+    "<a xmlns:p=\"\"/>",
+    "<a xmlns:xmlns=\"u\"/>",
+    "<xmlns:a/>",
+    "<a xmlns:xml='u'/>",
+    "<a xmlns:p='http://www.w3.org/XML/1998/namespace'/>",
+    "<a xmlns='http://www.w3.org/XML/1998/namespace'/>",
+    "<a xmlns:p='http://www.w3.org/2000/xmlns/'/>",
+    "<a xmlns='http://www.w3.org/2000/xmlns/'/>",
+    "<a xmlns:p='u' xmlns:p='u'/>",
+    "<a xmlns='u' xmlns='v'/>",
+    "<p:a xmlns:p='u' xmlns:q='u'></q:a>",
+    "<a>]]></a>",
+    "<a b=\"<\"/>",
+    "<a>&</a>",
+    "<a>&b;</a>",
+    "<a>&#;</a>",
+    "<a>&#x;</a>",
+    "<a>&#x1G;</a>",
+    "<a>&#0;</a>",
+    "<a>&#x110000;</a>",
+    "<a>&#99999999999999999999;</a>",
+    "<a>&#xD800;</a>",
+    "<a>&#xFFFF;</a>",
+    "<a>\u{1}</a>",
+    "<a><!-- -- --></a>",
+    "<a><!-- --->",
+    "<a><?b?></a>",
+    "<!DOCTYPE a><a/>",
+    " <?xml version='1.0'?><a/>",
+    "<?xml version='2.0'?><a/>",
+    "<?xml encoding='UTF-8' version='1.0'?><a/>",
+    "<?xml version='1.0' encoding='latin1'?><a/>",
+];
+
+#[test]
+fn reads_spellings(rt: HostRuntime) -> Result<(), Fail> {
+    for (spelling, wanted) in READ {
+        let tree = read_tree(rt.alloc(), spelling.as_bytes())?;
+        let mut out = Vec::new(rt.alloc());
+        write_tree(rt.alloc(), &tree, &mut out)?;
+        assert_eq!(rt; out.as_slice(), wanted.as_bytes());
+    }
+    Ok(())
+}
+
+fn is_refused(alloc: Global, bytes: &[u8], refusal: TreeRefusal) -> bool {
+    read_tree(alloc, bytes).err() == Some(refusal)
+}
+
+#[test]
+fn refuses_other_texts(rt: HostRuntime) -> Result<(), Fail> {
+    for spelling in REFUSED {
+        assert!(rt; is_refused(rt.alloc(), spelling.as_bytes(), TreeRefusal::NotSpelled));
+    }
+    for (bytes, place) in [(b"<a/>\x80".as_slice(), 4), (b"\xef\xbb\xbf<a>\xc3(", 6)] {
+        assert!(rt; is_refused(rt.alloc(), bytes, TreeRefusal::NotUtf8 { place }));
+    }
+    Ok(())
+}
+
+/// A piece so many times between a beginning and an end.
+fn repeated(
+    alloc: Global,
+    first: &str,
+    piece: &str,
+    count: usize,
+    last: &str,
+) -> Result<String, AllocError> {
+    let mut out = String::from_str(alloc, first)?;
+    for _ in 0..count {
+        out.push_str(piece)?;
+    }
+    out.push_str(last)?;
+    Ok(out)
+}
+
+/// So many elements one in another.
+fn nested(alloc: Global, levels: usize, last: &str) -> Result<String, AllocError> {
+    let open = repeated(alloc, "", "<a>", levels, "")?;
+    repeated(alloc, open.as_str(), "</a>", levels, last)
+}
+
+/// An element with so many attributes.
+fn wide(alloc: Global, count: usize) -> Result<String, Fail> {
+    let mut out = String::from_str(alloc, "<b><a")?;
+    for i in 0..count {
+        let attribute = format!(in alloc; " a{i}=''")?;
+        out.push_str(attribute.as_str())?;
+    }
+    out.push_str("/></b>")?;
+    Ok(out)
+}
+
+#[test]
+fn keeps_the_limits(rt: HostRuntime) -> Result<(), Fail> {
+    let alloc = rt.alloc();
+    for text in [
+        nested(alloc, 32, "")?,
+        repeated(alloc, "<a>", "<b/>", ELEMENTS - 1, "</a>")?,
+        wide(alloc, 32)?,
+        repeated(alloc, "<a>", "b", BYTES - 7, "</a>")?,
+    ] {
+        assert!(rt; read_tree(alloc, text.as_str().as_bytes()).is_ok());
+    }
+    for (text, refusal) in [
+        (nested(alloc, 33, "")?, TreeRefusal::TooDeep),
+        (nested(alloc, 9_000, "")?, TreeRefusal::TooDeep),
+        (nested(alloc, 33, "b")?, TreeRefusal::NotSpelled),
+        (
+            repeated(alloc, "<a>", "<b/>", ELEMENTS, "</a>")?,
+            TreeRefusal::TooMany,
+        ),
+        (wide(alloc, 33)?, TreeRefusal::TooMany),
+        (
+            repeated(alloc, "<a>", "b", BYTES - 6, "</a>")?,
+            TreeRefusal::TooLong,
+        ),
+        (
+            repeated(alloc, "\u{80}", "\u{80}", BYTES / 2, "")?,
+            TreeRefusal::TooLong,
+        ),
+    ] {
+        assert!(rt; is_refused(alloc, text.as_str().as_bytes(), refusal));
+    }
+    Ok(())
+}
