@@ -1,0 +1,10 @@
+pub mod Bools
+pub mod Spelled
+pub mod Written
+pub mod Names
+pub mod Pieces
+pub mod Tags
+pub mod Bindings
+pub mod Meanings
+pub mod Contents
+pub mod Wholes
