@@ -8,3 +8,5 @@ pub mod Bindings
 pub mod Meanings
 pub mod Contents
 pub mod Wholes
+pub mod Numbers
+pub mod Equal
