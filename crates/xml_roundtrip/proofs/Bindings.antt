@@ -10,8 +10,8 @@ use Rattle.xml_profile.specs.Spellable as spellable
 use Rattle.xml_grammar.specs.Characters.{same}
 use Rattle.xml_grammar.specs.Namespaces.{xml_space, xmlns_space, Binding, is_empty, may_bind, declares, may_declare, or_else, lookup, space_of}
 use Rattle.xml_grammar.proofs.StepLaws.{same_is, same_same}
-use Rattle.xml_roundtrip.proofs.Bools.{and_true, both_true, not_true, not_false, apart, tells_same, all_both}
-use Rattle.xml_roundtrip.proofs.Names.{IsPrefix, is_prefix}
+use Rattle.xml_roundtrip.proofs.Bools.{and_true, both_true, not_true, not_false, tells_same, all_both}
+use Rattle.xml_roundtrip.proofs.Names.{is_prefix}
 
 pub same_bytes : (a b : List ℕ) → same a b ≡ bytes_eq a b
 same_bytes a b = tells_same (same a b) (bytes_eq a b) (λ e. (bytes_eq-Decides a b).1 (same_is a b e))

@@ -1,5 +1,5 @@
 -- The content of an element that is written is read back.
-use Rattle.std.proofs.Common.{◌≡◌, refl, sym, subst, ap, ap₂, ◌∙◌, ℕ, List, [], ◌∷◌, ◌++◌, append_assoc, map, Bool, true, false, not, cond, ◌&&◌, ◌||◌, Option, Some, None, chars, encode_utf8_all, IsUtf8}
+use Rattle.std.proofs.Common.{◌≡◌, refl, sym, subst, ap, ◌∙◌, ℕ, List, [], ◌∷◌, ◌++◌, append_assoc, map, true, false, not, ◌&&◌, chars}
 use Rattle.std.specs.List.{list_all, flat_map}
 use Rattle.std.specs.Str.{is_utf8}
 use Rattle.std.proofs.lemmas.Str.{IsUtf8-from_is_utf8, encodes-chars}
@@ -10,12 +10,10 @@ use Rattle.xml_profile.specs.Forest.{Forest}
 use Rattle.xml_profile.specs.Forest.Forest.{End as Nothing, Text_then, Element_then}
 use Rattle.xml_profile.specs.Canonical.{text_byte, is_end, spaces_at, spaces_in}
 use Rattle.xml_profile.specs.Spellable as spellable
-use Rattle.xml_grammar.specs.Tokens.{Tag, Token, TokenAt}
-use Rattle.xml_grammar.specs.Tokens.Token.{Start, End}
-use Rattle.xml_grammar.specs.Namespaces.{Binding, means}
+use Rattle.xml_grammar.specs.Namespaces.{Binding}
 use Rattle.xml_grammar.specs.Spells.{add_text, Content}
-use Rattle.xml_roundtrip.proofs.Bools.{and_true, not_true, all_parts}
-use Rattle.xml_roundtrip.proofs.Spelled.{tag_chars, tag_of, name_chars, attribute, ending, content_chars}
+use Rattle.xml_roundtrip.proofs.Bools.{and_true, all_parts}
+use Rattle.xml_roundtrip.proofs.Spelled.{tag_chars, tag_of, name_chars, ending, content_chars}
 use Rattle.xml_roundtrip.proofs.Pieces.{text_reads}
 use Rattle.xml_roundtrip.proofs.Tags.{tag_reads, end_reads}
 use Rattle.xml_roundtrip.proofs.Bindings.{binding, Declares}

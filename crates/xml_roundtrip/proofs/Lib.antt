@@ -9,4 +9,8 @@ pub mod Meanings
 pub mod Contents
 pub mod Wholes
 pub mod Numbers
+pub mod Kept
+pub mod Read
+pub mod Trees
+pub mod Sizes
 pub mod Equal

@@ -1,10 +1,10 @@
 -- What the tags of a canonical text mean.
 use lib.Utf8.{encode}
 use Rattle.std.proofs.Common.{◌≡◌, refl, sym, subst, ap, ap₂, ◌∙◌, ℕ, ◌^◌, ◌<◌, List, [], ◌∷◌, ◌++◌, append-nil, length, map, Bool, true, false, not, cond, ◌&&◌, ◌||◌, Option, Some, None, codes, chars, is_none, encode_utf8_all, IsUtf8}
-use Rattle.std.specs.List.{list_all, list_any, flat_map, AllByRecursion}
+use Rattle.std.specs.List.{list_all, list_any, AllByRecursion}
 use Rattle.std.specs.Str.{bytes_eq, is_utf8}
 use Rattle.std.proofs.lemmas.Slice.Eq.{bytes_eq-Decides}
-use Rattle.std.proofs.lemmas.Str.{IsUtf8-from_is_utf8, encodes-chars}
+use Rattle.std.proofs.lemmas.Str.{IsUtf8-from_is_utf8}
 use Rattle.at_base.specs.Chars.{is_xml_char}
 use Rattle.xml_profile.specs.declared.name.QName.{QName}
 use Rattle.xml_profile.specs.declared.name.Attribute.{Attribute}
@@ -12,13 +12,12 @@ use Rattle.xml_profile.specs.Prefixes.{xml, xmlns}
 use Rattle.xml_profile.specs.Canonical.{prefix_of, prefixed}
 use Rattle.xml_profile.specs.Declaring.{is_declared, has_prefix}
 use Rattle.xml_profile.specs.Spellable as spellable
-use Rattle.xml_grammar.specs.Characters.{◌>>=◌, given, same, Parts, parts}
+use Rattle.xml_grammar.specs.Characters.{◌>>=◌, same, Parts, parts}
 use Rattle.xml_grammar.specs.Tokens.{Pair, Tag}
 use Rattle.xml_grammar.specs.Namespaces.{Binding, is_empty, Spelled, Sorted, declared_by, sort_in, sort, may_declare, lookup, space_of, defaulted, element_name, attribute_name, attributes_of, same_space, same_name, names, are_apart, Meaning, means}
 use Rattle.xml_grammar.proofs.StepLaws.{same_is}
-use Rattle.xml_roundtrip.proofs.Bools.{and_true, both_true, not_true, not_false, apart, false_unless, tells_same}
-use Rattle.xml_roundtrip.proofs.Written.{Written}
-use Rattle.xml_roundtrip.proofs.Names.{Named, named_alone, named_within, IsPrefix, is_prefix, IsLocal, is_local}
+use Rattle.xml_roundtrip.proofs.Bools.{and_true, not_true, apart, false_unless}
+use Rattle.xml_roundtrip.proofs.Names.{Named, named_alone, named_within, is_prefix, IsLocal, is_local}
 use Rattle.xml_roundtrip.proofs.Tags.{IsPair}
 use Rattle.xml_roundtrip.proofs.Spelled.{name_chars, declaration, attribute}
 use Rattle.xml_roundtrip.proofs.Bindings.{same_bytes, binding, may_name, Declares, no_default, space_found, may_stand}
@@ -170,7 +169,7 @@ among : (n : QName) (ats : List Attribute) → names n ats ≡ list_any (λ b. s
 among n [] = refl
 among n (a ∷ ats) = ap₂ (λ x y. x || y) (same_names n a.name) (among n ats)
 
-all_apart : (ats : List Attribute) → are_apart ats ≡ spellable.are_apart ats
+pub all_apart : (ats : List Attribute) → are_apart ats ≡ spellable.are_apart ats
 all_apart [] = refl
 all_apart (a ∷ ats) = ap₂ (λ x y. not x && y) (among a.name ats) (all_apart ats)
 

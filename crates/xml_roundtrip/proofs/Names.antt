@@ -1,19 +1,19 @@
 -- Names that are read back: prefixes, parts, and names of one or two parts.
-use Rattle.std.proofs.Common.{◌≡◌, refl, sym, subst, ap, ap₂, ◌∙◌, arith, ℕ, suc, ◌+◌, ◌%◌, ◌/◌, ◌^◌, ◌≤◌, ◌<◌, List, [], ◌∷◌, ◌++◌, length, take, drop, append-nil, append_assoc, Bool, true, false, not, cond, ◌&&◌, ◌||◌, nat_eq, nat_le, nat_lt, Option, Some, None, unwrap_or, codes, decimal, chars, encode_utf8, encode_utf8_all, IsUtf8}
-use Rattle.std.specs.List.{list_all, list_any, prefix_len, position_or_len}
+use Rattle.std.proofs.Common.{◌≡◌, refl, sym, subst, ap, ap₂, ◌∙◌, arith, ℕ, ◌+◌, ◌%◌, ◌^◌, ◌≤◌, ◌<◌, List, [], ◌∷◌, ◌++◌, length, take, drop, append-nil, Bool, true, false, not, cond, ◌&&◌, ◌||◌, nat_eq, nat_le, nat_lt, Some, None, unwrap_or, codes, decimal, chars, encode_utf8_all}
+use Rattle.std.specs.List.{list_all, prefix_len, position_or_len}
 use Rattle.std.specs.Str.{bytes_eq, is_utf8}
 use Rattle.std.proofs.Math.Seq.{take-append_seam, drop-append_seam}
-use Rattle.std.proofs.lemmas.Bool.{le-leb, leb-true, lt-ltb, ltb-true, ltb-false, leb-false}
+use Rattle.std.proofs.lemmas.Bool.{le-leb, leb-true, lt-ltb, leb-false}
 use Rattle.std.proofs.lemmas.Fmt.{decimal_by_steps}
 use Rattle.std.proofs.lemmas.List.Sums.{prefix_len-le-length}
 use Rattle.std.proofs.lemmas.Str.{IsUtf8-from_is_utf8, encodes-chars, byte_from_char}
 use Rattle.at_base.specs.Chars.{is_xml_char}
-use Rattle.xml_profile.specs.Prefixes.{soap, addressing, coordination, transaction, work, xml, fixed_prefix}
+use Rattle.xml_profile.specs.Prefixes.{soap, addressing, coordination, transaction, work, xml}
 use Rattle.xml_profile.specs.Canonical.{prefix_of}
 use Rattle.xml_profile.specs.Spellable as spellable
 use Rattle.xml_grammar.specs.Characters.{◌>>=◌, same, is_white, is_letter, is_digit, begins_part, continues_part, is_name_char, Parts, is_part, parts_before, parts, name_before, name_at, behind_white}
 use Rattle.xml_grammar.specs.Namespaces.{is_empty}
-use Rattle.xml_roundtrip.proofs.Bools.{and_true, both_true, not_true, not_false, apart, false_unless, equal_numbers, differs, all_both, all_imply}
+use Rattle.xml_roundtrip.proofs.Bools.{and_true, both_true, not_true, not_false, false_unless, equal_numbers, differs, all_both, all_imply}
 use Rattle.xml_roundtrip.proofs.Written.{is_written, is_low, Written}
 
 -- Runs of characters
@@ -41,7 +41,7 @@ is_named c h = rw h refl
 no_colon : (c : ℕ) → continues_part c ≡ true → not (nat_eq c 58) ≡ true
 no_colon c h = not_false (nat_eq c 58) (differs continues_part 58 c refl h)
 
-all_continue : (n : List ℕ) → is_part n ≡ true → list_all continues_part n ≡ true
+pub all_continue : (n : List ℕ) → is_part n ≡ true → list_all continues_part n ≡ true
 all_continue [] h = cc
 all_continue (c ∷ cs) h = let (a, b) = and_true (begins_part c) (list_all continues_part cs) h in both_true (continues_part c) (list_all continues_part cs) (continues_first c a) b
 

@@ -1,11 +1,11 @@
 -- There are no more numbered prefixes than bytes of the canonical text.
-use Rattle.std.proofs.Common.{◌≡◌, refl, sym, subst, ap, ap₂, ◌∙◌, arith, ℕ, ◌+◌, ◌≤◌, List, [], ◌∷◌, ◌++◌, length, length-append, le_trans, Bool, true, false, not, cond, ◌||◌, Option, Some, None, is_some, codes}
+use Rattle.std.proofs.Common.{◌≡◌, refl, sym, subst, ap, ◌∙◌, arith, ℕ, ◌≤◌, List, [], ◌∷◌, ◌++◌, length, length-append, le_trans, Bool, true, false, not, cond, ◌||◌, Option, Some, None, is_some, codes}
 use Rattle.std.specs.List.{filter, fold, flat_map, list_any}
 use Rattle.std.specs.Str.{bytes_eq}
 use Rattle.std.proofs.lemmas.Slice.Eq.{bytes_eq-Decides}
 use Rattle.xml_profile.specs.declared.tree.Tree.{Tree}
 use Rattle.xml_profile.specs.Prefixes.{xml, fixed_prefix}
-use Rattle.xml_profile.specs.Canonical.{with_space, declare, enumerate, spaces_of, declared_by, numbered_by, prefix_of, equals_text, name_text, declaration_text, attribute_text, is_end, start_text, content_text, end_text, canonical_text}
+use Rattle.xml_profile.specs.Canonical.{declare, enumerate, spaces_of, declared_by, numbered_by, name_text, declaration_text, attribute_text, is_end, start_text, content_text, end_text, canonical_text}
 
 -- without a fixed prefix
 abbrev has_number : List ℕ → Bool

@@ -1,10 +1,10 @@
 -- Escaped values and texts are read back.
-use Rattle.std.proofs.Common.{◌≡◌, refl, sym, subst, ap, ap₂, ◌∙◌, ℕ, List, [], ◌∷◌, ◌++◌, append_assoc, append-nil, Bool, true, false, not, cond, ◌&&◌, ◌||◌, nat_eq, Option, Some, None, codes, encode_utf8, encode_utf8_all}
+use Rattle.std.proofs.Common.{◌≡◌, refl, sym, subst, ap, ◌∙◌, ℕ, List, [], ◌∷◌, ◌++◌, append_assoc, Bool, true, false, not, cond, ◌&&◌, ◌||◌, nat_eq, Option, None, codes, encode_utf8, encode_utf8_all}
 use Rattle.std.specs.List.{flat_map}
 use Rattle.xml_profile.specs.Canonical.{text_byte, value_byte}
 use Rattle.xml_profile.specs.Forest.{Forest}
-use Rattle.xml_grammar.specs.Characters.{is_white, strip_at}
-use Rattle.xml_grammar.specs.Tokens.{Value, Token, TokenAt, is_plain, spaced}
+use Rattle.xml_grammar.specs.Characters.{strip_at}
+use Rattle.xml_grammar.specs.Tokens.{Value, TokenAt, spaced}
 use Rattle.xml_grammar.specs.Tokens.Token.{Plain, Meant}
 use Rattle.xml_grammar.specs.Namespaces.{Binding}
 use Rattle.xml_grammar.specs.Spells.{Content, add_text}

@@ -1,10 +1,10 @@
 -- The canonical text of a tree that can be spelled spells that tree.
-use Rattle.std.proofs.Common.{◌≡◌, refl, sym, subst, ap, ap₂, ◌∙◌, arith, ℕ, ◌^◌, ◌<◌, ◌≤◌, List, [], ◌∷◌, ◌++◌, append_assoc, append-nil, length, map, Bool, true, false, not, cond, ◌&&◌, ◌||◌, nat_eq, nat_le, ltb, leb, Option, Some, None, codes, chars, encode_utf8_all, IsUtf8}
+use Rattle.std.proofs.Common.{◌≡◌, refl, sym, subst, ap, ap₂, ◌∙◌, arith, ℕ, ◌^◌, ◌<◌, ◌≤◌, List, [], ◌∷◌, ◌++◌, append_assoc, length, map, Bool, true, false, not, cond, ◌&&◌, ◌||◌, nat_eq, nat_le, ltb, leb, Option, Some, None, codes, chars, encode_utf8_all, IsUtf8}
 use lib.Utf8.{scalar, scalars}
 use Rattle.std.specs.List.{list_all, flat_map}
 use Rattle.std.specs.Str.{is_utf8, bytes_eq}
-use Rattle.std.proofs.lemmas.Bool.{le-leb, leb-true, lt-ltb, ltb-false}
-use Rattle.std.proofs.lemmas.Str.{IsUtf8-from_is_utf8, encodes-chars, chars-encodes}
+use Rattle.std.proofs.lemmas.Bool.{le-leb, leb-true, lt-ltb}
+use Rattle.std.proofs.lemmas.Str.{IsUtf8-from_is_utf8, chars-encodes}
 use Rattle.at_base.specs.Chars.{is_xml_char}
 use Rattle.xml_profile.specs.declared.name.QName.{QName}
 use Rattle.xml_profile.specs.declared.name.Attribute.{Attribute}
@@ -17,11 +17,9 @@ use Rattle.xml_profile.specs.Declaring.{is_declared, has_prefix}
 use Rattle.xml_profile.specs.Spellable as spellable
 use Rattle.xml_profile.proofs.Declaring.{all_declared, all_prefixed, all_once}
 use Rattle.xml_profile.proofs.Distinct.{prefixes_differ}
-use Rattle.xml_grammar.specs.Characters.{◌>>=◌, strip_at, begins_part}
-use Rattle.xml_grammar.specs.Tokens.{Pair, Tag}
-use Rattle.xml_grammar.specs.Namespaces.{Binding}
-use Rattle.xml_grammar.specs.Spells.{Content, Epilog, Document, Spells, tree, begins_feed, line_end, line_ends, optional, declaration_at, body}
-use Rattle.xml_roundtrip.proofs.Bools.{and_true, both_true, not_true, apart, false_unless, equal_numbers, differs, turned, all_both, all_parts, all_imply}
+use Rattle.xml_grammar.specs.Characters.{strip_at, begins_part}
+use Rattle.xml_grammar.specs.Spells.{Content, Epilog, Document, Spells, begins_feed, line_ends, optional, declaration_at, body}
+use Rattle.xml_roundtrip.proofs.Bools.{and_true, both_true, not_true, equal_numbers, differs, turned, all_both, all_parts, all_imply}
 use Rattle.xml_roundtrip.proofs.Spelled.{quoted, pair_chars, closing, tag_chars, name_chars, declaration, attribute, tag_of, ending, content_chars, canonical_chars}
 use Rattle.xml_roundtrip.proofs.Written.{is_written, Written, written_both, written_text, written_value, written_low}
 use Rattle.xml_roundtrip.proofs.Names.{begins_name, Named, is_prefix, is_local}
@@ -263,7 +261,7 @@ ends_stay (c ∷ cs) h =
     ap₂ (λ b rest. cond b (cond (begins_feed cs) [] (10 ∷ [])) (c ∷ []) ++ rest) (not_true (nat_eq c 13) y) (ends_stay cs b)
 
 -- a character of a document is a scalar value
-char_scalar : (c : ℕ) → is_xml_char c ≡ true → scalar c ≡ true
+pub char_scalar : (c : ℕ) → is_xml_char c ≡ true → scalar c ≡ true
 char_scalar c h = by_case (nat_eq c 0x9) (nat_eq c 0xA) (nat_eq c 0xD) (nat_le 0x20 c && nat_le c 0xD7FF) (nat_le 0xE000 c && nat_le c 0xFFFD) (nat_le 0x10000 c && nat_le c 0x10FFFF) refl refl refl refl refl refl h
   where
     low : c < 55296 → scalar c ≡ true

@@ -1,6 +1,6 @@
 -- The canonical text is the UTF-8 of its characters, which are those of a document and no CR.
 use lib.Utf8.{encode}
-use Rattle.std.proofs.Common.{◌≡◌, refl, sym, subst, ap, ap₂, ◌∙◌, arith, ℕ, ◌+◌, ◌/◌, ◌%◌, ◌≤◌, ◌<◌, List, [], ◌∷◌, ◌++◌, append-nil, Bool, true, false, not, cond, ◌&&◌, ◌||◌, nat_eq, nat_le, nat_lt, ltb, codes, map, chars, encode_utf8, encode_utf8_all, IsUtf8}
+use Rattle.std.proofs.Common.{◌≡◌, refl, sym, ap, ap₂, ◌∙◌, arith, ℕ, ◌+◌, ◌/◌, ◌%◌, ◌≤◌, ◌<◌, List, [], ◌∷◌, ◌++◌, append-nil, Bool, true, false, not, cond, ◌&&◌, nat_eq, nat_le, nat_lt, ltb, codes, chars, encode_utf8, encode_utf8_all, IsUtf8}
 use Rattle.std.specs.List.{list_all, flat_map, AllByRecursion}
 use Rattle.std.proofs.lemmas.Str.{encodes-append, encode_ascii, encodes-chars}
 use Rattle.std.proofs.lemmas.List.Concat.{flat_map-append}
@@ -34,7 +34,7 @@ high_byte_of_text b h = rw (higher 38 b (omega arith) h, higher 60 b (omega arit
 next_high : (c : ℕ) → nat_le 128 (128 + c % 64) ≡ true
 next_high c = le-leb 128 (128 + c % 64) (omega arith)
 
-high_bytes : (c : ℕ) → 128 ≤ c → list_all (nat_le 128) (encode_utf8 c) ≡ true
+pub high_bytes : (c : ℕ) → 128 ≤ c → list_all (nat_le 128) (encode_utf8 c) ≡ true
 unfolding encode
 high_bytes c h = by_size (ltb c 128) (ltb c 2048) (ltb c 65536) refl
   where

@@ -1,21 +1,31 @@
-//! Laws of canonical texts and the grammar.
+//! Laws of canonical texts and the grammar (XML 1.0; Namespaces in XML 1.0).
+//!
+//! A tree in memory has far fewer than 2^63 namespaces, and a text far fewer bytes; the bound is that of a number's text.
 
-ghost use Rattle.std.specs.Prelude.{◌≡◌, ◌<◌, ◌^◌, true, length};
+ghost use Rattle.std.specs.Prelude.{◌≡◌, ◌<◌, ◌^◌, ℕ, List, true, length};
 ghost use Rattle.xml_grammar.specs.Spells.{Spells};
 ghost use Rattle.xml_profile.specs.Canonical.{canonical_text, numbered_by};
 ghost use Rattle.xml_profile.specs.Spellable.{can_be_spelled};
 ghost use Rattle.xml_profile.specs.declared.tree.Tree.{Tree};
 
-/// The canonical text of each tree that can be spelled spells that tree, where its prefixes are numbered below 2^63,
-/// as they are in each text of fewer bytes.
-#[tactic(auto, using(crate::proofs::Wholes::canonical_spells, crate::proofs::Equal::text_spells))]
+/// The canonical text of each tree that can be spelled spells that tree and no other.
+#[tactic(auto, using(crate::proofs::Wholes::canonical_spells, crate::proofs::Equal::text_spells, crate::proofs::Equal::spells_only))]
 pub fn canonical_text_spells_its_tree()
     ensures numbered { (t : Tree) → length (numbered_by t) < 2 ^ 63 → can_be_spelled t ≡ true → Spells (canonical_text t) t }
     ensures in_memory { (t : Tree) → length (canonical_text t) < 2 ^ 63 → can_be_spelled t ≡ true → Spells (canonical_text t) t }
+    ensures only { (t : Tree) → (u : Tree) → length (numbered_by t) < 2 ^ 63 → can_be_spelled t ≡ true → Spells (canonical_text t) u → t ≡ u }
 {}
 
 /// Trees that can be spelled and have one canonical text are one tree.
-#[tactic(auto, using(crate::proofs::Equal::equal_texts))]
+#[tactic(auto, using(crate::proofs::Equal::equal_texts, crate::proofs::Equal::read_equal))]
 pub fn one_canonical_text_is_of_one_tree()
-    ensures { (t : Tree) → (u : Tree) → length (canonical_text t) < 2 ^ 63 → can_be_spelled t ≡ true → can_be_spelled u ≡ true → canonical_text t ≡ canonical_text u → t ≡ u }
+    ensures spelled { (t : Tree) → (u : Tree) → length (canonical_text t) < 2 ^ 63 → can_be_spelled t ≡ true → can_be_spelled u ≡ true → canonical_text t ≡ canonical_text u → t ≡ u }
+    ensures read { (a : List ℕ) → (b : List ℕ) → (t : Tree) → (u : Tree) → length a < 2 ^ 63 → length b < 2 ^ 63 → Spells a t → Spells b u → canonical_text t ≡ canonical_text u → t ≡ u }
+{}
+
+/// Each tree that a text spells can be spelled: its canonical text spells it too.
+#[tactic(auto, using(crate::proofs::Trees::spelled_well, crate::proofs::Equal::read_spells))]
+pub fn what_is_spelled_can_be_spelled()
+    ensures spellable { (bytes : List ℕ) → (t : Tree) → Spells bytes t → can_be_spelled t ≡ true }
+    ensures again { (bytes : List ℕ) → (t : Tree) → length bytes < 2 ^ 63 → Spells bytes t → Spells (canonical_text t) t }
 {}
