@@ -1,33 +1,31 @@
 -- What is read of characters of a document is made of such characters.
 use Rattle.std.proofs.Common.{◌≡◌, refl, sym, subst, ap, ap₂, ◌∙◌, ℕ, ◌+◌, ◌*◌, List, [], ◌∷◌, ◌++◌, take, drop, take-append-drop, append-nil, Bool, true, false, cond, ◌&&◌, nat_eq, Option, Some, None, codes, chars, encode_utf8, encode_utf8_all}
-use lib.Utf8.{scalar, scalars}
 use Rattle.std.specs.List.{list_all, prefix_len, AllByRecursion}
 use Rattle.std.specs.Str.{is_utf8}
 use Rattle.std.proofs.lemmas.Option.{some_pair_parts}
 use Rattle.std.proofs.lemmas.Str.{is_utf8-from_IsUtf8, IsUtf8-from_is_utf8, encodes-append, encodes-chars, chars-encodes}
 use Rattle.at_base.specs.Chars.{is_xml_char}
 use Rattle.xml_profile.specs.Spellable as spellable
-use Rattle.xml_grammar.specs.Characters.{◌>>=◌, found, given, is_white, is_quote, strip_at, behind_white, begins_white, until, name_at, parts, is_name_char}
+use Rattle.xml_grammar.specs.Characters.{◌>>=◌, found, is_white, strip_at, behind_white, until, name_at, parts, is_name_char}
 use Rattle.xml_grammar.specs.Tokens.{Value, Pair, PairAt, Pairs, Tag, StartAt, Token, TokenAt, digits_from, hexadecimal, decimal_digit, numbered, reference_at, spaced}
 use Rattle.xml_grammar.specs.Tokens.Token.{Plain, Meant, Comment, Start, End}
-use Rattle.xml_grammar.specs.Spells.{begins_feed, line_end, line_ends, quoted_at, written_at, passed, setting_at, is_version, is_utf_8, is_yes_or_no, optional, declaration_at, body}
-use Rattle.xml_grammar.proofs.TokenLaws.{bind_some, strip_is}
+use Rattle.xml_grammar.specs.Spells.{begins_feed, line_end, line_ends, body}
+use Rattle.xml_grammar.proofs.TokenLaws.{bind_some}
 use Rattle.xml_roundtrip.proofs.Bools.{and_true, both_true, all_both, all_parts}
-use Rattle.xml_roundtrip.proofs.Wholes.{char_scalar}
+use Rattle.xml_roundtrip.proofs.Scalars.{all_scalars}
+use Rattle.xml_roundtrip.proofs.Suffixes.{behind_word, past_white, behind_until, of_body}
 
 abbrev pub Fine : List ℕ → Type 0
 Fine cs = list_all is_xml_char cs ≡ true
 
-pub strip_fine : (w cs r : List ℕ) → strip_at w cs ≡ Some r → Fine cs → Fine r
-strip_fine w cs r e h = (all_parts is_xml_char w r (subst (λ v. list_all is_xml_char v ≡ true) (strip_is w cs r e) h)).1
+fine_behind : (c : ℕ) (cs : List ℕ) → Fine (c ∷ cs) → Fine cs
+fine_behind c cs h = (and_true (is_xml_char c) (list_all is_xml_char cs) h).1
 
-pub white_fine : (cs : List ℕ) → Fine cs → Fine (behind_white cs)
-white_fine [] h = refl
-white_fine (c ∷ cs) h = by_case (is_white c) (white_fine cs (and_true (is_xml_char c) (list_all is_xml_char cs) h).1)
-  where
-    by_case : (b : Bool) → Fine (behind_white cs) → Fine (cond b (behind_white cs) (c ∷ cs))
-    by_case true k = k
-    by_case false k = h
+strip_fine : (w cs r : List ℕ) → strip_at w cs ≡ Some r → Fine cs → Fine r
+strip_fine w cs r e h = behind_word Fine fine_behind w cs r e h
+
+white_fine : (cs : List ℕ) → Fine cs → Fine (behind_white cs)
+white_fine cs h = past_white Fine fine_behind cs h
 
 pub name_fine : (cs n r : List ℕ) → name_at cs ≡ Some (n, r) → Fine cs → Fine n × Fine r
 name_fine cs n r e h =
@@ -37,20 +35,19 @@ name_fine cs n r e h =
     let (x, y) = all_parts is_xml_char (take k cs) (drop k cs) (subst (λ v. list_all is_xml_char v ≡ true) (sym (take-append-drop k cs)) h) in
     (subst (λ v. list_all is_xml_char v ≡ true) i.0 x, subst (λ v. list_all is_xml_char v ≡ true) i.1 y)
 
-pub until_fine : (word cs a r : List ℕ) → until word cs ≡ Some (a, r) → Fine cs → Fine a × Fine r
+-- what stands before a word
+until_fine : (word cs a r : List ℕ) → until word cs ≡ Some (a, r) → Fine cs → Fine a
 until_fine word [] a r e h = cc
-until_fine word (c ∷ cs) a r e h = step (strip_at word (c ∷ cs)) refl (λ b i. until_fine word cs b r i (and_true (is_xml_char c) (list_all is_xml_char cs) h).1) e
+until_fine word (c ∷ cs) a r e h = step (strip_at word (c ∷ cs)) refl (λ b i. until_fine word cs b r i (fine_behind c cs h)) e
   where
-    step : (o : Option (List ℕ)) → strip_at word (c ∷ cs) ≡ o → ((b : List ℕ) → until word cs ≡ Some (b, r) → Fine b × Fine r)
-        → found {B = Option (List ℕ × List ℕ)} o (λ rest. Some ([], rest)) (until word cs >>= (λ p. Some (c ∷ p.0, p.1))) ≡ Some (a, r) → Fine a × Fine r
-    step (Some x) p go e =
-        let k = some_pair_parts [] a x r e in
-        (subst (λ v. list_all is_xml_char v ≡ true) k.0 refl, subst (λ v. list_all is_xml_char v ≡ true) k.1 (strip_fine word (c ∷ cs) x p h))
+    step : (o : Option (List ℕ)) → strip_at word (c ∷ cs) ≡ o → ((b : List ℕ) → until word cs ≡ Some (b, r) → Fine b)
+        → found {B = Option (List ℕ × List ℕ)} o (λ rest. Some ([], rest)) (until word cs >>= (λ p. Some (c ∷ p.0, p.1))) ≡ Some (a, r) → Fine a
+    step (Some x) p go e = subst (λ v. list_all is_xml_char v ≡ true) (some_pair_parts [] a x r e).0 refl
     step None p go e =
         let ((b, q), f, g) = bind_some (until word cs) (λ p. Some (c ∷ p.0, p.1)) (a, r) e in
         let k = some_pair_parts (c ∷ b) a q r g in
-        let (x, y) = go b (f ∙ ap (λ v. Some (b, v)) k.1) in
-        (subst (λ v. list_all is_xml_char v ≡ true) k.0 (both_true (is_xml_char c) (list_all is_xml_char b) (and_true (is_xml_char c) (list_all is_xml_char cs) h).0 x), y)
+        let x = go b (f ∙ ap (λ v. Some (b, v)) k.1) in
+        subst (λ v. list_all is_xml_char v ≡ true) k.0 (both_true (is_xml_char c) (list_all is_xml_char b) (and_true (is_xml_char c) (list_all is_xml_char cs) h).0 x)
 
 -- References
 
@@ -109,10 +106,6 @@ pub record XmlText (bytes : List ℕ) : Type 0 where
   pub characters : List ℕ
   pub encoded : encode_utf8_all characters ≡ bytes
   pub fine : Fine characters
-
-all_scalars : (cs : List ℕ) → Fine cs → scalars cs ≡ true
-all_scalars [] h = refl
-all_scalars (c ∷ cs) h = let (a, b) = and_true (is_xml_char c) (list_all is_xml_char cs) h in both_true (scalar c) (scalars cs) (char_scalar c a) (all_scalars cs b)
 
 pub chars_back : (cs : List ℕ) → Fine cs → chars (encode_utf8_all cs) ≡ cs
 chars_back cs h = chars-encodes cs (all_scalars cs h)
@@ -213,12 +206,12 @@ token_fine {cs} {t} {rest} (TokenAt.reference c e f) h =
     (subst FineToken (sym f) (text_one c a), b)
 token_fine {cs} {t} {rest} (TokenAt.section inside e f) h =
     let (x, a, b) = bind_some (strip_at (codes "<![CDATA[") cs) (until (codes "]]>")) (inside, rest) e in
-    let (c, d) = until_fine (codes "]]>") x inside rest b (strip_fine (codes "<![CDATA[") cs x a h) in
-    (subst FineToken (sym f) (text_all inside c), d)
+    let c = strip_fine (codes "<![CDATA[") cs x a h in
+    (subst FineToken (sym f) (text_all inside (until_fine (codes "]]>") x inside rest b c)), behind_until Fine fine_behind (codes "]]>") x inside rest b c)
 token_fine {cs} {t} {rest} (TokenAt.comment e f) h =
     let (x, a, b) = bind_some (strip_at (codes "<!--") cs) (λ inside. until (codes "--") inside >>= (λ closing. strip_at (codes ">") closing.1)) rest e in
     let ((y, z), c, d) = bind_some (until (codes "--") x) (λ closing. strip_at (codes ">") closing.1) rest b in
-    let (g, i) = until_fine (codes "--") x y z c (strip_fine (codes "<!--") cs x a h) in
+    let i = behind_until Fine fine_behind (codes "--") x y z c (strip_fine (codes "<!--") cs x a h) in
     (subst FineToken (sym f) tt, strip_fine (codes ">") z rest d i)
 token_fine {cs} {t} {rest} (TokenAt.start tag at f) h =
     let (a, b) = start_fine cs tag rest at h in
@@ -244,57 +237,5 @@ ends_fine (c ∷ cs) h =
     by_case a true false = refl
     by_case a false y = both_true (is_xml_char c) true a refl
 
-quoted_fine : (cs v r : List ℕ) → quoted_at cs ≡ Some (v, r) → Fine cs → Fine r
-quoted_fine [] v r e h = cc
-quoted_fine (q ∷ cs) v r e h = by_case (is_quote q) e
-  where
-    by_case : (b : Bool) → cond b (until (q ∷ []) cs) None ≡ Some (v, r) → Fine r
-    by_case true e = (until_fine (q ∷ []) cs v r e (and_true (is_xml_char q) (list_all is_xml_char cs) h).1).1
-    by_case false e = cc
-
-written_fine : (word cs v r : List ℕ) → written_at word cs ≡ Some (v, r) → Fine cs → Fine r
-written_fine word cs v r e h =
-    let (u, a, f) = bind_some (given (begins_white cs)) (λ u. strip_at word (behind_white cs) >>= (λ behind. strip_at (codes "=") (behind_white behind) >>= (λ value. quoted_at (behind_white value)))) (v, r) e in
-    let (x, b, g) = bind_some (strip_at word (behind_white cs)) (λ behind. strip_at (codes "=") (behind_white behind) >>= (λ value. quoted_at (behind_white value))) (v, r) f in
-    let (y, c, i) = bind_some (strip_at (codes "=") (behind_white x)) (λ value. quoted_at (behind_white value)) (v, r) g in
-    quoted_fine (behind_white y) v r i (white_fine y (strip_fine (codes "=") (behind_white x) y c (white_fine x (strip_fine word (behind_white cs) x b (white_fine cs h)))))
-
-abbrev pub valued : List ℕ → List ℕ → Option (List ℕ × List ℕ)
-valued v r = Some (v, r)
-
-pub passed_some : (test : List ℕ → Bool) (o : Option (List ℕ × List ℕ)) (r : List ℕ) → passed test o ≡ Some r → (v : List ℕ) × (o ≡ valued v r)
-passed_some test None r e = cc
-passed_some test (Some (v, q)) r e = by_case (test v) e
-  where
-    by_case : (b : Bool) → cond b (Some q) None ≡ Some r → (w : List ℕ) × (valued v q ≡ valued w r)
-    by_case true e = (v, let i : q ≡ r = cc in ap (valued v) i)
-    by_case false e = cc
-
-setting_fine : (word : List ℕ) (test : List ℕ → Bool) (cs r : List ℕ) → setting_at word test cs ≡ Some r → Fine cs → Fine r
-setting_fine word test cs r e h = let (v, f) = passed_some test (written_at word cs) r e in written_fine word cs v r f h
-
-optional_fine : (o : Option (List ℕ)) (cs : List ℕ) → ((r : List ℕ) → o ≡ Some r → Fine r) → Fine cs → Fine (optional o cs)
-optional_fine None cs h k = k
-optional_fine (Some r) cs h k = h r refl
-
-declaration_fine : (cs r : List ℕ) → declaration_at cs ≡ Some r → Fine cs → Fine r
-unfolding declaration_at
-declaration_fine cs r e h =
-    let (x, a, f) = bind_some (strip_at (codes "<?xml") cs) _ r e in
-    let (y, b, g) = bind_some (setting_at (codes "version") is_version x) _ r f in
-    let c = setting_fine (codes "version") is_version x y b (strip_fine (codes "<?xml") cs x a h) in
-    let encoding = optional (setting_at (codes "encoding") is_utf_8 y) y in
-    let d : Fine encoding = optional_fine (setting_at (codes "encoding") is_utf_8 y) y (λ r i. setting_fine (codes "encoding") is_utf_8 y r i c) c in
-    let standalone = optional (setting_at (codes "standalone") is_yes_or_no encoding) encoding in
-    let i : Fine standalone = optional_fine (setting_at (codes "standalone") is_yes_or_no encoding) encoding (λ r i. setting_fine (codes "standalone") is_yes_or_no encoding r i d) d in
-    strip_fine (codes "?>") (behind_white standalone) r g (white_fine standalone i)
-
-body_fine : (cs : List ℕ) → Fine cs → Fine (body cs)
-unfolding body
-body_fine cs h =
-    let unmarked = optional (strip_at (0xFEFF ∷ []) cs) cs in
-    let a : Fine unmarked = optional_fine (strip_at (0xFEFF ∷ []) cs) cs (λ r e. strip_fine (0xFEFF ∷ []) cs r e h) h in
-    optional_fine (declaration_at unmarked) unmarked (λ r e. declaration_fine unmarked r e a) a
-
 pub document_fine : (cs : List ℕ) → Fine cs → Fine (body (line_ends cs))
-document_fine cs h = body_fine (line_ends cs) (ends_fine cs h)
+document_fine cs h = of_body Fine fine_behind (line_ends cs) (ends_fine cs h)

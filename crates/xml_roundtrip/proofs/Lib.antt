@@ -1,4 +1,5 @@
 pub mod Bools
+pub mod Scalars
 pub mod Spelled
 pub mod Written
 pub mod Names
@@ -9,6 +10,7 @@ pub mod Meanings
 pub mod Contents
 pub mod Wholes
 pub mod Numbers
+pub mod Suffixes
 pub mod Kept
 pub mod Read
 pub mod Trees

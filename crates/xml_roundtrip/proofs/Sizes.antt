@@ -1,8 +1,7 @@
 -- A tree has no more names than the text that spells it has bytes.
-use Rattle.std.proofs.Common.{nat_eq, ◌≡◌, refl, sym, subst, ap, ◌∙◌, arith, ℕ, ◌+◌, ◌<◌, ◌≤◌, le_trans, List, [], ◌∷◌, ◌++◌, length, length-append, map, Bool, true, false, cond, Option, Some, None, is_some, codes, chars}
+use Rattle.std.proofs.Common.{nat_eq, ◌≡◌, refl, sym, subst, arith, ℕ, ◌+◌, ◌<◌, ◌≤◌, le_trans, List, [], ◌∷◌, ◌++◌, length, length-append, map, Bool, true, false, cond, Option, Some, None, is_some, codes, chars}
 use Rattle.std.specs.List.{fold, list_any}
 use Rattle.std.specs.Str.{bytes_eq}
-use Rattle.std.proofs.lemmas.Option.{some_pair_parts}
 use Rattle.std.proofs.lemmas.Str.{length-le-encodes, encodes-chars}
 use Rattle.xml_profile.specs.declared.name.Attribute.{Attribute}
 use Rattle.xml_profile.specs.declared.tree.Tree.{Tree}
@@ -10,32 +9,16 @@ use Rattle.xml_profile.specs.Forest.{Forest}
 use Rattle.xml_profile.specs.Forest.Forest.{End as Nothing, Text_then, Element_then}
 use Rattle.xml_profile.specs.Prefixes.{fixed_prefix}
 use Rattle.xml_profile.specs.Canonical.{enumerate, spaces_at, spaces_in, spaces_of, numbered_by}
-use Rattle.xml_grammar.specs.Characters.{◌>>=◌, found, given, strip_at, behind_white, begins_white, until, is_quote, parts}
+use Rattle.xml_grammar.specs.Characters.{◌>>=◌, given, behind_white, parts}
 use Rattle.xml_grammar.specs.Tokens.{Pair, Pairs, Tag, Token, TokenAt}
 use Rattle.xml_grammar.specs.Tokens.Token.{Plain, Meant, Comment, Start, End}
 use Rattle.xml_grammar.specs.Namespaces.{Binding, declared_by, Spelled, Sorted, sort_in, sort, may_declare, element_name, attribute_name, attributes_of, are_apart, Meaning, means}
-use Rattle.xml_grammar.specs.Spells.{add_text, Content, Document, tree, begins_feed, line_end, line_ends, quoted_at, written_at, setting_at, is_version, is_utf_8, is_yes_or_no, optional, declaration_at, body, Spells}
+use Rattle.xml_grammar.specs.Spells.{add_text, Content, Document, tree, begins_feed, line_end, line_ends, body, Spells}
 use Rattle.xml_grammar.proofs.TokenLaws.{bind_some, strip_length, white_length, begins_length, name_length, pair_shorter}
 use Rattle.xml_grammar.proofs.WholeLaws.{token_shorter}
-use Rattle.xml_roundtrip.proofs.Kept.{passed_some}
+use Rattle.xml_roundtrip.proofs.Suffixes.{of_body}
 
 -- What is in front of a document
-
-until_shorter : (word cs a r : List ℕ) → until word cs ≡ Some (a, r) → length r ≤ length cs
-until_shorter word [] a r e = cc
-until_shorter word (c ∷ cs) a r e = step (strip_at word (c ∷ cs)) refl (λ b. until_shorter word cs b r) e
-  where
-    step : (o : Option (List ℕ)) → strip_at word (c ∷ cs) ≡ o → ((b : List ℕ) → until word cs ≡ Some (b, r) → length r ≤ length cs)
-        → found {B = Option (List ℕ × List ℕ)} o (λ rest. Some ([], rest)) (until word cs >>= (λ p. Some (c ∷ p.0, p.1))) ≡ Some (a, r) → length r ≤ length (c ∷ cs)
-    step (Some x) p go e =
-        let k = some_pair_parts [] a x r e in
-        let l = strip_length word (c ∷ cs) x p in
-        subst (λ v. length v ≤ length (c ∷ cs)) k.1 (omega arith)
-    step None p go e =
-        let ((b, q), f, g) = bind_some (until word cs) (λ p. Some (c ∷ p.0, p.1)) (a, r) e in
-        let k = some_pair_parts (c ∷ b) a q r g in
-        let h = go b (f ∙ ap (λ v. Some (b, v)) k.1) in
-        omega arith
 
 ends_shorter : (cs : List ℕ) → length (line_ends cs) ≤ length cs
 ends_shorter [] = omega arith
@@ -50,59 +33,8 @@ ends_shorter (c ∷ cs) =
     by_case true false = omega arith
     by_case false y = omega arith
 
-quoted_shorter : (cs v r : List ℕ) → quoted_at cs ≡ Some (v, r) → length r ≤ length cs
-quoted_shorter [] v r e = cc
-quoted_shorter (q ∷ cs) v r e = by_case (is_quote q) e
-  where
-    by_case : (b : Bool) → cond b (until (q ∷ []) cs) None ≡ Some (v, r) → length r ≤ length (q ∷ cs)
-    by_case true e = let h = until_shorter (q ∷ []) cs v r e in omega arith
-    by_case false e = cc
-
-written_shorter : (word cs v r : List ℕ) → written_at word cs ≡ Some (v, r) → length r ≤ length cs
-written_shorter word cs v r e =
-    let (u, a, f) = bind_some (given (begins_white cs)) (λ u. strip_at word (behind_white cs) >>= (λ behind. strip_at (codes "=") (behind_white behind) >>= (λ value. quoted_at (behind_white value)))) (v, r) e in
-    let (x, b, g) = bind_some (strip_at word (behind_white cs)) (λ behind. strip_at (codes "=") (behind_white behind) >>= (λ value. quoted_at (behind_white value))) (v, r) f in
-    let (y, c, i) = bind_some (strip_at (codes "=") (behind_white x)) (λ value. quoted_at (behind_white value)) (v, r) g in
-    let l1 = white_length cs in
-    let l2 = strip_length word (behind_white cs) x b in
-    let l3 = white_length x in
-    let l4 = strip_length (codes "=") (behind_white x) y c in
-    let l5 = white_length y in
-    let l6 = quoted_shorter (behind_white y) v r i in
-    omega arith
-
-setting_shorter : (word : List ℕ) (test : List ℕ → Bool) (cs r : List ℕ) → setting_at word test cs ≡ Some r → length r ≤ length cs
-setting_shorter word test cs r e = let (v, f) = passed_some test (written_at word cs) r e in written_shorter word cs v r f
-
-optional_shorter : (o : Option (List ℕ)) (cs : List ℕ) → ((r : List ℕ) → o ≡ Some r → length r ≤ length cs) → length (optional o cs) ≤ length cs
-optional_shorter None cs h = omega arith
-optional_shorter (Some r) cs h = h r refl
-
-declaration_shorter : (cs r : List ℕ) → declaration_at cs ≡ Some r → length r ≤ length cs
-unfolding declaration_at
-declaration_shorter cs r e =
-    let (x, a, f) = bind_some (strip_at (codes "<?xml") cs) _ r e in
-    let (y, b, g) = bind_some (setting_at (codes "version") is_version x) _ r f in
-    let encoding = optional (setting_at (codes "encoding") is_utf_8 y) y in
-    let standalone = optional (setting_at (codes "standalone") is_yes_or_no encoding) encoding in
-    let l1 = strip_length (codes "<?xml") cs x a in
-    let l2 = setting_shorter (codes "version") is_version x y b in
-    let l3 : length encoding ≤ length y = optional_shorter (setting_at (codes "encoding") is_utf_8 y) y (λ r i. setting_shorter (codes "encoding") is_utf_8 y r i) in
-    let l4 : length standalone ≤ length encoding = optional_shorter (setting_at (codes "standalone") is_yes_or_no encoding) encoding (λ r i. setting_shorter (codes "standalone") is_yes_or_no encoding r i) in
-    let l5 = white_length standalone in
-    let l6 = strip_length (codes "?>") (behind_white standalone) r g in
-    chain (length r) (length (behind_white standalone)) (length standalone) (length encoding) (length y) (length x) (length cs) (omega (arith, l6)) l5 l4 l3 l2 (omega (arith, l1))
-  where
-    chain : (a b c d e f g : ℕ) → a ≤ b → b ≤ c → c ≤ d → d ≤ e → e ≤ f → f ≤ g → a ≤ g
-    chain a b c d e f g h i j k l m = omega arith
-
 body_shorter : (cs : List ℕ) → length (body cs) ≤ length cs
-unfolding body
-body_shorter cs =
-    let unmarked = optional (strip_at (0xFEFF ∷ []) cs) cs in
-    let a : length unmarked ≤ length cs = optional_shorter (strip_at (0xFEFF ∷ []) cs) cs (λ r e. omega (arith, strip_length (0xFEFF ∷ []) cs r e)) in
-    let b : length (optional (declaration_at unmarked) unmarked) ≤ length unmarked = optional_shorter (declaration_at unmarked) unmarked (λ r e. declaration_shorter unmarked r e) in
-    le_trans b a
+body_shorter cs = of_body (λ v. length v ≤ length cs) (λ c v h. omega (arith, h)) cs (omega arith)
 
 -- Tags
 

@@ -1,7 +1,7 @@
 -- The canonical text is the UTF-8 of its characters, which are those of a document and no CR.
 use lib.Utf8.{encode}
 use Rattle.std.proofs.Common.{◌≡◌, refl, sym, ap, ap₂, ◌∙◌, arith, ℕ, ◌+◌, ◌/◌, ◌%◌, ◌≤◌, ◌<◌, List, [], ◌∷◌, ◌++◌, append-nil, Bool, true, false, not, cond, ◌&&◌, nat_eq, nat_le, nat_lt, ltb, codes, chars, encode_utf8, encode_utf8_all, IsUtf8}
-use Rattle.std.specs.List.{list_all, flat_map, AllByRecursion}
+use Rattle.std.specs.List.{list_all, flat_map}
 use Rattle.std.proofs.lemmas.Str.{encodes-append, encode_ascii, encodes-chars}
 use Rattle.std.proofs.lemmas.List.Concat.{flat_map-append}
 use Rattle.at_base.specs.Chars.{is_xml_char}
@@ -18,10 +18,6 @@ pub record Written (bytes cs : List ℕ) : Type 0 where
 
 pub written_both : (a b x y : List ℕ) → Written a x → Written b y → Written (a ++ b) (x ++ y)
 written_both a b x y h k = record { encoded = encodes-append x y ∙ ap₂ (λ u v. u ++ v) h.encoded k.encoded; fine = all_both is_written x y h.fine k.fine }
-
-pub written_all : {X : Type 0} (f g : X → List ℕ) (xs : List X) → AllByRecursion (λ x. Written (f x) (g x)) xs → Written (flat_map f xs) (flat_map g xs)
-written_all f g [] h = record { encoded = refl; fine = refl }
-written_all f g (x ∷ xs) h = written_both (f x) (flat_map f xs) (g x) (flat_map g xs) h.0 (written_all f g xs h.1)
 
 -- Escapes
 
