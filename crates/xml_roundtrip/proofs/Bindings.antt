@@ -20,6 +20,9 @@ same_bytes a b = tells_same (same a b) (bytes_eq a b) (λ e. (bytes_eq-Decides a
 abbrev pub binding : List (List ℕ) → List ℕ → Binding
 binding numbered s = record { prefix = prefix_of numbered s; space = s }
 
+abbrev pub bindings : List (List ℕ) → List (List ℕ) → List Binding
+bindings numbered spaces = map (binding numbered) spaces
+
 -- a namespace that a declaration may name
 abbrev pub may_name : List (List ℕ) → List ℕ → Bool
 may_name numbered s = not (bytes_eq s xml) && (spellable.is_space s && has_prefix numbered (Some s))
@@ -67,7 +70,7 @@ module _ (numbered : List (List ℕ)) (differ : PrefixesDiffer numbered) where
       (not_true (bytes_eq s xml) a, c, d)
 
   looked_up : (s : List ℕ) → has_prefix numbered (Some s) ≡ true → (xs : List (List ℕ)) → list_all (may_name numbered) xs ≡ true
-      → lookup (prefix_of numbered s) (map (binding numbered) xs) ≡ cond (list_any (bytes_eq s) xs) (Some s) None
+      → lookup (prefix_of numbered s) (bindings numbered xs) ≡ cond (list_any (bytes_eq s) xs) (Some s) None
   looked_up s h [] k = refl
   looked_up s h (x ∷ xs) k =
       let (a, b) = and_true (may_name numbered x) (list_all (may_name numbered) xs) k in
@@ -80,14 +83,14 @@ module _ (numbered : List (List ℕ)) (differ : PrefixesDiffer numbered) where
       by_case false false e = refl
 
   declared_later : (s : List ℕ) → has_prefix numbered (Some s) ≡ true → (xs : List (List ℕ)) → list_all (may_name numbered) xs ≡ true
-      → declares (prefix_of numbered s) (map (binding numbered) xs) ≡ list_any (bytes_eq s) xs
+      → declares (prefix_of numbered s) (bindings numbered xs) ≡ list_any (bytes_eq s) xs
   declared_later s h [] k = refl
   declared_later s h (x ∷ xs) k =
       let (a, b) = and_true (may_name numbered x) (list_all (may_name numbered) xs) k in
       ap₂ (λ t u. t || u) (same_prefix s x h (name_parts x a).2) (declared_later s h xs b)
 
 -- no default namespace is declared
-pub no_default : (numbered : List (List ℕ)) → length numbered < 2 ^ 63 → (xs : List (List ℕ)) → lookup [] (map (binding numbered) xs) ≡ None
+pub no_default : (numbered : List (List ℕ)) → length numbered < 2 ^ 63 → (xs : List (List ℕ)) → lookup [] (bindings numbered xs) ≡ None
 no_default numbered small [] = refl
 no_default numbered small (x ∷ xs) = ap₂ (λ o b. or_else o (cond b (Some x) None)) (no_default numbered small xs) (not_same (prefix_of numbered x) (is_prefix numbered small x).some)
   where
@@ -96,7 +99,7 @@ no_default numbered small (x ∷ xs) = ap₂ (λ o b. or_else o (cond b (Some x)
     not_same (c ∷ p) h = refl
 
 pub space_found : (numbered declared : List (List ℕ)) → Declares numbered declared → (s : List ℕ) → is_declared declared (Some s) ≡ true → has_prefix numbered (Some s) ≡ true
-    → space_of (map (binding numbered) declared) (prefix_of numbered s) ≡ Some s
+    → space_of (bindings numbered declared) (prefix_of numbered s) ≡ Some s
 space_found numbered declared d s h k =
     ap₂ (λ b o. cond b (Some xml_space) o) (same_prefix numbered d.differ s xml k refl) (looked_up numbered d.differ s k declared d.all_named) ∙ by_case (bytes_eq s xml) (list_any (bytes_eq s) declared) refl h
   where
@@ -125,12 +128,12 @@ binds numbered small differ s h =
     by_case t u v w false y a b c d e = rw (a, b, c, d, e) refl
 
 pub may_stand : (numbered : List (List ℕ)) → length numbered < 2 ^ 63 → PrefixesDiffer numbered → (xs : List (List ℕ)) → is_once xs ≡ true → list_all (may_name numbered) xs ≡ true
-    → may_declare (map (binding numbered) xs) ≡ true
+    → may_declare (bindings numbered xs) ≡ true
 may_stand numbered small differ [] h k = refl
 may_stand numbered small differ (x ∷ xs) h k =
     let (a, b) = and_true (not (list_any (bytes_eq x) xs)) (is_once xs) h in
     let (c, d) = and_true (may_name numbered x) (list_all (may_name numbered) xs) k in
-    let e : declares (prefix_of numbered x) (map (binding numbered) xs) ≡ false = declared_later numbered differ x (name_parts numbered differ x c).2 xs d ∙ not_true (list_any (bytes_eq x) xs) a in
-    both_true (may_bind (binding numbered x) && not (declares (prefix_of numbered x) (map (binding numbered) xs))) (may_declare (map (binding numbered) xs))
-    (both_true (may_bind (binding numbered x)) (not (declares (prefix_of numbered x) (map (binding numbered) xs))) (binds numbered small differ x c)
-    (not_false (declares (prefix_of numbered x) (map (binding numbered) xs)) e)) (may_stand numbered small differ xs b d)
+    let e : declares (prefix_of numbered x) (bindings numbered xs) ≡ false = declared_later numbered differ x (name_parts numbered differ x c).2 xs d ∙ not_true (list_any (bytes_eq x) xs) a in
+    both_true (may_bind (binding numbered x) && not (declares (prefix_of numbered x) (bindings numbered xs))) (may_declare (bindings numbered xs))
+    (both_true (may_bind (binding numbered x)) (not (declares (prefix_of numbered x) (bindings numbered xs))) (binds numbered small differ x c)
+    (not_false (declares (prefix_of numbered x) (bindings numbered xs)) e)) (may_stand numbered small differ xs b d)

@@ -20,7 +20,7 @@ use Rattle.xml_roundtrip.proofs.Bools.{and_true, not_true, apart, false_unless}
 use Rattle.xml_roundtrip.proofs.Names.{Named, named_alone, named_within, is_prefix, IsLocal, is_local}
 use Rattle.xml_roundtrip.proofs.Tags.{IsPair}
 use Rattle.xml_roundtrip.proofs.Spelled.{name_chars, declaration, attribute}
-use Rattle.xml_roundtrip.proofs.Bindings.{same_bytes, binding, may_name, Declares, no_default, space_found, may_stand}
+use Rattle.xml_roundtrip.proofs.Bindings.{bindings, same_bytes, binding, may_name, Declares, no_default, space_found, may_stand}
 
 -- Names
 
@@ -58,37 +58,37 @@ qname space local = record { space = space; local = local }
 
 module _ (numbered declared : List (List ℕ)) (d : Declares numbered declared) where
   found_within : (s local : List ℕ) → is_known numbered declared (Some s) ≡ true → encode_utf8_all (chars local) ≡ local → (o : Option QName)
-      → cond (is_empty (prefix_of numbered s)) o (space_of (map (binding numbered) declared) (prefix_of numbered s) >>= (λ s. Some (qname (Some s) (encode_utf8_all (chars local))))) ≡ Some (qname (Some s) local)
+      → cond (is_empty (prefix_of numbered s)) o (space_of (bindings numbered declared) (prefix_of numbered s) >>= (λ s. Some (qname (Some s) (encode_utf8_all (chars local))))) ≡ Some (qname (Some s) local)
   found_within s local k e o =
       let (a, b) = and_true (is_declared declared (Some s)) (has_prefix numbered (Some s)) k in
-      ap (λ b. cond b o (space_of (map (binding numbered) declared) (prefix_of numbered s) >>= (λ s. Some (qname (Some s) (encode_utf8_all (chars local)))))) (is_prefix numbered d.small s).some
+      ap (λ b. cond b o (space_of (bindings numbered declared) (prefix_of numbered s) >>= (λ s. Some (qname (Some s) (encode_utf8_all (chars local)))))) (is_prefix numbered d.small s).some
       ∙ (ap (λ o. o >>= (λ s. Some (qname (Some s) (encode_utf8_all (chars local))))) (space_found numbered declared d s a b) ∙ ap (λ v. Some (qname (Some s) v)) e)
 
   element_in : (space : Option (List ℕ)) (local : List ℕ) → is_known numbered declared space ≡ true → encode_utf8_all (chars local) ≡ local
-      → element_name (map (binding numbered) declared) (parts_within numbered space local) ≡ Some (qname space local)
+      → element_name (bindings numbered declared) (parts_within numbered space local) ≡ Some (qname space local)
   element_in None local k e = ap₂ (λ o v. Some (qname (defaulted o) v)) (no_default numbered d.small declared) e
-  element_in (Some s) local k e = found_within s local k e (Some (qname (defaulted (lookup [] (map (binding numbered) declared))) (encode_utf8_all (chars local))))
+  element_in (Some s) local k e = found_within s local k e (Some (qname (defaulted (lookup [] (bindings numbered declared))) (encode_utf8_all (chars local))))
 
   attribute_in : (space : Option (List ℕ)) (local : List ℕ) → is_known numbered declared space ≡ true → encode_utf8_all (chars local) ≡ local
-      → attribute_name (map (binding numbered) declared) (parts_within numbered space local) ≡ Some (qname space local)
+      → attribute_name (bindings numbered declared) (parts_within numbered space local) ≡ Some (qname space local)
   attribute_in None local k e = ap (λ v. Some (qname None v)) e
   attribute_in (Some s) local k e = found_within s local k e (Some (qname None (encode_utf8_all (chars local))))
 
-  pub element_named : (n : QName) → spellable.is_name n ≡ true → is_known numbered declared n.space ≡ true → element_name (map (binding numbered) declared) (parts_of numbered n) ≡ Some n
+  pub element_named : (n : QName) → spellable.is_name n ≡ true → is_known numbered declared n.space ≡ true → element_name (bindings numbered declared) (parts_of numbered n) ≡ Some n
   element_named n h k = element_in n.space n.local k (local_back n h)
 
-  attribute_named : (n : QName) → spellable.is_name n ≡ true → is_known numbered declared n.space ≡ true → attribute_name (map (binding numbered) declared) (parts_of numbered n) ≡ Some n
+  attribute_named : (n : QName) → spellable.is_name n ≡ true → is_known numbered declared n.space ≡ true → attribute_name (bindings numbered declared) (parts_of numbered n) ≡ Some n
   attribute_named n h k = attribute_in n.space n.local k (local_back n h)
 
   -- the attributes of a tag
   pub attributes_named : (ats : List Attribute) → list_all spellable.is_attribute ats ≡ true → list_all (is_known numbered declared) (map (λ a. a.name.space) ats) ≡ true
-      → attributes_of (map (binding numbered) declared) (map (spelled numbered) ats) ≡ Some ats
+      → attributes_of (bindings numbered declared) (map (spelled numbered) ats) ≡ Some ats
   attributes_named [] h k = refl
   attributes_named (a ∷ ats) h k =
       let (x, y) = and_true (spellable.is_attribute a) (list_all spellable.is_attribute ats) h in
       let (u, v) = and_true (is_known numbered declared a.name.space) (list_all (is_known numbered declared) (map (λ a. a.name.space) ats)) k in
       let (w, z) = and_true (spellable.is_name a.name) (not (spellable.is_declaration a.name) && spellable.is_text a.value) x in
-      ap (λ o. o >>= (λ name. attributes_of (map (binding numbered) declared) (map (spelled numbered) ats) >>= (λ more. Some (named name a.value more)))) (attribute_named a.name w u)
+      ap (λ o. o >>= (λ name. attributes_of (bindings numbered declared) (map (spelled numbered) ats) >>= (λ more. Some (named name a.value more)))) (attribute_named a.name w u)
       ∙ ap (λ o. o >>= (λ more. Some (named a.name a.value more))) (attributes_named ats y v)
 
 -- Declarations and attributes, sorted
@@ -141,11 +141,11 @@ sort_attributes numbered small (a ∷ ats) h =
     (name_stands_apart numbered small a.name w).apart (sort_attributes numbered small ats y) (no_declaration numbered small a.name w (not_true (spellable.is_declaration a.name) u) a.value)
 
 sort_all : (numbered : List (List ℕ)) → length numbered < 2 ^ 63 → (ds : List (List ℕ)) (ats : List Attribute) → list_all spellable.is_attribute ats ≡ true
-    → sort (map (declaration numbered) ds ++ map (attribute numbered) ats) ≡ Some (sorted (map (binding numbered) ds) (map (spelled numbered) ats))
+    → sort (map (declaration numbered) ds ++ map (attribute numbered) ats) ≡ Some (sorted (bindings numbered ds) (map (spelled numbered) ats))
 sort_all numbered small [] ats h = sort_attributes numbered small ats h
 sort_all numbered small (s ∷ ds) ats h =
     sort_first (declaration numbered s) (map (declaration numbered) ds ++ map (attribute numbered) ats) (record { prefix = codes "xmlns"; local = prefix_of numbered s })
-    (sorted (map (binding numbered) ds) (map (spelled numbered) ats)) (Some (binding numbered s))
+    (sorted (bindings numbered ds) (map (spelled numbered) ats)) (Some (binding numbered s))
     (declaration_named numbered small s).apart (sort_all numbered small ds ats h) refl
 
 -- Attributes with names of their own
@@ -193,18 +193,18 @@ pub record IsTag (numbered declared : List (List ℕ)) (n : QName) (ats : List A
 
 module _ (numbered declared : List (List ℕ)) (d : Declares numbered declared) (n : QName) (ats : List Attribute) (t : IsTag numbered declared n ats) where
   -- the root's tag
-  pub root_means : (empty : Bool) → means [] (record { name = name_chars numbered n; pairs = map (declaration numbered) declared ++ map (attribute numbered) ats; is_empty = empty }) ≡ Some (meaning (map (binding numbered) declared) n ats)
+  pub root_means : (empty : Bool) → means [] (record { name = name_chars numbered n; pairs = map (declaration numbered) declared ++ map (attribute numbered) ats; is_empty = empty }) ≡ Some (meaning (bindings numbered declared) n ats)
   root_means empty =
       means_so [] (record { name = name_chars numbered n; pairs = map (declaration numbered) declared ++ map (attribute numbered) ats; is_empty = empty })
-      (map (binding numbered) declared) (map (spelled numbered) ats) (parts_of numbered n) n ats
+      (bindings numbered declared) (map (spelled numbered) ats) (parts_of numbered n) n ats
       (sort_all numbered d.small declared ats t.attributes) (may_stand numbered d.small d.differ declared d.once d.all_named) (name_stands_apart numbered d.small n t.name).apart
       (element_named numbered declared d n t.name t.known) (attributes_named numbered declared d ats t.attributes t.all_known) (all_apart ats ∙ t.separate)
 
   -- a tag below the root
-  pub inner_means : (empty : Bool) → means (map (binding numbered) declared) (record { name = name_chars numbered n; pairs = map (attribute numbered) ats; is_empty = empty }) ≡ Some (meaning (map (binding numbered) declared) n ats)
+  pub inner_means : (empty : Bool) → means (bindings numbered declared) (record { name = name_chars numbered n; pairs = map (attribute numbered) ats; is_empty = empty }) ≡ Some (meaning (bindings numbered declared) n ats)
   inner_means empty =
-      let nothing : map (binding numbered) declared ++ [] ≡ map (binding numbered) declared = append-nil (map (binding numbered) declared) in
-      means_so (map (binding numbered) declared) (record { name = name_chars numbered n; pairs = map (attribute numbered) ats; is_empty = empty })
+      let nothing : bindings numbered declared ++ [] ≡ bindings numbered declared = append-nil (bindings numbered declared) in
+      means_so (bindings numbered declared) (record { name = name_chars numbered n; pairs = map (attribute numbered) ats; is_empty = empty })
       [] (map (spelled numbered) ats) (parts_of numbered n) n ats
       (sort_attributes numbered d.small ats t.attributes) refl (name_stands_apart numbered d.small n t.name).apart
       (subst (λ bs. element_name bs (parts_of numbered n) ≡ Some n) (sym nothing) (element_named numbered declared d n t.name t.known))

@@ -23,7 +23,7 @@ use Rattle.xml_roundtrip.proofs.Spelled.{quoted, pair_chars, closing, tag_chars,
 use Rattle.xml_roundtrip.proofs.Written.{is_written, Written, written_both, written_text, written_value, written_low}
 use Rattle.xml_roundtrip.proofs.Names.{begins_name, Named, is_prefix, is_local}
 use Rattle.xml_roundtrip.proofs.Tags.{tag_reads, end_reads}
-use Rattle.xml_roundtrip.proofs.Bindings.{binding, may_name, Declares, declared_fit}
+use Rattle.xml_roundtrip.proofs.Bindings.{bindings, may_name, Declares, declared_fit}
 use Rattle.xml_roundtrip.proofs.Meanings.{is_known, parts_of, name_stands_apart, IsTag, meaning, root_means, root_pairs}
 use Rattle.xml_roundtrip.proofs.Contents.{is_tag, content_reads}
 
@@ -211,18 +211,18 @@ module _ (numbered declared : List (List ℕ)) (d : Declares numbered declared) 
 
   empty_document : Document [] (tag_chars (tag_of numbered declared n ats Nothing) ++ []) (element Nothing)
   empty_document =
-      Document.empty (tag_of numbered declared n ats Nothing) (meaning (map (binding numbered) declared) n ats)
+      Document.empty (tag_of numbered declared n ats Nothing) (meaning (bindings numbered declared) n ats)
       (tag_reads (tag_of numbered declared n ats Nothing) (parts_of numbered n) [] named (root_pairs numbered declared d n ats i)) refl (root_means numbered declared d n ats i true) (Epilog.stop refl) refl
 
-  nested_document : (c : Forest) → is_end c ≡ false → ((more : List ℕ) → Content (map (binding numbered) declared) (content_chars numbered c ++ 60 ∷ more) c (60 ∷ more))
+  nested_document : (c : Forest) → is_end c ≡ false → ((more : List ℕ) → Content (bindings numbered declared) (content_chars numbered c ++ 60 ∷ more) c (60 ∷ more))
       → Document [] (tag_chars (tag_of numbered declared n ats c) ++ (content_chars numbered c ++ ending false (name_chars numbered n))) (element c)
   nested_document c e inside =
-      Document.nested (tag_of numbered declared n ats c) (meaning (map (binding numbered) declared) n ats) c
+      Document.nested (tag_of numbered declared n ats c) (meaning (bindings numbered declared) n ats) c
       (tag_reads (tag_of numbered declared n ats c) (parts_of numbered n) (content_chars numbered c ++ ending false (name_chars numbered n)) named (root_pairs numbered declared d n ats i))
       e (root_means numbered declared d n ats i (is_end c)) (inside (47 ∷ (name_chars numbered n ++ 62 ∷ [])))
       (end_reads (name_chars numbered n) (parts_of numbered n) [] named) (Epilog.stop refl) refl
 
-  element_document : (c : Forest) → ((more : List ℕ) → Content (map (binding numbered) declared) (content_chars numbered c ++ 60 ∷ more) c (60 ∷ more))
+  element_document : (c : Forest) → ((more : List ℕ) → Content (bindings numbered declared) (content_chars numbered c ++ 60 ∷ more) c (60 ∷ more))
       → Document [] (tag_chars (tag_of numbered declared n ats c) ++ (content_chars numbered c ++ ending (is_end c) (name_chars numbered n))) (element c)
   element_document Nothing inside = empty_document
   element_document (Text_then u r) inside = nested_document (Text_then u r) refl inside

@@ -1,6 +1,6 @@
 //! Laws of canonical texts and the grammar (XML 1.0; Namespaces in XML 1.0).
 //!
-//! A tree in memory has far fewer than 2^63 namespaces, and a text far fewer bytes; the bound is that of a number's text.
+//! The bounds of 2^63 are those of a number's text in decimal: no tree or text in memory reaches them.
 
 ghost use Rattle.std.specs.Prelude.{◌≡◌, ◌<◌, ◌^◌, ℕ, List, true, length};
 ghost use Rattle.xml_grammar.specs.Spells.{Spells};
