@@ -3,5 +3,5 @@ mod Extending
 mod Noted
 mod Ends
 mod Apart
-mod Declaring
-mod Distinct
+pub mod Declaring
+pub mod Distinct
