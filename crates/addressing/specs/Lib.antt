@@ -1,2 +1,4 @@
 pub mod Endpoints
+pub mod Headers
 pub mod Posting
+pub mod Requests

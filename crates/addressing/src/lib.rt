@@ -3,6 +3,8 @@
 
 mod elements;
 pub mod endpoint;
+pub mod headers;
 pub mod post_to;
+pub mod request;
 #[cfg(test)]
 mod tests;
