@@ -1,3 +1,4 @@
 pub mod Ahead
+pub mod Contexts
 pub mod Spelled
 pub mod Utf8

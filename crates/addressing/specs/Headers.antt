@@ -1,5 +1,5 @@
 -- What the header blocks of an envelope say (WS-Addressing 1.0 Core, section 3.1, and SOAP Binding, section 3).
-use Rattle.std.specs.Prelude.{ℕ, List, [], ◌∷◌, Bool, true, false, ◌&&◌, ◌||◌, Option, Some, None, Result, Ok, Err, if◌then◌else◌, codes, ◌≡◌}
+use Rattle.std.specs.Prelude.{ℕ, List, [], ◌∷◌, Bool, true, false, ◌&&◌, ◌||◌, not, Option, Some, None, Result, Ok, Err, if◌then◌else◌, codes, ◌≡◌}
 use Rattle.std.specs.List.{find}
 use Rattle.std.specs.Option.{option_map}
 use Rattle.std.specs.Str.{bytes_eq}
@@ -65,6 +65,10 @@ is_context t = is_named t.name coordination (codes "CoordinationContext")
 
 abbrev pub context_of : List Tree → Option Tree
 context_of blocks = find is_context blocks
+
+-- whether a block is a context and no reference parameter
+abbrev pub is_own_context : Tree → Bool
+is_own_context t = is_context t && not (is_reference_parameter t)
 
 -- an action is there and isn't empty
 abbrev pub said_action : List ℕ → Result (List ℕ) AddressingRefusal

@@ -4,7 +4,7 @@ ghost use Rattle.std.specs.Prelude.{◌≡◌, IfOk, None};
 ghost use Rattle.std.specs.List.{find};
 ghost use Rattle.std.specs.Option.{option_copied, option_map};
 ghost use Rattle.soap_profile.specs.Values.{text_value};
-ghost use Rattle.addressing.specs.Headers.{Answers, action_of, context_of, destination, endpoint_of, header_in, headers_of, is_context, is_parsed, is_repeated, local_name, own_blocks, said_once, singles, source_of, to_of, unless_repeated};
+ghost use Rattle.addressing.specs.Headers.{Answers, action_of, context_of, destination, endpoint_of, header_in, headers_of, is_context, is_own_context, is_parsed, is_repeated, local_name, own_blocks, said_once, singles, source_of, to_of, unless_repeated};
 ghost use Rattle.url.specs.Parser.{parse_url};
 
 use crate::elements::Elements;
@@ -109,10 +109,23 @@ pub fn read_headers(alloc: Global, blocks: Trees) -> Result<Headers, AddressingR
     Ok(headers)
 }
 
+#[tactic(auto, using(crate::proofs::Contexts::context_of_own))]
 fn into_context(blocks: Trees) -> Option<Tree>
     ensures { result ≡ context_of (own_blocks blocks) }
 {
-    blocks.into_vec().into_iter().find(|block| is_context(block) && !is_reference_parameter(block))
+    first_context(blocks.into_vec())
+}
+
+fn first_context(blocks: Vec<Tree>) -> Option<Tree>
+    ensures { result ≡ find is_own_context blocks.items }
+{
+    blocks.into_iter().find(is_own_context)
+}
+
+fn is_own_context(block: &Tree) -> bool
+    ensures { result ≡ is_own_context block.now }
+{
+    is_context(block) && !is_reference_parameter(block)
 }
 
 fn is_context(block: &Tree) -> bool
@@ -126,18 +139,22 @@ fn read_lent(alloc: Global, blocks: &[Tree]) -> Result<Headers, AddressingRefusa
     ensures { Answers (unless_repeated (find (is_repeated (own_blocks blocks.now)) singles) (said_once (own_blocks blocks.now))) result }
 {
     let headers = Elements::headers(alloc, blocks)?;
-    match first_repeated(&headers) {
+    match first_repeated(&headers, &SINGLES) {
         Some(name) => Err(AddressingRefusal::InvalidHeader { name }),
         None => read_once(alloc, &headers),
     }
 }
 
-fn first_repeated(headers: &Elements<'_>) -> Option<Header>
-    ensures { result ≡ find (is_repeated headers.now) singles }
+/// The first of these headers that is repeated.
+fn first_repeated(headers: &Elements<'_>, names: &[Header]) -> Option<Header>
+    ensures { result ≡ find (is_repeated headers.now) names.now }
 {
-    SINGLES
-        .into_iter()
-        .find(|header| is_repeated(headers, *header))
+    for name in names {
+        if is_repeated(headers, *name) {
+            return Some(*name);
+        }
+    }
+    None
 }
 
 fn is_repeated(headers: &Elements<'_>, header: Header) -> bool
