@@ -8,3 +8,4 @@ pub mod post_to;
 pub mod request;
 #[cfg(test)]
 mod tests;
+pub mod writer;
