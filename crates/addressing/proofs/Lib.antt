@@ -1,4 +1,5 @@
 pub mod Ahead
 pub mod Contexts
+pub mod Returned
 pub mod Spelled
 pub mod Utf8

@@ -1,17 +1,21 @@
 -- The header blocks that a message is sent with (WS-Addressing 1.0 Core, sections 2.2 and 3.3, and SOAP Binding, section 3).
-use Rattle.std.specs.Prelude.{ℕ, List, [], ◌∷◌, ◌++◌, map, Bool, Option, Some, None, if◌then◌else◌, codes}
+use Rattle.std.specs.Prelude.{◌≡◌, ℕ, List, [], ◌∷◌, ◌++◌, map, Bool, true, false, ◌||◌, Option, Some, None, if◌then◌else◌, codes}
 use Rattle.std.specs.List.{list_any}
 use Rattle.std.specs.Option.{option_map, option_to_list}
 use Rattle.std.specs.Str.{bytes_eq}
 use Rattle.xml_profile.specs.declared.name.QName.{QName}
 use Rattle.xml_profile.specs.declared.name.Attribute.{Attribute}
 use Rattle.xml_profile.specs.declared.tree.Tree.{Tree}
-use Rattle.xml_profile.specs.Prefixes.{addressing, soap}
+use Rattle.url.specs.Parser.{parse_url}
+use Rattle.xml_profile.specs.Prefixes.{addressing, coordination, soap}
 use Rattle.soap_profile.specs.Building.{children_of, element, qualified, text_children}
-use Rattle.soap_profile.specs.Values.{elements, is_named}
+use Rattle.soap_profile.specs.Values.{elements, is_empty, is_named, trim}
+use Rattle.at_base.specs.declared.epr.Epr.{Epr}
+use Rattle.addressing.specs.declared.headers.Headers.{Headers}
 use Rattle.addressing.specs.declared.writer.Endpoint.{Endpoint}
 use Rattle.addressing.specs.declared.writer.Outgoing.{Outgoing}
-use Rattle.addressing.specs.Endpoints.{anonymous}
+use Rattle.addressing.specs.Endpoints.{anonymous, is_within, params_of}
+use Rattle.addressing.specs.Headers.{is_parsed, source_of}
 
 -- an element of addressing with a text
 abbrev pub text_element : List ℕ → List ℕ → Tree
@@ -88,3 +92,61 @@ blocks_of out =
     message_blocks out.to out.action out.id out.relates
     ++ endpoint_blocks (codes "From") out.from ++ endpoint_blocks (codes "ReplyTo") out.reply
     ++ parameters_of out.to ++ context_blocks out.context
+
+-- what an endpoint is read as
+abbrev pub epr_in : Endpoint → Epr
+epr_in endpoint = record { address = endpoint.address; params = params_of endpoint.params }
+
+abbrev pub IsParameters : Option Tree → Type 0
+IsParameters None = Unit {0}
+IsParameters (Some t) = t.name ≡ qualified addressing (codes "ReferenceParameters")
+
+-- an endpoint that can be read: it keeps the bound, and its address has no white space at an end
+pub record IsLegible (endpoint : Endpoint) : Type 0 where
+  pub ends : trim endpoint.address ≡ endpoint.address
+  pub params : IsParameters endpoint.params
+  pub within : is_within endpoint.address (params_of endpoint.params) ≡ true
+
+abbrev pub WhereSome : {T : Type 0} → (T → Type 0) → Option T → Type 0
+WhereSome P None = Unit {0}
+WhereSome P (Some x) = P x
+
+abbrev pub HasEnds : List ℕ → Type 0
+HasEnds text = trim text ≡ text
+
+-- a destination that can be read is anonymous or a URL
+pub record IsDestination (endpoint : Endpoint) : Type 0 where
+  pub ends : trim endpoint.address ≡ endpoint.address
+  pub named : (bytes_eq endpoint.address anonymous || is_parsed (parse_url None endpoint.address)) ≡ true
+
+abbrev pub IsContext : Tree → Type 0
+IsContext t = t.name ≡ qualified coordination (codes "CoordinationContext")
+
+-- headers that can be read
+pub record AreLegible (out : Outgoing) : Type 0 where
+  pub to : WhereSome IsDestination out.to
+  pub action : trim out.action ≡ out.action
+  pub said : is_empty out.action ≡ false
+  pub id : WhereSome HasEnds out.id
+  pub relates : WhereSome HasEnds out.relates
+  pub from : WhereSome IsLegible out.from
+  pub reply : WhereSome IsLegible out.reply
+  pub context : WhereSome IsContext out.context
+
+abbrev pub destination_in : Option Endpoint → Option (List ℕ)
+destination_in None = None
+destination_in (Some endpoint) = if bytes_eq endpoint.address anonymous then None else Some endpoint.address
+
+-- what they are read as
+abbrev pub headers_in : Outgoing → Headers
+headers_in out =
+    record {
+      to = destination_in out.to;
+      action = out.action;
+      id = out.id;
+      relates = out.relates;
+      from = source_of (option_map epr_in out.from);
+      reply = option_map epr_in out.reply;
+      fault = None;
+      context = option_map context_block out.context;
+    }

@@ -1,9 +1,10 @@
 //! The header blocks of a message that is sent (WS-Addressing 1.0 Core, sections 2.2 and 3.3, SOAP Binding section 3).
 
-ghost use Rattle.std.specs.Prelude.{◌≡◌, ◌++◌, ◌∷◌, [], map, IfOk, OnOk};
+ghost use Rattle.std.specs.Prelude.{◌≡◌, ◌++◌, ◌∷◌, [], map, IfOk, OnOk, Some};
 ghost use Rattle.std.specs.List.{list_any};
 ghost use Rattle.soap_profile.specs.Building.{qualified};
-ghost use Rattle.addressing.specs.Writing.{added_mark, blocks_of, context_block, context_blocks, endpoint_blocks, endpoint_tree, is_mark, mark, marked, marked_attributes, message_blocks, parameters_in, parameters_of, text_blocks, text_element, to_blocks, with_mark};
+ghost use Rattle.addressing.specs.Endpoints.{epr_of};
+ghost use Rattle.addressing.specs.Writing.{IsLegible, added_mark, blocks_of, context_block, context_blocks, endpoint_blocks, endpoint_tree, epr_in, is_mark, mark, marked, marked_attributes, message_blocks, parameters_in, parameters_of, text_blocks, text_element, to_blocks, with_mark};
 
 use crate::endpoint::ANONYMOUS;
 use at_base::text::Text;
@@ -171,9 +172,12 @@ fn text_element(alloc: Global, local: &str, text: &str) -> Result<Tree, AllocErr
     Ok(element(alloc, name, children))
 }
 
-/// The element of an endpoint (WS-Addressing 1.0 Core, section 2.2).
+/// The element of an endpoint (WS-Addressing 1.0 Core, section 2.2). It is read as what it was made of, where it can be
+/// read.
+#[tactic(auto, using(crate::proofs::Returned::endpoint_returns))]
 pub fn endpoint_tree(alloc: Global, endpoint: Endpoint, name: QName) -> Result<Tree, AllocError>
-    ensures { IfOk result (λ t. t ≡ endpoint_tree endpoint name) }
+    ensures tree { IfOk result (λ t. t ≡ endpoint_tree endpoint name) }
+    ensures reads { IfOk result (λ t. IsLegible endpoint → epr_of t ≡ Some (epr_in endpoint)) }
 {
     let Endpoint { address, params } = endpoint;
     let mut parts = vec![in alloc; text_element(alloc, "Address", address.as_str())?]?;
