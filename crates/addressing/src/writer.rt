@@ -1,10 +1,12 @@
 //! The header blocks of a message that is sent (WS-Addressing 1.0 Core, sections 2.2 and 3.3, SOAP Binding section 3).
 
-ghost use Rattle.std.specs.Prelude.{◌≡◌, ◌++◌, ◌∷◌, [], map, IfOk, OnOk, Some};
+ghost use Rattle.std.specs.Prelude.{◌≡◌, ◌++◌, ◌∷◌, [], map, IfOk, Ok, OnOk, Some};
 ghost use Rattle.std.specs.List.{list_any};
+ghost use Rattle.xml_profile.specs.Prefixes.{addressing};
 ghost use Rattle.soap_profile.specs.Building.{qualified};
 ghost use Rattle.addressing.specs.Endpoints.{epr_of};
-ghost use Rattle.addressing.specs.Writing.{IsLegible, added_mark, blocks_of, context_block, context_blocks, endpoint_blocks, endpoint_tree, epr_in, is_mark, mark, marked, marked_attributes, message_blocks, parameters_in, parameters_of, text_blocks, text_element, to_blocks, with_mark};
+ghost use Rattle.addressing.specs.Headers.{headers_of};
+ghost use Rattle.addressing.specs.Writing.{AreLegible, IsLegible, added_mark, blocks_of, context_block, context_blocks, endpoint_blocks, endpoint_tree, epr_in, headers_in, is_mark, mark, marked, marked_attributes, message_blocks, parameters_in, parameters_of, text_blocks, text_element, to_blocks, with_mark};
 
 use crate::endpoint::ANONYMOUS;
 use at_base::text::Text;
@@ -38,10 +40,12 @@ pub struct Outgoing {
     pub context: Option<Tree>,
 }
 
+#[tactic(auto, using(crate::proofs::Reread::headers_return))]
 /// The header blocks of a message: To, Action, MessageID, RelatesTo, From, ReplyTo, the reference parameters of where
-/// it goes, and the context.
+/// it goes, and the context. They are read as what they were made of, where that can be read.
 pub fn header_blocks(alloc: Global, out: Outgoing) -> Result<Trees, AllocError>
-    ensures { IfOk result (λ blocks. blocks ≡ blocks_of out) }
+    ensures blocks { IfOk result (λ blocks. blocks ≡ blocks_of out) }
+    ensures reads { IfOk result (λ blocks. AreLegible out → headers_of blocks ≡ Ok (headers_in out)) }
 {
     let Outgoing {
         to,
@@ -110,11 +114,17 @@ fn push_endpoint(
 ) -> Result<(), AllocError>
     ensures { OnOk result (blocks.new ≡ blocks.old ++ endpoint_blocks local.now endpoint) }
 {
-    let Some(endpoint) = endpoint else {
-        return Ok(());
-    };
+    match endpoint {
+        Some(endpoint) => blocks.push(endpoint_block(alloc, local, endpoint)?),
+        None => Ok(()),
+    }
+}
+
+fn endpoint_block(alloc: Global, local: &str, endpoint: Endpoint) -> Result<Tree, AllocError>
+    ensures { IfOk result (λ block. block ≡ endpoint_tree endpoint (qualified addressing local.now)) }
+{
     let name = qualified(alloc, ADDRESSING, local)?;
-    blocks.push(endpoint_tree(alloc, endpoint, name)?)
+    endpoint_tree(alloc, endpoint, name)
 }
 
 fn push_last(
@@ -172,9 +182,9 @@ fn text_element(alloc: Global, local: &str, text: &str) -> Result<Tree, AllocErr
     Ok(element(alloc, name, children))
 }
 
+#[tactic(auto, using(crate::proofs::Returned::endpoint_returns))]
 /// The element of an endpoint (WS-Addressing 1.0 Core, section 2.2). It is read as what it was made of, where it can be
 /// read.
-#[tactic(auto, using(crate::proofs::Returned::endpoint_returns))]
 pub fn endpoint_tree(alloc: Global, endpoint: Endpoint, name: QName) -> Result<Tree, AllocError>
     ensures tree { IfOk result (λ t. t ≡ endpoint_tree endpoint name) }
     ensures reads { IfOk result (λ t. IsLegible endpoint → epr_of t ≡ Some (epr_in endpoint)) }
