@@ -5,4 +5,5 @@ pub mod Marks
 pub mod Reread
 pub mod Returned
 pub mod Spelled
+pub mod Understood
 pub mod Utf8

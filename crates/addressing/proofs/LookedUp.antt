@@ -1,6 +1,6 @@
 -- What is looked up among the blocks that are written.
 use Rattle.std.proofs.Common.{◌≡◌, ℕ, List, [], ◌∷◌, ◌++◌, Bool, true, false, ◌&&◌, Option, Some, None, cond, refl, ap, ◌∙◌}
-use Rattle.std.specs.Prelude.{codes}
+use Rattle.std.specs.Prelude.{codes, IfSome}
 use Rattle.std.specs.List.{find}
 use Rattle.std.specs.Str.{bytes_eq}
 use Rattle.std.proofs.lemmas.List.{append-nil}
@@ -14,7 +14,7 @@ use Rattle.addressing.specs.declared.writer.Endpoint.{Endpoint}
 use Rattle.addressing.specs.declared.writer.Outgoing.{Outgoing}
 use Rattle.addressing.specs.Endpoints.{anonymous, named}
 use Rattle.addressing.specs.Headers.{is_reply, is_reply_type}
-use Rattle.addressing.specs.Writing.{IsContext, WhereSome, context_blocks, endpoint_blocks, text_blocks, text_element, to_blocks}
+use Rattle.addressing.specs.Writing.{IsContext, context_blocks, endpoint_blocks, text_blocks, text_element, to_blocks}
 use Rattle.addressing.proofs.Marks.{heads}
 
 -- the look-up of a name, and the first that has it
@@ -93,7 +93,7 @@ endpoints : (local : List ℕ) (endpoint : Option Endpoint) → Share (qualified
 endpoints local None = tt
 endpoints local (Some endpoint) = (refl, tt)
 
-contexts : (context : Option Tree) → WhereSome IsContext context → Share (qualified coordination (codes "CoordinationContext")) (context_blocks context)
+contexts : (context : Option Tree) → IfSome context IsContext → Share (qualified coordination (codes "CoordinationContext")) (context_blocks context)
 contexts None h = tt
 contexts (Some t) h = (h, tt)
 
@@ -108,7 +108,7 @@ picked out space local =
     ++ []
     ++ chosen (qualified coordination (codes "CoordinationContext")) space local (context_blocks out.context)
 
-named_heads : (out : Outgoing) (space local : List ℕ) → WhereSome IsContext out.context → named (heads out) space local ≡ picked out space local
+named_heads : (out : Outgoing) (space local : List ℕ) → IfSome out.context IsContext → named (heads out) space local ≡ picked out space local
 named_heads out space local h =
     let action : List Tree = text_element (codes "Action") out.action ∷ [] in
     named_parts (to_blocks out.to) action (text_blocks (codes "MessageID") out.id) (text_blocks (codes "RelatesTo") out.relates)
@@ -122,30 +122,30 @@ named_heads out space local h =
     ++ []
     ++ shared (qualified coordination (codes "CoordinationContext")) space local (context_blocks out.context) (contexts out.context h) i)
 
-pub to_named : (out : Outgoing) → WhereSome IsContext out.context → named (heads out) addressing (codes "To") ≡ to_blocks out.to
+pub to_named : (out : Outgoing) → IfSome out.context IsContext → named (heads out) addressing (codes "To") ≡ to_blocks out.to
 to_named out h = named_heads out addressing (codes "To") h ∙ simp append-nil
 
-pub action_named : (out : Outgoing) → WhereSome IsContext out.context
+pub action_named : (out : Outgoing) → IfSome out.context IsContext
     → named (heads out) addressing (codes "Action") ≡ text_element (codes "Action") out.action ∷ []
 action_named out h = named_heads out addressing (codes "Action") h
 
-pub id_named : (out : Outgoing) → WhereSome IsContext out.context → named (heads out) addressing (codes "MessageID") ≡ text_blocks (codes "MessageID") out.id
+pub id_named : (out : Outgoing) → IfSome out.context IsContext → named (heads out) addressing (codes "MessageID") ≡ text_blocks (codes "MessageID") out.id
 id_named out h = named_heads out addressing (codes "MessageID") h ∙ simp append-nil
 
-pub relates_named : (out : Outgoing) → WhereSome IsContext out.context
+pub relates_named : (out : Outgoing) → IfSome out.context IsContext
     → named (heads out) addressing (codes "RelatesTo") ≡ text_blocks (codes "RelatesTo") out.relates
 relates_named out h = named_heads out addressing (codes "RelatesTo") h ∙ simp append-nil
 
-pub from_named : (out : Outgoing) → WhereSome IsContext out.context → named (heads out) addressing (codes "From") ≡ endpoint_blocks (codes "From") out.from
+pub from_named : (out : Outgoing) → IfSome out.context IsContext → named (heads out) addressing (codes "From") ≡ endpoint_blocks (codes "From") out.from
 from_named out h = named_heads out addressing (codes "From") h ∙ simp append-nil
 
-pub reply_named : (out : Outgoing) → WhereSome IsContext out.context
+pub reply_named : (out : Outgoing) → IfSome out.context IsContext
     → named (heads out) addressing (codes "ReplyTo") ≡ endpoint_blocks (codes "ReplyTo") out.reply
 reply_named out h = named_heads out addressing (codes "ReplyTo") h ∙ simp append-nil
 
-pub fault_named : (out : Outgoing) → WhereSome IsContext out.context → named (heads out) addressing (codes "FaultTo") ≡ []
+pub fault_named : (out : Outgoing) → IfSome out.context IsContext → named (heads out) addressing (codes "FaultTo") ≡ []
 fault_named out h = named_heads out addressing (codes "FaultTo") h
 
-pub context_named : (out : Outgoing) → WhereSome IsContext out.context
+pub context_named : (out : Outgoing) → IfSome out.context IsContext
     → named (heads out) coordination (codes "CoordinationContext") ≡ context_blocks out.context
 context_named out h = named_heads out coordination (codes "CoordinationContext") h

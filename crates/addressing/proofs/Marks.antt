@@ -32,7 +32,7 @@ marked_by : (any : Bool) (more : List Attribute) → list_any is_mark more ≡ a
 marked_by false more e = ap (λ (any : Bool). told (cond any [] (mark ∷ []) ++ map with_mark more)) e
 marked_by true more e = ap (λ (any : Bool). told (cond any [] (mark ∷ []) ++ map with_mark more)) e ∙ replaced more e
 
-is_parameter : (t : Tree) → is_reference_parameter (marked t) ≡ true
+pub is_parameter : (t : Tree) → is_reference_parameter (marked t) ≡ true
 is_parameter t = ap is_true (marked_by (list_any is_mark t.attributes) t.attributes refl)
 
 own_marked : (ts : List Tree) → own_blocks (map marked ts) ≡ []

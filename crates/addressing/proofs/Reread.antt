@@ -1,6 +1,6 @@
 -- Headers are read as they were written.
-use Rattle.std.proofs.Common.{◌≡◌, ℕ, List, [], ◌∷◌, Bool, true, false, ◌||◌, Option, Some, None, Result, Ok, Err, cond, refl, ap, sym, ◌∙◌}
-use Rattle.std.specs.Prelude.{codes}
+use Rattle.std.proofs.Common.{◌≡◌, ℕ, List, [], ◌∷◌, Bool, true, false, ◌||◌, Option, Some, None, Result, Ok, cond, refl, ap, ◌∙◌}
+use Rattle.std.specs.Prelude.{codes, IfSome}
 use Rattle.std.specs.List.{find}
 use Rattle.std.specs.Option.{option_map}
 use Rattle.std.specs.Str.{bytes_eq}
@@ -12,7 +12,6 @@ use Rattle.soap_profile.specs.Envelopes.{first_of}
 use Rattle.soap_profile.specs.Values.{is_empty, text_value, trim}
 use Rattle.at_base.specs.declared.epr.Epr.{Epr}
 use Rattle.addressing.specs.declared.headers.AddressingRefusal.{AddressingRefusal}
-use Rattle.addressing.specs.declared.headers.AddressingRefusal.TheVariants.{InvalidHeader}
 use Rattle.addressing.specs.declared.headers.Header.{Header}
 use Rattle.addressing.specs.declared.headers.Header.TheVariants.{To, Action, MessageId, From, ReplyTo, FaultTo}
 use Rattle.addressing.specs.declared.headers.Headers.{Headers}
@@ -20,7 +19,7 @@ use Rattle.addressing.specs.declared.writer.Endpoint.{Endpoint}
 use Rattle.addressing.specs.declared.writer.Outgoing.{Outgoing}
 use Rattle.addressing.specs.Endpoints.{anonymous, at_most_one, named}
 use Rattle.addressing.specs.Headers.{◌>>=◌, action_of, context_of, endpoint_of, header_in, headers_of, is_many, is_parsed, is_repeated, is_reply, local_name, readable, relates_of, said_action, said_once, singles, source_of, to_of, unless_repeated, with_context}
-use Rattle.addressing.specs.Writing.{AreLegible, HasEnds, IsContext, IsDestination, IsLegible, WhereSome, blocks_of, context_block, context_blocks, destination_in, endpoint_blocks, endpoint_tree, epr_in, headers_in, text_blocks, text_element, to_blocks}
+use Rattle.addressing.specs.Writing.{AreLegible, IsTrimmed, IsContext, IsDestination, IsLegible, blocks_of, context_block, context_blocks, destination_in, endpoint_blocks, epr_in, headers_in, text_blocks, text_element, to_blocks}
 use Rattle.addressing.proofs.LookedUp.{action_named, context_named, fault_named, found, from_named, id_named, relates_named, reply_found, reply_named, to_named}
 use Rattle.addressing.proofs.Marks.{heads, own_heads}
 use Rattle.addressing.proofs.Returned.{endpoint_returns, text_returns}
@@ -40,16 +39,16 @@ to_said_by : (nowhere : Bool) (address : List ℕ) → bytes_eq address anonymou
 to_said_by true address e h k = refl
 to_said_by false address e h k = rw (text_returns (codes "To") address h, e, k) refl
 
-to_said : (to : Option Endpoint) → WhereSome IsDestination to → to_of (first_of (to_blocks to)) ≡ Ok (destination_in to)
+to_said : (to : Option Endpoint) → IfSome to IsDestination → to_of (first_of (to_blocks to)) ≡ Ok (destination_in to)
 to_said None h = refl
-to_said (Some endpoint) h = to_said_by (bytes_eq endpoint.address anonymous) endpoint.address refl h.ends h.named
+to_said (Some endpoint) h = to_said_by (bytes_eq endpoint.address anonymous) endpoint.address refl h.trimmed h.named
 
-endpoint_said : (header : Header) (local : List ℕ) (endpoint : Option Endpoint) → WhereSome IsLegible endpoint
+endpoint_said : (header : Header) (local : List ℕ) (endpoint : Option Endpoint) → IfSome endpoint IsLegible
     → endpoint_of header (first_of (endpoint_blocks local endpoint)) ≡ Ok (option_map epr_in endpoint)
 endpoint_said header local None h = refl
 endpoint_said header local (Some endpoint) h = ap (readable header) (endpoint_returns endpoint (qualified addressing local) h)
 
-text_said : (local : List ℕ) (text : Option (List ℕ)) → WhereSome HasEnds text → option_map text_value (first_of (text_blocks local text)) ≡ text
+text_said : (local : List ℕ) (text : Option (List ℕ)) → IfSome text IsTrimmed → option_map text_value (first_of (text_blocks local text)) ≡ text
 text_said local None h = refl
 text_said local (Some text) h = ap Some (text_returns local text h)
 
@@ -82,7 +81,7 @@ once_each : (repeated : Header → Bool) → repeated To ≡ false → repeated 
     → repeated ReplyTo ≡ false → repeated FaultTo ≡ false → find repeated singles ≡ None
 once_each repeated a b c d e f = rw (a, b, c, d, e, f) refl
 
-not_repeated : (out : Outgoing) → WhereSome IsContext out.context → find (is_repeated (heads out)) singles ≡ None
+not_repeated : (out : Outgoing) → IfSome out.context IsContext → find (is_repeated (heads out)) singles ≡ None
 not_repeated out h =
     let count : List Tree → Bool = λ ts. is_many (at_most_one ts) in
     once_each (is_repeated (heads out))

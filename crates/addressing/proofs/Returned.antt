@@ -1,11 +1,11 @@
 -- Endpoints are read as they were written.
-use Rattle.std.proofs.Common.{◌≡◌, ℕ, List, [], ◌∷◌, true, Option, Some, None, refl, ap, sym, subst, ◌∙◌, cond}
+use Rattle.std.proofs.Common.{◌≡◌, ℕ, List, [], ◌∷◌, true, Option, Some, None, refl, ap, ◌∙◌, cond}
 use Rattle.std.specs.Prelude.{codes}
 use Rattle.std.proofs.lemmas.List.{append-nil}
 use Rattle.xml_profile.specs.declared.name.QName.{QName}
 use Rattle.xml_profile.specs.declared.tree.Tree.{Tree}
 use Rattle.xml_profile.specs.Prefixes.{addressing}
-use Rattle.soap_profile.specs.Building.{children_of, element, qualified, text_children}
+use Rattle.soap_profile.specs.Building.{text_children}
 use Rattle.soap_profile.specs.Values.{direct_text, is_named, text_value, trim}
 use Rattle.at_base.specs.declared.epr.Epr.{Epr}
 use Rattle.addressing.specs.declared.writer.Endpoint.{Endpoint}
@@ -39,5 +39,5 @@ parts_of address (Some t) name h = ap (found (text_element (codes "Address") add
 pub endpoint_returns : (endpoint : Endpoint) (name : QName) → IsLegible endpoint → epr_of (endpoint_tree endpoint name) ≡ Some (epr_in endpoint)
 endpoint_returns endpoint name h =
     parts_of endpoint.address endpoint.params name h.params
-    ∙ ap (λ (a : List ℕ). bounded a (params_of endpoint.params)) (text_returns (codes "Address") endpoint.address h.ends)
+    ∙ ap (λ (a : List ℕ). bounded a (params_of endpoint.params)) (text_returns (codes "Address") endpoint.address h.trimmed)
     ∙ within_returns endpoint.address (params_of endpoint.params) h.within

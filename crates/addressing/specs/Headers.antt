@@ -26,7 +26,7 @@ local_name ReplyTo = codes "ReplyTo"
 local_name FaultTo = codes "FaultTo"
 local_name CoordinationContext = codes "CoordinationContext"
 
--- a block that is a reference parameter is no header, whatever its name (SOAP Binding, section 2.3)
+-- a block that is a reference parameter is no header, whatever its name (SOAP Binding, section 3.3)
 abbrev pub own_blocks : List Tree → List Tree
 own_blocks [] = []
 own_blocks (b ∷ bs) = if is_reference_parameter b then own_blocks bs else b ∷ own_blocks bs
@@ -45,7 +45,7 @@ is_repeated blocks header = is_many (at_most_one (named blocks addressing (local
 abbrev pub header_in : List Tree → Header → Option Tree
 header_in blocks header = find (λ t. is_named t.name addressing (local_name header)) blocks
 
--- a relationship without a type is that of a reply (Core, section 3.1)
+-- a relationship without a type is that of a reply (Core, section 3.2)
 abbrev pub is_reply_type : Option (List ℕ) → Bool
 is_reply_type None = true
 is_reply_type (Some type) = bytes_eq type (codes "http://www.w3.org/2005/08/addressing/reply")

@@ -1,4 +1,5 @@
 pub mod Endpoints
+pub mod Examples
 pub mod Headers
 pub mod Posting
 pub mod Requests

@@ -1,5 +1,5 @@
 -- The header blocks that a message is sent with (WS-Addressing 1.0 Core, sections 2.2 and 3.3, and SOAP Binding, section 3).
-use Rattle.std.specs.Prelude.{◌≡◌, ℕ, List, [], ◌∷◌, ◌++◌, map, Bool, true, false, ◌||◌, Option, Some, None, if◌then◌else◌, codes}
+use Rattle.std.specs.Prelude.{◌≡◌, ℕ, List, [], ◌∷◌, ◌++◌, map, Bool, true, false, ◌||◌, IfSome, Option, Some, None, if◌then◌else◌, codes}
 use Rattle.std.specs.List.{list_any}
 use Rattle.std.specs.Option.{option_map, option_to_list}
 use Rattle.std.specs.Str.{bytes_eq}
@@ -46,7 +46,7 @@ marked_attributes attributes = added_mark attributes ++ map with_mark attributes
 abbrev pub marked : Tree → Tree
 marked t = record { name = t.name; attributes = marked_attributes t.attributes; children = t.children }
 
--- each reference parameter of the destination is a block (SOAP Binding, section 3.4)
+-- each reference parameter of the destination is a block (Core, section 3.3)
 abbrev pub parameters_in : Option Tree → List Tree
 parameters_in None = []
 parameters_in (Some params) = map marked (elements params.children)
@@ -101,22 +101,19 @@ abbrev pub IsParameters : Option Tree → Type 0
 IsParameters None = Unit {0}
 IsParameters (Some t) = t.name ≡ qualified addressing (codes "ReferenceParameters")
 
+-- a text without white space at its ends
+abbrev pub IsTrimmed : List ℕ → Type 0
+IsTrimmed text = trim text ≡ text
+
 -- an endpoint that can be read: it keeps the bound, and its address has no white space at an end
 pub record IsLegible (endpoint : Endpoint) : Type 0 where
-  pub ends : trim endpoint.address ≡ endpoint.address
+  pub trimmed : IsTrimmed endpoint.address
   pub params : IsParameters endpoint.params
   pub within : is_within endpoint.address (params_of endpoint.params) ≡ true
 
-abbrev pub WhereSome : {T : Type 0} → (T → Type 0) → Option T → Type 0
-WhereSome P None = Unit {0}
-WhereSome P (Some x) = P x
-
-abbrev pub HasEnds : List ℕ → Type 0
-HasEnds text = trim text ≡ text
-
 -- a destination that can be read is anonymous or a URL
 pub record IsDestination (endpoint : Endpoint) : Type 0 where
-  pub ends : trim endpoint.address ≡ endpoint.address
+  pub trimmed : IsTrimmed endpoint.address
   pub named : (bytes_eq endpoint.address anonymous || is_parsed (parse_url None endpoint.address)) ≡ true
 
 abbrev pub IsContext : Tree → Type 0
@@ -124,14 +121,14 @@ IsContext t = t.name ≡ qualified coordination (codes "CoordinationContext")
 
 -- headers that can be read
 pub record AreLegible (out : Outgoing) : Type 0 where
-  pub to : WhereSome IsDestination out.to
-  pub action : trim out.action ≡ out.action
+  pub to : IfSome out.to IsDestination
+  pub action : IsTrimmed out.action
   pub said : is_empty out.action ≡ false
-  pub id : WhereSome HasEnds out.id
-  pub relates : WhereSome HasEnds out.relates
-  pub from : WhereSome IsLegible out.from
-  pub reply : WhereSome IsLegible out.reply
-  pub context : WhereSome IsContext out.context
+  pub id : IfSome out.id IsTrimmed
+  pub relates : IfSome out.relates IsTrimmed
+  pub from : IfSome out.from IsLegible
+  pub reply : IfSome out.reply IsLegible
+  pub context : IfSome out.context IsContext
 
 abbrev pub destination_in : Option Endpoint → Option (List ℕ)
 destination_in None = None

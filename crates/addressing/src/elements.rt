@@ -121,5 +121,5 @@ fn is_reply_type(relationship: Option<&str>) -> bool
     }
 }
 
-/// The type of the relationship of a reply (WS-Addressing 1.0 Core, section 3.1).
+/// The type of the relationship of a reply (WS-Addressing 1.0 Core, section 3.2).
 const REPLY: &str = "http://www.w3.org/2005/08/addressing/reply";

@@ -1,12 +1,13 @@
 //! The header blocks of a message that is sent (WS-Addressing 1.0 Core, sections 2.2 and 3.3, SOAP Binding section 3).
 
-ghost use Rattle.std.specs.Prelude.{◌≡◌, ◌++◌, ◌∷◌, [], map, IfOk, Ok, OnOk, Some};
+ghost use Rattle.std.specs.Prelude.{◌≡◌, ◌++◌, ◌∷◌, [], map, IfOk, IfSome, None, Ok, OnOk, Some};
 ghost use Rattle.std.specs.List.{list_any};
 ghost use Rattle.xml_profile.specs.Prefixes.{addressing};
 ghost use Rattle.soap_profile.specs.Building.{qualified};
+ghost use Rattle.soap_profile.specs.Envelopes.{not_understood};
 ghost use Rattle.addressing.specs.Endpoints.{epr_of};
 ghost use Rattle.addressing.specs.Headers.{headers_of};
-ghost use Rattle.addressing.specs.Writing.{AreLegible, IsLegible, added_mark, blocks_of, context_block, context_blocks, endpoint_blocks, endpoint_tree, epr_in, headers_in, is_mark, mark, marked, marked_attributes, message_blocks, parameters_in, parameters_of, text_blocks, text_element, to_blocks, with_mark};
+ghost use Rattle.addressing.specs.Writing.{AreLegible, IsContext, IsLegible, added_mark, blocks_of, context_block, context_blocks, endpoint_blocks, endpoint_tree, epr_in, headers_in, is_mark, mark, marked, marked_attributes, message_blocks, parameters_in, parameters_of, text_blocks, text_element, to_blocks, with_mark};
 
 use crate::endpoint::ANONYMOUS;
 use at_base::text::Text;
@@ -40,12 +41,13 @@ pub struct Outgoing {
     pub context: Option<Tree>,
 }
 
-#[tactic(auto, using(crate::proofs::Reread::headers_return))]
+#[tactic(auto, using(crate::proofs::Reread::headers_return, crate::proofs::Understood::all_understood))]
 /// The header blocks of a message: To, Action, MessageID, RelatesTo, From, ReplyTo, the reference parameters of where
 /// it goes, and the context. They are read as what they were made of, where that can be read.
 pub fn header_blocks(alloc: Global, out: Outgoing) -> Result<Trees, AllocError>
     ensures blocks { IfOk result (λ blocks. blocks ≡ blocks_of out) }
     ensures reads { IfOk result (λ blocks. AreLegible out → headers_of blocks ≡ Ok (headers_in out)) }
+    ensures understood { IfOk result (λ blocks. IfSome out.context IsContext → not_understood blocks ≡ None) }
 {
     let Outgoing {
         to,
