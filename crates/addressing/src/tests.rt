@@ -2,14 +2,17 @@ use crate::endpoint::{fault_to, read_epr, reply_to};
 use crate::headers::{AddressingRefusal, Headers, read_headers};
 use crate::post_to::post_to;
 use crate::request::check_request;
+use crate::writer::{Endpoint, Outgoing, header_blocks};
 use at_base::epr::{Epr, Reply};
 use at_base::text::Text;
+use soap_profile::envelope::envelope_tree;
 use soap_profile::trees::Trees;
 use soap_profile::value::into_elements;
 use std::alloc::Global;
 use std::test::Fail;
 use xml_profile::name::QName;
 use xml_profile::reader::read_tree;
+use xml_profile::writer::write_tree;
 
 /// The address and the reference parameters of the endpoint with these parts in it.
 fn read(alloc: Global, parts: &str) -> Result<Option<Epr>, Fail> {
@@ -317,6 +320,77 @@ fn reads_headers(rt: HostRuntime) -> Result<(), Fail> {
     assert_eq!(rt;
         outcome(alloc, work, &fault)?.as_str(),
         "- http://example.org/atx/work/1/Work - - - - - "
+    );
+    Ok(())
+}
+
+/// The endpoint with these reference parameters, none where nothing is spelled.
+fn endpoint(alloc: Global, address: &str, params: &str) -> Result<Endpoint, Fail> {
+    let params = if params.is_empty() {
+        None
+    } else {
+        Some(read_tree(alloc, params.as_bytes())?)
+    };
+    Ok(Endpoint {
+        address: Text::copied(alloc, address)?,
+        params,
+    })
+}
+
+/// The canonical text of the envelope with these headers and this body.
+fn written(alloc: Global, out: Outgoing, body: &str) -> Result<Vec<u8>, Fail> {
+    let body = read_tree(alloc, body.as_bytes())?;
+    let tree = envelope_tree(alloc, header_blocks(alloc, out)?, body)?;
+    let mut bytes = Vec::new(alloc);
+    write_tree(alloc, &tree, &mut bytes)?;
+    Ok(bytes)
+}
+
+#[test]
+fn writes_headers(rt: HostRuntime) -> Result<(), Fail> {
+    let alloc = rt.alloc();
+    let notification = Outgoing {
+        to: Some(endpoint(alloc, "http://n3.example/p/d/1-1", "")?),
+        action: Text::copied(
+            alloc,
+            "http://docs.oasis-open.org/ws-tx/wsat/2006/06/Prepare",
+        )?,
+        id: None,
+        relates: None,
+        from: Some(endpoint(alloc, "http://n2.example/c/d/1-1/1", "")?),
+        reply: Some(endpoint(alloc, "http://www.w3.org/2005/08/addressing/none", "")?),
+        context: None,
+    };
+    let wanted =
+        "<s:Envelope xmlns:s=\"http://schemas.xmlsoap.org/soap/envelope/\" xmlns:wsa=\"http://www.w3.org/2005/08/addressing\" xmlns:wsat=\"http://docs.oasis-open.org/ws-tx/wsat/2006/06\"><s:Header><wsa:To>http://n3.example/p/d/1-1</wsa:To><wsa:Action>http://docs.oasis-open.org/ws-tx/wsat/2006/06/Prepare</wsa:Action><wsa:From><wsa:Address>http://n2.example/c/d/1-1/1</wsa:Address></wsa:From><wsa:ReplyTo><wsa:Address>http://www.w3.org/2005/08/addressing/none</wsa:Address></wsa:ReplyTo></s:Header><s:Body><wsat:Prepare/></s:Body></s:Envelope>";
+    let prepare = "<Prepare xmlns=\"http://docs.oasis-open.org/ws-tx/wsat/2006/06\"/>";
+    assert_eq!(rt;
+        written(alloc, notification, prepare)?.as_slice(),
+        wanted.as_bytes()
+    );
+    let params =
+        "<w:ReferenceParameters xmlns:w=\"http://www.w3.org/2005/08/addressing\"><w:k a=\"1\" w:IsReferenceParameter=\"0\" b=\"2\"/><w:l a=\"1\">x</w:l></w:ReferenceParameters>";
+    let request = Outgoing {
+        to: Some(endpoint(
+            alloc,
+            "http://www.w3.org/2005/08/addressing/anonymous",
+            params,
+        )?),
+        action: Text::copied(alloc, "a")?,
+        id: Some(Text::copied(alloc, "")?),
+        relates: Some(Text::copied(alloc, "m")?),
+        from: None,
+        reply: Some(endpoint(alloc, "r", params)?),
+        context: Some(read_tree(
+            alloc,
+            b"<c:CoordinationContext xmlns:c=\"http://docs.oasis-open.org/ws-tx/wscoor/2006/06\" x=\"1\">c</c:CoordinationContext>",
+        )?),
+    };
+    let wanted =
+        "<s:Envelope xmlns:s=\"http://schemas.xmlsoap.org/soap/envelope/\" xmlns:wsa=\"http://www.w3.org/2005/08/addressing\" xmlns:wscoor=\"http://docs.oasis-open.org/ws-tx/wscoor/2006/06\"><s:Header><wsa:Action>a</wsa:Action><wsa:MessageID/><wsa:RelatesTo>m</wsa:RelatesTo><wsa:ReplyTo><wsa:Address>r</wsa:Address><wsa:ReferenceParameters><wsa:k a=\"1\" wsa:IsReferenceParameter=\"0\" b=\"2\"/><wsa:l a=\"1\">x</wsa:l></wsa:ReferenceParameters></wsa:ReplyTo><wsa:k a=\"1\" wsa:IsReferenceParameter=\"true\" b=\"2\"/><wsa:l wsa:IsReferenceParameter=\"true\" a=\"1\">x</wsa:l><wscoor:CoordinationContext s:mustUnderstand=\"1\">c</wscoor:CoordinationContext></s:Header><s:Body><b/></s:Body></s:Envelope>";
+    assert_eq!(rt;
+        written(alloc, request, "<b/>")?.as_slice(),
+        wanted.as_bytes()
     );
     Ok(())
 }
