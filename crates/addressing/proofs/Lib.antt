@@ -1,3 +1,9 @@
 pub mod Ahead
+pub mod Contexts
+pub mod LookedUp
+pub mod Marks
+pub mod Reread
+pub mod Returned
 pub mod Spelled
+pub mod Understood
 pub mod Utf8

@@ -1,2 +1,6 @@
 pub mod Endpoints
+pub mod Examples
+pub mod Headers
 pub mod Posting
+pub mod Requests
+pub mod Writing

@@ -3,6 +3,9 @@
 
 mod elements;
 pub mod endpoint;
+pub mod headers;
 pub mod post_to;
+pub mod request;
 #[cfg(test)]
 mod tests;
+pub mod writer;

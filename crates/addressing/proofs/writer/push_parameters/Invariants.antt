@@ -1,0 +1,6 @@
+use Rattle.std.proofs.Common.{◌≡◌, ◌++◌, map}
+use Rattle.addressing.specs.Writing.{marked}
+use Rattle.addressing.proofs.writer.push_parameters.Given as goal
+
+abbrev pub invariant-loop-block : goal.invariant-loop-block
+invariant-loop-block l = l.blocks ≡ l.fn.blocks ++ map marked l.yielded
