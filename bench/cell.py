@@ -59,7 +59,11 @@ def inputs():
     yield "32 levels", envelope("<x>" * 29 + "deep " * 100 + "</x>" * 29)
     yield "too deep", envelope("<x>" * 8000 + "</x>" * 8000)
     yield "open levels", envelope("<x>" * 19_000)
-    yield "quotes and line ends", envelope(repeated(lambda n: "a\r\nb\rc\td "))
+    yield "line ends", envelope(repeated(lambda n: "a\r\nb\rc\td "))
+    yield "references", envelope(repeated(lambda n: "&amp;&#65;&#x42; "))
+    yield "sections", envelope(repeated(lambda n: "<![CDATA[a<b]]>"))
+    yield "comments", envelope(repeated(lambda n: "<!-- x -->"))
+    yield "references in a value", envelope("", " b='" + repeated(lambda n: "&quot;&#10;", "'"))
 
 
 def least(rounds, call):
@@ -102,7 +106,7 @@ def main():
         atx_start = least(rounds, process([PROGRAM], tiny))
         lint_start = least(rounds, process([lint, "--noout", "--huge", "-"], tiny)) if lint else 0.0
         print(f"start of a process: atx {atx_start * 1e3:.2f} ms, xmllint {lint_start * 1e3:.2f} ms")
-        print(f"{'input':<22}{'bytes':>7}{'atx ms':>9}{'xmllint ms':>12}{'expat ms':>10}{'to expat':>10}{'net':>8}{'whole':>8}")
+        print(f"{'input':<22}{'bytes':>7}{'atx ms':>9}{'MB/s':>8}{'xmllint ms':>12}{'expat ms':>10}{'to expat':>10}{'net':>8}{'whole':>8}")
         plain = None
         for name, text in inputs():
             data = text.encode()
@@ -118,7 +122,7 @@ def main():
             net = f"{atx / plain[0]:.2f}" if plain else "-"
             run = f"{whole / plain[1]:.2f}" if plain else "-"
             print(
-                f"{name:<22}{len(data):>7}{atx * 1e3:>9.2f}{xml * 1e3:>12.2f}{sax * 1e3:>10.2f}{atx / sax:>10.2f}{net:>8}{run:>8}"
+                f"{name:<22}{len(data):>7}{atx * 1e3:>9.2f}{len(data) / atx / 1e6:>8.1f}{xml * 1e3:>12.2f}{sax * 1e3:>10.2f}{atx / sax:>10.2f}{net:>8}{run:>8}"
             )
 
 
