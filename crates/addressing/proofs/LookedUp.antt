@@ -11,7 +11,7 @@ use Rattle.soap_profile.specs.Building.{qualified}
 use Rattle.soap_profile.specs.Envelopes.{first_of}
 use Rattle.soap_profile.specs.Values.{is_named, unqualified_attribute}
 use Rattle.addressing.specs.declared.writer.Endpoint.{Endpoint}
-use Rattle.addressing.specs.declared.writer.Outgoing.{Outgoing}
+use Rattle.addressing.specs.declared.writer.OutgoingHeaders.{OutgoingHeaders}
 use Rattle.addressing.specs.Endpoints.{anonymous, named}
 use Rattle.addressing.specs.Headers.{is_reply, is_reply_type}
 use Rattle.addressing.specs.Writing.{IsContext, context_blocks, endpoint_blocks, text_blocks, text_element, to_blocks}
@@ -97,7 +97,7 @@ contexts : (context : Option Tree) → IfSome context IsContext → Share (quali
 contexts None h = tt
 contexts (Some t) h = (h, tt)
 
-abbrev picked : Outgoing → List ℕ → List ℕ → List Tree
+abbrev picked : OutgoingHeaders → List ℕ → List ℕ → List Tree
 picked out space local =
     chosen (qualified addressing (codes "To")) space local (to_blocks out.to)
     ++ chosen (qualified addressing (codes "Action")) space local (text_element (codes "Action") out.action ∷ [])
@@ -108,7 +108,7 @@ picked out space local =
     ++ []
     ++ chosen (qualified coordination (codes "CoordinationContext")) space local (context_blocks out.context)
 
-named_heads : (out : Outgoing) (space local : List ℕ) → IfSome out.context IsContext → named (heads out) space local ≡ picked out space local
+named_heads : (out : OutgoingHeaders) (space local : List ℕ) → IfSome out.context IsContext → named (heads out) space local ≡ picked out space local
 named_heads out space local h =
     let action : List Tree = text_element (codes "Action") out.action ∷ [] in
     named_parts (to_blocks out.to) action (text_blocks (codes "MessageID") out.id) (text_blocks (codes "RelatesTo") out.relates)
@@ -122,30 +122,30 @@ named_heads out space local h =
     ++ []
     ++ shared (qualified coordination (codes "CoordinationContext")) space local (context_blocks out.context) (contexts out.context h) i)
 
-pub to_named : (out : Outgoing) → IfSome out.context IsContext → named (heads out) addressing (codes "To") ≡ to_blocks out.to
+pub to_named : (out : OutgoingHeaders) → IfSome out.context IsContext → named (heads out) addressing (codes "To") ≡ to_blocks out.to
 to_named out h = named_heads out addressing (codes "To") h ∙ simp append-nil
 
-pub action_named : (out : Outgoing) → IfSome out.context IsContext
+pub action_named : (out : OutgoingHeaders) → IfSome out.context IsContext
     → named (heads out) addressing (codes "Action") ≡ text_element (codes "Action") out.action ∷ []
 action_named out h = named_heads out addressing (codes "Action") h
 
-pub id_named : (out : Outgoing) → IfSome out.context IsContext → named (heads out) addressing (codes "MessageID") ≡ text_blocks (codes "MessageID") out.id
+pub id_named : (out : OutgoingHeaders) → IfSome out.context IsContext → named (heads out) addressing (codes "MessageID") ≡ text_blocks (codes "MessageID") out.id
 id_named out h = named_heads out addressing (codes "MessageID") h ∙ simp append-nil
 
-pub relates_named : (out : Outgoing) → IfSome out.context IsContext
+pub relates_named : (out : OutgoingHeaders) → IfSome out.context IsContext
     → named (heads out) addressing (codes "RelatesTo") ≡ text_blocks (codes "RelatesTo") out.relates
 relates_named out h = named_heads out addressing (codes "RelatesTo") h ∙ simp append-nil
 
-pub from_named : (out : Outgoing) → IfSome out.context IsContext → named (heads out) addressing (codes "From") ≡ endpoint_blocks (codes "From") out.from
+pub from_named : (out : OutgoingHeaders) → IfSome out.context IsContext → named (heads out) addressing (codes "From") ≡ endpoint_blocks (codes "From") out.from
 from_named out h = named_heads out addressing (codes "From") h ∙ simp append-nil
 
-pub reply_named : (out : Outgoing) → IfSome out.context IsContext
+pub reply_named : (out : OutgoingHeaders) → IfSome out.context IsContext
     → named (heads out) addressing (codes "ReplyTo") ≡ endpoint_blocks (codes "ReplyTo") out.reply
 reply_named out h = named_heads out addressing (codes "ReplyTo") h ∙ simp append-nil
 
-pub fault_named : (out : Outgoing) → IfSome out.context IsContext → named (heads out) addressing (codes "FaultTo") ≡ []
+pub fault_named : (out : OutgoingHeaders) → IfSome out.context IsContext → named (heads out) addressing (codes "FaultTo") ≡ []
 fault_named out h = named_heads out addressing (codes "FaultTo") h
 
-pub context_named : (out : Outgoing) → IfSome out.context IsContext
+pub context_named : (out : OutgoingHeaders) → IfSome out.context IsContext
     → named (heads out) coordination (codes "CoordinationContext") ≡ context_blocks out.context
 context_named out h = named_heads out coordination (codes "CoordinationContext") h

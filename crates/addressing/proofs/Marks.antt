@@ -9,7 +9,7 @@ use Rattle.xml_profile.specs.Prefixes.{addressing}
 use Rattle.soap_profile.specs.Envelopes.{is_reference_parameter, is_true}
 use Rattle.soap_profile.specs.Values.{attribute, elements, trim}
 use Rattle.addressing.specs.declared.writer.Endpoint.{Endpoint}
-use Rattle.addressing.specs.declared.writer.Outgoing.{Outgoing}
+use Rattle.addressing.specs.declared.writer.OutgoingHeaders.{OutgoingHeaders}
 use Rattle.addressing.specs.Endpoints.{anonymous}
 use Rattle.addressing.specs.Headers.{own_blocks}
 use Rattle.addressing.specs.Writing.{blocks_of, context_blocks, endpoint_blocks, is_mark, mark, marked, marked_attributes, parameters_in, parameters_of, text_blocks, text_element, to_blocks, with_mark}
@@ -83,13 +83,13 @@ own_parts : (a b c d e f g h : List Tree)
 own_parts a b c d e f g h = simp own_append
 
 -- the blocks without reference parameters
-abbrev pub heads : Outgoing → List Tree
+abbrev pub heads : OutgoingHeaders → List Tree
 heads out =
     to_blocks out.to ++ text_element (codes "Action") out.action ∷ [] ++ text_blocks (codes "MessageID") out.id
     ++ text_blocks (codes "RelatesTo") out.relates ++ endpoint_blocks (codes "From") out.from
     ++ endpoint_blocks (codes "ReplyTo") out.reply ++ [] ++ context_blocks out.context
 
-pub own_heads : (out : Outgoing) → own_blocks (blocks_of out) ≡ heads out
+pub own_heads : (out : OutgoingHeaders) → own_blocks (blocks_of out) ≡ heads out
 own_heads out =
     let action : List Tree = text_element (codes "Action") out.action ∷ [] in
     own_parts (to_blocks out.to) action (text_blocks (codes "MessageID") out.id) (text_blocks (codes "RelatesTo") out.relates)

@@ -16,7 +16,7 @@ use Rattle.addressing.specs.declared.headers.Header.{Header}
 use Rattle.addressing.specs.declared.headers.Header.TheVariants.{To, Action, MessageId, From, ReplyTo, FaultTo}
 use Rattle.addressing.specs.declared.headers.Headers.{Headers}
 use Rattle.addressing.specs.declared.writer.Endpoint.{Endpoint}
-use Rattle.addressing.specs.declared.writer.Outgoing.{Outgoing}
+use Rattle.addressing.specs.declared.writer.OutgoingHeaders.{OutgoingHeaders}
 use Rattle.addressing.specs.Endpoints.{anonymous, at_most_one, named}
 use Rattle.addressing.specs.Headers.{◌>>=◌, action_of, context_of, endpoint_of, header_in, headers_of, is_many, is_parsed, is_repeated, is_reply, local_name, readable, relates_of, said_action, said_once, singles, source_of, to_of, unless_repeated, with_context}
 use Rattle.addressing.specs.Writing.{AreLegible, IsTrimmed, IsContext, IsDestination, IsLegible, blocks_of, context_block, context_blocks, destination_in, endpoint_blocks, epr_in, headers_in, text_blocks, text_element, to_blocks}
@@ -81,7 +81,7 @@ once_each : (repeated : Header → Bool) → repeated To ≡ false → repeated 
     → repeated ReplyTo ≡ false → repeated FaultTo ≡ false → find repeated singles ≡ None
 once_each repeated a b c d e f = rw (a, b, c, d, e, f) refl
 
-not_repeated : (out : Outgoing) → IfSome out.context IsContext → find (is_repeated (heads out)) singles ≡ None
+not_repeated : (out : OutgoingHeaders) → IfSome out.context IsContext → find (is_repeated (heads out)) singles ≡ None
 not_repeated out h =
     let count : List Tree → Bool = λ ts. is_many (at_most_one ts) in
     once_each (is_repeated (heads out))
@@ -112,7 +112,7 @@ together said_action said_to said_from said_reply said_fault id relates = do
     context = None;
   })
 
-said_heads : (out : Outgoing) → AreLegible out
+said_heads : (out : OutgoingHeaders) → AreLegible out
     → said_once (heads out)
     ≡ together (Ok out.action) (Ok (destination_in out.to)) (Ok (option_map epr_in out.from)) (Ok (option_map epr_in out.reply)) (Ok None) out.id out.relates
 said_heads out h =
@@ -135,7 +135,7 @@ said_heads out h =
 abbrev of_own : Option Header → Result Headers AddressingRefusal → Option Tree → Result Headers AddressingRefusal
 of_own repeated said context = unless_repeated repeated said >>= λ headers. Ok (with_context context headers)
 
-pub headers_return : (out : Outgoing) → AreLegible out → headers_of (blocks_of out) ≡ Ok (headers_in out)
+pub headers_return : (out : OutgoingHeaders) → AreLegible out → headers_of (blocks_of out) ≡ Ok (headers_in out)
 headers_return out h =
     let own : headers_of (blocks_of out) ≡ of_own (find (is_repeated (heads out)) singles) (said_once (heads out)) (context_of (heads out)) =
     ap (λ (ts : List Tree). of_own (find (is_repeated ts) singles) (said_once ts) (context_of ts)) (own_heads out) in

@@ -7,7 +7,7 @@ use Rattle.xml_profile.specs.declared.tree.Tree.{Tree}
 use Rattle.soap_profile.specs.Envelopes.{is_mandatory, is_obstacle, is_understood_name, not_understood}
 use Rattle.soap_profile.specs.Values.{elements}
 use Rattle.addressing.specs.declared.writer.Endpoint.{Endpoint}
-use Rattle.addressing.specs.declared.writer.Outgoing.{Outgoing}
+use Rattle.addressing.specs.declared.writer.OutgoingHeaders.{OutgoingHeaders}
 use Rattle.addressing.specs.Endpoints.{anonymous}
 use Rattle.addressing.specs.Writing.{IsContext, blocks_of, context_blocks, endpoint_blocks, marked, message_blocks, parameters_in, parameters_of, text_blocks, text_element, to_blocks}
 use Rattle.addressing.proofs.Marks.{is_parameter}
@@ -77,7 +77,7 @@ message_clear to action id relates =
     (text_clear (codes "MessageID") id))
     (text_clear (codes "RelatesTo") relates)
 
-pub all_understood : (out : Outgoing) → IfSome out.context IsContext → not_understood (blocks_of out) ≡ None
+pub all_understood : (out : OutgoingHeaders) → IfSome out.context IsContext → not_understood (blocks_of out) ≡ None
 all_understood out h =
     let message : List Tree = message_blocks out.to out.action out.id out.relates in
     let from : List Tree = endpoint_blocks (codes "From") out.from in

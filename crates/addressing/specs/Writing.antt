@@ -13,7 +13,7 @@ use Rattle.soap_profile.specs.Values.{elements, is_empty, is_named, trim}
 use Rattle.at_base.specs.declared.epr.Epr.{Epr}
 use Rattle.addressing.specs.declared.headers.Headers.{Headers}
 use Rattle.addressing.specs.declared.writer.Endpoint.{Endpoint}
-use Rattle.addressing.specs.declared.writer.Outgoing.{Outgoing}
+use Rattle.addressing.specs.declared.writer.OutgoingHeaders.{OutgoingHeaders}
 use Rattle.addressing.specs.Endpoints.{anonymous, is_within, params_of}
 use Rattle.addressing.specs.Headers.{is_parsed, source_of}
 
@@ -87,11 +87,19 @@ message_blocks to action id relates =
     to_blocks to ++ text_element (codes "Action") action ∷ [] ++ text_blocks (codes "MessageID") id ++ text_blocks (codes "RelatesTo") relates
 
 -- the header blocks of a message, in the order in which they are written
-abbrev pub blocks_of : Outgoing → List Tree
+abbrev pub blocks_of : OutgoingHeaders → List Tree
 blocks_of out =
     message_blocks out.to out.action out.id out.relates
     ++ endpoint_blocks (codes "From") out.from ++ endpoint_blocks (codes "ReplyTo") out.reply
     ++ parameters_of out.to ++ context_blocks out.context
+
+-- an element that isn't of reference parameters is left out
+abbrev pub kept_params : Option Tree → Option Tree
+kept_params None = None
+kept_params (Some t) = if is_named t.name addressing (codes "ReferenceParameters") then Some t else None
+
+abbrev pub endpoint_with : List ℕ → Option Tree → Endpoint
+endpoint_with address params = record { address = address; params = kept_params params }
 
 -- what an endpoint is read as
 abbrev pub epr_in : Endpoint → Epr
@@ -120,7 +128,7 @@ abbrev pub IsContext : Tree → Type 0
 IsContext t = t.name ≡ qualified coordination (codes "CoordinationContext")
 
 -- headers that can be read
-pub record AreLegible (out : Outgoing) : Type 0 where
+pub record AreLegible (out : OutgoingHeaders) : Type 0 where
   pub to : IfSome out.to IsDestination
   pub action : IsTrimmed out.action
   pub said : is_empty out.action ≡ false
@@ -135,7 +143,7 @@ destination_in None = None
 destination_in (Some endpoint) = if bytes_eq endpoint.address anonymous then None else Some endpoint.address
 
 -- what they are read as
-abbrev pub headers_in : Outgoing → Headers
+abbrev pub headers_in : OutgoingHeaders → Headers
 headers_in out =
     record {
       to = destination_in out.to;

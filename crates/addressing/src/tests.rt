@@ -2,7 +2,7 @@ use crate::endpoint::{fault_to, read_epr, reply_to};
 use crate::headers::{AddressingRefusal, Headers, read_headers};
 use crate::post_to::post_to;
 use crate::request::check_request;
-use crate::writer::{Endpoint, Outgoing, header_blocks};
+use crate::writer::{Endpoint, OutgoingHeaders, header_blocks};
 use at_base::epr::{Epr, Reply};
 use at_base::text::Text;
 use soap_profile::envelope::envelope_tree;
@@ -331,14 +331,11 @@ fn endpoint(alloc: Global, address: &str, params: &str) -> Result<Endpoint, Fail
     } else {
         Some(read_tree(alloc, params.as_bytes())?)
     };
-    Ok(Endpoint {
-        address: Text::copied(alloc, address)?,
-        params,
-    })
+    Ok(Endpoint::new(Text::copied(alloc, address)?, params))
 }
 
 /// The canonical text of the envelope with these headers and this body.
-fn written(alloc: Global, out: Outgoing, body: &str) -> Result<Vec<u8>, Fail> {
+fn written(alloc: Global, out: OutgoingHeaders, body: &str) -> Result<Vec<u8>, Fail> {
     let body = read_tree(alloc, body.as_bytes())?;
     let tree = envelope_tree(alloc, header_blocks(alloc, out)?, body)?;
     let mut bytes = Vec::new(alloc);
@@ -346,50 +343,67 @@ fn written(alloc: Global, out: Outgoing, body: &str) -> Result<Vec<u8>, Fail> {
     Ok(bytes)
 }
 
+fn notification(alloc: Global) -> Result<OutgoingHeaders, Fail> {
+    let action = Text::copied(
+        alloc,
+        "http://docs.oasis-open.org/ws-tx/wsat/2006/06/Prepare",
+    )?;
+    let to = endpoint(alloc, "http://n3.example/p/d/1-1", "")?;
+    let from = endpoint(alloc, "http://n2.example/c/d/1-1/1", "")?;
+    let reply = endpoint(alloc, "http://www.w3.org/2005/08/addressing/none", "")?;
+    Ok(OutgoingHeaders {
+        to: Some(to),
+        action,
+        id: None,
+        relates: None,
+        from: Some(from),
+        reply: Some(reply),
+        context: None,
+    })
+}
+
+const PARAMS: &str =
+    "<w:ReferenceParameters xmlns:w=\"http://www.w3.org/2005/08/addressing\"><w:k a=\"1\" w:IsReferenceParameter=\"0\" b=\"2\"/><w:l a=\"1\">x</w:l></w:ReferenceParameters>";
+
+fn request(alloc: Global) -> Result<OutgoingHeaders, Fail> {
+    let action = Text::copied(alloc, "a")?;
+    let id = Text::copied(alloc, "")?;
+    let relates = Text::copied(alloc, "m")?;
+    let to = endpoint(
+        alloc,
+        "http://www.w3.org/2005/08/addressing/anonymous",
+        PARAMS,
+    )?;
+    let reply = endpoint(alloc, "r", "<ReferenceParameters/>")?;
+    let context = read_tree(
+        alloc,
+        b"<c:CoordinationContext xmlns:c=\"http://docs.oasis-open.org/ws-tx/wscoor/2006/06\" x=\"1\">c</c:CoordinationContext>",
+    )?;
+    Ok(OutgoingHeaders {
+        to: Some(to),
+        action,
+        id: Some(id),
+        relates: Some(relates),
+        from: None,
+        reply: Some(reply),
+        context: Some(context),
+    })
+}
+
 #[test]
 fn writes_headers(rt: HostRuntime) -> Result<(), Fail> {
     let alloc = rt.alloc();
-    let notification = Outgoing {
-        to: Some(endpoint(alloc, "http://n3.example/p/d/1-1", "")?),
-        action: Text::copied(
-            alloc,
-            "http://docs.oasis-open.org/ws-tx/wsat/2006/06/Prepare",
-        )?,
-        id: None,
-        relates: None,
-        from: Some(endpoint(alloc, "http://n2.example/c/d/1-1/1", "")?),
-        reply: Some(endpoint(alloc, "http://www.w3.org/2005/08/addressing/none", "")?),
-        context: None,
-    };
     let wanted =
         "<s:Envelope xmlns:s=\"http://schemas.xmlsoap.org/soap/envelope/\" xmlns:wsa=\"http://www.w3.org/2005/08/addressing\" xmlns:wsat=\"http://docs.oasis-open.org/ws-tx/wsat/2006/06\"><s:Header><wsa:To>http://n3.example/p/d/1-1</wsa:To><wsa:Action>http://docs.oasis-open.org/ws-tx/wsat/2006/06/Prepare</wsa:Action><wsa:From><wsa:Address>http://n2.example/c/d/1-1/1</wsa:Address></wsa:From><wsa:ReplyTo><wsa:Address>http://www.w3.org/2005/08/addressing/none</wsa:Address></wsa:ReplyTo></s:Header><s:Body><wsat:Prepare/></s:Body></s:Envelope>";
     let prepare = "<Prepare xmlns=\"http://docs.oasis-open.org/ws-tx/wsat/2006/06\"/>";
     assert_eq!(rt;
-        written(alloc, notification, prepare)?.as_slice(),
+        written(alloc, notification(alloc)?, prepare)?.as_slice(),
         wanted.as_bytes()
     );
-    let params =
-        "<w:ReferenceParameters xmlns:w=\"http://www.w3.org/2005/08/addressing\"><w:k a=\"1\" w:IsReferenceParameter=\"0\" b=\"2\"/><w:l a=\"1\">x</w:l></w:ReferenceParameters>";
-    let request = Outgoing {
-        to: Some(endpoint(
-            alloc,
-            "http://www.w3.org/2005/08/addressing/anonymous",
-            params,
-        )?),
-        action: Text::copied(alloc, "a")?,
-        id: Some(Text::copied(alloc, "")?),
-        relates: Some(Text::copied(alloc, "m")?),
-        from: None,
-        reply: Some(endpoint(alloc, "r", params)?),
-        context: Some(read_tree(
-            alloc,
-            b"<c:CoordinationContext xmlns:c=\"http://docs.oasis-open.org/ws-tx/wscoor/2006/06\" x=\"1\">c</c:CoordinationContext>",
-        )?),
-    };
     let wanted =
-        "<s:Envelope xmlns:s=\"http://schemas.xmlsoap.org/soap/envelope/\" xmlns:wsa=\"http://www.w3.org/2005/08/addressing\" xmlns:wscoor=\"http://docs.oasis-open.org/ws-tx/wscoor/2006/06\"><s:Header><wsa:Action>a</wsa:Action><wsa:MessageID/><wsa:RelatesTo>m</wsa:RelatesTo><wsa:ReplyTo><wsa:Address>r</wsa:Address><wsa:ReferenceParameters><wsa:k a=\"1\" wsa:IsReferenceParameter=\"0\" b=\"2\"/><wsa:l a=\"1\">x</wsa:l></wsa:ReferenceParameters></wsa:ReplyTo><wsa:k a=\"1\" wsa:IsReferenceParameter=\"true\" b=\"2\"/><wsa:l wsa:IsReferenceParameter=\"true\" a=\"1\">x</wsa:l><wscoor:CoordinationContext s:mustUnderstand=\"1\">c</wscoor:CoordinationContext></s:Header><s:Body><b/></s:Body></s:Envelope>";
+        "<s:Envelope xmlns:s=\"http://schemas.xmlsoap.org/soap/envelope/\" xmlns:wsa=\"http://www.w3.org/2005/08/addressing\" xmlns:wscoor=\"http://docs.oasis-open.org/ws-tx/wscoor/2006/06\"><s:Header><wsa:Action>a</wsa:Action><wsa:MessageID/><wsa:RelatesTo>m</wsa:RelatesTo><wsa:ReplyTo><wsa:Address>r</wsa:Address></wsa:ReplyTo><wsa:k a=\"1\" wsa:IsReferenceParameter=\"true\" b=\"2\"/><wsa:l wsa:IsReferenceParameter=\"true\" a=\"1\">x</wsa:l><wscoor:CoordinationContext s:mustUnderstand=\"1\">c</wscoor:CoordinationContext></s:Header><s:Body><b/></s:Body></s:Envelope>";
     assert_eq!(rt;
-        written(alloc, request, "<b/>")?.as_slice(),
+        written(alloc, request(alloc)?, "<b/>")?.as_slice(),
         wanted.as_bytes()
     );
     Ok(())

@@ -7,7 +7,7 @@ ghost use Rattle.soap_profile.specs.Building.{qualified};
 ghost use Rattle.soap_profile.specs.Envelopes.{not_understood};
 ghost use Rattle.addressing.specs.Endpoints.{epr_of};
 ghost use Rattle.addressing.specs.Headers.{headers_of};
-ghost use Rattle.addressing.specs.Writing.{AreLegible, IsContext, IsLegible, added_mark, blocks_of, context_block, context_blocks, endpoint_blocks, endpoint_tree, epr_in, headers_in, is_mark, mark, marked, marked_attributes, message_blocks, parameters_in, parameters_of, text_blocks, text_element, to_blocks, with_mark};
+ghost use Rattle.addressing.specs.Writing.{AreLegible, IsContext, IsLegible, IsParameters, added_mark, blocks_of, context_block, context_blocks, endpoint_blocks, endpoint_tree, endpoint_with, epr_in, headers_in, is_mark, kept_params, mark, marked, marked_attributes, message_blocks, parameters_in, parameters_of, text_blocks, text_element, to_blocks, with_mark};
 
 use crate::endpoint::ANONYMOUS;
 use at_base::text::Text;
@@ -26,9 +26,35 @@ pub struct Endpoint {
     pub params: Option<Tree>,
 }
 
+impl Endpoint {
+    /// The endpoint with this address, and with this element as its reference parameters where it is a
+    /// `wsa:ReferenceParameters`; any other element is left out.
+    #[tactic(auto, using(crate::proofs::Kept::are_parameters))]
+    pub fn new(address: Text, params: Option<Tree>) -> Endpoint
+        ensures endpoint { result ≡ endpoint_with address params }
+        ensures params { IsParameters result.params }
+    {
+        Endpoint {
+            address,
+            params: kept_params(params),
+        }
+    }
+}
+
+fn kept_params(params: Option<Tree>) -> Option<Tree>
+    ensures { result ≡ kept_params params }
+{
+    let params = params?;
+    if is_named(&params.name, ADDRESSING, "ReferenceParameters") {
+        Some(params)
+    } else {
+        None
+    }
+}
+
 /// What the header blocks of a message say.
 #[derive(Debug, Drop)]
-pub struct Outgoing {
+pub struct OutgoingHeaders {
     /// Where the message goes, or none where it is an answer on the connection.
     pub to: Option<Endpoint>,
     pub action: Text,
@@ -41,15 +67,15 @@ pub struct Outgoing {
     pub context: Option<Tree>,
 }
 
-#[tactic(auto, using(crate::proofs::Reread::headers_return, crate::proofs::Understood::all_understood))]
 /// The header blocks of a message: To, Action, MessageID, RelatesTo, From, ReplyTo, the reference parameters of where
 /// it goes, and the context. They are read as what they were made of, where that can be read.
-pub fn header_blocks(alloc: Global, out: Outgoing) -> Result<Trees, AllocError>
+#[tactic(auto, using(crate::proofs::Reread::headers_return, crate::proofs::Understood::all_understood))]
+pub fn header_blocks(alloc: Global, out: OutgoingHeaders) -> Result<Trees, AllocError>
     ensures blocks { IfOk result (λ blocks. blocks ≡ blocks_of out) }
     ensures reads { IfOk result (λ blocks. AreLegible out → headers_of blocks ≡ Ok (headers_in out)) }
     ensures understood { IfOk result (λ blocks. IfSome out.context IsContext → not_understood blocks ≡ None) }
 {
-    let Outgoing {
+    let OutgoingHeaders {
         to,
         action,
         id,
@@ -184,9 +210,9 @@ fn text_element(alloc: Global, local: &str, text: &str) -> Result<Tree, AllocErr
     Ok(element(alloc, name, children))
 }
 
-#[tactic(auto, using(crate::proofs::Returned::endpoint_returns))]
 /// The element of an endpoint (WS-Addressing 1.0 Core, section 2.2). It is read as what it was made of, where it can be
 /// read.
+#[tactic(auto, using(crate::proofs::Returned::endpoint_returns))]
 pub fn endpoint_tree(alloc: Global, endpoint: Endpoint, name: QName) -> Result<Tree, AllocError>
     ensures tree { IfOk result (λ t. t ≡ endpoint_tree endpoint name) }
     ensures reads { IfOk result (λ t. IsLegible endpoint → epr_of t ≡ Some (epr_in endpoint)) }
