@@ -3,4 +3,5 @@ pub mod Examples
 pub mod Headers
 pub mod Posting
 pub mod Requests
+pub mod Stored
 pub mod Writing

@@ -6,6 +6,7 @@ pub mod endpoint;
 pub mod headers;
 pub mod post_to;
 pub mod request;
+pub mod stored;
 #[cfg(test)]
 mod tests;
 pub mod writer;

@@ -10,8 +10,8 @@ use soap_profile::trees::Trees;
 use soap_profile::value::into_elements;
 use std::alloc::Global;
 use std::test::Fail;
-use xml_profile::name::QName;
 use xml_grammar::reader::read_tree;
+use xml_profile::name::QName;
 use xml_profile::writer::write_tree;
 
 /// The address and the reference parameters of the endpoint with these parts in it.

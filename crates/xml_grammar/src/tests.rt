@@ -6,7 +6,7 @@ use std::test::Fail;
 use xml_profile::writer::write_tree;
 
 /// A spelling of each construct, and the canonical text of its tree.
-const READ: [(&str, &str); 26] = [
+const READ: [(&str, &str); 27] = [
     ("<a></a>", "<a/>"),
     (
         " \n<a\tb = \"x\ty\" >1\r\n2</a >\r",
@@ -63,10 +63,15 @@ const READ: [(&str, &str); 26] = [
         "<a xmlns:p='urn&#58;x' p:b='&#x10FFFF;'/>",
         "<a xmlns:n1=\"urn:x\" n1:b=\"\u{10ffff}\"/>",
     ),
+    (
+        "<e:Envelope xmlns:e='http://schemas.xmlsoap.org/soap/envelope/'><e:Header xmlns:w='http://www.w3.org/2005/08/addressing'><w:Action><![CDATA[http://docs.oasis-open.org/ws-tx/wsat/2006/06/Prepare]]></w:Action></e:Header><!-- x --><e:Body><Prepare xmlns='http://docs.oasis-open.org/ws-tx/wsat/2006/06'/></e:Body></e:Envelope>",
+        "<s:Envelope xmlns:s=\"http://schemas.xmlsoap.org/soap/envelope/\" xmlns:wsa=\"http://www.w3.org/2005/08/addressing\" xmlns:wsat=\"http://docs.oasis-open.org/ws-tx/wsat/2006/06\"><s:Header><wsa:Action>http://docs.oasis-open.org/ws-tx/wsat/2006/06/Prepare</wsa:Action></s:Header><s:Body><wsat:Prepare/></s:Body></s:Envelope>",
+    ),
 ];
 
 /// What spells no tree, a text for each rule.
-const REFUSED: [&str; 58] = [
+const REFUSED: [&str; 59] = [
+    "<s:Envelope/>",
     "",
     "<a>",
     "<a></b>",
@@ -147,7 +152,11 @@ fn refuses_other_texts(rt: HostRuntime) -> Result<(), Fail> {
     for spelling in REFUSED {
         assert!(rt; is_refused(rt.alloc(), spelling.as_bytes(), TreeRefusal::NotSpelled));
     }
-    for (bytes, place) in [(b"<a/>\x80".as_slice(), 4), (b"\xef\xbb\xbf<a>\xc3(", 6)] {
+    for (bytes, place) in [
+        (b"\xff".as_slice(), 0),
+        (b"<a/>\x80", 4),
+        (b"\xef\xbb\xbf<a>\xc3(", 6),
+    ] {
         assert!(rt; is_refused(rt.alloc(), bytes, TreeRefusal::NotUtf8 { place }));
     }
     Ok(())
