@@ -1,6 +1,9 @@
 pub mod Examples
 pub mod Recovering
+pub mod Deciding
+pub mod Keeping
 pub mod Shaping
+pub mod Drawing
 pub mod OneByOne
 pub mod Recording
 pub mod Making

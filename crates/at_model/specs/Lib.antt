@@ -20,5 +20,6 @@ pub mod Agreement
 pub mod Settle
 pub mod Laws
 pub mod Shapes
+pub mod Drawn
 pub mod Singles
 pub mod Rules

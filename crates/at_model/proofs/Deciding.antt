@@ -1,0 +1,114 @@
+-- What holds of a decision: a property of what is left of the item, and one of what is recorded.
+use Rattle.std.specs.Prelude.{ℕ, List, [], ◌∷◌, ◌++◌, Option, Some, None, Bool, true, false, not, if◌then◌else◌, filter, ◌≡◌}
+use Rattle.std.specs.List.{AllByRecursion}
+use Rattle.std.proofs.Common.{refl}
+use Rattle.at_base.specs.Numbers.{Numbers}
+use Rattle.at_base.specs.declared.record.Record.{Record}
+use Rattle.at_base.specs.declared.event.Moment.{Moment}
+use Rattle.at_base.specs.declared.outs.Out.{Out}
+use Rattle.at_model.specs.Book.{Book, Transaction, find_by, put_by, is_id}
+use Rattle.at_model.specs.Moves.{Change, Decision, Goes, Records, in_both}
+use Rattle.at_model.specs.Step.{Outcome, Plan, plain, still, outcome_of, plan_of, branch}
+
+-- one property of both branches of a plan
+pub record Both (P : Outcome → Type 0) (p : Plan) : Type 0 where
+  pub landed : P p.landed
+  pub absent : P p.absent
+
+pub in_branch : (P : Outcome → Type 0) (p : Plan) (landed : Bool) → Both P p → P (branch p landed)
+in_branch P p true h = h.landed
+in_branch P p false h = h.absent
+
+pub plain_both : (P : Outcome → Type 0) (o : Outcome) → P o → Both P (plain o)
+plain_both P o h = record { landed = h; absent = h }
+
+pub decision_both : {A : Type 0} (P : Outcome → Type 0) (b : Book) (put : Option A → Book) (answer : List Out) (d : Decision A)
+    → ((c : Change A) → P (outcome_of put answer c)) → P (still b answer) → Both P (plan_of b put answer d)
+decision_both P b put answer (Goes c) h k = plain_both P (outcome_of put answer c) (h c)
+decision_both P b put answer (Records r c None) h k = record { landed = h c; absent = k }
+decision_both P b put answer (Records r c (Some d)) h k = record { landed = h c; absent = h d }
+
+-- where the record is absent
+abbrev pub AbsentHas : {A : Type 0} → (Option A → Type 0) → Option (Change A) → Type 0
+AbsentHas P None = Unit {0}
+AbsentHas P (Some c) = P c.item
+
+pub record RecordsHave {A : Type 0} (P : Option A → Type 0) (Q : Record → Type 0) (r : Record) (c : Change A) (absent : Option (Change A)) : Type 0 where
+  pub entry : Q r
+  pub landed : P c.item
+  pub otherwise : AbsentHas P absent
+
+abbrev pub DecisionHas : {A : Type 0} → (Option A → Type 0) → (Record → Type 0) → Decision A → Type 0
+DecisionHas P Q (Goes c) = P c.item
+DecisionHas P Q (Records r c absent) = RecordsHave P Q r c absent
+
+-- a property of an item that is still there
+abbrev pub IfThere : {A : Type 0} → (A → Type 0) → Option A → Type 0
+IfThere P None = Unit {0}
+IfThere P (Some a) = P a
+
+pub decided_both : {A : Type 0} (P : Option A → Type 0) (Q : Record → Type 0) (R : Outcome → Type 0) (b : Book) (put : Option A → Book) (answer : List Out) (d : Decision A)
+    → DecisionHas P Q d → ((c : Change A) → P c.item → R (outcome_of put answer c)) → R (still b answer) → Both R (plan_of b put answer d)
+decided_both P Q R b put answer (Goes c) h j k = plain_both R (outcome_of put answer c) (j c h)
+decided_both P Q R b put answer (Records r c None) h j k = record { landed = j c h.landed; absent = k }
+decided_both P Q R b put answer (Records r c (Some d)) h j k = record { landed = j c h.landed; absent = j d h.otherwise }
+
+no_entry : (o : Option Record) (r : Record) → o ≡ None → o ≡ Some r → ⊥
+no_entry o r e f = cc
+
+some_entry : (Q : Record → Type 0) (r s : Record) → Q r → Some r ≡ Some s → Q s
+some_entry Q r s h e = let f : r ≡ s = cc in rw (← f) h
+
+pub decided_entry : {A : Type 0} (P : Option A → Type 0) (Q : Record → Type 0) (b : Book) (put : Option A → Book) (answer : List Out) (d : Decision A) (r : Record)
+    → DecisionHas P Q d → (plan_of b put answer d).entry ≡ Some r → Q r
+decided_entry P Q b put answer (Goes c) r h e = absurd (no_entry None r refl e)
+decided_entry P Q b put answer (Records s c absent) r h e = some_entry Q s r h.entry e
+
+-- the same, where both branches are changed alike
+pub both_have : {A : Type 0} (P : Option A → Type 0) (Q : Record → Type 0) (f : Change A → Change A) → ((c : Change A) → P c.item → P (f c).item)
+    → (d : Decision A) → DecisionHas P Q d → DecisionHas P Q (in_both f d)
+both_have P Q f h (Goes c) k = h c k
+both_have P Q f h (Records r c None) k = record { entry = k.entry; landed = h c k.landed; otherwise = tt }
+both_have P Q f h (Records r c (Some d)) k = record { entry = k.entry; landed = h c k.landed; otherwise = h d k.otherwise }
+
+-- both sides of a test
+pub either_has : {A : Type 0} (P : Option A → Type 0) (Q : Record → Type 0) (b : Bool) (d e : Decision A)
+    → (b ≡ true → DecisionHas P Q d) → (b ≡ false → DecisionHas P Q e) → DecisionHas P Q (if b then d else e)
+either_has P Q true d e h k = h refl
+either_has P Q false d e h k = k refl
+
+pub either_change : {A : Type 0} (P : Option A → Type 0) (b : Bool) (c d : Change A) → P c.item → P d.item → P (if b then c else d).item
+either_change P true c d h k = h
+either_change P false c d h k = k
+
+-- lists by id
+found_if : {A : Type 0} (P : A → Type 0) (b : Bool) (x y : A) (o : Option A) → P x → (o ≡ Some y → P y) → (if b then Some x else o) ≡ Some y → P y
+found_if P true x y o h k e = let f : x ≡ y = cc in rw (← f) h
+found_if P false x y o h k e = k e
+
+pub all_find : {A : Type 0} (P : A → Type 0) (key : A → Numbers) (id : Numbers) (xs : List A) (x : A) → AllByRecursion P xs → find_by key id xs ≡ Some x → P x
+all_find P key id [] x h e = absurd cc
+all_find P key id (y ∷ ys) x (h, k) e = found_if P (is_id (key y) id) y x (find_by key id ys) h (all_find P key id ys x k) e
+
+all_if : {A : Type 0} (P : A → Type 0) (b : Bool) (xs ys : List A) → AllByRecursion P xs → AllByRecursion P ys → AllByRecursion P (if b then xs else ys)
+all_if P true xs ys h k = h
+all_if P false xs ys h k = k
+
+pub all_put : {A : Type 0} (P : A → Type 0) (key : A → Numbers) (id : Numbers) (new : Option A) (xs : List A) → IfThere P new → AllByRecursion P xs → AllByRecursion P (put_by key id new xs)
+all_put P key id None [] n h = tt
+all_put P key id (Some y) [] n h = tt
+all_put P key id None (x ∷ xs) n (h, k) = all_if P (is_id (key x) id) xs (x ∷ put_by key id None xs) k (h, all_put P key id None xs n k)
+all_put P key id (Some y) (x ∷ xs) n (h, k) =
+    all_if P (is_id (key x) id) (y ∷ xs) (x ∷ put_by key id (Some y) xs) (n, k) (h, all_put P key id (Some y) xs n k)
+
+pub all_filter : {A : Type 0} (P : A → Type 0) (p : A → Bool) (xs : List A) → AllByRecursion P xs → AllByRecursion P (filter p xs)
+all_filter P p [] h = tt
+all_filter P p (x ∷ xs) (h, k) = all_if P (p x) (x ∷ filter p xs) (filter p xs) (h, all_filter P p xs k) (all_filter P p xs k)
+
+pub all_join : {A : Type 0} (P : A → Type 0) (xs ys : List A) → AllByRecursion P xs → AllByRecursion P ys → AllByRecursion P (xs ++ ys)
+all_join P [] ys h k = k
+all_join P (x ∷ xs) ys (h, i) k = (h, all_join P xs ys i k)
+
+pub all_more : {A : Type 0} (P Q : A → Type 0) (xs : List A) → ((x : A) → P x → Q x) → AllByRecursion P xs → AllByRecursion Q xs
+all_more P Q [] f h = tt
+all_more P Q (x ∷ xs) f (h, k) = (f x h, all_more P Q xs f k)
