@@ -1,5 +1,5 @@
 -- What holds of a decision: a property of what is left of the item, and one of what is recorded.
-use Rattle.std.specs.Prelude.{ℕ, List, [], ◌∷◌, ◌++◌, Option, Some, None, Bool, true, false, not, if◌then◌else◌, filter, ◌≡◌}
+use Rattle.std.specs.Prelude.{ℕ, List, [], ◌∷◌, ◌++◌, Option, Some, None, Bool, true, false, not, if◌then◌else◌, filter, map, ◌≡◌}
 use Rattle.std.specs.List.{AllByRecursion}
 use Rattle.std.proofs.Common.{refl}
 use Rattle.at_base.specs.Numbers.{Numbers}
@@ -90,7 +90,7 @@ pub all_find : {A : Type 0} (P : A → Type 0) (key : A → Numbers) (id : Numbe
 all_find P key id [] x h e = absurd cc
 all_find P key id (y ∷ ys) x (h, k) e = found_if P (is_id (key y) id) y x (find_by key id ys) h (all_find P key id ys x k) e
 
-all_if : {A : Type 0} (P : A → Type 0) (b : Bool) (xs ys : List A) → AllByRecursion P xs → AllByRecursion P ys → AllByRecursion P (if b then xs else ys)
+pub all_if : {A : Type 0} (P : A → Type 0) (b : Bool) (xs ys : List A) → AllByRecursion P xs → AllByRecursion P ys → AllByRecursion P (if b then xs else ys)
 all_if P true xs ys h k = h
 all_if P false xs ys h k = k
 
@@ -112,3 +112,11 @@ all_join P (x ∷ xs) ys (h, i) k = (h, all_join P xs ys i k)
 pub all_more : {A : Type 0} (P Q : A → Type 0) (xs : List A) → ((x : A) → P x → Q x) → AllByRecursion P xs → AllByRecursion Q xs
 all_more P Q [] f h = tt
 all_more P Q (x ∷ xs) f (h, k) = (f x h, all_more P Q xs f k)
+
+pub all_both : {A : Type 0} (P Q R : A → Type 0) (xs : List A) → ((x : A) → P x → Q x → R x) → AllByRecursion P xs → AllByRecursion Q xs → AllByRecursion R xs
+all_both P Q R [] f h k = tt
+all_both P Q R (x ∷ xs) f (h, i) (k, j) = (f x h k, all_both P Q R xs f i j)
+
+pub all_map : {A B : Type 0} (P : B → Type 0) (f : A → B) (xs : List A) → AllByRecursion (λ x. P (f x)) xs → AllByRecursion P (map f xs)
+all_map P f [] h = tt
+all_map P f (x ∷ xs) (h, k) = (h, all_map P f xs k)

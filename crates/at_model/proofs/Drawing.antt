@@ -28,17 +28,17 @@ use Rattle.at_model.proofs.Making.{makes_under_the_next_id}
 use Rattle.at_model.proofs.Shaping.{steps_touch_one, steps_keep_place}
 
 -- each way to move keeps the id
-moved_kept : (b : Book) (e : Event) (now : ℕ) (t : Transaction) (d : Decision Transaction) → MovesTransaction b e now t d → Kept t.id d
+pub moved_kept : (b : Book) (e : Event) (now : ℕ) (t : Transaction) (d : Decision Transaction) → MovesTransaction b e now t d → Kept t.id d
 moved_kept b e now t d (at_seat a s came is) = subst (Kept t.id) (sym is) (seat_kept t.id (moment_of b now) a t s a.message refl)
 moved_kept b e now t d (at_link a kind s came under is) = subst (Kept t.id) (sym is) (link_kept t.id (moment_of b now) a kind t s a.message refl)
 moved_kept b e now t d (at_completion a c came there is) = subst (Kept t.id) (sym is) (completion_kept t.id (moment_of b now) a t c a.message refl)
 moved_kept b e now t d (when_due is) = subst (Kept t.id) (sym is) (due_kept t.id (moment_of b now) t _ refl)
 
-leaf_moved_kept : (b : Book) (e : Event) (now : ℕ) (l : Leaf) (d : Decision Leaf) → MovesLeaf b e now l d → LeafKept l.id d
+pub leaf_moved_kept : (b : Book) (e : Event) (now : ℕ) (l : Leaf) (d : Decision Leaf) → MovesLeaf b e now l d → LeafKept l.id d
 leaf_moved_kept b e now l d (at_leaf a came is) = subst (LeafKept l.id) (sym is) (leaf_kept l.id (moment_of b now) a l a.message refl)
 leaf_moved_kept b e now l d (leaf_when_due is) = subst (LeafKept l.id) (sym is) (leaf_due_kept l.id (moment_of b now) l _ refl)
 
-activity_moved_kept : (b : Book) (now : ℕ) (a : Activity) (d : Decision Activity) → MovesActivity b now a d → ActivityKept a d
+pub activity_moved_kept : (b : Book) (now : ℕ) (a : Activity) (d : Decision Activity) → MovesActivity b now a d → ActivityKept a d
 activity_moved_kept b now a d (at_activity r is) = subst (ActivityKept a) (sym is) (activity_kept (moment_of b now) r a r.message)
 activity_moved_kept b now a d (activity_when_due is) = subst (ActivityKept a) (sym is) (activity_due_kept (moment_of b now) a _)
 activity_moved_kept b now a d (works url kind vote key value is) = subst (ActivityKept a) (sym is) (asks_kept (moment_of b now) url kind vote key value a a.context)

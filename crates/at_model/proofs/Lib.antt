@@ -4,6 +4,8 @@ pub mod Deciding
 pub mod Keeping
 pub mod Shaping
 pub mod Drawing
+pub mod Living
+pub mod Once
 pub mod OneByOne
 pub mod Recording
 pub mod Making

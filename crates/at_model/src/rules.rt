@@ -1,6 +1,7 @@
 //! Laws of steps and of recovery, over every book, event and journal.
 
 ghost use Rattle.at_model.specs.Laws.{StepsAnswerFirst, StepsKeepPlace, RecoversTheLive, IncarnationsRise, MakesUnderTheNextId};
+ghost use Rattle.at_model.specs.Drawn.{IdsStayDrawn, NoIdMadeTwice};
 ghost use Rattle.at_model.specs.Rules.{DecidesBehindAnswers, EndsAreUndone, VotesAreRecorded};
 ghost use Rattle.at_model.specs.Shapes.{StepsTouchOne};
 
@@ -52,4 +53,16 @@ pub fn votes_are_recorded()
 /// The next id is none that was drawn before, and what is made under it has it.
 pub fn makes_under_the_next_id()
     ensures { MakesUnderTheNextId }
+{}
+
+/// Each id that a book holds stays drawn, over steps and over starts.
+#[tactic(auto, using(crate::proofs::Living::ids_stay_drawn))]
+pub fn ids_stay_drawn()
+    ensures { IdsStayDrawn }
+{}
+
+/// A node makes no id twice, however often it stops and starts.
+#[tactic(auto, using(crate::proofs::Once::no_id_made_twice))]
+pub fn no_id_made_twice()
+    ensures { NoIdMadeTwice }
 {}
