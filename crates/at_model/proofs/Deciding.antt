@@ -1,12 +1,16 @@
--- What holds of a decision: a property of what is left of the item, and one of what is recorded.
+-- What holds of a decision: a property of what is left of the item, and one of what is recorded, with what is then left.
 use Rattle.std.specs.Prelude.{ℕ, List, [], ◌∷◌, ◌++◌, Option, Some, None, Bool, true, false, not, if◌then◌else◌, filter, map, ◌≡◌}
 use Rattle.std.specs.List.{AllByRecursion}
-use Rattle.std.proofs.Common.{refl}
+use Rattle.std.proofs.Common.{refl, subst}
 use Rattle.at_base.specs.Numbers.{Numbers}
 use Rattle.at_base.specs.declared.record.Record.{Record}
 use Rattle.at_base.specs.declared.event.Moment.{Moment}
 use Rattle.at_base.specs.declared.outs.Out.{Out}
-use Rattle.at_model.specs.Book.{Book, Transaction, find_by, put_by, is_id}
+use Rattle.at_base.specs.declared.message.Message.TheVariants as messages
+use Rattle.at_model.specs.Book.{Book, Transaction, Superior, Request, Phase, find_by, put_by, is_id}
+use Rattle.at_model.specs.Posts.{reply_post}
+use Rattle.at_model.specs.Seats.{under}
+use Rattle.at_model.specs.Arrivals.{is_registering, request_answered, context_of, request_stands, request_under, request_left, answer_request, request_of, with_answer}
 use Rattle.at_model.specs.Moves.{Change, Decision, Goes, Records, in_both}
 use Rattle.at_model.specs.Step.{Outcome, Plan, plain, still, outcome_of, plan_of, branch}
 
@@ -33,12 +37,12 @@ abbrev pub AbsentHas : {A : Type 0} → (Option A → Type 0) → Option (Change
 AbsentHas P None = Unit {0}
 AbsentHas P (Some c) = P c.item
 
-pub record RecordsHave {A : Type 0} (P : Option A → Type 0) (Q : Record → Type 0) (r : Record) (c : Change A) (absent : Option (Change A)) : Type 0 where
-  pub entry : Q r
+pub record RecordsHave {A : Type 0} (P : Option A → Type 0) (Q : Record → Option A → Type 0) (r : Record) (c : Change A) (absent : Option (Change A)) : Type 0 where
+  pub entry : Q r c.item
   pub landed : P c.item
   pub otherwise : AbsentHas P absent
 
-abbrev pub DecisionHas : {A : Type 0} → (Option A → Type 0) → (Record → Type 0) → Decision A → Type 0
+abbrev pub DecisionHas : {A : Type 0} → (Option A → Type 0) → (Record → Option A → Type 0) → Decision A → Type 0
 DecisionHas P Q (Goes c) = P c.item
 DecisionHas P Q (Records r c absent) = RecordsHave P Q r c absent
 
@@ -47,7 +51,7 @@ abbrev pub IfThere : {A : Type 0} → (A → Type 0) → Option A → Type 0
 IfThere P None = Unit {0}
 IfThere P (Some a) = P a
 
-pub decided_both : {A : Type 0} (P : Option A → Type 0) (Q : Record → Type 0) (R : Outcome → Type 0) (b : Book) (put : Option A → Book) (answer : List Out) (d : Decision A)
+pub decided_both : {A : Type 0} (P : Option A → Type 0) (Q : Record → Option A → Type 0) (R : Outcome → Type 0) (b : Book) (put : Option A → Book) (answer : List Out) (d : Decision A)
     → DecisionHas P Q d → ((c : Change A) → P c.item → R (outcome_of put answer c)) → R (still b answer) → Both R (plan_of b put answer d)
 decided_both P Q R b put answer (Goes c) h j k = plain_both R (outcome_of put answer c) (j c h)
 decided_both P Q R b put answer (Records r c None) h j k = record { landed = j c h.landed; absent = k }
@@ -56,23 +60,21 @@ decided_both P Q R b put answer (Records r c (Some d)) h j k = record { landed =
 no_entry : (o : Option Record) (r : Record) → o ≡ None → o ≡ Some r → ⊥
 no_entry o r e f = cc
 
-some_entry : (Q : Record → Type 0) (r s : Record) → Q r → Some r ≡ Some s → Q s
-some_entry Q r s h e = let f : r ≡ s = cc in rw (← f) h
-
-pub decided_entry : {A : Type 0} (P : Option A → Type 0) (Q : Record → Type 0) (b : Book) (put : Option A → Book) (answer : List Out) (d : Decision A) (r : Record)
-    → DecisionHas P Q d → (plan_of b put answer d).entry ≡ Some r → Q r
-decided_entry P Q b put answer (Goes c) r h e = absurd (no_entry None r refl e)
-decided_entry P Q b put answer (Records s c absent) r h e = some_entry Q s r h.entry e
+pub decided_entry : {A : Type 0} (P : Option A → Type 0) (Q : Record → Option A → Type 0) (R : Record → Outcome → Type 0) (b : Book) (put : Option A → Book) (answer : List Out)
+    (d : Decision A) (r : Record) → DecisionHas P Q d → ((s : Record) (c : Change A) → P c.item → Q s c.item → R s (outcome_of put answer c))
+    → (plan_of b put answer d).entry ≡ Some r → R r (plan_of b put answer d).landed
+decided_entry P Q R b put answer (Goes c) r h f e = absurd (no_entry None r refl e)
+decided_entry P Q R b put answer (Records s c absent) r h f e = let same : s ≡ r = cc in subst (λ x. R x (outcome_of put answer c)) same (f s c h.landed h.entry)
 
 -- the same, where both branches are changed alike
-pub both_have : {A : Type 0} (P : Option A → Type 0) (Q : Record → Type 0) (f : Change A → Change A) → ((c : Change A) → P c.item → P (f c).item)
-    → (d : Decision A) → DecisionHas P Q d → DecisionHas P Q (in_both f d)
-both_have P Q f h (Goes c) k = h c k
-both_have P Q f h (Records r c None) k = record { entry = k.entry; landed = h c k.landed; otherwise = tt }
-both_have P Q f h (Records r c (Some d)) k = record { entry = k.entry; landed = h c k.landed; otherwise = h d k.otherwise }
+pub both_have : {A : Type 0} (P : Option A → Type 0) (Q : Record → Option A → Type 0) (f : Change A → Change A) → ((c : Change A) → P c.item → P (f c).item)
+    → ((r : Record) (c : Change A) → Q r c.item → Q r (f c).item) → (d : Decision A) → DecisionHas P Q d → DecisionHas P Q (in_both f d)
+both_have P Q f h q (Goes c) k = h c k
+both_have P Q f h q (Records r c None) k = record { entry = q r c k.entry; landed = h c k.landed; otherwise = tt }
+both_have P Q f h q (Records r c (Some d)) k = record { entry = q r c k.entry; landed = h c k.landed; otherwise = h d k.otherwise }
 
 -- both sides of a test
-pub either_has : {A : Type 0} (P : Option A → Type 0) (Q : Record → Type 0) (b : Bool) (d e : Decision A)
+pub either_has : {A : Type 0} (P : Option A → Type 0) (Q : Record → Option A → Type 0) (b : Bool) (d e : Decision A)
     → (b ≡ true → DecisionHas P Q d) → (b ≡ false → DecisionHas P Q e) → DecisionHas P Q (if b then d else e)
 either_has P Q true d e h k = h refl
 either_has P Q false d e h k = k refl
@@ -120,3 +122,37 @@ all_both P Q R (x ∷ xs) f (h, i) (k, j) = (f x h k, all_both P Q R xs f i j)
 pub all_map : {A B : Type 0} (P : B → Type 0) (f : A → B) (xs : List A) → AllByRecursion (λ x. P (f x)) xs → AllByRecursion P (map f xs)
 all_map P f [] h = tt
 all_map P f (x ∷ xs) (h, k) = (h, all_map P f xs k)
+
+-- what a subordinate's answer to its request leaves of it: the transaction, with or without the request
+stands_has : (P : Option Transaction → Type 0) → ((s : Superior) (t : Transaction) → P (Some t) → P (Some (under s t))) → (m : Moment) (r : Request) (t : Transaction) (s : Superior)
+    (phase : Phase) (c : Change Transaction) → P (Some t) → P c.item → P (request_stands m r t s phase c).item
+stands_has P f m r t s Phase.Aborting c h k = f (request_answered s) t h
+stands_has P f m r t s other c h k =
+    either_change P (is_registering s) c
+    (record {
+      item = Some (under (request_answered s) t);
+      posts = c.posts ++ reply_post (Some r.reply) r.id (messages.CreateResponse (context_of m.base t r.expires)) ∷ [];
+      effects = c.effects;
+    }) k (f (request_answered s) t h)
+
+under_has : (P : Option Transaction → Type 0) → ((s : Superior) (t : Transaction) → P (Some t) → P (Some (under s t))) → (m : Moment) (r : Request) (t : Transaction)
+    (s : Option Superior) (c : Change Transaction) → P (Some t) → P c.item → P (request_under m r t s c).item
+under_has P f m r t None c h k = k
+under_has P f m r t (Some s) c h k = stands_has P f m r t s t.phase c h k
+
+left_has : (P : Option Transaction → Type 0) → ((s : Superior) (t : Transaction) → P (Some t) → P (Some (under s t))) → (m : Moment) (r : Request) (t : Option Transaction)
+    (c : Change Transaction) → P t → P c.item → P (request_left m r t c).item
+left_has P f m r None c h k = h
+left_has P f m r (Some t) c h k = under_has P f m r t t.superior c h k
+
+answer_has : (P : Option Transaction → Type 0) → ((s : Superior) (t : Transaction) → P (Some t) → P (Some (under s t))) → (m : Moment) (r : Option Request)
+    (c : Change Transaction) → P c.item → P (answer_request m r c).item
+answer_has P f m None c h = h
+answer_has P f m (Some r) c h = left_has P f m r c.item c h h
+
+pub with_answer_has : (P : Option Transaction → Type 0) (Q : Record → Option Transaction → Type 0) → ((s : Superior) (t : Transaction) → P (Some t) → P (Some (under s t)))
+    → ((r : Record) (s : Superior) (t : Transaction) → Q r (Some t) → Q r (Some (under s t))) → (m : Moment) (t : Transaction) (d : Decision Transaction)
+    → DecisionHas P Q d → DecisionHas P Q (with_answer m t d)
+with_answer_has P Q f g m t d h =
+    both_have P Q (answer_request m (request_of t.superior)) (λ c k. answer_has P f m (request_of t.superior) c k)
+    (λ r c k. answer_has (Q r) (g r) m (request_of t.superior) c k) d h

@@ -23,7 +23,7 @@ use Rattle.at_model.specs.Laws.{IsDrawn, HasId, HasLeafId, KeepsPlace, MakesUnde
 use Rattle.at_model.specs.Drawn.{AreDrawn, HoldsDrawn, IsDrawnRecord, ids_of, is_among, new_ids}
 use Rattle.at_model.specs.Shapes.{MovesTransaction, MovesLeaf, MovesActivity, MakesActivity, Shape, at_seat, at_link, at_completion, when_due, at_leaf, leaf_when_due, at_activity, activity_when_due, works, completes, begins, interposes, nothing_moves, time_moves, transaction_moves, leaf_moves, activity_moves, transaction_registers, transaction_made, leaf_made, activity_made}
 use Rattle.at_model.proofs.Deciding.{Both, in_branch, plain_both, DecisionHas, IfThere, decided_both, decided_entry, all_find, all_put, all_filter, all_join, all_more}
-use Rattle.at_model.proofs.Keeping.{IsAbout, Kept, LeafKept, IsSame, HasBoth, NoRecord, ActivityKept, seat_kept, link_kept, completion_kept, due_kept, with_answer_kept, register_kept, leaf_kept, leaf_due_kept, activity_kept, activity_due_kept, asks_kept, completes_kept}
+use Rattle.at_model.proofs.Keeping.{Names, NamesLeaf, Kept, LeafKept, IsSame, HasBoth, NoRecord, ActivityKept, seat_kept, link_kept, completion_kept, due_kept, with_answer_kept, register_kept, leaf_kept, leaf_due_kept, activity_kept, activity_due_kept, asks_kept, completes_kept}
 use Rattle.at_model.proofs.Making.{makes_under_the_next_id}
 use Rattle.at_model.proofs.Shaping.{steps_touch_one, steps_keep_place}
 
@@ -141,13 +141,13 @@ step_leaves P R b e now p h (time_moves os o f) =
     same_holds h = record { transactions = h.transactions; leaves = h.leaves; activities = h.activities; roots = h.roots }
 step_leaves P R b e now p h (transaction_moves id t answer d stands how o f) =
     subst (Both (Leaves P R b now)) (sym f)
-    (decided_both (HasId t.id) (IsAbout t.id) (Leaves P R b now) b (put_transaction t.id (at_time now b)) answer (with_answer (moment_of b now) t d)
+    (decided_both (HasId t.id) (Names t.id) (Leaves P R b now) b (put_transaction t.id (at_time now b)) answer (with_answer (moment_of b now) t d)
     (with_answer_kept t.id (moment_of b now) t d (moved_kept b e now t d how))
     (λ c k. as_before (put_holds P R b now t.id c.item h (all_find (λ x. P x.id) transaction_id id b.transactions t h.transactions stands) k))
     (as_before h))
 step_leaves P R b e now p h (leaf_moves id l answer d stands how o f) =
     subst (Both (Leaves P R b now)) (sym f)
-    (decided_both (HasLeafId l.id) (IsAbout l.id) (Leaves P R b now) b (put_leaf l.id (at_time now b)) answer d (leaf_moved_kept b e now l d how)
+    (decided_both (HasLeafId l.id) (NamesLeaf l.id) (Leaves P R b now) b (put_leaf l.id (at_time now b)) answer d (leaf_moved_kept b e now l d how)
     (λ c k. as_before (put_leaf_holds P R b now l.id c.item h (all_find (λ x. P x.id) leaf_id id b.leaves l h.leaves stands) k))
     (as_before h))
 step_leaves P R b e now p h (activity_moves id a answer d stands how o f) =

@@ -40,25 +40,34 @@ use Rattle.at_model.specs.Leaves.{leaf_votes, leaf_records_vote, leaf_commit, le
 use Rattle.at_model.specs.Activities.{is_begun, told, activity_target, activity_act, activity_notice, with_context, activity_created, activity_registered, activity_fault, on_activity, activity_state, on_ask, on_complete}
 use Rattle.at_model.specs.Due.{Reached, Expired, Over, Unanswered, Nothing, transaction_reached, leaf_reached, leaf_expires, activity_reached}
 use Rattle.at_model.specs.Laws.{HasId, HasLeafId}
-use Rattle.at_model.proofs.Deciding.{DecisionHas, both_have, either_has, either_change}
+use Rattle.at_model.proofs.Deciding.{DecisionHas, either_has, either_change, with_answer_has}
 
--- what a record is about
-abbrev pub IsAbout : Numbers → Record → Type 0
-IsAbout id (records.Start incarnation) = ⊥
-IsAbout id (records.LeafPrepared i coordinator key value) = i ≡ id
-IsAbout id (records.LeafCommitted i) = i ≡ id
-IsAbout id (records.LeafAborted i) = i ≡ id
-IsAbout id (records.Voted i superior seats) = i ≡ id
-IsAbout id (records.Decided i seats) = i ≡ id
-IsAbout id (records.SubCommitted i) = i ≡ id
-IsAbout id (records.Ended i) = i ≡ id
+-- what a record of a transaction, and one of a leaf, is about
+abbrev pub IsOfTransaction : Numbers → Record → Type 0
+IsOfTransaction id (records.Voted i superior seats) = i ≡ id
+IsOfTransaction id (records.Decided i seats) = i ≡ id
+IsOfTransaction id (records.SubCommitted i) = i ≡ id
+IsOfTransaction id (records.Ended i) = i ≡ id
+IsOfTransaction id other = ⊥
+
+abbrev pub IsOfLeaf : Numbers → Record → Type 0
+IsOfLeaf id (records.LeafPrepared i coordinator key value) = i ≡ id
+IsOfLeaf id (records.LeafCommitted i) = i ≡ id
+IsOfLeaf id (records.LeafAborted i) = i ≡ id
+IsOfLeaf id other = ⊥
+
+abbrev pub Names : Numbers → Record → Option Transaction → Type 0
+Names id r left = IsOfTransaction id r
+
+abbrev pub NamesLeaf : Numbers → Record → Option Leaf → Type 0
+NamesLeaf id r left = IsOfLeaf id r
 
 -- transactions
 abbrev pub Kept : Numbers → Decision Transaction → Type 0
-Kept id d = DecisionHas (HasId id) (IsAbout id) d
+Kept id d = DecisionHas (HasId id) (Names id) d
 
 either : (id : Numbers) (b : Bool) (d e : Decision Transaction) → Kept id d → Kept id e → Kept id (if b then d else e)
-either id b d e h k = either_has (HasId id) (IsAbout id) b d e (λ x. h) (λ x. k)
+either id b d e h k = either_has (HasId id) (Names id) b d e (λ x. h) (λ x. k)
 
 rolled_back : (id : Numbers) (g : Moving Transaction) → g.item.id ≡ id → HasId id (until_rolled_back g).item
 rolled_back id g h = either_change (HasId id) (list_any (in_state states.Aborting) g.item.seats) (stays g) (forgotten g) h tt
@@ -232,33 +241,8 @@ due_kept id m t Over h = tt
 due_kept id m t Unanswered h = h
 due_kept id m t Nothing h = h
 
--- the answer to a subordinate's request
-stands_kept : (id : Numbers) (m : Moment) (r : Request) (t : Transaction) (s : Superior) (phase : Phase) (c : Change Transaction) → t.id ≡ id → HasId id c.item
-    → HasId id (request_stands m r t s phase c).item
-stands_kept id m r t s Phase.Aborting c h k = h
-stands_kept id m r t s other c h k =
-    either_change (HasId id) (is_registering s) c
-    (record {
-      item = Some (under (request_answered s) t);
-      posts = c.posts ++ reply_post (Some r.reply) r.id (messages.CreateResponse (context_of m.base t r.expires)) ∷ [];
-      effects = c.effects;
-    }) k h
-
-under_kept : (id : Numbers) (m : Moment) (r : Request) (t : Transaction) (s : Option Superior) (c : Change Transaction) → t.id ≡ id → HasId id c.item
-    → HasId id (request_under m r t s c).item
-under_kept id m r t None c h k = k
-under_kept id m r t (Some s) c h k = stands_kept id m r t s t.phase c h k
-
-left_kept : (id : Numbers) (m : Moment) (r : Request) (t : Option Transaction) (c : Change Transaction) → HasId id t → HasId id c.item → HasId id (request_left m r t c).item
-left_kept id m r None c h k = tt
-left_kept id m r (Some t) c h k = under_kept id m r t t.superior c h k
-
-answer_kept : (id : Numbers) (m : Moment) (r : Option Request) (c : Change Transaction) → HasId id c.item → HasId id (answer_request m r c).item
-answer_kept id m None c h = h
-answer_kept id m (Some r) c h = left_kept id m r c.item c h h
-
 pub with_answer_kept : (id : Numbers) (m : Moment) (t : Transaction) (d : Decision Transaction) → Kept id d → Kept id (with_answer m t d)
-with_answer_kept id m t d h = both_have (HasId id) (IsAbout id) (answer_request m _) (answer_kept id m _) d h
+with_answer_kept id m t d h = with_answer_has (HasId id) (Names id) (λ s x k. k) (λ r s x k. k) m t d h
 
 -- registration
 either_registered : (id : Numbers) (b : Bool) (x y : Registration) → x.transaction.id ≡ id → y.transaction.id ≡ id → (if b then x else y).transaction.id ≡ id
@@ -289,10 +273,10 @@ register_kept id m a r t h = register_again_kept id m a r t (protocol_named r.pr
 
 -- leaves
 abbrev pub LeafKept : Numbers → Decision Leaf → Type 0
-LeafKept id d = DecisionHas (HasLeafId id) (IsAbout id) d
+LeafKept id d = DecisionHas (HasLeafId id) (NamesLeaf id) d
 
 either_leaf : (id : Numbers) (b : Bool) (d e : Decision Leaf) → LeafKept id d → LeafKept id e → LeafKept id (if b then d else e)
-either_leaf id b d e h k = either_has (HasLeafId id) (IsAbout id) b d e (λ x. h) (λ x. k)
+either_leaf id b d e h k = either_has (HasLeafId id) (NamesLeaf id) b d e (λ x. h) (λ x. k)
 
 records_vote_kept : (id : Numbers) (m : Moment) (coordinator : Option Epr) (l : Leaf) → l.id ≡ id → LeafKept id (leaf_records_vote m coordinator l)
 records_vote_kept id m None l h = tt
@@ -365,8 +349,8 @@ abbrev pub HasBoth : Activity → Option Activity → Type 0
 HasBoth a None = Unit {0}
 HasBoth a (Some x) = IsSame a x
 
-abbrev pub NoRecord : Record → Type 0
-NoRecord r = ⊥
+abbrev pub NoRecord : Record → Option Activity → Type 0
+NoRecord r left = ⊥
 
 abbrev pub ActivityKept : Activity → Decision Activity → Type 0
 ActivityKept a d = DecisionHas (HasBoth a) NoRecord d

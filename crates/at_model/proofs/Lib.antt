@@ -6,6 +6,8 @@ pub mod Shaping
 pub mod Drawing
 pub mod Living
 pub mod Once
+pub mod Phasing
+pub mod Standing
 pub mod OneByOne
 pub mod Recording
 pub mod Making

@@ -19,7 +19,7 @@ use Rattle.at_model.specs.Laws.{IsDrawn, HasId, HasLeafId, KeepsPlace}
 use Rattle.at_model.specs.Drawn.{AreDrawn, HoldsDrawn, IsDrawnRecord, restarted, IdsStayDrawn, Life, LifeEvent, Stepped, Stopped, Started, newborn, with_entry, live_through, come_up, ids_of, is_among, new_ids, made_in, made_through, AreApart, NoIdMadeTwice}
 use Rattle.at_model.specs.Shapes.{Shape, nothing_moves, time_moves, transaction_moves, leaf_moves, activity_moves, transaction_registers, transaction_made, leaf_made, activity_made}
 use Rattle.at_model.proofs.Deciding.{decided_entry, all_find, all_if, all_join, all_more, all_both, all_map}
-use Rattle.at_model.proofs.Keeping.{IsAbout, HasBoth, NoRecord, with_answer_kept}
+use Rattle.at_model.proofs.Keeping.{IsOfTransaction, IsOfLeaf, Names, NamesLeaf, HasBoth, NoRecord, with_answer_kept}
 use Rattle.at_model.proofs.Drawing.{Holds, Leaves, as_before, one_transaction, one_leaf, one_activity, leaves, moved_kept, leaf_moved_kept, activity_moved_kept}
 use Rattle.at_model.proofs.Making.{next_numbers, makes_under_the_next_id}
 use Rattle.at_model.proofs.Shaping.{steps_touch_one, steps_keep_place}
@@ -114,31 +114,37 @@ step_drawn b e now landed h =
     left_drawn b now (step b e now landed) (steps_keep_place b e now landed) h (leaves (IsDrawn b) (IsDrawn b) b e now landed (holds b h))
 
 -- what is recorded is about a drawn id
-about_drawn : (b : Book) (id : Numbers) (r : Record) → IsDrawn b id → IsAbout id r → IsDrawnRecord b r
-about_drawn b id (records.Start n) h k = absurd k
-about_drawn b id (records.LeafPrepared i c key value) h k = subst (IsDrawn b) (sym k) h
-about_drawn b id (records.LeafCommitted i) h k = subst (IsDrawn b) (sym k) h
-about_drawn b id (records.LeafAborted i) h k = subst (IsDrawn b) (sym k) h
+about_drawn : (b : Book) (id : Numbers) (r : Record) → IsDrawn b id → IsOfTransaction id r → IsDrawnRecord b r
 about_drawn b id (records.Voted i s seats) h k = subst (IsDrawn b) (sym k) h
 about_drawn b id (records.Decided i seats) h k = subst (IsDrawn b) (sym k) h
 about_drawn b id (records.SubCommitted i) h k = subst (IsDrawn b) (sym k) h
 about_drawn b id (records.Ended i) h k = subst (IsDrawn b) (sym k) h
+about_drawn b id other h k = absurd k
 
-no_entry : (p : Plan) (o : Outcome) (r : Record) → p ≡ plain o → p.entry ≡ Some r → ⊥
+about_leaf_drawn : (b : Book) (id : Numbers) (r : Record) → IsDrawn b id → IsOfLeaf id r → IsDrawnRecord b r
+about_leaf_drawn b id (records.LeafPrepared i c key value) h k = subst (IsDrawn b) (sym k) h
+about_leaf_drawn b id (records.LeafCommitted i) h k = subst (IsDrawn b) (sym k) h
+about_leaf_drawn b id (records.LeafAborted i) h k = subst (IsDrawn b) (sym k) h
+about_leaf_drawn b id other h k = absurd k
+
+pub no_entry : (p : Plan) (o : Outcome) (r : Record) → p ≡ plain o → p.entry ≡ Some r → ⊥
 no_entry p o r e f = let g : p.entry ≡ None = ap (λ x. x.entry) e in cc
 
 entry_drawn : (b : Book) (e : Event) (now : ℕ) (p : Plan) (r : Record) → HoldsDrawn b → Shape b e now p → p.entry ≡ Some r → IsDrawnRecord b r
 entry_drawn b e now p r h (nothing_moves os o f) k = absurd (no_entry p _ r f k)
 entry_drawn b e now p r h (time_moves os o f) k = absurd (no_entry p _ r f k)
 entry_drawn b e now p r h (transaction_moves id t answer d stands how o f) k =
-    about_drawn b t.id r (all_find (λ x. IsDrawn b x.id) transaction_id id b.transactions t h.transactions stands)
-    (decided_entry (HasId t.id) (IsAbout t.id) b (put_transaction t.id (at_time now b)) answer (with_answer (moment_of b now) t d) r
-    (with_answer_kept t.id (moment_of b now) t d (moved_kept b e now t d how)) (sym (ap (λ x. x.entry) f) ∙ k))
+    decided_entry (HasId t.id) (Names t.id) (λ s o. IsDrawnRecord b s) b (put_transaction t.id (at_time now b)) answer (with_answer (moment_of b now) t d) r
+    (with_answer_kept t.id (moment_of b now) t d (moved_kept b e now t d how))
+    (λ s c i j. about_drawn b t.id s (all_find (λ x. IsDrawn b x.id) transaction_id id b.transactions t h.transactions stands) j)
+    (sym (ap (λ x. x.entry) f) ∙ k)
 entry_drawn b e now p r h (leaf_moves id l answer d stands how o f) k =
-    about_drawn b l.id r (all_find (λ x. IsDrawn b x.id) leaf_id id b.leaves l h.leaves stands)
-    (decided_entry (HasLeafId l.id) (IsAbout l.id) b (put_leaf l.id (at_time now b)) answer d r (leaf_moved_kept b e now l d how) (sym (ap (λ x. x.entry) f) ∙ k))
+    decided_entry (HasLeafId l.id) (NamesLeaf l.id) (λ s o. IsDrawnRecord b s) b (put_leaf l.id (at_time now b)) answer d r (leaf_moved_kept b e now l d how)
+    (λ s c i j. about_leaf_drawn b l.id s (all_find (λ x. IsDrawn b x.id) leaf_id id b.leaves l h.leaves stands) j)
+    (sym (ap (λ x. x.entry) f) ∙ k)
 entry_drawn b e now p r h (activity_moves id a answer d stands how o f) k =
-    absurd (decided_entry (HasBoth a) NoRecord b (put_activity a.id (at_time now b)) answer d r (activity_moved_kept b now a d how) (sym (ap (λ x. x.entry) f) ∙ k))
+    decided_entry (HasBoth a) NoRecord (λ s o. IsDrawnRecord b s) b (put_activity a.id (at_time now b)) answer d r (activity_moved_kept b now a d how)
+    (λ s c i j. absurd j) (sym (ap (λ x. x.entry) f) ∙ k)
 entry_drawn b e now p r h (transaction_registers id a c t stands came says o f) k = absurd (no_entry p _ r f k)
 entry_drawn b e now p r h (transaction_made a c id t os next made o f) k = absurd (no_entry p _ r f k)
 entry_drawn b e now p r h (leaf_made a w id l os came says next made o f) k = absurd (no_entry p _ r f k)

@@ -21,5 +21,6 @@ pub mod Settle
 pub mod Laws
 pub mod Shapes
 pub mod Drawn
+pub mod Behind
 pub mod Singles
 pub mod Rules

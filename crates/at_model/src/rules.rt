@@ -1,6 +1,7 @@
 //! Laws of steps and of recovery, over every book, event and journal.
 
 ghost use Rattle.at_model.specs.Laws.{StepsAnswerFirst, StepsKeepPlace, RecoversTheLive, IncarnationsRise, MakesUnderTheNextId};
+ghost use Rattle.at_model.specs.Behind.{DecidesBehindEveryAnswer};
 ghost use Rattle.at_model.specs.Drawn.{IdsStayDrawn, NoIdMadeTwice};
 ghost use Rattle.at_model.specs.Rules.{DecidesBehindAnswers, EndsAreUndone, VotesAreRecorded};
 ghost use Rattle.at_model.specs.Shapes.{StepsTouchOne};
@@ -65,4 +66,10 @@ pub fn ids_stay_drawn()
 #[tactic(auto, using(crate::proofs::Once::no_id_made_twice))]
 pub fn no_id_made_twice()
     ensures { NoIdMadeTwice }
+{}
+
+/// Over whole steps, a Decided or a Voted is made only behind every answer, volatile and durable.
+#[tactic(auto, using(crate::proofs::Standing::decides_behind_every_answer))]
+pub fn decides_behind_every_answer()
+    ensures { DecidesBehindEveryAnswer }
 {}
