@@ -8,6 +8,7 @@ pub mod Living
 pub mod Once
 pub mod Phasing
 pub mod Standing
+pub mod Bounding
 pub mod OneByOne
 pub mod Recording
 pub mod Making

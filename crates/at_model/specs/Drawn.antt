@@ -82,6 +82,11 @@ live_through base (Stepped e now landed) l = stepped e now landed l l.book
 live_through base Stopped l = record { journal = l.journal; book = None }
 live_through base (Started landed) l = come_up base landed l l.book
 
+-- the life behind these events
+abbrev pub life_of : List ℕ → List LifeEvent → Life → Life
+life_of base [] l = l
+life_of base (e ∷ es) l = life_of base es (live_through base e l)
+
 -- the ids of a book's items
 abbrev pub ids_of : Book → List Numbers
 ids_of b = map transaction_id b.transactions ++ (map leaf_id b.leaves ++ map activity_id b.activities)

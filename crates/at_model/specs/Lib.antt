@@ -22,5 +22,6 @@ pub mod Laws
 pub mod Shapes
 pub mod Drawn
 pub mod Behind
+pub mod Sound
 pub mod Singles
 pub mod Rules
