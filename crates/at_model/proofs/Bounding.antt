@@ -5,6 +5,7 @@ use Rattle.std.proofs.Common.{sym, subst, ap, inl, inr, suc, arith, ◌∙◌}
 use Rattle.at_base.specs.Numbers.{Numbers}
 use Rattle.at_base.specs.declared.epr.Epr.{Epr}
 use Rattle.at_base.specs.declared.epr.Reply.{Reply}
+use Rattle.at_base.specs.declared.epr.Reply.TheVariants as replies
 use Rattle.at_base.specs.declared.notice.Kind.{Kind}
 use Rattle.at_base.specs.declared.notice.Kind.TheVariants as kinds
 use Rattle.at_base.specs.declared.notice.Notice.{Notice}
@@ -44,6 +45,14 @@ use Rattle.at_tables.specs.declared.cells.State.{State}
 use Rattle.at_model.specs.Seats.{is_of, move_if, moved, prepared, seat_in}
 use Rattle.at_model.specs.Arrivals.{registered}
 use Rattle.std.proofs.lemmas.List.Elements.{All-from_recursion}
+use Rattle.std.proofs.lemmas.Bool.{ltb-true}
+use Rattle.std.proofs.Common.{length-append}
+use Rattle.at_base.specs.declared.message.Create.{Create}
+use Rattle.at_model.specs.Addresses.{atomic}
+use Rattle.at_model.specs.Register.{accepts, new_seat}
+use Rattle.at_model.specs.Create.{Creation, create_under, create_in, on_create, refuse_create}
+use Rattle.at_model.specs.Leaves.{Employment, leaf_prepares, refuse_work, work_for, on_work}
+use Rattle.at_model.proofs.Standing.{then_accepts, then_room}
 use Rattle.at_base.specs.IdText.{IsId}
 use Rattle.at_base.specs.WellFormed.{IsEndpoint, IsField, Rises, AreSeats, IsWellFormed}
 use Rattle.at_base.specs.declared.message.Work.{Work}
@@ -51,7 +60,7 @@ use Rattle.at_base.specs.declared.target.Target.TheVariants as targets
 use Rattle.at_model.specs.Book.{Link}
 use Rattle.at_model.specs.Seats.{seated, set_link, link_of, link_in, is_open, completed}
 use Rattle.at_model.specs.Abort.{without_links}
-use Rattle.at_model.proofs.Deciding.{DecisionHas, IfThere, either_has, either_change, with_answer_has}
+use Rattle.at_model.proofs.Deciding.{DecisionHas, IfThere, either_has, either_change, with_answer_has, all_join}
 use Rattle.at_model.specs.Sound.{IsSoundMessage, IfKnown, KnowsLinks, KnowsSuperior, AreNumbered, SeatsRise, IsPastAsking, IsPastPrepare, ArePastPrepare, IsSealed, IsBounded, IsSoundTransaction, IsSoundLeaf}
 
 -- seats that change their states alone
@@ -589,3 +598,109 @@ due_sound m t Over h = tt
 due_sound m t Unanswered h = record { bounds = h.bounds; numbers = h.numbers }
 due_sound m t Nothing h = h
 
+-- the answer to a request
+unrequested_known : (s : Option Superior) (x : Superior) → s ≡ Some x → KnowsSuperior s → KnowsLinks (request_answered x)
+unrequested_known s x e h = let k : KnowsLinks x = known_superior s x e h in record { volatile = k.volatile; durable = k.durable }
+
+unrequested_numbers : (phase : Phase) (s : Option Superior) (x : Superior) (c : Option Completion) (seats : List Enlistment) → s ≡ Some x → AreNumbered 0 seats ⊎ IsSealed phase s c seats
+    → AreNumbered 0 seats ⊎ IsSealed phase (Some (request_answered x)) c seats
+unrequested_numbers phase s x c seats e (inl h) = inl h
+unrequested_numbers phase s x c seats e (inr h) =
+    let k : ArePastPrepare (Some x) = subst ArePastPrepare e h.links in
+    inr (record { rise = h.rise; past_asking = h.past_asking; links = (k.0, k.1); no_initiator = h.no_initiator })
+
+unrequested_sound : (s : Superior) (t : Transaction) → t.superior ≡ Some s → IsSoundTransaction t → IsSoundTransaction (under (request_answered s) t)
+unrequested_sound s t e h = record {
+  bounds = bounds_under t.id t.superior (Some (request_answered s)) t.seats h.bounds (unrequested_known t.superior s e h.bounds.known);
+  numbers = unrequested_numbers t.phase t.superior s t.completion t.seats e h.numbers;
+}
+
+pub with_answer_sound : (m : Moment) (t : Transaction) (d : Decision Transaction) → Sound d → Sound (with_answer m t d)
+with_answer_sound m t d h = with_answer_has (IfThere IsSoundTransaction) WellFormed unrequested_sound (λ r s x e k. k) m t d h
+
+-- registration
+either_registered : (b : Bool) (x y : Registration) → (b ≡ true → IsSoundTransaction x.transaction) → (b ≡ false → IsSoundTransaction y.transaction)
+    → IsSoundTransaction (if b then x else y).transaction
+either_registered true x y h k = h refl
+either_registered false x y h k = k refl
+
+numbered_behind : (last : ℕ) (seats : List Enlistment) (s : Enlistment) → AreNumbered last seats → s.number ≡ last + length seats + 1 → AreNumbered last (seats ++ s ∷ [])
+numbered_behind last [] s h e = (omega (arith, e), tt)
+numbered_behind last (x ∷ xs) s (h, k) e = (h, numbered_behind (last + 1) xs s k (omega (arith, e)))
+
+participants_behind : (seats : List Enlistment) (s : Enlistment) → AllByRecursion (λ x. IsEndpoint x.participant) seats → IsEndpoint s.participant
+    → AllByRecursion (λ x. IsEndpoint x.participant) (seats ++ s ∷ [])
+participants_behind seats s h k = all_join (λ x. IsEndpoint x.participant) seats (s ∷ []) h (k, tt)
+
+room_for : (seats : List Enlistment) (s : Enlistment) → nat_lt (length seats) 64 ≡ true → length (seats ++ s ∷ []) ≤ 64
+room_for seats s e = omega (arith, ltb-true (length seats) 64 e, length-append seats (s ∷ []))
+
+accepting : (phase : Phase) → accepts phase ≡ true → IsPastAsking phase → ⊥
+accepting Phase.Registering e h = h
+accepting Phase.Active e h = h
+accepting Phase.Volatile e h = h
+accepting Phase.Durable e h = h
+accepting Phase.Voted e h = absurd cc
+accepting Phase.Committing e h = absurd cc
+accepting Phase.Aborting e h = absurd cc
+
+accept_sound : (m : Moment) (a : Arrived) (t : Transaction) (participant : Epr) (kind : Option Kind) → IsEndpoint participant → may_register t kind ≡ true → IsSoundTransaction t
+    → IsSoundTransaction (accept m a t participant kind).transaction
+unfolding accept
+accept_sound m a t participant (Some kind) w e h =
+    let n : Numbered t = still_numbered t t.phase refl (accepting t.phase (then_accepts t (Some kind) e)) h.bounds h.numbers in
+    record {
+      bounds = record {
+        own = h.bounds.own;
+        known = h.bounds.known;
+        most = room_for t.seats (new_seat t participant kind) (then_room t (Some kind) e);
+        participants = participants_behind t.seats (new_seat t participant kind) h.bounds.participants w;
+      };
+      numbers = inl (numbered_behind 0 t.seats (new_seat t participant kind) n.order (omega arith));
+    }
+accept_sound m a t participant None w e h =
+    let n : Numbered t = still_numbered t t.phase refl (accepting t.phase (then_accepts t None e)) h.bounds h.numbers in
+    record { bounds = h.bounds; numbers = inl n.order }
+
+register_new_sound : (m : Moment) (a : Arrived) (r : Register) (t : Transaction) (kind : Option (Option Kind)) → IsEndpoint r.participant → IsSoundTransaction t
+    → IsSoundTransaction (register_new m a r t kind).transaction
+unfolding register_new
+register_new_sound m a r t None w h = h
+register_new_sound m a r t (Some kind) w h =
+    either_registered (not a.postable) _ _ (λ e. h)
+    (λ e. either_registered (may_register t kind) _ _ (λ f. accept_sound m a t r.participant kind w f h) (λ f. h))
+
+register_again_sound : (m : Moment) (a : Arrived) (r : Register) (t : Transaction) (kind : Option (Option Kind)) (held : Option Epr) → IsEndpoint r.participant → IsSoundTransaction t
+    → IsSoundTransaction (register_again m a r t kind held).transaction
+unfolding register_again
+register_again_sound m a r t kind (Some coordinator) w h = h
+register_again_sound m a r t kind None w h = register_new_sound m a r t kind w h
+
+pub register_sound : (m : Moment) (a : Arrived) (r : Register) (t : Transaction) → IsEndpoint r.participant → IsSoundTransaction t → IsSoundTransaction (on_register m a r t).transaction
+unfolding on_register
+register_sound m a r t w h = register_again_sound m a r t (protocol_named r.protocol) (held_seat m r t (protocol_named r.protocol)) w h
+
+-- what is made
+either_created : (b : Bool) (x y : Creation) → IfThere IsSoundTransaction x.transaction → IfThere IsSoundTransaction y.transaction → IfThere IsSoundTransaction (if b then x else y).transaction
+either_created true x y h k = h
+either_created false x y h k = k
+
+under_sound : (m : Moment) (id : Numbers) (a : Arrived) (c : Create) (current : Context) (r : Reply) → IsId id → IfThere IsSoundTransaction (create_under m id a c current r).transaction
+unfolding create_under
+under_sound m id a c current (replies.At reply) h = record {
+  bounds = record { own = h; known = record { volatile = tt; durable = tt }; most = omega arith; participants = tt };
+  numbers = inl tt;
+}
+under_sound m id a c current replies.Anonymous h = tt
+under_sound m id a c current replies.Nobody h = tt
+
+in_sound : (m : Moment) (id : Numbers) (a : Arrived) (c : Create) (current : Option Context) → IsId id → IfThere IsSoundTransaction (create_in m id a c current).transaction
+unfolding create_in
+in_sound m id a c None h = record { bounds = record { own = h; known = tt; most = omega arith; participants = tt }; numbers = inl tt }
+in_sound m id a c (Some current) h = under_sound m id a c current a.reply h
+
+pub created_sound : (m : Moment) (live : ℕ) (a : Arrived) (c : Create) (id : Numbers) (t : Transaction) → IsId id → (on_create m live a c (Some id)).transaction ≡ Some t → IsSoundTransaction t
+unfolding on_create
+created_sound m live a c id t h e =
+    subst (IfThere IsSoundTransaction) e
+    (either_created (bytes_eq c.coordination atomic && nat_lt live 1024) (create_in m id a c c.current) (refuse_create a) (in_sound m id a c c.current h) tt)

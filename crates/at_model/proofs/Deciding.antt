@@ -124,35 +124,36 @@ all_map P f [] h = tt
 all_map P f (x ∷ xs) (h, k) = (h, all_map P f xs k)
 
 -- what a subordinate's answer to its request leaves of it: the transaction, with or without the request
-stands_has : (P : Option Transaction → Type 0) → ((s : Superior) (t : Transaction) → P (Some t) → P (Some (under s t))) → (m : Moment) (r : Request) (t : Transaction) (s : Superior)
-    (phase : Phase) (c : Change Transaction) → P (Some t) → P c.item → P (request_stands m r t s phase c).item
-stands_has P f m r t s Phase.Aborting c h k = f (request_answered s) t h
-stands_has P f m r t s other c h k =
+abbrev pub Unrequested : (Option Transaction → Type 0) → Type 0
+Unrequested P = (s : Superior) (t : Transaction) → t.superior ≡ Some s → P (Some t) → P (Some (under (request_answered s) t))
+
+stands_has : (P : Option Transaction → Type 0) → Unrequested P → (m : Moment) (r : Request) (t : Transaction) (s : Superior) (phase : Phase) (c : Change Transaction)
+    → t.superior ≡ Some s → P (Some t) → P c.item → P (request_stands m r t s phase c).item
+stands_has P f m r t s Phase.Aborting c e h k = f s t e h
+stands_has P f m r t s other c e h k =
     either_change P (is_registering s) c
     (record {
       item = Some (under (request_answered s) t);
       posts = c.posts ++ reply_post (Some r.reply) r.id (messages.CreateResponse (context_of m.base t r.expires)) ∷ [];
       effects = c.effects;
-    }) k (f (request_answered s) t h)
+    }) k (f s t e h)
 
-under_has : (P : Option Transaction → Type 0) → ((s : Superior) (t : Transaction) → P (Some t) → P (Some (under s t))) → (m : Moment) (r : Request) (t : Transaction)
-    (s : Option Superior) (c : Change Transaction) → P (Some t) → P c.item → P (request_under m r t s c).item
-under_has P f m r t None c h k = k
-under_has P f m r t (Some s) c h k = stands_has P f m r t s t.phase c h k
+under_has : (P : Option Transaction → Type 0) → Unrequested P → (m : Moment) (r : Request) (t : Transaction) (s : Option Superior) (c : Change Transaction)
+    → t.superior ≡ s → P (Some t) → P c.item → P (request_under m r t s c).item
+under_has P f m r t None c e h k = k
+under_has P f m r t (Some s) c e h k = stands_has P f m r t s t.phase c e h k
 
-left_has : (P : Option Transaction → Type 0) → ((s : Superior) (t : Transaction) → P (Some t) → P (Some (under s t))) → (m : Moment) (r : Request) (t : Option Transaction)
-    (c : Change Transaction) → P t → P c.item → P (request_left m r t c).item
+left_has : (P : Option Transaction → Type 0) → Unrequested P → (m : Moment) (r : Request) (t : Option Transaction) (c : Change Transaction) → P t → P c.item
+    → P (request_left m r t c).item
 left_has P f m r None c h k = h
-left_has P f m r (Some t) c h k = under_has P f m r t t.superior c h k
+left_has P f m r (Some t) c h k = under_has P f m r t t.superior c refl h k
 
-answer_has : (P : Option Transaction → Type 0) → ((s : Superior) (t : Transaction) → P (Some t) → P (Some (under s t))) → (m : Moment) (r : Option Request)
-    (c : Change Transaction) → P c.item → P (answer_request m r c).item
+answer_has : (P : Option Transaction → Type 0) → Unrequested P → (m : Moment) (r : Option Request) (c : Change Transaction) → P c.item → P (answer_request m r c).item
 answer_has P f m None c h = h
 answer_has P f m (Some r) c h = left_has P f m r c.item c h h
 
-pub with_answer_has : (P : Option Transaction → Type 0) (Q : Record → Option Transaction → Type 0) → ((s : Superior) (t : Transaction) → P (Some t) → P (Some (under s t)))
-    → ((r : Record) (s : Superior) (t : Transaction) → Q r (Some t) → Q r (Some (under s t))) → (m : Moment) (t : Transaction) (d : Decision Transaction)
-    → DecisionHas P Q d → DecisionHas P Q (with_answer m t d)
+pub with_answer_has : (P : Option Transaction → Type 0) (Q : Record → Option Transaction → Type 0) → Unrequested P → ((r : Record) → Unrequested (Q r))
+    → (m : Moment) (t : Transaction) (d : Decision Transaction) → DecisionHas P Q d → DecisionHas P Q (with_answer m t d)
 with_answer_has P Q f g m t d h =
     both_have P Q (answer_request m (request_of t.superior)) (λ c k. answer_has P f m (request_of t.superior) c k)
     (λ r c k. answer_has (Q r) (g r) m (request_of t.superior) c k) d h

@@ -242,7 +242,7 @@ due_kept id m t Unanswered h = h
 due_kept id m t Nothing h = h
 
 pub with_answer_kept : (id : Numbers) (m : Moment) (t : Transaction) (d : Decision Transaction) → Kept id d → Kept id (with_answer m t d)
-with_answer_kept id m t d h = with_answer_has (HasId id) (Names id) (λ s x k. k) (λ r s x k. k) m t d h
+with_answer_kept id m t d h = with_answer_has (HasId id) (Names id) (λ s x e k. k) (λ r s x e k. k) m t d h
 
 -- registration
 either_registered : (id : Numbers) (b : Bool) (x y : Registration) → x.transaction.id ≡ id → y.transaction.id ≡ id → (if b then x else y).transaction.id ≡ id

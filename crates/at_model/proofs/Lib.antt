@@ -9,6 +9,8 @@ pub mod Once
 pub mod Phasing
 pub mod Standing
 pub mod Bounding
+pub mod BoundingLeaves
+pub mod Sounding
 pub mod OneByOne
 pub mod Recording
 pub mod Making

@@ -398,4 +398,4 @@ stands_under : (old : Transaction) (s : Superior) (t : Transaction) → Stands o
 stands_under old s t h = record { own = h.own; accepted = h.accepted; behind = h.behind }
 
 pub with_answer_fine : (old : Transaction) (m : Moment) (t : Transaction) (d : Decision Transaction) → Fine old d → Fine old (with_answer m t d)
-with_answer_fine old m t d h = with_answer_has (IfThere (Stands old)) (IsBehind old) (stands_under old) (behind_under old) m t d h
+with_answer_fine old m t d h = with_answer_has (IfThere (Stands old)) (IsBehind old) (λ s x e k. stands_under old (request_answered s) x k) (λ r s x e k. behind_under old r (request_answered s) x k) m t d h

@@ -76,6 +76,14 @@ pub then_accepts : (t : Transaction) (kind : Option Kind) → may_register t kin
 then_accepts t kind e =
     first_true (accepts t.phase) (nat_lt (length t.seats) 64) (first_true (accepts t.phase && nat_lt (length t.seats) 64) (may_complete t kind) e)
 
+second_true : (a b : Bool) → (a && b) ≡ true → b ≡ true
+second_true true b e = e
+second_true false b e = absurd cc
+
+pub then_room : (t : Transaction) (kind : Option Kind) → may_register t kind ≡ true → nat_lt (length t.seats) 64 ≡ true
+then_room t kind e =
+    second_true (accepts t.phase) (nat_lt (length t.seats) 64) (first_true (accepts t.phase && nat_lt (length t.seats) 64) (may_complete t kind) e)
+
 accept_stands : (m : Moment) (a : Arrived) (t : Transaction) (participant : Epr) (kind : Option Kind) → accepts t.phase ≡ true → InPhase t → InPhase (accept m a t participant kind).transaction
 unfolding accept
 accept_stands m a t participant (Some kind) e h = accepting t.phase _ e

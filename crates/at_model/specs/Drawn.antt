@@ -1,12 +1,18 @@
 -- Ids over a node's life: each id that it holds was drawn, and none is made twice.
-use Rattle.std.specs.Prelude.{ℕ, List, [], ◌∷◌, ◌++◌, Option, Some, None, Bool, not, nat_lt, ◌&&◌, ◌+◌, if◌then◌else◌, map, filter, ◌≡◌, ◌≤◌}
+use Rattle.std.specs.Prelude.{ℕ, List, [], ◌∷◌, ◌++◌, Option, Some, None, Bool, not, nat_lt, ◌&&◌, ◌+◌, if◌then◌else◌, map, filter, codes, ◌≡◌, ◌≤◌, refl, true, false}
 use Rattle.std.specs.List.{list_any, AllByRecursion}
 use Rattle.at_base.specs.Numbers.{Numbers}
 use Rattle.at_base.specs.declared.record.Record.{Record}
 use Rattle.at_base.specs.declared.record.Record.TheVariants as records
+use Rattle.at_base.specs.declared.event.Local.TheVariants as locals
 use Rattle.at_base.specs.declared.event.Event.{Event}
+use Rattle.at_base.specs.declared.event.Event.TheVariants as events
 use Rattle.at_model.specs.Book.{Book, Transaction, Leaf, Activity, is_id, transaction_id, leaf_id, activity_id, last_counter}
-use Rattle.at_model.specs.Step.{Outcome, Plan, plan, branch, step}
+use Rattle.at_model.specs.Activities.{on_begin}
+use Rattle.at_model.specs.Step.{request_plan, plan, step}
+use Rattle.sha1.specs.Sha1.{sha1, first_words, schedule, rounds, compress, hash_after, digest_bytes}
+use Rattle.uuid.specs.Text.{by_index}
+use Rattle.std.specs.Fmt.{digits}
 use Rattle.at_model.specs.Recover.{last_incarnation, recover}
 use Rattle.at_model.specs.Agreement.{IsIn}
 use Rattle.at_model.specs.Laws.{IsDrawn}
@@ -120,3 +126,19 @@ AreApart (id ∷ rest) = (IsIn id rest → ⊥) × AreApart rest
 -- No node makes an id twice, however often it stops and starts.
 abbrev pub NoIdMadeTwice : Type 0
 NoIdMadeTwice = (base : List ℕ) (es : List LifeEvent) → AreApart (made_through base es newborn)
+
+-- A begun activity on each side of a stop: two ids.
+abbrev pub two_lives : List LifeEvent
+two_lives =
+    Started true
+    ∷ Stepped (events.Local (locals.Begin (codes "http://c") 0)) 5 true
+    ∷ Stopped
+    ∷ Started false
+    ∷ Started true
+    ∷ Stepped (events.Local (locals.Begin (codes "http://c") 0)) 7 true ∷ []
+
+pub makes_two :
+    made_through (codes "http://a") two_lives newborn
+    ≡ record { incarnation = 1; counter = 1 } ∷ record { incarnation = 2; counter = 1 } ∷ []
+unfolding request_plan on_begin sha1 first_words schedule rounds compress hash_after digest_bytes by_index digits
+makes_two = refl

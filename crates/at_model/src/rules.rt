@@ -3,6 +3,7 @@
 ghost use Rattle.at_model.specs.Laws.{StepsAnswerFirst, StepsKeepPlace, RecoversTheLive, IncarnationsRise, MakesUnderTheNextId};
 ghost use Rattle.at_model.specs.Behind.{DecidesBehindEveryAnswer};
 ghost use Rattle.at_model.specs.Drawn.{IdsStayDrawn, NoIdMadeTwice};
+ghost use Rattle.at_model.specs.Sound.{RecordsAreWellFormed};
 ghost use Rattle.at_model.specs.Rules.{DecidesBehindAnswers, EndsAreUndone, VotesAreRecorded};
 ghost use Rattle.at_model.specs.Shapes.{StepsTouchOne};
 
@@ -72,4 +73,10 @@ pub fn no_id_made_twice()
 #[tactic(auto, using(crate::proofs::Standing::decides_behind_every_answer))]
 pub fn decides_behind_every_answer()
     ensures { DecidesBehindEveryAnswer }
+{}
+
+/// A record that a step of a sound book makes is well-formed, and the book stays sound.
+#[tactic(auto, using(crate::proofs::Sounding::records_are_well_formed))]
+pub fn records_are_well_formed()
+    ensures { RecordsAreWellFormed }
 {}
