@@ -1,66 +1,35 @@
 -- What a sound leaf becomes is sound, and what it records is well-formed.
-use Rattle.std.specs.Prelude.{ℕ, List, [], ◌∷◌, ◌++◌, Option, Some, None, Bool, true, false, refl, if◌then◌else◌, not, ◌&&◌, ◌||◌, bytes_eq, nat_eq, nat_lt, ◌+◌, ◌^◌, length, map, filter, find, option_map, is_none, ◌≡◌, ◌≤◌, ◌<◌, ◌⊎◌}
-use Rattle.std.specs.List.{list_any, AllByRecursion}
-use Rattle.std.proofs.Common.{sym, subst, ap, inl, inr, suc, arith, ◌∙◌}
+use Rattle.std.specs.Prelude.{ℕ, List, Option, Some, None, Bool, true, false, if◌then◌else◌, nat_lt, ◌≡◌}
+use Rattle.std.proofs.Common.{subst}
 use Rattle.at_base.specs.Numbers.{Numbers}
 use Rattle.at_base.specs.declared.epr.Epr.{Epr}
 use Rattle.at_base.specs.declared.epr.Reply.{Reply}
 use Rattle.at_base.specs.declared.epr.Reply.TheVariants as replies
 use Rattle.at_base.specs.declared.notice.Kind.{Kind}
 use Rattle.at_base.specs.declared.notice.Kind.TheVariants as kinds
-use Rattle.at_base.specs.declared.notice.Notice.{Notice}
-use Rattle.at_base.specs.declared.notice.Notice.TheVariants as notices
 use Rattle.at_base.specs.declared.notice.Vote.{Vote}
 use Rattle.at_base.specs.declared.notice.Vote.TheVariants as votes
 use Rattle.at_base.specs.declared.message.Message.{Message}
 use Rattle.at_base.specs.declared.message.Message.TheVariants as messages
-use Rattle.at_base.specs.declared.message.Context.{Context}
-use Rattle.at_base.specs.declared.message.Register.{Register}
 use Rattle.at_base.specs.declared.record.Record.{Record}
-use Rattle.at_base.specs.declared.record.Record.TheVariants as records
 use Rattle.at_base.specs.declared.event.Arrived.{Arrived}
-use Rattle.at_base.specs.declared.event.Event.{Event}
 use Rattle.at_base.specs.declared.event.Moment.{Moment}
-use Rattle.at_base.specs.declared.outs.Told.TheVariants as tellings
 use Rattle.at_tables.specs.declared.cells.State.TheVariants as states
 use Rattle.at_tables.specs.declared.cells.Act.{Act}
 use Rattle.at_tables.specs.declared.cells.Act.TheVariants as acts
 use Rattle.at_tables.specs.declared.cells.Cell.{Cell}
-use Rattle.at_tables.specs.Names.{is_kind, is_state}
-use Rattle.at_tables.specs.Tables.{coordinator_of, participant_of, completion_of, initiator_of}
-use Rattle.at_model.specs.Book.{Book, Transaction, Leaf, Activity, Enlistment, Completion, Superior, Request, WorkRequest, Phase, Progress}
-use Rattle.at_model.specs.Addresses.{register_id}
-use Rattle.at_model.specs.Posts.{reply_post}
-use Rattle.at_model.specs.Moves.{Moving, Change, Decision, Goes, Records, begin, posts, effect, become, stays, forgotten, ignored, in_both}
-use Rattle.at_model.specs.Seats.{answered, all_left, in_state, is_prepared_durable, in_phase, under}
-use Rattle.at_model.specs.Abort.{Reason, Alone, Asked, Faulted, until_rolled_back, abort}
-use Rattle.at_model.specs.Phases.{decided, root_answered, voted, sub_answered, durable_answered, if_durable_answered, prepare_seats, commit_seats, go_durable, volatile_answered, all_committed, advance_in, advance, go_volatile}
-use Rattle.at_model.specs.Arrivals.{seat_act, seat_notice, commit_voted, link_act, link_notice, completion_act, completion_notice, relates_to, link_registered, link_fault, on_link, on_seat, on_completion, request_stands, request_under, is_registering, request_answered, context_of, request_left, answer_request, with_answer, asked}
-use Rattle.at_model.specs.Register.{Registration, accept, refuse_register, register_new, register_again, on_register, may_register, protocol_named, held_seat}
-use Rattle.at_model.specs.Leaves.{leaf_votes, leaf_records_vote, leaf_commit, leaf_roll_back, leaf_act, leaf_notice, answers_leaf, leaf_registered, leaf_refused, drops_leaf, leaf_fault, on_leaf}
-use Rattle.at_model.specs.Activities.{is_begun, told, activity_target, activity_act, activity_notice, with_context, activity_created, activity_registered, activity_fault, on_activity, activity_state, on_ask, on_complete}
-use Rattle.at_model.specs.Due.{Reached, Expired, Over, Unanswered, Nothing, transaction_reached, leaf_reached, leaf_expires, activity_reached}
-use Rattle.at_base.specs.declared.record.Seated.{Seated}
-use Rattle.at_tables.specs.declared.cells.State.{State}
-use Rattle.at_model.specs.Seats.{is_of, move_if, moved, prepared, seat_in}
-use Rattle.at_model.specs.Arrivals.{registered}
-use Rattle.std.proofs.lemmas.List.Elements.{All-from_recursion}
-use Rattle.std.proofs.lemmas.Bool.{ltb-true}
-use Rattle.std.proofs.Common.{length-append}
-use Rattle.at_base.specs.declared.message.Create.{Create}
-use Rattle.at_model.specs.Addresses.{atomic}
-use Rattle.at_model.specs.Register.{accepts, new_seat}
-use Rattle.at_model.specs.Create.{Creation, create_under, create_in, on_create, refuse_create}
+use Rattle.at_tables.specs.Names.{is_state}
+use Rattle.at_tables.specs.Tables.{participant_of}
+use Rattle.at_model.specs.Book.{Leaf}
+use Rattle.at_model.specs.Moves.{Decision, ignored}
+use Rattle.at_model.specs.Leaves.{leaf_votes, leaf_records_vote, leaf_commit, leaf_roll_back, leaf_act, leaf_notice, answers_leaf, leaf_registered, drops_leaf, leaf_fault, on_leaf}
+use Rattle.at_model.specs.Due.{Reached, Expired, Over, Unanswered, Nothing, leaf_reached, leaf_expires}
 use Rattle.at_model.specs.Leaves.{Employment, leaf_prepares, refuse_work, work_for, on_work}
 use Rattle.at_base.specs.IdText.{IsId}
-use Rattle.at_base.specs.WellFormed.{IsEndpoint, IsField, Rises, AreSeats, IsWellFormed}
+use Rattle.at_base.specs.WellFormed.{IsEndpoint, IsField, IsWellFormed}
 use Rattle.at_base.specs.declared.message.Work.{Work}
-use Rattle.at_base.specs.declared.target.Target.TheVariants as targets
-use Rattle.at_model.specs.Book.{Link}
-use Rattle.at_model.specs.Seats.{seated, set_link, link_of, link_in, is_open, completed}
-use Rattle.at_model.specs.Abort.{without_links}
-use Rattle.at_model.proofs.Deciding.{DecisionHas, IfThere, either_has, either_change, with_answer_has, all_join}
-use Rattle.at_model.specs.Sound.{IsSoundMessage, IfKnown, KnowsLinks, KnowsSuperior, AreNumbered, SeatsRise, IsPastAsking, IsPastPrepare, ArePastPrepare, IsSealed, IsBounded, IsSoundTransaction, IsSoundLeaf}
+use Rattle.at_model.proofs.Deciding.{DecisionHas, IfThere, either_has, either_change}
+use Rattle.at_model.specs.Sound.{IsSoundMessage, IfKnown, IsSoundLeaf}
 
 -- leaves
 abbrev pub LeafWell : Record → Option Leaf → Type 0

@@ -1,31 +1,23 @@
 -- Each id that a book holds stays drawn, and a step makes one new id at most.
-use Rattle.std.specs.Prelude.{ℕ, List, [], ◌∷◌, ◌++◌, Option, Some, None, Bool, true, false, not, nat_eq, nat_lt, ◌&&◌, ◌||◌, ◌+◌, if◌then◌else◌, map, filter, length, ◌≡◌, ◌≤◌, ◌<◌, ◌⊎◌, refl}
-use Rattle.std.specs.List.{list_any, AllByRecursion}
-use Rattle.std.proofs.Common.{inl, inr, sym, subst, ap, arith, ◌∙◌}
+use Rattle.std.specs.Prelude.{ℕ, List, Option, Some, None, Bool, not, length, ◌≡◌, ◌⊎◌, refl}
+use Rattle.std.specs.List.{AllByRecursion}
+use Rattle.std.proofs.Common.{inl, inr, sym, subst, ap, ◌∙◌}
 use Rattle.at_base.specs.Numbers.{Numbers}
-use Rattle.at_base.specs.declared.record.Record.{Record}
-use Rattle.at_base.specs.declared.record.Record.TheVariants as records
 use Rattle.at_base.specs.declared.event.Event.{Event}
 use Rattle.at_base.specs.declared.event.Moment.{Moment}
-use Rattle.at_base.specs.declared.event.Arrived.{Arrived}
-use Rattle.at_base.specs.declared.message.Create.{Create}
-use Rattle.at_base.specs.declared.message.Work.{Work}
 use Rattle.at_base.specs.declared.outs.Out.{Out}
-use Rattle.at_model.specs.Book.{Book, Transaction, Leaf, Activity, is_id, find_by, put_by, transaction_id, leaf_id, activity_id, next_id, last_counter}
-use Rattle.at_model.specs.Moves.{Change, Decision}
+use Rattle.at_model.specs.Book.{Book, Transaction, Leaf, Activity, put_by, transaction_id, leaf_id, activity_id, next_id}
+use Rattle.at_model.specs.Moves.{Decision}
 use Rattle.at_model.specs.Arrivals.{with_answer}
 use Rattle.at_model.specs.Register.{on_register}
-use Rattle.at_model.specs.Create.{on_create}
-use Rattle.at_model.specs.Leaves.{on_work}
 use Rattle.at_model.specs.Activities.{on_begin, on_interpose}
-use Rattle.at_model.specs.Step.{Outcome, Plan, plain, still, at_time, moment_of, is_under, put_transaction, put_leaf, put_activity, put_activities, make_transaction, make_leaf, make_activity, outcome_of, plan_of, registration_outcome, plan, branch, step, transaction_at, leaf_at, activity_at}
-use Rattle.at_model.specs.Laws.{IsDrawn, HasId, HasLeafId, KeepsPlace, MakesUnderTheNextId}
-use Rattle.at_model.specs.Drawn.{AreDrawn, HoldsDrawn, IsDrawnRecord, ids_of, is_among, new_ids}
+use Rattle.at_model.specs.Step.{Outcome, Plan, still, at_time, moment_of, is_under, put_transaction, put_leaf, put_activity, put_activities, make_transaction, make_leaf, make_activity, registration_outcome, plan, step}
+use Rattle.at_model.specs.Laws.{HasId, HasLeafId}
 use Rattle.at_model.specs.Shapes.{MovesTransaction, MovesLeaf, MovesActivity, MakesActivity, Shape, at_seat, at_link, at_completion, when_due, at_leaf, leaf_when_due, at_activity, activity_when_due, works, completes, begins, interposes, nothing_moves, time_moves, transaction_moves, leaf_moves, activity_moves, transaction_registers, transaction_made, leaf_made, activity_made}
-use Rattle.at_model.proofs.Deciding.{Both, in_branch, plain_both, DecisionHas, IfThere, decided_both, decided_entry, all_find, all_put, all_filter, all_join, all_more}
-use Rattle.at_model.proofs.Keeping.{Names, NamesLeaf, Kept, LeafKept, IsSame, HasBoth, NoRecord, ActivityKept, seat_kept, link_kept, completion_kept, due_kept, with_answer_kept, register_kept, leaf_kept, leaf_due_kept, activity_kept, activity_due_kept, asks_kept, completes_kept}
+use Rattle.at_model.proofs.Deciding.{Both, in_branch, plain_both, IfThere, decided_both, all_find, all_put, all_filter}
+use Rattle.at_model.proofs.Keeping.{Names, NamesLeaf, Kept, LeafKept, HasBoth, NoRecord, ActivityKept, seat_kept, link_kept, completion_kept, due_kept, with_answer_kept, register_kept, leaf_kept, leaf_due_kept, activity_kept, activity_due_kept, asks_kept, completes_kept}
 use Rattle.at_model.proofs.Making.{makes_under_the_next_id}
-use Rattle.at_model.proofs.Shaping.{steps_touch_one, steps_keep_place}
+use Rattle.at_model.proofs.Shaping.{steps_touch_one}
 
 -- each way to move keeps the id
 pub moved_kept : (b : Book) (e : Event) (now : ℕ) (t : Transaction) (d : Decision Transaction) → MovesTransaction b e now t d → Kept t.id d

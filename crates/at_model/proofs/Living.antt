@@ -1,5 +1,5 @@
 -- Ids stay drawn over steps and starts, so no node makes one twice.
-use Rattle.std.specs.Prelude.{ℕ, List, [], ◌∷◌, ◌++◌, Option, Some, None, Bool, true, false, not, nat_eq, nat_lt, ◌&&◌, ◌||◌, ◌+◌, if◌then◌else◌, map, filter, length, max, ◌≡◌, ◌≤◌, ◌<◌, ◌⊎◌, refl}
+use Rattle.std.specs.Prelude.{ℕ, List, [], ◌∷◌, Some, None, Bool, true, false, ◌+◌, if◌then◌else◌, ◌≡◌, ◌≤◌, ◌<◌, ◌⊎◌, refl}
 use Rattle.std.specs.List.{list_any, AllByRecursion}
 use Rattle.std.proofs.Common.{inl, inr, sym, subst, ap, arith, ◌∙◌}
 use Rattle.at_base.specs.Numbers.{Numbers}
@@ -8,22 +8,19 @@ use Rattle.at_base.specs.declared.record.Seated.{Seated}
 use Rattle.at_base.specs.declared.record.Record.{Record}
 use Rattle.at_base.specs.declared.record.Record.TheVariants as records
 use Rattle.at_base.specs.declared.event.Event.{Event}
-use Rattle.at_base.specs.declared.outs.Out.{Out}
-use Rattle.at_model.specs.Book.{Book, Transaction, Leaf, Activity, is_id, transaction_id, leaf_id, activity_id, next_id, last_counter}
-use Rattle.at_model.specs.Moves.{Change, Decision}
+use Rattle.at_model.specs.Book.{Book, Transaction, Leaf, Activity, transaction_id, leaf_id, next_id}
 use Rattle.at_model.specs.Arrivals.{with_answer}
-use Rattle.at_model.specs.Step.{Outcome, Plan, plain, still, at_time, moment_of, put_transaction, put_leaf, put_activity, make_transaction, make_leaf, make_activity, plan_of, plan, step}
-use Rattle.at_model.specs.Recover.{live, kept, with_commit, last_incarnation, incarnation_of, ends_leaf, ends_transaction, is_sub_committed, transactions_of, leaves_of, is_before, insert_by, in_order, recover, recovered_transactions, recovered_leaves, recovered_voted, recovered_decided, recovered_leaf}
-use Rattle.at_model.specs.Agreement.{IsIn}
+use Rattle.at_model.specs.Step.{Outcome, Plan, plain, at_time, moment_of, put_transaction, put_leaf, put_activity, make_transaction, make_leaf, make_activity, plan, step}
+use Rattle.at_model.specs.Recover.{live, kept, with_commit, last_incarnation, incarnation_of, ends_leaf, ends_transaction, is_sub_committed, transactions_of, leaves_of, is_before, insert_by, in_order, recover, recovered_voted}
 use Rattle.at_model.specs.Laws.{IsDrawn, HasId, HasLeafId, KeepsPlace}
-use Rattle.at_model.specs.Drawn.{AreDrawn, HoldsDrawn, IsDrawnRecord, restarted, IdsStayDrawn, Life, LifeEvent, Stepped, Stopped, Started, newborn, with_entry, live_through, come_up, ids_of, is_among, new_ids, made_in, made_through, AreApart, NoIdMadeTwice}
+use Rattle.at_model.specs.Drawn.{AreDrawn, HoldsDrawn, IsDrawnRecord, restarted, IdsStayDrawn}
 use Rattle.at_model.specs.Shapes.{Shape, nothing_moves, time_moves, transaction_moves, leaf_moves, activity_moves, transaction_registers, transaction_made, leaf_made, activity_made}
-use Rattle.at_model.proofs.Deciding.{decided_entry, all_find, all_if, all_join, all_more, all_both, all_map}
+use Rattle.at_model.proofs.Deciding.{decided_entry, all_find, all_if, all_join, all_more, all_both}
 use Rattle.at_model.proofs.Keeping.{IsOfTransaction, IsOfLeaf, Names, NamesLeaf, HasBoth, NoRecord, with_answer_kept}
 use Rattle.at_model.proofs.Drawing.{Holds, Leaves, as_before, one_transaction, one_leaf, one_activity, leaves, moved_kept, leaf_moved_kept, activity_moved_kept}
-use Rattle.at_model.proofs.Making.{next_numbers, makes_under_the_next_id}
+use Rattle.at_model.proofs.Making.{next_numbers}
 use Rattle.at_model.proofs.Shaping.{steps_touch_one, steps_keep_place}
-use Rattle.at_model.proofs.Recovering.{self_id, incarnations_rise}
+use Rattle.at_model.proofs.Recovering.{incarnations_rise}
 
 -- drawn stays drawn
 pub drawn_on : (b c : Book) → KeepsPlace b c → (id : Numbers) → IsDrawn b id → IsDrawn c id
@@ -62,10 +59,11 @@ made_drawn b c e f id i next same = subst (IsDrawn c) (sym same) (last_drawn b c
 
 all_on : (b c : Book) → c.incarnation ≡ b.incarnation → c.counter ≡ b.counter + 1 → HoldsDrawn b
     → AllByRecursion (λ t. IsDrawn c t.id) b.transactions × AllByRecursion (λ l. IsDrawn c l.id) b.leaves × AllByRecursion (AreDrawn c) b.activities
-all_on b c e f h =
-    (all_more (λ t. IsDrawn b t.id) (λ t. IsDrawn c t.id) b.transactions (λ t. one_more b c e f t.id) h.transactions,
-    all_more (λ l. IsDrawn b l.id) (λ l. IsDrawn c l.id) b.leaves (λ l. one_more b c e f l.id) h.leaves,
-    all_more (AreDrawn b) (AreDrawn c) b.activities (λ a k. both_drawn c a (one_more b c e f a.id k.own) (one_more b c e f a.root k.root)) h.activities)
+all_on b c e f h = (
+  all_more (λ t. IsDrawn b t.id) (λ t. IsDrawn c t.id) b.transactions (λ t. one_more b c e f t.id) h.transactions,
+  all_more (λ l. IsDrawn b l.id) (λ l. IsDrawn c l.id) b.leaves (λ l. one_more b c e f l.id) h.leaves,
+  all_more (AreDrawn b) (AreDrawn c) b.activities (λ a k. both_drawn c a (one_more b c e f a.id k.own) (one_more b c e f a.root k.root)) h.activities,
+)
 
 one_transaction_drawn : (b : Book) (now : ℕ) (id : Numbers) (t : Transaction) → HoldsDrawn b → next_id b ≡ Some id → t.id ≡ id → HoldsDrawn (make_transaction (at_time now b) t)
 one_transaction_drawn b now id t h next same =
@@ -159,9 +157,11 @@ all_live P (r ∷ rest) commits (h, k) = all_join P (kept r rest) (live rest) (k
     maybe : (P : Record → Type 0) (b : Bool) (xs : List Record) → AllByRecursion P xs → AllByRecursion P (if b then [] else xs)
     maybe P true xs h = tt
     maybe P false xs h = h
+
     maybe_one : (P : Record → Type 0) (b : Bool) (r : Record) → P r → AllByRecursion P (if b then r ∷ [] else [])
     maybe_one P true r h = (h, tt)
     maybe_one P false r h = tt
+
     kept_one : (P : Record → Type 0) (r : Record) (rest : List Record)
         → ((id : Numbers) (superior : Epr) (seats : List Seated) → P (records.Voted id superior seats) → P (records.SubCommitted id))
         → P r → AllByRecursion P (kept r rest)
@@ -286,4 +286,3 @@ ids_stay_drawn = record {
   recovered = recovered_drawn;
   journal = journal_drawn;
 }
-

@@ -1,16 +1,16 @@
 -- No node makes an id twice.
-use Rattle.std.specs.Prelude.{ℕ, List, [], ◌∷◌, ◌++◌, Option, Some, None, Bool, true, false, not, nat_lt, ◌&&◌, ◌||◌, ◌+◌, if◌then◌else◌, map, filter, max, ◌≡◌, ◌≤◌, ◌<◌, ◌⊎◌, refl}
+use Rattle.std.specs.Prelude.{ℕ, List, [], ◌∷◌, ◌++◌, Option, Some, None, Bool, true, false, not, nat_lt, ◌&&◌, ◌||◌, ◌+◌, if◌then◌else◌, map, filter, ◌≡◌, ◌≤◌, ◌⊎◌, refl}
 use Rattle.std.specs.List.{AllByRecursion}
 use Rattle.std.proofs.Common.{inl, inr, sym, subst, ap, arith, ◌∙◌}
 use Rattle.at_base.specs.Numbers.{Numbers}
 use Rattle.at_base.specs.declared.record.Record.{Record}
 use Rattle.at_base.specs.declared.event.Event.{Event}
-use Rattle.at_model.specs.Book.{Book, Transaction, Leaf, Activity, is_id, transaction_id, leaf_id, activity_id, next_id, last_counter}
+use Rattle.at_model.specs.Book.{Book, Activity, is_id, transaction_id, leaf_id, activity_id, next_id, last_counter}
 use Rattle.at_model.specs.Step.{Outcome, at_time, make_transaction, make_leaf, make_activity, plan, step}
-use Rattle.at_model.specs.Recover.{last_incarnation, incarnation_of, recover}
+use Rattle.at_model.specs.Recover.{last_incarnation, recover}
 use Rattle.at_model.specs.Agreement.{IsIn}
 use Rattle.at_model.specs.Laws.{IsDrawn, KeepsPlace}
-use Rattle.at_model.specs.Drawn.{HoldsDrawn, restarted, Life, LifeEvent, Stepped, Stopped, Started, newborn, with_entry, live_through, come_up, ids_of, is_among, new_ids, made_in, made_through, AreApart, NoIdMadeTwice}
+use Rattle.at_model.specs.Drawn.{HoldsDrawn, restarted, Life, LifeEvent, Stepped, Stopped, Started, newborn, with_entry, live_through, ids_of, is_among, new_ids, made_in, made_through, AreApart, NoIdMadeTwice}
 use Rattle.at_model.proofs.Deciding.{all_join, all_more, all_map}
 use Rattle.at_model.proofs.Drawing.{Holds, Leaves, as_before, one_transaction, one_leaf, one_activity, leaves}
 use Rattle.at_model.proofs.Living.{step_drawn, recovered_drawn, drawn_on, made_drawn}
@@ -49,9 +49,10 @@ any_root (x ∷ xs) = (tt, any_root xs)
 all_among : {A : Type 0} (key : A → Numbers) (ids : List Numbers) (xs : List A) → ((i : Numbers) → is_among (map key xs) i ≡ true → is_among ids i ≡ true)
     → AllByRecursion (λ x. is_among ids (key x) ≡ true) xs
 all_among key ids [] f = tt
-all_among key ids (x ∷ xs) f =
-    (f (key x) (or_left (is_id (key x) (key x)) (is_among (map key xs) (key x)) (self_id (key x))),
-    all_among key ids xs (λ i h. f i (or_right (is_id i (key x)) (is_among (map key xs) i) h)))
+all_among key ids (x ∷ xs) f = (
+  f (key x) (or_left (is_id (key x) (key x)) (is_among (map key xs) (key x)) (self_id (key x))),
+  all_among key ids xs (λ i h. f i (or_right (is_id i (key x)) (is_among (map key xs) i) h)),
+)
 
 held_all : (b : Book) → Holds (λ i. is_among (ids_of b) i ≡ true) (λ i. Unit {0}) b
 held_all b = record {

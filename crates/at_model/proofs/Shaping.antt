@@ -33,14 +33,14 @@ use Rattle.at_tables.specs.Tables.{coordinator_of, participant_of, completion_of
 use Rattle.at_model.specs.Book.{Book, Transaction, Leaf, Activity, Enlistment, Completion, Superior, next_id}
 use Rattle.at_model.specs.Addresses.{atomic}
 use Rattle.at_model.specs.Posts.{accepted, replied, faulted, invalid_protocol, invalid_parameters, cannot_create, cannot_register}
-use Rattle.at_model.specs.Moves.{Change, Decision, Goes, Records}
+use Rattle.at_model.specs.Moves.{Change, Goes}
 use Rattle.at_model.specs.Register.{protocol_named, Registration, seat_endpoint, completion_endpoint, may_register, is_late, new_seat, late_prepare, accept, refuse_register, register_new, register_again, held_seat, on_register, register_unknown}
 use Rattle.at_model.specs.Create.{new_root, Creation, refuse_create, create_under, create_in, on_create}
 use Rattle.at_model.specs.Arrivals.{on_link, on_seat, on_completion, context_of, with_answer}
 use Rattle.at_model.specs.Leaves.{on_leaf, Employment, refuse_work, work_for, on_work}
-use Rattle.at_model.specs.Activities.{on_activity, Refusal, Beginning, on_begin, on_interpose, on_ask, on_complete}
+use Rattle.at_model.specs.Activities.{on_activity, Refusal, on_begin, on_interpose, on_ask, on_complete}
 use Rattle.at_model.specs.Due.{transaction_due, transaction_reached, leaf_due, leaf_reached, activity_due, activity_reached}
-use Rattle.at_model.specs.Step.{Outcome, Plan, plain, still, at_time, moment_of, put_transaction, put_leaf, put_activity, make_transaction, make_leaf, make_activity, outcome_of, plan_of, transaction_plan, leaf_plan, stranger_cell, nothing, stranger_plan, created_plan, activation_plan, registration_plan, registration_outcome, completion_seat_plan, completion_plan, find_seat, seat_plan, coordinator_plan, leaf_or_stranger_plan, link_plan, participant_plan, initiator_plan, employed_plan, work_plan, transaction_at, leaf_at, activity_at, arrived_plan, refuses, begun_plan, begin_plan, interpose_plan, asking_plan, request_plan, local_plan, transaction_due_plan, leaf_due_plan, activity_due_plan, due_plan, plan, branch}
+use Rattle.at_model.specs.Step.{Outcome, Plan, plain, still, at_time, moment_of, put_transaction, put_leaf, put_activity, make_transaction, make_leaf, make_activity, leaf_plan, stranger_cell, nothing, stranger_plan, created_plan, activation_plan, registration_plan, registration_outcome, completion_seat_plan, completion_plan, find_seat, seat_plan, coordinator_plan, leaf_or_stranger_plan, link_plan, participant_plan, initiator_plan, employed_plan, work_plan, transaction_at, leaf_at, activity_at, arrived_plan, refuses, begin_plan, interpose_plan, asking_plan, request_plan, local_plan, transaction_due_plan, leaf_due_plan, activity_due_plan, due_plan, plan}
 use Rattle.at_model.specs.Laws.{ArePosts, IsOrdered, StepsAnswerFirst, KeepsPlace, StepsKeepPlace}
 use Rattle.at_model.specs.Shapes.{IsAnswer, MovesActivity, at_seat, at_link, at_completion, when_due, at_leaf, leaf_when_due, at_activity, activity_when_due, works, completes, begins, interposes, Shape, StepsTouchOne, nothing_moves, time_moves, transaction_moves, leaf_moves, activity_moves, transaction_registers, transaction_made, leaf_made, activity_made}
 use Rattle.at_model.proofs.Deciding.{Both, in_branch, plain_both, decision_both}

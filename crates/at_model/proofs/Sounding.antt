@@ -1,14 +1,13 @@
 -- A step of a sound book makes a well-formed record and leaves a sound book; so does a start.
-use Rattle.std.specs.Prelude.{ℕ, List, [], ◌∷◌, ◌++◌, Option, Some, None, Bool, true, false, ◌&&◌, nat_lt, if◌then◌else◌, ◌+◌, ◌^◌, length, map, ◌≡◌, ◌≤◌, ◌<◌, ◌⊎◌, refl}
+use Rattle.std.specs.Prelude.{ℕ, List, [], ◌∷◌, Option, Some, None, Bool, true, false, ◌&&◌, nat_lt, if◌then◌else◌, ◌+◌, length, map, ◌≡◌, ◌≤◌, ◌<◌, refl}
 use Rattle.std.specs.List.{list_any, AllByRecursion}
-use Rattle.std.proofs.Common.{sym, subst, ap, arith, inl, inr, suc, ◌∙◌}
+use Rattle.std.proofs.Common.{sym, subst, ap, arith, inr, suc, ◌∙◌}
 use Rattle.std.proofs.lemmas.Bool.{ltb-true}
 use Rattle.std.proofs.lemmas.List.Elements.{recursion_from_All}
 use Rattle.at_base.specs.Numbers.{Numbers}
 use Rattle.at_base.specs.IdText.{IsId}
 use Rattle.at_base.specs.WellFormed.{IsEndpoint, IsField, Rises, AreSeats, IsWellFormed}
 use Rattle.at_base.specs.declared.epr.Epr.{Epr}
-use Rattle.at_base.specs.declared.message.Message.{Message}
 use Rattle.at_base.specs.declared.message.Message.TheVariants as messages
 use Rattle.at_base.specs.declared.message.Register.{Register}
 use Rattle.at_base.specs.declared.message.Work.{Work}
@@ -18,16 +17,15 @@ use Rattle.at_base.specs.declared.record.Record.TheVariants as records
 use Rattle.at_base.specs.declared.event.Arrived.{Arrived}
 use Rattle.at_base.specs.declared.event.Event.{Event}
 use Rattle.at_base.specs.declared.event.Event.TheVariants as events
-use Rattle.at_base.specs.declared.event.Moment.{Moment}
 use Rattle.at_tables.specs.declared.cells.State.{State}
 use Rattle.at_tables.specs.declared.cells.State.TheVariants as states
-use Rattle.at_model.specs.Book.{Book, Transaction, Leaf, Activity, Enlistment, transaction_id, leaf_id, next_id, last_counter}
-use Rattle.at_model.specs.Moves.{Change, Decision}
+use Rattle.at_model.specs.Book.{Book, Transaction, Leaf, transaction_id, leaf_id, next_id, last_counter}
+use Rattle.at_model.specs.Moves.{Decision}
 use Rattle.at_model.specs.Arrivals.{with_answer}
 use Rattle.at_model.specs.Register.{on_register}
-use Rattle.at_model.specs.Step.{Outcome, Plan, plain, still, at_time, moment_of, put_transaction, put_leaf, put_activity, make_transaction, make_leaf, make_activity, outcome_of, plan_of, registration_outcome, plan, branch, step, transaction_at, leaf_at}
+use Rattle.at_model.specs.Step.{Outcome, Plan, still, at_time, moment_of, put_transaction, put_leaf, put_activity, make_transaction, make_leaf, make_activity, registration_outcome, plan, step}
 use Rattle.at_model.specs.Recover.{live, is_sub_committed, transactions_of, leaves_of, recovered_seat, recovered_voted, recovered_decided, recover, last_incarnation}
-use Rattle.at_model.specs.Drawn.{restarted, Life, LifeEvent, Stepped, Stopped, Started, newborn, with_entry, live_through, come_up, life_of}
+use Rattle.at_model.specs.Drawn.{restarted, Life, LifeEvent, Stepped, Stopped, Started, newborn, with_entry, live_through, life_of}
 use Rattle.at_model.specs.Sound.{IsSoundMessage, IsSoundEvent, SeatsRise, IsSoundTransaction, IsSoundLeaf, IsSound, AreSoundEvents, RecordsAreWellFormed}
 use Rattle.at_model.specs.Shapes.{MovesTransaction, MovesLeaf, Shape, at_seat, at_link, at_completion, when_due, at_leaf, leaf_when_due, nothing_moves, time_moves, transaction_moves, leaf_moves, activity_moves, transaction_registers, transaction_made, leaf_made, activity_made}
 use Rattle.at_model.proofs.Deciding.{Both, in_branch, plain_both, decision_both, IfThere, decided_both, decided_entry, all_find, all_put, all_join}
@@ -277,6 +275,7 @@ at_start base rs true f h = record {
   where
     least : (n m : ℕ) → m ≡ n + 1 → 1 ≤ m
     least n m e = omega (arith, e)
+
     most : (n m : ℕ) → m ≡ n + 1 → n < last_counter → m ≤ last_counter
     most n m e h = omega (arith, e, h)
 

@@ -1,5 +1,5 @@
 -- Over steps and recovery each transaction stays behind the answers of its phase, and decides only behind all of them.
-use Rattle.std.specs.Prelude.{ℕ, List, [], ◌∷◌, ◌++◌, Option, Some, None, Bool, true, false, not, ◌&&◌, ◌||◌, nat_lt, if◌then◌else◌, length, map, bytes_eq, ◌≡◌, refl}
+use Rattle.std.specs.Prelude.{ℕ, List, [], ◌∷◌, Option, Some, None, Bool, true, false, not, ◌&&◌, nat_lt, if◌then◌else◌, length, map, bytes_eq, ◌≡◌, refl}
 use Rattle.std.specs.List.{list_any, AllByRecursion}
 use Rattle.std.proofs.Common.{sym, subst, ap, ◌∙◌}
 use Rattle.at_base.specs.Numbers.{Numbers}
@@ -18,24 +18,23 @@ use Rattle.at_base.specs.declared.event.Arrived.{Arrived}
 use Rattle.at_base.specs.declared.event.Event.{Event}
 use Rattle.at_base.specs.declared.event.Moment.{Moment}
 use Rattle.at_base.specs.declared.outs.Out.{Out}
-use Rattle.at_tables.specs.declared.cells.State.{State}
 use Rattle.at_tables.specs.declared.cells.State.TheVariants as states
 use Rattle.at_model.specs.Book.{Book, Transaction, Enlistment, Phase, is_id, find_by, put_by, transaction_id}
 use Rattle.at_model.specs.Addresses.{atomic}
 use Rattle.at_model.specs.Moves.{Change, Decision}
 use Rattle.at_model.specs.Seats.{answered}
 use Rattle.at_model.specs.Arrivals.{with_answer}
-use Rattle.at_model.specs.Register.{Registration, accepts, may_complete, may_register, accept, refuse_register, register_new, register_again, on_register, protocol_named, held_seat}
+use Rattle.at_model.specs.Register.{Registration, accepts, may_complete, may_register, accept, register_new, register_again, on_register, protocol_named, held_seat}
 use Rattle.at_model.specs.Create.{Creation, create_under, create_in, on_create, refuse_create}
-use Rattle.at_model.specs.Step.{Outcome, Plan, plain, still, at_time, moment_of, put_transaction, put_leaf, put_activity, make_transaction, make_leaf, make_activity, outcome_of, plan_of, registration_outcome, plan, branch, step, transaction_at}
-use Rattle.at_model.specs.Recover.{live, is_sub_committed, transactions_of, recovered_seat, recovered_voted, recovered_decided, recover}
+use Rattle.at_model.specs.Step.{Outcome, Plan, still, at_time, moment_of, put_transaction, put_leaf, put_activity, make_transaction, make_leaf, make_activity, outcome_of, registration_outcome, plan, step, transaction_at}
+use Rattle.at_model.specs.Recover.{live, is_sub_committed, transactions_of, recovered_seat, recovered_voted, recover}
 use Rattle.at_model.specs.Behind.{StandsBehind, IsInPhase, HasDecided, HasVoted, Passed, DecidesBehindEveryAnswer}
 use Rattle.at_model.specs.Shapes.{MovesTransaction, Shape, at_seat, at_link, at_completion, when_due, nothing_moves, time_moves, transaction_moves, leaf_moves, activity_moves, transaction_registers, transaction_made, leaf_made, activity_made}
 use Rattle.at_model.proofs.Deciding.{Both, in_branch, plain_both, decision_both, IfThere, decided_both, decided_entry, all_find, all_put, all_join}
 use Rattle.at_model.proofs.Keeping.{IsOfLeaf, NamesLeaf, HasBoth, NoRecord}
 use Rattle.at_model.proofs.Drawing.{leaf_moved_kept, activity_moved_kept}
 use Rattle.at_model.proofs.Living.{all_in_order, no_entry}
-use Rattle.at_model.proofs.Phasing.{is_unanswered, Fine, Stands, IsBehind, AtDecided, AtVoted, seat_fine, link_fine, completion_fine, due_fine, with_answer_fine}
+use Rattle.at_model.proofs.Phasing.{Fine, Stands, IsBehind, AtDecided, AtVoted, seat_fine, link_fine, completion_fine, due_fine, with_answer_fine}
 use Rattle.at_model.proofs.Shaping.{steps_touch_one}
 use Rattle.at_model.proofs.Recovering.{self_id, same_id}
 use Rattle.at_model.specs.Laws.{HasLeafId}

@@ -7,7 +7,7 @@ use Rattle.at_base.specs.declared.record.Record.TheVariants as records
 use Rattle.at_base.specs.declared.event.Local.TheVariants as locals
 use Rattle.at_base.specs.declared.event.Event.{Event}
 use Rattle.at_base.specs.declared.event.Event.TheVariants as events
-use Rattle.at_model.specs.Book.{Book, Transaction, Leaf, Activity, is_id, transaction_id, leaf_id, activity_id, last_counter}
+use Rattle.at_model.specs.Book.{Book, Activity, is_id, transaction_id, leaf_id, activity_id, last_counter}
 use Rattle.at_model.specs.Activities.{on_begin}
 use Rattle.at_model.specs.Step.{request_plan, plan, step}
 use Rattle.sha1.specs.Sha1.{sha1, first_words, schedule, rounds, compress, hash_after, digest_bytes}
