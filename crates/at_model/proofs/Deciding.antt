@@ -33,55 +33,77 @@ decision_both P b put answer (Records r c None) h k = record { landed = h c; abs
 decision_both P b put answer (Records r c (Some d)) h k = record { landed = h c; absent = h d }
 
 -- where the record is absent
-abbrev pub AbsentHas : {A : Type 0} → (Option A → Type 0) → Option (Change A) → Type 0
-AbsentHas P None = Unit {0}
-AbsentHas P (Some c) = P c.item
+abbrev pub AbsentSays : {A : Type 0} → (Change A → Type 0) → Option (Change A) → Type 0
+AbsentSays P None = Unit {0}
+AbsentSays P (Some c) = P c
 
-pub record RecordsHave {A : Type 0} (P : Option A → Type 0) (Q : Record → Option A → Type 0) (r : Record) (c : Change A) (absent : Option (Change A)) : Type 0 where
-  pub entry : Q r c.item
-  pub landed : P c.item
-  pub otherwise : AbsentHas P absent
+pub record RecordsSay {A : Type 0} (P : Change A → Type 0) (Q : Record → Change A → Type 0) (r : Record) (c : Change A) (absent : Option (Change A)) : Type 0 where
+  pub entry : Q r c
+  pub landed : P c
+  pub otherwise : AbsentSays P absent
 
+abbrev pub DecisionSays : {A : Type 0} → (Change A → Type 0) → (Record → Change A → Type 0) → Decision A → Type 0
+DecisionSays P Q (Goes c) = P c
+DecisionSays P Q (Records r c absent) = RecordsSay P Q r c absent
+
+-- the same of the item alone
 abbrev pub DecisionHas : {A : Type 0} → (Option A → Type 0) → (Record → Option A → Type 0) → Decision A → Type 0
-DecisionHas P Q (Goes c) = P c.item
-DecisionHas P Q (Records r c absent) = RecordsHave P Q r c absent
+DecisionHas P Q d = DecisionSays (λ c. P c.item) (λ r c. Q r c.item) d
 
 -- a property of an item that is still there
 abbrev pub IfThere : {A : Type 0} → (A → Type 0) → Option A → Type 0
 IfThere P None = Unit {0}
 IfThere P (Some a) = P a
 
-pub decided_both : {A : Type 0} (P : Option A → Type 0) (Q : Record → Option A → Type 0) (R : Outcome → Type 0) (b : Book) (put : Option A → Book) (answer : List Out) (d : Decision A)
-    → DecisionHas P Q d → ((c : Change A) → P c.item → R (outcome_of put answer c)) → R (still b answer) → Both R (plan_of b put answer d)
-decided_both P Q R b put answer (Goes c) h j k = plain_both R (outcome_of put answer c) (j c h)
-decided_both P Q R b put answer (Records r c None) h j k = record { landed = j c h.landed; absent = k }
-decided_both P Q R b put answer (Records r c (Some d)) h j k = record { landed = j c h.landed; absent = j d h.otherwise }
+pub decided_says : {A : Type 0} (P : Change A → Type 0) (Q : Record → Change A → Type 0) (R : Outcome → Type 0) (b : Book) (put : Option A → Book) (answer : List Out)
+    (d : Decision A) → DecisionSays P Q d → ((c : Change A) → P c → R (outcome_of put answer c)) → R (still b answer) → Both R (plan_of b put answer d)
+decided_says P Q R b put answer (Goes c) h j k = plain_both R (outcome_of put answer c) (j c h)
+decided_says P Q R b put answer (Records r c None) h j k = record { landed = j c h.landed; absent = k }
+decided_says P Q R b put answer (Records r c (Some d)) h j k = record { landed = j c h.landed; absent = j d h.otherwise }
+
+pub decided_both : {A : Type 0} (P : Option A → Type 0) (Q : Record → Option A → Type 0) (R : Outcome → Type 0) (b : Book) (put : Option A → Book) (answer : List Out)
+    (d : Decision A) → DecisionHas P Q d → ((c : Change A) → P c.item → R (outcome_of put answer c)) → R (still b answer) → Both R (plan_of b put answer d)
+decided_both P Q R b put answer d h j k = decided_says (λ c. P c.item) (λ r c. Q r c.item) R b put answer d h j k
 
 no_entry : (o : Option Record) (r : Record) → o ≡ None → o ≡ Some r → ⊥
 no_entry o r e f = cc
 
+pub says_entry : {A : Type 0} (P : Change A → Type 0) (Q : Record → Change A → Type 0) (R : Record → Outcome → Type 0) (b : Book) (put : Option A → Book) (answer : List Out)
+    (d : Decision A) (r : Record) → DecisionSays P Q d → ((s : Record) (c : Change A) → P c → Q s c → R s (outcome_of put answer c))
+    → (plan_of b put answer d).entry ≡ Some r → R r (plan_of b put answer d).landed
+says_entry P Q R b put answer (Goes c) r h f e = absurd (no_entry None r refl e)
+says_entry P Q R b put answer (Records s c absent) r h f e =
+    let same : s ≡ r = cc in
+    subst (λ x. R x (outcome_of put answer c)) same (f s c h.landed h.entry)
+
 pub decided_entry : {A : Type 0} (P : Option A → Type 0) (Q : Record → Option A → Type 0) (R : Record → Outcome → Type 0) (b : Book) (put : Option A → Book) (answer : List Out)
     (d : Decision A) (r : Record) → DecisionHas P Q d → ((s : Record) (c : Change A) → P c.item → Q s c.item → R s (outcome_of put answer c))
     → (plan_of b put answer d).entry ≡ Some r → R r (plan_of b put answer d).landed
-decided_entry P Q R b put answer (Goes c) r h f e = absurd (no_entry None r refl e)
-decided_entry P Q R b put answer (Records s c absent) r h f e = let same : s ≡ r = cc in subst (λ x. R x (outcome_of put answer c)) same (f s c h.landed h.entry)
+decided_entry P Q R b put answer d r h f e = says_entry (λ c. P c.item) (λ s c. Q s c.item) R b put answer d r h f e
 
 -- the same, where both branches are changed alike
-pub both_have : {A : Type 0} (P : Option A → Type 0) (Q : Record → Option A → Type 0) (f : Change A → Change A) → ((c : Change A) → P c.item → P (f c).item)
-    → ((r : Record) (c : Change A) → Q r c.item → Q r (f c).item) → (d : Decision A) → DecisionHas P Q d → DecisionHas P Q (in_both f d)
-both_have P Q f h q (Goes c) k = h c k
-both_have P Q f h q (Records r c None) k = record { entry = q r c k.entry; landed = h c k.landed; otherwise = tt }
-both_have P Q f h q (Records r c (Some d)) k = record { entry = q r c k.entry; landed = h c k.landed; otherwise = h d k.otherwise }
+pub both_say : {A : Type 0} (P : Change A → Type 0) (Q : Record → Change A → Type 0) (f : Change A → Change A) → ((c : Change A) → P c → P (f c))
+    → ((r : Record) (c : Change A) → Q r c → Q r (f c)) → (d : Decision A) → DecisionSays P Q d → DecisionSays P Q (in_both f d)
+both_say P Q f h q (Goes c) k = h c k
+both_say P Q f h q (Records r c None) k = record { entry = q r c k.entry; landed = h c k.landed; otherwise = tt }
+both_say P Q f h q (Records r c (Some d)) k = record { entry = q r c k.entry; landed = h c k.landed; otherwise = h d k.otherwise }
 
 -- both sides of a test
+pub either_says : {A : Type 0} (P : Change A → Type 0) (Q : Record → Change A → Type 0) (b : Bool) (d e : Decision A)
+    → (b ≡ true → DecisionSays P Q d) → (b ≡ false → DecisionSays P Q e) → DecisionSays P Q (if b then d else e)
+either_says P Q true d e h k = h refl
+either_says P Q false d e h k = k refl
+
 pub either_has : {A : Type 0} (P : Option A → Type 0) (Q : Record → Option A → Type 0) (b : Bool) (d e : Decision A)
     → (b ≡ true → DecisionHas P Q d) → (b ≡ false → DecisionHas P Q e) → DecisionHas P Q (if b then d else e)
-either_has P Q true d e h k = h refl
-either_has P Q false d e h k = k refl
+either_has P Q b d e h k = either_says (λ c. P c.item) (λ r c. Q r c.item) b d e h k
+
+pub either_left : {A : Type 0} (P : Change A → Type 0) (b : Bool) (c d : Change A) → P c → P d → P (if b then c else d)
+either_left P true c d h k = h
+either_left P false c d h k = k
 
 pub either_change : {A : Type 0} (P : Option A → Type 0) (b : Bool) (c d : Change A) → P c.item → P d.item → P (if b then c else d).item
-either_change P true c d h k = h
-either_change P false c d h k = k
+either_change P b c d h k = either_left (λ x. P x.item) b c d h k
 
 -- lists by id
 found_if : {A : Type 0} (P : A → Type 0) (b : Bool) (x y : A) (o : Option A) → P x → (o ≡ Some y → P y) → (if b then Some x else o) ≡ Some y → P y
@@ -148,12 +170,35 @@ left_has : (P : Option Transaction → Type 0) → Unrequested P → (m : Moment
 left_has P f m r None c h k = h
 left_has P f m r (Some t) c h k = under_has P f m r t t.superior c refl h k
 
-answer_has : (P : Option Transaction → Type 0) → Unrequested P → (m : Moment) (r : Option Request) (c : Change Transaction) → P c.item → P (answer_request m r c).item
+pub answer_has : (P : Option Transaction → Type 0) → Unrequested P → (m : Moment) (r : Option Request) (c : Change Transaction) → P c.item → P (answer_request m r c).item
 answer_has P f m None c h = h
 answer_has P f m (Some r) c h = left_has P f m r c.item c h h
 
 pub with_answer_has : (P : Option Transaction → Type 0) (Q : Record → Option Transaction → Type 0) → Unrequested P → ((r : Record) → Unrequested (Q r))
     → (m : Moment) (t : Transaction) (d : Decision Transaction) → DecisionHas P Q d → DecisionHas P Q (with_answer m t d)
 with_answer_has P Q f g m t d h =
-    both_have P Q (answer_request m (request_of t.superior)) (λ c k. answer_has P f m (request_of t.superior) c k)
+    both_say (λ c. P c.item) (λ r c. Q r c.item) (answer_request m (request_of t.superior)) (λ c k. answer_has P f m (request_of t.superior) c k)
     (λ r c k. answer_has (Q r) (g r) m (request_of t.superior) c k) d h
+
+-- and what happened stays as it was
+stands_effects : (m : Moment) (r : Request) (t : Transaction) (s : Superior) (phase : Phase) (c : Change Transaction) → (request_stands m r t s phase c).effects ≡ c.effects
+stands_effects m r t s Phase.Aborting c = refl
+stands_effects m r t s other c =
+    either_left (λ x. x.effects ≡ c.effects) (is_registering s) c
+    (record {
+      item = Some (under (request_answered s) t);
+      posts = c.posts ++ reply_post (Some r.reply) r.id (messages.CreateResponse (context_of m.base t r.expires)) ∷ [];
+      effects = c.effects;
+    }) refl refl
+
+under_effects : (m : Moment) (r : Request) (t : Transaction) (s : Option Superior) (c : Change Transaction) → (request_under m r t s c).effects ≡ c.effects
+under_effects m r t None c = refl
+under_effects m r t (Some s) c = stands_effects m r t s t.phase c
+
+left_effects : (m : Moment) (r : Request) (t : Option Transaction) (c : Change Transaction) → (request_left m r t c).effects ≡ c.effects
+left_effects m r None c = refl
+left_effects m r (Some t) c = under_effects m r t t.superior c
+
+pub answer_effects : (m : Moment) (r : Option Request) (c : Change Transaction) → (answer_request m r c).effects ≡ c.effects
+answer_effects m None c = refl
+answer_effects m (Some r) c = left_effects m r c.item c

@@ -7,6 +7,7 @@ pub mod Drawing
 pub mod Living
 pub mod Once
 pub mod Phasing
+pub mod Telling
 pub mod Standing
 pub mod Bounding
 pub mod BoundingLeaves

@@ -28,13 +28,19 @@ use Rattle.at_model.specs.Register.{Registration, accepts, may_complete, may_reg
 use Rattle.at_model.specs.Create.{Creation, create_under, create_in, on_create, refuse_create}
 use Rattle.at_model.specs.Step.{Outcome, Plan, still, at_time, moment_of, put_transaction, put_leaf, put_activity, make_transaction, make_leaf, make_activity, outcome_of, registration_outcome, plan, step, transaction_at}
 use Rattle.at_model.specs.Recover.{live, is_sub_committed, transactions_of, recovered_seat, recovered_voted, recover}
-use Rattle.at_model.specs.Behind.{StandsBehind, IsInPhase, HasDecided, HasVoted, Passed, DecidesBehindEveryAnswer}
+use Rattle.at_model.specs.Behind.{StandsBehind, IsInPhase, HasDecided, HasVoted, HasCommitted, Passed, DecidesBehindEveryAnswer}
 use Rattle.at_model.specs.Shapes.{MovesTransaction, Shape, at_seat, at_link, at_completion, when_due, nothing_moves, time_moves, transaction_moves, leaf_moves, activity_moves, transaction_registers, transaction_made, leaf_made, activity_made}
-use Rattle.at_model.proofs.Deciding.{Both, in_branch, plain_both, decision_both, IfThere, decided_both, decided_entry, all_find, all_put, all_join}
+use Rattle.at_model.proofs.Deciding.{Both, in_branch, plain_both, decision_both, IfThere, decided_says, says_entry, decided_entry, all_find, all_put, all_join}
 use Rattle.at_model.proofs.Keeping.{IsOfLeaf, NamesLeaf, HasBoth, NoRecord}
 use Rattle.at_model.proofs.Drawing.{leaf_moved_kept, activity_moved_kept}
 use Rattle.at_model.proofs.Living.{all_in_order, no_entry}
-use Rattle.at_model.proofs.Phasing.{Fine, Stands, IsBehind, AtDecided, AtVoted, seat_fine, link_fine, completion_fine, due_fine, with_answer_fine}
+use Rattle.at_model.proofs.Phasing.{IsTold, CommitsBehind, Left, Fine, Stands, IsBehind, AtDecided, AtVoted, seat_fine, link_fine, completion_fine, due_fine, with_answer_fine}
+use Rattle.at_model.proofs.Telling.{IsOther, Tells, Anything, leaf_moved_other, activity_moved_other}
+use Rattle.std.proofs.Common.{inl, inr}
+use Rattle.at_base.specs.declared.outs.Effect.{Effect}
+use Rattle.at_base.specs.declared.outs.Effect.TheVariants as effects
+use Rattle.at_base.specs.declared.outs.Ending.TheVariants as endings
+use Rattle.at_model.specs.Agreement.{IsIn}
 use Rattle.at_model.proofs.Shaping.{steps_touch_one}
 use Rattle.at_model.proofs.Recovering.{self_id, same_id}
 use Rattle.at_model.specs.Laws.{HasLeafId}
@@ -44,7 +50,7 @@ moved_fine : (b : Book) (e : Event) (now : ℕ) (t : Transaction) (d : Decision 
 moved_fine b e now t d h (at_seat a s came is) =
     with_answer_fine t (moment_of b now) t d (subst (Fine t) (sym is) (seat_fine (moment_of b now) a t s a.message h))
 moved_fine b e now t d h (at_link a kind s came under is) =
-    with_answer_fine t (moment_of b now) t d (subst (Fine t) (sym is) (link_fine (moment_of b now) a kind t s a.message h))
+    with_answer_fine t (moment_of b now) t d (subst (Fine t) (sym is) (link_fine (moment_of b now) a kind t s a.message under h))
 moved_fine b e now t d h (at_completion a c came there is) =
     with_answer_fine t (moment_of b now) t d (subst (Fine t) (sym is) (completion_fine (moment_of b now) a t c a.message h))
 moved_fine b e now t d h (when_due is) =
@@ -141,9 +147,9 @@ phase_both b e now p h (nothing_moves os o f) = subst (Both KeepsPhase) (sym f) 
 phase_both b e now p h (time_moves os o f) = subst (Both KeepsPhase) (sym f) (plain_both KeepsPhase (still (at_time now b) os) h)
 phase_both b e now p h (transaction_moves id t answer d stands how o f) =
     subst (Both KeepsPhase) (sym f)
-    (decided_both (IfThere (Stands t)) (IsBehind t) KeepsPhase b (put_transaction t.id (at_time now b)) answer (with_answer (moment_of b now) t d)
+    (decided_says (Left t) (λ r c. IsBehind t r c.item) KeepsPhase b (put_transaction t.id (at_time now b)) answer (with_answer (moment_of b now) t d)
     (moved_fine b e now t d (all_find InPhase transaction_id id b.transactions t h stands) how)
-    (λ c k. all_put InPhase transaction_id t.id c.item b.transactions (left_stands t c.item k) h) h)
+    (λ c k. all_put InPhase transaction_id t.id c.item b.transactions (left_stands t c.item k.item) h) h)
 phase_both b e now p h (leaf_moves id l answer d stands how o f) =
     subst (Both KeepsPhase) (sym f) (decision_both KeepsPhase b (put_leaf l.id (at_time now b)) answer d (λ c. h) h)
 phase_both b e now p h (activity_moves id a answer d stands how o f) =
@@ -257,9 +263,9 @@ shape_passes b e now p r h (nothing_moves os o f) k = absurd (no_entry p _ r f k
 shape_passes b e now p r h (time_moves os o f) k = absurd (no_entry p _ r f k)
 shape_passes b e now p r h (transaction_moves id t answer d stands how o f) k =
     subst (λ x. IsPassed b r x.landed) (sym f)
-    (decided_entry (IfThere (Stands t)) (IsBehind t) (IsPassed b) b (put_transaction t.id (at_time now b)) answer (with_answer (moment_of b now) t d) r
+    (says_entry (Left t) (λ s c. IsBehind t s c.item) (IsPassed b) b (put_transaction t.id (at_time now b)) answer (with_answer (moment_of b now) t d) r
     (moved_fine b e now t d (all_find InPhase transaction_id id b.transactions t h stands) how)
-    (entry_passes b now id t answer stands) (sym (ap (λ x. x.entry) f) ∙ k))
+    (λ s c i j. entry_passes b now id t answer stands s c i.item j) (sym (ap (λ x. x.entry) f) ∙ k))
 shape_passes b e now p r h (leaf_moves id l answer d stands how o f) k =
     subst (λ x. IsPassed b r x.landed) (sym f)
     (decided_entry (HasLeafId l.id) (NamesLeaf l.id) (IsPassed b) b (put_leaf l.id (at_time now b)) answer d r (leaf_moved_kept b e now l d how)
@@ -273,10 +279,69 @@ shape_passes b e now p r h (transaction_made a c id t os next made o f) k = absu
 shape_passes b e now p r h (leaf_made a w id l os came says next made o f) k = absurd (no_entry p _ r f k)
 shape_passes b e now p r h (activity_made id a os next made o f) k = absurd (no_entry p _ r f k)
 
+-- what a step tells
+TellsBehind : Book → Outcome → Type 0
+TellsBehind b o = (id : Numbers) → IsIn (effects.Root id endings.Committed) o.effects → HasCommitted b id
+
+nothing_told : (b : Book) (o : Outcome) → o.effects ≡ [] → TellsBehind b o
+unfolding TellsBehind
+nothing_told b o e id i = absurd (subst (IsIn (effects.Root id endings.Committed)) e i)
+
+committed_of : (b : Book) (named id : Numbers) (t : Transaction) → transaction_at b named ≡ Some t → CommitsBehind t id → HasCommitted b id
+committed_of b named id t found h =
+    let own : t.id ≡ named = found_id named b.transactions t found in
+    record { old = t; stood = subst (λ x. transaction_at b x ≡ Some t) (sym (h.own ∙ own)) found; at = h.at; behind = h.behind }
+
+told_behind : (b : Book) (named : Numbers) (t : Transaction) (es : List Effect) → transaction_at b named ≡ Some t → AllByRecursion (IsTold t) es → (id : Numbers)
+    → IsIn (effects.Root id endings.Committed) es → HasCommitted b id
+told_behind b named t [] found h id i = absurd i
+told_behind b named t (x ∷ xs) found (h, k) id (inl e) = committed_of b named id t found (subst (IsTold t) (sym e) h)
+told_behind b named t (x ∷ xs) found (h, k) id (inr i) = told_behind b named t xs found k id i
+
+other_behind : (b : Book) (es : List Effect) → AllByRecursion IsOther es → (id : Numbers) → IsIn (effects.Root id endings.Committed) es → HasCommitted b id
+other_behind b [] h id i = absurd i
+other_behind b (x ∷ xs) (h, k) id (inl e) = absurd (subst IsOther (sym e) h)
+other_behind b (x ∷ xs) (h, k) id (inr i) = other_behind b xs k id i
+
+tells_both : (b : Book) (e : Event) (now : ℕ) (p : Plan) → IsInPhase b → Shape b e now p → Both (TellsBehind b) p
+unfolding TellsBehind
+tells_both b e now p h (nothing_moves os o f) = subst (Both (TellsBehind b)) (sym f) (plain_both (TellsBehind b) (still b os) (nothing_told b (still b os) refl))
+tells_both b e now p h (time_moves os o f) =
+    subst (Both (TellsBehind b)) (sym f) (plain_both (TellsBehind b) (still (at_time now b) os) (nothing_told b (still (at_time now b) os) refl))
+tells_both b e now p h (transaction_moves id t answer d stands how o f) =
+    subst (Both (TellsBehind b)) (sym f)
+    (decided_says (Left t) (λ r c. IsBehind t r c.item) (TellsBehind b) b (put_transaction t.id (at_time now b)) answer (with_answer (moment_of b now) t d)
+    (moved_fine b e now t d (all_find InPhase transaction_id id b.transactions t h stands) how)
+    (λ c k. told_behind b id t c.effects stands k.told) (nothing_told b (still b answer) refl))
+tells_both b e now p h (leaf_moves id l answer d stands how o f) =
+    subst (Both (TellsBehind b)) (sym f)
+    (decided_says Tells Anything (TellsBehind b) b (put_leaf l.id (at_time now b)) answer d (leaf_moved_other b e now l d how)
+    (λ c k. other_behind b c.effects k) (nothing_told b (still b answer) refl))
+tells_both b e now p h (activity_moves id a answer d stands how o f) =
+    subst (Both (TellsBehind b)) (sym f)
+    (decided_says Tells Anything (TellsBehind b) b (put_activity a.id (at_time now b)) answer d (activity_moved_other b now a d how)
+    (λ c k. other_behind b c.effects k) (nothing_told b (still b answer) refl))
+tells_both b e now p h (transaction_registers id a r t stands came says o f) =
+    subst (Both (TellsBehind b)) (sym f)
+    (plain_both (TellsBehind b) (registration_outcome b now (on_register (moment_of b now) a r t)) (nothing_told b (registration_outcome b now (on_register (moment_of b now) a r t)) refl))
+tells_both b e now p h (transaction_made a c id t os next made o f) =
+    subst (Both (TellsBehind b)) (sym f)
+    (plain_both (TellsBehind b) (still (make_transaction (at_time now b) t) os) (nothing_told b (still (make_transaction (at_time now b) t) os) refl))
+tells_both b e now p h (leaf_made a w id l os came says next made o f) =
+    subst (Both (TellsBehind b)) (sym f) (plain_both (TellsBehind b) (still (make_leaf (at_time now b) l) os) (nothing_told b (still (make_leaf (at_time now b) l) os) refl))
+tells_both b e now p h (activity_made id a os next made o f) =
+    subst (Both (TellsBehind b)) (sym f)
+    (plain_both (TellsBehind b) (still (make_activity (at_time now b) a) os) (nothing_told b (still (make_activity (at_time now b) a) os) refl))
+
+committed_behind : (b : Book) (e : Event) (now : ℕ) (landed : Bool) (id : Numbers) → IsInPhase b → IsIn (effects.Root id endings.Committed) (step b e now landed).effects → HasCommitted b id
+unfolding TellsBehind
+committed_behind b e now landed id h i = in_branch (TellsBehind b) (plan b e now) landed (tells_both b e now (plan b e now) h (steps_touch_one b e now)) id i
+
 pub decides_behind_every_answer : DecidesBehindEveryAnswer
 decides_behind_every_answer = record {
-  step = step_stands;
+  book = step_stands;
   recovered = recovered_stands;
   decided = λ b e now id named h k. shape_passes b e now (plan b e now) (records.Decided id named) h (steps_touch_one b e now) k;
   voted = λ b e now id superior named h k. shape_passes b e now (plan b e now) (records.Voted id superior named) h (steps_touch_one b e now) k;
+  committed = committed_behind;
 }

@@ -9,11 +9,14 @@ use Rattle.at_base.specs.declared.record.Seated.{Seated}
 use Rattle.at_base.specs.declared.record.Record.{Record}
 use Rattle.at_base.specs.declared.record.Record.TheVariants as records
 use Rattle.at_base.specs.declared.event.Event.{Event}
+use Rattle.at_base.specs.declared.outs.Ending.TheVariants as endings
+use Rattle.at_base.specs.declared.outs.Effect.TheVariants as effects
 use Rattle.at_tables.specs.declared.cells.State.TheVariants as states
 use Rattle.at_model.specs.Book.{Book, Transaction, Enlistment, Phase}
 use Rattle.at_model.specs.Seats.{answered, in_state, moved, prepared}
 use Rattle.at_model.specs.Step.{plan, step, transaction_at}
 use Rattle.at_model.specs.Recover.{recover}
+use Rattle.at_model.specs.Agreement.{IsIn}
 
 -- What a phase stands behind: the durable seats are asked once every volatile one has answered; a subordinate has voted
 -- once every one has (WS-AtomicTransaction 1.2, sections 3.3.1 and 3.3.3).
@@ -59,6 +62,13 @@ pub record HasVoted (before after : Transaction) (named : List Seated) : Type 0 
   pub behind : AreAnswered before.seats after.seats named
   pub phase : after.phase ≡ Phase.Voted
 
+-- Where a root commits, whether that is recorded or not.
+pub record HasCommitted (b : Book) (id : Numbers) : Type 0 where
+  pub old : Transaction
+  pub stood : transaction_at b id ≡ Some old
+  pub at : List Enlistment
+  pub behind : AreAnswered old.seats at (prepared at)
+
 -- one transaction before and after a step
 pub record Passed (before after : Book) (id : Numbers) (P : Transaction → Transaction → Type 0) : Type 0 where
   pub old : Transaction
@@ -68,11 +78,13 @@ pub record Passed (before after : Book) (id : Numbers) (P : Transaction → Tran
   pub passed : P old new
 
 -- Over steps and recovery each transaction stays behind the answers of its phase; so a Decided or a Voted is made only
--- behind every answer, volatile and durable.
+-- behind every answer, volatile and durable; and a root commits only behind every answer, also where nobody waits for its
+-- decision and nothing is recorded.
 pub record DecidesBehindEveryAnswer : Type 0 where
-  pub step : (b : Book) (e : Event) (now : ℕ) (landed : Bool) → IsInPhase b → IsInPhase (step b e now landed).book
+  pub book : (b : Book) (e : Event) (now : ℕ) (landed : Bool) → IsInPhase b → IsInPhase (step b e now landed).book
   pub recovered : (base : List ℕ) (rs : List Record) → IsInPhase (recover base rs)
   pub decided : (b : Book) (e : Event) (now : ℕ) (id : Numbers) (named : List Seated) → IsInPhase b → (plan b e now).entry ≡ Some (records.Decided id named)
       → Passed b (plan b e now).landed.book id (λ old new. HasDecided old new named)
   pub voted : (b : Book) (e : Event) (now : ℕ) (id : Numbers) (superior : Epr) (named : List Seated) → IsInPhase b → (plan b e now).entry ≡ Some (records.Voted id superior named)
       → Passed b (plan b e now).landed.book id (λ old new. HasVoted old new named)
+  pub committed : (b : Book) (e : Event) (now : ℕ) (landed : Bool) (id : Numbers) → IsInPhase b → IsIn (effects.Root id endings.Committed) (step b e now landed).effects → HasCommitted b id
