@@ -49,6 +49,7 @@ use Rattle.at_base.specs.WellFormed.{IsEndpoint, Rises, AreSeats, IsWellFormed}
 use Rattle.at_base.specs.declared.target.Target.TheVariants as targets
 use Rattle.at_model.specs.Seats.{seated, set_link, link_of, link_in, is_open, completed}
 use Rattle.at_model.specs.Abort.{without_links}
+use Rattle.at_model.proofs.Asking.{ActsAt, CellAt, table_acts}
 use Rattle.at_model.proofs.Deciding.{DecisionHas, IfThere, either_has, either_change, with_answer_has, all_join}
 use Rattle.at_model.specs.Sound.{IsSoundMessage, IfKnown, KnowsLinks, KnowsSuperior, AreNumbered, SeatsRise, IsPastAsking, IsPastPrepare, ArePastPrepare, IsSealed, IsBounded, IsSoundTransaction}
 
@@ -397,50 +398,19 @@ abbrev HasNoGather : Option Cell → Type 0
 HasNoGather None = Unit {0}
 HasNoGather (Some c) = IsNoGather c.act
 
+past_active : (state : State) → state ≡ states.Active → IsPastPrepare state → ⊥
+past_active state e h = subst IsPastPrepare e h
+
+no_gather : (state : State) (act : Act) → IsPastPrepare state → ActsAt state act → IsNoGather act
+no_gather state acts.Gather h k = past_active state k h
+no_gather state other h k = tt
+
+no_cell_gathers : (state : State) (c : Option Cell) → IsPastPrepare state → CellAt state c → HasNoGather c
+no_cell_gathers state None h k = tt
+no_cell_gathers state (Some c) h k = no_gather state c.act h k
+
 not_asked : (kind : Kind) (state : State) (n : Notice) → IsPastPrepare state → HasNoGather (participant_of kind state n)
-not_asked kinds.Volatile states.None notices.Prepare h = tt
-not_asked kinds.Volatile states.None notices.Commit h = tt
-not_asked kinds.Volatile states.None notices.Rollback h = tt
-not_asked kinds.Volatile states.None notices.Prepared h = tt
-not_asked kinds.Volatile states.None notices.ReadOnly h = tt
-not_asked kinds.Volatile states.None notices.Aborted h = tt
-not_asked kinds.Volatile states.None notices.Committed h = tt
-not_asked kinds.Volatile states.PreparedSuccess notices.Prepare h = tt
-not_asked kinds.Volatile states.PreparedSuccess notices.Commit h = tt
-not_asked kinds.Volatile states.PreparedSuccess notices.Rollback h = tt
-not_asked kinds.Volatile states.PreparedSuccess notices.Prepared h = tt
-not_asked kinds.Volatile states.PreparedSuccess notices.ReadOnly h = tt
-not_asked kinds.Volatile states.PreparedSuccess notices.Aborted h = tt
-not_asked kinds.Volatile states.PreparedSuccess notices.Committed h = tt
-not_asked kinds.Volatile states.Committing notices.Prepare h = tt
-not_asked kinds.Volatile states.Committing notices.Commit h = tt
-not_asked kinds.Volatile states.Committing notices.Rollback h = tt
-not_asked kinds.Volatile states.Committing notices.Prepared h = tt
-not_asked kinds.Volatile states.Committing notices.ReadOnly h = tt
-not_asked kinds.Volatile states.Committing notices.Aborted h = tt
-not_asked kinds.Volatile states.Committing notices.Committed h = tt
-not_asked kinds.Durable states.None notices.Prepare h = tt
-not_asked kinds.Durable states.None notices.Commit h = tt
-not_asked kinds.Durable states.None notices.Rollback h = tt
-not_asked kinds.Durable states.None notices.Prepared h = tt
-not_asked kinds.Durable states.None notices.ReadOnly h = tt
-not_asked kinds.Durable states.None notices.Aborted h = tt
-not_asked kinds.Durable states.None notices.Committed h = tt
-not_asked kinds.Durable states.PreparedSuccess notices.Prepare h = tt
-not_asked kinds.Durable states.PreparedSuccess notices.Commit h = tt
-not_asked kinds.Durable states.PreparedSuccess notices.Rollback h = tt
-not_asked kinds.Durable states.PreparedSuccess notices.Prepared h = tt
-not_asked kinds.Durable states.PreparedSuccess notices.ReadOnly h = tt
-not_asked kinds.Durable states.PreparedSuccess notices.Aborted h = tt
-not_asked kinds.Durable states.PreparedSuccess notices.Committed h = tt
-not_asked kinds.Durable states.Committing notices.Prepare h = tt
-not_asked kinds.Durable states.Committing notices.Commit h = tt
-not_asked kinds.Durable states.Committing notices.Rollback h = tt
-not_asked kinds.Durable states.Committing notices.Prepared h = tt
-not_asked kinds.Durable states.Committing notices.ReadOnly h = tt
-not_asked kinds.Durable states.Committing notices.Aborted h = tt
-not_asked kinds.Durable states.Committing notices.Committed h = tt
-not_asked kind other n h = absurd h
+not_asked kind state n h = no_cell_gathers state (participant_of kind state n) h (table_acts kind state n)
 
 abbrev IfGather : Type 0 → Act → Type 0
 IfGather P acts.Gather = P

@@ -9,6 +9,7 @@ pub mod Once
 pub mod Phasing
 pub mod Telling
 pub mod Standing
+pub mod Asking
 pub mod Bounding
 pub mod BoundingLeaves
 pub mod Sounding

@@ -23,5 +23,6 @@ pub mod Shapes
 pub mod Drawn
 pub mod Behind
 pub mod Sound
+pub mod Links
 pub mod Singles
 pub mod Rules
