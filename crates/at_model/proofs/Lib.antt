@@ -16,3 +16,5 @@ pub mod Sounding
 pub mod OneByOne
 pub mod Recording
 pub mod Making
+pub mod Linking
+pub mod Following

@@ -5,7 +5,7 @@ use Rattle.at_base.specs.declared.record.Record.{Record}
 use Rattle.at_base.specs.declared.event.Event.{Event}
 use Rattle.at_tables.specs.declared.cells.State.{State}
 use Rattle.at_tables.specs.declared.cells.State.TheVariants as states
-use Rattle.at_model.specs.Book.{Book, Transaction, Superior, Phase}
+use Rattle.at_model.specs.Book.{Book, Transaction, Completion, Superior, Phase}
 use Rattle.at_model.specs.Step.{step}
 use Rattle.at_model.specs.Recover.{recover}
 
@@ -33,12 +33,13 @@ AreIn Phase.Voted volatile durable = (volatile ≡ states.None) × (durable ≡ 
 AreIn Phase.Committing volatile durable = (volatile ≡ states.None) × (durable ≡ states.Committing)
 AreIn Phase.Aborting volatile durable = (volatile ≡ states.None) × (durable ≡ states.None)
 
-abbrev pub AreLinked : Phase → Option Superior → Type 0
-AreLinked phase None = Unit {0}
-AreLinked phase (Some s) = AreIn phase s.volatile.state s.durable.state
+-- A subordinate's links are as its phase wants, and it has no initiator of its own.
+abbrev pub AreLinked : Phase → Option Superior → Option Completion → Type 0
+AreLinked phase None completion = Unit {0}
+AreLinked phase (Some s) completion = AreIn phase s.volatile.state s.durable.state × (completion ≡ None)
 
 abbrev pub IsLinked : Book → Type 0
-IsLinked b = AllByRecursion (λ t. AreLinked t.phase t.superior) b.transactions
+IsLinked b = AllByRecursion (λ t. AreLinked t.phase t.superior t.completion) b.transactions
 
 -- Each subordinate's links follow its phase, over steps and recovery.
 pub record LinksFollowPhases : Type 0 where

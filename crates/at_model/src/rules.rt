@@ -3,6 +3,7 @@
 ghost use Rattle.at_model.specs.Laws.{StepsAnswerFirst, StepsKeepPlace, RecoversTheLive, IncarnationsRise, MakesUnderTheNextId};
 ghost use Rattle.at_model.specs.Behind.{DecidesBehindEveryAnswer};
 ghost use Rattle.at_model.specs.Drawn.{IdsStayDrawn, NoIdMadeTwice};
+ghost use Rattle.at_model.specs.Links.{LinksFollowPhases};
 ghost use Rattle.at_model.specs.Sound.{RecordsAreWellFormed};
 ghost use Rattle.at_model.specs.Rules.{DecidesBehindAnswers, EndsAreUndone, VotesAreRecorded};
 ghost use Rattle.at_model.specs.Shapes.{StepsTouchOne};
@@ -79,4 +80,10 @@ pub fn decides_behind_every_answer()
 #[tactic(auto, using(crate::proofs::Sounding::records_are_well_formed))]
 pub fn records_are_well_formed()
     ensures { RecordsAreWellFormed }
+{}
+
+/// The links of a subordinate follow its phase: once the durable one is asked, the volatile one is None.
+#[tactic(auto, using(crate::proofs::Following::links_follow_phases))]
+pub fn links_follow_phases()
+    ensures { LinksFollowPhases }
 {}
