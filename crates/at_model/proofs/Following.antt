@@ -1,13 +1,12 @@
 -- Over steps and recovery a subordinate's links follow its phase.
-use Rattle.std.specs.Prelude.{ℕ, List, [], ◌∷◌, Option, Some, None, Bool, true, false, not, ◌&&◌, nat_lt, if◌then◌else◌, length, map, bytes_eq, ◌≡◌, refl}
+use Rattle.std.specs.Prelude.{ℕ, List, [], ◌∷◌, Option, Some, None, Bool, true, false, not, ◌&&◌, nat_lt, if◌then◌else◌, length, bytes_eq, ◌≡◌, refl}
 use Rattle.std.specs.List.{list_any, AllByRecursion}
-use Rattle.std.proofs.Common.{sym, subst, ap, ◌∙◌}
+use Rattle.std.proofs.Common.{sym, subst}
 use Rattle.at_base.specs.Numbers.{Numbers}
 use Rattle.at_base.specs.declared.epr.Epr.{Epr}
 use Rattle.at_base.specs.declared.epr.Reply.{Reply}
 use Rattle.at_base.specs.declared.epr.Reply.TheVariants as replies
 use Rattle.at_base.specs.declared.notice.Kind.{Kind}
-use Rattle.at_base.specs.declared.notice.Kind.TheVariants as kinds
 use Rattle.at_base.specs.declared.message.Context.{Context}
 use Rattle.at_base.specs.declared.message.Create.{Create}
 use Rattle.at_base.specs.declared.message.Register.{Register}
@@ -17,30 +16,18 @@ use Rattle.at_base.specs.declared.record.Record.TheVariants as records
 use Rattle.at_base.specs.declared.event.Arrived.{Arrived}
 use Rattle.at_base.specs.declared.event.Event.{Event}
 use Rattle.at_base.specs.declared.event.Moment.{Moment}
-use Rattle.at_base.specs.declared.outs.Out.{Out}
 use Rattle.at_tables.specs.declared.cells.State.TheVariants as states
-use Rattle.at_model.specs.Book.{Book, Transaction, Enlistment, Phase, is_id, find_by, put_by, transaction_id}
+use Rattle.at_model.specs.Book.{Book, Transaction, transaction_id}
 use Rattle.at_model.specs.Addresses.{atomic}
-use Rattle.at_model.specs.Moves.{Change, Decision}
-use Rattle.at_model.specs.Seats.{answered}
+use Rattle.at_model.specs.Moves.{Decision}
 use Rattle.at_model.specs.Arrivals.{with_answer}
 use Rattle.at_model.specs.Register.{Registration, accepts, may_complete, may_register, accept, register_new, register_again, on_register, protocol_named, held_seat}
 use Rattle.at_model.specs.Create.{Creation, create_under, create_in, on_create, refuse_create}
-use Rattle.at_model.specs.Step.{Outcome, Plan, still, at_time, moment_of, put_transaction, put_leaf, put_activity, make_transaction, make_leaf, make_activity, outcome_of, registration_outcome, plan, step, transaction_at}
-use Rattle.at_model.specs.Recover.{live, is_sub_committed, transactions_of, recovered_seat, recovered_voted, recover}
+use Rattle.at_model.specs.Step.{Outcome, Plan, still, at_time, moment_of, put_transaction, put_leaf, put_activity, make_transaction, make_leaf, make_activity, registration_outcome, plan, step}
+use Rattle.at_model.specs.Recover.{live, is_sub_committed, transactions_of, recovered_voted}
 use Rattle.at_model.specs.Shapes.{MovesTransaction, Shape, at_seat, at_link, at_completion, when_due, nothing_moves, time_moves, transaction_moves, leaf_moves, activity_moves, transaction_registers, transaction_made, leaf_made, activity_made}
-use Rattle.at_model.proofs.Keeping.{IsOfLeaf, NamesLeaf, HasBoth, NoRecord}
-use Rattle.at_model.proofs.Drawing.{leaf_moved_kept, activity_moved_kept}
-use Rattle.at_model.proofs.Living.{all_in_order, no_entry}
-use Rattle.std.proofs.Common.{inl, inr}
-use Rattle.at_base.specs.declared.outs.Effect.{Effect}
-use Rattle.at_base.specs.declared.outs.Effect.TheVariants as effects
-use Rattle.at_base.specs.declared.outs.Ending.TheVariants as endings
-use Rattle.at_model.specs.Agreement.{IsIn}
+use Rattle.at_model.proofs.Living.{all_in_order}
 use Rattle.at_model.proofs.Shaping.{steps_touch_one}
-use Rattle.at_model.proofs.Recovering.{self_id, same_id}
-use Rattle.at_model.specs.Laws.{HasLeafId}
-use Rattle.at_model.specs.Register.{new_seat}
 use Rattle.std.specs.Prelude.{is_none}
 use Rattle.at_model.specs.Book.{Completion, Superior}
 use Rattle.at_model.specs.Links.{AreLinked, IsLinked, LinksFollowPhases}
@@ -62,7 +49,6 @@ moved_links b e now t d h (when_due is) =
 either_registered : (b : Bool) (x y : Registration) → (b ≡ true → Linked x.transaction) → (b ≡ false → Linked y.transaction) → Linked (if b then x else y).transaction
 either_registered true x y h k = h refl
 either_registered false x y h k = k refl
-
 
 both_second : (a b : Bool) → (a && b) ≡ true → b ≡ true
 both_second true b e = e

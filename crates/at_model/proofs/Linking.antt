@@ -1,37 +1,33 @@
 -- A subordinate's links follow its phase: a decision keeps them so.
-use Rattle.std.specs.Prelude.{ℕ, List, [], ◌∷◌, ◌++◌, Option, Some, None, Bool, true, false, ◌≡◌, refl, if◌then◌else◌, not, ◌&&◌, ◌||◌, nat_eq, map}
-use Rattle.std.specs.List.{list_any, AllByRecursion}
-use Rattle.std.proofs.Common.{ap, sym, subst, ◌∙◌}
-use Rattle.at_base.specs.Numbers.{Numbers}
+use Rattle.std.specs.Prelude.{ℕ, List, Option, Some, None, Bool, true, false, ◌≡◌, refl, if◌then◌else◌, ◌&&◌, ◌||◌}
+use Rattle.std.specs.List.{list_any}
+use Rattle.std.proofs.Common.{ap, sym, subst}
 use Rattle.at_base.specs.declared.epr.Epr.{Epr}
 use Rattle.at_base.specs.declared.notice.Kind.{Kind}
 use Rattle.at_base.specs.declared.notice.Kind.TheVariants as kinds
 use Rattle.at_base.specs.declared.message.Message.{Message}
 use Rattle.at_base.specs.declared.message.Message.TheVariants as messages
 use Rattle.at_base.specs.declared.record.Record.{Record}
-use Rattle.at_base.specs.declared.record.Record.TheVariants as records
 use Rattle.at_base.specs.declared.event.Arrived.{Arrived}
 use Rattle.at_base.specs.declared.event.Moment.{Moment}
 use Rattle.at_tables.specs.declared.cells.State.TheVariants as states
 use Rattle.at_tables.specs.declared.cells.Act.{Act}
 use Rattle.at_tables.specs.declared.cells.Act.TheVariants as acts
 use Rattle.at_tables.specs.declared.cells.Cell.{Cell}
-use Rattle.at_tables.specs.Names.{is_kind, is_state}
+use Rattle.at_tables.specs.Names.{is_state}
 use Rattle.at_tables.specs.Tables.{coordinator_of, completion_of}
-use Rattle.at_model.specs.Book.{Completion, Enlistment, Phase, Request, Superior, Transaction}
-use Rattle.at_model.specs.Moves.{Moving, Change, Decision, begin, become, stays, forgotten}
-use Rattle.at_model.specs.Seats.{answered, all_left, in_state, is_prepared_durable, in_phase, under, ending_of}
+use Rattle.at_model.specs.Book.{Completion, Enlistment, Phase, Superior, Transaction}
+use Rattle.at_model.specs.Moves.{Moving, Decision, begin, become, stays, forgotten}
+use Rattle.at_model.specs.Seats.{answered, all_left, in_state, is_prepared_durable, in_phase, under}
 use Rattle.at_model.specs.Abort.{Reason, Alone, Asked, until_rolled_back, abort}
 use Rattle.at_model.specs.Phases.{decided, root_answered, voted, sub_answered, durable_answered, if_durable_answered, prepare_seats, go_durable, volatile_answered, all_committed, advance_in, advance, go_volatile}
-use Rattle.at_model.specs.Arrivals.{seat_act, seat_notice, commit_voted, link_act, link_notice, completion_act, completion_notice, link_registered, link_fault, on_link, on_seat, on_completion, request_answered, answer_request, request_of, with_answer}
+use Rattle.at_model.specs.Arrivals.{seat_act, seat_notice, commit_voted, link_act, link_notice, completion_act, completion_notice, link_registered, link_fault, on_link, on_seat, on_completion, request_answered, with_answer}
 use Rattle.at_model.specs.Due.{Reached, Expired, Over, Unanswered, Nothing, transaction_reached}
-use Rattle.at_base.specs.declared.record.Seated.{Seated}
 use Rattle.at_tables.specs.declared.cells.State.{State}
-use Rattle.at_model.specs.Seats.{is_of, move_if, moved, prepared, seat_in}
+use Rattle.at_model.specs.Seats.{seat_in}
 use Rattle.at_model.specs.Arrivals.{registered}
 use Rattle.std.proofs.Common.{inl, inr}
-use Rattle.std.specs.Prelude.{◌⊎◌, option_map}
-use Rattle.at_model.specs.Seats.{set_link, link_of, link_in, completed}
+use Rattle.at_model.specs.Seats.{set_link, link_of, completed}
 use Rattle.at_model.specs.Abort.{without_links}
 use Rattle.at_model.specs.Links.{IsJoining, IsIdle, AreIn, AreLinked}
 use Rattle.at_model.specs.Arrivals.{asked, relates_to}

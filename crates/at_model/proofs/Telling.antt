@@ -1,7 +1,5 @@
 -- What happens at a leaf and at an activity is no root's end.
-use Rattle.std.specs.Prelude.{ℕ, List, Option, Some, None, Bool, true, false, ◌≡◌, refl, if◌then◌else◌, not}
-use Rattle.std.specs.List.{list_any}
-use Rattle.at_base.specs.Numbers.{Numbers}
+use Rattle.std.specs.Prelude.{ℕ, List, Option, Some, None, Bool, if◌then◌else◌}
 use Rattle.at_base.specs.declared.epr.Epr.{Epr}
 use Rattle.at_base.specs.declared.notice.Kind.{Kind}
 use Rattle.at_base.specs.declared.notice.Kind.TheVariants as kinds
@@ -11,9 +9,7 @@ use Rattle.at_base.specs.declared.notice.Vote.TheVariants as votes
 use Rattle.at_base.specs.declared.message.Message.{Message}
 use Rattle.at_base.specs.declared.message.Message.TheVariants as messages
 use Rattle.at_base.specs.declared.message.Context.{Context}
-use Rattle.at_base.specs.declared.message.Register.{Register}
 use Rattle.at_base.specs.declared.record.Record.{Record}
-use Rattle.at_base.specs.declared.record.Record.TheVariants as records
 use Rattle.at_base.specs.declared.event.Arrived.{Arrived}
 use Rattle.at_base.specs.declared.event.Moment.{Moment}
 use Rattle.at_base.specs.declared.outs.Told.TheVariants as tellings
@@ -22,19 +18,14 @@ use Rattle.at_tables.specs.declared.cells.Act.{Act}
 use Rattle.at_tables.specs.declared.cells.Act.TheVariants as acts
 use Rattle.at_tables.specs.declared.cells.Cell.{Cell}
 use Rattle.at_tables.specs.Names.{is_state}
-use Rattle.at_tables.specs.Tables.{coordinator_of, participant_of, completion_of, initiator_of}
-use Rattle.at_model.specs.Book.{Transaction, Leaf, Activity, Enlistment, Completion, Superior, Phase, Progress}
+use Rattle.at_tables.specs.Tables.{participant_of, initiator_of}
+use Rattle.at_model.specs.Book.{Leaf, Activity, Progress}
 use Rattle.at_model.specs.Addresses.{register_id}
-use Rattle.at_model.specs.Moves.{Moving, Decision, Goes, begin, become, stays, forgotten, ignored}
-use Rattle.at_model.specs.Seats.{answered, all_left, in_state, is_prepared_durable, in_phase}
-use Rattle.at_model.specs.Abort.{Reason, Alone, Asked, until_rolled_back, abort}
-use Rattle.at_model.specs.Phases.{decided, root_answered, voted, sub_answered, durable_answered, if_durable_answered, prepare_seats, go_durable, volatile_answered, all_committed, advance_in, go_volatile}
-use Rattle.at_model.specs.Arrivals.{seat_act, seat_notice, commit_voted, link_act, link_notice, completion_act, completion_notice, relates_to, link_registered, link_fault, on_link, on_seat, on_completion, with_answer}
-use Rattle.at_model.specs.Register.{Registration, accept, register_new, register_again, on_register, may_register, protocol_named, held_seat}
+use Rattle.at_model.specs.Moves.{Decision, Goes, begin, stays, forgotten, ignored}
+use Rattle.at_model.specs.Arrivals.{relates_to}
 use Rattle.at_model.specs.Leaves.{leaf_votes, leaf_records_vote, leaf_commit, leaf_roll_back, leaf_act, leaf_notice, answers_leaf, leaf_registered, drops_leaf, leaf_fault, on_leaf}
 use Rattle.at_model.specs.Activities.{is_begun, told, activity_target, activity_act, activity_notice, with_context, activity_created, activity_registered, activity_fault, on_activity, activity_state, on_ask, on_complete}
-use Rattle.at_model.specs.Due.{Reached, Expired, Over, Unanswered, Nothing, transaction_reached, leaf_reached, leaf_expires, activity_reached}
-use Rattle.at_model.specs.Laws.{HasId, HasLeafId}
+use Rattle.at_model.specs.Due.{Reached, Expired, Over, Unanswered, Nothing, leaf_reached, activity_reached}
 use Rattle.std.specs.List.{AllByRecursion}
 use Rattle.std.proofs.Common.{sym, subst}
 use Rattle.at_base.specs.declared.event.Event.{Event}

@@ -5,7 +5,7 @@ use Rattle.at_base.specs.declared.record.Record.{Record}
 use Rattle.at_base.specs.declared.event.Event.{Event}
 use Rattle.at_tables.specs.declared.cells.State.{State}
 use Rattle.at_tables.specs.declared.cells.State.TheVariants as states
-use Rattle.at_model.specs.Book.{Book, Transaction, Completion, Superior, Phase}
+use Rattle.at_model.specs.Book.{Book, Completion, Superior, Phase}
 use Rattle.at_model.specs.Step.{step}
 use Rattle.at_model.specs.Recover.{recover}
 
