@@ -1,6 +1,6 @@
 -- What is made has the next id, which is none that was drawn.
 use Rattle.std.specs.Prelude.{ℕ, Option, Some, None, Bool, true, false, ◌≡◌, refl, if◌then◌else◌, ◌+◌, nat_lt, ◌&&◌, bytes_eq}
-use Rattle.std.proofs.Common.{inl, inr, ap, arith}
+use Rattle.std.proofs.Common.{inl, inr, ap, sym, arith}
 use Rattle.at_base.specs.Numbers.{Numbers}
 use Rattle.at_base.specs.declared.epr.Reply.{Reply}
 use Rattle.at_base.specs.declared.epr.Reply.TheVariants as replies
@@ -24,11 +24,15 @@ apart : (b : Book) (id : Numbers) → b.incarnation ≡ id.incarnation → b.cou
 apart b id e f (inl h) = omega (arith, e, f, h)
 apart b id e f (inr (h, k)) = omega (arith, e, f, h, k)
 
-next_is_new : (b : Book) (id : Numbers) → next_id b ≡ Some id → IsDrawn b id → ⊥
-next_is_new b id e h =
+-- the numbers of the next id
+pub next_numbers : (b : Book) (id : Numbers) → next_id b ≡ Some id → (id.incarnation ≡ b.incarnation) × (id.counter ≡ b.counter + 1)
+next_numbers b id e =
     let n : Numbers = record { incarnation = b.incarnation; counter = b.counter + 1 } in
     let same : n ≡ id = next_fields (nat_lt b.counter last_counter) n id e in
-    apart b id (ap (λ x. x.incarnation) same) (ap (λ x. x.counter) same) h
+    (ap (λ x. x.incarnation) (sym same), ap (λ x. x.counter) (sym same))
+
+next_is_new : (b : Book) (id : Numbers) → next_id b ≡ Some id → IsDrawn b id → ⊥
+next_is_new b id e h = let (i, c) = next_numbers b id e in apart b id (sym i) (sym c) h
 
 either : (id : Numbers) (b : Bool) (x y : Creation) → HasId id x.transaction → HasId id y.transaction → HasId id (if b then x else y).transaction
 either id true x y h k = h

@@ -65,14 +65,14 @@ both_true : (a b : Bool) → (a && b) ≡ true → (a ≡ true) × (b ≡ true)
 both_true true b e = (refl, e)
 both_true false b e = absurd cc
 
-same_id : (a b : Numbers) → is_id a b ≡ true → a ≡ b
+pub same_id : (a b : Numbers) → is_id a b ≡ true → a ≡ b
 same_id a b e =
     let (i, c) = both_true (nat_eq a.incarnation b.incarnation) (nat_eq a.counter b.counter) e in
     let f : a.incarnation ≡ b.incarnation = eqb-true a.incarnation b.incarnation i in
     let g : a.counter ≡ b.counter = eqb-true a.counter b.counter c in
     λ k. record { incarnation = f k; counter = g k }
 
-self_id : (a : Numbers) → is_id a a ≡ true
+pub self_id : (a : Numbers) → is_id a a ≡ true
 self_id a = grind (arith, eq-eqb a.incarnation a.incarnation refl, eq-eqb a.counter a.counter refl)
 
 -- a SubCommitted that stands in the list passes no test that nothing in the list passes

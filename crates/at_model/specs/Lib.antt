@@ -20,5 +20,9 @@ pub mod Agreement
 pub mod Settle
 pub mod Laws
 pub mod Shapes
+pub mod Drawn
+pub mod Behind
+pub mod Sound
+pub mod Links
 pub mod Singles
 pub mod Rules

@@ -1,6 +1,10 @@
 //! Laws of steps and of recovery, over every book, event and journal.
 
 ghost use Rattle.at_model.specs.Laws.{StepsAnswerFirst, StepsKeepPlace, RecoversTheLive, IncarnationsRise, MakesUnderTheNextId};
+ghost use Rattle.at_model.specs.Behind.{DecidesBehindEveryAnswer};
+ghost use Rattle.at_model.specs.Drawn.{IdsStayDrawn, NoIdMadeTwice};
+ghost use Rattle.at_model.specs.Links.{LinksFollowPhases};
+ghost use Rattle.at_model.specs.Sound.{RecordsAreWellFormed};
 ghost use Rattle.at_model.specs.Rules.{DecidesBehindAnswers, EndsAreUndone, VotesAreRecorded};
 ghost use Rattle.at_model.specs.Shapes.{StepsTouchOne};
 
@@ -52,4 +56,34 @@ pub fn votes_are_recorded()
 /// The next id is none that was drawn before, and what is made under it has it.
 pub fn makes_under_the_next_id()
     ensures { MakesUnderTheNextId }
+{}
+
+/// Each id that a book holds stays drawn, over steps and over starts.
+#[tactic(auto, using(crate::proofs::Living::ids_stay_drawn))]
+pub fn ids_stay_drawn()
+    ensures { IdsStayDrawn }
+{}
+
+/// A node makes no id twice, however often it stops and starts.
+#[tactic(auto, using(crate::proofs::Once::no_id_made_twice))]
+pub fn no_id_made_twice()
+    ensures { NoIdMadeTwice }
+{}
+
+/// Over whole steps, a Decided or a Voted is made only behind every answer, volatile and durable.
+#[tactic(auto, using(crate::proofs::Standing::decides_behind_every_answer))]
+pub fn decides_behind_every_answer()
+    ensures { DecidesBehindEveryAnswer }
+{}
+
+/// A record that a step of a sound book makes is well-formed, and the book stays sound.
+#[tactic(auto, using(crate::proofs::Sounding::records_are_well_formed))]
+pub fn records_are_well_formed()
+    ensures { RecordsAreWellFormed }
+{}
+
+/// The links of a subordinate follow its phase: once the durable one is asked, the volatile one is None.
+#[tactic(auto, using(crate::proofs::Following::links_follow_phases))]
+pub fn links_follow_phases()
+    ensures { LinksFollowPhases }
 {}
