@@ -1,7 +1,6 @@
 pub mod Ahead
 pub mod Contexts
 pub mod Kept
-pub mod KeptAsText
 pub mod LookedUp
 pub mod Marks
 pub mod Reread
