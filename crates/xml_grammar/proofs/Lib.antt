@@ -9,5 +9,6 @@ pub mod StartLaws
 pub mod ShallowLaws
 pub mod ReaderLaws
 pub mod MeaningLaws
+pub mod PlaceLaws
 pub mod Turns
 pub mod FrameLaws

@@ -10,6 +10,7 @@ pub mod Digits
 pub mod Examples
 pub mod Limits
 pub mod Shallow
+pub mod Places
 pub mod Open
 pub mod Joining
 pub mod Refusals
