@@ -2,15 +2,13 @@
 use Rattle.std.proofs.Common.{◌≡◌, refl, sym, ap, ◌∙◌, subst, ℕ, zero, suc, List, [], ◌∷◌, ◌++◌, Bool, true, false, cond, Option, Some, None, map, length, take, option_map, is_some, IsSome, option_to_list, Bor}
 use Rattle.std.proofs.lemmas.List.{map-append, length-map}
 use Rattle.std.proofs.lemmas.Option.{slice_get-map}
-use Rattle.std.specs.BTreeMap.{BTreeMap, get_by}
-use Rattle.std.specs.Cmp.Lexicographic.{slice_cmp}
+use Rattle.std.specs.BTreeMap.{BTreeMap}
 use Rattle.std.specs.List.{slice_get}
 use Rattle.std.specs.Map.{update}
-use Rattle.std.specs.Ordering.{nat_cmp}
 use Rattle.std.specs.Str.{bytes_eq}
 use Rattle.xml_grammar.specs.Characters.{◌>>=◌, same}
 use Rattle.xml_grammar.specs.Namespaces.{Binding, or_else, lookup}
-use Rattle.xml_grammar.specs.Places.{HidesEach, held_of, last_of}
+use Rattle.xml_grammar.specs.Places.{Finds, HidesEach, held_of, last_of, place_in}
 use Rattle.xml_grammar.specs.declared.scope.Held.{Held}
 use Rattle.xml_grammar.proofs.MeaningLaws.{bytes_same, same_sym}
 use Rattle.xml_grammar.proofs.StepLaws.{same_is, same_same}
@@ -83,13 +81,6 @@ pub bound_at : (q : List ℕ) (bs : List Binding) (i : ℕ) → last_of q bs ≡
 bound_at q bs i e = (placed q bs).space ∙ ap (space_at bs) e
 
 -- A map of places, as bindings come and go
-
-abbrev pub place_in : BTreeMap (Bor (List ℕ)) ℕ → List ℕ → Option ℕ
-place_in m q = get_by (λ k. slice_cmp nat_cmp q k.now) m
-
--- the map has the place of each prefix's last binding
-abbrev pub Finds : BTreeMap (Bor (List ℕ)) ℕ → List Held → Type 0
-Finds m hs = (q : List ℕ) → place_in m q ≡ last_of q (map held_of hs)
 
 last_held : (q : List ℕ) (hs : List Held) (h : Held) → last_of q (map held_of (hs ++ h ∷ [])) ≡ cond (bytes_eq h.binding.prefix.now q) (Some (length hs)) (last_of q (map held_of hs))
 last_held q hs h =

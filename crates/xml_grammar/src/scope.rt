@@ -1,13 +1,10 @@
 //! Bindings of namespaces in force (Namespaces in XML 1.0, sections 3, 5 and 6).
 
 ghost use Rattle.std.specs.Prelude.{◌≡◌, ℕ, List, ◌&&◌, ◌||◌, not, ◌++◌, ◌∷◌, ◌-◌, [], length, take, map, option_map, IsSome, OnOk};
-ghost use Rattle.std.specs.BTreeMap.{get_by};
-ghost use Rattle.std.specs.Cmp.Lexicographic.{slice_cmp};
 ghost use Rattle.std.specs.Map.{update};
-ghost use Rattle.std.specs.Ordering.{nat_cmp};
 ghost use Rattle.std.specs.Str.{bytes_eq};
 ghost use Rattle.xml_grammar.specs.Namespaces.{defaulted, is_empty, lookup, may_bind, may_declare, declares, space_of};
-ghost use Rattle.xml_grammar.specs.Places.{HidesEach, binding_of, held_of, last_of};
+ghost use Rattle.xml_grammar.specs.Places.{Finds, HidesEach, binding_of, place_in};
 
 use crate::declaration::is_word;
 use crate::lexing::{is_same, is_same_text};
@@ -36,14 +33,14 @@ pub struct Scope<'a> {
     held: Vec<Held<'a>>,
     /// The place of the last binding of each prefix.
     latest: BTreeMap<&'a [char], usize>,
-    ghost found: { (q : List ℕ) → get_by (λ k. slice_cmp nat_cmp q k.now) latest ≡ last_of q (map held_of held.items) },
+    ghost found: { Finds latest held.items },
     ghost hides: { HidesEach held.items },
 }
 
 /// Puts back what a map of places had at a prefix that is there. It takes no memory.
 fn restore<'a>(latest: &mut BTreeMap<&'a [char], usize>, prefix: &'a [char], hidden: Option<usize>)
-    requires { IsSome (get_by (λ k. slice_cmp nat_cmp prefix.now k.now) latest.old) }
-    ensures { (q : List ℕ) → get_by (λ k. slice_cmp nat_cmp q k.now) latest.new ≡ update bytes_eq (λ ds. get_by (λ k. slice_cmp nat_cmp ds k.now) latest.old) prefix.now hidden q }
+    requires { IsSome (place_in latest.old prefix.now) }
+    ensures { (q : List ℕ) → place_in latest.new q ≡ update bytes_eq (place_in latest.old) prefix.now hidden q }
 {
     match hidden {
         Some(place) => {
