@@ -10,5 +10,6 @@ pub mod ShallowLaws
 pub mod ReaderLaws
 pub mod MeaningLaws
 pub mod PlaceLaws
+pub mod KeyLaws
 pub mod Turns
 pub mod FrameLaws
