@@ -9,5 +9,7 @@ pub mod StartLaws
 pub mod ShallowLaws
 pub mod ReaderLaws
 pub mod MeaningLaws
+pub mod PlaceLaws
+pub mod KeyLaws
 pub mod Turns
 pub mod FrameLaws

@@ -21,6 +21,9 @@ both_ways false false f g = refl
 pub bytes_same : (a b : List ℕ) → bytes_eq a b ≡ same a b
 bytes_same a b = both_ways (bytes_eq a b) (same a b) (λ e. ap (same a) (sym ((bytes_eq-Decides a b).0 e)) ∙ same_same a) (λ e. (bytes_eq-Decides a b).1 (same_is a b e))
 
+pub same_sym : (a b : List ℕ) → same a b ≡ same b a
+same_sym a b = both_ways (same a b) (same b a) (λ e. ap (λ v. same v a) (sym (same_is a b e)) ∙ same_same a) (λ e. ap (λ v. same v b) (sym (same_is b a e)) ∙ same_same b)
+
 -- Sorting
 
 joined_in : (name : Parts) (value : List ℕ) (d : Option Binding) (s t : Sorted) → sort_in name value d (joined s t) ≡ joined (sort_in name value d s) t

@@ -10,6 +10,8 @@ pub mod Digits
 pub mod Examples
 pub mod Limits
 pub mod Shallow
+pub mod Places
+pub mod Keys
 pub mod Open
 pub mod Joining
 pub mod Refusals

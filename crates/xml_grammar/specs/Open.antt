@@ -5,7 +5,7 @@ use Rattle.xml_grammar.specs.Namespaces.{Binding, Spelled, Sorted, Meaning}
 use Rattle.xml_grammar.specs.Views.{parts_of}
 use Rattle.xml_grammar.specs.Machine.{Frame, State, state}
 use Rattle.xml_grammar.specs.Shallow.{Reading, reading}
-use Rattle.xml_grammar.specs.declared.scope.Binding.{Binding as BindingRead}
+use Rattle.xml_grammar.specs.Places.{binding_of, held_of}
 use Rattle.xml_grammar.specs.declared.scope.Scope.{Scope}
 use Rattle.xml_grammar.specs.declared.meaning.Spelled.{Spelled as SpelledRead}
 use Rattle.xml_grammar.specs.declared.meaning.Sorted.{Sorted as SortedRead}
@@ -14,11 +14,8 @@ use Rattle.xml_grammar.specs.declared.machine.Frame.{Frame as FrameRead}
 use Rattle.xml_grammar.specs.declared.machine.Machine.{Machine}
 use Rattle.xml_profile.specs.Children.{forest_of}
 
-abbrev pub binding_of : BindingRead → Binding
-binding_of b = record { prefix = b.prefix.now; space = b.space }
-
 abbrev pub bindings_of : Scope → List Binding
-bindings_of s = map binding_of s.bindings.items
+bindings_of s = map held_of s.held.items
 
 abbrev pub spelled_of : SpelledRead → Spelled
 spelled_of a = record { name = parts_of a.name; value = a.value }

@@ -1,17 +1,19 @@
 //! What a tag means under the bindings in force (Namespaces in XML 1.0).
 
 ghost use Rattle.std.specs.Prelude.{◌≡◌, [], map, option_map, IfOk, OnOk};
-ghost use Rattle.xml_grammar.specs.Namespaces.{defaulted, lookup, sort, element_name, attribute_name, attributes_of, same_space, same_name, names, are_apart, means};
+ghost use Rattle.xml_grammar.specs.Namespaces.{defaulted, lookup, sort, element_name, attribute_name, attributes_of, are_apart, means};
+ghost use Rattle.xml_grammar.specs.Keys.{name_of};
 ghost use Rattle.xml_grammar.specs.Views.{parts_of, pair_of, tag_of};
 ghost use Rattle.xml_grammar.specs.Open.{bindings_of, spelled_of, sorted_of, meaning_of};
 ghost use Rattle.xml_grammar.specs.Joining.{joined, sort_one, declared_prefix, prefixed_name};
 
 use crate::declaration::is_word;
-use crate::lexing::{Parts, is_same_text, split_name};
+use crate::lexing::{Parts, split_name};
 use crate::markup::{Pair, Tag, utf8};
 use crate::scope::{Binding, Scope, may_declare};
 use at_base::text::Text;
 use std::alloc::{AllocError, Global};
+use std::collections::BTreeSet;
 use xml_profile::name::{Attribute, Attributes, QName};
 
 /// An attribute with its name taken apart.
@@ -156,45 +158,26 @@ fn attributes_of(
     Ok(Some(found))
 }
 
-fn same_space(a: &Option<Text>, b: &Option<Text>) -> bool
-    ensures { result ≡ same_space a.now b.now }
+/// A local name with its namespace, as names are kept apart.
+fn key(name: &QName) -> (&str, Option<&str>)
+    ensures { name_of result ≡ name.now }
 {
-    match (a, b) {
-        (None, None) => true,
-        (Some(a), Some(b)) => is_same_text(a.as_str(), b.as_str()),
-        _ => false,
-    }
-}
-
-fn same_name(a: &QName, b: &QName) -> bool
-    ensures { result ≡ same_name a.now b.now }
-{
-    is_same_text(a.local.as_str(), b.local.as_str()) && same_space(&a.space, &b.space)
-}
-
-fn names(name: &QName, attributes: &[Attribute]) -> bool
-    ensures { result ≡ names name.now attributes.now }
-{
-    for attribute in attributes {
-        if same_name(name, &attribute.name) {
-            return true;
-        }
-    }
-    false
+    (name.local.as_str(), name.space.as_ref().map(Text::as_str))
 }
 
 /// Whether no two attributes have equal expanded names (section 6.3).
-fn are_apart(attributes: &[Attribute]) -> bool
-    ensures { result ≡ are_apart attributes.now }
+fn are_apart(alloc: Global, attributes: &[Attribute]) -> Result<bool, AllocError>
+    ensures { IfOk result (λ b. b ≡ are_apart attributes.now) }
 {
-    let mut rest = attributes;
-    while let Some((first, others)) = rest.split_first() {
-        if names(&first.name, others) {
-            return false;
+    let mut behind = BTreeSet::new(alloc);
+    let mut left = attributes.len();
+    while left > 0 {
+        left -= 1;
+        if !behind.insert(key(&attributes[left].name))? {
+            return Ok(false);
         }
-        rest = others;
     }
-    true
+    Ok(true)
 }
 
 /// The names of a tag, whose declarations come into force. None where it means nothing.
@@ -222,7 +205,7 @@ pub fn read_meaning<'a>(
     let Some(attributes) = attributes_of(alloc, scope, sorted.attributes)? else {
         return Ok(None);
     };
-    if !are_apart(attributes.as_slice()) {
+    if !are_apart(alloc, attributes.as_slice())? {
         return Ok(None);
     }
     Ok(Some(Meaning {

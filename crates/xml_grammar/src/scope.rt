@@ -1,13 +1,16 @@
 //! Bindings of namespaces in force (Namespaces in XML 1.0, sections 3, 5 and 6).
 
-ghost use Rattle.std.specs.Prelude.{◌≡◌, ◌&&◌, ◌||◌, not, ◌++◌, [], length, take, map, option_map, OnOk};
+ghost use Rattle.std.specs.Prelude.{◌≡◌, ℕ, List, ◌&&◌, ◌||◌, not, ◌++◌, ◌∷◌, ◌-◌, [], length, take, map, option_map, IsSome, OnOk};
+ghost use Rattle.std.specs.Map.{update};
+ghost use Rattle.std.specs.Str.{bytes_eq};
 ghost use Rattle.xml_grammar.specs.Namespaces.{defaulted, is_empty, lookup, may_bind, may_declare, declares, space_of};
-ghost use Rattle.xml_grammar.specs.Open.{binding_of, bindings_of};
+ghost use Rattle.xml_grammar.specs.Places.{Finds, HidesEach, binding_of, place_in};
 
 use crate::declaration::is_word;
 use crate::lexing::{is_same, is_same_text};
 use at_base::text::Text;
 use std::alloc::{AllocError, Global};
+use std::collections::BTreeMap;
 use xml_profile::names::{XML, XMLNS};
 
 /// A prefix and its namespace. The default namespace has the empty prefix, and none of it the empty text.
@@ -17,18 +20,47 @@ pub struct Binding<'a> {
     pub space: Text,
 }
 
+/// A binding in force, and the place of the one that it hides.
+#[derive(Drop)]
+pub struct Held<'a> {
+    pub binding: Binding<'a>,
+    pub hidden: Option<usize>,
+}
+
 /// The bindings in force, inner ones last.
 #[derive(Drop)]
 pub struct Scope<'a> {
-    pub bindings: Vec<Binding<'a>>,
+    held: Vec<Held<'a>>,
+    /// The place of the last binding of each prefix.
+    latest: BTreeMap<&'a [char], usize>,
+    ghost found: { Finds latest held.items },
+    ghost hides: { HidesEach held.items },
+}
+
+/// Puts back what a map of places had at a prefix that is there. It takes no memory.
+fn restore<'a>(latest: &mut BTreeMap<&'a [char], usize>, prefix: &'a [char], hidden: Option<usize>)
+    requires { IsSome (place_in latest.old prefix.now) }
+    ensures { (q : List ℕ) → place_in latest.new q ≡ update bytes_eq (place_in latest.old) prefix.now hidden q }
+{
+    match hidden {
+        Some(place) => {
+            let _ = latest.insert(prefix, place);
+        }
+        None => {
+            latest.remove(prefix);
+        }
+    }
 }
 
 impl<'a> Scope<'a> {
+    ghost use Rattle.xml_grammar.specs.Open.{bindings_of};
+
     pub fn new(alloc: Global) -> Scope<'a>
         ensures { bindings_of result ≡ [] }
     {
         Scope {
-            bindings: Vec::new(alloc),
+            held: Vec::new(alloc),
+            latest: BTreeMap::new(alloc),
         }
     }
 
@@ -36,7 +68,17 @@ impl<'a> Scope<'a> {
     pub fn len(&self) -> usize
         ensures { result ≡ length (bindings_of self.now) }
     {
-        self.bindings.len()
+        self.held.len()
+    }
+
+    fn add(&mut self, binding: Binding<'a>) -> Result<(), AllocError>
+        ensures { OnOk result (bindings_of self.new ≡ bindings_of self.old ++ binding_of binding.entry ∷ []) }
+    {
+        let place = self.held.len();
+        self.held.reserve(1)?;
+        let hidden = self.latest.insert(binding.prefix, place)?;
+        self.held.push_reserved(Held { binding, hidden });
+        Ok(())
     }
 
     /// Adds the declarations of a tag.
@@ -44,28 +86,35 @@ impl<'a> Scope<'a> {
         ensures { OnOk result (bindings_of self.new ≡ bindings_of self.old ++ map binding_of declarations.entry.items) }
     {
         for binding in declarations {
-            self.bindings.push(binding)?;
+            self.add(binding)?;
         }
         Ok(())
+    }
+
+    /// Forgets the last binding, so that the one that it hides is in force again.
+    fn forget(&mut self)
+        ensures { bindings_of self.new ≡ take (length (bindings_of self.old) - 1) (bindings_of self.old) }
+    {
+        if let Some(last) = self.held.pop() {
+            restore(&mut self.latest, last.binding.prefix, last.hidden);
+        }
     }
 
     /// Forgets all but the first bindings, so many as are given.
     pub fn leave(&mut self, count: usize)
         ensures { bindings_of self.new ≡ take count (bindings_of self.old) }
     {
-        self.bindings.truncate(count);
+        while self.len() > count {
+            self.forget();
+        }
     }
 
     fn lookup(&self, prefix: &[char]) -> Option<&str>
         ensures { option_map (λ s. s.now) result ≡ lookup prefix.now (bindings_of self.now) }
     {
-        let mut found = None;
-        for binding in self.bindings.as_slice() {
-            if is_same(prefix, binding.prefix) {
-                found = Some(binding.space.as_str());
-            }
-        }
-        found
+        let place = self.latest.get(prefix)?;
+        let held = self.held.get(*place)?;
+        Some(held.binding.space.as_str())
     }
 
     /// The namespace that a prefix is bound to (section 3). None where it is unbound.

@@ -1,6 +1,6 @@
 use Rattle.std.proofs.Common.{◌≡◌, drop, map}
 use Rattle.xml_grammar.specs.Namespaces.{may_declare}
-use Rattle.xml_grammar.specs.Open.{binding_of}
+use Rattle.xml_grammar.specs.Places.{binding_of}
 use Rattle.xml_grammar.proofs.scope.may_declare.Given as goal
 
 abbrev pub invariant-loop-i : goal.invariant-loop-i
