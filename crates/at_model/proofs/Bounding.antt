@@ -49,7 +49,7 @@ use Rattle.at_base.specs.declared.target.Target.TheVariants as targets
 use Rattle.at_model.specs.Seats.{seated, set_link, link_of, link_in, is_open, completed}
 use Rattle.at_model.specs.Abort.{without_links}
 use Rattle.at_model.proofs.Asking.{ActsAt, CellAt, table_acts}
-use Rattle.at_model.proofs.Deciding.{DecisionHas, IfThere, either_has, either_change, with_answer_has, all_join}
+use Rattle.at_model.proofs.Deciding.{first_true, DecisionHas, IfThere, either_has, either_change, with_answer_has, all_join}
 use Rattle.at_model.specs.Sound.{IsSoundMessage, IfKnown, KnowsLinks, KnowsSuperior, AreNumbered, SeatsRise, IsPastAsking, IsPastPrepare, ArePastPrepare, IsSealed, IsBounded, IsSoundTransaction}
 
 -- seats that change their states alone
@@ -487,10 +487,6 @@ not_registering states.PreparedSuccess h e = absurd cc
 not_registering states.Committing h e = absurd cc
 not_registering other h e = absurd h
 
-both_first : (a b : Bool) → (a && b) ≡ true → a ≡ true
-both_first true b e = refl
-both_first false b e = absurd cc
-
 still_registering : (kind : Kind) (s : Superior) (t : Transaction) → t.superior ≡ Some s → is_state (link_of kind s).state states.Registering ≡ true
     → AreNumbered 0 t.seats ⊎ IsSealed t.phase t.superior t.completion t.seats → AreNumbered 0 t.seats
 still_registering kind s t e r (inl h) = h
@@ -514,7 +510,7 @@ link_registered_sound m relates coordinator kind s t w e h =
     let waits : Bool = is_state (link_of kind s).state states.Registering in
     let answers : Bool = relates_to relates (register_id m.base (targets.Participant t.id kind)) in
     either (waits && answers) (Goes (stays (begin (record t { superior = Some after; phase = registered after t.phase })))) (ignored t)
-    (λ k. now_registered m coordinator kind s t w e h (both_first waits answers k)) (λ k. h)
+    (λ k. now_registered m coordinator kind s t w e h (first_true waits answers k)) (λ k. h)
 
 link_fault_sound : (m : Moment) (relates : Option (List ℕ)) (kind : Kind) (s : Superior) (t : Transaction) → IsSoundTransaction t → Sound (link_fault m relates kind s t)
 unfolding link_fault

@@ -1,5 +1,5 @@
 -- What holds of a decision: a property of what is left of the item, and one of what is recorded, with what is then left.
-use Rattle.std.specs.Prelude.{List, [], ◌∷◌, ◌++◌, Option, Some, None, Bool, true, false, if◌then◌else◌, filter, map, ◌≡◌}
+use Rattle.std.specs.Prelude.{List, [], ◌∷◌, ◌++◌, Option, Some, None, Bool, true, false, ◌&&◌, if◌then◌else◌, filter, map, ◌≡◌}
 use Rattle.std.specs.List.{AllByRecursion}
 use Rattle.std.proofs.Common.{refl, subst}
 use Rattle.at_base.specs.Numbers.{Numbers}
@@ -104,6 +104,14 @@ either_left P false c d h k = k
 
 pub either_change : {A : Type 0} (P : Option A → Type 0) (b : Bool) (c d : Change A) → P c.item → P d.item → P (if b then c else d).item
 either_change P b c d h k = either_left (λ x. P x.item) b c d h k
+
+pub first_true : (a b : Bool) → (a && b) ≡ true → a ≡ true
+first_true true b e = refl
+first_true false b e = absurd cc
+
+pub second_true : (a b : Bool) → (a && b) ≡ true → b ≡ true
+second_true true b e = e
+second_true false b e = absurd cc
 
 -- lists by id
 found_if : {A : Type 0} (P : A → Type 0) (b : Bool) (x y : A) (o : Option A) → P x → (o ≡ Some y → P y) → (if b then Some x else o) ≡ Some y → P y

@@ -31,8 +31,7 @@ use Rattle.at_model.proofs.Shaping.{steps_touch_one}
 use Rattle.std.specs.Prelude.{is_none}
 use Rattle.at_model.specs.Book.{Completion, Superior}
 use Rattle.at_model.specs.Links.{AreLinked, IsLinked, LinksFollowPhases}
-use Rattle.at_model.proofs.Deciding.{Both, in_branch, plain_both, decision_both, IfThere, decided_both, all_find, all_put, all_join}
-use Rattle.at_model.proofs.Standing.{first_true}
+use Rattle.at_model.proofs.Deciding.{first_true, second_true, Both, in_branch, plain_both, decision_both, IfThere, decided_both, all_find, all_put, all_join}
 use Rattle.at_model.proofs.Linking.{Linked, AnyRecord, Links, seat_links, link_links, completion_links, due_links, with_answer_links}
 
 moved_links : (b : Book) (e : Event) (now : ℕ) (t : Transaction) (d : Decision Transaction) → Linked t → MovesTransaction b e now t d → Links (with_answer (moment_of b now) t d)
@@ -50,10 +49,6 @@ either_registered : (b : Bool) (x y : Registration) → (b ≡ true → Linked x
 either_registered true x y h k = h refl
 either_registered false x y h k = k refl
 
-both_second : (a b : Bool) → (a && b) ≡ true → b ≡ true
-both_second true b e = e
-both_second false b e = absurd cc
-
 none_is : (s : Option Superior) → is_none s ≡ true → s ≡ None
 none_is None e = refl
 none_is (Some s) e = absurd cc
@@ -61,7 +56,7 @@ none_is (Some s) e = absurd cc
 then_root : (t : Transaction) → may_register t None ≡ true → t.superior ≡ None
 then_root t e =
     none_is t.superior
-    (first_true (is_none t.superior) (is_none t.completion) (both_second (accepts t.phase && nat_lt (length t.seats) 64) (may_complete t None) e))
+    (first_true (is_none t.superior) (is_none t.completion) (second_true (accepts t.phase && nat_lt (length t.seats) 64) (may_complete t None) e))
 
 accept_linked : (m : Moment) (a : Arrived) (t : Transaction) (participant : Epr) (kind : Option Kind) → may_register t kind ≡ true → Linked t
     → Linked (accept m a t participant kind).transaction

@@ -35,6 +35,10 @@ use Rattle.at_base.specs.declared.outs.Effect.{Effect}
 use Rattle.at_base.specs.declared.outs.Effect.TheVariants as effects
 use Rattle.at_base.specs.declared.outs.Ending.{Ending}
 use Rattle.at_base.specs.declared.outs.Ending.TheVariants as endings
+use Rattle.at_tables.specs.Tables.{participant_of}
+use Rattle.at_model.specs.Seats.{link_of}
+use Rattle.at_model.proofs.Asking.{ActsAt, CellAt, table_acts}
+use Rattle.at_model.proofs.Linking.{Linked, has_voted, known}
 use Rattle.at_model.proofs.Deciding.{DecisionSays, IfThere, both_say, either_says, either_left, answer_has, answer_effects, all_join}
 
 -- seats
@@ -45,7 +49,7 @@ none_first : (a b : Bool) → not (a || b) ≡ true → (a ≡ false) × (not b 
 none_first true b e = absurd cc
 none_first false b e = (refl, e)
 
-none_either : (a b : Bool) → a ≡ false → not b ≡ true → not (a || b) ≡ true
+pub none_either : (a b : Bool) → a ≡ false → not b ≡ true → not (a || b) ≡ true
 none_either true b e f = absurd cc
 none_either false b e f = f
 
@@ -56,7 +60,7 @@ answered_map kind f (s ∷ ss) keeps h =
     let (here, rest) = none_first (is_unanswered kind s) (list_any (is_unanswered kind) ss) h in
     none_either (is_unanswered kind (f s)) (list_any (is_unanswered kind) (map f ss)) (keeps s here) (answered_map kind f ss keeps rest)
 
-neither : (a b c : Bool) → b ≡ false → c ≡ false → ((a && b) || (a && c)) ≡ false
+pub neither : (a b c : Bool) → b ≡ false → c ≡ false → ((a && b) || (a && c)) ≡ false
 neither true b c e f = rw (e, f) refl
 neither false b c e f = refl
 
@@ -97,7 +101,7 @@ behind_moved Phase.Active test state seats e f h = tt
 behind_moved Phase.Volatile test state seats e f h = tt
 behind_moved Phase.Durable test state seats e f h = answered_moved kinds.Volatile test state seats e f h
 behind_moved Phase.Voted test state seats e f (h, k) = (answered_moved kinds.Volatile test state seats e f h, answered_moved kinds.Durable test state seats e f k)
-behind_moved Phase.Committing test state seats e f h = tt
+behind_moved Phase.Committing test state seats e f (h, k) = (answered_moved kinds.Volatile test state seats e f h, answered_moved kinds.Durable test state seats e f k)
 behind_moved Phase.Aborting test state seats e f h = tt
 
 -- a root that commits has every answer behind it
@@ -188,9 +192,20 @@ unfolding decided
 decided_told old m g h =
     all_join (IsTold old) g.effects (ending_of g.item.superior g.item.id endings.Committed ∷ []) h.from.told (told_committed old g.item.superior g h, tt)
 
-decided_fine : (old : Transaction) (m : Moment) (g : Moving Transaction) → From old g → Stands old (decided m g).item
+-- what is told to commit has answered
+told_answered : (seats : List Enlistment) → answered kinds.Volatile seats ≡ true → answered kinds.Durable seats ≡ true
+    → StandsBehind Phase.Committing (moved (in_state states.Prepared) states.Committing seats)
+told_answered seats h k =
+    (answered_moved kinds.Volatile (in_state states.Prepared) states.Committing seats refl refl h,
+    answered_moved kinds.Durable (in_state states.Prepared) states.Committing seats refl refl k)
+
+decided_fine : (old : Transaction) (m : Moment) (g : Moving Transaction) → All old g → Stands old (decided m g).item
 unfolding decided
-decided_fine old m g h = record { own = h.own; accepted = accepted_moved (in_state states.Prepared) states.Committing g.item.seats old.seats h.accepted; behind = tt }
+decided_fine old m g h = record {
+  own = h.from.own;
+  accepted = accepted_moved (in_state states.Prepared) states.Committing g.item.seats old.seats h.from.accepted;
+  behind = told_answered g.item.seats h.volatile h.durable;
+}
 
 decided_behind : (old : Transaction) (m : Moment) (g : Moving Transaction) → All old g → HasDecided old (decided m g).item (prepared g.item.seats)
 unfolding decided
@@ -202,7 +217,7 @@ root_fine old m g h =
     either old (list_any is_prepared_durable g.item.seats) _ _
     (λ e. record {
       entry = (h.from.own, decided_behind old m g h);
-      landed = record { item = decided_fine old m g h.from; told = decided_told old m g h };
+      landed = record { item = decided_fine old m g h; told = decided_told old m g h };
       otherwise = abort_fine old m Alone g h.from;
     })
     (λ e. record { item = tt; told = decided_told old m g h })
@@ -298,12 +313,12 @@ unmoved t h = record { own = refl; accepted = refl; behind = h }
 told_sub : (old : Transaction) (s : Superior) (superior : Option Superior) (id : Numbers) → superior ≡ Some s → IsTold old (ending_of superior id endings.Committed)
 told_sub old s superior id e = subst (λ x. IsTold old (ending_of x id endings.Committed)) (sym e) tt
 
-commit_fine : (m : Moment) (s : Superior) (t : Transaction) → t.superior ≡ Some s → Fine t (commit_voted m s t)
+commit_fine : (m : Moment) (s : Superior) (t : Transaction) → t.superior ≡ Some s → StandsBehind Phase.Voted t.seats → Fine t (commit_voted m s t)
 unfolding commit_voted
-commit_fine m s t e = record {
+commit_fine m s t e (v, d) = record {
   entry = tt;
   landed = record {
-    item = record { own = refl; accepted = accepted_moved (in_state states.Prepared) states.Committing t.seats t.seats refl; behind = tt };
+    item = record { own = refl; accepted = accepted_moved (in_state states.Prepared) states.Committing t.seats t.seats refl; behind = told_answered t.seats v d };
     told = (told_sub t s t.superior t.id e, tt);
   };
   otherwise = tt;
@@ -346,34 +361,34 @@ unfolding on_seat
 seat_fine m a t s (messages.Notice n) h = seat_notice_fine m a.id t s (coordinator_of s.kind s.state n) h
 seat_fine m a t s other h = unmoved_left t h
 
-link_act_fine : (m : Moment) (from : Option Epr) (i : Option (List ℕ)) (kind : Kind) (s : Superior) (t : Transaction) (act : Act) → t.superior ≡ Some s → StandsBehind t.phase t.seats
-    → Fine t (link_act m from i kind s t act)
+link_act_fine : (m : Moment) (from : Option Epr) (i : Option (List ℕ)) (kind : Kind) (s : Superior) (t : Transaction) (act : Act) → t.superior ≡ Some s → Linked t
+    → StandsBehind t.phase t.seats → ActsAt (link_of kind s).state act → Fine t (link_act m from i kind s t act)
 unfolding link_act
-link_act_fine m from i kind s t acts.Ignore e h = search fine
-link_act_fine m from i kind s t acts.SendPrepared e h = search fine
-link_act_fine m from i kind s t acts.SendCommit e h = search fine
-link_act_fine m from i kind s t acts.SendRollback e h = search fine
-link_act_fine m from i kind s t acts.SendCommitted e h = search fine
-link_act_fine m from i kind s t acts.SendAborted e h = search fine
-link_act_fine m from i kind s t acts.FaultUnknownTransaction e h = search fine
-link_act_fine m from i kind s t acts.FaultInvalidState e h = search fine
-link_act_fine m from i kind s t acts.FaultInvalidStateAndAbort e h = search fine
-link_act_fine m from i kind s t acts.Leave e h = search fine
-link_act_fine m from i kind s t acts.LeaveAndAbort e h = search fine
-link_act_fine m from i kind s t acts.Vote e h = search fine
-link_act_fine m from i kind s t acts.Gather e h = go_volatile_fine t m _ (record { own = refl; accepted = refl; told = tt })
-link_act_fine m from i kind s t acts.Commit e h = commit_fine m s t e
-link_act_fine m from i kind s t acts.AbortAndSendAborted e h = search fine
-link_act_fine m from i kind s t acts.RecordAndSendAborted e h = record { entry = tt; landed = abort_fine t m (Asked kind from) (begin t) (same t []); otherwise = tt }
-link_act_fine m from i kind s t acts.Complete e h = search fine
-link_act_fine m from i kind s t acts.TellCommitted e h = search fine
-link_act_fine m from i kind s t acts.TellAborted e h = search fine
+link_act_fine m from i kind s t acts.Ignore e l h k = search fine
+link_act_fine m from i kind s t acts.SendPrepared e l h k = search fine
+link_act_fine m from i kind s t acts.SendCommit e l h k = search fine
+link_act_fine m from i kind s t acts.SendRollback e l h k = search fine
+link_act_fine m from i kind s t acts.SendCommitted e l h k = search fine
+link_act_fine m from i kind s t acts.SendAborted e l h k = search fine
+link_act_fine m from i kind s t acts.FaultUnknownTransaction e l h k = search fine
+link_act_fine m from i kind s t acts.FaultInvalidState e l h k = search fine
+link_act_fine m from i kind s t acts.FaultInvalidStateAndAbort e l h k = search fine
+link_act_fine m from i kind s t acts.Leave e l h k = search fine
+link_act_fine m from i kind s t acts.LeaveAndAbort e l h k = search fine
+link_act_fine m from i kind s t acts.Vote e l h k = search fine
+link_act_fine m from i kind s t acts.Gather e l h k = go_volatile_fine t m _ (record { own = refl; accepted = refl; told = tt })
+link_act_fine m from i kind s t acts.Commit e l h k = commit_fine m s t e (subst (λ p. StandsBehind p t.seats) (has_voted t.phase kind s (known t s e l).0 k) h)
+link_act_fine m from i kind s t acts.AbortAndSendAborted e l h k = search fine
+link_act_fine m from i kind s t acts.RecordAndSendAborted e l h k = record { entry = tt; landed = abort_fine t m (Asked kind from) (begin t) (same t []); otherwise = tt }
+link_act_fine m from i kind s t acts.Complete e l h k = search fine
+link_act_fine m from i kind s t acts.TellCommitted e l h k = search fine
+link_act_fine m from i kind s t acts.TellAborted e l h k = search fine
 
-link_notice_fine : (m : Moment) (from : Option Epr) (i : Option (List ℕ)) (kind : Kind) (s : Superior) (t : Transaction) (c : Option Cell) → t.superior ≡ Some s → StandsBehind t.phase t.seats
-    → Fine t (link_notice m from i kind s t c)
+link_notice_fine : (m : Moment) (from : Option Epr) (i : Option (List ℕ)) (kind : Kind) (s : Superior) (t : Transaction) (c : Option Cell) → t.superior ≡ Some s → Linked t
+    → StandsBehind t.phase t.seats → CellAt (link_of kind s).state c → Fine t (link_notice m from i kind s t c)
 unfolding link_notice
-link_notice_fine m from i kind s t None e h = unmoved_left t h
-link_notice_fine m from i kind s t (Some c) e h = link_act_fine m from i kind s t c.act e h
+link_notice_fine m from i kind s t None e l h k = unmoved_left t h
+link_notice_fine m from i kind s t (Some c) e l h k = link_act_fine m from i kind s t c.act e l h k
 
 no_longer_registering : (b : Bool) (seats : List Enlistment) → StandsBehind (if b then Phase.Registering else Phase.Active) seats
 no_longer_registering true seats = tt
@@ -398,12 +413,12 @@ link_fault_fine : (m : Moment) (relates : Option (List ℕ)) (kind : Kind) (s : 
 unfolding link_fault
 link_fault_fine m relates kind s t h = search (either, unmoved, unmoved_left, same, abort_fine)
 
-pub link_fine : (m : Moment) (a : Arrived) (kind : Kind) (t : Transaction) (s : Superior) (x : Message) → t.superior ≡ Some s → StandsBehind t.phase t.seats → Fine t (on_link m a kind t s x)
+pub link_fine : (m : Moment) (a : Arrived) (kind : Kind) (t : Transaction) (s : Superior) (x : Message) → t.superior ≡ Some s → Linked t → StandsBehind t.phase t.seats → Fine t (on_link m a kind t s x)
 unfolding on_link
-link_fine m a kind t s (messages.Notice n) e h = link_notice_fine m a.from a.id kind s t _ e h
-link_fine m a kind t s (messages.RegisterResponse coordinator) e h = link_registered_fine m a.relates coordinator kind s t h
-link_fine m a kind t s (messages.Fault name) e h = link_fault_fine m a.relates kind s t h
-link_fine m a kind t s other e h = unmoved_left t h
+link_fine m a kind t s (messages.Notice n) e l h = link_notice_fine m a.from a.id kind s t (participant_of kind (link_of kind s).state n) e l h (table_acts kind (link_of kind s).state n)
+link_fine m a kind t s (messages.RegisterResponse coordinator) e l h = link_registered_fine m a.relates coordinator kind s t h
+link_fine m a kind t s (messages.Fault name) e l h = link_fault_fine m a.relates kind s t h
+link_fine m a kind t s other e l h = unmoved_left t h
 
 completion_act_fine : (m : Moment) (i : Option (List ℕ)) (c : Completion) (t : Transaction) (act : Act) → StandsBehind t.phase t.seats → Fine t (completion_act m i c t act)
 unfolding completion_act

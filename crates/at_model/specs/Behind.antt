@@ -17,21 +17,23 @@ use Rattle.at_model.specs.Seats.{answered, in_state, moved, prepared}
 use Rattle.at_model.specs.Step.{plan, step, transaction_at}
 use Rattle.at_model.specs.Recover.{recover}
 use Rattle.at_model.specs.Agreement.{IsIn}
+use Rattle.at_model.specs.Links.{IsLinked}
 
--- What a phase stands behind: the durable seats are asked once every volatile one has answered; a subordinate has voted
--- once every one has (WS-AtomicTransaction 1.2, sections 3.3.1 and 3.3.3).
+-- What a phase stands behind: the durable seats are asked once every volatile one has answered; a subordinate has voted,
+-- and a transaction has decided, once every one has (WS-AtomicTransaction 1.2, sections 3.3.1 and 3.3.3).
 abbrev pub StandsBehind : Phase → List Enlistment → Type 0
 StandsBehind Phase.Registering seats = Unit {0}
 StandsBehind Phase.Active seats = Unit {0}
 StandsBehind Phase.Volatile seats = Unit {0}
 StandsBehind Phase.Durable seats = answered kinds.Volatile seats ≡ true
 StandsBehind Phase.Voted seats = (answered kinds.Volatile seats ≡ true) × (answered kinds.Durable seats ≡ true)
-StandsBehind Phase.Committing seats = Unit {0}
+StandsBehind Phase.Committing seats = (answered kinds.Volatile seats ≡ true) × (answered kinds.Durable seats ≡ true)
 StandsBehind Phase.Aborting seats = Unit {0}
 
--- Each transaction stands behind the answers that its phase wants.
-abbrev pub IsInPhase : Book → Type 0
-IsInPhase b = AllByRecursion (λ t. StandsBehind t.phase t.seats) b.transactions
+-- Each transaction stands behind the answers that its phase wants, and its links are as its phase wants.
+pub record IsInPhase (b : Book) : Type 0 where
+  pub answers : AllByRecursion (λ t. StandsBehind t.phase t.seats) b.transactions
+  pub links : IsLinked b
 
 -- a participant as it was accepted: all of its seat but the state
 pub record Accepted : Type 0 where
