@@ -195,9 +195,10 @@ decided_told old m g h =
 -- what is told to commit has answered
 told_answered : (seats : List Enlistment) → answered kinds.Volatile seats ≡ true → answered kinds.Durable seats ≡ true
     → StandsBehind Phase.Committing (moved (in_state states.Prepared) states.Committing seats)
-told_answered seats h k =
-    (answered_moved kinds.Volatile (in_state states.Prepared) states.Committing seats refl refl h,
-    answered_moved kinds.Durable (in_state states.Prepared) states.Committing seats refl refl k)
+told_answered seats h k = (
+  answered_moved kinds.Volatile (in_state states.Prepared) states.Committing seats refl refl h,
+  answered_moved kinds.Durable (in_state states.Prepared) states.Committing seats refl refl k,
+)
 
 decided_fine : (old : Transaction) (m : Moment) (g : Moving Transaction) → All old g → Stands old (decided m g).item
 unfolding decided
