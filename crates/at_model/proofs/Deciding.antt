@@ -98,6 +98,10 @@ pub either_has : {A : Type 0} (P : Option A → Type 0) (Q : Record → Option A
     → (b ≡ true → DecisionHas P Q d) → (b ≡ false → DecisionHas P Q e) → DecisionHas P Q (if b then d else e)
 either_has P Q b d e h k = either_says (λ c. P c.item) (λ r c. Q r c.item) b d e h k
 
+pub either_of : {A : Type 0} (P : A → Type 0) (b : Bool) (x y : A) → (b ≡ true → P x) → (b ≡ false → P y) → P (if b then x else y)
+either_of P true x y h k = h refl
+either_of P false x y h k = k refl
+
 pub either_left : {A : Type 0} (P : Change A → Type 0) (b : Bool) (c d : Change A) → P c → P d → P (if b then c else d)
 either_left P true c d h k = h
 either_left P false c d h k = k

@@ -61,22 +61,7 @@ no_joining a b e f h = f (subst IsJoining e h)
 no_idle : (a b : State) → a ≡ b → (IsIdle b → ⊥) → IsIdle a → ⊥
 no_idle a b e f h = f (subst IsIdle e h)
 
--- A link that is PreparedSuccess is the durable one, and the volatile one is None.
-voted_alone : (phase : Phase) (kind : Kind) (s : Superior) → AreIn phase s.volatile.state s.durable.state → (link_of kind s).state ≡ states.PreparedSuccess
-    → s.volatile.state ≡ states.None
-voted_alone Phase.Registering kinds.Volatile s (v, d) e = absurd (no_joining s.volatile.state states.PreparedSuccess e (λ x. x) v)
-voted_alone Phase.Registering kinds.Durable s (v, d) e = absurd (no_joining s.durable.state states.PreparedSuccess e (λ x. x) d)
-voted_alone Phase.Active kinds.Volatile s (v, d) e = absurd (no_idle s.volatile.state states.PreparedSuccess e (λ x. x) v)
-voted_alone Phase.Active kinds.Durable s (v, d) e = absurd (no_joining s.durable.state states.PreparedSuccess e (λ x. x) d)
-voted_alone Phase.Volatile kinds.Volatile s (inl (v, d)) e = cc
-voted_alone Phase.Volatile kinds.Durable s (inl (v, d)) e = absurd (no_joining s.durable.state states.PreparedSuccess e (λ x. x) d)
-voted_alone Phase.Volatile kind s (inr (v, d)) e = v
-voted_alone Phase.Durable kind s (v, d) e = v
-voted_alone Phase.Voted kind s (v, d) e = v
-voted_alone Phase.Committing kind s (v, d) e = v
-voted_alone Phase.Aborting kind s (v, d) e = v
-
--- and the subordinate has voted
+-- Where a link is PreparedSuccess, the subordinate has voted, and its volatile link is None.
 pub has_voted : (phase : Phase) (kind : Kind) (s : Superior) → AreIn phase s.volatile.state s.durable.state → (link_of kind s).state ≡ states.PreparedSuccess
     → phase ≡ Phase.Voted
 has_voted Phase.Registering kinds.Volatile s (v, d) e = absurd (no_joining s.volatile.state states.PreparedSuccess e (λ x. x) v)
@@ -94,6 +79,12 @@ has_voted Phase.Committing kinds.Volatile s (v, d) e = absurd cc
 has_voted Phase.Committing kinds.Durable s (v, d) e = absurd cc
 has_voted Phase.Aborting kinds.Volatile s (v, d) e = absurd cc
 has_voted Phase.Aborting kinds.Durable s (v, d) e = absurd cc
+
+voted_alone : (phase : Phase) (kind : Kind) (s : Superior) → AreIn phase s.volatile.state s.durable.state → (link_of kind s).state ≡ states.PreparedSuccess
+    → s.volatile.state ≡ states.None
+voted_alone phase kind s h e =
+    let k : AreIn Phase.Voted s.volatile.state s.durable.state = subst (λ p. AreIn p s.volatile.state s.durable.state) (has_voted phase kind s h e) h in
+    k.0
 
 -- While a volatile link is Active, the durable one isn't asked.
 unasked : (phase : Phase) (s : Superior) → AreIn phase s.volatile.state s.durable.state → s.volatile.state ≡ states.Active → IsJoining s.durable.state

@@ -25,12 +25,12 @@ use Rattle.at_model.specs.Moves.{Change, Decision}
 use Rattle.at_model.specs.Seats.{answered}
 use Rattle.at_model.specs.Arrivals.{with_answer}
 use Rattle.at_model.specs.Register.{Registration, accepts, may_complete, may_register, accept, register_new, register_again, on_register, protocol_named, held_seat}
-use Rattle.at_model.specs.Create.{Creation, create_under, create_in, on_create, refuse_create}
+use Rattle.at_model.specs.Create.{create_under, create_in, on_create, refuse_create}
 use Rattle.at_model.specs.Step.{Outcome, Plan, still, at_time, moment_of, put_transaction, put_leaf, put_activity, make_transaction, make_leaf, make_activity, outcome_of, registration_outcome, plan, step, transaction_at}
 use Rattle.at_model.specs.Recover.{live, is_sub_committed, transactions_of, recovered_seat, recovered_voted, recover}
 use Rattle.at_model.specs.Behind.{StandsBehind, IsInPhase, HasDecided, HasVoted, HasCommitted, Passed, DecidesBehindEveryAnswer}
 use Rattle.at_model.specs.Shapes.{MovesTransaction, Shape, at_seat, at_link, at_completion, when_due, nothing_moves, time_moves, transaction_moves, leaf_moves, activity_moves, transaction_registers, transaction_made, leaf_made, activity_made}
-use Rattle.at_model.proofs.Deciding.{first_true, second_true, Both, in_branch, plain_both, decision_both, IfThere, decided_says, says_entry, decided_entry, all_find, all_put, all_join}
+use Rattle.at_model.proofs.Deciding.{either_of, first_true, second_true, Both, in_branch, plain_both, decision_both, IfThere, decided_says, says_entry, decided_entry, all_find, all_put, all_join}
 use Rattle.at_model.proofs.Keeping.{IsOfLeaf, NamesLeaf, HasBoth, NoRecord}
 use Rattle.at_model.proofs.Drawing.{leaf_moved_kept, activity_moved_kept}
 use Rattle.at_model.proofs.Living.{all_in_order, no_entry}
@@ -64,10 +64,6 @@ moved_fine b e now t d l h (when_due is) =
 abbrev InPhase : Transaction → Type 0
 InPhase t = StandsBehind t.phase t.seats
 
-either_registered : (b : Bool) (x y : Registration) → (b ≡ true → InPhase x.transaction) → (b ≡ false → InPhase y.transaction) → InPhase (if b then x else y).transaction
-either_registered true x y h k = h refl
-either_registered false x y h k = k refl
-
 accepting : (phase : Phase) (seats : List Enlistment) → accepts phase ≡ true → StandsBehind phase seats
 accepting Phase.Registering seats e = tt
 accepting Phase.Active seats e = tt
@@ -94,8 +90,8 @@ register_new_stands : (m : Moment) (a : Arrived) (r : Register) (t : Transaction
 unfolding register_new
 register_new_stands m a r t None h = h
 register_new_stands m a r t (Some kind) h =
-    either_registered (not a.postable) _ _ (λ e. h)
-    (λ e. either_registered (may_register t kind) _ _ (λ f. accept_stands m a t r.participant kind (then_accepts t kind f) h) (λ f. h))
+    either_of (λ (x : Registration). InPhase x.transaction) (not a.postable) _ _ (λ e. h)
+    (λ e. either_of (λ (x : Registration). InPhase x.transaction) (may_register t kind) _ _ (λ f. accept_stands m a t r.participant kind (then_accepts t kind f) h) (λ f. h))
 
 register_again_stands : (m : Moment) (a : Arrived) (r : Register) (t : Transaction) (kind : Option (Option Kind)) (held : Option Epr) → InPhase t
     → InPhase (register_again m a r t kind held).transaction
@@ -108,10 +104,6 @@ unfolding on_register
 register_stands m a r t h = register_again_stands m a r t (protocol_named r.protocol) (held_seat m r t (protocol_named r.protocol)) h
 
 -- a transaction that is made
-either_created : (b : Bool) (x y : Creation) → IfThere InPhase x.transaction → IfThere InPhase y.transaction → IfThere InPhase (if b then x else y).transaction
-either_created true x y h k = h
-either_created false x y h k = k
-
 under_stands : (m : Moment) (id : Numbers) (a : Arrived) (c : Create) (current : Context) (r : Reply) → IfThere InPhase (create_under m id a c current r).transaction
 unfolding create_under
 under_stands m id a c current (replies.At reply) = tt
@@ -127,7 +119,7 @@ created_stands : (m : Moment) (live : ℕ) (a : Arrived) (c : Create) (id : Numb
 unfolding on_create
 created_stands m live a c id t e =
     subst (IfThere InPhase) e
-    (either_created (bytes_eq c.coordination atomic && nat_lt live 1024) (create_in m id a c c.current) (refuse_create a) (in_stands m id a c c.current) tt)
+    (either_of (λ x. IfThere InPhase x.transaction) (bytes_eq c.coordination atomic && nat_lt live 1024) (create_in m id a c c.current) (refuse_create a) (λ k. (in_stands m id a c c.current)) (λ k. tt))
 
 -- a step
 left_stands : (old : Transaction) (t : Option Transaction) → IfThere (Stands old) t → IfThere InPhase t
