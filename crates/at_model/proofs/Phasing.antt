@@ -1,7 +1,8 @@
 -- A transaction stays behind the answers of its phase, and what it records is behind every answer.
-use Rattle.std.specs.Prelude.{ℕ, List, [], ◌∷◌, ◌++◌, Option, Some, None, Bool, true, false, ◌≡◌, refl, if◌then◌else◌, not, ◌&&◌, ◌||◌, nat_eq, map}
+use Rattle.std.specs.Prelude.{◌⊎◌, ℕ, List, [], ◌∷◌, ◌++◌, Option, Some, None, Bool, true, false, ◌≡◌, refl, if◌then◌else◌, not, ◌&&◌, ◌||◌, nat_eq, map}
 use Rattle.std.specs.List.{list_any, AllByRecursion}
-use Rattle.std.proofs.Common.{ap, sym, subst, ◌∙◌}
+use Rattle.std.proofs.lemmas.Bool.{eqb-true}
+use Rattle.std.proofs.Common.{inl, inr, ap, sym, subst, ◌∙◌}
 use Rattle.at_base.specs.Numbers.{Numbers}
 use Rattle.at_base.specs.declared.epr.Epr.{Epr}
 use Rattle.at_base.specs.declared.notice.Kind.{Kind}
@@ -29,7 +30,7 @@ use Rattle.at_base.specs.declared.record.Seated.{Seated}
 use Rattle.at_tables.specs.declared.cells.State.{State}
 use Rattle.at_model.specs.Seats.{is_of, move_if, moved, prepared, seat_in}
 use Rattle.at_model.specs.Arrivals.{registered}
-use Rattle.at_model.specs.Behind.{StandsBehind, accepted_as, AreAnswered, HasDecided, HasVoted}
+use Rattle.at_model.specs.Behind.{StandsBehind, IsUnanswered, accepted_as, AreAnswered, HasDecided, HasVoted}
 use Rattle.at_base.specs.declared.outs.Post.{Post}
 use Rattle.at_base.specs.declared.outs.Effect.{Effect}
 use Rattle.at_base.specs.declared.outs.Effect.TheVariants as effects
@@ -104,6 +105,62 @@ behind_moved Phase.Voted test state seats e f (h, k) = (answered_moved kinds.Vol
 behind_moved Phase.Committing test state seats e f (h, k) = (answered_moved kinds.Volatile test state seats e f h, answered_moved kinds.Durable test state seats e f k)
 behind_moved Phase.Aborting test state seats e f h = tt
 
+-- seats on their way through a step: but for one, what had not answered has not answered yet
+abbrev Follows : ℕ → Enlistment → Enlistment → Type 0
+Follows last old new = (old.number ≡ last) ⊎ (IsUnanswered old.state → IsUnanswered new.state)
+
+abbrev pub AreFollowing : ℕ → List Enlistment → List Enlistment → Type 0
+AreFollowing last [] [] = Unit {0}
+AreFollowing last (o ∷ os) (n ∷ ns) = Follows last o n × AreFollowing last os ns
+AreFollowing last olds news = ⊥
+
+follow_same : (last : ℕ) (seats : List Enlistment) → AreFollowing last seats seats
+follow_same last [] = tt
+follow_same last (s ∷ ss) = (inr (λ h. h), follow_same last ss)
+
+asked_follows : (b : Bool) (last : ℕ) (o n : Enlistment) → Follows last o n → Follows last o (record n { state = if b then states.Preparing else n.state })
+asked_follows b last o n (inl e) = inl e
+asked_follows true last o n (inr h) = inr (λ k. tt)
+asked_follows false last o n (inr h) = inr h
+
+follow_asked : (last : ℕ) (test : Enlistment → Bool) (olds news : List Enlistment) → AreFollowing last olds news → AreFollowing last olds (moved test states.Preparing news)
+follow_asked last test [] [] h = tt
+follow_asked last test [] (n ∷ ns) h = absurd h
+follow_asked last test (o ∷ os) [] h = absurd h
+follow_asked last test (o ∷ os) (n ∷ ns) (h, k) = (asked_follows (test n) last o n h, follow_asked last test os ns k)
+
+seat_follows : (b : Bool) (last : ℕ) (state : State) (s : Enlistment) → nat_eq s.number last ≡ b → Follows last s (record s { state = if b then state else s.state })
+seat_follows true last state s e = inl (eqb-true s.number last e)
+seat_follows false last state s e = inr (λ h. h)
+
+follow_seat : (last : ℕ) (state : State) (seats : List Enlistment) → AreFollowing last seats (moved (λ s. nat_eq s.number last) state seats)
+follow_seat last state [] = tt
+follow_seat last state (s ∷ ss) = (seat_follows (nat_eq s.number last) last state s refl, follow_seat last state ss)
+
+no_answer : (kind : Kind) (state : State) → IsUnanswered state
+    → ((is_kind kind kinds.Volatile && is_state state states.Active) || (is_kind kind kinds.Volatile && is_state state states.Preparing)) ≡ false
+    → ((is_kind kind kinds.Durable && is_state state states.Active) || (is_kind kind kinds.Durable && is_state state states.Preparing)) ≡ false → ⊥
+no_answer kinds.Volatile states.Active h e f = absurd cc
+no_answer kinds.Volatile states.Preparing h e f = absurd cc
+no_answer kinds.Durable states.Active h e f = absurd cc
+no_answer kinds.Durable states.Preparing h e f = absurd cc
+no_answer kind other h e f = absurd h
+
+answered_before : (last : ℕ) (o n : Enlistment) → Follows last o n → is_unanswered kinds.Volatile n ≡ false → is_unanswered kinds.Durable n ≡ false
+    → (o.number ≡ last) ⊎ (IsUnanswered o.state → ⊥)
+answered_before last o n (inl i) e f = inl i
+answered_before last o n (inr h) e f = inr (λ k. no_answer n.kind n.state (h k) e f)
+
+all_but_last : (last : ℕ) (olds news : List Enlistment) → AreFollowing last olds news → answered kinds.Volatile news ≡ true → answered kinds.Durable news ≡ true
+    → AllByRecursion (λ s. (s.number ≡ last) ⊎ (IsUnanswered s.state → ⊥)) olds
+all_but_last last [] [] h e f = tt
+all_but_last last [] (n ∷ ns) h e f = absurd h
+all_but_last last (o ∷ os) [] h e f = absurd h
+all_but_last last (o ∷ os) (n ∷ ns) (h, k) e f =
+    let (v, vs) = none_first (is_unanswered kinds.Volatile n) (list_any (is_unanswered kinds.Volatile) ns) e in
+    let (d, ds) = none_first (is_unanswered kinds.Durable n) (list_any (is_unanswered kinds.Durable) ns) f in
+    (answered_before last o n h v d, all_but_last last os ns k vs ds)
+
 -- a root that commits has every answer behind it
 pub record CommitsBehind (old : Transaction) (id : Numbers) : Type 0 where
   pub own : id ≡ old.id
@@ -123,6 +180,8 @@ pub record From (old : Transaction) (g : Moving Transaction) : Type 0 where
   pub own : g.item.id ≡ old.id
   pub accepted : map accepted_as g.item.seats ≡ map accepted_as old.seats
   pub told : AllByRecursion (IsTold old) g.effects
+  pub last : ℕ
+  pub follows : AreFollowing last old.seats g.item.seats
 
 pub record Stands (old t : Transaction) : Type 0 where
   pub own : t.id ≡ old.id
@@ -181,7 +240,10 @@ pub record All (old : Transaction) (g : Moving Transaction) : Type 0 where
   pub durable : answered kinds.Durable g.item.seats ≡ true
 
 at_decision : (old : Transaction) (g : Moving Transaction) → All old g → AreAnswered old.seats g.item.seats (prepared g.item.seats)
-at_decision old g h = record { accepted = h.from.accepted; volatile = h.volatile; durable = h.durable; prepared = refl }
+at_decision old g h = record {
+  last = h.from.last;
+  others = all_but_last h.from.last old.seats g.item.seats h.from.follows h.volatile h.durable;
+  accepted = h.from.accepted; volatile = h.volatile; durable = h.durable; prepared = refl }
 
 told_committed : (old : Transaction) (s : Option Superior) (g : Moving Transaction) → All old g → IsTold old (ending_of s g.item.id endings.Committed)
 told_committed old None g h = record { own = h.from.own; at = g.item.seats; behind = at_decision old g h }
@@ -260,7 +322,13 @@ unfolding go_durable
 go_durable_fine old m g h v =
     let a : answered kinds.Volatile (moved (is_of kinds.Durable states.Active) states.Preparing g.item.seats) ≡ true = answered_asked g.item.seats v in
     if_durable_fine old m (prepare_seats m kinds.Durable (become (in_phase Phase.Durable g.item) g))
-    (record { own = h.own; accepted = accepted_moved (is_of kinds.Durable states.Active) states.Preparing g.item.seats old.seats h.accepted; told = h.told }) a a
+    (record {
+      own = h.own;
+      accepted = accepted_moved (is_of kinds.Durable states.Active) states.Preparing g.item.seats old.seats h.accepted;
+      told = h.told;
+      last = h.last;
+      follows = follow_asked h.last (is_of kinds.Durable states.Active) old.seats g.item.seats h.follows;
+    }) a a
 
 volatile_fine : (old : Transaction) (m : Moment) (s : Option Superior) (g : Moving Transaction) → From old g → answered kinds.Volatile g.item.seats ≡ true
     → StandsBehind g.item.phase g.item.seats → Fine old (volatile_answered m s g)
@@ -291,10 +359,16 @@ go_volatile_fine : (old : Transaction) (m : Moment) (g : Moving Transaction) →
 unfolding go_volatile
 go_volatile_fine old m g h =
     advance_in_fine old m Phase.Volatile (prepare_seats m kinds.Volatile (become (in_phase Phase.Volatile g.item) g))
-    (record { own = h.own; accepted = accepted_moved (is_of kinds.Volatile states.Active) states.Preparing g.item.seats old.seats h.accepted; told = h.told }) tt tt
+    (record {
+      own = h.own;
+      accepted = accepted_moved (is_of kinds.Volatile states.Active) states.Preparing g.item.seats old.seats h.accepted;
+      told = h.told;
+      last = h.last;
+      follows = follow_asked h.last (is_of kinds.Volatile states.Active) old.seats g.item.seats h.follows;
+    }) tt tt
 
 same : (t : Transaction) (ps : List Post) → From t (record { item = t; posts = ps; effects = [] })
-same t ps = record { own = refl; accepted = refl; told = tt }
+same t ps = record { own = refl; accepted = refl; told = tt; last = 0; follows = follow_same 0 t.seats }
 
 -- the transaction with one seat that has answered or left
 seat_fine_in : (m : Moment) (number : ℕ) (state : State) (t : Transaction) → is_state state states.Active ≡ false → is_state state states.Preparing ≡ false
@@ -302,11 +376,23 @@ seat_fine_in : (m : Moment) (number : ℕ) (state : State) (t : Transaction) →
 seat_fine_in m number state t e f h =
     let k : StandsBehind t.phase (moved (λ s. nat_eq s.number number) state t.seats) = behind_moved t.phase (λ s. nat_eq s.number number) state t.seats e f h in
     advance_in_fine t m t.phase (begin (seat_in number state t))
-    (record { own = refl; accepted = accepted_moved (λ s. nat_eq s.number number) state t.seats t.seats refl; told = tt }) k k
+    (record {
+      own = refl;
+      accepted = accepted_moved (λ s. nat_eq s.number number) state t.seats t.seats refl;
+      told = tt;
+      last = number;
+      follows = follow_seat number state t.seats;
+    }) k k
 
 seat_aborts : (m : Moment) (number : ℕ) (state : State) (t : Transaction) → Left t (abort m Alone (begin (seat_in number state t)))
 seat_aborts m number state t =
-    abort_fine t m Alone (begin (seat_in number state t)) (record { own = refl; accepted = accepted_moved (λ s. nat_eq s.number number) state t.seats t.seats refl; told = tt })
+    abort_fine t m Alone (begin (seat_in number state t)) (record {
+      own = refl;
+      accepted = accepted_moved (λ s. nat_eq s.number number) state t.seats t.seats refl;
+      told = tt;
+      last = number;
+      follows = follow_seat number state t.seats;
+    })
 
 unmoved : (t : Transaction) → StandsBehind t.phase t.seats → Stands t t
 unmoved t h = record { own = refl; accepted = refl; behind = h }
@@ -377,7 +463,7 @@ link_act_fine m from i kind s t acts.FaultInvalidStateAndAbort e l h k = search 
 link_act_fine m from i kind s t acts.Leave e l h k = search fine
 link_act_fine m from i kind s t acts.LeaveAndAbort e l h k = search fine
 link_act_fine m from i kind s t acts.Vote e l h k = search fine
-link_act_fine m from i kind s t acts.Gather e l h k = go_volatile_fine t m _ (record { own = refl; accepted = refl; told = tt })
+link_act_fine m from i kind s t acts.Gather e l h k = go_volatile_fine t m _ (record { own = refl; accepted = refl; told = tt; last = 0; follows = follow_same 0 t.seats })
 link_act_fine m from i kind s t acts.Commit e l h k = commit_fine m s t e (subst (λ p. StandsBehind p t.seats) (has_voted t.phase kind s (known t s e l).0 k) h)
 link_act_fine m from i kind s t acts.AbortAndSendAborted e l h k = search fine
 link_act_fine m from i kind s t acts.RecordAndSendAborted e l h k = record { entry = tt; landed = abort_fine t m (Asked kind from) (begin t) (same t []); otherwise = tt }
@@ -425,7 +511,7 @@ completion_act_fine : (m : Moment) (i : Option (List ℕ)) (c : Completion) (t :
 unfolding completion_act
 completion_act_fine m i c t acts.FaultUnknownTransaction h = record { item = unmoved t h; told = tt }
 completion_act_fine m i c t acts.FaultInvalidState h = record { item = unmoved t h; told = tt }
-completion_act_fine m i c t acts.Complete h = go_volatile_fine t m _ (record { own = refl; accepted = refl; told = tt })
+completion_act_fine m i c t acts.Complete h = go_volatile_fine t m _ (record { own = refl; accepted = refl; told = tt; last = 0; follows = follow_same 0 t.seats })
 completion_act_fine m i c t acts.AbortAndSendAborted h = abort_fine t m Alone (begin t) (same t [])
 completion_act_fine m i c t other h = unmoved_left t h
 

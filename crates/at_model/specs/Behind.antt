@@ -1,5 +1,5 @@
 -- A root decides and a subordinate votes only behind every answer: over whole steps of a book.
-use Rattle.std.specs.Prelude.{ℕ, List, Some, Bool, true, map, ◌≡◌}
+use Rattle.std.specs.Prelude.{ℕ, List, Some, Bool, true, map, ◌≡◌, ◌⊎◌}
 use Rattle.std.specs.List.{AllByRecursion}
 use Rattle.at_base.specs.Numbers.{Numbers}
 use Rattle.at_base.specs.declared.epr.Epr.{Epr}
@@ -11,6 +11,7 @@ use Rattle.at_base.specs.declared.record.Record.TheVariants as records
 use Rattle.at_base.specs.declared.event.Event.{Event}
 use Rattle.at_base.specs.declared.outs.Ending.TheVariants as endings
 use Rattle.at_base.specs.declared.outs.Effect.TheVariants as effects
+use Rattle.at_tables.specs.declared.cells.State.{State}
 use Rattle.at_tables.specs.declared.cells.State.TheVariants as states
 use Rattle.at_model.specs.Book.{Book, Transaction, Enlistment, Phase}
 use Rattle.at_model.specs.Seats.{answered, in_state, moved, prepared}
@@ -44,9 +45,18 @@ pub record Accepted : Type 0 where
 abbrev pub accepted_as : Enlistment → Accepted
 accepted_as s = record { number = s.number; kind = s.kind; participant = s.participant }
 
--- The seats as they stand at a decision or a vote: all that the transaction accepted, each of them answered, and the
--- record names the durable ones that are Prepared.
+-- it was asked, or is still to be asked
+abbrev pub IsUnanswered : State → Type 0
+IsUnanswered states.Active = Unit {0}
+IsUnanswered states.Preparing = Unit {0}
+IsUnanswered other = ⊥
+
+-- The seats as they stand at a decision or a vote: all that the transaction accepted, each of them answered, where all but
+-- one had answered before the step; and the record names the durable ones that are Prepared.
 pub record AreAnswered (before at : List Enlistment) (named : List Seated) : Type 0 where
+  -- the number of the seat that answered last
+  pub last : ℕ
+  pub others : AllByRecursion (λ s. (s.number ≡ last) ⊎ (IsUnanswered s.state → ⊥)) before
   pub accepted : map accepted_as at ≡ map accepted_as before
   pub volatile : answered kinds.Volatile at ≡ true
   pub durable : answered kinds.Durable at ≡ true
