@@ -243,7 +243,11 @@ at_decision : (old : Transaction) (g : Moving Transaction) → All old g → Are
 at_decision old g h = record {
   last = h.from.last;
   others = all_but_last h.from.last old.seats g.item.seats h.from.follows h.volatile h.durable;
-  accepted = h.from.accepted; volatile = h.volatile; durable = h.durable; prepared = refl }
+  accepted = h.from.accepted;
+  volatile = h.volatile;
+  durable = h.durable;
+  prepared = refl;
+}
 
 told_committed : (old : Transaction) (s : Option Superior) (g : Moving Transaction) → All old g → IsTold old (ending_of s g.item.id endings.Committed)
 told_committed old None g h = record { own = h.from.own; at = g.item.seats; behind = at_decision old g h }
