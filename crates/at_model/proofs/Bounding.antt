@@ -41,7 +41,7 @@ use Rattle.std.proofs.Common.{length-append}
 use Rattle.at_base.specs.declared.message.Create.{Create}
 use Rattle.at_model.specs.Addresses.{atomic}
 use Rattle.at_model.specs.Register.{accepts, new_seat}
-use Rattle.at_model.specs.Create.{Creation, create_under, create_in, on_create, refuse_create}
+use Rattle.at_model.specs.Create.{create_under, create_in, on_create, refuse_create}
 use Rattle.at_model.proofs.Standing.{then_accepts, then_room}
 use Rattle.at_base.specs.IdText.{IsId}
 use Rattle.at_base.specs.WellFormed.{IsEndpoint, Rises, AreSeats, IsWellFormed}
@@ -49,7 +49,7 @@ use Rattle.at_base.specs.declared.target.Target.TheVariants as targets
 use Rattle.at_model.specs.Seats.{seated, set_link, link_of, link_in, is_open, completed}
 use Rattle.at_model.specs.Abort.{without_links}
 use Rattle.at_model.proofs.Asking.{ActsAt, CellAt, table_acts}
-use Rattle.at_model.proofs.Deciding.{DecisionHas, IfThere, either_has, either_change, with_answer_has, all_join}
+use Rattle.at_model.proofs.Deciding.{either_of, first_true, DecisionHas, IfThere, either_has, either_change, with_answer_has, all_join}
 use Rattle.at_model.specs.Sound.{IsSoundMessage, IfKnown, KnowsLinks, KnowsSuperior, AreNumbered, SeatsRise, IsPastAsking, IsPastPrepare, ArePastPrepare, IsSealed, IsBounded, IsSoundTransaction}
 
 -- seats that change their states alone
@@ -487,10 +487,6 @@ not_registering states.PreparedSuccess h e = absurd cc
 not_registering states.Committing h e = absurd cc
 not_registering other h e = absurd h
 
-both_first : (a b : Bool) → (a && b) ≡ true → a ≡ true
-both_first true b e = refl
-both_first false b e = absurd cc
-
 still_registering : (kind : Kind) (s : Superior) (t : Transaction) → t.superior ≡ Some s → is_state (link_of kind s).state states.Registering ≡ true
     → AreNumbered 0 t.seats ⊎ IsSealed t.phase t.superior t.completion t.seats → AreNumbered 0 t.seats
 still_registering kind s t e r (inl h) = h
@@ -514,7 +510,7 @@ link_registered_sound m relates coordinator kind s t w e h =
     let waits : Bool = is_state (link_of kind s).state states.Registering in
     let answers : Bool = relates_to relates (register_id m.base (targets.Participant t.id kind)) in
     either (waits && answers) (Goes (stays (begin (record t { superior = Some after; phase = registered after t.phase })))) (ignored t)
-    (λ k. now_registered m coordinator kind s t w e h (both_first waits answers k)) (λ k. h)
+    (λ k. now_registered m coordinator kind s t w e h (first_true waits answers k)) (λ k. h)
 
 link_fault_sound : (m : Moment) (relates : Option (List ℕ)) (kind : Kind) (s : Superior) (t : Transaction) → IsSoundTransaction t → Sound (link_fault m relates kind s t)
 unfolding link_fault
@@ -579,11 +575,6 @@ pub with_answer_sound : (m : Moment) (t : Transaction) (d : Decision Transaction
 with_answer_sound m t d h = with_answer_has (IfThere IsSoundTransaction) WellFormed unrequested_sound (λ r s x e k. k) m t d h
 
 -- registration
-either_registered : (b : Bool) (x y : Registration) → (b ≡ true → IsSoundTransaction x.transaction) → (b ≡ false → IsSoundTransaction y.transaction)
-    → IsSoundTransaction (if b then x else y).transaction
-either_registered true x y h k = h refl
-either_registered false x y h k = k refl
-
 numbered_behind : (last : ℕ) (seats : List Enlistment) (s : Enlistment) → AreNumbered last seats → s.number ≡ last + length seats + 1 → AreNumbered last (seats ++ s ∷ [])
 numbered_behind last [] s h e = (omega (arith, e), tt)
 numbered_behind last (x ∷ xs) s (h, k) e = (h, numbered_behind (last + 1) xs s k (omega (arith, e)))
@@ -627,8 +618,8 @@ register_new_sound : (m : Moment) (a : Arrived) (r : Register) (t : Transaction)
 unfolding register_new
 register_new_sound m a r t None w h = h
 register_new_sound m a r t (Some kind) w h =
-    either_registered (not a.postable) _ _ (λ e. h)
-    (λ e. either_registered (may_register t kind) _ _ (λ f. accept_sound m a t r.participant kind w f h) (λ f. h))
+    either_of (λ (x : Registration). IsSoundTransaction x.transaction) (not a.postable) _ _ (λ e. h)
+    (λ e. either_of (λ (x : Registration). IsSoundTransaction x.transaction) (may_register t kind) _ _ (λ f. accept_sound m a t r.participant kind w f h) (λ f. h))
 
 register_again_sound : (m : Moment) (a : Arrived) (r : Register) (t : Transaction) (kind : Option (Option Kind)) (held : Option Epr) → IsEndpoint r.participant → IsSoundTransaction t
     → IsSoundTransaction (register_again m a r t kind held).transaction
@@ -641,10 +632,6 @@ unfolding on_register
 register_sound m a r t w h = register_again_sound m a r t (protocol_named r.protocol) (held_seat m r t (protocol_named r.protocol)) w h
 
 -- what is made
-either_created : (b : Bool) (x y : Creation) → IfThere IsSoundTransaction x.transaction → IfThere IsSoundTransaction y.transaction → IfThere IsSoundTransaction (if b then x else y).transaction
-either_created true x y h k = h
-either_created false x y h k = k
-
 under_sound : (m : Moment) (id : Numbers) (a : Arrived) (c : Create) (current : Context) (r : Reply) → IsId id → IfThere IsSoundTransaction (create_under m id a c current r).transaction
 unfolding create_under
 under_sound m id a c current (replies.At reply) h = record {
@@ -663,4 +650,4 @@ pub created_sound : (m : Moment) (live : ℕ) (a : Arrived) (c : Create) (id : N
 unfolding on_create
 created_sound m live a c id t h e =
     subst (IfThere IsSoundTransaction) e
-    (either_created (bytes_eq c.coordination atomic && nat_lt live 1024) (create_in m id a c c.current) (refuse_create a) (in_sound m id a c c.current h) tt)
+    (either_of (λ x. IfThere IsSoundTransaction x.transaction) (bytes_eq c.coordination atomic && nat_lt live 1024) (create_in m id a c c.current) (refuse_create a) (λ k. (in_sound m id a c c.current h)) (λ k. tt))

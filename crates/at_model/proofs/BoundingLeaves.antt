@@ -1,5 +1,5 @@
 -- What a sound leaf becomes is sound, and what it records is well-formed.
-use Rattle.std.specs.Prelude.{ℕ, List, Option, Some, None, Bool, true, false, if◌then◌else◌, nat_lt, ◌≡◌}
+use Rattle.std.specs.Prelude.{ℕ, List, Option, Some, None, Bool, if◌then◌else◌, nat_lt, ◌≡◌}
 use Rattle.std.proofs.Common.{subst}
 use Rattle.at_base.specs.Numbers.{Numbers}
 use Rattle.at_base.specs.declared.epr.Epr.{Epr}
@@ -24,11 +24,11 @@ use Rattle.at_model.specs.Book.{Leaf}
 use Rattle.at_model.specs.Moves.{Decision, ignored}
 use Rattle.at_model.specs.Leaves.{leaf_votes, leaf_records_vote, leaf_commit, leaf_roll_back, leaf_act, leaf_notice, answers_leaf, leaf_registered, drops_leaf, leaf_fault, on_leaf}
 use Rattle.at_model.specs.Due.{Reached, Expired, Over, Unanswered, Nothing, leaf_reached, leaf_expires}
-use Rattle.at_model.specs.Leaves.{Employment, leaf_prepares, refuse_work, work_for, on_work}
+use Rattle.at_model.specs.Leaves.{leaf_prepares, refuse_work, work_for, on_work}
 use Rattle.at_base.specs.IdText.{IsId}
 use Rattle.at_base.specs.WellFormed.{IsEndpoint, IsField, IsWellFormed}
 use Rattle.at_base.specs.declared.message.Work.{Work}
-use Rattle.at_model.proofs.Deciding.{DecisionHas, IfThere, either_has, either_change}
+use Rattle.at_model.proofs.Deciding.{either_of, DecisionHas, IfThere, either_has, either_change}
 use Rattle.at_model.specs.Sound.{IsSoundMessage, IfKnown, IsSoundLeaf}
 
 -- leaves
@@ -107,10 +107,6 @@ leaf_due_sound m l Over h = h
 leaf_due_sound m l Unanswered h = record { id = h.id; coordinator = h.coordinator; key = h.key; value = h.value }
 leaf_due_sound m l Nothing h = h
 
-either_employed : (b : Bool) (x y : Employment) → IfThere IsSoundLeaf x.leaf → IfThere IsSoundLeaf y.leaf → IfThere IsSoundLeaf (if b then x else y).leaf
-either_employed true x y h k = h
-either_employed false x y h k = k
-
 for_sound : (m : Moment) (id : Numbers) (a : Arrived) (w : Work) (r : Reply) → IsId id → IsField w.key → IsField w.value → IfThere IsSoundLeaf (work_for m id a w r).leaf
 for_sound m id a w (replies.At reply) h k v = record { id = h; coordinator = tt; key = k; value = v }
 for_sound m id a w replies.Anonymous h k v = tt
@@ -120,4 +116,4 @@ pub employed_sound : (m : Moment) (live : ℕ) (a : Arrived) (w : Work) (id : Nu
     → IsSoundLeaf l
 unfolding on_work
 employed_sound m live a w id l h k v e =
-    subst (IfThere IsSoundLeaf) e (either_employed (nat_lt live 1024) (work_for m id a w a.reply) (refuse_work a) (for_sound m id a w a.reply h k v) tt)
+    subst (IfThere IsSoundLeaf) e (either_of (λ x. IfThere IsSoundLeaf x.leaf) (nat_lt live 1024) (work_for m id a w a.reply) (refuse_work a) (λ i. for_sound m id a w a.reply h k v) (λ i. tt))

@@ -1,5 +1,5 @@
 -- What holds of a decision: a property of what is left of the item, and one of what is recorded, with what is then left.
-use Rattle.std.specs.Prelude.{List, [], ◌∷◌, ◌++◌, Option, Some, None, Bool, true, false, if◌then◌else◌, filter, map, ◌≡◌}
+use Rattle.std.specs.Prelude.{List, [], ◌∷◌, ◌++◌, Option, Some, None, Bool, true, false, ◌&&◌, if◌then◌else◌, filter, map, ◌≡◌}
 use Rattle.std.specs.List.{AllByRecursion}
 use Rattle.std.proofs.Common.{refl, subst}
 use Rattle.at_base.specs.Numbers.{Numbers}
@@ -98,12 +98,24 @@ pub either_has : {A : Type 0} (P : Option A → Type 0) (Q : Record → Option A
     → (b ≡ true → DecisionHas P Q d) → (b ≡ false → DecisionHas P Q e) → DecisionHas P Q (if b then d else e)
 either_has P Q b d e h k = either_says (λ c. P c.item) (λ r c. Q r c.item) b d e h k
 
+pub either_of : {A : Type 0} (P : A → Type 0) (b : Bool) (x y : A) → (b ≡ true → P x) → (b ≡ false → P y) → P (if b then x else y)
+either_of P true x y h k = h refl
+either_of P false x y h k = k refl
+
 pub either_left : {A : Type 0} (P : Change A → Type 0) (b : Bool) (c d : Change A) → P c → P d → P (if b then c else d)
 either_left P true c d h k = h
 either_left P false c d h k = k
 
 pub either_change : {A : Type 0} (P : Option A → Type 0) (b : Bool) (c d : Change A) → P c.item → P d.item → P (if b then c else d).item
 either_change P b c d h k = either_left (λ x. P x.item) b c d h k
+
+pub first_true : (a b : Bool) → (a && b) ≡ true → a ≡ true
+first_true true b e = refl
+first_true false b e = absurd cc
+
+pub second_true : (a b : Bool) → (a && b) ≡ true → b ≡ true
+second_true true b e = e
+second_true false b e = absurd cc
 
 -- lists by id
 found_if : {A : Type 0} (P : A → Type 0) (b : Bool) (x y : A) (o : Option A) → P x → (o ≡ Some y → P y) → (if b then Some x else o) ≡ Some y → P y

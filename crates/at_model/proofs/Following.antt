@@ -1,5 +1,5 @@
 -- Over steps and recovery a subordinate's links follow its phase.
-use Rattle.std.specs.Prelude.{ℕ, List, [], ◌∷◌, Option, Some, None, Bool, true, false, not, ◌&&◌, nat_lt, if◌then◌else◌, length, bytes_eq, ◌≡◌, refl}
+use Rattle.std.specs.Prelude.{ℕ, List, [], ◌∷◌, Option, Some, None, Bool, true, false, not, ◌&&◌, nat_lt, length, bytes_eq, ◌≡◌, refl}
 use Rattle.std.specs.List.{list_any, AllByRecursion}
 use Rattle.std.proofs.Common.{sym, subst}
 use Rattle.at_base.specs.Numbers.{Numbers}
@@ -22,7 +22,7 @@ use Rattle.at_model.specs.Addresses.{atomic}
 use Rattle.at_model.specs.Moves.{Decision}
 use Rattle.at_model.specs.Arrivals.{with_answer}
 use Rattle.at_model.specs.Register.{Registration, accepts, may_complete, may_register, accept, register_new, register_again, on_register, protocol_named, held_seat}
-use Rattle.at_model.specs.Create.{Creation, create_under, create_in, on_create, refuse_create}
+use Rattle.at_model.specs.Create.{create_under, create_in, on_create, refuse_create}
 use Rattle.at_model.specs.Step.{Outcome, Plan, still, at_time, moment_of, put_transaction, put_leaf, put_activity, make_transaction, make_leaf, make_activity, registration_outcome, plan, step}
 use Rattle.at_model.specs.Recover.{live, is_sub_committed, transactions_of, recovered_voted}
 use Rattle.at_model.specs.Shapes.{MovesTransaction, Shape, at_seat, at_link, at_completion, when_due, nothing_moves, time_moves, transaction_moves, leaf_moves, activity_moves, transaction_registers, transaction_made, leaf_made, activity_made}
@@ -31,8 +31,7 @@ use Rattle.at_model.proofs.Shaping.{steps_touch_one}
 use Rattle.std.specs.Prelude.{is_none}
 use Rattle.at_model.specs.Book.{Completion, Superior}
 use Rattle.at_model.specs.Links.{AreLinked, IsLinked, LinksFollowPhases}
-use Rattle.at_model.proofs.Deciding.{Both, in_branch, plain_both, decision_both, IfThere, decided_both, all_find, all_put, all_join}
-use Rattle.at_model.proofs.Standing.{first_true}
+use Rattle.at_model.proofs.Deciding.{either_of, first_true, second_true, Both, in_branch, plain_both, decision_both, IfThere, decided_both, all_find, all_put, all_join}
 use Rattle.at_model.proofs.Linking.{Linked, AnyRecord, Links, seat_links, link_links, completion_links, due_links, with_answer_links}
 
 moved_links : (b : Book) (e : Event) (now : ℕ) (t : Transaction) (d : Decision Transaction) → Linked t → MovesTransaction b e now t d → Links (with_answer (moment_of b now) t d)
@@ -46,14 +45,6 @@ moved_links b e now t d h (when_due is) =
     with_answer_links (moment_of b now) t d (subst Links (sym is) (due_links (moment_of b now) t _ h))
 
 -- a registration: only a root takes one for Completion
-either_registered : (b : Bool) (x y : Registration) → (b ≡ true → Linked x.transaction) → (b ≡ false → Linked y.transaction) → Linked (if b then x else y).transaction
-either_registered true x y h k = h refl
-either_registered false x y h k = k refl
-
-both_second : (a b : Bool) → (a && b) ≡ true → b ≡ true
-both_second true b e = e
-both_second false b e = absurd cc
-
 none_is : (s : Option Superior) → is_none s ≡ true → s ≡ None
 none_is None e = refl
 none_is (Some s) e = absurd cc
@@ -61,7 +52,7 @@ none_is (Some s) e = absurd cc
 then_root : (t : Transaction) → may_register t None ≡ true → t.superior ≡ None
 then_root t e =
     none_is t.superior
-    (first_true (is_none t.superior) (is_none t.completion) (both_second (accepts t.phase && nat_lt (length t.seats) 64) (may_complete t None) e))
+    (first_true (is_none t.superior) (is_none t.completion) (second_true (accepts t.phase && nat_lt (length t.seats) 64) (may_complete t None) e))
 
 accept_linked : (m : Moment) (a : Arrived) (t : Transaction) (participant : Epr) (kind : Option Kind) → may_register t kind ≡ true → Linked t
     → Linked (accept m a t participant kind).transaction
@@ -75,8 +66,8 @@ register_new_linked : (m : Moment) (a : Arrived) (r : Register) (t : Transaction
 unfolding register_new
 register_new_linked m a r t None h = h
 register_new_linked m a r t (Some kind) h =
-    either_registered (not a.postable) _ _ (λ e. h)
-    (λ e. either_registered (may_register t kind) _ _ (λ f. accept_linked m a t r.participant kind f h) (λ f. h))
+    either_of (λ (x : Registration). Linked x.transaction) (not a.postable) _ _ (λ e. h)
+    (λ e. either_of (λ (x : Registration). Linked x.transaction) (may_register t kind) _ _ (λ f. accept_linked m a t r.participant kind f h) (λ f. h))
 
 register_again_linked : (m : Moment) (a : Arrived) (r : Register) (t : Transaction) (kind : Option (Option Kind)) (held : Option Epr) → Linked t
     → Linked (register_again m a r t kind held).transaction
@@ -89,10 +80,6 @@ unfolding on_register
 register_linked m a r t h = register_again_linked m a r t (protocol_named r.protocol) (held_seat m r t (protocol_named r.protocol)) h
 
 -- a transaction that is made
-either_created : (b : Bool) (x y : Creation) → IfThere Linked x.transaction → IfThere Linked y.transaction → IfThere Linked (if b then x else y).transaction
-either_created true x y h k = h
-either_created false x y h k = k
-
 under_linked : (m : Moment) (id : Numbers) (a : Arrived) (c : Create) (current : Context) (r : Reply) → IfThere Linked (create_under m id a c current r).transaction
 unfolding create_under
 under_linked m id a c current (replies.At reply) = ((tt, tt), refl)
@@ -108,7 +95,7 @@ created_linked : (m : Moment) (live : ℕ) (a : Arrived) (c : Create) (id : Numb
 unfolding on_create
 created_linked m live a c id t e =
     subst (IfThere Linked) e
-    (either_created (bytes_eq c.coordination atomic && nat_lt live 1024) (create_in m id a c c.current) (refuse_create a) (in_linked m id a c c.current) tt)
+    (either_of (λ x. IfThere Linked x.transaction) (bytes_eq c.coordination atomic && nat_lt live 1024) (create_in m id a c c.current) (refuse_create a) (λ k. (in_linked m id a c c.current)) (λ k. tt))
 
 -- a step
 LinkedAfter : Outcome → Type 0

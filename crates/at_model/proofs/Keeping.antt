@@ -1,5 +1,5 @@
 -- A decision leaves an item's id as it is, and what it records is about that id.
-use Rattle.std.specs.Prelude.{ℕ, List, Option, Some, None, Bool, true, false, ◌≡◌, refl, if◌then◌else◌, not}
+use Rattle.std.specs.Prelude.{ℕ, List, Option, Some, None, Bool, ◌≡◌, refl, if◌then◌else◌, not}
 use Rattle.std.specs.List.{list_any}
 use Rattle.at_base.specs.Numbers.{Numbers}
 use Rattle.at_base.specs.declared.epr.Epr.{Epr}
@@ -35,7 +35,7 @@ use Rattle.at_model.specs.Leaves.{leaf_votes, leaf_records_vote, leaf_commit, le
 use Rattle.at_model.specs.Activities.{is_begun, told, activity_target, activity_act, activity_notice, with_context, activity_created, activity_registered, activity_fault, on_activity, activity_state, on_ask, on_complete}
 use Rattle.at_model.specs.Due.{Reached, Expired, Over, Unanswered, Nothing, transaction_reached, leaf_reached, leaf_expires, activity_reached}
 use Rattle.at_model.specs.Laws.{HasId, HasLeafId}
-use Rattle.at_model.proofs.Deciding.{DecisionHas, either_has, either_change, with_answer_has}
+use Rattle.at_model.proofs.Deciding.{either_of, DecisionHas, either_has, either_change, with_answer_has}
 
 -- what a record of a transaction, and one of a leaf, is about
 abbrev pub IsOfTransaction : Numbers → Record → Type 0
@@ -240,10 +240,6 @@ pub with_answer_kept : (id : Numbers) (m : Moment) (t : Transaction) (d : Decisi
 with_answer_kept id m t d h = with_answer_has (HasId id) (Names id) (λ s x e k. k) (λ r s x e k. k) m t d h
 
 -- registration
-either_registered : (id : Numbers) (b : Bool) (x y : Registration) → x.transaction.id ≡ id → y.transaction.id ≡ id → (if b then x else y).transaction.id ≡ id
-either_registered id true x y h k = h
-either_registered id false x y h k = k
-
 accept_kept : (id : Numbers) (m : Moment) (a : Arrived) (t : Transaction) (participant : Epr) (kind : Option Kind) → t.id ≡ id → (accept m a t participant kind).transaction.id ≡ id
 unfolding accept
 accept_kept id m a t participant (Some kind) h = h
@@ -254,7 +250,8 @@ register_new_kept : (id : Numbers) (m : Moment) (a : Arrived) (r : Register) (t 
 unfolding register_new
 register_new_kept id m a r t None h = h
 register_new_kept id m a r t (Some kind) h =
-    either_registered id (not a.postable) _ _ h (either_registered id (may_register t kind) _ _ (accept_kept id m a t r.participant kind h) h)
+    either_of (λ (x : Registration). x.transaction.id ≡ id) (not a.postable) _ _ (λ e. h)
+    (λ e. either_of (λ (x : Registration). x.transaction.id ≡ id) (may_register t kind) _ _ (λ f. accept_kept id m a t r.participant kind h) (λ f. h))
 
 register_again_kept : (id : Numbers) (m : Moment) (a : Arrived) (r : Register) (t : Transaction) (kind : Option (Option Kind)) (held : Option Epr) → t.id ≡ id
     → (register_again m a r t kind held).transaction.id ≡ id

@@ -36,7 +36,7 @@ use Rattle.at_base.specs.declared.target.Target.TheVariants as targets
 use Rattle.at_model.specs.Addresses.{register_id}
 use Rattle.at_model.specs.Moves.{Goes, ignored}
 use Rattle.at_model.proofs.Asking.{ActsAt, CellAt, table_acts}
-use Rattle.at_model.proofs.Deciding.{DecisionHas, IfThere, either_has, either_change, with_answer_has}
+use Rattle.at_model.proofs.Deciding.{first_true, DecisionHas, IfThere, either_has, either_change, with_answer_has}
 
 -- links
 abbrev pub Linked : Transaction → Type 0
@@ -61,20 +61,30 @@ no_joining a b e f h = f (subst IsJoining e h)
 no_idle : (a b : State) → a ≡ b → (IsIdle b → ⊥) → IsIdle a → ⊥
 no_idle a b e f h = f (subst IsIdle e h)
 
--- A link that is PreparedSuccess is the durable one, and the volatile one is None.
+-- Where a link is PreparedSuccess, the subordinate has voted, and its volatile link is None.
+pub has_voted : (phase : Phase) (kind : Kind) (s : Superior) → AreIn phase s.volatile.state s.durable.state → (link_of kind s).state ≡ states.PreparedSuccess
+    → phase ≡ Phase.Voted
+has_voted Phase.Registering kinds.Volatile s (v, d) e = absurd (no_joining s.volatile.state states.PreparedSuccess e (λ x. x) v)
+has_voted Phase.Registering kinds.Durable s (v, d) e = absurd (no_joining s.durable.state states.PreparedSuccess e (λ x. x) d)
+has_voted Phase.Active kinds.Volatile s (v, d) e = absurd (no_idle s.volatile.state states.PreparedSuccess e (λ x. x) v)
+has_voted Phase.Active kinds.Durable s (v, d) e = absurd (no_joining s.durable.state states.PreparedSuccess e (λ x. x) d)
+has_voted Phase.Volatile kinds.Volatile s (inl (v, d)) e = absurd cc
+has_voted Phase.Volatile kinds.Volatile s (inr (v, d)) e = absurd cc
+has_voted Phase.Volatile kinds.Durable s (inl (v, d)) e = absurd (no_joining s.durable.state states.PreparedSuccess e (λ x. x) d)
+has_voted Phase.Volatile kinds.Durable s (inr (v, d)) e = absurd cc
+has_voted Phase.Durable kinds.Volatile s (v, d) e = absurd cc
+has_voted Phase.Durable kinds.Durable s (v, d) e = absurd cc
+has_voted Phase.Voted kind s (v, d) e = refl
+has_voted Phase.Committing kinds.Volatile s (v, d) e = absurd cc
+has_voted Phase.Committing kinds.Durable s (v, d) e = absurd cc
+has_voted Phase.Aborting kinds.Volatile s (v, d) e = absurd cc
+has_voted Phase.Aborting kinds.Durable s (v, d) e = absurd cc
+
 voted_alone : (phase : Phase) (kind : Kind) (s : Superior) → AreIn phase s.volatile.state s.durable.state → (link_of kind s).state ≡ states.PreparedSuccess
     → s.volatile.state ≡ states.None
-voted_alone Phase.Registering kinds.Volatile s (v, d) e = absurd (no_joining s.volatile.state states.PreparedSuccess e (λ x. x) v)
-voted_alone Phase.Registering kinds.Durable s (v, d) e = absurd (no_joining s.durable.state states.PreparedSuccess e (λ x. x) d)
-voted_alone Phase.Active kinds.Volatile s (v, d) e = absurd (no_idle s.volatile.state states.PreparedSuccess e (λ x. x) v)
-voted_alone Phase.Active kinds.Durable s (v, d) e = absurd (no_joining s.durable.state states.PreparedSuccess e (λ x. x) d)
-voted_alone Phase.Volatile kinds.Volatile s (inl (v, d)) e = cc
-voted_alone Phase.Volatile kinds.Durable s (inl (v, d)) e = absurd (no_joining s.durable.state states.PreparedSuccess e (λ x. x) d)
-voted_alone Phase.Volatile kind s (inr (v, d)) e = v
-voted_alone Phase.Durable kind s (v, d) e = v
-voted_alone Phase.Voted kind s (v, d) e = v
-voted_alone Phase.Committing kind s (v, d) e = v
-voted_alone Phase.Aborting kind s (v, d) e = v
+voted_alone phase kind s h e =
+    let k : AreIn Phase.Voted s.volatile.state s.durable.state = subst (λ p. AreIn p s.volatile.state s.durable.state) (has_voted phase kind s h e) h in
+    k.0
 
 -- While a volatile link is Active, the durable one isn't asked.
 unasked : (phase : Phase) (s : Superior) → AreIn phase s.volatile.state s.durable.state → s.volatile.state ≡ states.Active → IsJoining s.durable.state
@@ -239,7 +249,7 @@ commit_links : (m : Moment) (s : Superior) (t : Transaction) → s.volatile.stat
 unfolding commit_voted
 commit_links m s t e f = record { entry = tt; landed = ((e, refl), f); otherwise = tt }
 
-known : (t : Transaction) (s : Superior) → t.superior ≡ Some s → Linked t → AreIn t.phase s.volatile.state s.durable.state × (t.completion ≡ None)
+pub known : (t : Transaction) (s : Superior) → t.superior ≡ Some s → Linked t → AreIn t.phase s.volatile.state s.durable.state × (t.completion ≡ None)
 known t s e h = let k : AreLinked t.phase (Some s) t.completion = subst (λ x. AreLinked t.phase x t.completion) e h in (k.0, k.1)
 
 rooted : (t : Transaction) → Linked t → IsRootIf t.superior t.completion
@@ -308,10 +318,6 @@ unfolding link_notice
 link_notice_links m from i kind s t None e h k = h
 link_notice_links m from i kind s t (Some c) e h k = link_act_links m from i kind s t c.act e h k
 
-both_first : (a b : Bool) → (a && b) ≡ true → a ≡ true
-both_first true b e = refl
-both_first false b e = absurd cc
-
 link_registered_links : (m : Moment) (relates : Option (List ℕ)) (coordinator : Epr) (kind : Kind) (s : Superior) (t : Transaction) → t.superior ≡ Some s → Linked t
     → Links (link_registered m relates coordinator kind s t)
 unfolding link_registered
@@ -319,7 +325,7 @@ link_registered_links m relates coordinator kind s t e h =
     let waits : Bool = is_state (link_of kind s).state states.Registering in
     let answers : Bool = relates_to relates (register_id m.base (targets.Participant t.id kind)) in
     either (waits && answers) (Goes (stays (begin (record t { superior = Some (joined kind coordinator s); phase = registered (joined kind coordinator s) t.phase })))) (ignored t)
-    (λ k. (registered_in t.phase kind coordinator s (known t s e h).0 (both_first waits answers k), (known t s e h).1)) (λ k. h)
+    (λ k. (registered_in t.phase kind coordinator s (known t s e h).0 (first_true waits answers k), (known t s e h).1)) (λ k. h)
 
 link_fault_links : (m : Moment) (relates : Option (List ℕ)) (kind : Kind) (s : Superior) (t : Transaction) → Linked t → Links (link_fault m relates kind s t)
 unfolding link_fault

@@ -1,5 +1,5 @@
 -- No node makes an id twice.
-use Rattle.std.specs.Prelude.{ℕ, List, [], ◌∷◌, ◌++◌, Option, Some, None, Bool, true, false, not, nat_lt, ◌&&◌, ◌||◌, ◌+◌, if◌then◌else◌, map, filter, ◌≡◌, ◌≤◌, ◌⊎◌, refl}
+use Rattle.std.specs.Prelude.{ℕ, length, List, [], ◌∷◌, ◌++◌, Option, Some, None, Bool, true, false, not, nat_lt, ◌&&◌, ◌||◌, ◌+◌, if◌then◌else◌, map, filter, ◌≡◌, ◌≤◌, ◌⊎◌, refl}
 use Rattle.std.specs.List.{AllByRecursion}
 use Rattle.std.proofs.Common.{inl, inr, sym, subst, ap, arith, ◌∙◌}
 use Rattle.at_base.specs.Numbers.{Numbers}
@@ -306,5 +306,17 @@ once base (e ∷ es) l h =
           (all_more (λ id. IsSpent m id → ⊥) (λ id. IsSpent l id → ⊥) (made_through base es m) (λ id f k. f (g.spent id k)) rest.new);
     }
 
+one_at_most : (b c : Book) → Makes b c → length (new_ids b c) ≤ 1
+one_at_most b c (makes_none e) = omega (arith, ap length e)
+one_at_most b c (makes_one id next drawn e) = omega (arith, ap length e)
+
+never_drawn : (b c : Book) → Makes b c → AllByRecursion (λ id. IsDrawn b id → ⊥) (new_ids b c)
+never_drawn b c (makes_none e) = subst (AllByRecursion (λ id. IsDrawn b id → ⊥)) (sym e) tt
+never_drawn b c (makes_one id next drawn e) = subst (AllByRecursion (λ i. IsDrawn b i → ⊥)) (sym e) (makes_under_the_next_id.next b id next, tt)
+
 pub no_id_made_twice : NoIdMadeTwice
-no_id_made_twice base es = (once base es newborn tt).apart
+no_id_made_twice = record {
+  one = λ b e now landed. one_at_most b (step b e now landed).book (step_makes b e now landed);
+  new = λ b e now landed. never_drawn b (step b e now landed).book (step_makes b e now landed);
+  life = λ base es. (once base es newborn tt).apart;
+}

@@ -1,7 +1,8 @@
 -- A transaction stays behind the answers of its phase, and what it records is behind every answer.
-use Rattle.std.specs.Prelude.{ℕ, List, [], ◌∷◌, ◌++◌, Option, Some, None, Bool, true, false, ◌≡◌, refl, if◌then◌else◌, not, ◌&&◌, ◌||◌, nat_eq, map}
+use Rattle.std.specs.Prelude.{◌⊎◌, ℕ, List, [], ◌∷◌, ◌++◌, Option, Some, None, Bool, true, false, ◌≡◌, refl, if◌then◌else◌, not, ◌&&◌, ◌||◌, nat_eq, map}
 use Rattle.std.specs.List.{list_any, AllByRecursion}
-use Rattle.std.proofs.Common.{ap, sym, subst, ◌∙◌}
+use Rattle.std.proofs.lemmas.Bool.{eqb-true}
+use Rattle.std.proofs.Common.{inl, inr, ap, sym, subst, ◌∙◌}
 use Rattle.at_base.specs.Numbers.{Numbers}
 use Rattle.at_base.specs.declared.epr.Epr.{Epr}
 use Rattle.at_base.specs.declared.notice.Kind.{Kind}
@@ -29,12 +30,16 @@ use Rattle.at_base.specs.declared.record.Seated.{Seated}
 use Rattle.at_tables.specs.declared.cells.State.{State}
 use Rattle.at_model.specs.Seats.{is_of, move_if, moved, prepared, seat_in}
 use Rattle.at_model.specs.Arrivals.{registered}
-use Rattle.at_model.specs.Behind.{StandsBehind, accepted_as, AreAnswered, HasDecided, HasVoted}
+use Rattle.at_model.specs.Behind.{StandsBehind, IsUnanswered, accepted_as, AreAnswered, HasDecided, HasVoted}
 use Rattle.at_base.specs.declared.outs.Post.{Post}
 use Rattle.at_base.specs.declared.outs.Effect.{Effect}
 use Rattle.at_base.specs.declared.outs.Effect.TheVariants as effects
 use Rattle.at_base.specs.declared.outs.Ending.{Ending}
 use Rattle.at_base.specs.declared.outs.Ending.TheVariants as endings
+use Rattle.at_tables.specs.Tables.{participant_of}
+use Rattle.at_model.specs.Seats.{link_of}
+use Rattle.at_model.proofs.Asking.{ActsAt, CellAt, table_acts}
+use Rattle.at_model.proofs.Linking.{Linked, has_voted, known}
 use Rattle.at_model.proofs.Deciding.{DecisionSays, IfThere, both_say, either_says, either_left, answer_has, answer_effects, all_join}
 
 -- seats
@@ -45,7 +50,7 @@ none_first : (a b : Bool) → not (a || b) ≡ true → (a ≡ false) × (not b 
 none_first true b e = absurd cc
 none_first false b e = (refl, e)
 
-none_either : (a b : Bool) → a ≡ false → not b ≡ true → not (a || b) ≡ true
+pub none_either : (a b : Bool) → a ≡ false → not b ≡ true → not (a || b) ≡ true
 none_either true b e f = absurd cc
 none_either false b e f = f
 
@@ -56,7 +61,7 @@ answered_map kind f (s ∷ ss) keeps h =
     let (here, rest) = none_first (is_unanswered kind s) (list_any (is_unanswered kind) ss) h in
     none_either (is_unanswered kind (f s)) (list_any (is_unanswered kind) (map f ss)) (keeps s here) (answered_map kind f ss keeps rest)
 
-neither : (a b c : Bool) → b ≡ false → c ≡ false → ((a && b) || (a && c)) ≡ false
+pub neither : (a b c : Bool) → b ≡ false → c ≡ false → ((a && b) || (a && c)) ≡ false
 neither true b c e f = rw (e, f) refl
 neither false b c e f = refl
 
@@ -97,8 +102,64 @@ behind_moved Phase.Active test state seats e f h = tt
 behind_moved Phase.Volatile test state seats e f h = tt
 behind_moved Phase.Durable test state seats e f h = answered_moved kinds.Volatile test state seats e f h
 behind_moved Phase.Voted test state seats e f (h, k) = (answered_moved kinds.Volatile test state seats e f h, answered_moved kinds.Durable test state seats e f k)
-behind_moved Phase.Committing test state seats e f h = tt
+behind_moved Phase.Committing test state seats e f (h, k) = (answered_moved kinds.Volatile test state seats e f h, answered_moved kinds.Durable test state seats e f k)
 behind_moved Phase.Aborting test state seats e f h = tt
+
+-- seats on their way through a step: but for one, what had not answered has not answered yet
+abbrev Follows : ℕ → Enlistment → Enlistment → Type 0
+Follows last old new = (old.number ≡ last) ⊎ (IsUnanswered old.state → IsUnanswered new.state)
+
+abbrev pub AreFollowing : ℕ → List Enlistment → List Enlistment → Type 0
+AreFollowing last [] [] = Unit {0}
+AreFollowing last (o ∷ os) (n ∷ ns) = Follows last o n × AreFollowing last os ns
+AreFollowing last olds news = ⊥
+
+follow_same : (last : ℕ) (seats : List Enlistment) → AreFollowing last seats seats
+follow_same last [] = tt
+follow_same last (s ∷ ss) = (inr (λ h. h), follow_same last ss)
+
+asked_follows : (b : Bool) (last : ℕ) (o n : Enlistment) → Follows last o n → Follows last o (record n { state = if b then states.Preparing else n.state })
+asked_follows b last o n (inl e) = inl e
+asked_follows true last o n (inr h) = inr (λ k. tt)
+asked_follows false last o n (inr h) = inr h
+
+follow_asked : (last : ℕ) (test : Enlistment → Bool) (olds news : List Enlistment) → AreFollowing last olds news → AreFollowing last olds (moved test states.Preparing news)
+follow_asked last test [] [] h = tt
+follow_asked last test [] (n ∷ ns) h = absurd h
+follow_asked last test (o ∷ os) [] h = absurd h
+follow_asked last test (o ∷ os) (n ∷ ns) (h, k) = (asked_follows (test n) last o n h, follow_asked last test os ns k)
+
+seat_follows : (b : Bool) (last : ℕ) (state : State) (s : Enlistment) → nat_eq s.number last ≡ b → Follows last s (record s { state = if b then state else s.state })
+seat_follows true last state s e = inl (eqb-true s.number last e)
+seat_follows false last state s e = inr (λ h. h)
+
+follow_seat : (last : ℕ) (state : State) (seats : List Enlistment) → AreFollowing last seats (moved (λ s. nat_eq s.number last) state seats)
+follow_seat last state [] = tt
+follow_seat last state (s ∷ ss) = (seat_follows (nat_eq s.number last) last state s refl, follow_seat last state ss)
+
+no_answer : (kind : Kind) (state : State) → IsUnanswered state
+    → ((is_kind kind kinds.Volatile && is_state state states.Active) || (is_kind kind kinds.Volatile && is_state state states.Preparing)) ≡ false
+    → ((is_kind kind kinds.Durable && is_state state states.Active) || (is_kind kind kinds.Durable && is_state state states.Preparing)) ≡ false → ⊥
+no_answer kinds.Volatile states.Active h e f = absurd cc
+no_answer kinds.Volatile states.Preparing h e f = absurd cc
+no_answer kinds.Durable states.Active h e f = absurd cc
+no_answer kinds.Durable states.Preparing h e f = absurd cc
+no_answer kind other h e f = absurd h
+
+answered_before : (last : ℕ) (o n : Enlistment) → Follows last o n → is_unanswered kinds.Volatile n ≡ false → is_unanswered kinds.Durable n ≡ false
+    → (o.number ≡ last) ⊎ (IsUnanswered o.state → ⊥)
+answered_before last o n (inl i) e f = inl i
+answered_before last o n (inr h) e f = inr (λ k. no_answer n.kind n.state (h k) e f)
+
+all_but_last : (last : ℕ) (olds news : List Enlistment) → AreFollowing last olds news → answered kinds.Volatile news ≡ true → answered kinds.Durable news ≡ true
+    → AllByRecursion (λ s. (s.number ≡ last) ⊎ (IsUnanswered s.state → ⊥)) olds
+all_but_last last [] [] h e f = tt
+all_but_last last [] (n ∷ ns) h e f = absurd h
+all_but_last last (o ∷ os) [] h e f = absurd h
+all_but_last last (o ∷ os) (n ∷ ns) (h, k) e f =
+    let (v, vs) = none_first (is_unanswered kinds.Volatile n) (list_any (is_unanswered kinds.Volatile) ns) e in
+    let (d, ds) = none_first (is_unanswered kinds.Durable n) (list_any (is_unanswered kinds.Durable) ns) f in
+    (answered_before last o n h v d, all_but_last last os ns k vs ds)
 
 -- a root that commits has every answer behind it
 pub record CommitsBehind (old : Transaction) (id : Numbers) : Type 0 where
@@ -119,6 +180,8 @@ pub record From (old : Transaction) (g : Moving Transaction) : Type 0 where
   pub own : g.item.id ≡ old.id
   pub accepted : map accepted_as g.item.seats ≡ map accepted_as old.seats
   pub told : AllByRecursion (IsTold old) g.effects
+  pub last : ℕ
+  pub follows : AreFollowing last old.seats g.item.seats
 
 pub record Stands (old t : Transaction) : Type 0 where
   pub own : t.id ≡ old.id
@@ -177,7 +240,14 @@ pub record All (old : Transaction) (g : Moving Transaction) : Type 0 where
   pub durable : answered kinds.Durable g.item.seats ≡ true
 
 at_decision : (old : Transaction) (g : Moving Transaction) → All old g → AreAnswered old.seats g.item.seats (prepared g.item.seats)
-at_decision old g h = record { accepted = h.from.accepted; volatile = h.volatile; durable = h.durable; prepared = refl }
+at_decision old g h = record {
+  last = h.from.last;
+  others = all_but_last h.from.last old.seats g.item.seats h.from.follows h.volatile h.durable;
+  accepted = h.from.accepted;
+  volatile = h.volatile;
+  durable = h.durable;
+  prepared = refl;
+}
 
 told_committed : (old : Transaction) (s : Option Superior) (g : Moving Transaction) → All old g → IsTold old (ending_of s g.item.id endings.Committed)
 told_committed old None g h = record { own = h.from.own; at = g.item.seats; behind = at_decision old g h }
@@ -188,9 +258,21 @@ unfolding decided
 decided_told old m g h =
     all_join (IsTold old) g.effects (ending_of g.item.superior g.item.id endings.Committed ∷ []) h.from.told (told_committed old g.item.superior g h, tt)
 
-decided_fine : (old : Transaction) (m : Moment) (g : Moving Transaction) → From old g → Stands old (decided m g).item
+-- what is told to commit has answered
+told_answered : (seats : List Enlistment) → answered kinds.Volatile seats ≡ true → answered kinds.Durable seats ≡ true
+    → StandsBehind Phase.Committing (moved (in_state states.Prepared) states.Committing seats)
+told_answered seats h k = (
+  answered_moved kinds.Volatile (in_state states.Prepared) states.Committing seats refl refl h,
+  answered_moved kinds.Durable (in_state states.Prepared) states.Committing seats refl refl k,
+)
+
+decided_fine : (old : Transaction) (m : Moment) (g : Moving Transaction) → All old g → Stands old (decided m g).item
 unfolding decided
-decided_fine old m g h = record { own = h.own; accepted = accepted_moved (in_state states.Prepared) states.Committing g.item.seats old.seats h.accepted; behind = tt }
+decided_fine old m g h = record {
+  own = h.from.own;
+  accepted = accepted_moved (in_state states.Prepared) states.Committing g.item.seats old.seats h.from.accepted;
+  behind = told_answered g.item.seats h.volatile h.durable;
+}
 
 decided_behind : (old : Transaction) (m : Moment) (g : Moving Transaction) → All old g → HasDecided old (decided m g).item (prepared g.item.seats)
 unfolding decided
@@ -202,7 +284,7 @@ root_fine old m g h =
     either old (list_any is_prepared_durable g.item.seats) _ _
     (λ e. record {
       entry = (h.from.own, decided_behind old m g h);
-      landed = record { item = decided_fine old m g h.from; told = decided_told old m g h };
+      landed = record { item = decided_fine old m g h; told = decided_told old m g h };
       otherwise = abort_fine old m Alone g h.from;
     })
     (λ e. record { item = tt; told = decided_told old m g h })
@@ -244,7 +326,13 @@ unfolding go_durable
 go_durable_fine old m g h v =
     let a : answered kinds.Volatile (moved (is_of kinds.Durable states.Active) states.Preparing g.item.seats) ≡ true = answered_asked g.item.seats v in
     if_durable_fine old m (prepare_seats m kinds.Durable (become (in_phase Phase.Durable g.item) g))
-    (record { own = h.own; accepted = accepted_moved (is_of kinds.Durable states.Active) states.Preparing g.item.seats old.seats h.accepted; told = h.told }) a a
+    (record {
+      own = h.own;
+      accepted = accepted_moved (is_of kinds.Durable states.Active) states.Preparing g.item.seats old.seats h.accepted;
+      told = h.told;
+      last = h.last;
+      follows = follow_asked h.last (is_of kinds.Durable states.Active) old.seats g.item.seats h.follows;
+    }) a a
 
 volatile_fine : (old : Transaction) (m : Moment) (s : Option Superior) (g : Moving Transaction) → From old g → answered kinds.Volatile g.item.seats ≡ true
     → StandsBehind g.item.phase g.item.seats → Fine old (volatile_answered m s g)
@@ -275,10 +363,16 @@ go_volatile_fine : (old : Transaction) (m : Moment) (g : Moving Transaction) →
 unfolding go_volatile
 go_volatile_fine old m g h =
     advance_in_fine old m Phase.Volatile (prepare_seats m kinds.Volatile (become (in_phase Phase.Volatile g.item) g))
-    (record { own = h.own; accepted = accepted_moved (is_of kinds.Volatile states.Active) states.Preparing g.item.seats old.seats h.accepted; told = h.told }) tt tt
+    (record {
+      own = h.own;
+      accepted = accepted_moved (is_of kinds.Volatile states.Active) states.Preparing g.item.seats old.seats h.accepted;
+      told = h.told;
+      last = h.last;
+      follows = follow_asked h.last (is_of kinds.Volatile states.Active) old.seats g.item.seats h.follows;
+    }) tt tt
 
 same : (t : Transaction) (ps : List Post) → From t (record { item = t; posts = ps; effects = [] })
-same t ps = record { own = refl; accepted = refl; told = tt }
+same t ps = record { own = refl; accepted = refl; told = tt; last = 0; follows = follow_same 0 t.seats }
 
 -- the transaction with one seat that has answered or left
 seat_fine_in : (m : Moment) (number : ℕ) (state : State) (t : Transaction) → is_state state states.Active ≡ false → is_state state states.Preparing ≡ false
@@ -286,11 +380,23 @@ seat_fine_in : (m : Moment) (number : ℕ) (state : State) (t : Transaction) →
 seat_fine_in m number state t e f h =
     let k : StandsBehind t.phase (moved (λ s. nat_eq s.number number) state t.seats) = behind_moved t.phase (λ s. nat_eq s.number number) state t.seats e f h in
     advance_in_fine t m t.phase (begin (seat_in number state t))
-    (record { own = refl; accepted = accepted_moved (λ s. nat_eq s.number number) state t.seats t.seats refl; told = tt }) k k
+    (record {
+      own = refl;
+      accepted = accepted_moved (λ s. nat_eq s.number number) state t.seats t.seats refl;
+      told = tt;
+      last = number;
+      follows = follow_seat number state t.seats;
+    }) k k
 
 seat_aborts : (m : Moment) (number : ℕ) (state : State) (t : Transaction) → Left t (abort m Alone (begin (seat_in number state t)))
 seat_aborts m number state t =
-    abort_fine t m Alone (begin (seat_in number state t)) (record { own = refl; accepted = accepted_moved (λ s. nat_eq s.number number) state t.seats t.seats refl; told = tt })
+    abort_fine t m Alone (begin (seat_in number state t)) (record {
+      own = refl;
+      accepted = accepted_moved (λ s. nat_eq s.number number) state t.seats t.seats refl;
+      told = tt;
+      last = number;
+      follows = follow_seat number state t.seats;
+    })
 
 unmoved : (t : Transaction) → StandsBehind t.phase t.seats → Stands t t
 unmoved t h = record { own = refl; accepted = refl; behind = h }
@@ -298,12 +404,12 @@ unmoved t h = record { own = refl; accepted = refl; behind = h }
 told_sub : (old : Transaction) (s : Superior) (superior : Option Superior) (id : Numbers) → superior ≡ Some s → IsTold old (ending_of superior id endings.Committed)
 told_sub old s superior id e = subst (λ x. IsTold old (ending_of x id endings.Committed)) (sym e) tt
 
-commit_fine : (m : Moment) (s : Superior) (t : Transaction) → t.superior ≡ Some s → Fine t (commit_voted m s t)
+commit_fine : (m : Moment) (s : Superior) (t : Transaction) → t.superior ≡ Some s → StandsBehind Phase.Voted t.seats → Fine t (commit_voted m s t)
 unfolding commit_voted
-commit_fine m s t e = record {
+commit_fine m s t e (v, d) = record {
   entry = tt;
   landed = record {
-    item = record { own = refl; accepted = accepted_moved (in_state states.Prepared) states.Committing t.seats t.seats refl; behind = tt };
+    item = record { own = refl; accepted = accepted_moved (in_state states.Prepared) states.Committing t.seats t.seats refl; behind = told_answered t.seats v d };
     told = (told_sub t s t.superior t.id e, tt);
   };
   otherwise = tt;
@@ -346,34 +452,34 @@ unfolding on_seat
 seat_fine m a t s (messages.Notice n) h = seat_notice_fine m a.id t s (coordinator_of s.kind s.state n) h
 seat_fine m a t s other h = unmoved_left t h
 
-link_act_fine : (m : Moment) (from : Option Epr) (i : Option (List ℕ)) (kind : Kind) (s : Superior) (t : Transaction) (act : Act) → t.superior ≡ Some s → StandsBehind t.phase t.seats
-    → Fine t (link_act m from i kind s t act)
+link_act_fine : (m : Moment) (from : Option Epr) (i : Option (List ℕ)) (kind : Kind) (s : Superior) (t : Transaction) (act : Act) → t.superior ≡ Some s → Linked t
+    → StandsBehind t.phase t.seats → ActsAt (link_of kind s).state act → Fine t (link_act m from i kind s t act)
 unfolding link_act
-link_act_fine m from i kind s t acts.Ignore e h = search fine
-link_act_fine m from i kind s t acts.SendPrepared e h = search fine
-link_act_fine m from i kind s t acts.SendCommit e h = search fine
-link_act_fine m from i kind s t acts.SendRollback e h = search fine
-link_act_fine m from i kind s t acts.SendCommitted e h = search fine
-link_act_fine m from i kind s t acts.SendAborted e h = search fine
-link_act_fine m from i kind s t acts.FaultUnknownTransaction e h = search fine
-link_act_fine m from i kind s t acts.FaultInvalidState e h = search fine
-link_act_fine m from i kind s t acts.FaultInvalidStateAndAbort e h = search fine
-link_act_fine m from i kind s t acts.Leave e h = search fine
-link_act_fine m from i kind s t acts.LeaveAndAbort e h = search fine
-link_act_fine m from i kind s t acts.Vote e h = search fine
-link_act_fine m from i kind s t acts.Gather e h = go_volatile_fine t m _ (record { own = refl; accepted = refl; told = tt })
-link_act_fine m from i kind s t acts.Commit e h = commit_fine m s t e
-link_act_fine m from i kind s t acts.AbortAndSendAborted e h = search fine
-link_act_fine m from i kind s t acts.RecordAndSendAborted e h = record { entry = tt; landed = abort_fine t m (Asked kind from) (begin t) (same t []); otherwise = tt }
-link_act_fine m from i kind s t acts.Complete e h = search fine
-link_act_fine m from i kind s t acts.TellCommitted e h = search fine
-link_act_fine m from i kind s t acts.TellAborted e h = search fine
+link_act_fine m from i kind s t acts.Ignore e l h k = search fine
+link_act_fine m from i kind s t acts.SendPrepared e l h k = search fine
+link_act_fine m from i kind s t acts.SendCommit e l h k = search fine
+link_act_fine m from i kind s t acts.SendRollback e l h k = search fine
+link_act_fine m from i kind s t acts.SendCommitted e l h k = search fine
+link_act_fine m from i kind s t acts.SendAborted e l h k = search fine
+link_act_fine m from i kind s t acts.FaultUnknownTransaction e l h k = search fine
+link_act_fine m from i kind s t acts.FaultInvalidState e l h k = search fine
+link_act_fine m from i kind s t acts.FaultInvalidStateAndAbort e l h k = search fine
+link_act_fine m from i kind s t acts.Leave e l h k = search fine
+link_act_fine m from i kind s t acts.LeaveAndAbort e l h k = search fine
+link_act_fine m from i kind s t acts.Vote e l h k = search fine
+link_act_fine m from i kind s t acts.Gather e l h k = go_volatile_fine t m _ (record { own = refl; accepted = refl; told = tt; last = 0; follows = follow_same 0 t.seats })
+link_act_fine m from i kind s t acts.Commit e l h k = commit_fine m s t e (subst (λ p. StandsBehind p t.seats) (has_voted t.phase kind s (known t s e l).0 k) h)
+link_act_fine m from i kind s t acts.AbortAndSendAborted e l h k = search fine
+link_act_fine m from i kind s t acts.RecordAndSendAborted e l h k = record { entry = tt; landed = abort_fine t m (Asked kind from) (begin t) (same t []); otherwise = tt }
+link_act_fine m from i kind s t acts.Complete e l h k = search fine
+link_act_fine m from i kind s t acts.TellCommitted e l h k = search fine
+link_act_fine m from i kind s t acts.TellAborted e l h k = search fine
 
-link_notice_fine : (m : Moment) (from : Option Epr) (i : Option (List ℕ)) (kind : Kind) (s : Superior) (t : Transaction) (c : Option Cell) → t.superior ≡ Some s → StandsBehind t.phase t.seats
-    → Fine t (link_notice m from i kind s t c)
+link_notice_fine : (m : Moment) (from : Option Epr) (i : Option (List ℕ)) (kind : Kind) (s : Superior) (t : Transaction) (c : Option Cell) → t.superior ≡ Some s → Linked t
+    → StandsBehind t.phase t.seats → CellAt (link_of kind s).state c → Fine t (link_notice m from i kind s t c)
 unfolding link_notice
-link_notice_fine m from i kind s t None e h = unmoved_left t h
-link_notice_fine m from i kind s t (Some c) e h = link_act_fine m from i kind s t c.act e h
+link_notice_fine m from i kind s t None e l h k = unmoved_left t h
+link_notice_fine m from i kind s t (Some c) e l h k = link_act_fine m from i kind s t c.act e l h k
 
 no_longer_registering : (b : Bool) (seats : List Enlistment) → StandsBehind (if b then Phase.Registering else Phase.Active) seats
 no_longer_registering true seats = tt
@@ -398,18 +504,18 @@ link_fault_fine : (m : Moment) (relates : Option (List ℕ)) (kind : Kind) (s : 
 unfolding link_fault
 link_fault_fine m relates kind s t h = search (either, unmoved, unmoved_left, same, abort_fine)
 
-pub link_fine : (m : Moment) (a : Arrived) (kind : Kind) (t : Transaction) (s : Superior) (x : Message) → t.superior ≡ Some s → StandsBehind t.phase t.seats → Fine t (on_link m a kind t s x)
+pub link_fine : (m : Moment) (a : Arrived) (kind : Kind) (t : Transaction) (s : Superior) (x : Message) → t.superior ≡ Some s → Linked t → StandsBehind t.phase t.seats → Fine t (on_link m a kind t s x)
 unfolding on_link
-link_fine m a kind t s (messages.Notice n) e h = link_notice_fine m a.from a.id kind s t _ e h
-link_fine m a kind t s (messages.RegisterResponse coordinator) e h = link_registered_fine m a.relates coordinator kind s t h
-link_fine m a kind t s (messages.Fault name) e h = link_fault_fine m a.relates kind s t h
-link_fine m a kind t s other e h = unmoved_left t h
+link_fine m a kind t s (messages.Notice n) e l h = link_notice_fine m a.from a.id kind s t (participant_of kind (link_of kind s).state n) e l h (table_acts kind (link_of kind s).state n)
+link_fine m a kind t s (messages.RegisterResponse coordinator) e l h = link_registered_fine m a.relates coordinator kind s t h
+link_fine m a kind t s (messages.Fault name) e l h = link_fault_fine m a.relates kind s t h
+link_fine m a kind t s other e l h = unmoved_left t h
 
 completion_act_fine : (m : Moment) (i : Option (List ℕ)) (c : Completion) (t : Transaction) (act : Act) → StandsBehind t.phase t.seats → Fine t (completion_act m i c t act)
 unfolding completion_act
 completion_act_fine m i c t acts.FaultUnknownTransaction h = record { item = unmoved t h; told = tt }
 completion_act_fine m i c t acts.FaultInvalidState h = record { item = unmoved t h; told = tt }
-completion_act_fine m i c t acts.Complete h = go_volatile_fine t m _ (record { own = refl; accepted = refl; told = tt })
+completion_act_fine m i c t acts.Complete h = go_volatile_fine t m _ (record { own = refl; accepted = refl; told = tt; last = 0; follows = follow_same 0 t.seats })
 completion_act_fine m i c t acts.AbortAndSendAborted h = abort_fine t m Alone (begin t) (same t [])
 completion_act_fine m i c t other h = unmoved_left t h
 

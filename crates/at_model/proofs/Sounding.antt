@@ -28,7 +28,7 @@ use Rattle.at_model.specs.Recover.{live, is_sub_committed, transactions_of, leav
 use Rattle.at_model.specs.Drawn.{restarted, Life, LifeEvent, Stepped, Stopped, Started, newborn, with_entry, live_through, life_of}
 use Rattle.at_model.specs.Sound.{IsSoundMessage, IsSoundEvent, SeatsRise, IsSoundTransaction, IsSoundLeaf, IsSound, AreSoundEvents, RecordsAreWellFormed}
 use Rattle.at_model.specs.Shapes.{MovesTransaction, MovesLeaf, Shape, at_seat, at_link, at_completion, when_due, at_leaf, leaf_when_due, nothing_moves, time_moves, transaction_moves, leaf_moves, activity_moves, transaction_registers, transaction_made, leaf_made, activity_made}
-use Rattle.at_model.proofs.Deciding.{Both, in_branch, plain_both, decision_both, IfThere, decided_both, decided_entry, all_find, all_put, all_join}
+use Rattle.at_model.proofs.Deciding.{second_true, Both, in_branch, plain_both, decision_both, IfThere, decided_both, decided_entry, all_find, all_put, all_join}
 use Rattle.at_model.proofs.Keeping.{HasBoth, NoRecord}
 use Rattle.at_model.proofs.Drawing.{activity_moved_kept}
 use Rattle.at_model.proofs.Living.{all_live, all_in_order, no_entry}
@@ -259,10 +259,6 @@ with_well : (entry : Option Record) (landed : Bool) (rs : List Record) → ((r :
 with_well None landed rs f h = h
 with_well (Some r) true rs f h = all_join IsWellFormed rs (r ∷ []) h (f r refl, tt)
 with_well (Some r) false rs f h = h
-
-second_true : (a b : Bool) → (a && b) ≡ true → b ≡ true
-second_true true b e = e
-second_true false b e = absurd cc
 
 at_start : (base : List ℕ) (rs : List Record) (starts : Bool) → (starts ≡ true → last_incarnation rs < last_counter) → AllByRecursion IsWellFormed rs
     → let l : Life = life rs None in IsSoundLife (if starts then record { journal = restarted rs; book = Some (recover base (restarted rs)) } else l)

@@ -25,16 +25,20 @@ use Rattle.at_model.specs.Moves.{Change, Decision}
 use Rattle.at_model.specs.Seats.{answered}
 use Rattle.at_model.specs.Arrivals.{with_answer}
 use Rattle.at_model.specs.Register.{Registration, accepts, may_complete, may_register, accept, register_new, register_again, on_register, protocol_named, held_seat}
-use Rattle.at_model.specs.Create.{Creation, create_under, create_in, on_create, refuse_create}
+use Rattle.at_model.specs.Create.{create_under, create_in, on_create, refuse_create}
 use Rattle.at_model.specs.Step.{Outcome, Plan, still, at_time, moment_of, put_transaction, put_leaf, put_activity, make_transaction, make_leaf, make_activity, outcome_of, registration_outcome, plan, step, transaction_at}
 use Rattle.at_model.specs.Recover.{live, is_sub_committed, transactions_of, recovered_seat, recovered_voted, recover}
 use Rattle.at_model.specs.Behind.{StandsBehind, IsInPhase, HasDecided, HasVoted, HasCommitted, Passed, DecidesBehindEveryAnswer}
 use Rattle.at_model.specs.Shapes.{MovesTransaction, Shape, at_seat, at_link, at_completion, when_due, nothing_moves, time_moves, transaction_moves, leaf_moves, activity_moves, transaction_registers, transaction_made, leaf_made, activity_made}
-use Rattle.at_model.proofs.Deciding.{Both, in_branch, plain_both, decision_both, IfThere, decided_says, says_entry, decided_entry, all_find, all_put, all_join}
+use Rattle.at_model.proofs.Deciding.{either_of, first_true, second_true, Both, in_branch, plain_both, decision_both, IfThere, decided_says, says_entry, decided_entry, all_find, all_put, all_join}
 use Rattle.at_model.proofs.Keeping.{IsOfLeaf, NamesLeaf, HasBoth, NoRecord}
 use Rattle.at_model.proofs.Drawing.{leaf_moved_kept, activity_moved_kept}
 use Rattle.at_model.proofs.Living.{all_in_order, no_entry}
-use Rattle.at_model.proofs.Phasing.{IsTold, CommitsBehind, Left, Fine, Stands, IsBehind, AtDecided, AtVoted, seat_fine, link_fine, completion_fine, due_fine, with_answer_fine}
+use Rattle.at_tables.specs.declared.cells.State.{State}
+use Rattle.at_tables.specs.Names.{is_kind, is_state}
+use Rattle.at_model.proofs.Linking.{Linked}
+use Rattle.at_model.proofs.Following.{links_follow_phases}
+use Rattle.at_model.proofs.Phasing.{is_unanswered, none_either, neither, IsTold, CommitsBehind, Left, Fine, Stands, IsBehind, AtDecided, AtVoted, seat_fine, link_fine, completion_fine, due_fine, with_answer_fine}
 use Rattle.at_model.proofs.Telling.{IsOther, Tells, Anything, leaf_moved_other, activity_moved_other}
 use Rattle.std.proofs.Common.{inl, inr}
 use Rattle.at_base.specs.declared.outs.Effect.{Effect}
@@ -45,24 +49,20 @@ use Rattle.at_model.proofs.Shaping.{steps_touch_one}
 use Rattle.at_model.proofs.Recovering.{self_id, same_id}
 use Rattle.at_model.specs.Laws.{HasLeafId}
 
-moved_fine : (b : Book) (e : Event) (now : ℕ) (t : Transaction) (d : Decision Transaction) → StandsBehind t.phase t.seats → MovesTransaction b e now t d
+moved_fine : (b : Book) (e : Event) (now : ℕ) (t : Transaction) (d : Decision Transaction) → Linked t → StandsBehind t.phase t.seats → MovesTransaction b e now t d
     → Fine t (with_answer (moment_of b now) t d)
-moved_fine b e now t d h (at_seat a s came is) =
+moved_fine b e now t d l h (at_seat a s came is) =
     with_answer_fine t (moment_of b now) t d (subst (Fine t) (sym is) (seat_fine (moment_of b now) a t s a.message h))
-moved_fine b e now t d h (at_link a kind s came under is) =
-    with_answer_fine t (moment_of b now) t d (subst (Fine t) (sym is) (link_fine (moment_of b now) a kind t s a.message under h))
-moved_fine b e now t d h (at_completion a c came there is) =
+moved_fine b e now t d l h (at_link a kind s came under is) =
+    with_answer_fine t (moment_of b now) t d (subst (Fine t) (sym is) (link_fine (moment_of b now) a kind t s a.message under l h))
+moved_fine b e now t d l h (at_completion a c came there is) =
     with_answer_fine t (moment_of b now) t d (subst (Fine t) (sym is) (completion_fine (moment_of b now) a t c a.message h))
-moved_fine b e now t d h (when_due is) =
+moved_fine b e now t d l h (when_due is) =
     with_answer_fine t (moment_of b now) t d (subst (Fine t) (sym is) (due_fine (moment_of b now) t _ h))
 
 -- a registration
 abbrev InPhase : Transaction → Type 0
 InPhase t = StandsBehind t.phase t.seats
-
-either_registered : (b : Bool) (x y : Registration) → (b ≡ true → InPhase x.transaction) → (b ≡ false → InPhase y.transaction) → InPhase (if b then x else y).transaction
-either_registered true x y h k = h refl
-either_registered false x y h k = k refl
 
 accepting : (phase : Phase) (seats : List Enlistment) → accepts phase ≡ true → StandsBehind phase seats
 accepting Phase.Registering seats e = tt
@@ -70,20 +70,12 @@ accepting Phase.Active seats e = tt
 accepting Phase.Volatile seats e = tt
 accepting Phase.Durable seats e = absurd cc
 accepting Phase.Voted seats e = absurd cc
-accepting Phase.Committing seats e = tt
+accepting Phase.Committing seats e = absurd cc
 accepting Phase.Aborting seats e = tt
-
-pub first_true : (a b : Bool) → (a && b) ≡ true → a ≡ true
-first_true true b e = refl
-first_true false b e = absurd cc
 
 pub then_accepts : (t : Transaction) (kind : Option Kind) → may_register t kind ≡ true → accepts t.phase ≡ true
 then_accepts t kind e =
     first_true (accepts t.phase) (nat_lt (length t.seats) 64) (first_true (accepts t.phase && nat_lt (length t.seats) 64) (may_complete t kind) e)
-
-second_true : (a b : Bool) → (a && b) ≡ true → b ≡ true
-second_true true b e = e
-second_true false b e = absurd cc
 
 pub then_room : (t : Transaction) (kind : Option Kind) → may_register t kind ≡ true → nat_lt (length t.seats) 64 ≡ true
 then_room t kind e =
@@ -98,8 +90,8 @@ register_new_stands : (m : Moment) (a : Arrived) (r : Register) (t : Transaction
 unfolding register_new
 register_new_stands m a r t None h = h
 register_new_stands m a r t (Some kind) h =
-    either_registered (not a.postable) _ _ (λ e. h)
-    (λ e. either_registered (may_register t kind) _ _ (λ f. accept_stands m a t r.participant kind (then_accepts t kind f) h) (λ f. h))
+    either_of (λ (x : Registration). InPhase x.transaction) (not a.postable) _ _ (λ e. h)
+    (λ e. either_of (λ (x : Registration). InPhase x.transaction) (may_register t kind) _ _ (λ f. accept_stands m a t r.participant kind (then_accepts t kind f) h) (λ f. h))
 
 register_again_stands : (m : Moment) (a : Arrived) (r : Register) (t : Transaction) (kind : Option (Option Kind)) (held : Option Epr) → InPhase t
     → InPhase (register_again m a r t kind held).transaction
@@ -112,10 +104,6 @@ unfolding on_register
 register_stands m a r t h = register_again_stands m a r t (protocol_named r.protocol) (held_seat m r t (protocol_named r.protocol)) h
 
 -- a transaction that is made
-either_created : (b : Bool) (x y : Creation) → IfThere InPhase x.transaction → IfThere InPhase y.transaction → IfThere InPhase (if b then x else y).transaction
-either_created true x y h k = h
-either_created false x y h k = k
-
 under_stands : (m : Moment) (id : Numbers) (a : Arrived) (c : Create) (current : Context) (r : Reply) → IfThere InPhase (create_under m id a c current r).transaction
 unfolding create_under
 under_stands m id a c current (replies.At reply) = tt
@@ -131,7 +119,7 @@ created_stands : (m : Moment) (live : ℕ) (a : Arrived) (c : Create) (id : Numb
 unfolding on_create
 created_stands m live a c id t e =
     subst (IfThere InPhase) e
-    (either_created (bytes_eq c.coordination atomic && nat_lt live 1024) (create_in m id a c c.current) (refuse_create a) (in_stands m id a c c.current) tt)
+    (either_of (λ x. IfThere InPhase x.transaction) (bytes_eq c.coordination atomic && nat_lt live 1024) (create_in m id a c c.current) (refuse_create a) (λ k. (in_stands m id a c c.current)) (λ k. tt))
 
 -- a step
 left_stands : (old : Transaction) (t : Option Transaction) → IfThere (Stands old) t → IfThere InPhase t
@@ -139,55 +127,63 @@ left_stands old None h = tt
 left_stands old (Some t) h = h.behind
 
 KeepsPhase : Outcome → Type 0
-KeepsPhase o = IsInPhase o.book
+KeepsPhase o = AllByRecursion InPhase o.book.transactions
 
 phase_both : (b : Book) (e : Event) (now : ℕ) (p : Plan) → IsInPhase b → Shape b e now p → Both KeepsPhase p
 unfolding KeepsPhase
-phase_both b e now p h (nothing_moves os o f) = subst (Both KeepsPhase) (sym f) (plain_both KeepsPhase (still b os) h)
-phase_both b e now p h (time_moves os o f) = subst (Both KeepsPhase) (sym f) (plain_both KeepsPhase (still (at_time now b) os) h)
+phase_both b e now p h (nothing_moves os o f) = subst (Both KeepsPhase) (sym f) (plain_both KeepsPhase (still b os) h.answers)
+phase_both b e now p h (time_moves os o f) = subst (Both KeepsPhase) (sym f) (plain_both KeepsPhase (still (at_time now b) os) h.answers)
 phase_both b e now p h (transaction_moves id t answer d stands how o f) =
     subst (Both KeepsPhase) (sym f)
     (decided_says (Left t) (λ r c. IsBehind t r c.item) KeepsPhase b (put_transaction t.id (at_time now b)) answer (with_answer (moment_of b now) t d)
-    (moved_fine b e now t d (all_find InPhase transaction_id id b.transactions t h stands) how)
-    (λ c k. all_put InPhase transaction_id t.id c.item b.transactions (left_stands t c.item k.item) h) h)
+    (moved_fine b e now t d (all_find Linked transaction_id id b.transactions t h.links stands) (all_find InPhase transaction_id id b.transactions t h.answers stands) how)
+    (λ c k. all_put InPhase transaction_id t.id c.item b.transactions (left_stands t c.item k.item) h.answers) h.answers)
 phase_both b e now p h (leaf_moves id l answer d stands how o f) =
-    subst (Both KeepsPhase) (sym f) (decision_both KeepsPhase b (put_leaf l.id (at_time now b)) answer d (λ c. h) h)
+    subst (Both KeepsPhase) (sym f) (decision_both KeepsPhase b (put_leaf l.id (at_time now b)) answer d (λ c. h.answers) h.answers)
 phase_both b e now p h (activity_moves id a answer d stands how o f) =
-    subst (Both KeepsPhase) (sym f) (decision_both KeepsPhase b (put_activity a.id (at_time now b)) answer d (λ c. h) h)
+    subst (Both KeepsPhase) (sym f) (decision_both KeepsPhase b (put_activity a.id (at_time now b)) answer d (λ c. h.answers) h.answers)
 phase_both b e now p h (transaction_registers id a r t stands came says o f) =
     subst (Both KeepsPhase) (sym f)
     (plain_both KeepsPhase (registration_outcome b now (on_register (moment_of b now) a r t))
     (all_put InPhase transaction_id (on_register (moment_of b now) a r t).transaction.id (Some (on_register (moment_of b now) a r t).transaction) b.transactions
-    (register_stands (moment_of b now) a r t (all_find InPhase transaction_id id b.transactions t h stands)) h))
+    (register_stands (moment_of b now) a r t (all_find InPhase transaction_id id b.transactions t h.answers stands)) h.answers))
 phase_both b e now p h (transaction_made a c id t os next made o f) =
     subst (Both KeepsPhase) (sym f)
     (plain_both KeepsPhase (still (make_transaction (at_time now b) t) os)
-    (all_join InPhase b.transactions (t ∷ []) h (created_stands (moment_of b now) (length b.transactions) a c id t made, tt)))
+    (all_join InPhase b.transactions (t ∷ []) h.answers (created_stands (moment_of b now) (length b.transactions) a c id t made, tt)))
 phase_both b e now p h (leaf_made a w id l os came says next made o f) =
-    subst (Both KeepsPhase) (sym f) (plain_both KeepsPhase (still (make_leaf (at_time now b) l) os) h)
+    subst (Both KeepsPhase) (sym f) (plain_both KeepsPhase (still (make_leaf (at_time now b) l) os) h.answers)
 phase_both b e now p h (activity_made id a os next made o f) =
-    subst (Both KeepsPhase) (sym f) (plain_both KeepsPhase (still (make_activity (at_time now b) a) os) h)
+    subst (Both KeepsPhase) (sym f) (plain_both KeepsPhase (still (make_activity (at_time now b) a) os) h.answers)
 
 step_stands : (b : Book) (e : Event) (now : ℕ) (landed : Bool) → IsInPhase b → IsInPhase (step b e now landed).book
 unfolding KeepsPhase
-step_stands b e now landed h = in_branch KeepsPhase (plan b e now) landed (phase_both b e now (plan b e now) h (steps_touch_one b e now))
+step_stands b e now landed h = record {
+  answers = in_branch KeepsPhase (plan b e now) landed (phase_both b e now (plan b e now) h (steps_touch_one b e now));
+  links = links_follow_phases.book b e now landed h.links;
+}
 
 -- recovery
-prepared_answered : (kind : Kind) (seats : List Seated) → answered kind (map (recovered_seat states.Prepared) seats) ≡ true
-prepared_answered kinds.Volatile [] = refl
-prepared_answered kinds.Volatile (s ∷ ss) = prepared_answered kinds.Volatile ss
-prepared_answered kinds.Durable [] = refl
-prepared_answered kinds.Durable (s ∷ ss) = prepared_answered kinds.Durable ss
+recovered_answered : (kind : Kind) (state : State) (seats : List Seated) → is_state state states.Active ≡ false → is_state state states.Preparing ≡ false
+    → answered kind (map (recovered_seat state) seats) ≡ true
+recovered_answered kind state [] e f = refl
+recovered_answered kind state (s ∷ ss) e f =
+    none_either (is_unanswered kind (recovered_seat state s)) (list_any (is_unanswered kind) (map (recovered_seat state) ss))
+    (neither (is_kind kinds.Durable kind) (is_state state states.Active) (is_state state states.Preparing) e f) (recovered_answered kind state ss e f)
+
+all_answered : (state : State) (seats : List Seated) → is_state state states.Active ≡ false → is_state state states.Preparing ≡ false
+    → (answered kinds.Volatile (map (recovered_seat state) seats) ≡ true) × (answered kinds.Durable (map (recovered_seat state) seats) ≡ true)
+all_answered state seats e f = (recovered_answered kinds.Volatile state seats e f, recovered_answered kinds.Durable state seats e f)
 
 voted_stands : (id : Numbers) (superior : Epr) (seats : List Seated) (committed : Bool) → InPhase (recovered_voted id superior seats committed)
-voted_stands id superior seats true = tt
-voted_stands id superior seats false = (prepared_answered kinds.Volatile seats, prepared_answered kinds.Durable seats)
+voted_stands id superior seats true = all_answered states.Committing seats refl refl
+voted_stands id superior seats false = all_answered states.Prepared seats refl refl
 
 records_stand : (base : List ℕ) (rs : List Record) → AllByRecursion InPhase (transactions_of base rs)
 records_stand base [] = tt
 records_stand base (records.Voted id superior seats ∷ rest) =
     (voted_stands id superior seats (list_any (is_sub_committed id) rest), records_stand base rest)
-records_stand base (records.Decided id seats ∷ rest) = (tt, records_stand base rest)
+records_stand base (records.Decided id seats ∷ rest) = (all_answered states.Committing seats refl refl, records_stand base rest)
 records_stand base (records.Start incarnation ∷ rest) = records_stand base rest
 records_stand base (records.LeafPrepared id coordinator key value ∷ rest) = records_stand base rest
 records_stand base (records.LeafCommitted id ∷ rest) = records_stand base rest
@@ -196,7 +192,10 @@ records_stand base (records.SubCommitted id ∷ rest) = records_stand base rest
 records_stand base (records.Ended id ∷ rest) = records_stand base rest
 
 recovered_stands : (base : List ℕ) (rs : List Record) → IsInPhase (recover base rs)
-recovered_stands base rs = all_in_order InPhase transaction_id (transactions_of base (live rs)) (records_stand base (live rs))
+recovered_stands base rs = record {
+  answers = all_in_order InPhase transaction_id (transactions_of base (live rs)) (records_stand base (live rs));
+  links = links_follow_phases.recovered base rs;
+}
 
 -- the transaction before and after
 found_if : (b : Bool) (id i : Numbers) (t x : Transaction) (o : Option Transaction) → b ≡ is_id x.id id → (o ≡ Some t → t.id ≡ id) → (if b then Some x else o) ≡ Some t → t.id ≡ id
@@ -264,7 +263,7 @@ shape_passes b e now p r h (time_moves os o f) k = absurd (no_entry p _ r f k)
 shape_passes b e now p r h (transaction_moves id t answer d stands how o f) k =
     subst (λ x. IsPassed b r x.landed) (sym f)
     (says_entry (Left t) (λ s c. IsBehind t s c.item) (IsPassed b) b (put_transaction t.id (at_time now b)) answer (with_answer (moment_of b now) t d) r
-    (moved_fine b e now t d (all_find InPhase transaction_id id b.transactions t h stands) how)
+    (moved_fine b e now t d (all_find Linked transaction_id id b.transactions t h.links stands) (all_find InPhase transaction_id id b.transactions t h.answers stands) how)
     (λ s c i j. entry_passes b now id t answer stands s c i.item j) (sym (ap (λ x. x.entry) f) ∙ k))
 shape_passes b e now p r h (leaf_moves id l answer d stands how o f) k =
     subst (λ x. IsPassed b r x.landed) (sym f)
@@ -311,7 +310,7 @@ tells_both b e now p h (time_moves os o f) =
 tells_both b e now p h (transaction_moves id t answer d stands how o f) =
     subst (Both (TellsBehind b)) (sym f)
     (decided_says (Left t) (λ r c. IsBehind t r c.item) (TellsBehind b) b (put_transaction t.id (at_time now b)) answer (with_answer (moment_of b now) t d)
-    (moved_fine b e now t d (all_find InPhase transaction_id id b.transactions t h stands) how)
+    (moved_fine b e now t d (all_find Linked transaction_id id b.transactions t h.links stands) (all_find InPhase transaction_id id b.transactions t h.answers stands) how)
     (λ c k. told_behind b id t c.effects stands k.told) (nothing_told b (still b answer) refl))
 tells_both b e now p h (leaf_moves id l answer d stands how o f) =
     subst (Both (TellsBehind b)) (sym f)

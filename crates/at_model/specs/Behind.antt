@@ -1,5 +1,5 @@
 -- A root decides and a subordinate votes only behind every answer: over whole steps of a book.
-use Rattle.std.specs.Prelude.{ℕ, List, Some, Bool, true, map, ◌≡◌}
+use Rattle.std.specs.Prelude.{ℕ, List, Some, Bool, true, map, ◌≡◌, ◌⊎◌}
 use Rattle.std.specs.List.{AllByRecursion}
 use Rattle.at_base.specs.Numbers.{Numbers}
 use Rattle.at_base.specs.declared.epr.Epr.{Epr}
@@ -11,27 +11,30 @@ use Rattle.at_base.specs.declared.record.Record.TheVariants as records
 use Rattle.at_base.specs.declared.event.Event.{Event}
 use Rattle.at_base.specs.declared.outs.Ending.TheVariants as endings
 use Rattle.at_base.specs.declared.outs.Effect.TheVariants as effects
+use Rattle.at_tables.specs.declared.cells.State.{State}
 use Rattle.at_tables.specs.declared.cells.State.TheVariants as states
 use Rattle.at_model.specs.Book.{Book, Transaction, Enlistment, Phase}
 use Rattle.at_model.specs.Seats.{answered, in_state, moved, prepared}
 use Rattle.at_model.specs.Step.{plan, step, transaction_at}
 use Rattle.at_model.specs.Recover.{recover}
 use Rattle.at_model.specs.Agreement.{IsIn}
+use Rattle.at_model.specs.Links.{IsLinked}
 
--- What a phase stands behind: the durable seats are asked once every volatile one has answered; a subordinate has voted
--- once every one has (WS-AtomicTransaction 1.2, sections 3.3.1 and 3.3.3).
+-- What a phase stands behind: the durable seats are asked once every volatile one has answered; a subordinate has voted,
+-- and a transaction has decided, once every one has (WS-AtomicTransaction 1.2, sections 3.3.1 and 3.3.3).
 abbrev pub StandsBehind : Phase → List Enlistment → Type 0
 StandsBehind Phase.Registering seats = Unit {0}
 StandsBehind Phase.Active seats = Unit {0}
 StandsBehind Phase.Volatile seats = Unit {0}
 StandsBehind Phase.Durable seats = answered kinds.Volatile seats ≡ true
 StandsBehind Phase.Voted seats = (answered kinds.Volatile seats ≡ true) × (answered kinds.Durable seats ≡ true)
-StandsBehind Phase.Committing seats = Unit {0}
+StandsBehind Phase.Committing seats = (answered kinds.Volatile seats ≡ true) × (answered kinds.Durable seats ≡ true)
 StandsBehind Phase.Aborting seats = Unit {0}
 
--- Each transaction stands behind the answers that its phase wants.
-abbrev pub IsInPhase : Book → Type 0
-IsInPhase b = AllByRecursion (λ t. StandsBehind t.phase t.seats) b.transactions
+-- Each transaction stands behind the answers that its phase wants, and its links are as its phase wants.
+pub record IsInPhase (b : Book) : Type 0 where
+  pub answers : AllByRecursion (λ t. StandsBehind t.phase t.seats) b.transactions
+  pub links : IsLinked b
 
 -- a participant as it was accepted: all of its seat but the state
 pub record Accepted : Type 0 where
@@ -42,9 +45,18 @@ pub record Accepted : Type 0 where
 abbrev pub accepted_as : Enlistment → Accepted
 accepted_as s = record { number = s.number; kind = s.kind; participant = s.participant }
 
--- The seats as they stand at a decision or a vote: all that the transaction accepted, each of them answered, and the
--- record names the durable ones that are Prepared.
+-- it was asked, or is still to be asked
+abbrev pub IsUnanswered : State → Type 0
+IsUnanswered states.Active = Unit {0}
+IsUnanswered states.Preparing = Unit {0}
+IsUnanswered other = ⊥
+
+-- The seats as they stand at a decision or a vote: all that the transaction accepted, each of them answered, where all but
+-- one had answered before the step; and the record names the durable ones that are Prepared.
 pub record AreAnswered (before at : List Enlistment) (named : List Seated) : Type 0 where
+  -- the number of the seat that answered last
+  pub last : ℕ
+  pub others : AllByRecursion (λ s. (s.number ≡ last) ⊎ (IsUnanswered s.state → ⊥)) before
   pub accepted : map accepted_as at ≡ map accepted_as before
   pub volatile : answered kinds.Volatile at ≡ true
   pub durable : answered kinds.Durable at ≡ true

@@ -1,5 +1,5 @@
 -- Ids over a node's life: each id that it holds was drawn, and none is made twice.
-use Rattle.std.specs.Prelude.{ℕ, List, [], ◌∷◌, ◌++◌, Option, Some, None, Bool, not, nat_lt, ◌&&◌, ◌+◌, if◌then◌else◌, map, filter, codes, ◌≡◌, ◌≤◌, refl, true, false}
+use Rattle.std.specs.Prelude.{ℕ, List, [], ◌∷◌, ◌++◌, Option, Some, None, Bool, not, nat_lt, ◌&&◌, ◌+◌, if◌then◌else◌, length, map, filter, codes, ◌≡◌, ◌≤◌, refl, true, false}
 use Rattle.std.specs.List.{list_any, AllByRecursion}
 use Rattle.at_base.specs.Numbers.{Numbers}
 use Rattle.at_base.specs.declared.record.Record.{Record}
@@ -123,9 +123,12 @@ abbrev pub AreApart : List Numbers → Type 0
 AreApart [] = Unit {0}
 AreApart (id ∷ rest) = (IsIn id rest → ⊥) × AreApart rest
 
--- No node makes an id twice, however often it stops and starts.
-abbrev pub NoIdMadeTwice : Type 0
-NoIdMadeTwice = (base : List ℕ) (es : List LifeEvent) → AreApart (made_through base es newborn)
+-- A step makes one id at most, which was not drawn before; and over its whole life, however often it stops and starts, a
+-- node makes no id twice.
+pub record NoIdMadeTwice : Type 0 where
+  pub one : (b : Book) (e : Event) (now : ℕ) (landed : Bool) → length (new_ids b (step b e now landed).book) ≤ 1
+  pub new : (b : Book) (e : Event) (now : ℕ) (landed : Bool) → AllByRecursion (λ id. IsDrawn b id → ⊥) (new_ids b (step b e now landed).book)
+  pub life : (base : List ℕ) (es : List LifeEvent) → AreApart (made_through base es newborn)
 
 -- A begun activity on each side of a stop: two ids.
 abbrev pub two_lives : List LifeEvent
