@@ -1,5 +1,5 @@
--- Names as they are kept apart.
-use Rattle.std.proofs.Common.{◌≡◌, refl, sym, ap, ◌∙◌, ℕ, zero, suc, List, [], ◌∷◌, Bool, true, false, cond, not, ◌&&◌, ◌||◌, Option, Some, None, option_map, drop, Bor, Ordering}
+-- Names and prefixes as they are kept apart.
+use Rattle.std.proofs.Common.{◌≡◌, refl, ap, ◌∙◌, ℕ, zero, suc, List, [], ◌∷◌, Bool, true, false, cond, not, ◌&&◌, ◌||◌, Option, Some, None, option_map, map, drop, Bor, Ordering}
 use Rattle.std.proofs.lemmas.Map.Text.{is_eq-slice_cmp}
 use Rattle.std.specs.BTreeSet.{BTreeSet, Updates, contains}
 use Rattle.std.specs.declared.cmp.Ordering.TheVariants.{Less, Equal, Greater}
@@ -7,8 +7,10 @@ use Rattle.std.specs.Cmp.Lexicographic.{slice_cmp}
 use Rattle.std.specs.Option.{option_cmp}
 use Rattle.std.specs.Ordering.{nat_cmp, is_eq, ordering_then}
 use Rattle.xml_grammar.specs.Characters.{same}
-use Rattle.xml_grammar.specs.Namespaces.{are_apart, names, same_name, same_space}
+use Rattle.xml_grammar.specs.Namespaces.{are_apart, names, same_name, same_space, Binding, declares, may_bind, may_declare}
 use Rattle.xml_grammar.specs.Keys.{name_of}
+use Rattle.xml_grammar.specs.Places.{binding_of}
+use Rattle.xml_grammar.specs.declared.scope.Binding.{Binding as BindingRead}
 use Rattle.xml_grammar.proofs.MeaningLaws.{bytes_same, same_sym}
 use Rattle.xml_profile.specs.declared.name.QName.{QName}
 use Rattle.xml_profile.specs.declared.name.Attribute.{Attribute}
@@ -79,3 +81,34 @@ pub not_apart_behind : (xs : List Attribute) (i : ℕ) → are_apart (drop i xs)
 not_apart_behind xs zero e = e
 not_apart_behind [] (suc i) e = e
 not_apart_behind (x ∷ xs) (suc i) e = ap (λ b. not (names x.name xs) && b) (not_apart_behind xs i e) ∙ and_false (not (names x.name xs))
+
+-- The prefixes behind a place
+
+abbrev pub has_prefix : BTreeSet (Bor (List ℕ)) → Bor (List ℕ) → Bool
+has_prefix s q = contains (λ x y. slice_cmp nat_cmp x.now y.now) s q
+
+pub prefix_added : (s t : BTreeSet (Bor (List ℕ))) (p : Bor (List ℕ)) (b : Binding) (bs : List Binding) → p.now ≡ b.prefix
+    → ((q : Bor (List ℕ)) → has_prefix s q ≡ declares q.now bs) → Updates (λ x y. slice_cmp nat_cmp x.now y.now) s t p true
+    → (q : Bor (List ℕ)) → has_prefix t q ≡ declares q.now (b ∷ bs)
+prefix_added s t p b bs e h u q =
+    u.0 q
+    ∙ (cond_or (is_eq (slice_cmp nat_cmp p.now q.now)) (has_prefix s q)
+    ∙ (ap (λ c. c || has_prefix s q) (text_same p.now q.now ∙ (same_sym p.now q.now ∙ ap (same q.now) e))
+    ∙ ap (λ c. same q.now b.prefix || c) (h q)))
+
+pub may_add : (b : Binding) (bs : List Binding) → may_bind b ≡ true → declares b.prefix bs ≡ false → may_declare bs ≡ true → may_declare (b ∷ bs) ≡ true
+may_add b bs e f g = ap (λ c. c && not (declares b.prefix bs) && may_declare bs) e ∙ (ap (λ c. not c && may_declare bs) f ∙ g)
+
+pub declared_twice : (b : Binding) (bs : List Binding) → declares b.prefix bs ≡ true → may_declare (b ∷ bs) ≡ false
+declared_twice b bs e = ap (λ c. may_bind b && not c && may_declare bs) e ∙ ap (λ c. c && may_declare bs) (and_false (may_bind b))
+
+pub may_not_bind : (b : Binding) (bs : List Binding) → may_bind b ≡ false → may_declare (b ∷ bs) ≡ false
+may_not_bind b bs e = ap (λ c. c && not (declares b.prefix bs) && may_declare bs) e
+
+pub may_not_behind : (xs : List BindingRead) (i : ℕ) → may_declare (map binding_of (drop i xs)) ≡ false → may_declare (map binding_of xs) ≡ false
+may_not_behind xs zero e = e
+may_not_behind [] (suc i) e = e
+may_not_behind (x ∷ xs) (suc i) e =
+    let b = binding_of x in
+    ap (λ c. may_bind b && not (declares b.prefix (map binding_of xs)) && c) (may_not_behind xs i e)
+    ∙ and_false (may_bind b && not (declares b.prefix (map binding_of xs)))

@@ -1,11 +1,11 @@
 -- What a tag says, piece by piece.
-use Rattle.std.proofs.Common.{◌≡◌, refl, sym, ap, ◌∙◌, ℕ, List, [], ◌∷◌, ◌++◌, Bool, true, false, cond, ◌&&◌, Option, Some, None, nat_eq, option_map, codes}
+use Rattle.std.proofs.Common.{◌≡◌, refl, sym, ap, ◌∙◌, ℕ, List, [], ◌∷◌, ◌++◌, Bool, true, false, Option, Some, None}
 use Rattle.std.specs.Str.{bytes_eq}
 use Rattle.std.proofs.lemmas.Slice.Eq.{bytes_eq-Decides}
 use Rattle.xml_grammar.specs.Characters.{◌>>=◌, same, Parts, parts}
 use Rattle.xml_grammar.specs.Tokens.{Pair}
-use Rattle.xml_grammar.specs.Namespaces.{Binding, Spelled, Sorted, sort, sort_in, declared_by, attribute_name, attributes_of, is_empty}
-use Rattle.xml_grammar.specs.Joining.{joined, sort_one, declared_prefix}
+use Rattle.xml_grammar.specs.Namespaces.{Binding, Spelled, Sorted, sort, sort_in, declared_by, attribute_name, attributes_of}
+use Rattle.xml_grammar.specs.Joining.{joined, sort_one}
 use Rattle.xml_grammar.proofs.StepLaws.{same_is, same_same}
 use Rattle.xml_profile.specs.declared.name.Attribute.{Attribute}
 use Rattle.xml_profile.specs.declared.name.QName.{QName}

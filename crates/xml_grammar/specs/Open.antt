@@ -1,9 +1,8 @@
 -- What the bindings, the names and the open elements of the reader are to the grammar.
-use Rattle.std.specs.Prelude.{ℕ, List, map, reverse, Bool, true, false, Option, Some, None, string_bytes}
-use Rattle.xml_grammar.specs.Characters.{Parts}
+use Rattle.std.specs.Prelude.{List, map, reverse, Bool, true, false, Option, Some, None, string_bytes}
 use Rattle.xml_grammar.specs.Namespaces.{Binding, Spelled, Sorted, Meaning}
 use Rattle.xml_grammar.specs.Views.{parts_of}
-use Rattle.xml_grammar.specs.Machine.{Frame, State, state}
+use Rattle.xml_grammar.specs.Machine.{Frame, state}
 use Rattle.xml_grammar.specs.Shallow.{Reading, reading}
 use Rattle.xml_grammar.specs.Places.{binding_of, held_of}
 use Rattle.xml_grammar.specs.declared.scope.Scope.{Scope}

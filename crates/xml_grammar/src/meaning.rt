@@ -192,7 +192,7 @@ pub fn read_meaning<'a>(
     let Some(sorted) = sort(alloc, tag.pairs)? else {
         return Ok(None);
     };
-    if !may_declare(sorted.declarations.as_slice()) {
+    if !may_declare(alloc, sorted.declarations.as_slice())? {
         return Ok(None);
     }
     let Some(parts) = split_name(tag.name) else {

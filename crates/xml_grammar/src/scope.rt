@@ -1,16 +1,16 @@
 //! Bindings of namespaces in force (Namespaces in XML 1.0, sections 3, 5 and 6).
 
-ghost use Rattle.std.specs.Prelude.{◌≡◌, ℕ, List, ◌&&◌, ◌||◌, not, ◌++◌, ◌∷◌, ◌-◌, [], length, take, map, option_map, IsSome, OnOk};
+ghost use Rattle.std.specs.Prelude.{◌≡◌, ℕ, List, ◌&&◌, ◌||◌, not, ◌++◌, ◌∷◌, ◌-◌, [], length, take, map, option_map, IsSome, IfOk, OnOk};
 ghost use Rattle.std.specs.Map.{update};
 ghost use Rattle.std.specs.Str.{bytes_eq};
-ghost use Rattle.xml_grammar.specs.Namespaces.{defaulted, is_empty, lookup, may_bind, may_declare, declares, space_of};
+ghost use Rattle.xml_grammar.specs.Namespaces.{defaulted, is_empty, lookup, may_bind, may_declare, space_of};
 ghost use Rattle.xml_grammar.specs.Places.{Finds, HidesEach, binding_of, place_in};
 
 use crate::declaration::is_word;
-use crate::lexing::{is_same, is_same_text};
+use crate::lexing::is_same_text;
 use at_base::text::Text;
 use std::alloc::{AllocError, Global};
-use std::collections::BTreeMap;
+use std::collections::{BTreeMap, BTreeSet};
 use xml_profile::names::{XML, XMLNS};
 
 /// A prefix and its namespace. The default namespace has the empty prefix, and none of it the empty text.
@@ -158,31 +158,21 @@ fn may_undeclare(prefix: &[char], space: &str) -> bool
     prefix.is_empty() || !space.is_empty()
 }
 
-fn declares(prefix: &[char], bindings: &[Binding<'_>]) -> bool
-    ensures { result ≡ declares prefix.now (map binding_of bindings.now) }
-{
-    for binding in bindings {
-        if is_same(prefix, binding.prefix) {
-            return true;
-        }
-    }
-    false
-}
-
-fn may_stand_before(binding: &Binding<'_>, others: &[Binding<'_>]) -> bool
-    ensures { result ≡ (may_bind (binding_of binding.now) && not (declares binding.now.prefix.now (map binding_of others.now))) }
-{
-    may_bind(binding) && !declares(binding.prefix, others)
-}
-
 /// Whether a tag may declare all this: nothing that is reserved, and no prefix twice (sections 3 and 5).
-pub fn may_declare(bindings: &[Binding<'_>]) -> bool
-    ensures { result ≡ may_declare (map binding_of bindings.now) }
+pub fn may_declare(alloc: Global, bindings: &[Binding<'_>]) -> Result<bool, AllocError>
+    ensures { IfOk result (λ b. b ≡ may_declare (map binding_of bindings.now)) }
 {
-    for i in 0..bindings.len() {
-        if !may_stand_before(&bindings[i], &bindings[i + 1..]) {
-            return false;
+    let mut behind = BTreeSet::new(alloc);
+    let mut left = bindings.len();
+    while left > 0 {
+        left -= 1;
+        let binding = &bindings[left];
+        if !may_bind(binding) {
+            return Ok(false);
+        }
+        if !behind.insert(binding.prefix)? {
+            return Ok(false);
         }
     }
-    true
+    Ok(true)
 }

@@ -1,4 +1,3 @@
-use Rattle.std.proofs.Common.{◌≡◌}
 use Rattle.xml_grammar.proofs.PlaceLaws.{popped, last_there, popped_found, popped_hides}
 use Rattle.xml_grammar.proofs.scope.Scope.forget.Goals as goal
 
