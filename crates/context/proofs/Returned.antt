@@ -1,5 +1,5 @@
 -- Bodies are read as they were written.
-use Rattle.std.proofs.Common.{◌≡◌, ◌<◌, ◌^◌, ℕ, List, [], ◌∷◌, Bool, true, IfSome, Option, Some, None, Result, Ok, cond, refl, ap, ◌∙◌}
+use Rattle.std.proofs.Common.{◌≡◌, ◌<◌, ◌^◌, ℕ, List, [], ◌∷◌, Bool, true, IfOk, IfSome, Option, Some, None, Result, Ok, Err, cond, refl, ap, subst, sym, ◌∙◌}
 use Rattle.std.specs.Option.{option_map}
 use Rattle.std.specs.Fmt.{decimal}
 use Rattle.std.proofs.lemmas.List.{append-nil}
@@ -21,7 +21,7 @@ use Rattle.context.specs.declared.writer.OutgoingContext.{OutgoingContext}
 use Rattle.context.specs.declared.writer.OutgoingCreate.{OutgoingCreate}
 use Rattle.context.specs.declared.writer.OutgoingRegister.{OutgoingRegister}
 use Rattle.context.specs.Reading.{◌>>=◌, context_of, create_of, identifier, is_identifier, number_of, readable, register_of, said_current, said_expires}
-use Rattle.context.specs.Writing.{IsLegibleContext, IsLegibleCreate, IsLegibleRegister, context_in, context_tree, create_in, create_tree, endpoint_parameter, parameter_name, register_in, register_tree, text_parameter}
+use Rattle.context.specs.Writing.{CurrentReturns, IsLegibleContext, IsLegibleCreate, IsLegibleRegister, IsNarrow, context_in, context_tree, create_in, create_tree, endpoint_parameter, parameter_name, register_in, register_tree, text_parameter}
 use Rattle.context.proofs.Numbers.{decimal_trimmed, number_written}
 
 -- the text of an element of one text
@@ -43,10 +43,6 @@ identifier_returns text e h =
 abbrev said_number : Option ℕ → Result (Option ℕ) ContextFault
 said_number number = readable Expires number >>= λ milliseconds. Ok (Some milliseconds)
 
--- milliseconds fit into 32 bits
-abbrev pub IsNarrow : Option ℕ → Type 0
-IsNarrow expires = IfSome expires (λ n. n < 2 ^ 32)
-
 abbrev expires_element : Option ℕ → Option Tree
 expires_element expires = option_map (λ n. text_parameter Expires (decimal n)) expires
 
@@ -63,7 +59,8 @@ together said_identifier said_expires coordination registration = do
   registration ← readable RegistrationService registration
   Ok (record { identifier = identifier; expires = expires; coordination = coordination; registration = registration })
 
-abbrev Returns : Parameter → Endpoint → Type 0
+-- an endpoint is read as it was written
+abbrev pub Returns : Parameter → Endpoint → Type 0
 Returns parameter endpoint = IsLegible endpoint → epr_of (endpoint_parameter parameter endpoint) ≡ Some (epr_in endpoint)
 
 context_parts : (expires : Option ℕ) (said type : List ℕ) (registration : Endpoint) (name : QName)
@@ -98,12 +95,6 @@ create_parts None (Some context) type = refl
 create_parts (Some n) None type = refl
 create_parts (Some n) (Some context) type = refl
 
--- a current context is read as it was written
-abbrev pub CurrentReturns : Option OutgoingContext → Type 0
-CurrentReturns current =
-    IfSome current (λ context. IsLegibleContext context
-        → context_of (context_tree context (parameter_name CurrentContext)) ≡ Ok (context_in context))
-
 abbrev said_context : Result Context ContextFault → Result (Option Context) ContextFault
 said_context said = said >>= λ context. Ok (Some context)
 
@@ -129,3 +120,12 @@ pub register_returns : (body : OutgoingRegister) → Returns ParticipantProtocol
     → IsLegibleRegister body → register_of (register_tree body) ≡ Ok (register_in body)
 register_returns body participant h =
     λ i. registered (text_returns ProtocolIdentifier body.protocol h.protocol i) (participant h.participant i)
+
+pub endpoint_returns : (parameter : Parameter) (endpoint : Endpoint) (t : Tree) → t ≡ endpoint_parameter parameter endpoint
+    → (IsLegible endpoint → epr_of t ≡ Some (epr_in endpoint)) → Returns parameter endpoint
+endpoint_returns parameter endpoint t e returned = λ h. ap epr_of (sym e) ∙ returned h
+
+-- what holds of the stated tree holds of the answer
+pub from_tree : {E : Type 0} (r : Result Tree E) (t : Tree) (P : Tree → Type 0) → IfOk r (λ u. u ≡ t) → P t → IfOk r P
+from_tree (Ok u) t P e h = subst P (sym e) h
+from_tree (Err fault) t P e h = tt

@@ -1,5 +1,5 @@
 -- The trees of the bodies of coordination (WS-Coordination 1.2, sections 2 and 3).
-use Rattle.std.specs.Prelude.{◌≡◌, ℕ, List, [], ◌∷◌, ◌++◌, true, IfSome, Option, Some, None, codes}
+use Rattle.std.specs.Prelude.{◌≡◌, ◌<◌, ◌^◌, ℕ, List, [], ◌∷◌, ◌++◌, true, IfSome, Option, Some, None, Ok, codes}
 use Rattle.std.specs.Option.{option_map}
 use Rattle.std.specs.Fmt.{decimal}
 use Rattle.xml_profile.specs.declared.name.QName.{QName}
@@ -17,7 +17,7 @@ use Rattle.context.specs.declared.writer.OutgoingContext.{OutgoingContext}
 use Rattle.context.specs.declared.writer.OutgoingCreate.{OutgoingCreate}
 use Rattle.context.specs.declared.writer.OutgoingRegister.{OutgoingRegister}
 use Rattle.context.specs.Parameters.{local_name}
-use Rattle.context.specs.Reading.{is_identifier}
+use Rattle.context.specs.Reading.{context_of, is_identifier}
 
 abbrev pub parameter_name : Parameter → QName
 parameter_name parameter = qualified coordination (local_name parameter)
@@ -88,6 +88,10 @@ create_in body =
 abbrev pub register_in : OutgoingRegister → Register
 register_in body = record { protocol = body.protocol; participant = epr_in body.participant }
 
+-- milliseconds have 32 bits
+abbrev pub IsNarrow : Option ℕ → Type 0
+IsNarrow expires = IfSome expires (λ n. n < 2 ^ 32)
+
 -- a context that can be read
 pub record IsLegibleContext (context : OutgoingContext) : Type 0 where
   pub identifier : IsTrimmed context.identifier
@@ -102,3 +106,9 @@ pub record IsLegibleCreate (body : OutgoingCreate) : Type 0 where
 pub record IsLegibleRegister (body : OutgoingRegister) : Type 0 where
   pub protocol : IsTrimmed body.protocol
   pub participant : IsLegible body.participant
+
+-- a current context is read as it was written
+abbrev pub CurrentReturns : Option OutgoingContext → Type 0
+CurrentReturns current =
+    IfSome current (λ context. IsLegibleContext context
+        → context_of (context_tree context (parameter_name CurrentContext)) ≡ Ok (context_in context))

@@ -128,6 +128,7 @@ fn read_expires(alloc: Global, tree: &Tree) -> Result<Option<u32>, ContextFault>
 }
 
 /// The number that a text spells in decimal: a plus and zeros may stand in front.
+#[tactic(auto, using(crate::proofs::Numbers::parsed))]
 fn read_number(text: &str) -> Option<u32>
     ensures { result ≡ number_of text.now }
 {

@@ -4,7 +4,7 @@ ghost use Rattle.std.specs.Prelude.{◌≡◌, ◌++◌, IfOk, Ok, OnOk, Some};
 ghost use Rattle.addressing.specs.Endpoints.{epr_of};
 ghost use Rattle.addressing.specs.Writing.{IsLegible, epr_in};
 ghost use Rattle.context.specs.Reading.{context_of, create_of, create_response_of, register_of, register_response_of};
-ghost use Rattle.context.specs.Writing.{IsLegibleContext, IsLegibleCreate, IsLegibleRegister, body_tree, context_in, context_tree, create_in, create_response_tree, create_tree, current_parameter, endpoint_parameter, expires_parameter, parameter_name, register_in, register_response_tree, register_tree, text_parameter};
+ghost use Rattle.context.specs.Writing.{IsLegibleContext, IsLegibleCreate, IsLegibleRegister, IsNarrow, CurrentReturns, body_tree, context_in, context_tree, create_in, create_response_tree, create_tree, current_parameter, endpoint_parameter, expires_parameter, parameter_name, register_in, register_response_tree, register_tree, text_parameter};
 
 use crate::parameter::Parameter;
 use addressing::writer::{Endpoint, endpoint_tree};
@@ -162,7 +162,8 @@ fn push_expires(
     parts: &mut Vec<Tree>,
     expires: Option<u32>,
 ) -> Result<(), AllocError>
-    ensures { OnOk result (parts.new.items ≡ parts.old.items ++ expires_parameter expires) }
+    ensures tree { OnOk result (parts.new.items ≡ parts.old.items ++ expires_parameter expires) }
+    ensures narrow { IsNarrow expires }
 {
     let Some(milliseconds) = expires else {
         return Ok(());
@@ -178,6 +179,7 @@ fn push_current(
     current: Option<OutgoingContext>,
 ) -> Result<(), AllocError>
     ensures tree { OnOk result (parts.new.items ≡ parts.old.items ++ current_parameter current) }
+    ensures reads { OnOk result (CurrentReturns current) }
 {
     let Some(context) = current else {
         return Ok(());

@@ -10,5 +10,5 @@ use Rattle.context.proofs.parameter.child_in.Given as goal
 
 abbrev pub invariant-loop-child : goal.invariant-loop-child
 invariant-loop-child l =
-    ahead (option_copied l.found) (named (elements (forest_of (drop l.child-index l.child-items))) coordination (local_name l.parameter))
-    ≡ child_in l.tree l.parameter
+    ahead (option_copied l.found) (named (elements (forest_of (drop l.child-index l.child-items))) coordination (local_name l.fn.parameter))
+    ≡ child_in l.tree l.fn.parameter
