@@ -111,4 +111,4 @@ pub record IsLegibleRegister (body : OutgoingRegister) : Type 0 where
 abbrev pub CurrentReturns : Option OutgoingContext → Type 0
 CurrentReturns current =
     IfSome current (λ context. IsLegibleContext context
-        → context_of (context_tree context (parameter_name CurrentContext)) ≡ Ok (context_in context))
+    → context_of (context_tree context (parameter_name CurrentContext)) ≡ Ok (context_in context))

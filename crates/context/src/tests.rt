@@ -1,8 +1,10 @@
 use crate::parameter::ContextFault;
-use crate::reader::{read_context, read_create, read_create_response, read_register, read_register_response};
+use crate::reader::{
+    read_context, read_create, read_create_response, read_register, read_register_response,
+};
 use crate::writer::{
-    OutgoingContext, OutgoingCreate, OutgoingRegister, write_context, write_create, write_create_response,
-    write_register, write_register_response,
+    OutgoingContext, OutgoingCreate, OutgoingRegister, write_context, write_create,
+    write_create_response, write_register, write_register_response,
 };
 use addressing::writer::Endpoint;
 use at_base::epr::Epr;
@@ -62,7 +64,11 @@ fn told_register(alloc: Global, body: &Register) -> Result<String, Fail> {
 }
 
 /// What a body says that is read as this message.
-fn read_as(alloc: Global, message: &str, tree: &Tree) -> Result<Result<String, ContextFault>, Fail> {
+fn read_as(
+    alloc: Global,
+    message: &str,
+    tree: &Tree,
+) -> Result<Result<String, ContextFault>, Fail> {
     Ok(match message {
         "Create" => match read_create(alloc, tree) {
             Ok(body) => Ok(told_create(alloc, &body)?),
@@ -203,7 +209,11 @@ const BODIES: [(&str, &str, &str); 33] = [
     ("Create", "<c:Expires>+</c:Expires>", "parameters Expires"),
     ("Create", "<c:Expires>++1</c:Expires>", "parameters Expires"),
     ("Create", "<c:Expires>1 1</c:Expires>", "parameters Expires"),
-    ("Create", "<c:Expires>&#x661;</c:Expires>", "parameters Expires"),
+    (
+        "Create",
+        "<c:Expires>&#x661;</c:Expires>",
+        "parameters Expires",
+    ),
     (
         "Create",
         "<c:Expires>4294967296</c:Expires>",

@@ -94,7 +94,11 @@ pub fn write_create_response(alloc: Global, context: OutgoingContext) -> Result<
 {
     let name = parameter_name(alloc, Parameter::CoordinationContext)?;
     let context = write_context(alloc, context, name)?;
-    body_of(alloc, "CreateCoordinationContextResponse", vec![in alloc; context]?)
+    body_of(
+        alloc,
+        "CreateCoordinationContextResponse",
+        vec![in alloc; context]?,
+    )
 }
 
 #[tactic(auto)]
@@ -107,7 +111,9 @@ pub fn write_register(alloc: Global, body: OutgoingRegister) -> Result<Tree, All
         protocol,
         participant,
     } = body;
-    let mut parts = vec![in alloc; write_text(alloc, Parameter::ProtocolIdentifier, protocol.as_str())?]?;
+    let mut parts = vec![in alloc;
+        write_text(alloc, Parameter::ProtocolIdentifier, protocol.as_str())?,
+    ]?;
     parts.push(write_endpoint(alloc, Parameter::ParticipantProtocolService, participant)?)?;
     body_of(alloc, "Register", parts)
 }
