@@ -1,14 +1,10 @@
-//! The children of the bodies of coordination, and the fault where one can't be read.
+//! The names of the children of the bodies of coordination, and the fault where one can't be read.
 
 ghost use Rattle.std.specs.Prelude.{◌≡◌};
-ghost use Rattle.std.specs.Option.{option_copied, option_map};
-ghost use Rattle.context.specs.Parameters.{child_in, local_name};
+ghost use Rattle.context.specs.Parameters.{local_name};
 
-use soap_profile::value::is_named;
 use std::alloc::AllocError;
 use thiserror::Error;
-use xml_profile::names::COORDINATION;
-use xml_profile::tree::{Child, Tree};
 
 /// A child of a body (WS-Coordination 1.2, sections 2 and 3).
 #[derive(Debug, Clone, Copy, PartialEq, Eq)]
@@ -62,24 +58,4 @@ impl From<AllocError> for ContextFault {
     fn from(_error: AllocError) -> ContextFault {
         ContextFault::NoMemory
     }
-}
-
-/// The child of this name: nothing where it stands more than once, an inner nothing where it isn't there.
-pub fn child_in(tree: &Tree, parameter: Parameter) -> Option<Option<&Tree>>
-    ensures { option_map option_copied result ≡ child_in tree.now parameter }
-{
-    let local = parameter.local_name();
-    let mut found = None;
-    for child in tree.children.as_slice() {
-        match child {
-            Child::Element(element) if is_named(&element.name, COORDINATION, local) => {
-                if found.is_some() {
-                    return None;
-                }
-                found = Some(element);
-            }
-            _ => {}
-        }
-    }
-    Some(found)
 }

@@ -3,7 +3,8 @@
 ghost use Rattle.std.specs.Prelude.{◌≡◌};
 ghost use Rattle.context.specs.Reading.{Answers, context_of, create_of, create_response_of, current_in, endpoint_in, expires_in, identifier_in, number_of, register_of, register_response_of, text_in};
 
-use crate::parameter::{ContextFault, Parameter, child_in};
+use crate::children::{optional, required};
+use crate::parameter::{ContextFault, Parameter};
 use addressing::endpoint::read_epr;
 use at_base::epr::Epr;
 use at_base::message::{Context, Create, Register};
@@ -49,12 +50,7 @@ pub fn read_create(alloc: Global, tree: &Tree) -> Result<Create, ContextFault>
 pub fn read_create_response(alloc: Global, tree: &Tree) -> Result<Context, ContextFault>
     ensures { Answers (create_response_of tree.now) result }
 {
-    let Some(Some(context)) = child_in(tree, Parameter::CoordinationContext) else {
-        return Err(ContextFault::Parameters {
-            name: Parameter::CoordinationContext,
-        });
-    };
-    read_context(alloc, context)
+    read_context(alloc, required(tree, Parameter::CoordinationContext)?)
 }
 
 /// The body of Register (WS-Coordination 1.2, section 3.2.1).
@@ -79,19 +75,13 @@ pub fn read_register_response(alloc: Global, tree: &Tree) -> Result<Epr, Context
 fn read_text(alloc: Global, tree: &Tree, name: Parameter) -> Result<Text, ContextFault>
     ensures { Answers (text_in tree.now name) result }
 {
-    let Some(Some(child)) = child_in(tree, name) else {
-        return Err(ContextFault::Parameters { name });
-    };
-    Ok(text_value(alloc, child)?)
+    Ok(text_value(alloc, required(tree, name)?)?)
 }
 
 fn read_endpoint(alloc: Global, tree: &Tree, name: Parameter) -> Result<Epr, ContextFault>
     ensures { Answers (endpoint_in tree.now name) result }
 {
-    let Some(Some(child)) = child_in(tree, name) else {
-        return Err(ContextFault::Parameters { name });
-    };
-    match read_epr(alloc, child)? {
+    match read_epr(alloc, required(tree, name)?)? {
         Some(epr) => Ok(epr),
         None => Err(ContextFault::Parameters { name }),
     }
@@ -114,10 +104,7 @@ fn read_expires(alloc: Global, tree: &Tree) -> Result<Option<u32>, ContextFault>
     ensures { Answers (expires_in tree.now) result }
 {
     let name = Parameter::Expires;
-    let Some(child) = child_in(tree, name) else {
-        return Err(ContextFault::Parameters { name });
-    };
-    let Some(child) = child else {
+    let Some(child) = optional(tree, name)? else {
         return Ok(None);
     };
     let text = text_value(alloc, child)?;
@@ -138,11 +125,7 @@ fn read_number(text: &str) -> Option<u32>
 fn read_current(alloc: Global, tree: &Tree) -> Result<Option<Context>, ContextFault>
     ensures { Answers (current_in tree.now) result }
 {
-    let name = Parameter::CurrentContext;
-    let Some(child) = child_in(tree, name) else {
-        return Err(ContextFault::Parameters { name });
-    };
-    match child {
+    match optional(tree, Parameter::CurrentContext)? {
         Some(child) => Ok(Some(read_context(alloc, child)?)),
         None => Ok(None),
     }
