@@ -1,0 +1,52 @@
+//! The children of a body, looked up by name.
+
+ghost use Rattle.std.specs.Prelude.{◌≡◌};
+ghost use Rattle.std.specs.Option.{option_copied, option_map};
+ghost use Rattle.std.specs.Result.{result_map_both};
+ghost use Rattle.context.specs.Parameters.{child_in, local_name};
+ghost use Rattle.context.specs.Reading.{optional, required};
+
+use crate::parameter::{ContextFault, Parameter};
+use soap_profile::value::is_named;
+use xml_profile::names::COORDINATION;
+use xml_profile::tree::{Child, Tree};
+
+/// The child that must be there once.
+pub fn required(tree: &Tree, name: Parameter) -> Result<&Tree, ContextFault>
+    ensures { result_map_both (λ t. t.now) (λ fault. fault) result ≡ required name (child_in tree.now name) }
+{
+    match child_in(tree, name) {
+        Some(Some(child)) => Ok(child),
+        Some(None) | None => Err(ContextFault::Parameters { name }),
+    }
+}
+
+/// The child that stands at most once.
+pub fn optional(tree: &Tree, name: Parameter) -> Result<Option<&Tree>, ContextFault>
+    ensures { result_map_both option_copied (λ fault. fault) result ≡ optional name (child_in tree.now name) }
+{
+    match child_in(tree, name) {
+        Some(child) => Ok(child),
+        None => Err(ContextFault::Parameters { name }),
+    }
+}
+
+/// The child of this name: nothing where it stands more than once, an inner nothing where it isn't there.
+fn child_in(tree: &Tree, name: Parameter) -> Option<Option<&Tree>>
+    ensures { option_map option_copied result ≡ child_in tree.now name }
+{
+    let local = name.local_name();
+    let mut found = None;
+    for child in tree.children.as_slice() {
+        match child {
+            Child::Element(element) if is_named(&element.name, COORDINATION, local) => {
+                if found.is_some() {
+                    return None;
+                }
+                found = Some(element);
+            }
+            _ => {}
+        }
+    }
+    Some(found)
+}
