@@ -62,7 +62,7 @@ abbrev pub is_true : Option (List ℕ) → Bool
 is_true None = false
 is_true (Some text) = bytes_eq text (codes "true") || bytes_eq text (codes "1")
 
--- whether a block is a reference parameter (WS-Addressing 1.0 SOAP Binding, section 2.3)
+-- whether a block is a reference parameter (WS-Addressing 1.0 SOAP Binding, section 3.3)
 abbrev pub is_reference_parameter : Tree → Bool
 is_reference_parameter block = is_true (attribute block.attributes addressing (codes "IsReferenceParameter"))
 

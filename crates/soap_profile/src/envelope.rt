@@ -181,7 +181,7 @@ fn is_for_this_node(actor: Option<&str>) -> bool
 /// The actor that is every node (SOAP 1.1, section 4.2.2).
 const NEXT: &str = "http://schemas.xmlsoap.org/soap/actor/next";
 
-/// Whether a header block is a reference parameter (WS-Addressing 1.0 SOAP Binding, section 2.3).
+/// Whether a header block is a reference parameter (WS-Addressing 1.0 SOAP Binding, section 3.3).
 pub fn is_reference_parameter(block: &Tree) -> bool
     ensures { result ≡ is_reference_parameter block.now }
 {
