@@ -195,6 +195,22 @@ fn wide(alloc: Global, count: usize) -> Result<String, Fail> {
     Ok(out)
 }
 
+/// An element that declares so many prefixes, around an element for each.
+fn declaring(alloc: Global, count: usize) -> Result<String, Fail> {
+    let mut out = String::from_str(alloc, "<a")?;
+    for i in 0..count {
+        let declaration = format!(in alloc; " xmlns:p{i}='u'")?;
+        out.push_str(declaration.as_str())?;
+    }
+    out.push_str(">")?;
+    for i in 0..count {
+        let element = format!(in alloc; "<p{i}:b/>")?;
+        out.push_str(element.as_str())?;
+    }
+    out.push_str("</a>")?;
+    Ok(out)
+}
+
 #[test]
 fn keeps_the_limits(rt: HostRuntime) -> Result<(), Fail> {
     let alloc = rt.alloc();
@@ -202,6 +218,7 @@ fn keeps_the_limits(rt: HostRuntime) -> Result<(), Fail> {
         nested(alloc, 32, "")?,
         repeated(alloc, "<a>", "<b/>", ELEMENTS - 1, "</a>")?,
         wide(alloc, 32)?,
+        declaring(alloc, 2_000)?,
         repeated(alloc, "<a>", "b", BYTES - 7, "</a>")?,
     ] {
         assert!(rt; read_tree(alloc, text.as_str().as_bytes()).is_ok());
@@ -215,6 +232,7 @@ fn keeps_the_limits(rt: HostRuntime) -> Result<(), Fail> {
             TreeRefusal::TooMany,
         ),
         (wide(alloc, 33)?, TreeRefusal::TooMany),
+        (wide(alloc, 6_000)?, TreeRefusal::TooMany),
         (
             repeated(alloc, "<a>", "b", BYTES - 6, "</a>")?,
             TreeRefusal::TooLong,
