@@ -14,7 +14,7 @@ use Rattle.addressing.specs.Endpoints.{is_anonymous, is_nobody}
 use Rattle.addressing.specs.Headers.{◌>>=◌}
 use Rattle.addressing.specs.Posting.{post_to_of}
 
--- the actions of the messages that ask for an answer (WS-Coordination 1.2, sections 3.1 and 4.1), and of this project's Work
+-- the actions of the messages that ask for an answer (WS-Coordination 1.2, sections 3.1 and 3.2), and of this project's Work
 abbrev pub create_action : List ℕ
 create_action = codes "http://docs.oasis-open.org/ws-tx/wscoor/2006/06/CreateCoordinationContext"
 

@@ -16,7 +16,7 @@ use xml_profile::names::SOAP;
 /// The action of CreateCoordinationContext (WS-Coordination 1.2, section 3.1).
 pub const CREATE_ACTION: &str =
     "http://docs.oasis-open.org/ws-tx/wscoor/2006/06/CreateCoordinationContext";
-/// The action of Register (WS-Coordination 1.2, section 4.1).
+/// The action of Register (WS-Coordination 1.2, section 3.2).
 pub const REGISTER_ACTION: &str = "http://docs.oasis-open.org/ws-tx/wscoor/2006/06/Register";
 /// The action of this project's Work.
 pub const WORK_ACTION: &str = "http://example.org/atx/work/1/Work";

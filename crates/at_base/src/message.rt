@@ -31,7 +31,7 @@ pub struct Create {
     pub coordination: Text,
 }
 
-/// The body of Register (WS-Coordination 1.2, section 4.1).
+/// The body of Register (WS-Coordination 1.2, section 3.2).
 #[derive(Debug, PartialEq, Eq, Drop)]
 pub struct Register {
     /// The protocol identifier, a URI.

@@ -16,7 +16,7 @@ pub struct Seat {
 pub enum Target {
     /// The activation service, `/activation` (WS-Coordination 1.2, section 3.1).
     Activation,
-    /// The registration service of a transaction, `/registration/ID` (WS-Coordination 1.2, section 4.1).
+    /// The registration service of a transaction, `/registration/ID` (WS-Coordination 1.2, section 3.2).
     Registration(Id),
     /// The completion seat of a transaction, `/completion/ID` (WS-AtomicTransaction 1.2, section 3.2).
     Completion(Id),

@@ -150,7 +150,7 @@ registered s Phase.Registering =
     else Phase.Active
 registered s other = other
 
--- A RegisterResponse that answers a link's Register makes the link Active (WS-Coordination 1.2, section 4.1).
+-- A RegisterResponse that answers a link's Register makes the link Active (WS-Coordination 1.2, section 3.2).
 unfoldable pub link_registered : Moment → Option (List ℕ) → Epr → Kind → Superior → Transaction → Decision Transaction
 link_registered m relates coordinator kind s t =
     let after : Superior = set_link kind (record { state = states.Active; coordinator = Some coordinator }) s in

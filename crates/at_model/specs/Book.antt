@@ -10,7 +10,7 @@ use Rattle.at_base.specs.declared.epr.Reply.{Reply}
 use Rattle.at_base.specs.declared.message.Context.{Context}
 use Rattle.at_tables.specs.declared.cells.State.{State}
 
--- A participant that a transaction accepted (WS-Coordination 1.2, section 4.1): its number, from 1 in the order of
+-- A participant that a transaction accepted (WS-Coordination 1.2, section 3.2): its number, from 1 in the order of
 -- registration, the protocol it registered for, its endpoint, and the state of its seat.
 pub record Enlistment : Type 0 where
   pub number : ℕ

@@ -180,7 +180,7 @@ abbrev pub work_for : Moment → Numbers → Arrived → Work → Reply → Empl
 work_for m id a w (replies.At reply) = employ m a (new_leaf m id a reply w) w.context.registration
 work_for m id a w other = refuse_work a
 
--- Work makes a leaf, which registers under the context that it was given (WS-Coordination 1.2, section 4.1): refused
+-- Work makes a leaf, which registers under the context that it was given (WS-Coordination 1.2, section 3.2): refused
 -- where its answer has no endpoint, where 1,024 leaves live, and where the node has no id left (this project's profile).
 unfoldable pub on_work : Moment → ℕ → Arrived → Work → Option Numbers → Employment
 on_work m live a w None = refuse_work a

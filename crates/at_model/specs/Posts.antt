@@ -84,7 +84,7 @@ request_post base own to id m = record {
   message = m;
 }
 
--- Register (WS-Coordination 1.2, section 4.1): the same message each time it is sent.
+-- Register (WS-Coordination 1.2, section 3.2): the same message each time it is sent.
 abbrev pub register_post : List ℕ → Target → List ℕ → Epr → Post
 register_post base own protocol to =
     request_post base own to (register_id base own)
@@ -117,7 +117,7 @@ faulted replies.Anonymous relates name = outs.Answer 500 (Some (fault_post None 
 faulted replies.Nobody relates name = accepted
 faulted (replies.At to) relates name = outs.Answer 202 None ∷ outs.Post (fault_post (Some to) relates name) ∷ []
 
--- The faults that are written (WS-Coordination 1.2, section 5; WS-AtomicTransaction 1.2, section 7).
+-- The faults that are written (WS-Coordination 1.2, section 4; WS-AtomicTransaction 1.2, section 7).
 abbrev pub invalid_state : List ℕ
 invalid_state = codes "InvalidState"
 

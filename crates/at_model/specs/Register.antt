@@ -47,7 +47,7 @@ seat_for base id participant None seats None = None
 seat_for base id participant None seats (Some c) =
     if is_epr c.initiator participant then Some (completion_endpoint base id) else None
 
--- Phases in which a new participant is accepted (WS-Coordination 1.2, section 4.1; this project's profile: until the
+-- Phases in which a new participant is accepted (WS-Coordination 1.2, section 3.2; this project's profile: until the
 -- durable ones are asked).
 abbrev pub accepts : Phase → Bool
 accepts Phase.Registering = false
@@ -127,7 +127,7 @@ abbrev pub held_seat : Moment → Register → Transaction → Option (Option Ki
 held_seat m r t None = None
 held_seat m r t (Some kind) = seat_for m.base t.id r.participant kind t.seats t.completion
 
--- Register at a transaction (WS-Coordination 1.2, section 4.1).
+-- Register at a transaction (WS-Coordination 1.2, section 3.2).
 unfoldable pub on_register : Moment → Arrived → Register → Transaction → Registration
 on_register m a r t = register_again m a r t (protocol_named r.protocol) (held_seat m r t (protocol_named r.protocol))
 

@@ -17,7 +17,7 @@ use Rattle.at_model.specs.Step.{plan, step}
 use Rattle.at_model.specs.Recover.{last_incarnation, recover}
 use Rattle.at_model.specs.Drawn.{LifeEvent, Stepped, Stopped, Started, newborn, restarted, life_of}
 
--- What decoding bounds: the endpoint of a participant (WS-Coordination 1.2, section 4.1) and that of a coordinator, and
+-- What decoding bounds: the endpoint of a participant (WS-Coordination 1.2, section 3.2) and that of a coordinator, and
 -- the key and the value of a Work.
 abbrev pub IsSoundMessage : Message → Type 0
 IsSoundMessage (messages.Register r) = IsEndpoint r.participant

@@ -27,5 +27,5 @@ pub const ATOMIC: &str = "http://docs.oasis-open.org/ws-tx/wsat/2006/06";
 /// The action of a fault of WS-AtomicTransaction 1.2 (section 5).
 pub const ATOMIC_FAULT: &str = "http://docs.oasis-open.org/ws-tx/wsat/2006/06/fault";
 
-/// The action of a fault of WS-Coordination 1.2 (section 5).
+/// The action of a fault of WS-Coordination 1.2 (section 4).
 pub const COORDINATION_FAULT: &str = "http://docs.oasis-open.org/ws-tx/wscoor/2006/06/fault";

@@ -41,7 +41,7 @@ pub enum Refusal {
     /// WS-Addressing 1.0 SOAP Binding, section 6.4.1.4.
     #[error("no such action here")]
     Action,
-    /// WS-Coordination 1.2, section 5.3: a part of the body that is missing, repeated or unreadable, by its name.
+    /// WS-Coordination 1.2, section 4.3: a part of the body that is missing, repeated or unreadable, by its name.
     #[error("invalid parameters")]
     Parameters { name: Text },
     #[error("want of memory")]
