@@ -1,5 +1,5 @@
 -- Numbers in decimal.
-use Rattle.std.proofs.Common.{ℕ, List, [], ◌∷◌, ◌≡◌, ◌≢◌, ◌<◌, ◌≤◌, ◌+◌, ◌^◌, length, get_or, Bool, true, false, ◌&&◌, not, cond, Result, Ok, Err, Option, Some, None, sym, ◌∙◌, ap, arith, rules, refl, subst}
+use Rattle.std.proofs.Common.{ℕ, List, [], ◌∷◌, ◌≡◌, ◌≢◌, ◌<◌, ◌≤◌, ◌^◌, get_or, Bool, true, false, ◌&&◌, Result, Ok, Err, Some, sym, ◌∙◌, ap, arith, rules, refl, subst}
 use Rattle.std.specs.Prelude.{nat_le}
 use Rattle.std.specs.Fmt.{decimal}
 use Rattle.std.specs.Int.{IsInRange}
@@ -10,7 +10,7 @@ use Rattle.std.specs.Str.Parse.{IsNumeral, ParsesUnsigned, digits_value, without
 use Rattle.std.proofs.lemmas.Bool.{le-leb, leb-true}
 use Rattle.std.proofs.lemmas.Str.Parse.{IsNumeralModel, not_in_digits, numerals_by_value, without_leading_plus_none}
 use Rattle.std.proofs.lemmas.Fmt.{decimal_is_IsNumeral, decimal_nonempty, digits_decimal}
-use Rattle.soap_profile.specs.Values.{is_empty, is_white, trim, trim_end, trim_start}
+use Rattle.soap_profile.specs.Values.{is_white, trim, trim_end, trim_start}
 use Rattle.context.specs.Reading.{are_digits, digits_number, number_of}
 
 own : IsNumeralModel (λ ds. all_ascii_digits ds ≡ true) (digits_value 10)

@@ -1,4 +1,5 @@
 pub mod Examples
+pub mod Order
 pub mod Parameters
 pub mod Reading
 pub mod Writing

@@ -42,7 +42,7 @@ text_in t parameter = do
   child ← required parameter (child_in t parameter)
   Ok (text_value child)
 
--- an endpoint (section 1.5: an endpoint reference of WS-Addressing 1.0)
+-- an endpoint (WS-Addressing 1.0 Core, section 2)
 abbrev pub endpoint_in : Tree → Parameter → Result Epr ContextFault
 endpoint_in t parameter = do
   child ← required parameter (child_in t parameter)

@@ -2,6 +2,7 @@
 #![tactic(auto)]
 
 mod children;
+pub mod laws;
 pub mod parameter;
 pub mod reader;
 #[cfg(test)]

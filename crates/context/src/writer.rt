@@ -41,7 +41,6 @@ pub struct OutgoingRegister {
     pub participant: Endpoint,
 }
 
-#[tactic(auto)]
 /// The element of a context under this name (WS-Coordination 1.2, section 2). It is read as what it was made of, where
 /// that can be read.
 pub fn write_context(
@@ -66,7 +65,6 @@ pub fn write_context(
     Ok(element(alloc, name, children))
 }
 
-#[tactic(auto)]
 /// The body of CreateCoordinationContext (WS-Coordination 1.2, section 3.1.1). It is read as what it was made of, where
 /// that can be read.
 pub fn write_create(alloc: Global, body: OutgoingCreate) -> Result<Tree, AllocError>
@@ -85,7 +83,6 @@ pub fn write_create(alloc: Global, body: OutgoingCreate) -> Result<Tree, AllocEr
     body_of(alloc, "CreateCoordinationContext", parts)
 }
 
-#[tactic(auto)]
 /// The body of CreateCoordinationContextResponse (WS-Coordination 1.2, section 3.1.2). It is read as what it was made
 /// of, where that can be read.
 pub fn write_create_response(alloc: Global, context: OutgoingContext) -> Result<Tree, AllocError>
@@ -101,7 +98,6 @@ pub fn write_create_response(alloc: Global, context: OutgoingContext) -> Result<
     )
 }
 
-#[tactic(auto)]
 /// The body of Register (WS-Coordination 1.2, section 3.2.1). It is read as what it was made of, where that can be read.
 pub fn write_register(alloc: Global, body: OutgoingRegister) -> Result<Tree, AllocError>
     ensures tree { IfOk result (λ t. t ≡ register_tree body) }
@@ -118,7 +114,6 @@ pub fn write_register(alloc: Global, body: OutgoingRegister) -> Result<Tree, All
     body_of(alloc, "Register", parts)
 }
 
-#[tactic(auto)]
 /// The body of RegisterResponse (WS-Coordination 1.2, section 3.2.2). It is read as what it was made of, where that can
 /// be read.
 pub fn write_register_response(alloc: Global, coordinator: Endpoint) -> Result<Tree, AllocError>

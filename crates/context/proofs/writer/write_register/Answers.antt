@@ -1,4 +1,4 @@
-use Rattle.std.proofs.Common.{◌≡◌, IfOk, ap, ◌∙◌, arith}
+use Rattle.std.proofs.Common.{◌≡◌, IfOk, arith}
 use Rattle.std.proofs.lemmas.Grind.{common_steps}
 use Rattle.context.specs.declared.parameter.Parameter.TheVariants.{ParticipantProtocolService}
 use Rattle.context.specs.Writing.{register_tree}
