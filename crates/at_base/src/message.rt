@@ -7,7 +7,7 @@ use crate::notice::{Kind, Notice, Vote};
 use crate::text::Text;
 use std::alloc::AllocError;
 
-/// A coordination context (WS-Coordination 1.2, section 2.1).
+/// A coordination context (WS-Coordination 1.2, section 2).
 #[derive(Debug, PartialEq, Eq, Drop)]
 pub struct Context {
     /// The coordination context's Identifier, 1 to 2,048 bytes.

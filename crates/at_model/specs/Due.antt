@@ -43,7 +43,7 @@ abbrev pub is_over : ℕ → Option ℕ → Bool
 is_over now None = false
 is_over now (Some aborted) = nat_le (aborted + aborting_for) now
 
--- An undecided transaction expires (WS-Coordination 1.2, section 2.1).
+-- An undecided transaction expires (WS-Coordination 1.2, section 2).
 abbrev pub may_expire : Phase → Bool
 may_expire Phase.Registering = true
 may_expire Phase.Active = true
