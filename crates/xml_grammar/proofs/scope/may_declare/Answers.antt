@@ -10,7 +10,7 @@ returns-then-not-may_bind c =
     let xs = c.args.bindings.now in
     let n = c.loop-left.left in
     let b = c.index-bindings-left.result in
-    let at = one_more_behind xs n b c.loop-left-test.true c.loop-left.invariant.within c.index-bindings-left.is in
+    let at = one_more_behind xs n b (omega arith) c.loop-left.invariant.within c.index-bindings-left.is in
     sym (may_not_behind xs (n - 1) (ap (λ v. may_declare (map binding_of v)) at ∙ may_not_bind (binding_of b) (map binding_of (drop n xs)) (sym c.may_bind.ensures ∙ c.if-not-may_bind.true)))
 
 pub returns-then-not-branch : goal.returns-then-not-branch
@@ -18,7 +18,7 @@ returns-then-not-branch c =
     let xs = c.args.bindings.now in
     let n = c.loop-left.left in
     let b = c.index-bindings-left.result in
-    let at = one_more_behind xs n b c.loop-left-test.true c.loop-left.invariant.within c.index-bindings-left.is in
+    let at = one_more_behind xs n b (omega arith) c.loop-left.invariant.within c.index-bindings-left.is in
     let there : declares b.prefix.now (map binding_of (drop n xs)) ≡ true =
     sym (c.loop-left.invariant.seen b.prefix) ∙ was_in c.in_ok-insert.field-0 (has_prefix c.loop-left.behind b.prefix) c.in_ok-insert.ensures.added c.if-not-branch.true in
     sym (may_not_behind xs (n - 1) (ap (λ v. may_declare (map binding_of v)) at ∙ declared_twice (binding_of b) (map binding_of (drop n xs)) there))
@@ -28,7 +28,7 @@ loop-left-preserved c =
     let xs = c.args.bindings.now in
     let n = c.loop-left.left in
     let b = c.index-bindings-left.result in
-    let at = one_more_behind xs n b c.loop-left-test.true c.loop-left.invariant.within c.index-bindings-left.is in
+    let at = one_more_behind xs n b (omega arith) c.loop-left.invariant.within c.index-bindings-left.is in
     let rest = map binding_of (drop n xs) in
     let other : declares b.prefix.now rest ≡ false =
     sym (c.loop-left.invariant.seen b.prefix) ∙ was_out c.in_ok-insert.field-0 (has_prefix c.loop-left.behind b.prefix) c.in_ok-insert.ensures.added c.if-not-branch.false in
