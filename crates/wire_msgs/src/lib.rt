@@ -2,4 +2,5 @@
 //! 1.1, WS-Addressing 1.0).
 #![tactic(auto)]
 
+pub mod form;
 pub mod target;
