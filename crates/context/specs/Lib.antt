@@ -1,0 +1,4 @@
+pub mod Examples
+pub mod Parameters
+pub mod Reading
+pub mod Writing
