@@ -1,3 +1,6 @@
+pub mod Ahead
+pub mod Colons
 pub mod Forms
 pub mod Numbers
+pub mod Refused
 pub mod Splitting

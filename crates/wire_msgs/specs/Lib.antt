@@ -1,2 +1,5 @@
+pub mod Bodies
 pub mod Forms
+pub mod Parts
+pub mod Refusals
 pub mod Targets

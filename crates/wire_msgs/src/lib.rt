@@ -2,5 +2,8 @@
 //! 1.1, WS-Addressing 1.0).
 #![tactic(auto)]
 
+pub mod body;
 pub mod form;
+pub mod part;
+pub mod refusal;
 pub mod target;
