@@ -17,7 +17,7 @@ use Rattle.wire_msgs.specs.declared.form.Form.{Form}
 use Rattle.wire_msgs.specs.declared.form.Form.TheVariants as forms
 use Rattle.wire_msgs.specs.declared.part.Part.{Part}
 use Rattle.wire_msgs.specs.declared.part.Part.TheVariants as parts
-use Rattle.wire_msgs.specs.declared.refusal.Problem.TheVariants as problems
+use Rattle.wire_msgs.specs.declared.refusal.ParameterName.TheVariants as names
 use Rattle.wire_msgs.specs.declared.refusal.Refusal.{Refusal}
 use Rattle.wire_msgs.specs.declared.refusal.Refusal.TheVariants.{Parameters, MissingHeader}
 use Rattle.wire_msgs.specs.Parts.{child_in}
@@ -25,7 +25,7 @@ use Rattle.wire_msgs.specs.Refusals.{coordination, ◌>>=◌}
 
 -- a child that is missing, repeated or unreadable
 abbrev pub unreadable : Part → Refusal
-unreadable part = Parameters (problems.Part part)
+unreadable part = Parameters (names.Part part)
 
 -- a child that must be there
 abbrev pub required : Part → Option (Option Tree) → Result Tree Refusal

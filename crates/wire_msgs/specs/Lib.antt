@@ -1,3 +1,4 @@
+pub mod Arrivals
 pub mod Bodies
 pub mod Forms
 pub mod Parts

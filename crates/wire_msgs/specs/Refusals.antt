@@ -8,7 +8,7 @@ use Rattle.addressing.specs.declared.headers.AddressingRefusal.{AddressingRefusa
 use Rattle.addressing.specs.declared.headers.AddressingRefusal.TheVariants as addressings
 use Rattle.context.specs.declared.parameter.ContextFault.{ContextFault}
 use Rattle.context.specs.declared.parameter.ContextFault.TheVariants as contexts
-use Rattle.wire_msgs.specs.declared.refusal.Problem.TheVariants as problems
+use Rattle.wire_msgs.specs.declared.refusal.ParameterName.TheVariants as names
 use Rattle.wire_msgs.specs.declared.refusal.Refusal.{Refusal}
 use Rattle.wire_msgs.specs.declared.refusal.Refusal.TheVariants.{TooLong, NotUtf8, NotSpelled, TooDeep, TooMany, VersionMismatch, NotEnvelope, MustUnderstand, MissingHeader, InvalidHeader, NoTarget, Action, Parameters, NoMemory}
 
@@ -32,7 +32,7 @@ of_addressing (addressings.InvalidHeader name) = InvalidHeader name
 of_addressing addressings.NoMemory = NoMemory
 
 abbrev pub of_coordination : ContextFault → Refusal
-of_coordination (contexts.Parameters name) = Parameters (problems.Coordination name)
+of_coordination (contexts.Parameters name) = Parameters (names.Coordination name)
 of_coordination contexts.NoMemory = NoMemory
 
 -- what a layer below says, as this one says it
@@ -69,7 +69,7 @@ Refuses expected (MissingHeader name) = expected ≡ Err (MissingHeader name)
 Refuses expected (InvalidHeader name) = expected ≡ Err (InvalidHeader name)
 Refuses expected NoTarget = expected ≡ Err NoTarget
 Refuses expected Action = expected ≡ Err Action
-Refuses expected (Parameters problem) = expected ≡ Err (Parameters problem)
+Refuses expected (Parameters name) = expected ≡ Err (Parameters name)
 
 -- an answer is the expected one, unless memory ran out
 abbrev pub Answers : {T : Type 0} → Result T Refusal → Result T Refusal → Type 0

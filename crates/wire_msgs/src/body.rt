@@ -7,7 +7,7 @@ ghost use Rattle.wire_msgs.specs.Refusals.{Answers};
 
 use crate::form::Form;
 use crate::part::{Part, child_in};
-use crate::refusal::{Problem, Refusal};
+use crate::refusal::{ParameterName, Refusal};
 use addressing::headers::Header;
 use at_base::message::{Message, Work};
 use at_base::notice::{Kind, Vote};
@@ -118,7 +118,7 @@ fn unreadable(part: Part) -> Refusal
     ensures { result ≡ unreadable part }
 {
     Refusal::Parameters {
-        problem: Problem::Part(part),
+        name: ParameterName::Part(part),
     }
 }
 

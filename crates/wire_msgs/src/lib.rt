@@ -3,7 +3,10 @@
 #![tactic(auto)]
 
 pub mod body;
+pub mod decode;
 pub mod form;
 pub mod part;
 pub mod refusal;
 pub mod target;
+#[cfg(test)]
+mod tests;

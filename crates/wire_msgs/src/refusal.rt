@@ -9,9 +9,9 @@ use std::alloc::AllocError;
 use thiserror::Error;
 use xml_grammar::reader::TreeRefusal;
 
-/// What is wrong in a body.
+/// What a body is refused for.
 #[derive(Debug, Clone, Copy, PartialEq, Eq)]
-pub enum Problem {
+pub enum ParameterName {
     /// The body's element isn't the action's.
     Body,
     /// A child of a body of WS-Coordination.
@@ -56,7 +56,7 @@ pub enum Refusal {
     Action,
     /// A child of the body that is missing, repeated or unreadable (WS-Coordination 1.2, section 4.3).
     #[error("invalid parameters")]
-    Parameters { problem: Problem },
+    Parameters { name: ParameterName },
     #[error("out of memory")]
     NoMemory,
 }
@@ -130,7 +130,7 @@ impl From<ContextFault> for Refusal {
     fn from(fault: ContextFault) -> Refusal {
         match fault {
             ContextFault::Parameters { name } => Refusal::Parameters {
-                problem: Problem::Coordination(name),
+                name: ParameterName::Coordination(name),
             },
             ContextFault::NoMemory => Refusal::NoMemory,
         }
