@@ -1,0 +1,7 @@
+pub mod Ahead
+pub mod Colons
+pub mod Decoded
+pub mod Forms
+pub mod Numbers
+pub mod Refused
+pub mod Splitting

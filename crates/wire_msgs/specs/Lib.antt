@@ -1,0 +1,6 @@
+pub mod Arrivals
+pub mod Bodies
+pub mod Forms
+pub mod Parts
+pub mod Refusals
+pub mod Targets

@@ -1,0 +1,174 @@
+//! What the body of each message says (WS-Coordination 1.2, sections 3 and 4; SOAP 1.1, section 4.4).
+
+ghost use Rattle.std.specs.Prelude.{◌≡◌};
+ghost use Rattle.wire_msgs.specs.Bodies.{body_of, fault_of, kind_in, kind_named, local_part, once, present, short_in, text_in, unreadable, vote_in, vote_named, work_of};
+ghost use Rattle.wire_msgs.specs.Parts.{child_in};
+ghost use Rattle.wire_msgs.specs.Refusals.{Answers};
+
+use crate::form::Form;
+use crate::part::{Part, child_in};
+use crate::refusal::{ParameterName, Refusal};
+use addressing::headers::Header;
+use at_base::message::{Message, Work};
+use at_base::notice::{Kind, Vote};
+use at_base::text::Text;
+use context::reader::{
+    read_context, read_create, read_create_response, read_register, read_register_response,
+};
+use soap_profile::value::text_value;
+use std::alloc::Global;
+use xml_profile::tree::Tree;
+
+/// The most bytes of a key or a value.
+const MOST_BYTES: usize = 256;
+
+/// The message that a body of this form says. The context of a Work stands in its header.
+pub fn read_body(
+    alloc: Global,
+    form: Form,
+    context: &Option<Tree>,
+    body: &Tree,
+) -> Result<Message, Refusal>
+    ensures { Answers (body_of form context.now body.now) result }
+{
+    match form {
+        Form::Create => Ok(Message::Create(read_create(alloc, body)?)),
+        Form::CreateResponse => Ok(Message::CreateResponse(read_create_response(alloc, body)?)),
+        Form::Register => Ok(Message::Register(read_register(alloc, body)?)),
+        Form::RegisterResponse => Ok(Message::RegisterResponse(read_register_response(
+            alloc, body,
+        )?)),
+        Form::Notice(notice) => Ok(Message::Notice(notice)),
+        Form::Work => Ok(Message::Work(read_work(alloc, context, body)?)),
+        Form::WorkDone => Ok(Message::WorkDone),
+        Form::WorkRefused => Ok(Message::WorkRefused),
+    }
+}
+
+fn read_work(alloc: Global, context: &Option<Tree>, body: &Tree) -> Result<Work, Refusal>
+    ensures { Answers (work_of context.now body.now) result }
+{
+    let Some(context) = context else {
+        return Err(Refusal::MissingHeader {
+            name: Header::CoordinationContext,
+        });
+    };
+    let context = read_context(alloc, context)?;
+    let key = read_short(alloc, body, Part::Key)?;
+    let value = read_short(alloc, body, Part::Value)?;
+    let kind = read_kind(alloc, body)?;
+    let vote = read_vote(alloc, body)?;
+    Ok(Work {
+        context,
+        key,
+        value,
+        kind,
+        vote,
+    })
+}
+
+/// The local name of the code of a fault. It may be empty.
+pub fn read_fault(alloc: Global, body: &Tree) -> Result<Text, Refusal>
+    ensures { Answers (fault_of body.now) result }
+{
+    let code = read_text(alloc, body, Part::FaultCode)?;
+    require(body, Part::FaultString)?;
+    allow(body, Part::FaultActor)?;
+    allow(body, Part::Detail)?;
+    Ok(Text::copied(alloc, local_part(code.as_str()))?)
+}
+
+fn local_part(name: &str) -> &str
+    ensures { result.now ≡ local_part name.now }
+{
+    match name.rsplit_once(':') {
+        Some((_, local)) => local,
+        None => name,
+    }
+}
+
+fn read_text(alloc: Global, body: &Tree, part: Part) -> Result<Text, Refusal>
+    ensures { Answers (text_in body.now part) result }
+{
+    match child_in(body, part) {
+        Some(Some(child)) => Ok(text_value(alloc, child)?),
+        _ => Err(unreadable(part)),
+    }
+}
+
+fn require(body: &Tree, part: Part) -> Result<(), Refusal>
+    ensures { Answers (present part (child_in body.now part)) result }
+{
+    match child_in(body, part) {
+        Some(Some(_)) => Ok(()),
+        _ => Err(unreadable(part)),
+    }
+}
+
+fn allow(body: &Tree, part: Part) -> Result<(), Refusal>
+    ensures { Answers (once part (child_in body.now part)) result }
+{
+    match child_in(body, part) {
+        Some(_) => Ok(()),
+        None => Err(unreadable(part)),
+    }
+}
+
+fn unreadable(part: Part) -> Refusal
+    ensures { result ≡ unreadable part }
+{
+    Refusal::Parameters {
+        name: ParameterName::Part(part),
+    }
+}
+
+fn read_short(alloc: Global, body: &Tree, part: Part) -> Result<Text, Refusal>
+    ensures { Answers (short_in body.now part) result }
+{
+    let text = read_text(alloc, body, part)?;
+    if text.as_str().len() > MOST_BYTES {
+        return Err(unreadable(part));
+    }
+    Ok(text)
+}
+
+fn read_kind(alloc: Global, body: &Tree) -> Result<Kind, Refusal>
+    ensures { Answers (kind_in body.now) result }
+{
+    let name = read_text(alloc, body, Part::Kind)?;
+    match kind_named(name.as_str()) {
+        Some(kind) => Ok(kind),
+        None => Err(unreadable(Part::Kind)),
+    }
+}
+
+fn kind_named(name: &str) -> Option<Kind>
+    ensures { result ≡ kind_named name.now }
+{
+    match name {
+        "durable" => Some(Kind::Durable),
+        "volatile" => Some(Kind::Volatile),
+        _ => None,
+    }
+}
+
+fn read_vote(alloc: Global, body: &Tree) -> Result<Vote, Refusal>
+    ensures { Answers (vote_in body.now) result }
+{
+    let name = read_text(alloc, body, Part::Vote)?;
+    match vote_named(name.as_str()) {
+        Some(vote) => Ok(vote),
+        None => Err(unreadable(Part::Vote)),
+    }
+}
+
+fn vote_named(name: &str) -> Option<Vote>
+    ensures { result ≡ vote_named name.now }
+{
+    match name {
+        "prepared" => Some(Vote::Prepared),
+        "readonly" => Some(Vote::ReadOnly),
+        "aborted" => Some(Vote::Aborted),
+        _ => None,
+    }
+}

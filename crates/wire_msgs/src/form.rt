@@ -1,0 +1,168 @@
+//! The messages by the element in their body, and what a target takes (WS-Coordination 1.2, sections 3 and 4;
+//! WS-AtomicTransaction 1.2, section 3).
+
+ghost use Rattle.std.specs.Prelude.{◌≡◌, IfSome, Some};
+ghost use Rattle.wire_msgs.specs.Forms.{ActionsDiffer, TakesAsModelled, action_of, every_notice, first_at, form_at, local_of, notice_name, space_of, takes_fault, takes_form};
+
+use at_base::notice::Notice;
+use at_base::target::Target;
+use xml_profile::names::{COORDINATION, TRANSACTION, WORK};
+
+/// What a message is, but for faults, which their body alone tells.
+#[derive(Clone, Copy, Debug, PartialEq, Eq)]
+pub enum Form {
+    Create,
+    CreateResponse,
+    Register,
+    RegisterResponse,
+    Notice(Notice),
+    Work,
+    WorkDone,
+    WorkRefused,
+}
+
+impl Form {
+    /// The message that an action names. None exactly where none has it.
+    #[tactic(auto, using(crate::proofs::Forms::is_named, crate::proofs::Forms::is_found))]
+    pub fn of_action(action: &str) -> Option<Form>
+        ensures value { result ≡ form_at action.now }
+        ensures named { IfSome result (λ form. action.now ≡ action_of form) }
+        ensures every { (form : Form) → action.now ≡ action_of form → result ≡ Some form }
+    {
+        form_at(action)
+    }
+
+    /// The namespace of the element in its body.
+    pub fn space(self) -> &'static str
+        ensures { result.now ≡ space_of self }
+    {
+        match self {
+            Form::Create | Form::CreateResponse | Form::Register | Form::RegisterResponse => {
+                COORDINATION
+            }
+            Form::Notice(_) => TRANSACTION,
+            Form::Work | Form::WorkDone | Form::WorkRefused => WORK,
+        }
+    }
+
+    /// The local name of the element in its body.
+    pub fn local(self) -> &'static str
+        ensures { result.now ≡ local_of self }
+    {
+        match self {
+            Form::Create => "CreateCoordinationContext",
+            Form::CreateResponse => "CreateCoordinationContextResponse",
+            Form::Register => "Register",
+            Form::RegisterResponse => "RegisterResponse",
+            Form::Notice(notice) => notice_name(notice),
+            Form::Work => "Work",
+            Form::WorkDone => "WorkDone",
+            Form::WorkRefused => "WorkRefused",
+        }
+    }
+}
+
+fn form_at(action: &str) -> Option<Form>
+    ensures { result ≡ form_at action.now }
+{
+    match action {
+        "http://docs.oasis-open.org/ws-tx/wscoor/2006/06/CreateCoordinationContext" => {
+            Some(Form::Create)
+        }
+        "http://docs.oasis-open.org/ws-tx/wscoor/2006/06/CreateCoordinationContextResponse" => {
+            Some(Form::CreateResponse)
+        }
+        "http://docs.oasis-open.org/ws-tx/wscoor/2006/06/Register" => Some(Form::Register),
+        "http://docs.oasis-open.org/ws-tx/wscoor/2006/06/RegisterResponse" => {
+            Some(Form::RegisterResponse)
+        }
+        "http://example.org/atx/work/1/Work" => Some(Form::Work),
+        "http://example.org/atx/work/1/WorkDone" => Some(Form::WorkDone),
+        "http://example.org/atx/work/1/WorkRefused" => Some(Form::WorkRefused),
+        _ => notice_at(action),
+    }
+}
+
+fn notice_at(action: &str) -> Option<Form>
+    ensures { result ≡ first_at action.now every_notice }
+{
+    let notice = match action {
+        "http://docs.oasis-open.org/ws-tx/wsat/2006/06/Prepare" => Notice::Prepare,
+        "http://docs.oasis-open.org/ws-tx/wsat/2006/06/Commit" => Notice::Commit,
+        "http://docs.oasis-open.org/ws-tx/wsat/2006/06/Rollback" => Notice::Rollback,
+        "http://docs.oasis-open.org/ws-tx/wsat/2006/06/Prepared" => Notice::Prepared,
+        "http://docs.oasis-open.org/ws-tx/wsat/2006/06/ReadOnly" => Notice::ReadOnly,
+        "http://docs.oasis-open.org/ws-tx/wsat/2006/06/Aborted" => Notice::Aborted,
+        "http://docs.oasis-open.org/ws-tx/wsat/2006/06/Committed" => Notice::Committed,
+        _ => return None,
+    };
+    Some(Form::Notice(notice))
+}
+
+fn notice_name(notice: Notice) -> &'static str
+    ensures { result.now ≡ notice_name notice }
+{
+    match notice {
+        Notice::Prepare => "Prepare",
+        Notice::Commit => "Commit",
+        Notice::Rollback => "Rollback",
+        Notice::Prepared => "Prepared",
+        Notice::ReadOnly => "ReadOnly",
+        Notice::Aborted => "Aborted",
+        Notice::Committed => "Committed",
+    }
+}
+
+/// Whether a target takes messages of this form.
+pub fn takes(target: Target, form: Form) -> bool
+    ensures { result ≡ takes_form target form }
+{
+    match target {
+        Target::Activation => matches!(form, Form::Create),
+        Target::Registration(_) => matches!(form, Form::Register),
+        Target::Completion(_) => matches!(form, Form::Notice(Notice::Commit | Notice::Rollback)),
+        Target::Coordinator { .. } => matches!(
+            form,
+            Form::Notice(Notice::Prepared | Notice::ReadOnly | Notice::Aborted | Notice::Committed)
+        ),
+        Target::Participant { .. } => matches!(
+            form,
+            Form::Notice(Notice::Prepare | Notice::Commit | Notice::Rollback)
+                | Form::RegisterResponse
+        ),
+        Target::Initiator(_) => matches!(
+            form,
+            Form::CreateResponse
+                | Form::RegisterResponse
+                | Form::Notice(Notice::Committed | Notice::Aborted)
+                | Form::WorkDone
+                | Form::WorkRefused
+        ),
+        Target::Work => matches!(form, Form::Work),
+    }
+}
+
+/// Whether a target takes faults: those that ask for something do.
+pub fn takes_fault(target: Target) -> bool
+    ensures { result ≡ takes_fault target }
+{
+    match target {
+        Target::Completion(_)
+        | Target::Coordinator { .. }
+        | Target::Participant { .. }
+        | Target::Initiator(_) => true,
+        Target::Activation | Target::Registration(_) | Target::Work => false,
+    }
+}
+
+/// A target takes on the wire what it takes in the model of the protocol.
+#[tactic(auto, using(crate::proofs::Forms::takes_as_modelled))]
+pub fn takes_as_modelled()
+    ensures { TakesAsModelled }
+{}
+
+/// Each message has an action of its own.
+#[tactic(auto, using(crate::proofs::Forms::actions_differ))]
+pub fn actions_differ()
+    ensures { ActionsDiffer }
+{}

@@ -1,0 +1,437 @@
+use crate::decode::{Arrival, decode};
+use crate::form::Form;
+use crate::refusal::{ParameterName, Refusal};
+use at_base::message::Message;
+use at_base::notice::{Kind, Vote};
+use at_base::target::Target;
+use std::alloc::Global;
+use std::test::Fail;
+
+/// The namespace of a prefix in the tables below.
+fn space(prefix: &str) -> &'static str {
+    match prefix {
+        "c" => "http://docs.oasis-open.org/ws-tx/wscoor/2006/06",
+        "t" => "http://docs.oasis-open.org/ws-tx/wsat/2006/06",
+        _ => "http://example.org/atx/work/1",
+    }
+}
+
+/// An envelope with this action, these other header blocks, and this body, or where that is empty, an empty element of
+/// the action's name.
+fn envelope(alloc: Global, action: &str, headers: &str, body: &str) -> Result<String, Fail> {
+    let Some((prefix, local)) = action.split_once(':') else {
+        return Err(Fail::new("an action without a prefix"));
+    };
+    let head = format!(in alloc;
+        "<s:Envelope xmlns:s=\"http://schemas.xmlsoap.org/soap/envelope/\" xmlns:a=\"http://www.w3.org/2005/08/addressing\" xmlns:c=\"{}\" xmlns:t=\"{}\" xmlns:w=\"{}\">",
+        space("c"),
+        space("t"),
+        space("w")
+    )?;
+    let own = if body.is_empty() {
+        format!(in alloc; "<{action}/>")?
+    } else {
+        format!(in alloc; "{body}")?
+    };
+    Ok(format!(in alloc;
+        "{head}<s:Header><a:Action>{}/{local}</a:Action>{headers}</s:Header><s:Body>{own}</s:Body></s:Envelope>",
+        space(prefix)
+    )?)
+}
+
+fn told_kind(kind: Kind) -> &'static str {
+    match kind {
+        Kind::Durable => "durable",
+        Kind::Volatile => "volatile",
+    }
+}
+
+fn told_vote(vote: Vote) -> &'static str {
+    match vote {
+        Vote::Prepared => "prepared",
+        Vote::ReadOnly => "readonly",
+        Vote::Aborted => "aborted",
+    }
+}
+
+fn told_message(alloc: Global, message: &Message) -> Result<String, Fail> {
+    Ok(match message {
+        Message::Create(body) => format!(in alloc; "Create {}", body.coordination)?,
+        Message::CreateResponse(context) => {
+            format!(in alloc; "CreateResponse {}", context.identifier)?
+        }
+        Message::Register(body) => format!(in alloc; "Register {}", body.protocol)?,
+        Message::RegisterResponse(epr) => format!(in alloc; "RegisterResponse {}", epr.address)?,
+        Message::Notice(notice) => format!(in alloc; "{}", Form::Notice(*notice).local())?,
+        Message::Work(work) => format!(in alloc;
+            "Work {} {} {} {} {}",
+            work.context.identifier,
+            work.key,
+            work.value,
+            told_kind(work.kind),
+            told_vote(work.vote)
+        )?,
+        Message::WorkDone => format!(in alloc; "WorkDone")?,
+        Message::WorkRefused => format!(in alloc; "WorkRefused")?,
+        Message::Fault { name } => format!(in alloc; "Fault {name}")?,
+    })
+}
+
+fn told_target(alloc: Global, target: Target) -> Result<String, Fail> {
+    Ok(match target {
+        Target::Activation => format!(in alloc; "activation")?,
+        Target::Registration(id) => format!(in alloc; "registration {id}")?,
+        Target::Completion(id) => format!(in alloc; "completion {id}")?,
+        Target::Coordinator { id, seat } => format!(in alloc;
+            "coordinator {} {id} {}",
+            told_kind(seat.kind),
+            seat.number
+        )?,
+        Target::Participant { id, kind } => {
+            format!(in alloc; "participant {} {id}", told_kind(kind))?
+        }
+        Target::Initiator(id) => format!(in alloc; "initiator {id}")?,
+        Target::Work => format!(in alloc; "work")?,
+    })
+}
+
+fn told_name(name: ParameterName) -> &'static str {
+    match name {
+        ParameterName::Body => "body",
+        ParameterName::Coordination(parameter) => parameter.local_name(),
+        ParameterName::Part(part) => part.local_name(),
+    }
+}
+
+fn told_refusal(alloc: Global, refusal: &Refusal) -> Result<String, Fail> {
+    Ok(match refusal {
+        Refusal::NotUtf8 { place } => format!(in alloc; "no UTF-8 {place}")?,
+        Refusal::MustUnderstand { name } => format!(in alloc; "not understood {name}")?,
+        Refusal::MissingHeader { name } => format!(in alloc; "missing {}", name.local_name())?,
+        Refusal::InvalidHeader { name } => format!(in alloc; "invalid {}", name.local_name())?,
+        Refusal::Parameters { name } => format!(in alloc; "parameters {}", told_name(*name))?,
+        other => format!(in alloc; "{other}")?,
+    })
+}
+
+/// The message and its target, or the refusal.
+fn told(alloc: Global, outcome: &Result<Arrival, Refusal>) -> Result<String, Fail> {
+    match outcome {
+        Ok(arrival) => {
+            let message = told_message(alloc, &arrival.message)?;
+            let target = told_target(alloc, arrival.target)?;
+            Ok(format!(in alloc; "{message} at {target}")?)
+        }
+        Err(refusal) => told_refusal(alloc, refusal),
+    }
+}
+
+/// The request's path, the action, the other header blocks, the body, and the outcome. `CONTEXT` stands for the children
+/// of a context, `WORK` for the first children of a Work.
+const MESSAGES: [(&str, &str, &str, &str, &str); 17] = [
+    (
+        "/activation",
+        "c:CreateCoordinationContext",
+        "<a:MessageID/>",
+        "<c:CreateCoordinationContext><x/><c:CoordinationType> urn:t </c:CoordinationType></c:CreateCoordinationContext>",
+        "Create urn:t at activation",
+    ),
+    (
+        "/i/4294967295-1",
+        "c:CreateCoordinationContextResponse",
+        "",
+        "<c:CreateCoordinationContextResponse><c:CoordinationContext>CONTEXT</c:CoordinationContext></c:CreateCoordinationContextResponse>",
+        "CreateResponse urn:1 at initiator 4294967295-1",
+    ),
+    (
+        "/registration/1-2?q=1",
+        "c:Register",
+        "<a:MessageID>m</a:MessageID>",
+        "<c:Register><c:ProtocolIdentifier>urn:p</c:ProtocolIdentifier><c:ParticipantProtocolService><a:Address>u</a:Address></c:ParticipantProtocolService></c:Register>",
+        "Register urn:p at registration 1-2",
+    ),
+    (
+        "/p/v/1-2",
+        "c:RegisterResponse",
+        "",
+        "<c:RegisterResponse><c:CoordinatorProtocolService><a:Address>u</a:Address></c:CoordinatorProtocolService></c:RegisterResponse>",
+        "RegisterResponse u at participant volatile 1-2",
+    ),
+    (
+        "/p/d/1-2",
+        "t:Prepare",
+        "",
+        "",
+        "Prepare at participant durable 1-2",
+    ),
+    (
+        "/completion/1-2",
+        "t:Commit",
+        "",
+        "",
+        "Commit at completion 1-2",
+    ),
+    (
+        "/work",
+        "t:Rollback",
+        "<a:To>https://n9.example:1/completion/1-2?q#f</a:To>",
+        "",
+        "Rollback at completion 1-2",
+    ),
+    (
+        "/c/d/1-2/65535",
+        "t:Prepared",
+        "<a:To>http://www.w3.org/2005/08/addressing/anonymous</a:To>",
+        "",
+        "Prepared at coordinator durable 1-2 65535",
+    ),
+    (
+        "/c/v/1-2/1",
+        "t:ReadOnly",
+        "",
+        "<t:ReadOnly><x/>text</t:ReadOnly>",
+        "ReadOnly at coordinator volatile 1-2 1",
+    ),
+    ("/i/1-2", "t:Aborted", "", "", "Aborted at initiator 1-2"),
+    (
+        "/c/d/1-2/3",
+        "t:Committed",
+        "",
+        "",
+        "Committed at coordinator durable 1-2 3",
+    ),
+    (
+        "/work",
+        "w:Work",
+        "<a:MessageID>m</a:MessageID><c:CoordinationContext s:mustUnderstand=\"1\">CONTEXT</c:CoordinationContext>",
+        "<w:Work>WORK<w:Vote>readonly</w:Vote><w:Kind>volatile</w:Kind></w:Work>",
+        "Work urn:1 k v volatile readonly at work",
+    ),
+    ("/i/1-2", "w:WorkDone", "", "", "WorkDone at initiator 1-2"),
+    (
+        "/i/1-2",
+        "w:WorkRefused",
+        "",
+        "",
+        "WorkRefused at initiator 1-2",
+    ),
+    (
+        "/i/1-2",
+        "w:Work",
+        "",
+        "<s:Fault><faultstring/><faultcode>a:b:Code</faultcode></s:Fault>",
+        "Fault Code at initiator 1-2",
+    ),
+    (
+        "/completion/1-2",
+        "c:fault",
+        "",
+        "<s:Fault><faultcode>a:</faultcode><faultstring/><detail><x/></detail><faultactor/></s:Fault>",
+        "Fault  at completion 1-2",
+    ),
+    (
+        "/p/d/1-2",
+        "t:fault",
+        "",
+        "<s:Fault><faultcode>Client</faultcode><faultstring/></s:Fault>",
+        "Fault Client at participant durable 1-2",
+    ),
+];
+
+const REFUSALS: [(&str, &str, &str, &str, &str); 25] = [
+    ("/i/1-2", "w:WorkDone", "", "<w:WorkDone>", "not spelled"),
+    (
+        "/i/1-2",
+        "w:WorkDone",
+        "",
+        "<w:WorkDone/><x/>",
+        "not an envelope",
+    ),
+    (
+        "/i/1-2",
+        "w:WorkDone",
+        "<x s:mustUnderstand=\"1\"/>",
+        "",
+        "not understood x",
+    ),
+    (
+        "/activation",
+        "c:CreateCoordinationContext",
+        "",
+        "",
+        "missing MessageID",
+    ),
+    (
+        "/none",
+        "w:Work",
+        "<a:MessageID/>",
+        "",
+        "missing CoordinationContext",
+    ),
+    ("/none", "w:WorkDone", "<a:To>none</a:To>", "", "invalid To"),
+    ("/none", "t:None", "", "", "no such target"),
+    ("/activation/", "t:None", "", "", "no such target"),
+    ("/p/d/1-02", "t:Prepare", "", "", "no such target"),
+    ("/p/d/0-2", "t:Prepare", "", "", "no such target"),
+    ("/p/d/1-4294967296", "t:Prepare", "", "", "no such target"),
+    ("/c/d/1-2/65536", "t:Prepared", "", "", "no such target"),
+    ("/c/d/1-2/0", "t:Prepared", "", "", "no such target"),
+    ("/c/d/1-2/03", "t:Prepared", "", "", "no such target"),
+    ("/p/d/1-2", "t:None", "", "", "action not supported"),
+    ("/p/d/1-2", "t:Prepared", "", "", "action not supported"),
+    (
+        "/activation",
+        "t:fault",
+        "",
+        "<s:Fault/>",
+        "action not supported",
+    ),
+    (
+        "/p/d/1-2",
+        "t:Prepare",
+        "",
+        "<t:Commit/>",
+        "parameters body",
+    ),
+    ("/p/d/1-2", "t:Prepare", "", "<Prepare/>", "parameters body"),
+    (
+        "/i/1-2",
+        "t:fault",
+        "",
+        "<s:Fault/>",
+        "parameters faultcode",
+    ),
+    (
+        "/i/1-2",
+        "t:fault",
+        "",
+        "<s:Fault><faultcode/><faultstring/><detail/><detail/></s:Fault>",
+        "parameters detail",
+    ),
+    (
+        "/work",
+        "w:Work",
+        "<a:MessageID/><c:CoordinationContext/>",
+        "",
+        "parameters Identifier",
+    ),
+    (
+        "/work",
+        "w:Work",
+        "<a:MessageID/><c:CoordinationContext>CONTEXT</c:CoordinationContext>",
+        "<w:Work>WORK<w:Kind>Durable</w:Kind></w:Work>",
+        "parameters Kind",
+    ),
+    (
+        "/work",
+        "w:Work",
+        "<a:MessageID/><c:CoordinationContext>CONTEXT</c:CoordinationContext>",
+        "<w:Work>WORK<w:Key/></w:Work>",
+        "parameters Key",
+    ),
+    (
+        "/registration/1-2",
+        "c:Register",
+        "<a:MessageID/>",
+        "<c:Register><c:ProtocolIdentifier/></c:Register>",
+        "parameters ParticipantProtocolService",
+    ),
+];
+
+const CONTEXT: &str =
+    "<c:Identifier>urn:1</c:Identifier><c:CoordinationType>urn:t</c:CoordinationType><c:RegistrationService><a:Address>u</a:Address></c:RegistrationService>";
+
+const WORK: &str = "<w:Value> v </w:Value><w:Key>k</w:Key>";
+
+fn decoded(
+    alloc: Global,
+    path: &str,
+    action: &str,
+    headers: &str,
+    body: &str,
+) -> Result<String, Fail> {
+    let headers = headers.replace(alloc, "CONTEXT", CONTEXT)?;
+    let body = body.replace(alloc, "CONTEXT", CONTEXT)?;
+    let body = body.replace(alloc, "WORK", WORK)?;
+    let spelled = envelope(alloc, action, headers.as_str(), body.as_str())?;
+    told(alloc, &decode(alloc, spelled.as_bytes(), path))
+}
+
+#[test]
+fn decodes_each_message(rt: HostRuntime) -> Result<(), Fail> {
+    let alloc = rt.alloc();
+    for (path, action, headers, body, outcome) in MESSAGES {
+        let found = decoded(alloc, path, action, headers, body)?;
+        assert_eq!(rt; found.as_str(), outcome, "at {path} {action}");
+    }
+    Ok(())
+}
+
+#[test]
+fn refuses_for_the_first_cause(rt: HostRuntime) -> Result<(), Fail> {
+    let alloc = rt.alloc();
+    for (path, action, headers, body, outcome) in REFUSALS {
+        let found = decoded(alloc, path, action, headers, body)?;
+        assert_eq!(rt; found.as_str(), outcome, "at {path} {action}");
+    }
+    for (bytes, outcome) in [
+        (b"<a>\xFF</a>".as_slice(), "no UTF-8 3"),
+        (b"<a/>", "not an envelope"),
+        (b"<Envelope xmlns='urn:e'/>", "wrong envelope version"),
+    ] {
+        let found = told(alloc, &decode(alloc, bytes, "/work"))?;
+        assert_eq!(rt; found.as_str(), outcome);
+    }
+    let long = " ".repeat(alloc, 65_537)?;
+    let found = told(alloc, &decode(alloc, long.as_bytes(), "/work"))?;
+    assert_eq!(rt; found.as_str(), "over 65,536 bytes");
+    let deep = format!(in alloc;
+        "{}<a/>{}",
+        "<a>".repeat(alloc, 32)?,
+        "</a>".repeat(alloc, 32)?
+    )?;
+    let found = told(alloc, &decode(alloc, deep.as_bytes(), "/work"))?;
+    assert_eq!(rt; found.as_str(), "over 32 levels");
+    let many = format!(in alloc; "<a>{}</a>", "<a/>".repeat(alloc, 4_096)?)?;
+    let found = told(alloc, &decode(alloc, many.as_bytes(), "/work"))?;
+    assert_eq!(rt;
+        found.as_str(),
+        "over 4,096 elements, or over 32 attributes on one"
+    );
+    Ok(())
+}
+
+#[test]
+fn bounds_a_key(rt: HostRuntime) -> Result<(), Fail> {
+    let alloc = rt.alloc();
+    for (length, outcome) in [(256, "at work"), (257, "parameters Key")] {
+        let key = "k".repeat(alloc, length)?;
+        let body = format!(in alloc;
+            "<w:Work><w:Key> {key} </w:Key><w:Value/><w:Kind>durable</w:Kind><w:Vote>aborted</w:Vote></w:Work>"
+        )?;
+        let headers = "<a:MessageID/><c:CoordinationContext>CONTEXT</c:CoordinationContext>";
+        let found = decoded(alloc, "/work", "w:Work", headers, body.as_str())?;
+        assert!(rt; found.as_str().ends_with(outcome), "at {length}");
+    }
+    Ok(())
+}
+
+#[test]
+fn tells_headers(rt: HostRuntime) -> Result<(), Fail> {
+    let alloc = rt.alloc();
+    let headers =
+        "<a:To>http://n1.example/i/1-2</a:To><a:MessageID> m </a:MessageID><a:RelatesTo>r</a:RelatesTo><a:From><a:Address>f</a:Address></a:From><a:ReplyTo><a:Address>p</a:Address></a:ReplyTo><a:FaultTo><a:Address>t</a:Address></a:FaultTo>";
+    let spelled = envelope(alloc, "w:WorkDone", headers, "")?;
+    let arrival = decode(alloc, spelled.as_bytes(), "/")?;
+    assert!(rt;
+        arrival
+            .to
+            .is_some_and(|to| to.as_str() == "http://n1.example/i/1-2")
+    );
+    assert!(rt; arrival.id.is_some_and(|id| id.as_str() == "m"));
+    assert!(rt; arrival.relates.is_some_and(|id| id.as_str() == "r"));
+    assert!(rt; arrival.from.is_some_and(|epr| epr.address.as_str() == "f"));
+    assert!(rt; arrival.reply.is_some_and(|epr| epr.address.as_str() == "p"));
+    assert!(rt; arrival.fault.is_some_and(|epr| epr.address.as_str() == "t"));
+    Ok(())
+}
