@@ -2,3 +2,4 @@
 #![tactic(auto)]
 
 pub mod list;
+pub mod plan;
