@@ -31,7 +31,7 @@ use by_id::plan::{Branch, Plan};
 use std::alloc::{AllocError, Global};
 
 /// What is sent, with no effect.
-fn silent(alloc: Global, outs: OutList) -> Outs
+pub fn silent(alloc: Global, outs: OutList) -> Outs
     ensures { result ≡ record { outs = outs; effects = [] } }
 {
     Outs {
@@ -404,7 +404,7 @@ fn notified(
 }
 
 /// Whether a leaf waits for the answer of its Register.
-fn is_registering(state: State) -> bool
+pub fn is_registering(state: State) -> bool
     ensures { result ≡ is_state state states.Registering }
 {
     match state {

@@ -1,4 +1,4 @@
-use Rattle.std.proofs.Common.{◌≡◌, ◌∙◌}
+use Rattle.std.proofs.Common.{◌∙◌}
 use Rattle.participant_at.proofs.Naming.{renamed}
 use Rattle.participant_at.proofs.posts.register_id.Goals as goal
 
