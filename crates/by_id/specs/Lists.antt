@@ -1,0 +1,32 @@
+-- Lists of live items that are found by their ids, in the order of making, as the model's book has them.
+use Rattle.std.specs.Prelude.{ℕ, List, [], ◌∷◌, ◌++◌, Option, Some, None, Bool, true, nat_lt, ◌&&◌, if◌then◌else◌, length, suc}
+use Rattle.at_base.specs.Numbers.{Numbers}
+use Rattle.at_model.specs.Book.{is_id, put_by}
+use Rattle.at_model.specs.Recover.{is_before}
+use Rattle.by_id.specs.declared.list.Alteration.{Alteration}
+use Rattle.by_id.specs.declared.list.Alteration.TheVariants as alterations
+
+-- the place of the item with this id, or the length where there is none
+abbrev pub place_by : {A : Type 0} → (A → Numbers) → Numbers → List A → ℕ
+place_by key id [] = 0
+place_by key id (x ∷ xs) = if is_id (key x) id then 0 else suc (place_by key id xs)
+
+-- one more at the end, where fewer than 1,024 live (this project's profile)
+abbrev pub add_to : {A : Type 0} → A → List A → List A
+add_to x xs = if nat_lt (length xs) 1024 then xs ++ x ∷ [] else xs
+
+-- what becomes of a list
+abbrev pub altered : {A : Type 0} → (A → Numbers) → Alteration A → List A → List A
+altered key alterations.Keep xs = xs
+altered key (alterations.Put id item) xs = put_by key id item xs
+altered key (alterations.Add x) xs = add_to x xs
+
+abbrev pub is_behind : Option Numbers → Numbers → Bool
+is_behind None id = true
+is_behind (Some last) id = is_before last id
+
+-- The first that is due behind this id, or the first at all.
+abbrev pub next_due : {A : Type 0} → (A → Numbers) → (A → Bool) → Option Numbers → List A → Option Numbers
+next_due key due after [] = None
+next_due key due after (x ∷ xs) =
+    if is_behind after (key x) && due x then Some (key x) else next_due key due after xs

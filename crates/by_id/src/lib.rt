@@ -1,0 +1,5 @@
+//! Lists of live items that are found by their ids, in the order of making: the one form of list that every core keeps.
+#![tactic(auto)]
+
+pub mod list;
+pub mod plan;

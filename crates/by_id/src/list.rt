@@ -1,0 +1,212 @@
+//! A list of live items, with room for as many as a node takes.
+
+ghost use Rattle.std.specs.Prelude.{ℕ, Bool, ◌≡◌, IfOk, [], option_copied, length, Some, None};
+ghost use Rattle.at_base.specs.Numbers.{Numbers};
+ghost use Rattle.at_base.specs.declared.event.Moment.{Moment};
+ghost use Rattle.at_model.specs.Book.{is_id, find_by, put_by};
+ghost use Rattle.at_model.specs.Recover.{is_before};
+ghost use Rattle.by_id.specs.Lists.{place_by, add_to, altered, is_behind, next_due};
+
+use at_base::event::Moment;
+use at_base::id::Id;
+use std::alloc::{AllocError, Global};
+use std::marker::Model;
+
+/// An item that a node holds under an id of its own.
+pub trait Identified {
+    ghost id_of: { Self → Numbers };
+
+    ghost is_due_at: { Moment → Self → Bool };
+
+    /// The item's id.
+    fn id(&self) -> Id
+        ensures { result ≡ id_of self.now };
+
+    /// Whether the item has something to do by itself at this moment.
+    fn is_due(&self, moment: &Moment) -> bool
+        ensures { result ≡ is_due_at moment.entry.now self.now };
+}
+
+/// How many items of one list may be made: a longer list, of a recovered node, takes no more.
+pub const MOST: usize = 1024;
+
+/// What becomes of a list.
+#[derive(Debug, PartialEq, Eq, Drop)]
+pub enum Alteration<T> {
+    /// It stays as it is.
+    Keep,
+    /// The item of this id is given anew, or dropped.
+    Put { id: Id, item: Option<T> },
+    /// One more stands at its end.
+    Add(T),
+}
+
+/// Live items in the order of making.
+///
+/// It is made with the room that `MOST` items need, so that adding one takes no memory.
+#[derive(Drop)]
+pub struct ById<T> {
+    items: Vec<T>,
+}
+
+impl<T> Model for ById<T> {
+    ghost use Rattle.std.specs.Prelude.{List, ◌≤◌};
+    ghost use Rattle.std.specs.Vec.{vec_capacity};
+
+    ghost Value = { List T };
+
+    ghost view = { λ k. k.items.items };
+
+    ghost invariant = { λ k. 1024 ≤ vec_capacity k.items };
+}
+
+impl<T: Identified + Drop> ById<T> {
+    /// No items, and room for `MOST`.
+    pub fn new(alloc: Global) -> Result<ById<T>, AllocError>
+        ensures { IfOk result (λ list. list ≡ []) }
+    {
+        Ok(ById {
+            items: Vec::with_capacity(alloc, MOST)?,
+        })
+    }
+
+    /// The items of a recovered node, with room for `MOST`.
+    pub fn from_vec(mut items: Vec<T>) -> Result<ById<T>, AllocError>
+        ensures { IfOk result (λ list. list ≡ items.items) }
+    {
+        items.reserve(MOST)?;
+        Ok(ById { items })
+    }
+
+    /// The items, in the order of making.
+    pub fn as_slice(&self) -> &[T]
+        ensures { result.now ≡ self.now }
+    {
+        self.items.as_slice()
+    }
+
+    /// How many items live.
+    pub fn len(&self) -> usize
+        ensures { result ≡ length self.now }
+    {
+        self.items.len()
+    }
+
+    /// The item of this id.
+    pub fn find(&self, id: Id) -> Option<&T>
+        ensures { option_copied result ≡ find_by T.id_of id self.now }
+    {
+        for item in self.items.as_slice() {
+            if is_same(item.id(), id) {
+                return Some(item);
+            }
+        }
+        None
+    }
+
+    /// The place of the item of this id, or the length where there is none.
+    fn place(&self, id: Id) -> usize
+        ensures { result ≡ place_by T.id_of id self.now }
+    {
+        let mut place = 0;
+        for item in self.items.as_slice() {
+            if is_same(item.id(), id) {
+                return place;
+            }
+            place += 1;
+        }
+        place
+    }
+
+    /// Gives the item of this id anew; nothing where there is none.
+    #[tactic(auto, using(crate::proofs::Places::replace_at, crate::proofs::Places::replace_none))]
+    fn replace(&mut self, id: Id, item: T)
+        ensures { self.new ≡ put_by T.id_of id (Some item) self.old }
+    {
+        let place = self.place(id);
+        if place < self.items.len() {
+            self.items[place] = item;
+        }
+    }
+
+    /// Drops the item of this id; nothing where there is none.
+    #[tactic(auto, using(crate::proofs::Places::drop_at, crate::proofs::Places::drop_none))]
+    fn remove(&mut self, id: Id)
+        ensures { self.new ≡ put_by T.id_of id None self.old }
+    {
+        let place = self.place(id);
+        if place < self.items.len() {
+            let _ = self.items.remove(place);
+        }
+    }
+
+    /// Gives the item of this id anew, or drops it.
+    pub fn put(&mut self, id: Id, item: Option<T>)
+        ensures { self.new ≡ put_by T.id_of id item self.old }
+    {
+        match item {
+            Some(item) => self.replace(id, item),
+            None => self.remove(id),
+        }
+    }
+
+    /// Adds an item at the end, which takes no memory; nothing where `MOST` live.
+    pub fn add(&mut self, item: T)
+        ensures { self.new ≡ add_to item self.old }
+    {
+        if self.items.len() < MOST {
+            let Ok(()) = self.items.push(item) else {
+                unreachable!()
+            };
+        }
+    }
+
+    /// Takes an alteration over. It takes no memory, and cannot fail.
+    pub fn alter(&mut self, alteration: Alteration<T>)
+        ensures { self.new ≡ altered T.id_of alteration self.old }
+    {
+        match alteration {
+            Alteration::Keep => {}
+            Alteration::Put { id, item } => self.put(id, item),
+            Alteration::Add(item) => self.add(item),
+        }
+    }
+
+    /// The id of the first item behind this one, or of the first at all, that is due: ids rise in the order of making.
+    pub fn next_due(&self, after: Option<Id>, moment: &Moment) -> Option<Id>
+        ensures { result ≡ next_due T.id_of (T.is_due_at moment.entry.now) after self.now }
+    {
+        for item in self.items.as_slice() {
+            let id = item.id();
+            if is_behind(&after, id) && item.is_due(moment) {
+                return Some(id);
+            }
+        }
+        None
+    }
+}
+
+/// Whether two ids are the same.
+pub fn is_same(a: Id, b: Id) -> bool
+    ensures { result ≡ is_id a b }
+{
+    a.incarnation() == b.incarnation() && a.counter() == b.counter()
+}
+
+/// Whether an id was drawn before another.
+pub fn is_before(a: Id, b: Id) -> bool
+    ensures { result ≡ is_before a b }
+{
+    let same = a.incarnation() == b.incarnation();
+    a.incarnation() < b.incarnation() || (same && a.counter() < b.counter())
+}
+
+/// Whether an id was drawn after this one.
+fn is_behind(after: &Option<Id>, id: Id) -> bool
+    ensures { result ≡ is_behind after.now id }
+{
+    match after {
+        Some(last) => is_before(*last, id),
+        None => true,
+    }
+}

@@ -1,0 +1,70 @@
+//! What a core decided, before it is done.
+
+ghost use Rattle.std.specs.Prelude.{◌≡◌, option_copied};
+ghost use Rattle.by_id.specs.Plans.{entry_of, branch_of};
+
+use crate::list::Alteration;
+use at_base::outs::Outs;
+use at_base::record::Record;
+
+/// One way on: what becomes of the list, and what is sent and happened.
+#[derive(Debug, PartialEq, Eq, Drop)]
+pub struct Branch<T> {
+    pub change: Alteration<T>,
+    pub outs: Outs,
+}
+
+/// What an event does to a list: at once, or behind one record.
+///
+/// It holds whole items, so it can be done to the list at any time, and takes no memory then.
+#[derive(Debug, PartialEq, Eq, Drop)]
+pub enum Plan<T> {
+    Plain(Branch<T>),
+    Recorded {
+        entry: Record,
+        /// Where the record stands in the journal.
+        landed: Branch<T>,
+        /// Where it is certainly absent.
+        absent: Branch<T>,
+    },
+}
+
+impl<T: Drop> Plan<T> {
+    /// The record that is appended before the plan is done.
+    pub fn entry(&self) -> Option<&Record>
+        ensures { option_copied result ≡ entry_of self.now }
+    {
+        match self {
+            Plan::Plain(_) => None,
+            Plan::Recorded { entry, .. } => Some(entry),
+        }
+    }
+
+    /// What is sent and happened, where the record landed, and where it didn't.
+    pub fn outs(&self, landed: bool) -> &Outs
+        ensures { result.now ≡ (branch_of self.now landed).outs }
+    {
+        match self {
+            Plan::Plain(branch) => &branch.outs,
+            Plan::Recorded {
+                landed: stands,
+                absent,
+                ..
+            } => { if landed { &stands.outs } else { &absent.outs } }
+        }
+    }
+
+    /// The branch that is done.
+    pub fn into_branch(self, landed: bool) -> Branch<T>
+        ensures { result ≡ branch_of self landed }
+    {
+        match self {
+            Plan::Plain(branch) => branch,
+            Plan::Recorded {
+                landed: stands,
+                absent,
+                ..
+            } => { if landed { stands } else { absent } }
+        }
+    }
+}

@@ -1,0 +1,4 @@
+pub mod Answers
+pub mod Branches
+pub mod Employing
+pub mod Planning

@@ -1,0 +1,216 @@
+//! What a leaf does by itself: it expires, and it sends again (WS-Coordination 1.2, section 2.1; this project's profile).
+
+ghost use Rattle.std.specs.Prelude.{◌≡◌, ◌&&◌, ◌||◌, ◌++◌, IfOk, OnOk, [], Some, None, map};
+ghost use Rattle.at_base.specs.declared.event.Moment.{Moment};
+ghost use Rattle.at_base.specs.declared.outs.Out.TheVariants as outcome;
+ghost use Rattle.at_model.specs.Leaves.{leaf_refused};
+ghost use Rattle.at_model.specs.Due.{has_come, is_quiet, is_some_post, leaf_again, leaf_due, leaf_expires, leaf_reached, leaf_register_again};
+ghost use Rattle.at_model.specs.Step.{is_reached};
+ghost use Rattle.at_tables.specs.Names.{is_state};
+ghost use Rattle.at_tables.specs.declared.cells.State.TheVariants as states;
+ghost use Rattle.by_id.specs.Plans.{changed, decided};
+ghost use Rattle.participant_at.specs.Branches.{kept};
+
+use crate::leaf::Leaf;
+use crate::posts::{push_register, say};
+use crate::rules::{aborts, ignores, is_registering, kept, refuses, sent_now};
+use at_base::event::Moment;
+use at_base::id::Id;
+use at_base::notice::Notice;
+use at_base::outs::OutList;
+use at_tables::cells::State;
+use by_id::list::Identified;
+use by_id::plan::{Branch, Plan};
+use std::alloc::{AllocError, Global};
+
+/// How long a leaf waits for an answer before it sends again, in milliseconds.
+pub const RESEND_AFTER: u64 = 5000;
+
+/// Whether a deadline has come.
+fn has_come(now: u64, deadline: Option<u128>) -> bool
+    ensures { result ≡ has_come now deadline }
+{
+    match deadline {
+        Some(time) => time <= u128::from(now),
+        None => false,
+    }
+}
+
+/// Whether the last sending is old, or unknown.
+fn is_quiet(now: u64, sent: Option<u64>) -> bool
+    ensures { result ≡ is_quiet now sent }
+{
+    match sent {
+        Some(sent) => RESEND_AFTER <= now && sent <= now - RESEND_AFTER,
+        None => true,
+    }
+}
+
+/// Whether a leaf may still expire.
+fn may_expire(state: State) -> bool
+    ensures { result ≡ (is_state state states.Registering || is_state state states.Active) }
+{
+    match state {
+        State::Registering | State::Active => true,
+        State::None
+        | State::Preparing
+        | State::Prepared
+        | State::PreparedSuccess
+        | State::Committing
+        | State::Aborting
+        | State::Completing => false,
+    }
+}
+
+/// Whether a leaf has expired.
+fn is_expired(moment: &Moment, leaf: &Leaf) -> bool
+    ensures { result
+        ≡ ((is_state leaf.now.state states.Registering || is_state leaf.now.state states.Active)
+        && has_come moment.entry.now.now leaf.now.deadline) }
+{
+    may_expire(leaf.state) && has_come(moment.now, leaf.deadline)
+}
+
+/// Whether a leaf waits for an answer to what it can send again.
+fn waits(leaf: &Leaf) -> bool
+    ensures { (m : Moment) → result ≡ is_some_post (leaf_again m leaf.now) }
+{
+    match leaf.state {
+        State::Registering => leaf.request.is_some(),
+        State::PreparedSuccess => leaf.coordinator.is_some(),
+        State::None
+        | State::Active
+        | State::Preparing
+        | State::Prepared
+        | State::Committing
+        | State::Aborting
+        | State::Completing => false,
+    }
+}
+
+/// Whether a leaf has waited long enough to send again.
+fn is_unanswered(moment: &Moment, leaf: &Leaf) -> bool
+    ensures { result
+        ≡ (is_quiet moment.entry.now.now leaf.now.sent && is_some_post (leaf_again moment.entry.now leaf.now)) }
+{
+    is_quiet(moment.now, leaf.sent) && waits(leaf)
+}
+
+/// Whether a leaf is due.
+pub fn is_due(moment: &Moment, leaf: &Leaf) -> bool
+    ensures { result ≡ is_reached (leaf_due moment.entry.now leaf.now) }
+{
+    is_expired(moment, leaf) || is_unanswered(moment, leaf)
+}
+
+impl Identified for Leaf {
+    ghost use Rattle.at_model.specs.Book.{leaf_id};
+    ghost use Rattle.at_model.specs.Due.{leaf_due};
+    ghost use Rattle.at_model.specs.Step.{is_reached};
+
+    ghost id_of = { leaf_id };
+
+    ghost is_due_at = { λ m l. is_reached (leaf_due m l) };
+
+    fn id(&self) -> Id {
+        self.id
+    }
+
+    fn is_due(&self, moment: &Moment) -> bool {
+        is_due(moment, self)
+    }
+}
+
+/// A leaf that expires ends as aborted: one in Registering refuses its Work, an Active one says Aborted.
+fn expires(
+    alloc: Global,
+    outs: OutList,
+    moment: &Moment,
+    leaf: &Leaf,
+) -> Result<Branch<Leaf>, AllocError>
+    ensures { IfOk result (λ branch. branch ≡ changed outs leaf.now.id (leaf_expires moment.entry.now leaf.now)) }
+{
+    if is_registering(leaf.state) {
+        refuses(alloc, outs, leaf)
+    } else {
+        aborts(alloc, outs, moment, &None, leaf)
+    }
+}
+
+/// The Register that waits for its answer.
+fn push_register_again(
+    alloc: Global,
+    outs: &mut OutList,
+    moment: &Moment,
+    leaf: &Leaf,
+) -> Result<(), AllocError>
+    ensures { OnOk result
+        (outs.new ≡ outs.old ++ map outcome.Post (leaf_register_again moment.entry.now leaf.now leaf.now.request)) }
+{
+    match &leaf.request {
+        Some(request) => push_register(alloc, outs, moment, leaf, &request.registration),
+        None => Ok(()),
+    }
+}
+
+/// What a leaf sends again: its Register, or its vote Prepared.
+fn push_again(
+    alloc: Global,
+    outs: &mut OutList,
+    moment: &Moment,
+    leaf: &Leaf,
+) -> Result<(), AllocError>
+    ensures { OnOk result (outs.new ≡ outs.old ++ map outcome.Post (leaf_again moment.entry.now leaf.now)) }
+{
+    match leaf.state {
+        State::Registering => push_register_again(alloc, outs, moment, leaf),
+        State::PreparedSuccess => say(alloc, outs, moment, &None, leaf, Notice::Prepared),
+        State::None
+        | State::Active
+        | State::Preparing
+        | State::Prepared
+        | State::Committing
+        | State::Aborting
+        | State::Completing => Ok(()),
+    }
+}
+
+/// The leaf sends again.
+fn sends_again(
+    alloc: Global,
+    outs: OutList,
+    moment: &Moment,
+    leaf: &Leaf,
+) -> Result<Branch<Leaf>, AllocError>
+    ensures { IfOk result
+        (λ branch. branch
+        ≡ kept (record leaf.now { sent = Some moment.entry.now.now })
+        (outs ++ map outcome.Post (leaf_again moment.entry.now leaf.now))) }
+{
+    let mut outs = outs;
+    push_again(alloc, &mut outs, moment, leaf)?;
+    let next = sent_now(moment, leaf)?;
+    Ok(kept(alloc, next, outs))
+}
+
+/// A leaf that is asked whether it is due.
+#[tactic(auto, unfolding(at_model::specs::Due::leaf_reached))]
+pub fn on_due(
+    alloc: Global,
+    outs: OutList,
+    moment: &Moment,
+    leaf: &Leaf,
+) -> Result<Plan<Leaf>, AllocError>
+    ensures { IfOk result
+        (λ plan. plan
+        ≡ decided outs leaf.now.id
+        (leaf_reached moment.entry.now leaf.now (leaf_due moment.entry.now leaf.now))) }
+{
+    if is_expired(moment, leaf) {
+        return Ok(Plan::Plain(expires(alloc, outs, moment, leaf)?));
+    }
+    if is_unanswered(moment, leaf) {
+        return Ok(Plan::Plain(sends_again(alloc, outs, moment, leaf)?));
+    }
+    ignores(alloc, outs, leaf)
+}

@@ -1,0 +1,9 @@
+//! A node's leaves: the participants that do work of their own, and what each event does to them.
+#![tactic(auto)]
+
+pub mod due;
+pub mod leaf;
+pub mod leaves;
+pub mod posts;
+pub mod rules;
+pub mod work;
