@@ -1,9 +1,8 @@
 -- A child behind the children of an open element, and an open element inside the others.
-use Rattle.std.proofs.Common.{◌≡◌, refl, sym, ap, ◌∙◌, ℕ, List, [], ◌∷◌, ◌++◌, map, reverse, nat_lt, true, false}
+use Rattle.std.proofs.Common.{◌≡◌, refl, sym, ap, ◌∙◌, ℕ, List, [], ◌∷◌, ◌++◌, map, reverse}
 use Rattle.std.proofs.lemmas.List.{map-append, reverse-append}
 use Rattle.xml_grammar.specs.Spells.{add_text}
 use Rattle.xml_grammar.specs.Machine.{append, Frame, flushed}
-use Rattle.xml_grammar.specs.Shallow.{kept_tree}
 use Rattle.xml_grammar.specs.Open.{frame_of, frames_of}
 use Rattle.xml_grammar.specs.declared.machine.Frame.{Frame as FrameRead}
 use Rattle.xml_profile.specs.Forest.{Forest}

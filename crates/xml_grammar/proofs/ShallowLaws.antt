@@ -1,13 +1,13 @@
 -- What is read without the deep elements is what the whole machine reads, without its deep elements.
-use Rattle.std.proofs.Common.{◌≡◌, refl, sym, ap, ◌∙◌, arith, ℕ, zero, suc, ◌+◌, ◌-◌, ◌<◌, ◌≤◌, List, [], ◌∷◌, ◌++◌, Bool, true, false, cond, Option, Some, None, length, take, max, nat_lt, option_map}
+use Rattle.std.proofs.Common.{◌≡◌, refl, sym, ap, ◌∙◌, arith, ℕ, zero, suc, ◌+◌, ◌-◌, ◌<◌, ◌≤◌, List, [], ◌∷◌, Bool, true, false, cond, Option, Some, None, length, take, max, nat_lt, option_map}
 use Rattle.std.proofs.lemmas.Bool.{ltb-true, ltb-false}
 use Rattle.xml_grammar.specs.Characters.{◌>>=◌, same, is_white}
 use Rattle.xml_grammar.specs.Tokens.{Tag, Token}
 use Rattle.xml_grammar.specs.Tokens.Token.{Plain, Meant, Comment, Start, End}
 use Rattle.xml_grammar.specs.Namespaces.{Binding, Meaning, means}
 use Rattle.xml_grammar.specs.Spells.{add_text}
-use Rattle.xml_grammar.specs.Machine.{append, Frame, State, state, flushed, with_kid, tree_of, closed, frame_of, begun, plain_on, meant_on, start_on, end_on, advance}
-use Rattle.xml_grammar.specs.Shallow.{kept_kid, shut, entered_by, entered, Reading, reading, read_start, read_end, read_on, cut, cut_frame, cut_frames, cut_tree, cut_state, open_levels, ended_levels, levels_at, shallow}
+use Rattle.xml_grammar.specs.Machine.{append, Frame, state, flushed, with_kid, closed, frame_of, begun, advance}
+use Rattle.xml_grammar.specs.Shallow.{kept_kid, shut, entered_by, entered, reading, read_on, cut, cut_frame, cut_frames, cut_tree, cut_state, open_levels, ended_levels, levels_at, shallow}
 use Rattle.xml_grammar.specs.Limits.{levels}
 use Rattle.xml_profile.specs.Forest.{Forest}
 use Rattle.xml_profile.specs.Forest.Forest.{End as Nothing, Text_then, Element_then}

@@ -1,7 +1,7 @@
 -- What the reader finds in a text.
 use Rattle.std.specs.Prelude.{ℕ, List, [], ◌∷◌, Option, Some, None, Result, Ok, Err, ◌≡◌, ◌⊎◌, ◌≤◌, ◌<◌, ◌-◌, cond, nat_le}
 use Rattle.xml_grammar.specs.Spells.{Document}
-use Rattle.xml_grammar.specs.Machine.{Frame, State}
+use Rattle.xml_grammar.specs.Machine.{Frame}
 use Rattle.xml_grammar.specs.Shallow.{Reading, cut_tree}
 use Rattle.xml_grammar.specs.Limits.{levels_of, elements_of, widest_of}
 use Rattle.xml_grammar.specs.declared.reader.TreeRefusal.{TreeRefusal}

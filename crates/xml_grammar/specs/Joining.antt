@@ -1,5 +1,5 @@
 -- Pieces of what a tag says, one behind another.
-use Rattle.std.specs.Prelude.{ℕ, List, [], ◌∷◌, ◌++◌, ◌&&◌, cond, Option, Some, None, codes, encode_utf8_all}
+use Rattle.std.specs.Prelude.{ℕ, List, [], ◌++◌, ◌&&◌, cond, Option, Some, None, codes, encode_utf8_all}
 use Rattle.xml_grammar.specs.Characters.{◌>>=◌, same, Parts}
 use Rattle.xml_grammar.specs.Namespaces.{Binding, Sorted, is_empty, sort_in, declared_by, space_of}
 use Rattle.xml_profile.specs.declared.name.QName.{QName}

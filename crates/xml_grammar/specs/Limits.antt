@@ -1,5 +1,5 @@
 -- How deep, how long and how wide a tree is, and how much of it is read.
-use Rattle.std.specs.Prelude.{ℕ, List, [], ◌∷◌, ◌+◌, ◌≤◌, max, length}
+use Rattle.std.specs.Prelude.{ℕ, ◌+◌, ◌≤◌, max, length}
 use Rattle.xml_profile.specs.Forest.{Forest}
 use Rattle.xml_profile.specs.Forest.Forest.{End, Text_then, Element_then}
 use Rattle.xml_profile.specs.declared.tree.Tree.{Tree}

@@ -1,5 +1,5 @@
 -- What a text is read as, and what each refusal says of it.
-use Rattle.std.specs.Prelude.{ℕ, List, length, Bool, Result, Ok, Err, ◌≤◌, ◌<◌, ◌≡◌, ◌⊎◌}
+use Rattle.std.specs.Prelude.{ℕ, List, length, Result, Ok, Err, ◌≤◌, ◌<◌, ◌≡◌, ◌⊎◌}
 use Rattle.std.specs.Str.{IsUtf8}
 use Rattle.std.specs.Str.Lossy.{utf8_valid_len}
 use Rattle.xml_profile.specs.declared.tree.Tree.{Tree}

@@ -1,11 +1,11 @@
 -- The machine that keeps no element below the 32nd level, and counts the levels that it has seen.
-use Rattle.std.specs.Prelude.{ℕ, zero, suc, List, [], ◌∷◌, ◌++◌, ◌+◌, ◌-◌, Bool, true, false, cond, nat_lt, Option, Some, None, length, take, max, encode_utf8}
+use Rattle.std.specs.Prelude.{ℕ, zero, suc, List, [], ◌∷◌, ◌+◌, ◌-◌, Bool, true, false, cond, nat_lt, Option, Some, None, length, take, max}
 use Rattle.std.specs.Option.{option_map}
 use Rattle.xml_grammar.specs.Characters.{◌>>=◌, same}
 use Rattle.xml_grammar.specs.Tokens.{Tag, Token}
 use Rattle.xml_grammar.specs.Tokens.Token.{Plain, Meant, Comment, Start, End}
 use Rattle.xml_grammar.specs.Namespaces.{Binding, Meaning, means}
-use Rattle.xml_grammar.specs.Machine.{append, Frame, State, state, flushed, with_kid, tree_of, frame_of, plain_on, meant_on}
+use Rattle.xml_grammar.specs.Machine.{append, Frame, State, state, flushed, tree_of, frame_of, plain_on, meant_on}
 use Rattle.xml_grammar.specs.Limits.{levels}
 use Rattle.xml_profile.specs.Forest.{Forest}
 use Rattle.xml_profile.specs.Forest.Forest.{End as Nothing, Text_then, Element_then}

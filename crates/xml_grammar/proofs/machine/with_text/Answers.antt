@@ -1,4 +1,4 @@
-use Rattle.std.proofs.Common.{◌≡◌, ◌∙◌, sym, string_bytes}
+use Rattle.std.proofs.Common.{◌∙◌, sym, string_bytes}
 use Rattle.xml_grammar.specs.Open.{frame_of}
 use Rattle.xml_grammar.proofs.FrameLaws.{no_text_pushed}
 use Rattle.xml_grammar.proofs.Turns.{no_items}

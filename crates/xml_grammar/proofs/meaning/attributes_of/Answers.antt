@@ -1,4 +1,4 @@
-use Rattle.std.proofs.Common.{◌≡◌, sym, ap, ◌∙◌, ◌++◌, ◌∷◌, [], map, Some, None}
+use Rattle.std.proofs.Common.{sym, ap, ◌∙◌, ◌∷◌, [], map, Some}
 use Rattle.std.proofs.lemmas.List.{map-append}
 use Rattle.std.specs.Vec.Iter.{into_iter_items}
 use Rattle.xml_grammar.specs.Namespaces.{attributes_of}

@@ -1,4 +1,4 @@
-use Rattle.std.proofs.Common.{◌≡◌, chars}
+use Rattle.std.proofs.Common.{◌≡◌}
 use Rattle.xml_grammar.proofs.reader.characters.Given as goal
 
 abbrev pub invariant-loop-c : goal.invariant-loop-c

@@ -1,4 +1,4 @@
-use Rattle.std.proofs.Common.{◌≡◌, sym, ap, ◌∙◌, subst, IfOk, IfErr}
+use Rattle.std.proofs.Common.{◌≡◌, subst, IfOk, IfErr}
 use Rattle.xml_grammar.specs.Refusals.{Reads, Refuses}
 use Rattle.xml_grammar.proofs.ReaderLaws.{answers}
 use Rattle.xml_grammar.proofs.reader.read_tree.Goals as goal
