@@ -63,7 +63,7 @@ const INSIDE: [(&str, &str); 16] = [
 ];
 
 /// Whole documents, and the outcome.
-const WHOLE: [(&str, &str); 5] = [
+const WHOLE: [(&str, &str); 8] = [
     ("<a/>", "not an envelope"),
     ("<Envelope/>", "not an envelope"),
     (
@@ -77,6 +77,19 @@ const WHOLE: [(&str, &str); 5] = [
     (
         "<Envelope xmlns=\"http://schemas.xmlsoap.org/soap/envelope/\"><Body><Prepare xmlns=\"http://docs.oasis-open.org/ws-tx/wsat/2006/06\"/></Body></Envelope>",
         "0 Prepare",
+    ),
+    // as common SOAP stacks write them
+    (
+        "<?xml version='1.0' encoding='UTF-8'?>\r\n<soapenv:Envelope xmlns:soapenv='http://schemas.xmlsoap.org/soap/envelope/'>\r\n  <soapenv:Header xmlns:wsa='http://www.w3.org/2005/08/addressing'><wsa:To>http://n2.example/p/d/1-1</wsa:To></soapenv:Header>\r\n  <soapenv:Body><wsat:Prepare xmlns:wsat='http://docs.oasis-open.org/ws-tx/wsat/2006/06'/></soapenv:Body>\r\n</soapenv:Envelope>",
+        "1 Prepare",
+    ),
+    (
+        "<s:Envelope xmlns:a=\"http://www.w3.org/2005/08/addressing\" xmlns:s=\"http://schemas.xmlsoap.org/soap/envelope/\"><s:Header><a:Action s:mustUnderstand=\"1\">x</a:Action><a:MessageID>urn:uuid:1</a:MessageID><a:ReplyTo><a:Address>http://www.w3.org/2005/08/addressing/anonymous</a:Address></a:ReplyTo><a:To s:mustUnderstand=\"1\">http://n2.example/</a:To></s:Header><s:Body xmlns:xsi=\"http://www.w3.org/2001/XMLSchema-instance\"><Prepare xmlns=\"http://docs.oasis-open.org/ws-tx/wsat/2006/06\"/></s:Body></s:Envelope>",
+        "4 Prepare",
+    ),
+    (
+        "<?xml version=\"1.0\" ?><S:Envelope xmlns:S=\"http://schemas.xmlsoap.org/soap/envelope/\"><S:Header><Action xmlns=\"http://www.w3.org/2005/08/addressing\" S:mustUnderstand=\"1\">x</Action><x:trace xmlns:x=\"urn:x\">7</x:trace><To xmlns=\"http://www.w3.org/2005/08/addressing\">http://n2.example/</To></S:Header><S:Body><ns2:Prepare xmlns:ns2=\"http://docs.oasis-open.org/ws-tx/wsat/2006/06\" xmlns=\"urn:y\"/></S:Body></S:Envelope>",
+        "3 Prepare",
     ),
 ];
 
