@@ -109,29 +109,31 @@ fn notice_of(name: &str) -> Option<Notice> {
     }
 }
 
+fn request(alloc: Global) -> Result<WorkRequest, AllocError> {
+    Ok(WorkRequest {
+        id: Some(text(alloc, "work")?),
+        reply: epr(alloc, "asker")?,
+        registration: epr(alloc, "registration")?,
+    })
+}
+
 /// A leaf that sent at 100000 and expires at 200000.
 fn leaf_in(alloc: Global, kind: Kind, vote: Vote, state: State) -> Result<Leaf, AllocError> {
     let waits = state == State::Registering;
+    let key = text(alloc, "key")?;
+    let value = text(alloc, "value")?;
     let coordinator = if waits {
         None
     } else {
         Some(epr(alloc, "coordinator")?)
     };
-    let request = if waits {
-        Some(WorkRequest {
-            id: Some(text(alloc, "work")?),
-            reply: epr(alloc, "asker")?,
-            registration: epr(alloc, "registration")?,
-        })
-    } else {
-        None
-    };
+    let request = if waits { Some(request(alloc)?) } else { None };
     Ok(Leaf {
         id: Id::new(1, 1),
         kind,
         vote,
-        key: text(alloc, "key")?,
-        value: text(alloc, "value")?,
+        key,
+        value,
         state,
         coordinator,
         request,
@@ -184,14 +186,21 @@ fn arrived(alloc: Global, kind: Kind, name: &str) -> Result<Event, AllocError> {
     }))
 }
 
-/// The event of a name, and when it comes.
-fn event_of(alloc: Global, kind: Kind, name: &str) -> Result<(Event, u64), AllocError> {
-    let due = Event::Due(Item::Leaf(Id::new(1, 1)));
+/// When the event of a name comes.
+fn time_of(name: &str) -> u64 {
     match name {
-        "Early" => Ok((due, 104999)),
-        "Quiet" => Ok((due, 105000)),
-        "Late" => Ok((due, 200000)),
-        _ => Ok((arrived(alloc, kind, name)?, 150000)),
+        "Early" => 104999,
+        "Quiet" => 105000,
+        "Late" => 200000,
+        _ => 150000,
+    }
+}
+
+/// The event of a name.
+fn event_of(alloc: Global, kind: Kind, name: &str) -> Result<Box<Event>, AllocError> {
+    match name {
+        "Early" | "Quiet" | "Late" => Box::new(alloc, Event::Due(Item::Leaf(Id::new(1, 1)))),
+        _ => Box::new(alloc, arrived(alloc, kind, name)?),
     }
 }
 
@@ -244,23 +253,39 @@ fn state_name(leaves: &Leaves) -> &'static str {
 }
 
 /// The record of a step, and what follows for this fate of it.
-fn step_line(
+fn step(
     alloc: Global,
-    words: &str,
+    leaves: &mut Leaves,
+    event: Box<Event>,
+    now: u64,
     landed: bool,
 ) -> Result<(&'static str, String), AllocError> {
+    let moment = moment_at(alloc, now)?;
+    let plan = leaves.plan(alloc, event.as_ref(), &moment)?;
+    let record = record_name(plan.entry());
+    let outs = leaves.apply(plan, landed);
+    let line = outs_line(alloc, &outs)?;
+    Ok((record, line))
+}
+
+/// One leaf of this kind and vote, in this state.
+fn leaves_in(alloc: Global, kind: Kind, vote: Vote, state: &str) -> Result<Leaves, AllocError> {
+    let state = State::from_name(state).unwrap_or(State::None);
+    let mut items = Vec::new(alloc);
+    items.push(leaf_in(alloc, kind, vote, state)?)?;
+    Leaves::from_vec(items)
+}
+
+/// The record of a row's step, and what follows for this fate of it.
+fn row_of(alloc: Global, words: &str, landed: bool) -> Result<(&'static str, String), AllocError> {
     let mut words = words.split_whitespace();
     let kind = kind_of(words.next().unwrap_or(""));
     let vote = vote_of(words.next().unwrap_or(""));
-    let state = State::from_name(words.next().unwrap_or("")).unwrap_or(State::None);
-    let (event, now) = event_of(alloc, kind, words.next().unwrap_or(""))?;
-    let mut items = Vec::new(alloc);
-    items.push(leaf_in(alloc, kind, vote, state)?)?;
-    let mut leaves = Leaves::from_vec(items)?;
-    let plan = leaves.plan(alloc, &event, &moment_at(alloc, now)?)?;
-    let record = record_name(plan.entry());
-    let outs = leaves.apply(plan, landed);
-    let line = format!(in alloc; "{}{}", state_name(&leaves), outs_line(alloc, &outs)?)?;
+    let mut leaves = leaves_in(alloc, kind, vote, words.next().unwrap_or(""))?;
+    let name = words.next().unwrap_or("");
+    let event = event_of(alloc, kind, name)?;
+    let (record, outs) = step(alloc, &mut leaves, event, time_of(name), landed)?;
+    let line = format!(in alloc; "{}{outs}", state_name(&leaves))?;
     Ok((record, line))
 }
 
@@ -270,81 +295,97 @@ fn each_cell(rt: HostRuntime) -> Result<(), Fail> {
         let mut parts = row.split('|');
         let words = parts.next().unwrap_or("");
         let record = parts.next().unwrap_or("");
-        let landed = step_line(rt.alloc(), words, true)?;
+        let landed = row_of(rt.alloc(), words, true)?;
         assert_eq!(rt; landed.0, record, "at {row}");
         assert_eq!(rt; landed.1.as_str(), parts.next().unwrap_or(""), "at {row}");
-        let absent = step_line(rt.alloc(), words, false)?;
+        let absent = row_of(rt.alloc(), words, false)?;
         assert_eq!(rt; absent.1.as_str(), parts.next().unwrap_or(""), "at {row}");
     }
     Ok(())
 }
 
-fn work(alloc: Global, reply: Reply) -> Result<Event, AllocError> {
-    let context = Context {
-        identifier: text(alloc, "http://n2.example/t/1-1")?,
+fn context(alloc: Global) -> Result<Context, AllocError> {
+    let identifier = text(alloc, "http://n2.example/t/1-1")?;
+    let coordination = text(alloc, "http://docs.oasis-open.org/ws-tx/wsat/2006/06")?;
+    let registration = epr(alloc, "registration")?;
+    Ok(Context {
+        identifier,
         expires: Some(60000),
-        coordination: text(alloc, "http://docs.oasis-open.org/ws-tx/wsat/2006/06")?,
-        registration: epr(alloc, "registration")?,
-    };
-    Ok(Event::Arrived(Arrived {
-        target: Target::Work,
-        id: Some(text(alloc, "work")?),
-        relates: None,
-        from: None,
-        reply,
-        fault: Reply::Anonymous,
-        postable: false,
-        message: Message::Work(Work {
-            context,
-            key: text(alloc, "key")?,
-            value: text(alloc, "value")?,
-            kind: Kind::Durable,
-            vote: Vote::Prepared,
+        coordination,
+        registration,
+    })
+}
+
+fn work(alloc: Global) -> Result<Work, AllocError> {
+    let key = text(alloc, "key")?;
+    let value = text(alloc, "value")?;
+    Ok(Work {
+        context: context(alloc)?,
+        key,
+        value,
+        kind: Kind::Durable,
+        vote: Vote::Prepared,
+    })
+}
+
+/// A Work whose answer goes there.
+fn asked(alloc: Global, reply: Reply) -> Result<Box<Event>, AllocError> {
+    let id = text(alloc, "work")?;
+    let work = work(alloc)?;
+    Box::new(
+        alloc,
+        Event::Arrived(Arrived {
+            target: Target::Work,
+            id: Some(id),
+            relates: None,
+            from: None,
+            reply,
+            fault: Reply::Anonymous,
+            postable: false,
+            message: Message::Work(work),
         }),
-    }))
+    )
+}
+
+/// The leaf that a Work at 7 made, which expires at 60007.
+fn is_made(leaves: &Leaves) -> bool {
+    match leaves.find(Id::new(1, 2)) {
+        Some(leaf) => {
+            leaf.state == State::Registering && leaf.deadline == Some(60007) && leaf.sent == Some(7)
+        }
+        None => false,
+    }
 }
 
 #[test]
 fn work_makes_a_leaf(rt: HostRuntime) -> Result<(), Fail> {
     let alloc = rt.alloc();
     let mut leaves = Leaves::new(alloc)?;
-    let moment = moment_at(alloc, 7)?;
-    let event = work(alloc, Reply::At(epr(alloc, "asker")?))?;
-    let plan = leaves.plan(alloc, &event, &moment)?;
-    assert_eq!(rt; leaves.len(), 0);
-    assert_eq!(rt;
-        outs_line(alloc, plan.outs(true))?.as_str(),
-        " 202 Register@registration"
-    );
-    let outs = leaves.apply(plan, true);
-    assert_eq!(rt;
-        outs_line(alloc, &outs)?.as_str(),
-        " 202 Register@registration"
-    );
-    let Some(leaf) = leaves.find(Id::new(1, 2)) else {
-        return Err(Fail::new("no leaf"));
-    };
-    assert_eq!(rt; leaf.state, State::Registering);
-    assert_eq!(rt; leaf.deadline, Some(60007));
-    assert_eq!(rt; leaf.sent, Some(7));
+    let event = asked(alloc, Reply::At(epr(alloc, "asker")?))?;
+    let line = step(alloc, &mut leaves, event, 7, true)?.1;
+    assert_eq!(rt; line.as_str(), " 202 Register@registration");
+    assert!(rt; is_made(&leaves));
     assert!(rt; leaves.has(Id::new(1, 2), Kind::Durable));
     assert!(rt; !leaves.has(Id::new(1, 2), Kind::Volatile));
-    assert!(rt; leaves.next_due(None, &moment_at(alloc, 5006)?).is_none());
-    assert_eq!(rt;
-        leaves.next_due(None, &moment_at(alloc, 5007)?),
-        Some(Id::new(1, 2))
-    );
-    assert!(rt;
-        leaves
-            .next_due(Some(Id::new(1, 2)), &moment_at(alloc, 5007)?)
-            .is_none()
-    );
-    let event = work(alloc, Reply::Anonymous)?;
-    let plan = leaves.plan(alloc, &event, &moment)?;
-    assert_eq!(rt;
-        outs_line(alloc, &leaves.apply(plan, true))?.as_str(),
-        " 200"
-    );
+    let event = asked(alloc, Reply::Anonymous)?;
+    let line = step(alloc, &mut leaves, event, 7, true)?.1;
+    assert_eq!(rt; line.as_str(), " 200");
     assert_eq!(rt; leaves.len(), 1);
+    Ok(())
+}
+
+/// The ids of the leaves that are due at this time, one behind another.
+#[test]
+fn due_leaves(rt: HostRuntime) -> Result<(), Fail> {
+    let alloc = rt.alloc();
+    let leaves = leaves_in(alloc, Kind::Durable, Vote::Prepared, "PreparedSuccess")?;
+    let early = moment_at(alloc, 104999)?;
+    assert!(rt; leaves.next_due(None, &early).is_none());
+    let late = moment_at(alloc, 105000)?;
+    assert!(rt; leaves.next_due(None, &late) == Some(Id::new(1, 1)));
+    assert!(rt; leaves.next_due(Some(Id::new(1, 1)), &late).is_none());
+    assert_eq!(rt; leaves.lost(alloc)?.as_slice().len(), 0);
+    let leaves = leaves_in(alloc, Kind::Durable, Vote::Prepared, "Active")?;
+    assert_eq!(rt; leaves.lost(alloc)?.as_slice().len(), 1);
     Ok(())
 }
