@@ -1,3 +1,4 @@
 mod Naming
 mod Ending
 mod Employing
+mod Modelled

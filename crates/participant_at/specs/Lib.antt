@@ -2,3 +2,4 @@ pub mod Answers
 pub mod Branches
 pub mod Employing
 pub mod Planning
+pub mod Whole

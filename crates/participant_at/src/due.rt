@@ -47,7 +47,7 @@ fn is_quiet(now: u64, sent: Option<u64>) -> bool
 }
 
 /// Whether a leaf may still expire.
-fn may_expire(state: State) -> bool
+pub fn may_expire(state: State) -> bool
     ensures { result ≡ (is_state state states.Registering || is_state state states.Active) }
 {
     match state {

@@ -1,6 +1,6 @@
 //! The live leaves of a node: planned first, and then done.
 
-ghost use Rattle.std.specs.Prelude.{◌≡◌, IfOk, [], ◌++◌, Some, None, length, option_copied};
+ghost use Rattle.std.specs.Prelude.{◌≡◌, ◌∷◌, IfOk, OnOk, [], ◌++◌, Some, None, length, option_copied};
 ghost use Rattle.at_model.specs.Book.{find_by, leaf_id};
 ghost use Rattle.at_model.specs.Posts.{accepted};
 ghost use Rattle.at_model.specs.Due.{leaf_due, leaf_reached};
@@ -10,23 +10,30 @@ ghost use Rattle.at_model.specs.World.{is_lost_leaf};
 ghost use Rattle.at_tables.specs.Names.{is_kind};
 ghost use Rattle.by_id.specs.Lists.{altered, next_due};
 ghost use Rattle.by_id.specs.Plans.{branch_of, decided};
+ghost use Rattle.participant_at.specs.Whole.{PlansAsTheModel};
 ghost use Rattle.participant_at.specs.Planning.{nothing, work_arrived, leaf_arrived, arrived_at, leaf_asked, item_asked, leaves_plan, leaves_lost, has_kind};
 
-use crate::due::on_due;
+use crate::due::{may_expire, on_due};
 use crate::leaf::Leaf;
 use crate::posts::accepted;
-use crate::rules::{on_leaf, unchanged};
+use crate::rules::{ending, on_leaf, unchanged};
 use crate::work::on_work;
 use at_base::event::{Arrived, Event, Item, Moment};
 use at_base::id::Id;
 use at_base::message::Message;
 use at_base::notice::Kind;
-use at_base::outs::{OutList, Outs};
+use at_base::outs::{Effects, Ending, OutList, Outs};
 use at_base::target::Target;
 use by_id::list::ById;
 use by_id::plan::{Branch, Plan};
 use std::alloc::{AllocError, Global};
 use std::marker::Model;
+
+/// At each event that moves a leaf, the plan of the leaves is the model's plan of the book that holds them.
+#[tactic(auto, using(crate::proofs::Modelled::plans_as_the_model))]
+pub fn plans_as_the_model()
+    ensures { PlansAsTheModel }
+{}
 
 /// The live leaves of a node, in the order of making.
 #[derive(Drop)]
@@ -110,6 +117,16 @@ fn leaf_asked(
         Some(leaf) => on_due(alloc, OutList::from_vec(Vec::new(alloc)), moment, leaf),
         None => Ok(nothing(alloc)),
     }
+}
+
+/// The end of a leaf that going down loses.
+fn push_lost(effects: &mut Effects, leaf: &Leaf) -> Result<(), AllocError>
+    ensures { OnOk result (effects.new ≡ effects.old ++ leaves_lost (leaf.now ∷ [])) }
+{
+    if may_expire(leaf.state) {
+        effects.push(ending(leaf, Ending::Lost))?;
+    }
+    Ok(())
 }
 
 impl Leaves {
@@ -231,5 +248,15 @@ impl Leaves {
         let Branch { change, outs } = plan.into_branch(landed);
         self.live.alter(change);
         outs
+    }
+    /// What going down loses: the leaves that haven't voted, each with its end.
+    pub fn lost(&self, alloc: Global) -> Result<Effects, AllocError>
+        ensures { IfOk result (λ effects. effects ≡ leaves_lost self.now) }
+    {
+        let mut effects = Effects::from_vec(Vec::new(alloc));
+        for leaf in self.live.as_slice() {
+            push_lost(&mut effects, leaf)?;
+        }
+        Ok(effects)
     }
 }

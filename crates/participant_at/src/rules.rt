@@ -5,7 +5,7 @@ ghost use Rattle.at_model.specs.Leaves.{leaf_aborts, leaf_commits, leaf_prepares
 ghost use Rattle.at_base.specs.declared.notice.Notice.TheVariants as notices;
 ghost use Rattle.at_base.specs.declared.record.Record.TheVariants as records;
 ghost use Rattle.at_model.specs.Moves.{begin, posts, forgotten, stays, ignored};
-ghost use Rattle.at_model.specs.Leaves.{leaf_says, leaf_faults, leaf_act, leaf_notice, answers_leaf, leaf_registered, leaf_refused, drops_leaf, leaf_fault, on_leaf, work_answer};
+ghost use Rattle.at_model.specs.Leaves.{leaf_says, leaf_ended, leaf_faults, leaf_act, leaf_notice, answers_leaf, leaf_registered, leaf_refused, drops_leaf, leaf_fault, on_leaf, work_answer};
 ghost use Rattle.at_model.specs.Arrivals.{relates_to};
 ghost use Rattle.at_tables.specs.Names.{is_state};
 ghost use Rattle.at_tables.specs.Tables.{participant_of};
@@ -66,6 +66,17 @@ fn dropped(alloc: Global, leaf: &Leaf, outs: OutList) -> Branch<Leaf>
     }
 }
 
+/// How a leaf ended.
+pub fn ending(leaf: &Leaf, what: Ending) -> Effect
+    ensures { result ≡ leaf_ended leaf.now what }
+{
+    Effect::Leaf {
+        id: leaf.id,
+        kind: leaf.kind,
+        what,
+    }
+}
+
 /// The leaf ended.
 fn ended(
     alloc: Global,
@@ -76,11 +87,7 @@ fn ended(
     ensures { IfOk result (λ branch. branch ≡ ended leaf.now what outs) }
 {
     let mut outs = silent(alloc, outs);
-    outs.effects.push(Effect::Leaf {
-        id: leaf.id,
-        kind: leaf.kind,
-        what,
-    })?;
+    outs.effects.push(ending(leaf, what))?;
     Ok(Branch {
         change: Alteration::Put {
             id: leaf.id,
