@@ -56,6 +56,8 @@ def inputs():
     yield "declarations, used", envelope(
         "".join(f"<p{n}:x/>" for n in range(1500)), "".join(f' xmlns:p{n}="u"' for n in range(1500))
     )
+    space = "u" * 32_000
+    yield "long namespace, used", envelope("<p:x/>" * 4_500, f' xmlns:p="{space}"')
     yield "32 levels", envelope("<x>" * 29 + "deep " * 100 + "</x>" * 29)
     yield "too deep", envelope("<x>" * 8000 + "</x>" * 8000)
     yield "open levels", envelope("<x>" * 19_000)
