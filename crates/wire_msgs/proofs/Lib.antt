@@ -5,3 +5,4 @@ pub mod Forms
 pub mod Numbers
 pub mod Refused
 pub mod Splitting
+pub mod Taken

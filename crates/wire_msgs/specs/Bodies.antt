@@ -1,4 +1,4 @@
--- What the body of each message says (WS-Coordination 1.2, sections 3 and 4; SOAP 1.1, section 4.4; this project's Work).
+-- What the body of each message says (WS-Coordination 1.2, section 3; SOAP 1.1, section 4.4; this project's Work).
 -- Children stand in any order, and others are skipped.
 use Rattle.std.specs.Prelude.{◌≡◌, refl, ℕ, List, [], ◌∷◌, Bool, false, ◌||◌, nat_eq, nat_le, length, Option, Some, None, Result, Ok, Err, if◌then◌else◌, codes}
 use Rattle.std.specs.Str.{bytes_eq}

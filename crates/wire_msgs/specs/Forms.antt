@@ -1,4 +1,4 @@
--- The messages by the element in their body (WS-Coordination 1.2, sections 3 and 4; WS-AtomicTransaction 1.2, section 3),
+-- The messages by the element in their body (WS-Coordination 1.2, section 3; WS-AtomicTransaction 1.2, section 3),
 -- and which of them a target takes.
 use Rattle.std.specs.Prelude.{ℕ, List, [], ◌∷◌, ◌++◌, Bool, true, false, Option, Some, None, codes, ◌≡◌, refl}
 use Rattle.std.specs.List.{find}

@@ -1,5 +1,6 @@
 pub mod Arrivals
 pub mod Bodies
+pub mod Examples
 pub mod Forms
 pub mod Parts
 pub mod Refusals

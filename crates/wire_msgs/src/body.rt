@@ -1,4 +1,4 @@
-//! What the body of each message says (WS-Coordination 1.2, sections 3 and 4; SOAP 1.1, section 4.4).
+//! What the body of each message says (WS-Coordination 1.2, section 3; SOAP 1.1, section 4.4).
 
 ghost use Rattle.std.specs.Prelude.{◌≡◌};
 ghost use Rattle.wire_msgs.specs.Bodies.{body_of, fault_of, kind_in, kind_named, local_part, once, present, short_in, text_in, unreadable, vote_in, vote_named, work_of};

@@ -1,6 +1,7 @@
 //! From the bytes of a request to the message that arrived.
 
-ghost use Rattle.std.specs.Prelude.{◌≡◌, IfErr, IfOk, Some};
+ghost use Rattle.std.specs.Prelude.{◌≡◌, IfErr, IfOk, Some, true};
+ghost use Rattle.at_model.specs.World.{takes};
 ghost use Rattle.xml_grammar.specs.Refusals.{Reads};
 ghost use Rattle.xml_profile.specs.declared.tree.Tree.{Tree};
 ghost use Rattle.wire_msgs.specs.Arrivals.{Arrives, IsRefused, arrival_in, arrival_of, arrival_under, arrived, fault_at, message_of, said_at, said_in, targeted};
@@ -41,9 +42,10 @@ pub struct Arrival {
 
 /// The message that the bytes of a request at this path mean, or the first refusal that holds, in the order of
 /// [`Refusal`].
-#[tactic(auto, using(crate::proofs::Decoded::tree_refused, crate::proofs::Decoded::no_tree, crate::proofs::Decoded::arrives, crate::proofs::Decoded::is_refused))]
+#[tactic(auto, using(crate::proofs::Decoded::tree_refused, crate::proofs::Decoded::no_tree, crate::proofs::Decoded::arrives, crate::proofs::Decoded::is_refused, crate::proofs::Taken::is_taken))]
 pub fn decode(alloc: Global, bytes: &[u8], path: &str) -> Result<Arrival, Refusal>
     ensures ok { IfOk result (Arrives bytes.now path.now) }
+    ensures taken { IfOk result (λ arrival. takes arrival.target arrival.message ≡ true) }
     ensures err { IfErr result (IsRefused bytes.now path.now) }
     ensures every { (t : Tree) → Reads bytes.now t → Answers (arrival_of t path.now) result }
 {

@@ -1,4 +1,4 @@
-//! The messages by the element in their body, and what a target takes (WS-Coordination 1.2, sections 3 and 4;
+//! The messages by the element in their body, and what a target takes (WS-Coordination 1.2, section 3;
 //! WS-AtomicTransaction 1.2, section 3).
 
 ghost use Rattle.std.specs.Prelude.{◌≡◌, IfSome, Some};
