@@ -146,6 +146,16 @@ fn commits(
     ended(alloc, leaf, Ending::Committed, outs)
 }
 
+/// A copy of the leaf that votes Prepared now.
+fn prepared_now(moment: &Moment, leaf: &Leaf) -> Result<Leaf, AllocError>
+    ensures { IfOk result
+        (λ next. next ≡ record leaf.now { state = states.PreparedSuccess; sent = Some moment.entry.now.now }) }
+{
+    let mut next = sent_now(moment, leaf)?;
+    next.state = State::PreparedSuccess;
+    Ok(next)
+}
+
 /// The leaf has voted Prepared, and waits for the outcome.
 fn prepares(
     alloc: Global,
@@ -156,8 +166,7 @@ fn prepares(
     ensures { IfOk result (λ branch. branch ≡ changed outs leaf.now.id (leaf_prepares moment.entry.now leaf.now)) }
 {
     say(alloc, &mut outs, moment, &None, leaf, Notice::Prepared)?;
-    let mut next = sent_now(moment, leaf)?;
-    next.state = State::PreparedSuccess;
+    let next = prepared_now(moment, leaf)?;
     Ok(kept(alloc, next, outs))
 }
 
