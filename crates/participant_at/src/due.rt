@@ -178,7 +178,7 @@ fn push_again(
 /// The leaf sends again.
 fn sends_again(
     alloc: Global,
-    outs: OutList,
+    mut outs: OutList,
     moment: &Moment,
     leaf: &Leaf,
 ) -> Result<Branch<Leaf>, AllocError>
@@ -187,7 +187,6 @@ fn sends_again(
         ≡ kept (record leaf.now { sent = Some moment.entry.now.now })
         (outs ++ map outcome.Post (leaf_again moment.entry.now leaf.now))) }
 {
-    let mut outs = outs;
     push_again(alloc, &mut outs, moment, leaf)?;
     let next = sent_now(moment, leaf)?;
     Ok(kept(alloc, next, outs))

@@ -119,7 +119,7 @@ pub fn sent_now(moment: &Moment, leaf: &Leaf) -> Result<Leaf, AllocError>
 /// The leaf ends as aborted, and says so.
 pub fn aborts(
     alloc: Global,
-    outs: OutList,
+    mut outs: OutList,
     moment: &Moment,
     from: &Option<Epr>,
     leaf: &Leaf,
@@ -127,7 +127,6 @@ pub fn aborts(
     ensures { IfOk result
         (λ branch. branch ≡ changed outs leaf.now.id (leaf_aborts moment.entry.now from.now leaf.now)) }
 {
-    let mut outs = outs;
     say(alloc, &mut outs, moment, from, leaf, Notice::Aborted)?;
     ended(alloc, leaf, Ending::Aborted, outs)
 }
@@ -135,7 +134,7 @@ pub fn aborts(
 /// The leaf ends as committed, and says so.
 fn commits(
     alloc: Global,
-    outs: OutList,
+    mut outs: OutList,
     moment: &Moment,
     from: &Option<Epr>,
     leaf: &Leaf,
@@ -143,24 +142,31 @@ fn commits(
     ensures { IfOk result
         (λ branch. branch ≡ changed outs leaf.now.id (leaf_commits moment.entry.now from.now leaf.now)) }
 {
-    let mut outs = outs;
     say(alloc, &mut outs, moment, from, leaf, Notice::Committed)?;
     ended(alloc, leaf, Ending::Committed, outs)
+}
+
+/// A copy of the leaf that votes Prepared now.
+fn prepared_now(moment: &Moment, leaf: &Leaf) -> Result<Leaf, AllocError>
+    ensures { IfOk result
+        (λ next. next ≡ record leaf.now { state = states.PreparedSuccess; sent = Some moment.entry.now.now }) }
+{
+    let mut next = sent_now(moment, leaf)?;
+    next.state = State::PreparedSuccess;
+    Ok(next)
 }
 
 /// The leaf has voted Prepared, and waits for the outcome.
 fn prepares(
     alloc: Global,
-    outs: OutList,
+    mut outs: OutList,
     moment: &Moment,
     leaf: &Leaf,
 ) -> Result<Branch<Leaf>, AllocError>
     ensures { IfOk result (λ branch. branch ≡ changed outs leaf.now.id (leaf_prepares moment.entry.now leaf.now)) }
 {
-    let mut outs = outs;
     say(alloc, &mut outs, moment, &None, leaf, Notice::Prepared)?;
-    let mut next = sent_now(moment, leaf)?;
-    next.state = State::PreparedSuccess;
+    let next = prepared_now(moment, leaf)?;
     Ok(kept(alloc, next, outs))
 }
 
@@ -207,7 +213,7 @@ fn records_vote(
 /// The vote ReadOnly: the leaf is forgotten.
 fn leaves(
     alloc: Global,
-    outs: OutList,
+    mut outs: OutList,
     moment: &Moment,
     from: &Option<Epr>,
     leaf: &Leaf,
@@ -215,7 +221,6 @@ fn leaves(
     ensures { IfOk result
         (λ branch. branch ≡ changed outs leaf.now.id (forgotten (posts (leaf_says moment.entry.now from.now notices.ReadOnly leaf.now) (begin leaf.now)))) }
 {
-    let mut outs = outs;
     say(alloc, &mut outs, moment, from, leaf, Notice::ReadOnly)?;
     Ok(dropped(alloc, leaf, outs))
 }
@@ -299,7 +304,7 @@ fn roll_back(
 /// The leaf answers Prepared once more.
 fn prepares_again(
     alloc: Global,
-    outs: OutList,
+    mut outs: OutList,
     moment: &Moment,
     from: &Option<Epr>,
     leaf: &Leaf,
@@ -309,7 +314,6 @@ fn prepares_again(
         ≡ kept (record leaf.now { sent = Some moment.entry.now.now })
         (outs ++ map outcome.Post (leaf_says moment.entry.now from.now notices.Prepared leaf.now))) }
 {
-    let mut outs = outs;
     say(alloc, &mut outs, moment, from, leaf, Notice::Prepared)?;
     let next = sent_now(moment, leaf)?;
     Ok(kept(alloc, next, outs))
@@ -318,7 +322,7 @@ fn prepares_again(
 /// The fault InvalidState, which leaves the leaf as it stands.
 fn faults(
     alloc: Global,
-    outs: OutList,
+    mut outs: OutList,
     from: &Option<Epr>,
     id: &Option<Text>,
     leaf: &Leaf,
@@ -326,7 +330,6 @@ fn faults(
     ensures { IfOk result
         (λ branch. branch ≡ kept leaf.now (outs ++ map outcome.Post (leaf_faults from.now id.now leaf.now))) }
 {
-    let mut outs = outs;
     say_fault(alloc, &mut outs, from, id, leaf)?;
     let same = leaf.clone()?;
     Ok(kept(alloc, same, outs))
@@ -335,7 +338,7 @@ fn faults(
 /// The fault InvalidState, which ends the leaf as aborted.
 fn faults_and_ends(
     alloc: Global,
-    outs: OutList,
+    mut outs: OutList,
     from: &Option<Epr>,
     id: &Option<Text>,
     leaf: &Leaf,
@@ -344,7 +347,6 @@ fn faults_and_ends(
         (λ branch. branch
         ≡ ended leaf.now endings.Aborted (outs ++ map outcome.Post (leaf_faults from.now id.now leaf.now))) }
 {
-    let mut outs = outs;
     say_fault(alloc, &mut outs, from, id, leaf)?;
     ended(alloc, leaf, Ending::Aborted, outs)
 }
@@ -456,7 +458,7 @@ fn answers(
 /// The leaf is registered at this endpoint, and its Work is answered.
 fn registers(
     alloc: Global,
-    outs: OutList,
+    mut outs: OutList,
     coordinator: &Epr,
     leaf: &Leaf,
 ) -> Result<Branch<Leaf>, AllocError>
@@ -465,7 +467,6 @@ fn registers(
         ≡ kept (record leaf.now { state = states.Active; coordinator = Some coordinator.now; request = None })
         (outs ++ map outcome.Post (work_answer messages.WorkDone leaf.now.request))) }
 {
-    let mut outs = outs;
     answer_work(&mut outs, leaf, Answer::Done)?;
     let coordinator = coordinator.clone()?;
     let mut next = leaf.clone()?;
@@ -498,10 +499,9 @@ fn registered(
 }
 
 /// The leaf ends before it is registered, and refuses its Work.
-pub fn refuses(alloc: Global, outs: OutList, leaf: &Leaf) -> Result<Branch<Leaf>, AllocError>
+pub fn refuses(alloc: Global, mut outs: OutList, leaf: &Leaf) -> Result<Branch<Leaf>, AllocError>
     ensures { IfOk result (λ branch. branch ≡ changed outs leaf.now.id (leaf_refused leaf.now)) }
 {
-    let mut outs = outs;
     answer_work(&mut outs, leaf, Answer::Refused)?;
     ended(alloc, leaf, Ending::Aborted, outs)
 }

@@ -199,8 +199,8 @@ fn time_of(name: &str) -> u64 {
 /// The event of a name.
 fn event_of(alloc: Global, kind: Kind, name: &str) -> Result<Box<Event>, AllocError> {
     match name {
-        "Early" | "Quiet" | "Late" => Box::new(alloc, Event::Due(Item::Leaf(Id::new(1, 1)))),
-        _ => Box::new(alloc, arrived(alloc, kind, name)?),
+        "Early" | "Quiet" | "Late" => Ok(Box::new(alloc, Event::Due(Item::Leaf(Id::new(1, 1))))?),
+        _ => Ok(Box::new(alloc, arrived(alloc, kind, name)?)?),
     }
 }
 
@@ -289,18 +289,33 @@ fn row_of(alloc: Global, words: &str, landed: bool) -> Result<(&'static str, Str
     Ok((record, line))
 }
 
+/// Whether a step does what its row says.
+fn stands(alloc: Global, row: &str) -> Result<bool, AllocError> {
+    let mut parts = row.split('|');
+    let words = parts.next().unwrap_or("");
+    let record = parts.next().unwrap_or("");
+    let landed = row_of(alloc, words, true)?;
+    let right = landed.0 == record && landed.1.as_str() == parts.next().unwrap_or("");
+    let absent = row_of(alloc, words, false)?;
+    Ok(right && absent.1.as_str() == parts.next().unwrap_or(""))
+}
+
+/// The rows that don't stand, a line each.
+fn wrong_rows(alloc: Global, table: &str) -> Result<String, AllocError> {
+    let mut wrong = String::new(alloc);
+    for row in table.lines() {
+        if !stands(alloc, row)? {
+            wrong.push_str(row)?;
+            wrong.push_str("\n")?;
+        }
+    }
+    Ok(wrong)
+}
+
 #[test]
 fn each_cell(rt: HostRuntime) -> Result<(), Fail> {
-    for row in STEPS.lines() {
-        let mut parts = row.split('|');
-        let words = parts.next().unwrap_or("");
-        let record = parts.next().unwrap_or("");
-        let landed = row_of(rt.alloc(), words, true)?;
-        assert_eq!(rt; landed.0, record, "at {row}");
-        assert_eq!(rt; landed.1.as_str(), parts.next().unwrap_or(""), "at {row}");
-        let absent = row_of(rt.alloc(), words, false)?;
-        assert_eq!(rt; absent.1.as_str(), parts.next().unwrap_or(""), "at {row}");
-    }
+    let wrong = wrong_rows(rt.alloc(), STEPS)?;
+    assert_eq!(rt; wrong.as_str(), "");
     Ok(())
 }
 
@@ -332,7 +347,7 @@ fn work(alloc: Global) -> Result<Work, AllocError> {
 fn asked(alloc: Global, reply: Reply) -> Result<Box<Event>, AllocError> {
     let id = text(alloc, "work")?;
     let work = work(alloc)?;
-    Box::new(
+    Ok(Box::new(
         alloc,
         Event::Arrived(Arrived {
             target: Target::Work,
@@ -344,48 +359,78 @@ fn asked(alloc: Global, reply: Reply) -> Result<Box<Event>, AllocError> {
             postable: false,
             message: Message::Work(work),
         }),
-    )
+    )?)
 }
 
 /// The leaf that a Work at 7 made, which expires at 60007.
 fn is_made(leaves: &Leaves) -> bool {
     match leaves.find(Id::new(1, 2)) {
         Some(leaf) => {
-            leaf.state == State::Registering && leaf.deadline == Some(60007) && leaf.sent == Some(7)
+            let known = leaves.has(Id::new(1, 2), Kind::Durable);
+            known
+                && leaf.state == State::Registering
+                && leaf.deadline == Some(60007)
+                && leaf.sent == Some(7)
         }
         None => false,
     }
 }
 
+/// What a Work at 7 is answered, whose answer goes there.
+fn answer_of(alloc: Global, leaves: &mut Leaves, reply: Reply) -> Result<String, AllocError> {
+    let event = asked(alloc, reply)?;
+    let (_, line) = step(alloc, leaves, event, 7, true)?;
+    Ok(line)
+}
+
 #[test]
 fn work_makes_a_leaf(rt: HostRuntime) -> Result<(), Fail> {
-    let alloc = rt.alloc();
-    let mut leaves = Leaves::new(alloc)?;
-    let event = asked(alloc, Reply::At(epr(alloc, "asker")?))?;
-    let line = step(alloc, &mut leaves, event, 7, true)?.1;
+    let mut leaves = Leaves::new(rt.alloc())?;
+    let reply = Reply::At(epr(rt.alloc(), "asker")?);
+    let line = answer_of(rt.alloc(), &mut leaves, reply)?;
     assert_eq!(rt; line.as_str(), " 202 Register@registration");
-    assert!(rt; is_made(&leaves));
-    assert!(rt; leaves.has(Id::new(1, 2), Kind::Durable));
-    assert!(rt; !leaves.has(Id::new(1, 2), Kind::Volatile));
-    let event = asked(alloc, Reply::Anonymous)?;
-    let line = step(alloc, &mut leaves, event, 7, true)?.1;
-    assert_eq!(rt; line.as_str(), " 200");
-    assert_eq!(rt; leaves.len(), 1);
+    let right = is_made(&leaves);
+    assert!(rt; right);
     Ok(())
 }
 
-/// The ids of the leaves that are due at this time, one behind another.
+#[test]
+fn work_is_refused(rt: HostRuntime) -> Result<(), Fail> {
+    let mut leaves = Leaves::new(rt.alloc())?;
+    let line = answer_of(rt.alloc(), &mut leaves, Reply::Anonymous)?;
+    assert_eq!(rt; line.as_str(), " 200");
+    let live = leaves.len();
+    assert_eq!(rt; live, 0);
+    Ok(())
+}
+
+/// Whether the one leaf is due at this time, behind this id or at all.
+fn is_next(alloc: Global, now: u64, after: Option<Id>) -> Result<bool, AllocError> {
+    let leaves = leaves_in(alloc, Kind::Durable, Vote::Prepared, "PreparedSuccess")?;
+    let moment = moment_at(alloc, now)?;
+    Ok(leaves.next_due(after, &moment) == Some(Id::new(1, 1)))
+}
+
 #[test]
 fn due_leaves(rt: HostRuntime) -> Result<(), Fail> {
-    let alloc = rt.alloc();
-    let leaves = leaves_in(alloc, Kind::Durable, Vote::Prepared, "PreparedSuccess")?;
-    let early = moment_at(alloc, 104999)?;
-    assert!(rt; leaves.next_due(None, &early).is_none());
-    let late = moment_at(alloc, 105000)?;
-    assert!(rt; leaves.next_due(None, &late) == Some(Id::new(1, 1)));
-    assert!(rt; leaves.next_due(Some(Id::new(1, 1)), &late).is_none());
-    assert_eq!(rt; leaves.lost(alloc)?.as_slice().len(), 0);
-    let leaves = leaves_in(alloc, Kind::Durable, Vote::Prepared, "Active")?;
-    assert_eq!(rt; leaves.lost(alloc)?.as_slice().len(), 1);
+    let early = is_next(rt.alloc(), 104999, None)?;
+    let late = is_next(rt.alloc(), 105000, None)?;
+    let behind = is_next(rt.alloc(), 105000, Some(Id::new(1, 1)))?;
+    assert!(rt; !early && late && !behind);
+    Ok(())
+}
+
+/// How many leaves going down loses, of one in this state.
+fn lost_in(alloc: Global, state: &str) -> Result<usize, AllocError> {
+    let leaves = leaves_in(alloc, Kind::Durable, Vote::Prepared, state)?;
+    let lost = leaves.lost(alloc)?;
+    Ok(lost.as_slice().len())
+}
+
+#[test]
+fn lost_leaves(rt: HostRuntime) -> Result<(), Fail> {
+    let voted = lost_in(rt.alloc(), "PreparedSuccess")?;
+    let active = lost_in(rt.alloc(), "Active")?;
+    assert!(rt; voted == 0 && active == 1);
     Ok(())
 }
