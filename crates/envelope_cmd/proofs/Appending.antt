@@ -1,0 +1,1 @@
+-- What is added behind what was added.

@@ -1,0 +1,10 @@
+//! What the commands `check` and `cell` print for one envelope.
+#![tactic(auto)]
+
+pub mod check;
+pub mod lines;
+pub mod names;
+pub mod printed;
+pub mod refusals;
+#[cfg(test)]
+mod tests;
