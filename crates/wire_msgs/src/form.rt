@@ -3,7 +3,9 @@
 
 ghost use Rattle.std.specs.Prelude.{◌≡◌, IfSome, Some};
 ghost use Rattle.wire_msgs.specs.Forms.{ActionsDiffer, TakesAsModelled, action_of, every_notice, first_at, form_at, local_of, notice_name, space_of, takes_fault, takes_form};
+ghost use Rattle.wire_msgs.specs.declared.form.Form.TheVariants as forms;
 
+use addressing::request::{CREATE_ACTION, REGISTER_ACTION, WORK_ACTION};
 use at_base::notice::Notice;
 use at_base::target::Target;
 use xml_profile::names::{COORDINATION, TRANSACTION, WORK};
@@ -59,6 +61,40 @@ impl Form {
             Form::WorkDone => "WorkDone",
             Form::WorkRefused => "WorkRefused",
         }
+    }
+
+    /// Its action: the namespace, `/`, and the local name (WS-Coordination 1.2 and WS-AtomicTransaction 1.2, section 1.3).
+    pub fn action(self) -> &'static str
+        ensures { result.now ≡ action_of self }
+    {
+        match self {
+            Form::Create => CREATE_ACTION,
+            Form::CreateResponse => {
+                "http://docs.oasis-open.org/ws-tx/wscoor/2006/06/CreateCoordinationContextResponse"
+            }
+            Form::Register => REGISTER_ACTION,
+            Form::RegisterResponse => {
+                "http://docs.oasis-open.org/ws-tx/wscoor/2006/06/RegisterResponse"
+            }
+            Form::Notice(notice) => notice_action(notice),
+            Form::Work => WORK_ACTION,
+            Form::WorkDone => "http://example.org/atx/work/1/WorkDone",
+            Form::WorkRefused => "http://example.org/atx/work/1/WorkRefused",
+        }
+    }
+}
+
+fn notice_action(notice: Notice) -> &'static str
+    ensures { result.now ≡ action_of (forms.Notice notice) }
+{
+    match notice {
+        Notice::Prepare => "http://docs.oasis-open.org/ws-tx/wsat/2006/06/Prepare",
+        Notice::Commit => "http://docs.oasis-open.org/ws-tx/wsat/2006/06/Commit",
+        Notice::Rollback => "http://docs.oasis-open.org/ws-tx/wsat/2006/06/Rollback",
+        Notice::Prepared => "http://docs.oasis-open.org/ws-tx/wsat/2006/06/Prepared",
+        Notice::ReadOnly => "http://docs.oasis-open.org/ws-tx/wsat/2006/06/ReadOnly",
+        Notice::Aborted => "http://docs.oasis-open.org/ws-tx/wsat/2006/06/Aborted",
+        Notice::Committed => "http://docs.oasis-open.org/ws-tx/wsat/2006/06/Committed",
     }
 }
 

@@ -1,0 +1,131 @@
+-- The faults that are written (SOAP 1.1, section 4.4; WS-Addressing 1.0 SOAP Binding, section 6.4; WS-Coordination 1.2,
+-- section 4; WS-AtomicTransaction 1.2, section 7), and which of them a refusal is.
+use Rattle.std.specs.Prelude.{◌≡◌, refl, ℕ, List, [], ◌∷◌, ◌++◌, ◌||◌, Option, Some, None, if◌then◌else◌, codes}
+use Rattle.std.specs.List.{find}
+use Rattle.std.specs.Option.{option_map, unwrap_or}
+use Rattle.std.specs.Str.{bytes_eq}
+use Rattle.xml_profile.specs.declared.name.QName.{QName}
+use Rattle.xml_profile.specs.declared.tree.Tree.{Tree}
+use Rattle.xml_profile.specs.Canonical.{canonical_text}
+use Rattle.xml_profile.specs.Prefixes.{addressing, coordination, fixed_prefix, soap, transaction}
+use Rattle.soap_profile.specs.Building.{qualified}
+use Rattle.soap_profile.specs.Envelopes.{envelope_tree}
+use Rattle.soap_profile.specs.Faults.{fault_tree}
+use Rattle.addressing.specs.Writing.{text_element}
+use Rattle.wire_msgs.specs.declared.refusal.Refusal.{Refusal}
+use Rattle.wire_msgs.specs.declared.refusal.Refusal.TheVariants as refusals
+use Rattle.wire_posts.specs.declared.fault.WrittenFault.{WrittenFault}
+use Rattle.wire_posts.specs.declared.fault.WrittenFault.TheVariants.{NotProfileDocument, VersionMismatch, NotEnvelope, MustUnderstand, HeaderRequired, InvalidHeader, ActionNotSupported, InvalidState, InvalidProtocol, InvalidParameters, CannotCreateContext, CannotRegisterParticipant, UnknownTransaction, Other}
+
+-- the namespace of its code
+abbrev pub space_of : WrittenFault → List ℕ
+space_of NotProfileDocument = soap
+space_of VersionMismatch = soap
+space_of NotEnvelope = soap
+space_of MustUnderstand = soap
+space_of HeaderRequired = addressing
+space_of InvalidHeader = addressing
+space_of ActionNotSupported = addressing
+space_of InvalidState = coordination
+space_of InvalidProtocol = coordination
+space_of InvalidParameters = coordination
+space_of CannotCreateContext = coordination
+space_of CannotRegisterParticipant = coordination
+space_of UnknownTransaction = transaction
+space_of Other = soap
+
+-- the local name of its code
+abbrev pub name_of : WrittenFault → List ℕ
+name_of NotProfileDocument = codes "Client"
+name_of VersionMismatch = codes "VersionMismatch"
+name_of NotEnvelope = codes "Client"
+name_of MustUnderstand = codes "MustUnderstand"
+name_of HeaderRequired = codes "MessageAddressingHeaderRequired"
+name_of InvalidHeader = codes "InvalidAddressingHeader"
+name_of ActionNotSupported = codes "ActionNotSupported"
+name_of InvalidState = codes "InvalidState"
+name_of InvalidProtocol = codes "InvalidProtocol"
+name_of InvalidParameters = codes "InvalidParameters"
+name_of CannotCreateContext = codes "CannotCreateContext"
+name_of CannotRegisterParticipant = codes "CannotRegisterParticipant"
+name_of UnknownTransaction = codes "UnknownTransaction"
+name_of Other = codes "Server"
+
+-- the text that a reader is told
+abbrev pub text_of : WrittenFault → List ℕ
+text_of NotProfileDocument = codes "not a profile document"
+text_of VersionMismatch = codes "wrong envelope version"
+text_of NotEnvelope = codes "not an envelope"
+text_of MustUnderstand = codes "header not understood"
+text_of HeaderRequired = codes "header required"
+text_of InvalidHeader = codes "invalid header"
+text_of ActionNotSupported = codes "action not supported"
+text_of InvalidState = codes "invalid state"
+text_of InvalidProtocol = codes "invalid protocol"
+text_of InvalidParameters = codes "invalid parameters"
+text_of CannotCreateContext = codes "cannot create context"
+text_of CannotRegisterParticipant = codes "cannot register participant"
+text_of UnknownTransaction = codes "unknown transaction"
+text_of Other = codes "other fault"
+
+-- the code, with the prefix that its namespace has in canonical texts
+abbrev pub code_of : WrittenFault → List ℕ
+code_of fault = unwrap_or (fixed_prefix (space_of fault)) [] ++ codes ":" ++ name_of fault
+
+-- the action: a fault of SOAP has one of WS-Addressing's (SOAP Binding, section 6), another that of its namespace
+abbrev pub fault_action : WrittenFault → List ℕ
+fault_action fault =
+    if bytes_eq (space_of fault) soap then addressing ++ codes "/soap/fault" else space_of fault ++ codes "/fault"
+
+-- the name of the element in its detail: a protocol's fault has one, of its own name
+abbrev pub detail_of : WrittenFault → Option QName
+detail_of fault =
+    if bytes_eq (space_of fault) coordination || bytes_eq (space_of fault) transaction
+    then Some (qualified (space_of fault) (name_of fault))
+    else None
+
+-- the faults of the protocols that are written
+abbrev pub protocol_faults : List WrittenFault
+protocol_faults =
+    InvalidState ∷ InvalidProtocol ∷ InvalidParameters ∷ CannotCreateContext ∷ CannotRegisterParticipant ∷ UnknownTransaction ∷ []
+
+-- the fault of a name: one of these, or another
+abbrev pub fault_named : List ℕ → WrittenFault
+fault_named name = unwrap_or (find (λ fault. bytes_eq name (name_of fault)) protocol_faults) Other
+
+abbrev pub fault_body : WrittenFault → Tree
+fault_body fault = fault_tree (code_of fault) (text_of fault) (detail_of fault)
+
+-- the fault that a refusal is answered with: none where the answer has no body
+abbrev pub refusal_fault : Refusal → Option WrittenFault
+refusal_fault refusals.TooLong = None
+refusal_fault (refusals.NotUtf8 place) = Some NotProfileDocument
+refusal_fault refusals.NotSpelled = Some NotProfileDocument
+refusal_fault refusals.TooDeep = Some NotProfileDocument
+refusal_fault refusals.TooMany = Some NotProfileDocument
+refusal_fault refusals.VersionMismatch = Some VersionMismatch
+refusal_fault refusals.NotEnvelope = Some NotEnvelope
+refusal_fault (refusals.MustUnderstand name) = Some MustUnderstand
+refusal_fault (refusals.MissingHeader name) = Some HeaderRequired
+refusal_fault (refusals.InvalidHeader name) = Some InvalidHeader
+refusal_fault refusals.NoTarget = None
+refusal_fault refusals.Action = Some ActionNotSupported
+refusal_fault (refusals.Parameters name) = Some InvalidParameters
+refusal_fault refusals.NoMemory = None
+
+-- its only header is the action
+abbrev pub refusal_tree : WrittenFault → Tree
+refusal_tree fault = envelope_tree (text_element (codes "Action") (fault_action fault) ∷ []) (fault_body fault)
+
+-- empty where the answer has no body
+abbrev pub refusal_text : Refusal → List ℕ
+refusal_text refusal = unwrap_or (option_map (λ fault. canonical_text (refusal_tree fault)) (refusal_fault refusal)) []
+
+pub code_of_a_missing_header : code_of HeaderRequired ≡ codes "wsa:MessageAddressingHeaderRequired"
+code_of_a_missing_header = refl
+
+pub action_of_a_state : fault_action InvalidState ≡ codes "http://docs.oasis-open.org/ws-tx/wscoor/2006/06/fault"
+action_of_a_state = refl
+
+pub fault_of_a_name : fault_named (codes "UnknownTransaction") ≡ UnknownTransaction
+fault_of_a_name = refl

@@ -1,0 +1,10 @@
+//! Messages on the wire, written: what is posted, and what a refusal is answered with (WS-Coordination 1.2,
+//! WS-AtomicTransaction 1.2, SOAP 1.1, WS-Addressing 1.0).
+#![tactic(auto)]
+
+pub mod body;
+pub mod encode;
+pub mod fault;
+pub mod headers;
+#[cfg(test)]
+mod tests;

@@ -1,0 +1,287 @@
+use crate::encode::{encode_post, encode_refusal};
+use at_base::epr::{Epr, Reply};
+use at_base::message::{Context, Create, Message, Register, Work};
+use at_base::notice::{Kind, Notice, Vote};
+use at_base::outs::Post;
+use at_base::text::Text;
+use std::alloc::{AllocError, Global};
+use std::test::Fail;
+use wire_msgs::decode::{Arrival, decode};
+use wire_msgs::refusal::Refusal;
+
+fn endpoint(alloc: Global, address: &str) -> Result<Epr, AllocError> {
+    let address = Text::copied(alloc, address)?;
+    let params = Text::copied(alloc, "")?;
+    Ok(Epr { address, params })
+}
+
+fn with_params(alloc: Global, address: &str) -> Result<Epr, AllocError> {
+    let address = Text::copied(alloc, address)?;
+    let params = Text::copied(
+        alloc,
+        "<wsa:ReferenceParameters xmlns:wsa=\"http://www.w3.org/2005/08/addressing\"><k a=\"1\">7</k></wsa:ReferenceParameters>",
+    )?;
+    Ok(Epr { address, params })
+}
+
+fn context(alloc: Global) -> Result<Context, AllocError> {
+    let identifier = Text::copied(alloc, "urn:i")?;
+    let coordination = Text::copied(alloc, "http://docs.oasis-open.org/ws-tx/wsat/2006/06")?;
+    let registration = with_params(alloc, "http://n2.example/registration/1-1")?;
+    Ok(Context {
+        identifier,
+        expires: Some(60_000),
+        coordination,
+        registration,
+    })
+}
+
+fn create(alloc: Global) -> Result<Create, AllocError> {
+    let coordination = Text::copied(alloc, "http://docs.oasis-open.org/ws-tx/wsat/2006/06")?;
+    let current = context(alloc)?;
+    Ok(Create {
+        expires: None,
+        current: Some(current),
+        coordination,
+    })
+}
+
+fn register(alloc: Global) -> Result<Register, AllocError> {
+    let protocol = Text::copied(
+        alloc,
+        "http://docs.oasis-open.org/ws-tx/wsat/2006/06/Durable2PC",
+    )?;
+    let participant = endpoint(alloc, "http://n3.example/p/d/1-1")?;
+    Ok(Register {
+        protocol,
+        participant,
+    })
+}
+
+fn work(alloc: Global) -> Result<Work, AllocError> {
+    let key = Text::copied(alloc, "k")?;
+    let value = Text::copied(alloc, "")?;
+    let context = context(alloc)?;
+    Ok(Work {
+        context,
+        key,
+        value,
+        kind: Kind::Volatile,
+        vote: Vote::ReadOnly,
+    })
+}
+
+fn fault(alloc: Global, name: &str) -> Result<Message, AllocError> {
+    let name = Text::copied(alloc, name)?;
+    Ok(Message::Fault { name })
+}
+
+/// The message of a row.
+fn message(alloc: Global, name: &str) -> Result<Message, AllocError> {
+    match name {
+        "Create" => Ok(Message::Create(create(alloc)?)),
+        "CreateResponse" => Ok(Message::CreateResponse(context(alloc)?)),
+        "Register" => Ok(Message::Register(register(alloc)?)),
+        "RegisterResponse" => Ok(Message::RegisterResponse(with_params(
+            alloc,
+            "http://n2.example/c/d/1-1/1",
+        )?)),
+        "Work" => Ok(Message::Work(work(alloc)?)),
+        "WorkDone" => Ok(Message::WorkDone),
+        "WorkRefused" => Ok(Message::WorkRefused),
+        _ => notice_or_fault(alloc, name),
+    }
+}
+
+fn notice_or_fault(alloc: Global, name: &str) -> Result<Message, AllocError> {
+    let notice = match name {
+        "Prepare" => Notice::Prepare,
+        "Commit" => Notice::Commit,
+        "Rollback" => Notice::Rollback,
+        "Prepared" => Notice::Prepared,
+        "ReadOnly" => Notice::ReadOnly,
+        "Aborted" => Notice::Aborted,
+        "Committed" => Notice::Committed,
+        _ => return fault(alloc, name),
+    };
+    Ok(Message::Notice(notice))
+}
+
+fn text(alloc: Global, text: &str) -> Result<Option<Text>, AllocError> {
+    if text.is_empty() {
+        return Ok(None);
+    }
+    Ok(Some(Text::copied(alloc, text)?))
+}
+
+fn reply(alloc: Global, name: &str) -> Result<Option<Reply>, AllocError> {
+    match name {
+        "" => Ok(None),
+        "none" => Ok(Some(Reply::Nobody)),
+        "anonymous" => Ok(Some(Reply::Anonymous)),
+        address => Ok(Some(Reply::At(endpoint(alloc, address)?))),
+    }
+}
+
+fn optional(alloc: Global, address: &str) -> Result<Option<Epr>, AllocError> {
+    if address.is_empty() {
+        return Ok(None);
+    }
+    Ok(Some(with_params(alloc, address)?))
+}
+
+/// The post of a row: the message, To, MessageID, RelatesTo, From and ReplyTo, an empty one absent.
+fn post(alloc: Global, row: [&str; 6]) -> Result<Box<Post>, AllocError> {
+    let [name, to, id, relates, from, reply_to] = row;
+    let to = optional(alloc, to)?;
+    let id = text(alloc, id)?;
+    let relates = text(alloc, relates)?;
+    let from = optional(alloc, from)?;
+    let reply = reply(alloc, reply_to)?;
+    let message = message(alloc, name)?;
+    let post = Post {
+        own: None,
+        to,
+        id,
+        relates,
+        from,
+        reply,
+        message,
+    };
+    Ok(Box::new(alloc, post)?)
+}
+
+fn same_reply(arrived: &Option<Epr>, sent: &Option<Reply>) -> bool {
+    match (arrived, sent) {
+        (None, None) => true,
+        (Some(epr), Some(Reply::Nobody)) => {
+            epr.address.as_str() == "http://www.w3.org/2005/08/addressing/none"
+        }
+        (Some(epr), Some(Reply::Anonymous)) => {
+            epr.address.as_str() == "http://www.w3.org/2005/08/addressing/anonymous"
+        }
+        (Some(epr), Some(Reply::At(own))) => epr == own,
+        _ => false,
+    }
+}
+
+fn is_of(arrival: &Arrival, post: &Post) -> bool {
+    arrival.message == post.message
+        && arrival.id == post.id
+        && arrival.relates == post.relates
+        && arrival.from == post.from
+        && same_reply(&arrival.reply, &post.reply)
+}
+
+/// Whether a post, written and read at a path, is what it was.
+fn returns(alloc: Global, row: [&str; 6], path: &str) -> Result<bool, Fail> {
+    let post = post(alloc, row)?;
+    let bytes = encode_post(alloc, &post)?;
+    match decode(alloc, bytes.as_slice(), path) {
+        Ok(arrival) => Ok(is_of(&arrival, &post)),
+        Err(_) => Ok(false),
+    }
+}
+
+const INITIATOR: &str = "http://n1.example/i/1-1";
+const PARTICIPANT: &str = "http://n3.example/p/d/1-1";
+const SEAT: &str = "http://n2.example/c/d/1-1/1";
+
+/// Each message as a row of [`post`].
+const POSTS: [[&str; 6]; 20] = [
+    ["Create", "http://n2.example/activation", "urn:1", "", "", INITIATOR],
+    ["CreateResponse", INITIATOR, "", "urn:1", "", ""],
+    ["Register", "http://n2.example/registration/1-1", "urn:2", "", "", PARTICIPANT],
+    ["RegisterResponse", PARTICIPANT, "", "urn:2", "", ""],
+    ["Prepare", PARTICIPANT, "", "", SEAT, "none"],
+    ["Commit", PARTICIPANT, "", "", SEAT, "none"],
+    ["Rollback", PARTICIPANT, "", "", SEAT, "none"],
+    ["Prepared", SEAT, "", "", PARTICIPANT, "none"],
+    ["ReadOnly", SEAT, "", "", "", "none"],
+    ["Aborted", SEAT, "", "", "", "none"],
+    ["Committed", SEAT, "", "", "", "none"],
+    ["Work", "http://n3.example/work", "urn:3", "", "", INITIATOR],
+    ["WorkDone", INITIATOR, "", "urn:3", "", ""],
+    ["WorkRefused", INITIATOR, "", "urn:3", "", ""],
+    ["InvalidState", SEAT, "", "", "", ""],
+    ["InvalidProtocol", PARTICIPANT, "", "urn:2", "", ""],
+    ["InvalidParameters", PARTICIPANT, "", "urn:2", "", ""],
+    ["CannotCreateContext", INITIATOR, "", "urn:1", "", ""],
+    ["CannotRegisterParticipant", PARTICIPANT, "", "urn:2", "", ""],
+    ["UnknownTransaction", PARTICIPANT, "", "", "", ""],
+];
+
+#[test]
+fn each_message_returns(rt: HostRuntime) -> Result<(), Fail> {
+    let alloc = rt.alloc();
+    for row in POSTS {
+        assert!(rt; returns(alloc, row, "/")?, "at {}", row[0]);
+    }
+    Ok(())
+}
+
+#[test]
+fn an_answer_on_the_connection_returns(rt: HostRuntime) -> Result<(), Fail> {
+    let alloc = rt.alloc();
+    let row = ["RegisterResponse", "", "", "urn:2", "", ""];
+    assert!(rt; returns(alloc, row, "/p/d/1-1")?);
+    Ok(())
+}
+
+fn written(alloc: Global, row: [&str; 6]) -> Result<Vec<u8>, AllocError> {
+    let post = post(alloc, row)?;
+    encode_post(alloc, &post)
+}
+
+#[test]
+fn a_request_is_written(rt: HostRuntime) -> Result<(), Fail> {
+    let alloc = rt.alloc();
+    let row = ["Work", "http://n3.example/work", "urn:3", "", "", INITIATOR];
+    let expected = "<s:Envelope xmlns:s=\"http://schemas.xmlsoap.org/soap/envelope/\" xmlns:wsa=\"http://www.w3.org/2005/08/addressing\" xmlns:wscoor=\"http://docs.oasis-open.org/ws-tx/wscoor/2006/06\" xmlns:work=\"http://example.org/atx/work/1\"><s:Header><wsa:To>http://n3.example/work</wsa:To><wsa:Action>http://example.org/atx/work/1/Work</wsa:Action><wsa:MessageID>urn:3</wsa:MessageID><wsa:ReplyTo><wsa:Address>http://n1.example/i/1-1</wsa:Address></wsa:ReplyTo><k wsa:IsReferenceParameter=\"true\" a=\"1\">7</k><wscoor:CoordinationContext s:mustUnderstand=\"1\"><wscoor:Identifier>urn:i</wscoor:Identifier><wscoor:Expires>60000</wscoor:Expires><wscoor:CoordinationType>http://docs.oasis-open.org/ws-tx/wsat/2006/06</wscoor:CoordinationType><wscoor:RegistrationService><wsa:Address>http://n2.example/registration/1-1</wsa:Address><wsa:ReferenceParameters><k a=\"1\">7</k></wsa:ReferenceParameters></wscoor:RegistrationService></wscoor:CoordinationContext></s:Header><s:Body><work:Work><work:Key>k</work:Key><work:Value/><work:Kind>volatile</work:Kind><work:Vote>readonly</work:Vote></work:Work></s:Body></s:Envelope>";
+    assert_eq!(rt; written(alloc, row)?.as_slice(), expected.as_bytes());
+    Ok(())
+}
+
+#[test]
+fn a_protocol_fault_is_written(rt: HostRuntime) -> Result<(), Fail> {
+    let alloc = rt.alloc();
+    let row = ["UnknownTransaction", "", "", "urn:2", "", ""];
+    let expected = "<s:Envelope xmlns:s=\"http://schemas.xmlsoap.org/soap/envelope/\" xmlns:wsa=\"http://www.w3.org/2005/08/addressing\" xmlns:wsat=\"http://docs.oasis-open.org/ws-tx/wsat/2006/06\"><s:Header><wsa:Action>http://docs.oasis-open.org/ws-tx/wsat/2006/06/fault</wsa:Action><wsa:RelatesTo>urn:2</wsa:RelatesTo></s:Header><s:Body><s:Fault><faultcode>wsat:UnknownTransaction</faultcode><faultstring>unknown transaction</faultstring><detail><wsat:UnknownTransaction/></detail></s:Fault></s:Body></s:Envelope>";
+    assert_eq!(rt; written(alloc, row)?.as_slice(), expected.as_bytes());
+    Ok(())
+}
+
+fn prepare(alloc: Global) -> Result<Box<Post>, AllocError> {
+    let to = endpoint(alloc, PARTICIPANT)?;
+    let from = endpoint(alloc, SEAT)?;
+    let post = Post {
+        own: None,
+        to: Some(to),
+        id: None,
+        relates: None,
+        from: Some(from),
+        reply: Some(Reply::Nobody),
+        message: Message::Notice(Notice::Prepare),
+    };
+    Ok(Box::new(alloc, post)?)
+}
+
+#[test]
+fn a_notification_is_written(rt: HostRuntime) -> Result<(), Fail> {
+    let alloc = rt.alloc();
+    let post = prepare(alloc)?;
+    let text = encode_post(alloc, &post)?;
+    let expected = "<s:Envelope xmlns:s=\"http://schemas.xmlsoap.org/soap/envelope/\" xmlns:wsa=\"http://www.w3.org/2005/08/addressing\" xmlns:wsat=\"http://docs.oasis-open.org/ws-tx/wsat/2006/06\"><s:Header><wsa:To>http://n3.example/p/d/1-1</wsa:To><wsa:Action>http://docs.oasis-open.org/ws-tx/wsat/2006/06/Prepare</wsa:Action><wsa:From><wsa:Address>http://n2.example/c/d/1-1/1</wsa:Address></wsa:From><wsa:ReplyTo><wsa:Address>http://www.w3.org/2005/08/addressing/none</wsa:Address></wsa:ReplyTo></s:Header><s:Body><wsat:Prepare/></s:Body></s:Envelope>";
+    assert_eq!(rt; expected.len(), 528);
+    assert_eq!(rt; text.as_slice(), expected.as_bytes());
+    Ok(())
+}
+
+#[test]
+fn refusals_are_written(rt: HostRuntime) -> Result<(), Fail> {
+    let alloc = rt.alloc();
+    let text = encode_refusal(alloc, &Refusal::Action)?;
+    let expected = "<s:Envelope xmlns:s=\"http://schemas.xmlsoap.org/soap/envelope/\" xmlns:wsa=\"http://www.w3.org/2005/08/addressing\"><s:Header><wsa:Action>http://www.w3.org/2005/08/addressing/fault</wsa:Action></s:Header><s:Body><s:Fault><faultcode>wsa:ActionNotSupported</faultcode><faultstring>action not supported</faultstring></s:Fault></s:Body></s:Envelope>";
+    assert_eq!(rt; text.as_slice(), expected.as_bytes());
+    Ok(())
+}
