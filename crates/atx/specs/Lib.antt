@@ -1,1 +1,3 @@
-pub mod Words
+pub mod Jobs
+pub mod Reports
+pub mod Views

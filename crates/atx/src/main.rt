@@ -1,12 +1,11 @@
 //! atx: atomic transactions between web services (WS-Coordination 1.2, WS-AtomicTransaction 1.2).
 #![tactic(auto)]
 
-mod cell;
+mod job;
 mod outside;
 pub mod run;
 #[cfg(test)]
 mod tests;
-pub mod wire;
 
 use crate::outside::{Reading, Writing};
 use crate::run::{NO_JOB, NO_MEMORY, run};

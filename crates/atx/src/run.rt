@@ -1,17 +1,22 @@
 //! The top call.
 
-ghost use Rattle.std.specs.Prelude.{ℕ, ◌≡◌, ◌↔◌, ◌+◌, ◌<◌, ◌≤◌, IsTrue, IfSome, None, nat_eq, map, string_bytes, length, ◌∷◌, []};
+ghost use Rattle.std.specs.Prelude.{ℕ, List, ◌≡◌, ◌↔◌, ◌+◌, ◌<◌, ◌≤◌, IsTrue, IfOk, IfSome, Some, nat_eq, map, string_bytes, length, take, ◌∷◌, []};
 ghost use Rattle.std.specs.List.{list_any};
 ghost use Rattle.std.specs.Io.KnownBytes.{Appends};
 ghost use Rattle.site_model.specs.Counts.{capped, RisesBy, Rose};
-ghost use Rattle.atx.specs.Words.{IsJob, IsCellJob};
+ghost use Rattle.envelope_cmd.specs.Output.{Output};
+ghost use Rattle.atx.specs.Jobs.{IsJob, IsJobOf, Job as Meant};
+ghost use Rattle.atx.specs.Reports.{IsCut, IsDone, IsReport, Reports, status_of};
+ghost use Rattle.atx.specs.Views.{meant};
 
-use crate::cell::{Printed, cell};
-use at_tables::cells::State;
+use crate::job::{Job, job_of};
+use envelope_cmd::cell::cell;
+use envelope_cmd::check::check;
+use envelope_cmd::printed::Printed;
 use site_model::sink::{Sink, write_all};
 use site_model::site::Site;
 use site_model::source::{ReadFault, Source, read_all};
-use std::alloc::Global;
+use std::alloc::{AllocError, Global};
 
 /// The job ended: all input was read and all output written.
 pub const DONE: u8 = 0;
@@ -34,26 +39,31 @@ pub const NO_MEMORY: u8 = 9;
 /// The source has more than 1,048,576 bytes.
 pub const TOO_LONG: u8 = 10;
 
-/// The state of `cell --state S`; none where the words are no job.
-fn job_of(words: &[String]) -> Option<State>
-    ensures found { IfSome result (IsCellJob (map string_bytes words.now)) }
-    ensures only { result ≡ None → ¬ (IsJob (map string_bytes words.now)) }
+/// What a job prints of its input.
+fn report(alloc: Global, job: &Job<'_>, input: &[u8]) -> Result<Printed, AllocError>
+    ensures sound { IfOk result (Reports (meant job.now) input.now) }
 {
-    match words {
-        [command, option, name] if command.as_str() == "cell" && option.as_str() == "--state" => {
-            State::from_name(name.as_str())
-        }
-        _ => None,
+    match job {
+        Job::Cell(state) => cell(alloc, input, *state),
+        Job::Check(path) => check(alloc, input, path),
     }
 }
 
 /// Writes what was made in memory, and gives the status.
 fn print<K: Sink>(sink: &mut K, printed: &Printed) -> u8
-    ensures statuses { IsTrue (list_any (nat_eq result) (0 ∷ 3 ∷ 5 ∷ [])) }
+    ensures statuses { IsTrue (list_any (nat_eq result) (status_of printed.now ∷ 5 ∷ [])) }
     ensures cause { result ≡ 5 → Rose (K.faults sink.old) (K.faults sink.new) }
+    ensures all { result ≡ status_of printed.now → Appends (K.contents sink.old) (K.contents sink.new) printed.now.text }
+    ensures part { (n : ℕ) × ((n ≤ length printed.now.text) × Appends (K.contents sink.old) (K.contents sink.new) (take n printed.now.text)) }
 {
-    match write_all(sink, printed.text.as_slice()) {
-        Ok(()) => { if printed.is_refusal { REFUSED } else { DONE } }
+    match write_all(sink, printed.as_slice()) {
+        Ok(()) => {
+            if printed.is_refusal() {
+                REFUSED
+            } else {
+                DONE
+            }
+        }
         Err(_) => SINK_FAILED,
     }
 }
@@ -62,7 +72,8 @@ fn print<K: Sink>(sink: &mut K, printed: &Printed) -> u8
 /// program's name.
 ///
 /// `cell --state S` reads one envelope from the source, and prints the cell of state S that it meets and the envelope
-/// that the cell posts. All that is printed is made in memory before the first write.
+/// that the cell posts. `check [--path P]` prints what the envelope says, line by line. All that is printed is made in
+/// memory before the first write.
 pub fn run<S: Source, K: Sink, H: Site>(
     alloc: Global,
     words: &[String],
@@ -79,8 +90,11 @@ pub fn run<S: Source, K: Sink, H: Site>(
     ensures longer { result ≡ 10 → IfSome (S.left source.old) (λ input. 1048576 < length input) }
     ensures whole { IsTrue (list_any (nat_eq result) (0 ∷ 3 ∷ 5 ∷ [])) → IfSome (S.left source.old) (λ input. RisesBy (length input) (S.given source.old) (S.given source.new)) }
     ensures quiet { IsTrue (list_any (nat_eq result) (2 ∷ 4 ∷ 9 ∷ 10 ∷ [])) → Appends (K.contents sink.old) (K.contents sink.new) [] }
+    ensures ended { (job : Meant) → IsJobOf (map string_bytes words.now) job → IsTrue (list_any (nat_eq result) (0 ∷ 3 ∷ [])) → IfSome (S.left source.old) (λ input. IsDone job input (K.contents sink.old) (K.contents sink.new) result) }
+    ensures cut { (job : Meant) → IsJobOf (map string_bytes words.now) job → result ≡ 5 → IfSome (S.left source.old) (λ input. IsCut job input (K.contents sink.old) (K.contents sink.new)) }
+    ensures report { (job : Meant) → (input : List ℕ) → IsJobOf (map string_bytes words.now) job → S.left source.old ≡ Some input → length input ≤ 1048576 → ¬ (Rose (S.faults source.old) (S.faults source.new)) → ¬ (Rose (K.faults sink.old) (K.faults sink.new)) → IsReport job input (K.contents sink.old) (K.contents sink.new) result }
 {
-    let Some(state) = job_of(words) else {
+    let Some(job) = job_of(words) else {
         return NO_JOB;
     };
     let bytes = match read_all(alloc, source) {
@@ -89,7 +103,7 @@ pub fn run<S: Source, K: Sink, H: Site>(
         Err(ReadFault::Failed) => return SOURCE_FAILED,
         Err(ReadFault::TooLong) => return TOO_LONG,
     };
-    match cell(alloc, bytes.as_slice(), state) {
+    match report(alloc, &job, bytes.as_slice()) {
         Ok(printed) => print(sink, &printed),
         Err(_) => NO_MEMORY,
     }

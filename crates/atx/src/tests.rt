@@ -1,10 +1,11 @@
 //! Worked envelopes through the top call.
 
 use crate::run::run;
-use crate::wire::decode::decode;
-use crate::wire::refusal::Refusal;
 use site_model::memory::{MemSink, MemSource};
+use site_model::sink::Sink;
+use site_model::source::Failed;
 use site_model::sure::SureSite;
+use std::alloc::{AllocError, Global};
 use std::test::Fail;
 
 const ROLLBACK: &str = "send Rollback -> None\n\
@@ -28,24 +29,50 @@ const FAULT_BODY: &str = "</s:Header>\
 <s:Body><s:Fault><faultcode>wsat:UnknownTransaction</faultcode><faultstring>unknown transaction</faultstring>\
 <detail><wsat:UnknownTransaction/></detail></s:Fault></s:Body></s:Envelope>\n";
 
-/// A prepared of a participant, with more header blocks behind the From.
-fn envelope(rt: HostRuntime, kind: &str, action: &str, more: &str) -> Result<String, Fail> {
-    let text = format!(in rt.alloc();
-        "<e:Envelope xmlns:e=\"http://schemas.xmlsoap.org/soap/envelope/\" xmlns=\"http://www.w3.org/2005/08/addressing\">\
-<e:Header><To>http://n2.example/c/{kind}/1-1/1</To>\
-<Action>http://docs.oasis-open.org/ws-tx/wsat/2006/06/{action}</Action>\
-<From><Address>http://n3.example/p/{kind}/1-1</Address></From>{more}</e:Header>\
-<e:Body><{action} xmlns=\"http://docs.oasis-open.org/ws-tx/wsat/2006/06\"/></e:Body></e:Envelope>"
-    )?;
-    Ok(text)
+/// An envelope with these header blocks, in the namespace of addressing, and this body.
+fn sealed(alloc: Global, headers: &str, body: &str) -> Result<String, AllocError> {
+    format!(in alloc;
+        "<e:Envelope xmlns:e=\"http://schemas.xmlsoap.org/soap/envelope/\" xmlns:c=\"http://docs.oasis-open.org/ws-tx/wscoor/2006/06\" \
+xmlns:t=\"http://docs.oasis-open.org/ws-tx/wsat/2006/06\" xmlns:w=\"http://example.org/atx/work/1\" \
+xmlns=\"http://www.w3.org/2005/08/addressing\"><e:Header>{headers}</e:Header><e:Body>{body}</e:Body></e:Envelope>"
+    )
 }
 
-/// The status of `cell --state S`, and whether what it prints is this.
-fn prints(rt: HostRuntime, state: &str, input: &[u8], printed: &str) -> Result<(u8, bool), Fail> {
-    let mut words = Vec::new(rt.alloc());
-    for word in ["cell", "--state", state] {
-        words.push(String::from_str(rt.alloc(), word)?)?;
+/// A notification to a path from a path, with more header blocks behind the From.
+fn notice(alloc: Global, to: &str, from: &str, name: &str, more: &str) -> Result<String, AllocError> {
+    let headers = format!(in alloc;
+        "<To>http://n2.example{to}</To><Action>http://docs.oasis-open.org/ws-tx/wsat/2006/06/{name}</Action>\
+<From><Address>{from}</Address></From>{more}"
+    )?;
+    let body = format!(in alloc; "<t:{name}/>")?;
+    sealed(alloc, headers.as_str(), body.as_str())
+}
+
+/// A Prepared of a participant of this kind.
+fn prepared(alloc: Global, kind: &str, more: &str) -> Result<String, AllocError> {
+    let to = format!(in alloc; "/c/{kind}/1-1/1")?;
+    let from = format!(in alloc; "http://n3.example/p/{kind}/1-1")?;
+    notice(alloc, to.as_str(), from.as_str(), "Prepared", more)
+}
+
+/// A message with this action and body, and other header blocks.
+fn message(alloc: Global, action: &str, more: &str, body: &str) -> Result<String, AllocError> {
+    let headers = format!(in alloc; "<Action>http://docs.oasis-open.org/ws-tx/{action}</Action>{more}")?;
+    sealed(alloc, headers.as_str(), body)
+}
+
+/// The words of a command line.
+fn words_of(alloc: Global, line: &str) -> Result<Vec<String>, AllocError> {
+    let mut words = Vec::new(alloc);
+    for word in line.split(' ') {
+        words.push(String::from_str(alloc, word)?)?;
     }
+    Ok(words)
+}
+
+/// The status of a command over this input, and whether what it prints is this.
+fn prints(rt: HostRuntime, line: &str, input: &[u8], printed: &str) -> Result<(u8, bool), Fail> {
+    let words = words_of(rt.alloc(), line)?;
     let mut source = MemSource::new(rt.alloc(), input)?;
     let mut sink = MemSink::new(rt.alloc());
     let status = run(
@@ -60,35 +87,140 @@ fn prints(rt: HostRuntime, state: &str, input: &[u8], printed: &str) -> Result<(
 
 #[test]
 fn worked_cells(rt: HostRuntime) -> Result<(), Fail> {
-    let durable = envelope(rt, "d", "Prepared", "")?;
-    let volatile = envelope(rt, "v", "Prepared", "")?;
-    let named = envelope(rt, "v", "Prepared", "<MessageID> urn:a </MessageID>")?;
-    let unnamed = envelope(rt, "v", "Prepared", "<MessageID> </MessageID>")?;
+    let durable = prepared(rt.alloc(), "d", "")?;
+    let volatile = prepared(rt.alloc(), "v", "")?;
+    let named = prepared(rt.alloc(), "v", "<MessageID> urn:a </MessageID>")?;
+    let unnamed = prepared(rt.alloc(), "v", "<MessageID> </MessageID>")?;
     let fault = format!(in rt.alloc(); "{FAULT_HEADER}{FAULT_BODY}")?;
     let named_fault = format!(in rt.alloc();
         "{FAULT_HEADER}<wsa:RelatesTo>urn:a</wsa:RelatesTo>{FAULT_BODY}"
     )?;
     let unnamed_fault = format!(in rt.alloc(); "{FAULT_HEADER}<wsa:RelatesTo/>{FAULT_BODY}")?;
-    for (state, input, status, printed) in [
-        ("None", &durable, 0, ROLLBACK),
-        ("None", &volatile, 0, fault.as_str()),
-        ("None", &named, 0, named_fault.as_str()),
-        ("None", &unnamed, 0, unnamed_fault.as_str()),
-        ("Preparing", &durable, 0, "vote -> Prepared\n"),
-        ("Registering", &durable, 3, "refused 15 NoState\n"),
-        ("none", &durable, 2, ""),
+    for (line, input, status, printed) in [
+        ("cell --state None", &durable, 0, ROLLBACK),
+        ("cell --state None", &volatile, 0, fault.as_str()),
+        ("cell --state None", &named, 0, named_fault.as_str()),
+        ("cell --state None", &unnamed, 0, unnamed_fault.as_str()),
+        ("cell --state Preparing", &durable, 0, "vote -> Prepared\n"),
+        ("cell --state Registering", &durable, 3, "refused 15 NoState\n"),
     ] {
-        assert!(rt; prints(rt, state, input.as_bytes(), printed)? == (status, true));
+        assert!(rt; prints(rt, line, input.as_bytes(), printed)? == (status, true));
     }
     Ok(())
 }
 
 #[test]
-fn refusals(rt: HostRuntime) -> Result<(), Fail> {
+fn words_that_are_no_job(rt: HostRuntime) -> Result<(), Fail> {
+    let input = prepared(rt.alloc(), "d", "")?;
+    for line in [
+        "",
+        "cell",
+        "cell --state",
+        "cell --state none",
+        "cell --path /",
+        "check --path",
+        "check --state None",
+        "check --path / /",
+        "check /",
+    ] {
+        assert!(rt; prints(rt, line, input.as_bytes(), "")? == (2, true));
+    }
+    Ok(())
+}
+
+#[test]
+fn cells_of_each_table(rt: HostRuntime) -> Result<(), Fail> {
+    for (state, to, name, printed) in [
+        ("Committing", "/c/d/1-1/65535", "Committed", "leave -> None\n"),
+        ("Active", "/p/v/1-1", "Prepare", "gather -> Preparing\n"),
+        ("PreparedSuccess", "/p/d/1-1", "Commit", "commit -> Committing\n"),
+        ("Active", "/completion/1-1", "Commit", "complete -> Completing\n"),
+        ("Completing", "/i/1-1", "Committed", "told committed -> None\n"),
+    ] {
+        let input = notice(rt.alloc(), to, "http://n3.example/", name, "")?;
+        let line = format!(in rt.alloc(); "cell --state {state}")?;
+        assert!(rt; prints(rt, line.as_str(), input.as_bytes(), printed)? == (0, true));
+    }
+    Ok(())
+}
+
+#[test]
+fn a_cell_without_a_sender_that_can_be_posted_to(rt: HostRuntime) -> Result<(), Fail> {
+    for from in [
+        "https://n3.example/p/d/1-1",
+        "n3.example",
+        "http://www.w3.org/2005/08/addressing/anonymous",
+    ] {
+        let input = notice(rt.alloc(), "/c/d/1-1/1", from, "Prepared", "")?;
+        assert!(rt; prints(rt, "cell --state None", input.as_bytes(), "send Rollback -> None\n")? == (0, true));
+    }
+    Ok(())
+}
+
+#[test]
+fn the_sender_is_answered_with_its_reference_parameters(rt: HostRuntime) -> Result<(), Fail> {
+    let input = message(
+        rt.alloc(),
+        "wsat/2006/06/Commit",
+        "<To>http://n2.example/p/d/1-1</To><From><Address>http://n3.example/</Address>\
+<ReferenceParameters><x:a xmlns:x=\"urn:x\">1</x:a></ReferenceParameters></From>",
+        "<t:Commit/>",
+    )?;
+    let printed = "send Committed -> None\n\
+<s:Envelope xmlns:s=\"http://schemas.xmlsoap.org/soap/envelope/\" xmlns:wsa=\"http://www.w3.org/2005/08/addressing\" \
+xmlns:n1=\"urn:x\" xmlns:wsat=\"http://docs.oasis-open.org/ws-tx/wsat/2006/06\"><s:Header>\
+<wsa:To>http://n3.example/</wsa:To><wsa:Action>http://docs.oasis-open.org/ws-tx/wsat/2006/06/Committed</wsa:Action>\
+<wsa:ReplyTo><wsa:Address>http://www.w3.org/2005/08/addressing/none</wsa:Address></wsa:ReplyTo>\
+<n1:a wsa:IsReferenceParameter=\"true\">1</n1:a></s:Header><s:Body><wsat:Committed/></s:Body></s:Envelope>\n";
+    assert!(rt; prints(rt, "cell --state None", input.as_bytes(), printed)? == (0, true));
+    Ok(())
+}
+
+#[test]
+fn spelled_otherwise(rt: HostRuntime) -> Result<(), Fail> {
+    let input = "<e:Envelope xmlns:e='http://schemas.xmlsoap.org/soap/envelope/'>\
+<e:Header xmlns:w='http://www.w3.org/2005/08/addressing'>\
+<w:Action><![CDATA[http://docs.oasis-open.org/ws-tx/wsat/2006/06/Prepare]]></w:Action>\
+<w:To>http://n2.example/p/d/1-1</w:To></e:Header><!-- x -->\
+<e:Body><Prepare xmlns='http://docs.oasis-open.org/ws-tx/wsat/2006/06'/></e:Body></e:Envelope>";
+    let printed = "message Prepare\ntarget participant durable 1-1\n";
+    assert!(rt; prints(rt, "check", input.as_bytes(), printed)? == (0, true));
+    Ok(())
+}
+
+const FAULT: &str = "<s:Envelope xmlns:s=\"http://schemas.xmlsoap.org/soap/envelope/\"><s:Header>\
+<Action xmlns=\"http://www.w3.org/2005/08/addressing\">http://docs.oasis-open.org/ws-tx/wscoor/2006/06/fault</Action>\
+</s:Header><s:Body><s:Fault><faultcode>x:InvalidState</faultcode><faultstring>a</faultstring></s:Fault></s:Body>\
+</s:Envelope>";
+
+const FAULT_WITHOUT_HEADER: &str = "<s:Envelope xmlns:s=\"http://schemas.xmlsoap.org/soap/envelope/\">\
+<s:Body><s:Fault><faultcode>x:InvalidState</faultcode><faultstring>a</faultstring></s:Fault></s:Body></s:Envelope>";
+
+#[test]
+fn a_fault_at_a_path(rt: HostRuntime) -> Result<(), Fail> {
+    for (line, input, status, printed) in [
+        (
+            "check --path /i/1-1",
+            FAULT,
+            0,
+            "message Fault\ntarget initiator 1-1\nname InvalidState\n",
+        ),
+        ("check --path /i/1-1", FAULT_WITHOUT_HEADER, 3, "refused 9 MissingHeader\n"),
+        ("check", FAULT, 3, "refused 11 NoTarget\n"),
+        ("cell --state None", FAULT, 3, "refused 11 NoTarget\n"),
+    ] {
+        assert!(rt; prints(rt, line, input.as_bytes(), printed)? == (status, true));
+    }
+    Ok(())
+}
+
+#[test]
+fn refusals_of_texts(rt: HostRuntime) -> Result<(), Fail> {
     for (input, printed) in [
         ("", "refused 3 NotSpelled\n"),
         ("<a>", "refused 3 NotSpelled\n"),
         ("<!DOCTYPE a><a/>", "refused 3 NotSpelled\n"),
+        ("<s:Envelope/>", "refused 3 NotSpelled\n"),
         ("<a/>", "refused 7 NotEnvelope\n"),
         (
             "<Envelope xmlns=\"http://www.w3.org/2003/05/soap-envelope\"/>",
@@ -98,48 +230,258 @@ fn refusals(rt: HostRuntime) -> Result<(), Fail> {
             "<s:Envelope xmlns:s=\"http://schemas.xmlsoap.org/soap/envelope/\"><s:Body><x/></s:Body></s:Envelope>",
             "refused 9 MissingHeader\n",
         ),
+        (
+            "<s:Envelope xmlns:s=\"http://schemas.xmlsoap.org/soap/envelope/\"><s:Header><x s:mustUnderstand=\"1\"/></s:Header><s:Body><x/></s:Body></s:Envelope>",
+            "refused 8 MustUnderstand\n",
+        ),
     ] {
-        assert!(rt; prints(rt, "None", input.as_bytes(), printed)? == (3, true));
+        assert!(rt; prints(rt, "check", input.as_bytes(), printed)? == (3, true));
     }
-    for (more, printed) in [
-        ("<x e:mustUnderstand=\"1\"/>", "refused 8 MustUnderstand\n"),
-        ("<Action>a</Action>", "refused 10 InvalidHeader\n"),
-        ("<ReplyTo/>", "refused 10 InvalidHeader\n"),
-    ] {
-        let input = envelope(rt, "d", "Prepared", more)?;
-        assert!(rt; prints(rt, "None", input.as_bytes(), printed)? == (3, true));
-    }
-    for (kind, action, printed) in [
-        ("x", "Prepared", "refused 11 NoTarget\n"),
-        ("d", "Prepare", "refused 12 Action\n"),
-    ] {
-        let input = envelope(rt, kind, action, "")?;
-        assert!(rt; prints(rt, "None", input.as_bytes(), printed)? == (3, true));
-    }
-    assert!(rt; prints(rt, "None", b"\xff", "refused 2 NotUtf8\n")? == (3, true));
+    assert!(rt; prints(rt, "check", b"\xff", "refused 2 NotUtf8\n")? == (3, true));
     Ok(())
 }
 
-const WITHOUT_TO: &[u8] =
-    b"<e:Envelope xmlns:e=\"http://schemas.xmlsoap.org/soap/envelope/\" xmlns=\"http://www.w3.org/2005/08/addressing\">\
-<e:Header><Action>http://docs.oasis-open.org/ws-tx/wsat/2006/06/Prepared</Action></e:Header>\
-<e:Body><Prepared xmlns=\"http://docs.oasis-open.org/ws-tx/wsat/2006/06\"/></e:Body></e:Envelope>";
+/// So many elements, one in another or one behind the other in one.
+fn elements(alloc: Global, count: usize, nested: bool) -> Result<String, AllocError> {
+    let mut text = String::from_str(alloc, "<a>")?;
+    for _ in 1..count {
+        text.push_str(if nested { "<a>" } else { "<a/>" })?;
+    }
+    for _ in 1..count {
+        text.push_str(if nested { "</a>" } else { "" })?;
+    }
+    text.push_str("</a>")?;
+    Ok(text)
+}
 
 #[test]
-fn the_path_of_a_request_without_to(rt: HostRuntime) -> Result<(), Fail> {
-    for (path, is_target) in [
-        ("/c/d/1-1/1", true),
-        ("/c/v/1-1/65535?a=/b", true),
-        ("/c/d/1-1/0", false),
-        ("/c/d/1-1/65536", false),
-        ("/c/d/1-1/1/", false),
-        ("/", false),
+fn refusals_at_limits(rt: HostRuntime) -> Result<(), Fail> {
+    for (count, nested, printed) in [
+        (32, true, "refused 7 NotEnvelope\n"),
+        (33, true, "refused 4 TooDeep\n"),
+        (4096, false, "refused 7 NotEnvelope\n"),
+        (4097, false, "refused 5 TooMany\n"),
     ] {
-        match decode(rt.alloc(), WITHOUT_TO, path) {
-            Ok(_) => assert!(rt; is_target),
-            Err(refusal) => assert!(rt; !is_target && refusal == Refusal::NoTarget),
-        }
+        let input = elements(rt.alloc(), count, nested)?;
+        assert!(rt; prints(rt, "check", input.as_bytes(), printed)? == (3, true));
     }
+    Ok(())
+}
+
+#[test]
+fn refusals_of_messages(rt: HostRuntime) -> Result<(), Fail> {
+    for (to, name, more, printed) in [
+        ("/c/d/1-1/1", "Prepared", "<Action>a</Action>", "refused 10 InvalidHeader\n"),
+        ("/c/d/1-1/1", "Prepared", "<ReplyTo/>", "refused 10 InvalidHeader\n"),
+        ("/c/d/1-1/0", "Prepared", "", "refused 11 NoTarget\n"),
+        ("/c/d/1-1/1", "Prepare", "", "refused 12 Action\n"),
+        ("/c/d/1-1/1", "Prepared", "", "refused 15 NoState\n"),
+    ] {
+        let input = notice(rt.alloc(), to, "http://n3.example/", name, more)?;
+        assert!(rt; prints(rt, "cell --state Completing", input.as_bytes(), printed)? == (3, true));
+    }
+    let other = message(
+        rt.alloc(),
+        "wsat/2006/06/Prepare",
+        "<To>http://n2.example/p/d/1-1</To>",
+        "<t:Commit/>",
+    )?;
+    assert!(rt; prints(rt, "cell --state None", other.as_bytes(), "refused 13 Parameters\n")? == (3, true));
+    Ok(())
+}
+
+#[test]
+fn no_cell_comes_before_no_state(rt: HostRuntime) -> Result<(), Fail> {
+    let input = message(
+        rt.alloc(),
+        "wsat/2006/06/fault",
+        "<To>http://n2.example/c/d/1-1/1</To>",
+        "<e:Fault><faultcode xmlns=\"\">a</faultcode><faultstring xmlns=\"\">b</faultstring></e:Fault>",
+    )?;
+    assert!(rt; prints(rt, "cell --state Completing", input.as_bytes(), "refused 14 NoCell\n")? == (3, true));
+    Ok(())
+}
+
+/// What `check` prints of a message for this path.
+fn says(
+    rt: HostRuntime,
+    path: &str,
+    input: Result<String, AllocError>,
+    printed: &str,
+) -> Result<(u8, bool), Fail> {
+    let line = format!(in rt.alloc(); "check --path {path}")?;
+    let input = input?;
+    prints(rt, line.as_str(), input.as_bytes(), printed)
+}
+
+const CONTEXT: &str = "<c:Identifier>urn:i</c:Identifier><c:Expires>+07</c:Expires>\
+<c:CoordinationType>urn:type</c:CoordinationType>\
+<c:RegistrationService><Address>http://n2.example/registration/1-1</Address></c:RegistrationService>";
+
+const CONTEXT_LINES: &str = "identifier urn:i\ntype urn:type\nregistration http://n2.example/registration/1-1\n";
+
+#[test]
+fn check_of_create(rt: HostRuntime) -> Result<(), Fail> {
+    let body = format!(in rt.alloc();
+        "<c:CreateCoordinationContext><c:CurrentContext>{CONTEXT}</c:CurrentContext>\
+<c:Expires>60000</c:Expires><c:CoordinationType>urn:&quot;&#10;own</c:CoordinationType></c:CreateCoordinationContext>"
+    )?;
+    let input = message(
+        rt.alloc(),
+        "wscoor/2006/06/CreateCoordinationContext",
+        "<MessageID>urn:a&amp;b</MessageID><ReplyTo><Address>http://n1.example/i/1-1</Address></ReplyTo>\
+<FaultTo><Address>http://www.w3.org/2005/08/addressing/none</Address></FaultTo>",
+        body.as_str(),
+    );
+    let printed = "message CreateCoordinationContext\ntarget activation\nid urn:a&amp;b\nreply http://n1.example/i/1-1\n\
+fault http://www.w3.org/2005/08/addressing/none\nexpires 60000\nidentifier urn:i\ntype urn:&quot;&#10;own\n\
+registration http://n2.example/registration/1-1\n";
+    assert!(rt; says(rt, "/activation", input, printed)? == (0, true));
+    Ok(())
+}
+
+#[test]
+fn check_of_create_response(rt: HostRuntime) -> Result<(), Fail> {
+    let body = format!(in rt.alloc();
+        "<c:CreateCoordinationContextResponse><c:CoordinationContext>{CONTEXT}</c:CoordinationContext>\
+</c:CreateCoordinationContextResponse>"
+    )?;
+    let input = message(
+        rt.alloc(),
+        "wscoor/2006/06/CreateCoordinationContextResponse",
+        "<RelatesTo>urn:a</RelatesTo>",
+        body.as_str(),
+    );
+    let printed = format!(in rt.alloc();
+        "message CreateCoordinationContextResponse\ntarget initiator 1-1\nrelates urn:a\nexpires 7\n{CONTEXT_LINES}"
+    )?;
+    assert!(rt; says(rt, "/i/1-1", input, printed.as_str())? == (0, true));
+    Ok(())
+}
+
+#[test]
+fn check_of_register(rt: HostRuntime) -> Result<(), Fail> {
+    let input = message(
+        rt.alloc(),
+        "wscoor/2006/06/Register",
+        "<MessageID>urn:a</MessageID>",
+        "<c:Register><c:ProtocolIdentifier>urn:p</c:ProtocolIdentifier>\
+<c:ParticipantProtocolService><Address>http://n3.example/p/d/1-1</Address></c:ParticipantProtocolService></c:Register>",
+    );
+    let printed = "message Register\ntarget registration 1-1\nid urn:a\nprotocol urn:p\nservice http://n3.example/p/d/1-1\n";
+    assert!(rt; says(rt, "/registration/1-1", input, printed)? == (0, true));
+    Ok(())
+}
+
+#[test]
+fn check_of_register_response(rt: HostRuntime) -> Result<(), Fail> {
+    let input = message(
+        rt.alloc(),
+        "wscoor/2006/06/RegisterResponse",
+        "<RelatesTo>urn:a</RelatesTo>",
+        "<c:RegisterResponse><c:CoordinatorProtocolService><Address>http://n2.example/c/d/1-1/1</Address>\
+</c:CoordinatorProtocolService></c:RegisterResponse>",
+    );
+    let printed = "message RegisterResponse\ntarget participant volatile 1-1\nrelates urn:a\nservice http://n2.example/c/d/1-1/1\n";
+    assert!(rt; says(rt, "/p/v/1-1", input, printed)? == (0, true));
+    Ok(())
+}
+
+/// An envelope with a message of this project's own namespace.
+fn work(alloc: Global, name: &str, headers: &str, body: &str) -> Result<String, AllocError> {
+    let headers = format!(in alloc; "<Action>http://example.org/atx/work/1/{name}</Action>{headers}")?;
+    sealed(alloc, headers.as_str(), body)
+}
+
+#[test]
+fn check_of_work(rt: HostRuntime) -> Result<(), Fail> {
+    let headers = format!(in rt.alloc();
+        "<MessageID>urn:a</MessageID><c:CoordinationContext e:mustUnderstand=\"1\">{CONTEXT}</c:CoordinationContext>"
+    )?;
+    let input = work(
+        rt.alloc(),
+        "Work",
+        headers.as_str(),
+        "<w:Work><w:Key>k</w:Key><w:Value>a&#9;b</w:Value><w:Kind>volatile</w:Kind><w:Vote>readonly</w:Vote></w:Work>",
+    );
+    let printed = format!(in rt.alloc();
+        "message Work\ntarget work\nid urn:a\nexpires 7\n{CONTEXT_LINES}key k\nvalue a&#9;b\nkind volatile\nvote readonly\n"
+    )?;
+    assert!(rt; says(rt, "/work", input, printed.as_str())? == (0, true));
+    Ok(())
+}
+
+#[test]
+fn check_of_the_answers_to_work(rt: HostRuntime) -> Result<(), Fail> {
+    for name in ["WorkDone", "WorkRefused"] {
+        let body = format!(in rt.alloc(); "<w:{name}/>")?;
+        let input = work(rt.alloc(), name, "<RelatesTo>urn:a</RelatesTo>", body.as_str());
+        let printed = format!(in rt.alloc(); "message {name}\ntarget initiator 1-1\nrelates urn:a\n")?;
+        assert!(rt; says(rt, "/i/1-1?q", input, printed.as_str())? == (0, true));
+    }
+    Ok(())
+}
+
+#[test]
+fn check_of_each_notification(rt: HostRuntime) -> Result<(), Fail> {
+    for (name, to, target) in [
+        ("Prepare", "/p/v/1-1", "participant volatile 1-1"),
+        ("Commit", "/completion/4294967295-1", "completion 4294967295-1"),
+        ("Rollback", "/p/d/1-1", "participant durable 1-1"),
+        ("Prepared", "/c/d/1-1/1", "coordinator durable 1-1 1"),
+        ("ReadOnly", "/c/v/1-1/65535", "coordinator volatile 1-1 65535"),
+        ("Aborted", "/i/1-1", "initiator 1-1"),
+        ("Committed", "/c/d/1-1/1", "coordinator durable 1-1 1"),
+    ] {
+        let input = notice(rt.alloc(), to, "http://n3.example/", name, "");
+        let printed = format!(in rt.alloc(); "message {name}\ntarget {target}\nfrom http://n3.example/\n")?;
+        assert!(rt; says(rt, "/work", input, printed.as_str())? == (0, true));
+    }
+    Ok(())
+}
+
+/// A sink with room for so many bytes.
+#[derive(Drop)]
+struct ShortSink {
+    bytes: Vec<u8>,
+    room: usize,
+    faults: u64,
+}
+
+impl Sink for ShortSink {
+    ghost contents = { λ s. Some s.bytes.items };
+
+    ghost faults = { λ s. s.faults };
+
+    fn write(&mut self, piece: &[u8]) -> Result<usize, Failed> {
+        let n = piece.len().min(self.room);
+        if n == 0 || self.bytes.extend_from_slice(&piece[..n]).is_err() {
+            self.faults = self.faults.saturating_add(1);
+            return Err(Failed);
+        }
+        self.room -= n;
+        Ok(n)
+    }
+}
+
+#[test]
+fn a_sink_that_stops_in_a_line(rt: HostRuntime) -> Result<(), Fail> {
+    let words = words_of(rt.alloc(), "cell --state None")?;
+    let input = prepared(rt.alloc(), "d", "")?;
+    let mut source = MemSource::new(rt.alloc(), input.as_bytes())?;
+    let mut sink = ShortSink {
+        bytes: Vec::new(rt.alloc()),
+        room: 8,
+        faults: 0,
+    };
+    let status = run(
+        rt.alloc(),
+        words.as_slice(),
+        &mut source,
+        &mut sink,
+        &mut SureSite::new(),
+    );
+    assert!(rt; status == 5 && sink.bytes.as_slice() == b"send Rol".as_slice());
     Ok(())
 }
 
@@ -150,11 +492,8 @@ fn faulty(
     sink_fails: u32,
     sink_idles: u32,
 ) -> Result<u8, Fail> {
-    let mut words = Vec::new(rt.alloc());
-    for word in ["cell", "--state", "None"] {
-        words.push(String::from_str(rt.alloc(), word)?)?;
-    }
-    let input = envelope(rt, "d", "Prepared", "")?;
+    let words = words_of(rt.alloc(), "cell --state None")?;
+    let input = prepared(rt.alloc(), "d", "")?;
     let mut source = MemSource::new(rt.alloc(), input.as_bytes())?;
     source.fail(source_fails);
     let mut sink = MemSink::new(rt.alloc());
@@ -180,8 +519,14 @@ fn faults(rt: HostRuntime) -> Result<(), Fail> {
     ] {
         assert!(rt; faulty(rt, source_fails, sink_fails, sink_idles)? == status);
     }
+    Ok(())
+}
+
+#[test]
+fn limits_of_the_source(rt: HostRuntime) -> Result<(), Fail> {
     let long = vec![in rt.alloc(); b' '; 1_048_577]?;
-    assert!(rt; prints(rt, "None", long.as_slice(), "")? == (10, true));
-    assert!(rt; prints(rt, "None", &long[1..], "refused 1 TooLong\n")? == (3, true));
+    assert!(rt; prints(rt, "check", long.as_slice(), "")? == (10, true));
+    assert!(rt; prints(rt, "check", &long[1..], "refused 1 TooLong\n")? == (3, true));
+    assert!(rt; prints(rt, "check", &long[..65_536], "refused 3 NotSpelled\n")? == (3, true));
     Ok(())
 }

@@ -24,7 +24,8 @@ use Rattle.wire_msgs.specs.declared.refusal.Refusal.{Refusal}
 use Rattle.wire_posts.specs.Envelopes.{IsTextOf}
 use Rattle.envelope_cmd.specs.declared.table.NoRow.{NoRow}
 use Rattle.envelope_cmd.specs.declared.table.NoRow.TheVariants.{NoCell, NoState}
-use Rattle.envelope_cmd.specs.Outputs.{Output, Says, accepted, refused}
+use Rattle.envelope_cmd.specs.Output.{Output, accepted, refused}
+use Rattle.envelope_cmd.specs.Says.{Says}
 use Rattle.envelope_cmd.specs.Refusals.{refusal_line}
 
 -- the cell of the table that a target chooses (WS-AtomicTransaction 1.2, section 10); services have none

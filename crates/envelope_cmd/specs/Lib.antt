@@ -1,6 +1,7 @@
+pub mod Cells
 pub mod Checks
 pub mod Lines
 pub mod Names
 pub mod Output
-pub mod Outputs
 pub mod Refusals
+pub mod Says

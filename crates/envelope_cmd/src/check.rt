@@ -5,7 +5,7 @@ ghost use Rattle.std.specs.Option.{option_map};
 ghost use Rattle.envelope_cmd.specs.Checks.{IsCheckOf, check_lines, context_lines, create_lines, expires_line, header_lines, identifier_line, message_lines, register_lines, registration_line, work_lines};
 ghost use Rattle.envelope_cmd.specs.Lines.{line, where_some};
 ghost use Rattle.envelope_cmd.specs.Names.{printed_target};
-ghost use Rattle.envelope_cmd.specs.Outputs.{accepted, refused};
+ghost use Rattle.envelope_cmd.specs.Output.{accepted, refused};
 ghost use Rattle.envelope_cmd.specs.Refusals.{refusal_line};
 
 use crate::lines::{push, push_address, push_address_if, push_line, push_text_if, push_text_line};

@@ -20,7 +20,7 @@ impl Model for Printed {
 
 impl Printed {
     ghost use Rattle.std.specs.Prelude.{◌≡◌, IfOk};
-    ghost use Rattle.envelope_cmd.specs.Outputs.{accepted, refused};
+    ghost use Rattle.envelope_cmd.specs.Output.{accepted, refused};
 
     /// What is printed for an envelope that is taken.
     pub fn accepted(text: Vec<u8>) -> Printed
