@@ -28,13 +28,13 @@ header_lines a =
 abbrev pub expires_line : ℕ → List ℕ
 expires_line expires = line (codes "expires") (decimal expires)
 
-abbrev pub identifier_line : Context → List ℕ
+unfoldable pub identifier_line : Context → List ℕ
 identifier_line context = text_line (codes "identifier") context.identifier
 
-abbrev pub type_line : List ℕ → List ℕ
+unfoldable pub type_line : List ℕ → List ℕ
 type_line coordination = text_line (codes "type") coordination
 
-abbrev pub registration_line : Context → List ℕ
+unfoldable pub registration_line : Context → List ℕ
 registration_line context = address_line (codes "registration") context.registration
 
 -- a coordination context (WS-Coordination 1.2, section 2)

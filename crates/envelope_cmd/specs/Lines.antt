@@ -3,11 +3,11 @@ use Rattle.std.specs.Prelude.{ℕ, List, [], ◌++◌, Option, Some, None, codes
 use Rattle.xml_profile.specs.Canonical.{value_text}
 use Rattle.at_base.specs.declared.epr.Epr.{Epr}
 
-abbrev pub line : List ℕ → List ℕ → List ℕ
+unfoldable pub line : List ℕ → List ℕ → List ℕ
 line name word = name ++ (codes " " ++ (word ++ codes "\n"))
 
 -- a text of the message, escaped as an attribute's value is, so that it holds no LF (XML 1.0, section 3.3.3)
-abbrev pub text_line : List ℕ → List ℕ → List ℕ
+unfoldable pub text_line : List ℕ → List ℕ → List ℕ
 text_line name text = line name (value_text text)
 
 -- an endpoint, by its address

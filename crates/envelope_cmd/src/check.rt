@@ -2,18 +2,20 @@
 
 ghost use Rattle.std.specs.Prelude.{◌≡◌, ◌++◌, IfOk, OnOk, Some, codes};
 ghost use Rattle.std.specs.Option.{option_map};
-ghost use Rattle.envelope_cmd.specs.Checks.{IsCheckOf, check_lines, context_lines, create_lines, expires_line, header_lines, identifier_line, message_lines, register_lines, registration_line, work_lines};
+ghost use Rattle.envelope_cmd.specs.Checks.{IsCheckOf, check_lines, context_lines, create_lines, expires_line, header_lines, identifier_line, message_lines, register_lines, registration_line, type_line, work_lines};
 ghost use Rattle.envelope_cmd.specs.Lines.{line, where_some};
-ghost use Rattle.envelope_cmd.specs.Names.{printed_target};
+ghost use Rattle.envelope_cmd.specs.Names.{kind_name, printed_target, vote_name};
 ghost use Rattle.envelope_cmd.specs.Output.{accepted, refused};
 ghost use Rattle.envelope_cmd.specs.Refusals.{refusal_line};
 
-use crate::lines::{push, push_address, push_address_if, push_line, push_text_if, push_text_line};
+use crate::lines::{push, push_address, push_address_if, push_line, push_text, push_text_if};
 use crate::names::{kind_name, message_name, push_target, vote_name};
 use crate::printed::Printed;
 use crate::refusals::refusal_line;
 use at_base::message::{Context, Create, Message, Register, Work};
+use at_base::notice::{Kind, Vote};
 use at_base::target::Target;
+use at_base::text::Text;
 use itoa::Buffer;
 use std::alloc::{AllocError, Global};
 use wire_msgs::decode::{Arrival, decode};
@@ -56,6 +58,7 @@ fn push_arrival(alloc: Global, arrival: &Arrival, out: &mut Vec<u8>) -> Result<(
     push_message(&arrival.message, out)
 }
 
+#[tactic(auto, unfolding(crate::specs::Lines::line))]
 fn push_target_line(alloc: Global, target: &Target, out: &mut Vec<u8>) -> Result<(), AllocError>
     ensures { OnOk result (out.new.items ≡ out.old.items ++ line (codes "target") (printed_target target.now)) }
 {
@@ -83,7 +86,7 @@ fn push_message(message: &Message, out: &mut Vec<u8>) -> Result<(), AllocError>
         Message::Register(register) => push_register(register, out),
         Message::RegisterResponse(coordinator) => push_address("service", coordinator, out),
         Message::Work(work) => push_work(work, out),
-        Message::Fault { name } => push_text_line("name", name.as_str(), out),
+        Message::Fault { name } => push_text("name", name, out),
         Message::Notice(_) | Message::WorkDone | Message::WorkRefused => Ok(()),
     }
 }
@@ -101,8 +104,29 @@ fn push_context(context: &Context, out: &mut Vec<u8>) -> Result<(), AllocError>
     ensures { OnOk result (out.new.items ≡ out.old.items ++ context_lines context.now) }
 {
     push_expires(context.expires, out)?;
-    push_text_line("identifier", context.identifier.as_str(), out)?;
-    push_text_line("type", context.coordination.as_str(), out)?;
+    push_identifier(context, out)?;
+    push_type(&context.coordination, out)?;
+    push_registration(context, out)
+}
+
+#[tactic(auto, unfolding(crate::specs::Checks::identifier_line))]
+fn push_identifier(context: &Context, out: &mut Vec<u8>) -> Result<(), AllocError>
+    ensures { OnOk result (out.new.items ≡ out.old.items ++ identifier_line context.now) }
+{
+    push_text("identifier", &context.identifier, out)
+}
+
+#[tactic(auto, unfolding(crate::specs::Checks::type_line))]
+fn push_type(coordination: &Text, out: &mut Vec<u8>) -> Result<(), AllocError>
+    ensures { OnOk result (out.new.items ≡ out.old.items ++ type_line coordination.now) }
+{
+    push_text("type", coordination, out)
+}
+
+#[tactic(auto, unfolding(crate::specs::Checks::registration_line))]
+fn push_registration(context: &Context, out: &mut Vec<u8>) -> Result<(), AllocError>
+    ensures { OnOk result (out.new.items ≡ out.old.items ++ registration_line context.now) }
+{
     push_address("registration", &context.registration, out)
 }
 
@@ -111,7 +135,7 @@ fn push_create(create: &Create, out: &mut Vec<u8>) -> Result<(), AllocError>
 {
     push_expires(create.expires, out)?;
     push_identifier_if(&create.current, out)?;
-    push_text_line("type", create.coordination.as_str(), out)?;
+    push_type(&create.coordination, out)?;
     push_registration_if(&create.current, out)
 }
 
@@ -119,7 +143,7 @@ fn push_identifier_if(context: &Option<Context>, out: &mut Vec<u8>) -> Result<()
     ensures { OnOk result (out.new.items ≡ out.old.items ++ where_some identifier_line context.now) }
 {
     match context {
-        Some(context) => push_text_line("identifier", context.identifier.as_str(), out),
+        Some(context) => push_identifier(context, out),
         None => Ok(()),
     }
 }
@@ -128,7 +152,7 @@ fn push_registration_if(context: &Option<Context>, out: &mut Vec<u8>) -> Result<
     ensures { OnOk result (out.new.items ≡ out.old.items ++ where_some registration_line context.now) }
 {
     match context {
-        Some(context) => push_address("registration", &context.registration, out),
+        Some(context) => push_registration(context, out),
         None => Ok(()),
     }
 }
@@ -136,7 +160,7 @@ fn push_registration_if(context: &Option<Context>, out: &mut Vec<u8>) -> Result<
 fn push_register(register: &Register, out: &mut Vec<u8>) -> Result<(), AllocError>
     ensures { OnOk result (out.new.items ≡ out.old.items ++ register_lines register.now) }
 {
-    push_text_line("protocol", register.protocol.as_str(), out)?;
+    push_text("protocol", &register.protocol, out)?;
     push_address("service", &register.participant, out)
 }
 
@@ -144,8 +168,20 @@ fn push_work(work: &Work, out: &mut Vec<u8>) -> Result<(), AllocError>
     ensures { OnOk result (out.new.items ≡ out.old.items ++ work_lines work.now) }
 {
     push_context(&work.context, out)?;
-    push_text_line("key", work.key.as_str(), out)?;
-    push_text_line("value", work.value.as_str(), out)?;
-    push_line("kind", kind_name(work.kind), out)?;
-    push_line("vote", vote_name(work.vote), out)
+    push_text("key", &work.key, out)?;
+    push_text("value", &work.value, out)?;
+    push_kind(work.kind, out)?;
+    push_vote(work.vote, out)
+}
+
+fn push_kind(kind: Kind, out: &mut Vec<u8>) -> Result<(), AllocError>
+    ensures { OnOk result (out.new.items ≡ out.old.items ++ line (codes "kind") (kind_name kind)) }
+{
+    push_line("kind", kind_name(kind), out)
+}
+
+fn push_vote(vote: Vote, out: &mut Vec<u8>) -> Result<(), AllocError>
+    ensures { OnOk result (out.new.items ≡ out.old.items ++ line (codes "vote") (vote_name vote)) }
+{
+    push_line("vote", vote_name(vote), out)
 }

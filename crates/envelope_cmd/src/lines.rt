@@ -16,6 +16,7 @@ pub fn push(text: &str, out: &mut Vec<u8>) -> Result<(), AllocError>
 }
 
 /// Adds the line of a name and a word.
+#[tactic(auto, unfolding(crate::specs::Lines::line))]
 pub fn push_line(name: &str, word: &str, out: &mut Vec<u8>) -> Result<(), AllocError>
     ensures { OnOk result (out.new.items ≡ out.old.items ++ line name.now word.now) }
 {
@@ -26,13 +27,21 @@ pub fn push_line(name: &str, word: &str, out: &mut Vec<u8>) -> Result<(), AllocE
 }
 
 /// Adds the line of a name and a text, escaped as an attribute's value is in the canonical text.
-pub fn push_text_line(name: &str, text: &str, out: &mut Vec<u8>) -> Result<(), AllocError>
+#[tactic(auto, unfolding(crate::specs::Lines::line, crate::specs::Lines::text_line))]
+fn push_text_line(name: &str, text: &str, out: &mut Vec<u8>) -> Result<(), AllocError>
     ensures { OnOk result (out.new.items ≡ out.old.items ++ text_line name.now text.now) }
 {
     push(name, out)?;
     push(" ", out)?;
     push_value(text, out)?;
     push("\n", out)
+}
+
+/// Adds the line of a text of the message.
+pub fn push_text(name: &str, text: &Text, out: &mut Vec<u8>) -> Result<(), AllocError>
+    ensures { OnOk result (out.new.items ≡ out.old.items ++ text_line name.now text.now) }
+{
+    push_text_line(name, text.as_str(), out)
 }
 
 /// Adds the line of a text where there is one.
@@ -44,7 +53,7 @@ pub fn push_text_if(
     ensures { OnOk result (out.new.items ≡ out.old.items ++ where_some (text_line name.now) text.now) }
 {
     match text {
-        Some(text) => push_text_line(name, text.as_str(), out),
+        Some(text) => push_text(name, text, out),
         None => Ok(()),
     }
 }
@@ -53,7 +62,7 @@ pub fn push_text_if(
 pub fn push_address(name: &str, epr: &Epr, out: &mut Vec<u8>) -> Result<(), AllocError>
     ensures { OnOk result (out.new.items ≡ out.old.items ++ address_line name.now epr.now) }
 {
-    push_text_line(name, epr.address.as_str(), out)
+    push_text(name, &epr.address, out)
 }
 
 /// Adds the line of an endpoint where there is one.

@@ -1,1 +1,0 @@
--- What is added behind what was added.
