@@ -3,7 +3,7 @@
 ghost use Rattle.std.specs.Prelude.{◌≡◌, IfOk, Some};
 ghost use Rattle.std.specs.Option.{option_map};
 ghost use Rattle.at_model.specs.Posts.{fault_post, from_on};
-ghost use Rattle.envelope_cmd.specs.Cells.{cell_at, endpoint_at, fault_of, meets, notice_of, notification, posted, sent};
+ghost use Rattle.envelope_cmd.specs.Cells.{cell_at, fault_of, meets, notice_of, notification, posted, sent};
 ghost use Rattle.envelope_cmd.specs.Cells.{no_row_line};
 
 use addressing::post_to::post_to;
@@ -73,20 +73,24 @@ pub fn posted(alloc: Global, arrival: &Arrival, act: Act) -> Result<Option<Post>
     if post_to(alloc, from)?.is_none() {
         return Ok(None);
     }
-    sent(alloc, act, from, to, &arrival.id)
+    let own = Epr {
+        address: to.clone()?,
+        params: Text::copied(alloc, "")?,
+    };
+    sent(alloc, act, from, &own, &arrival.id)
 }
 
 fn sent(
     alloc: Global,
     act: Act,
     to: &Epr,
-    own: &Text,
+    own: &Epr,
     id: &Option<Text>,
 ) -> Result<Option<Post>, AllocError>
-    ensures { IfOk result (λ post. post ≡ sent (notice_of act) (fault_of act) to.now (endpoint_at own.now) id.now) }
+    ensures { IfOk result (λ post. post ≡ sent (notice_of act) (fault_of act) to.now own.now id.now) }
 {
     match (notice_of(act), fault_of(act)) {
-        (Some(notice), _) => Ok(Some(notification(alloc, to, own, notice)?)),
+        (Some(notice), _) => Ok(Some(notification(to, own, notice)?)),
         (None, Some(name)) => Ok(Some(fault(alloc, to, id, name)?)),
         (None, None) => Ok(None),
     }
@@ -119,16 +123,11 @@ fn fault_of(act: Act) -> Option<&'static str>
     }
 }
 
-fn notification(
-    alloc: Global,
-    to: &Epr,
-    own: &Text,
-    notice: Notice,
-) -> Result<Post, AllocError>
-    ensures { IfOk result (λ post. post ≡ notification to.now (endpoint_at own.now) notice) }
+fn notification(to: &Epr, own: &Epr, notice: Notice) -> Result<Post, AllocError>
+    ensures { IfOk result (λ post. post ≡ notification to.now own.now notice) }
 {
     let to = to.clone()?;
-    let from = from_on(alloc, notice, own)?;
+    let from = from_on(notice, own)?;
     Ok(Post {
         own: None,
         to: Some(to),
@@ -141,14 +140,13 @@ fn notification(
 }
 
 /// The From of a notification: it stands on those that may draw an answer where nothing is known.
-fn from_on(alloc: Global, notice: Notice, own: &Text) -> Result<Option<Epr>, AllocError>
-    ensures { IfOk result (λ from. from ≡ from_on notice (endpoint_at own.now)) }
+fn from_on(notice: Notice, own: &Epr) -> Result<Option<Epr>, AllocError>
+    ensures { IfOk result (λ from. from ≡ from_on notice own.now) }
 {
     match notice {
-        Notice::Prepare | Notice::Commit | Notice::Rollback | Notice::Prepared => Ok(Some(Epr {
-            address: own.clone()?,
-            params: Text::copied(alloc, "")?,
-        })),
+        Notice::Prepare | Notice::Commit | Notice::Rollback | Notice::Prepared => {
+            Ok(Some(own.clone()?))
+        }
         Notice::ReadOnly | Notice::Aborted | Notice::Committed => Ok(None),
     }
 }

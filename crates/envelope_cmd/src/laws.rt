@@ -1,0 +1,20 @@
+//! Laws of what is printed.
+
+ghost use Rattle.std.specs.Prelude.{◌≡◌, ℕ, List};
+ghost use Rattle.at_tables.specs.declared.cells.State.{State};
+ghost use Rattle.envelope_cmd.specs.Cells.{IsCellOf};
+ghost use Rattle.envelope_cmd.specs.Checks.{IsCheckOf};
+ghost use Rattle.envelope_cmd.specs.Output.{Output};
+
+use wire_posts::laws::what_is_posted_arrives;
+use xml_grammar::laws::one_text_spells_one_tree;
+
+/// Of one envelope one report is printed.
+#[tactic(auto, using(crate::proofs::Unique::checks_one, crate::proofs::Unique::cells_one))]
+pub fn one_report_is_printed()
+    ensures checks { (bytes : List ℕ) → (path : List ℕ) → (p : Output) → (q : Output) → IsCheckOf bytes path p → IsCheckOf bytes path q → p ≡ q }
+    ensures cells { (bytes : List ℕ) → (state : State) → (p : Output) → (q : Output) → IsCellOf bytes state p → IsCellOf bytes state q → p ≡ q }
+{
+    one_text_spells_one_tree();
+    what_is_posted_arrives();
+}

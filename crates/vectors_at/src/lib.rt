@@ -1,0 +1,5 @@
+//! Spellings of each message and of the XML profile, as tests alone.
+#![tactic(auto)]
+
+#[cfg(test)]
+mod tests;
