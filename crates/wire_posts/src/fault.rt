@@ -55,10 +55,8 @@ impl WrittenFault {
     {
         match refusal {
             Refusal::TooLong | Refusal::NoTarget | Refusal::NoMemory => None,
-            Refusal::NotUtf8 { .. }
-            | Refusal::NotSpelled
-            | Refusal::TooDeep
-            | Refusal::TooMany => Some(WrittenFault::NotProfileDocument),
+            Refusal::NotUtf8 { .. } | Refusal::NotSpelled | Refusal::TooDeep | Refusal::TooMany =>
+                Some(WrittenFault::NotProfileDocument),
             Refusal::VersionMismatch => Some(WrittenFault::VersionMismatch),
             Refusal::NotEnvelope => Some(WrittenFault::NotEnvelope),
             Refusal::MustUnderstand { .. } => Some(WrittenFault::MustUnderstand),
