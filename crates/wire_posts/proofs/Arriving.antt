@@ -1,8 +1,8 @@
 -- What is posted arrives.
-use Rattle.std.proofs.Common.{◌≡◌, ◌≤◌, ℕ, List, [], ◌∷◌, ◌++◌, Bool, true, false, ◌&&◌, ◌||◌, not, IfSome, Option, Some, None, Result, Ok, Err, refl, ap, subst, sym, ◌∙◌, cond}
+use Rattle.std.proofs.Common.{inl, ◌≡◌, ◌≤◌, ℕ, List, [], ◌∷◌, ◌++◌, Bool, true, false, ◌&&◌, ◌||◌, not, IfSome, Option, Some, None, Result, Ok, Err, refl, ap, subst, sym, ◌∙◌, cond}
 use Rattle.std.specs.Prelude.{codes, is_some}
 use Rattle.std.specs.Option.{option_and_then, option_map}
-use Rattle.std.specs.Str.{bytes_eq}
+use Rattle.std.specs.Str.{bytes_eq, chars, is_utf8}
 use Rattle.url.specs.Parts.{Parts}
 use Rattle.url.specs.Parser.{parse_url, Parsed}
 use Rattle.xml_profile.specs.declared.name.QName.{QName}
@@ -106,6 +106,7 @@ from_same (Some epr) (Some out) h w = ap (λ e. source_of (Some e)) (is_read epr
 
 -- a predefined address is read as it is written
 reply_read : (reply : Reply) (out : Endpoint) → IsReplyOf reply out → IsWholeReply reply → IsRead (reply_epr reply) out
+unfolding chars is_utf8 lib.Utf8.encode
 reply_read replies.Anonymous out h w = is_read (reply_epr replies.Anonymous) out (record { trimmed = refl; within = refl; params = inl refl }) h
 reply_read replies.Nobody out h w = is_read (reply_epr replies.Nobody) out (record { trimmed = refl; within = refl; params = inl refl }) h
 reply_read (replies.At epr) out h w = is_read epr out w.kept h

@@ -1,5 +1,5 @@
 -- What an endpoint that is written is read as.
-use Rattle.std.proofs.Common.{◌≡◌, ℕ, List, [], ◌∷◌, Bool, true, false, IfSome, Option, Some, None, refl, ap, subst, sym, ◌∙◌, cond}
+use Rattle.std.proofs.Common.{inl, inr, ◌≡◌, ℕ, List, [], ◌∷◌, Bool, true, false, IfSome, Option, Some, None, refl, ap, subst, sym, ◌∙◌, cond}
 use Rattle.std.specs.Prelude.{◌⊎◌, codes}
 use Rattle.std.specs.Option.{option_map}
 use Rattle.xml_profile.specs.declared.tree.Tree.{Tree}

@@ -220,8 +220,12 @@ expires_can : (expires : Option ℕ) → IsNarrow expires → AllCan (expires_pa
 expires_can None h = tt
 expires_can (Some n) h = (text_can (parameter_name Expires) (decimal n) (parameter_named Expires) (decimal_text n h), tt)
 
-context_parts : (context : Context) (out : OutgoingContext) → IsContextOf context out → IsWholeContext context
-    → AllCan (text_parameter Identifier out.identifier ∷ expires_parameter out.expires ++ text_parameter CoordinationType out.coordination ∷ endpoint_parameter RegistrationService out.registration ∷ [])
+abbrev context_children : OutgoingContext → List Tree
+context_children out =
+    text_parameter Identifier out.identifier ∷ expires_parameter out.expires ++ text_parameter CoordinationType out.coordination
+    ∷ endpoint_parameter RegistrationService out.registration ∷ []
+
+context_parts : (context : Context) (out : OutgoingContext) → IsContextOf context out → IsWholeContext context → AllCan (context_children out)
 context_parts context out h w = (
   text_can (parameter_name Identifier) out.identifier (parameter_named Identifier) (ap is_text h.identifier ∙ w.identifier.spelled),
   all_can (expires_parameter out.expires) (text_parameter CoordinationType out.coordination ∷ endpoint_parameter RegistrationService out.registration ∷ [])
@@ -233,9 +237,12 @@ context_parts context out h w = (
 
 context_can : (context : Context) (out : OutgoingContext) (name : QName) → is_name name ≡ true → IsContextOf context out → IsWholeContext context
     → Can (context_tree out name)
-context_can context out name n h w = elements_can name _ n (context_parts context out h w)
+context_can context out name n h w = elements_can name (context_children out) n (context_parts context out h w)
 
 -- bodies
+
+body_elements : (form : Form) (ts : List Tree) → AllCan ts → Can (element (qualified (space_of form) (local_of form)) (children_of ts))
+body_elements form ts h = elements_can (qualified (space_of form) (local_of form)) ts (form_named form) h
 
 current_can : (current : Option Context) (out : Option OutgoingContext) → AreBoth IsContextOf current out → IfSome current IsWholeContext
     → AllCan (current_parameter out)
@@ -246,7 +253,7 @@ current_can (Some context) (Some out) h w = (context_can context out (parameter_
 
 create_can : (body : Create) (out : OutgoingCreate) → IsCreateOf body out → IsWholeCreate body → Can (create_tree out)
 create_can body out h w =
-    elements_can _ _ (form_named forms.Create)
+    body_elements forms.Create (expires_parameter out.expires ++ current_parameter out.current ++ text_parameter CoordinationType out.coordination ∷ [])
     (all_can (expires_parameter out.expires ++ current_parameter out.current) (text_parameter CoordinationType out.coordination ∷ [])
     (all_can (expires_parameter out.expires) (current_parameter out.current) (expires_can out.expires (subst IsNarrow (sym h.expires) w.expires))
     (current_can body.current out.current h.current w.current))
@@ -254,7 +261,7 @@ create_can body out h w =
 
 register_can : (body : Register) (out : OutgoingRegister) → IsRegisterOf body out → IsWholeRegister body → Can (register_tree out)
 register_can body out h w =
-    elements_can _ _ (form_named forms.Register) (
+    body_elements forms.Register (text_parameter ProtocolIdentifier out.protocol ∷ endpoint_parameter ParticipantProtocolService out.participant ∷ []) (
       text_can (parameter_name ProtocolIdentifier) out.protocol (parameter_named ProtocolIdentifier) (ap is_text h.protocol ∙ w.protocol.spelled),
       (endpoint_can body.participant out.participant (parameter_name ParticipantProtocolService) (parameter_named ParticipantProtocolService) w.participant.spelled h.participant, tt),
     )
@@ -264,7 +271,9 @@ part_can part text h = text_can (qualified work (part_name part)) text (part_nam
 
 work_can : (body : Work) → IsWholeWork body → Can (work_tree body)
 work_can body w =
-    elements_can _ _ (form_named forms.Work) (
+    body_elements forms.Work (
+    work_part parts.Key body.key ∷ work_part parts.Value body.value ∷ work_part parts.Kind (kind_name body.kind)
+    ∷ work_part parts.Vote (vote_name body.vote) ∷ []) (
       part_can parts.Key body.key w.key.spelled,
       (part_can parts.Value body.value w.value.spelled, (part_can parts.Kind (kind_name body.kind) (kind_text body.kind), (part_can parts.Vote (vote_name body.vote) (vote_text body.vote), tt))),
     )
@@ -293,12 +302,12 @@ pub body_can : (message : Message) (body : Tree) → IsBodyOf message body → I
 body_can (messages.Create create) body h w = subst Can (sym h.whole) (create_can create h.out h.of w)
 body_can (messages.CreateResponse context) body h w =
     subst Can (sym h.whole)
-    (elements_can _ _ (form_named forms.CreateResponse)
+    (body_elements forms.CreateResponse (context_tree h.out (parameter_name CoordinationContext) ∷ [])
     (context_can context h.out (parameter_name CoordinationContext) (parameter_named CoordinationContext) h.of w, tt))
 body_can (messages.Register register) body h w = subst Can (sym h.whole) (register_can register h.out h.of w)
 body_can (messages.RegisterResponse coordinator) body h w =
     subst Can (sym h.whole)
-    (elements_can _ _ (form_named forms.RegisterResponse)
+    (body_elements forms.RegisterResponse (endpoint_parameter CoordinatorProtocolService h.out ∷ [])
     (endpoint_can coordinator h.out (parameter_name CoordinatorProtocolService) (parameter_named CoordinatorProtocolService) w.spelled h.of, tt))
 body_can (messages.Notice notice) body h w = subst Can (sym h) (empty_can (forms.Notice notice))
 body_can (messages.Work work) body h w = subst Can (sym h) (work_can work w)
@@ -368,10 +377,11 @@ work_context_can (Some context) (Some t) h w = (
 
 pub envelope_can : (blocks : List Tree) (body : Tree) → AllCan blocks → Can body → Can (envelope_tree blocks body)
 envelope_can blocks body h b =
-    elements_can _ _ envelope_named (
-      elements_can (qualified soap (codes "Header")) blocks header_named h,
-      (elements_can (qualified soap (codes "Body")) (body ∷ []) body_named (b, tt), tt),
-    )
+    let header : Tree = element (qualified soap (codes "Header")) (children_of blocks) in
+    let inner : Tree = element (qualified soap (codes "Body")) (children_of (body ∷ [])) in
+    let header_can : Can header = elements_can (qualified soap (codes "Header")) blocks header_named h in
+    let inner_can : Can inner = elements_can (qualified soap (codes "Body")) (body ∷ []) body_named (b, tt) in
+    elements_can (qualified soap (codes "Envelope")) (header ∷ inner ∷ []) envelope_named (header_can, (inner_can, tt))
 
 text_spelled : (text written : Option (List ℕ)) → written ≡ text → IfSome text IsClean → IfSome written IsClean
 text_spelled text written e w = subst (λ o. IfSome o IsClean) (sym e) w
