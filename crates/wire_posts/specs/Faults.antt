@@ -89,9 +89,13 @@ abbrev pub protocol_faults : List WrittenFault
 protocol_faults =
     InvalidState ∷ InvalidProtocol ∷ InvalidParameters ∷ CannotCreateContext ∷ CannotRegisterParticipant ∷ UnknownTransaction ∷ []
 
+-- the one of a name
+abbrev pub first_named : List ℕ → List WrittenFault → Option WrittenFault
+first_named name faults = find (λ fault. bytes_eq name (name_of fault)) faults
+
 -- the fault of a name: one of these, or another
 abbrev pub fault_named : List ℕ → WrittenFault
-fault_named name = unwrap_or (find (λ fault. bytes_eq name (name_of fault)) protocol_faults) Other
+fault_named name = unwrap_or (first_named name protocol_faults) Other
 
 abbrev pub fault_body : WrittenFault → Tree
 fault_body fault = fault_tree (code_of fault) (text_of fault) (detail_of fault)

@@ -1,2 +1,3 @@
 pub mod Envelopes
 pub mod Faults
+pub mod Returning

@@ -1,7 +1,8 @@
 //! From a message to the bytes of its envelope.
 
-ghost use Rattle.std.specs.Prelude.{◌≡◌, IfOk};
+ghost use Rattle.std.specs.Prelude.{◌≡◌, IfOk, List, ℕ};
 ghost use Rattle.wire_posts.specs.Envelopes.{Encodes, IsEnvelopeOf, IsTextOf};
+ghost use Rattle.wire_posts.specs.Returning.{Returns};
 ghost use Rattle.wire_posts.specs.Faults.{refusal_text, refusal_tree};
 ghost use Rattle.xml_profile.specs.Canonical.{canonical_text};
 
@@ -35,9 +36,12 @@ pub fn encode(alloc: Global, outgoing: &Outgoing) -> Result<Vec<u8>, AllocError>
     }
 }
 
-/// The canonical text of the envelope of a message.
+/// The canonical text of the envelope of a message. Where the message can be read at all, it is read as what it was.
+#[tactic(auto, using(crate::proofs::Arriving::text_returns, crate::proofs::Single::text_one))]
 pub fn encode_post(alloc: Global, post: &Post) -> Result<Vec<u8>, AllocError>
-    ensures { IfOk result (λ bytes. IsTextOf post.now bytes.items) }
+    ensures text { IfOk result (λ bytes. IsTextOf post.now bytes.items) }
+    ensures only { IfOk result (λ bytes. (text : List ℕ) → IsTextOf post.now text → text ≡ bytes.items) }
+    ensures returns { IfOk result (λ bytes. Returns post.now bytes.items) }
 {
     let tree = envelope_of(alloc, post)?;
     canonical_text(alloc, &tree)

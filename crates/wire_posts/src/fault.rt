@@ -2,7 +2,7 @@
 //! section 4; WS-AtomicTransaction 1.2, section 7).
 
 ghost use Rattle.std.specs.Prelude.{◌≡◌, IfOk};
-ghost use Rattle.wire_posts.specs.Faults.{code_of, detail_of, fault_action, fault_body, fault_named, name_of, refusal_fault, space_of, text_of};
+ghost use Rattle.wire_posts.specs.Faults.{code_of, detail_of, fault_action, fault_body, fault_named, first_named, name_of, protocol_faults, refusal_fault, space_of, text_of};
 
 use soap_profile::build::qualified;
 use soap_profile::fault::fault_tree;
@@ -38,14 +38,9 @@ impl WrittenFault {
     pub fn named(name: &str) -> WrittenFault
         ensures { result ≡ fault_named name.now }
     {
-        match name {
-            "InvalidState" => WrittenFault::InvalidState,
-            "InvalidProtocol" => WrittenFault::InvalidProtocol,
-            "InvalidParameters" => WrittenFault::InvalidParameters,
-            "CannotCreateContext" => WrittenFault::CannotCreateContext,
-            "CannotRegisterParticipant" => WrittenFault::CannotRegisterParticipant,
-            "UnknownTransaction" => WrittenFault::UnknownTransaction,
-            _ => WrittenFault::Other,
+        match protocol_fault(name) {
+            Some(fault) => fault,
+            None => WrittenFault::Other,
         }
     }
 
@@ -55,10 +50,8 @@ impl WrittenFault {
     {
         match refusal {
             Refusal::TooLong | Refusal::NoTarget | Refusal::NoMemory => None,
-            Refusal::NotUtf8 { .. }
-            | Refusal::NotSpelled
-            | Refusal::TooDeep
-            | Refusal::TooMany => Some(WrittenFault::NotProfileDocument),
+            Refusal::NotUtf8 { .. } | Refusal::NotSpelled | Refusal::TooDeep | Refusal::TooMany =>
+                Some(WrittenFault::NotProfileDocument),
             Refusal::VersionMismatch => Some(WrittenFault::VersionMismatch),
             Refusal::NotEnvelope => Some(WrittenFault::NotEnvelope),
             Refusal::MustUnderstand { .. } => Some(WrittenFault::MustUnderstand),
@@ -139,19 +132,59 @@ impl WrittenFault {
         }
     }
 
+    /// The namespace of its code.
+    fn space(self) -> &'static str
+        ensures { result.now ≡ space_of self }
+    {
+        match self {
+            WrittenFault::NotProfileDocument
+            | WrittenFault::VersionMismatch
+            | WrittenFault::NotEnvelope
+            | WrittenFault::MustUnderstand
+            | WrittenFault::Other => SOAP,
+            WrittenFault::HeaderRequired
+            | WrittenFault::InvalidHeader
+            | WrittenFault::ActionNotSupported => ADDRESSING,
+            WrittenFault::InvalidState
+            | WrittenFault::InvalidProtocol
+            | WrittenFault::InvalidParameters
+            | WrittenFault::CannotCreateContext
+            | WrittenFault::CannotRegisterParticipant => COORDINATION,
+            WrittenFault::UnknownTransaction => TRANSACTION,
+        }
+    }
+
+    /// The local name of its code.
+    fn local(self) -> &'static str
+        ensures { result.now ≡ name_of self }
+    {
+        match self {
+            WrittenFault::NotProfileDocument | WrittenFault::NotEnvelope => "Client",
+            WrittenFault::VersionMismatch => "VersionMismatch",
+            WrittenFault::MustUnderstand => "MustUnderstand",
+            WrittenFault::HeaderRequired => "MessageAddressingHeaderRequired",
+            WrittenFault::InvalidHeader => "InvalidAddressingHeader",
+            WrittenFault::ActionNotSupported => "ActionNotSupported",
+            WrittenFault::InvalidState => "InvalidState",
+            WrittenFault::InvalidProtocol => "InvalidProtocol",
+            WrittenFault::InvalidParameters => "InvalidParameters",
+            WrittenFault::CannotCreateContext => "CannotCreateContext",
+            WrittenFault::CannotRegisterParticipant => "CannotRegisterParticipant",
+            WrittenFault::UnknownTransaction => "UnknownTransaction",
+            WrittenFault::Other => "Server",
+        }
+    }
+
+    /// The name of the element in its detail, which a fault of a protocol has.
     fn detail(self, alloc: Global) -> Result<Option<QName>, AllocError>
         ensures { IfOk result (λ detail. detail ≡ detail_of self) }
     {
-        let (space, local) = match self {
-            WrittenFault::InvalidState => (COORDINATION, "InvalidState"),
-            WrittenFault::InvalidProtocol => (COORDINATION, "InvalidProtocol"),
-            WrittenFault::InvalidParameters => (COORDINATION, "InvalidParameters"),
-            WrittenFault::CannotCreateContext => (COORDINATION, "CannotCreateContext"),
-            WrittenFault::CannotRegisterParticipant => (COORDINATION, "CannotRegisterParticipant"),
-            WrittenFault::UnknownTransaction => (TRANSACTION, "UnknownTransaction"),
-            _ => return Ok(None),
-        };
-        Ok(Some(qualified(alloc, space, local)?))
+        let space = self.space();
+        if space == COORDINATION || space == TRANSACTION {
+            Ok(Some(qualified(alloc, space, self.local())?))
+        } else {
+            Ok(None)
+        }
     }
 
     /// The element in the body of a message that is this fault.
@@ -161,4 +194,19 @@ impl WrittenFault {
         let detail = self.detail(alloc)?;
         fault_tree(alloc, self.code(), self.text(), detail.as_ref())
     }
+}
+
+fn protocol_fault(name: &str) -> Option<WrittenFault>
+    ensures { result ≡ first_named name.now protocol_faults }
+{
+    let fault = match name {
+        "InvalidState" => WrittenFault::InvalidState,
+        "InvalidProtocol" => WrittenFault::InvalidProtocol,
+        "InvalidParameters" => WrittenFault::InvalidParameters,
+        "CannotCreateContext" => WrittenFault::CannotCreateContext,
+        "CannotRegisterParticipant" => WrittenFault::CannotRegisterParticipant,
+        "UnknownTransaction" => WrittenFault::UnknownTransaction,
+        _ => return None,
+    };
+    Some(fault)
 }

@@ -6,5 +6,6 @@ pub mod body;
 pub mod encode;
 pub mod fault;
 pub mod headers;
+pub mod laws;
 #[cfg(test)]
 mod tests;

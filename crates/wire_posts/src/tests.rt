@@ -184,14 +184,30 @@ fn returns(alloc: Global, row: [&str; 6], path: &str) -> Result<bool, Fail> {
 }
 
 const INITIATOR: &str = "http://n1.example/i/1-1";
+
 const PARTICIPANT: &str = "http://n3.example/p/d/1-1";
+
 const SEAT: &str = "http://n2.example/c/d/1-1/1";
 
 /// Each message as a row of [`post`].
 const POSTS: [[&str; 6]; 20] = [
-    ["Create", "http://n2.example/activation", "urn:1", "", "", INITIATOR],
+    [
+        "Create",
+        "http://n2.example/activation",
+        "urn:1",
+        "",
+        "",
+        INITIATOR,
+    ],
     ["CreateResponse", INITIATOR, "", "urn:1", "", ""],
-    ["Register", "http://n2.example/registration/1-1", "urn:2", "", "", PARTICIPANT],
+    [
+        "Register",
+        "http://n2.example/registration/1-1",
+        "urn:2",
+        "",
+        "",
+        PARTICIPANT,
+    ],
     ["RegisterResponse", PARTICIPANT, "", "urn:2", "", ""],
     ["Prepare", PARTICIPANT, "", "", SEAT, "none"],
     ["Commit", PARTICIPANT, "", "", SEAT, "none"],
@@ -207,7 +223,14 @@ const POSTS: [[&str; 6]; 20] = [
     ["InvalidProtocol", PARTICIPANT, "", "urn:2", "", ""],
     ["InvalidParameters", PARTICIPANT, "", "urn:2", "", ""],
     ["CannotCreateContext", INITIATOR, "", "urn:1", "", ""],
-    ["CannotRegisterParticipant", PARTICIPANT, "", "urn:2", "", ""],
+    [
+        "CannotRegisterParticipant",
+        PARTICIPANT,
+        "",
+        "urn:2",
+        "",
+        "",
+    ],
     ["UnknownTransaction", PARTICIPANT, "", "", "", ""],
 ];
 
@@ -237,7 +260,8 @@ fn written(alloc: Global, row: [&str; 6]) -> Result<Vec<u8>, AllocError> {
 fn a_request_is_written(rt: HostRuntime) -> Result<(), Fail> {
     let alloc = rt.alloc();
     let row = ["Work", "http://n3.example/work", "urn:3", "", "", INITIATOR];
-    let expected = "<s:Envelope xmlns:s=\"http://schemas.xmlsoap.org/soap/envelope/\" xmlns:wsa=\"http://www.w3.org/2005/08/addressing\" xmlns:wscoor=\"http://docs.oasis-open.org/ws-tx/wscoor/2006/06\" xmlns:work=\"http://example.org/atx/work/1\"><s:Header><wsa:To>http://n3.example/work</wsa:To><wsa:Action>http://example.org/atx/work/1/Work</wsa:Action><wsa:MessageID>urn:3</wsa:MessageID><wsa:ReplyTo><wsa:Address>http://n1.example/i/1-1</wsa:Address></wsa:ReplyTo><k wsa:IsReferenceParameter=\"true\" a=\"1\">7</k><wscoor:CoordinationContext s:mustUnderstand=\"1\"><wscoor:Identifier>urn:i</wscoor:Identifier><wscoor:Expires>60000</wscoor:Expires><wscoor:CoordinationType>http://docs.oasis-open.org/ws-tx/wsat/2006/06</wscoor:CoordinationType><wscoor:RegistrationService><wsa:Address>http://n2.example/registration/1-1</wsa:Address><wsa:ReferenceParameters><k a=\"1\">7</k></wsa:ReferenceParameters></wscoor:RegistrationService></wscoor:CoordinationContext></s:Header><s:Body><work:Work><work:Key>k</work:Key><work:Value/><work:Kind>volatile</work:Kind><work:Vote>readonly</work:Vote></work:Work></s:Body></s:Envelope>";
+    let expected =
+        "<s:Envelope xmlns:s=\"http://schemas.xmlsoap.org/soap/envelope/\" xmlns:wsa=\"http://www.w3.org/2005/08/addressing\" xmlns:wscoor=\"http://docs.oasis-open.org/ws-tx/wscoor/2006/06\" xmlns:work=\"http://example.org/atx/work/1\"><s:Header><wsa:To>http://n3.example/work</wsa:To><wsa:Action>http://example.org/atx/work/1/Work</wsa:Action><wsa:MessageID>urn:3</wsa:MessageID><wsa:ReplyTo><wsa:Address>http://n1.example/i/1-1</wsa:Address></wsa:ReplyTo><k wsa:IsReferenceParameter=\"true\" a=\"1\">7</k><wscoor:CoordinationContext s:mustUnderstand=\"1\"><wscoor:Identifier>urn:i</wscoor:Identifier><wscoor:Expires>60000</wscoor:Expires><wscoor:CoordinationType>http://docs.oasis-open.org/ws-tx/wsat/2006/06</wscoor:CoordinationType><wscoor:RegistrationService><wsa:Address>http://n2.example/registration/1-1</wsa:Address><wsa:ReferenceParameters><k a=\"1\">7</k></wsa:ReferenceParameters></wscoor:RegistrationService></wscoor:CoordinationContext></s:Header><s:Body><work:Work><work:Key>k</work:Key><work:Value/><work:Kind>volatile</work:Kind><work:Vote>readonly</work:Vote></work:Work></s:Body></s:Envelope>";
     assert_eq!(rt; written(alloc, row)?.as_slice(), expected.as_bytes());
     Ok(())
 }
@@ -246,7 +270,8 @@ fn a_request_is_written(rt: HostRuntime) -> Result<(), Fail> {
 fn a_protocol_fault_is_written(rt: HostRuntime) -> Result<(), Fail> {
     let alloc = rt.alloc();
     let row = ["UnknownTransaction", "", "", "urn:2", "", ""];
-    let expected = "<s:Envelope xmlns:s=\"http://schemas.xmlsoap.org/soap/envelope/\" xmlns:wsa=\"http://www.w3.org/2005/08/addressing\" xmlns:wsat=\"http://docs.oasis-open.org/ws-tx/wsat/2006/06\"><s:Header><wsa:Action>http://docs.oasis-open.org/ws-tx/wsat/2006/06/fault</wsa:Action><wsa:RelatesTo>urn:2</wsa:RelatesTo></s:Header><s:Body><s:Fault><faultcode>wsat:UnknownTransaction</faultcode><faultstring>unknown transaction</faultstring><detail><wsat:UnknownTransaction/></detail></s:Fault></s:Body></s:Envelope>";
+    let expected =
+        "<s:Envelope xmlns:s=\"http://schemas.xmlsoap.org/soap/envelope/\" xmlns:wsa=\"http://www.w3.org/2005/08/addressing\" xmlns:wsat=\"http://docs.oasis-open.org/ws-tx/wsat/2006/06\"><s:Header><wsa:Action>http://docs.oasis-open.org/ws-tx/wsat/2006/06/fault</wsa:Action><wsa:RelatesTo>urn:2</wsa:RelatesTo></s:Header><s:Body><s:Fault><faultcode>wsat:UnknownTransaction</faultcode><faultstring>unknown transaction</faultstring><detail><wsat:UnknownTransaction/></detail></s:Fault></s:Body></s:Envelope>";
     assert_eq!(rt; written(alloc, row)?.as_slice(), expected.as_bytes());
     Ok(())
 }
@@ -271,7 +296,8 @@ fn a_notification_is_written(rt: HostRuntime) -> Result<(), Fail> {
     let alloc = rt.alloc();
     let post = prepare(alloc)?;
     let text = encode_post(alloc, &post)?;
-    let expected = "<s:Envelope xmlns:s=\"http://schemas.xmlsoap.org/soap/envelope/\" xmlns:wsa=\"http://www.w3.org/2005/08/addressing\" xmlns:wsat=\"http://docs.oasis-open.org/ws-tx/wsat/2006/06\"><s:Header><wsa:To>http://n3.example/p/d/1-1</wsa:To><wsa:Action>http://docs.oasis-open.org/ws-tx/wsat/2006/06/Prepare</wsa:Action><wsa:From><wsa:Address>http://n2.example/c/d/1-1/1</wsa:Address></wsa:From><wsa:ReplyTo><wsa:Address>http://www.w3.org/2005/08/addressing/none</wsa:Address></wsa:ReplyTo></s:Header><s:Body><wsat:Prepare/></s:Body></s:Envelope>";
+    let expected =
+        "<s:Envelope xmlns:s=\"http://schemas.xmlsoap.org/soap/envelope/\" xmlns:wsa=\"http://www.w3.org/2005/08/addressing\" xmlns:wsat=\"http://docs.oasis-open.org/ws-tx/wsat/2006/06\"><s:Header><wsa:To>http://n3.example/p/d/1-1</wsa:To><wsa:Action>http://docs.oasis-open.org/ws-tx/wsat/2006/06/Prepare</wsa:Action><wsa:From><wsa:Address>http://n2.example/c/d/1-1/1</wsa:Address></wsa:From><wsa:ReplyTo><wsa:Address>http://www.w3.org/2005/08/addressing/none</wsa:Address></wsa:ReplyTo></s:Header><s:Body><wsat:Prepare/></s:Body></s:Envelope>";
     assert_eq!(rt; expected.len(), 528);
     assert_eq!(rt; text.as_slice(), expected.as_bytes());
     Ok(())
@@ -281,7 +307,8 @@ fn a_notification_is_written(rt: HostRuntime) -> Result<(), Fail> {
 fn refusals_are_written(rt: HostRuntime) -> Result<(), Fail> {
     let alloc = rt.alloc();
     let text = encode_refusal(alloc, &Refusal::Action)?;
-    let expected = "<s:Envelope xmlns:s=\"http://schemas.xmlsoap.org/soap/envelope/\" xmlns:wsa=\"http://www.w3.org/2005/08/addressing\"><s:Header><wsa:Action>http://www.w3.org/2005/08/addressing/fault</wsa:Action></s:Header><s:Body><s:Fault><faultcode>wsa:ActionNotSupported</faultcode><faultstring>action not supported</faultstring></s:Fault></s:Body></s:Envelope>";
+    let expected =
+        "<s:Envelope xmlns:s=\"http://schemas.xmlsoap.org/soap/envelope/\" xmlns:wsa=\"http://www.w3.org/2005/08/addressing\"><s:Header><wsa:Action>http://www.w3.org/2005/08/addressing/fault</wsa:Action></s:Header><s:Body><s:Fault><faultcode>wsa:ActionNotSupported</faultcode><faultstring>action not supported</faultstring></s:Fault></s:Body></s:Envelope>";
     assert_eq!(rt; text.as_slice(), expected.as_bytes());
     Ok(())
 }
