@@ -1,5 +1,5 @@
 -- Bytes say one thing at a path, and so one report is printed of them.
-use Rattle.std.proofs.Common.{◌≡◌, ◌⊎◌, ◌++◌, ℕ, List, Option, Some, None, Result, Ok, Err, inl, inr, refl, sym, ap, subst, ◌∙◌, ◌<◌, arith, codes}
+use Rattle.std.proofs.Common.{◌≡◌, ◌⊎◌, ◌++◌, ℕ, List, Option, Some, None, Result, Ok, Err, inl, inr, refl, sym, ap, subst, ◌∙◌, ◌<◌, arith, codes, IfOk}
 use Rattle.std.specs.Option.{option_map}
 use Rattle.xml_profile.specs.declared.tree.Tree.{Tree}
 use Rattle.xml_grammar.specs.Spells.{Spells}
@@ -169,3 +169,9 @@ pub cells_one : OneTree → OneText → (bytes : List ℕ) → (state : State) �
 cells_one tree text bytes state p q h k =
     let e = one_said tree bytes (codes "/") h.said k.said h.says k.says (told_by_cell state h.said p h.tells) (told_by_cell state k.said q k.tells) in
     one_told text state k.said p q (subst (λ s. IsCellTold state s p) e h.tells) k.tells
+
+-- what is answered is the only one
+pub only_one : {A E : Type 0} (P : A → Type 0) → ((p : A) → (q : A) → P p → P q → p ≡ q) → (result : Result A E)
+    → IfOk result P → IfOk result (λ p. (q : A) → P q → q ≡ p)
+only_one P one (Ok p) h = λ q k. one q p k h
+only_one P one (Err e) h = tt

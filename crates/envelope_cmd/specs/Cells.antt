@@ -19,6 +19,7 @@ use Rattle.at_tables.specs.declared.cells.State.{State}
 use Rattle.at_tables.specs.Tables.{completion_of, coordinator_of, initiator_of, participant_of}
 use Rattle.at_tables.specs.Texts.{act_text, state_name}
 use Rattle.addressing.specs.Posting.{post_to_of}
+use Rattle.xml_grammar.specs.Characters.{◌>>=◌}
 use Rattle.wire_msgs.specs.declared.decode.Arrival.{Arrival}
 use Rattle.wire_msgs.specs.declared.refusal.Refusal.{Refusal}
 use Rattle.wire_posts.specs.Envelopes.{IsTextOf}

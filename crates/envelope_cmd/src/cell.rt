@@ -1,9 +1,11 @@
 //! `cell`: the cell that an envelope meets, and what the cell posts.
 
 ghost use Rattle.std.specs.Prelude.{◌≡◌, ◌++◌, IfOk, OnOk, Some};
+ghost use Rattle.envelope_cmd.specs.Output.{Output};
 ghost use Rattle.envelope_cmd.specs.Cells.{IsCellOf, IsCellPrinted, IsMetPrinted, IsPosted, cell_line, meets, posted};
 
 use crate::check::refused;
+use crate::laws::one_report_is_printed;
 use crate::lines::push;
 use crate::printed::Printed;
 use crate::table::{meets, posted};
@@ -16,7 +18,15 @@ use wire_posts::encode::encode_post;
 /// The cell of this state that a notification meets, and the envelope that the cell posts, each on a line; or the line of
 /// the first refusal. The path of the request is `/`.
 pub fn cell(alloc: Global, bytes: &[u8], state: State) -> Result<Printed, AllocError>
-    ensures sound { IfOk result (IsCellOf bytes.now state) }
+    ensures is { IfOk result (IsCellOf bytes.now state) }
+    ensures only { IfOk result (λ printed. (output : Output) → IsCellOf bytes.now state output → output ≡ printed) }
+{
+    one_report_is_printed();
+    report(alloc, bytes, state)
+}
+
+fn report(alloc: Global, bytes: &[u8], state: State) -> Result<Printed, AllocError>
+    ensures { IfOk result (IsCellOf bytes.now state) }
 {
     match decode(alloc, bytes, "/") {
         Ok(arrival) => met(alloc, &arrival, state),

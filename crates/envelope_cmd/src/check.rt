@@ -5,9 +5,10 @@ ghost use Rattle.std.specs.Option.{option_map};
 ghost use Rattle.envelope_cmd.specs.Checks.{IsCheckOf, check_lines, context_lines, create_lines, expires_line, header_lines, identifier_line, message_lines, register_lines, registration_line, type_line, work_lines};
 ghost use Rattle.envelope_cmd.specs.Lines.{line, where_some};
 ghost use Rattle.envelope_cmd.specs.Names.{kind_name, printed_target, vote_name};
-ghost use Rattle.envelope_cmd.specs.Output.{accepted, refused};
+ghost use Rattle.envelope_cmd.specs.Output.{Output, accepted, refused};
 ghost use Rattle.envelope_cmd.specs.Refusals.{refusal_line};
 
+use crate::laws::one_report_is_printed;
 use crate::lines::{push, push_address, push_address_if, push_line, push_text, push_text_if};
 use crate::names::{kind_name, message_name, push_target, vote_name};
 use crate::printed::Printed;
@@ -23,7 +24,15 @@ use wire_msgs::refusal::Refusal;
 
 /// What the bytes of a request at this path mean, line by line; or the line of the first refusal.
 pub fn check(alloc: Global, bytes: &[u8], path: &str) -> Result<Printed, AllocError>
-    ensures sound { IfOk result (IsCheckOf bytes.now path.now) }
+    ensures is { IfOk result (IsCheckOf bytes.now path.now) }
+    ensures only { IfOk result (λ printed. (output : Output) → IsCheckOf bytes.now path.now output → output ≡ printed) }
+{
+    one_report_is_printed();
+    report(alloc, bytes, path)
+}
+
+fn report(alloc: Global, bytes: &[u8], path: &str) -> Result<Printed, AllocError>
+    ensures { IfOk result (IsCheckOf bytes.now path.now) }
 {
     match decode(alloc, bytes, path) {
         Ok(arrival) => checked(alloc, &arrival),

@@ -3,6 +3,7 @@
 
 pub mod cell;
 pub mod check;
+pub mod laws;
 pub mod lines;
 pub mod names;
 pub mod printed;
