@@ -1,0 +1,50 @@
+-- What was read and printed, as the clauses of the top call say it.
+use Rattle.std.proofs.Common.{◌≡◌, ℕ, List, [], ◌∷◌, Bool, true, false, Option, Some, None, IsTrue, IfSome, length, take, nat_eq, ◌≤◌, ◌||◌, refl, sym, ap, subst, ◌∙◌}
+use Rattle.std.proofs.lemmas.Bool.{eqb-true}
+use Rattle.std.specs.List.{list_any}
+use Rattle.std.specs.Io.KnownBytes.{Appends}
+use Rattle.site_model.specs.Counts.{RisesBy}
+use Rattle.site_model.specs.Source.{IsWhole}
+use Rattle.envelope_cmd.specs.Output.{Output}
+use Rattle.atx.specs.Jobs.{Job}
+use Rattle.atx.specs.Reports.{IsCut, IsDone, Reports, status_of}
+
+on_some : {P Q : List ℕ → Type 0} (left : Option (List ℕ)) → ((input : List ℕ) → P input → Q input) → IfSome left P → IfSome left Q
+on_some None f h = tt
+on_some (Some input) f h = f input h
+
+pub all_given : (left : Option (List ℕ)) (before now : ℕ) (bytes : List ℕ) → IsWhole left before now bytes
+    → IfSome left (λ input. RisesBy (length input) before now)
+all_given left before now bytes h =
+    on_some {P = λ input. bytes ≡ input} {Q = λ input. RisesBy (length input) before now} left (λ input e. subst (λ x. RisesBy (length x) before now) e h.given) h.all
+
+not_five : (status : ℕ) → status ≡ 5 → IsTrue (list_any (nat_eq status) (0 ∷ 3 ∷ [])) → ⊥
+not_five status e k = let no_more : IsTrue false = subst (λ n. IsTrue (list_any (nat_eq n) (0 ∷ 3 ∷ []))) e k in absurd cc
+
+settled_by : (status s : ℕ) (a b : Bool) → nat_eq status s ≡ a → nat_eq status 5 ≡ b → IsTrue (a || (b || false))
+    → IsTrue (list_any (nat_eq status) (0 ∷ 3 ∷ [])) → status ≡ s
+settled_by status s true b p q h k = eqb-true status s p
+settled_by status s false true p q h k = absurd (not_five status (eqb-true status 5 q) k)
+settled_by status s false false p q h k = let no_more : IsTrue false = h in absurd cc
+
+same_job : (named job : Job) → ◌≡◌ {A = Option Job} (Some named) (Some job) → named ≡ job
+same_job named job e = cc
+
+reported : (named job : Job) (bytes told input : List ℕ) (output : Output) → named ≡ job → told ≡ bytes → bytes ≡ input → Reports named told output → Reports job input output
+reported named job bytes told input output e f g h = subst (λ j. Reports j input output) e (subst (λ x. Reports named x output) (f ∙ g) h)
+
+pub all_printed : (left : Option (List ℕ)) (before now : ℕ) (bytes told : List ℕ) (named job : Job) (old new : Option (List ℕ)) (status : ℕ) (output : Output)
+    → IsWhole left before now bytes → told ≡ bytes → Reports named told output → ◌≡◌ {A = Option Job} (Some named) (Some job)
+    → IsTrue (list_any (nat_eq status) (status_of output ∷ 5 ∷ [])) → (status ≡ status_of output → Appends old new output.text)
+    → IsTrue (list_any (nat_eq status) (0 ∷ 3 ∷ [])) → IfSome left (λ input. IsDone job input old new status)
+all_printed left before now bytes told named job old new status output whole t reports same statuses all done =
+    let e : status ≡ status_of output = settled_by status (status_of output) (nat_eq status (status_of output)) (nat_eq status 5) refl refl statuses done in
+    on_some {P = λ input. bytes ≡ input} {Q = λ input. IsDone job input old new status} left
+    (λ input f. record { output = output; reports = reported named job bytes told input output (same_job named job same) t f reports; printed = all e; ended = e }) whole.all
+
+pub part_printed : (left : Option (List ℕ)) (before now : ℕ) (bytes told : List ℕ) (named job : Job) (old new : Option (List ℕ)) (output : Output)
+    → IsWhole left before now bytes → told ≡ bytes → Reports named told output → ◌≡◌ {A = Option Job} (Some named) (Some job)
+    → (n : ℕ) × ((n ≤ length output.text) × Appends old new (take n output.text)) → IfSome left (λ input. IsCut job input old new)
+part_printed left before now bytes told named job old new output whole t reports same (n, (within, part)) =
+    on_some {P = λ input. bytes ≡ input} {Q = λ input. IsCut job input old new} left
+    (λ input f. record { output = output; reports = reported named job bytes told input output (same_job named job same) t f reports; count = n; within = within; printed = part }) whole.all
