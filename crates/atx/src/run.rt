@@ -57,13 +57,7 @@ fn print<K: Sink>(sink: &mut K, printed: &Printed) -> u8
     ensures part { (n : ℕ) × ((n ≤ length printed.now.text) × Appends (K.contents sink.old) (K.contents sink.new) (take n printed.now.text)) }
 {
     match write_all(sink, printed.as_slice()) {
-        Ok(()) => {
-            if printed.is_refusal() {
-                REFUSED
-            } else {
-                DONE
-            }
-        }
+        Ok(()) => { if printed.is_refusal() { REFUSED } else { DONE } }
         Err(_) => SINK_FAILED,
     }
 }

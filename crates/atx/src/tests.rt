@@ -39,7 +39,13 @@ xmlns=\"http://www.w3.org/2005/08/addressing\"><e:Header>{headers}</e:Header><e:
 }
 
 /// A notification to a path from a path, with more header blocks behind the From.
-fn notice(alloc: Global, to: &str, from: &str, name: &str, more: &str) -> Result<String, AllocError> {
+fn notice(
+    alloc: Global,
+    to: &str,
+    from: &str,
+    name: &str,
+    more: &str,
+) -> Result<String, AllocError> {
     let headers = format!(in alloc;
         "<To>http://n2.example{to}</To><Action>http://docs.oasis-open.org/ws-tx/wsat/2006/06/{name}</Action>\
 <From><Address>{from}</Address></From>{more}"
@@ -57,7 +63,9 @@ fn prepared(alloc: Global, kind: &str, more: &str) -> Result<String, AllocError>
 
 /// A message with this action and body, and other header blocks.
 fn message(alloc: Global, action: &str, more: &str, body: &str) -> Result<String, AllocError> {
-    let headers = format!(in alloc; "<Action>http://docs.oasis-open.org/ws-tx/{action}</Action>{more}")?;
+    let headers = format!(in alloc;
+        "<Action>http://docs.oasis-open.org/ws-tx/{action}</Action>{more}"
+    )?;
     sealed(alloc, headers.as_str(), body)
 }
 
@@ -102,7 +110,12 @@ fn worked_cells(rt: HostRuntime) -> Result<(), Fail> {
         ("cell --state None", &named, 0, named_fault.as_str()),
         ("cell --state None", &unnamed, 0, unnamed_fault.as_str()),
         ("cell --state Preparing", &durable, 0, "vote -> Prepared\n"),
-        ("cell --state Registering", &durable, 3, "refused 15 NoState\n"),
+        (
+            "cell --state Registering",
+            &durable,
+            3,
+            "refused 15 NoState\n",
+        ),
     ] {
         assert!(rt; prints(rt, line, input.as_bytes(), printed)? == (status, true));
     }
@@ -131,11 +144,31 @@ fn words_that_are_no_job(rt: HostRuntime) -> Result<(), Fail> {
 #[test]
 fn cells_of_each_table(rt: HostRuntime) -> Result<(), Fail> {
     for (state, to, name, printed) in [
-        ("Committing", "/c/d/1-1/65535", "Committed", "leave -> None\n"),
+        (
+            "Committing",
+            "/c/d/1-1/65535",
+            "Committed",
+            "leave -> None\n",
+        ),
         ("Active", "/p/v/1-1", "Prepare", "gather -> Preparing\n"),
-        ("PreparedSuccess", "/p/d/1-1", "Commit", "commit -> Committing\n"),
-        ("Active", "/completion/1-1", "Commit", "complete -> Completing\n"),
-        ("Completing", "/i/1-1", "Committed", "told committed -> None\n"),
+        (
+            "PreparedSuccess",
+            "/p/d/1-1",
+            "Commit",
+            "commit -> Committing\n",
+        ),
+        (
+            "Active",
+            "/completion/1-1",
+            "Commit",
+            "complete -> Completing\n",
+        ),
+        (
+            "Completing",
+            "/i/1-1",
+            "Committed",
+            "told committed -> None\n",
+        ),
     ] {
         let input = notice(rt.alloc(), to, "http://n3.example/", name, "")?;
         let line = format!(in rt.alloc(); "cell --state {state}")?;
@@ -152,7 +185,14 @@ fn a_cell_without_a_sender_that_can_be_posted_to(rt: HostRuntime) -> Result<(), 
         "http://www.w3.org/2005/08/addressing/anonymous",
     ] {
         let input = notice(rt.alloc(), "/c/d/1-1/1", from, "Prepared", "")?;
-        assert!(rt; prints(rt, "cell --state None", input.as_bytes(), "send Rollback -> None\n")? == (0, true));
+        assert!(rt;
+            prints(
+                rt,
+                "cell --state None",
+                input.as_bytes(),
+                "send Rollback -> None\n"
+            )? == (0, true)
+        );
     }
     Ok(())
 }
@@ -193,7 +233,8 @@ const FAULT: &str = "<s:Envelope xmlns:s=\"http://schemas.xmlsoap.org/soap/envel
 </s:Header><s:Body><s:Fault><faultcode>x:InvalidState</faultcode><faultstring>a</faultstring></s:Fault></s:Body>\
 </s:Envelope>";
 
-const FAULT_WITHOUT_HEADER: &str = "<s:Envelope xmlns:s=\"http://schemas.xmlsoap.org/soap/envelope/\">\
+const FAULT_WITHOUT_HEADER: &str =
+    "<s:Envelope xmlns:s=\"http://schemas.xmlsoap.org/soap/envelope/\">\
 <s:Body><s:Fault><faultcode>x:InvalidState</faultcode><faultstring>a</faultstring></s:Fault></s:Body></s:Envelope>";
 
 #[test]
@@ -205,7 +246,12 @@ fn a_fault_at_a_path(rt: HostRuntime) -> Result<(), Fail> {
             0,
             "message Fault\ntarget initiator 1-1\nname InvalidState\n",
         ),
-        ("check --path /i/1-1", FAULT_WITHOUT_HEADER, 3, "refused 9 MissingHeader\n"),
+        (
+            "check --path /i/1-1",
+            FAULT_WITHOUT_HEADER,
+            3,
+            "refused 9 MissingHeader\n",
+        ),
         ("check", FAULT, 3, "refused 11 NoTarget\n"),
         ("cell --state None", FAULT, 3, "refused 11 NoTarget\n"),
     ] {
@@ -271,8 +317,18 @@ fn refusals_at_limits(rt: HostRuntime) -> Result<(), Fail> {
 #[test]
 fn refusals_of_messages(rt: HostRuntime) -> Result<(), Fail> {
     for (to, name, more, printed) in [
-        ("/c/d/1-1/1", "Prepared", "<Action>a</Action>", "refused 10 InvalidHeader\n"),
-        ("/c/d/1-1/1", "Prepared", "<ReplyTo/>", "refused 10 InvalidHeader\n"),
+        (
+            "/c/d/1-1/1",
+            "Prepared",
+            "<Action>a</Action>",
+            "refused 10 InvalidHeader\n",
+        ),
+        (
+            "/c/d/1-1/1",
+            "Prepared",
+            "<ReplyTo/>",
+            "refused 10 InvalidHeader\n",
+        ),
         ("/c/d/1-1/0", "Prepared", "", "refused 11 NoTarget\n"),
         ("/c/d/1-1/1", "Prepare", "", "refused 12 Action\n"),
         ("/c/d/1-1/1", "Prepared", "", "refused 15 NoState\n"),
@@ -286,7 +342,14 @@ fn refusals_of_messages(rt: HostRuntime) -> Result<(), Fail> {
         "<To>http://n2.example/p/d/1-1</To>",
         "<t:Commit/>",
     )?;
-    assert!(rt; prints(rt, "cell --state None", other.as_bytes(), "refused 13 Parameters\n")? == (3, true));
+    assert!(rt;
+        prints(
+            rt,
+            "cell --state None",
+            other.as_bytes(),
+            "refused 13 Parameters\n"
+        )? == (3, true)
+    );
     Ok(())
 }
 
@@ -298,7 +361,14 @@ fn no_cell_comes_before_no_state(rt: HostRuntime) -> Result<(), Fail> {
         "<To>http://n2.example/c/d/1-1/1</To>",
         "<e:Fault><faultcode xmlns=\"\">a</faultcode><faultstring xmlns=\"\">b</faultstring></e:Fault>",
     )?;
-    assert!(rt; prints(rt, "cell --state Completing", input.as_bytes(), "refused 14 NoCell\n")? == (3, true));
+    assert!(rt;
+        prints(
+            rt,
+            "cell --state Completing",
+            input.as_bytes(),
+            "refused 14 NoCell\n"
+        )? == (3, true)
+    );
     Ok(())
 }
 
@@ -318,7 +388,8 @@ const CONTEXT: &str = "<c:Identifier>urn:i</c:Identifier><c:Expires>+07</c:Expir
 <c:CoordinationType>urn:type</c:CoordinationType>\
 <c:RegistrationService><Address>http://n2.example/registration/1-1</Address></c:RegistrationService>";
 
-const CONTEXT_LINES: &str = "identifier urn:i\ntype urn:type\nregistration http://n2.example/registration/1-1\n";
+const CONTEXT_LINES: &str =
+    "identifier urn:i\ntype urn:type\nregistration http://n2.example/registration/1-1\n";
 
 #[test]
 fn check_of_create(rt: HostRuntime) -> Result<(), Fail> {
@@ -333,7 +404,8 @@ fn check_of_create(rt: HostRuntime) -> Result<(), Fail> {
 <FaultTo><Address>http://www.w3.org/2005/08/addressing/none</Address></FaultTo>",
         body.as_str(),
     );
-    let printed = "message CreateCoordinationContext\ntarget activation\nid urn:a&amp;b\nreply http://n1.example/i/1-1\n\
+    let printed =
+        "message CreateCoordinationContext\ntarget activation\nid urn:a&amp;b\nreply http://n1.example/i/1-1\n\
 fault http://www.w3.org/2005/08/addressing/none\nexpires 60000\nidentifier urn:i\ntype urn:&quot;&#10;own\n\
 registration http://n2.example/registration/1-1\n";
     assert!(rt; says(rt, "/activation", input, printed)? == (0, true));
@@ -368,7 +440,8 @@ fn check_of_register(rt: HostRuntime) -> Result<(), Fail> {
         "<c:Register><c:ProtocolIdentifier>urn:p</c:ProtocolIdentifier>\
 <c:ParticipantProtocolService><Address>http://n3.example/p/d/1-1</Address></c:ParticipantProtocolService></c:Register>",
     );
-    let printed = "message Register\ntarget registration 1-1\nid urn:a\nprotocol urn:p\nservice http://n3.example/p/d/1-1\n";
+    let printed =
+        "message Register\ntarget registration 1-1\nid urn:a\nprotocol urn:p\nservice http://n3.example/p/d/1-1\n";
     assert!(rt; says(rt, "/registration/1-1", input, printed)? == (0, true));
     Ok(())
 }
@@ -382,14 +455,17 @@ fn check_of_register_response(rt: HostRuntime) -> Result<(), Fail> {
         "<c:RegisterResponse><c:CoordinatorProtocolService><Address>http://n2.example/c/d/1-1/1</Address>\
 </c:CoordinatorProtocolService></c:RegisterResponse>",
     );
-    let printed = "message RegisterResponse\ntarget participant volatile 1-1\nrelates urn:a\nservice http://n2.example/c/d/1-1/1\n";
+    let printed =
+        "message RegisterResponse\ntarget participant volatile 1-1\nrelates urn:a\nservice http://n2.example/c/d/1-1/1\n";
     assert!(rt; says(rt, "/p/v/1-1", input, printed)? == (0, true));
     Ok(())
 }
 
 /// An envelope with a message of this project's own namespace.
 fn work(alloc: Global, name: &str, headers: &str, body: &str) -> Result<String, AllocError> {
-    let headers = format!(in alloc; "<Action>http://example.org/atx/work/1/{name}</Action>{headers}")?;
+    let headers = format!(in alloc;
+        "<Action>http://example.org/atx/work/1/{name}</Action>{headers}"
+    )?;
     sealed(alloc, headers.as_str(), body)
 }
 
@@ -415,8 +491,15 @@ fn check_of_work(rt: HostRuntime) -> Result<(), Fail> {
 fn check_of_the_answers_to_work(rt: HostRuntime) -> Result<(), Fail> {
     for name in ["WorkDone", "WorkRefused"] {
         let body = format!(in rt.alloc(); "<w:{name}/>")?;
-        let input = work(rt.alloc(), name, "<RelatesTo>urn:a</RelatesTo>", body.as_str());
-        let printed = format!(in rt.alloc(); "message {name}\ntarget initiator 1-1\nrelates urn:a\n")?;
+        let input = work(
+            rt.alloc(),
+            name,
+            "<RelatesTo>urn:a</RelatesTo>",
+            body.as_str(),
+        );
+        let printed = format!(in rt.alloc();
+            "message {name}\ntarget initiator 1-1\nrelates urn:a\n"
+        )?;
         assert!(rt; says(rt, "/i/1-1?q", input, printed.as_str())? == (0, true));
     }
     Ok(())
@@ -426,15 +509,25 @@ fn check_of_the_answers_to_work(rt: HostRuntime) -> Result<(), Fail> {
 fn check_of_each_notification(rt: HostRuntime) -> Result<(), Fail> {
     for (name, to, target) in [
         ("Prepare", "/p/v/1-1", "participant volatile 1-1"),
-        ("Commit", "/completion/4294967295-1", "completion 4294967295-1"),
+        (
+            "Commit",
+            "/completion/4294967295-1",
+            "completion 4294967295-1",
+        ),
         ("Rollback", "/p/d/1-1", "participant durable 1-1"),
         ("Prepared", "/c/d/1-1/1", "coordinator durable 1-1 1"),
-        ("ReadOnly", "/c/v/1-1/65535", "coordinator volatile 1-1 65535"),
+        (
+            "ReadOnly",
+            "/c/v/1-1/65535",
+            "coordinator volatile 1-1 65535",
+        ),
         ("Aborted", "/i/1-1", "initiator 1-1"),
         ("Committed", "/c/d/1-1/1", "coordinator durable 1-1 1"),
     ] {
         let input = notice(rt.alloc(), to, "http://n3.example/", name, "");
-        let printed = format!(in rt.alloc(); "message {name}\ntarget {target}\nfrom http://n3.example/\n")?;
+        let printed = format!(in rt.alloc();
+            "message {name}\ntarget {target}\nfrom http://n3.example/\n"
+        )?;
         assert!(rt; says(rt, "/work", input, printed.as_str())? == (0, true));
     }
     Ok(())

@@ -45,11 +45,7 @@ pub fn push_text(name: &str, text: &Text, out: &mut Vec<u8>) -> Result<(), Alloc
 }
 
 /// Adds the line of a text where there is one.
-pub fn push_text_if(
-    name: &str,
-    text: &Option<Text>,
-    out: &mut Vec<u8>,
-) -> Result<(), AllocError>
+pub fn push_text_if(name: &str, text: &Option<Text>, out: &mut Vec<u8>) -> Result<(), AllocError>
     ensures { OnOk result (out.new.items ≡ out.old.items ++ where_some (text_line name.now) text.now) }
 {
     match text {
@@ -66,11 +62,7 @@ pub fn push_address(name: &str, epr: &Epr, out: &mut Vec<u8>) -> Result<(), Allo
 }
 
 /// Adds the line of an endpoint where there is one.
-pub fn push_address_if(
-    name: &str,
-    epr: &Option<Epr>,
-    out: &mut Vec<u8>,
-) -> Result<(), AllocError>
+pub fn push_address_if(name: &str, epr: &Option<Epr>, out: &mut Vec<u8>) -> Result<(), AllocError>
     ensures { OnOk result (out.new.items ≡ out.old.items ++ where_some (address_line name.now) epr.now) }
 {
     match epr {

@@ -42,9 +42,10 @@ fn refusal_of(refusal: &Refusal) -> &'static str {
 /// Its default namespace is that of the action, `a` is bound to addressing, `e` to SOAP.
 fn envelope(alloc: Global, action: &str, headers: &str, body: &str) -> Result<String, AllocError> {
     let space = match action {
-        "CreateCoordinationContext" | "CreateCoordinationContextResponse" | "Register" | "RegisterResponse" => {
-            "http://docs.oasis-open.org/ws-tx/wscoor/2006/06"
-        }
+        "CreateCoordinationContext"
+        | "CreateCoordinationContextResponse"
+        | "Register"
+        | "RegisterResponse" => { "http://docs.oasis-open.org/ws-tx/wscoor/2006/06" }
         "Work" | "WorkDone" | "WorkRefused" => "http://example.org/atx/work/1",
         _ => "http://docs.oasis-open.org/ws-tx/wsat/2006/06",
     };
@@ -67,17 +68,47 @@ fn notifications(rt: HostRuntime) -> Result<(), Fail> {
     for row in [
         ["Prepare", "/p/d/1-1", "<Prepare ></Prepare\n>", "Notice"],
         ["Prepare", "/p/d/1-1", "<Prepare xmlns=''/>", "Parameters"],
-        ["Commit", "/completion/1-1", "<!-- - --><Commit><x/></Commit> ", "Notice"],
+        [
+            "Commit",
+            "/completion/1-1",
+            "<!-- - --><Commit><x/></Commit> ",
+            "Notice",
+        ],
         ["Commit", "/completion/1-1", "<Rollback/>", "Parameters"],
-        ["Rollback", "/p/v/1-1", "<z:Rollback xmlns:z='http://docs.oasis-open.org/ws-tx/wsat/2006/06'/>", "Notice"],
+        [
+            "Rollback",
+            "/p/v/1-1",
+            "<z:Rollback xmlns:z='http://docs.oasis-open.org/ws-tx/wsat/2006/06'/>",
+            "Notice",
+        ],
         ["Rollback", "/p/v/1-1", "<c:Rollback/>", "Parameters"],
-        ["Prepared", "/c/d/1-1/1", "<Prepared a = \"1\" e:b\n=\n'2' />", "Notice"],
+        [
+            "Prepared",
+            "/c/d/1-1/1",
+            "<Prepared a = \"1\" e:b\n=\n'2' />",
+            "Notice",
+        ],
         ["Prepared", "/c/d/1-1/1", "<prepared/>", "Parameters"],
         ["ReadOnly", "/c/v/1-1/9", "text<ReadOnly/>text", "Notice"],
-        ["ReadOnly", "/c/v/1-1/9", "<ReadOnly/><ReadOnly/>", "NotEnvelope"],
-        ["Aborted", "/i/1-1", "<Aborted>&#x61;<![CDATA[<]]></Aborted>", "Notice"],
+        [
+            "ReadOnly",
+            "/c/v/1-1/9",
+            "<ReadOnly/><ReadOnly/>",
+            "NotEnvelope",
+        ],
+        [
+            "Aborted",
+            "/i/1-1",
+            "<Aborted>&#x61;<![CDATA[<]]></Aborted>",
+            "Notice",
+        ],
         ["Aborted", "/i/1-1", "&lt;Aborted/>", "NotEnvelope"],
-        ["Committed", "/i/1-1", "<Committed xmlns:p='urn:p' p:q='&apos;'/>", "Notice"],
+        [
+            "Committed",
+            "/i/1-1",
+            "<Committed xmlns:p='urn:p' p:q='&apos;'/>",
+            "Notice",
+        ],
         ["Committed", "/p/d/1-1", "<Committed/>", "Action"],
     ] {
         assert!(rt; is_read(rt.alloc(), row, "")?);
@@ -142,7 +173,8 @@ fn bodies_of_coordination(rt: HostRuntime) -> Result<(), Fail> {
     Ok(())
 }
 
-const WORK_HEADERS: &str = "<a:MessageID>urn:a</a:MessageID><c:CoordinationContext><c:Identifier>urn:i</c:Identifier>\
+const WORK_HEADERS: &str =
+    "<a:MessageID>urn:a</a:MessageID><c:CoordinationContext><c:Identifier>urn:i</c:Identifier>\
 <c:CoordinationType>urn:t</c:CoordinationType><c:RegistrationService><a:Address>urn:r</a:Address></c:RegistrationService>\
 </c:CoordinationContext>";
 
@@ -161,9 +193,19 @@ fn bodies_of_work(rt: HostRuntime) -> Result<(), Fail> {
             "<Work><Vote>Readonly</Vote><Kind>volatile</Kind><Value/><Key>k</Key></Work>",
             "Parameters",
         ],
-        ["WorkDone", "/i/1-1", "<WorkDone>done</WorkDone>", "WorkDone"],
+        [
+            "WorkDone",
+            "/i/1-1",
+            "<WorkDone>done</WorkDone>",
+            "WorkDone",
+        ],
         ["WorkDone", "/work", "<WorkDone/>", "Action"],
-        ["WorkRefused", "/i/1-1", "<WorkRefused\t></WorkRefused>", "WorkRefused"],
+        [
+            "WorkRefused",
+            "/i/1-1",
+            "<WorkRefused\t></WorkRefused>",
+            "WorkRefused",
+        ],
         ["WorkRefused", "/i/1-1", "<WorkDone/>", "Parameters"],
     ] {
         assert!(rt; is_read(rt.alloc(), row, WORK_HEADERS)?);
