@@ -542,6 +542,8 @@ struct ShortSink {
 }
 
 impl Sink for ShortSink {
+    ghost use Rattle.std.specs.Prelude.{Some};
+
     ghost contents = { λ s. Some s.bytes.items };
 
     ghost faults = { λ s. s.faults };
