@@ -351,14 +351,16 @@ message_read (messages.Fault name) headers target body a t h w k =
 abbrev meant : Result Headers Refusal → Tree → List ℕ → Result Arrival Refusal
 meant said body path = said >>= λ headers. arrival_under headers body path
 
+abbrev said_by : Result (Unit {0}) Refusal → Result Target Refusal → (Target → Result Message Refusal) → Result (Target × Message) Refusal
+said_by said_asked said_target said_message = do
+  asked ← said_asked
+  target ← said_target
+  message ← said_message target
+  Ok (target, message)
+
 abbrev under : Headers → Result (Unit {0}) Refusal → Result Target Refusal → (Target → Result Message Refusal) → Result Arrival Refusal
-under headers said_asked said_target said_message = do
-  said ← (do
-    asked ← said_asked
-    target ← said_target
-    message ← said_message target
-    Ok (target, message))
-  Ok (arrived headers said.0 said.1)
+under headers said_asked said_target said_message =
+    said_by said_asked said_target said_message >>= λ said. Ok (arrived headers said.0 said.1)
 
 arrives_under : (headers : Headers) (body : Tree) (path : List ℕ) (target : Target) (message : Message) → request_of headers body.name ≡ Ok tt
     → target_at headers.to path ≡ Some target → message_of headers target body ≡ Ok message
@@ -366,7 +368,7 @@ arrives_under : (headers : Headers) (body : Tree) (path : List ℕ) (target : Ta
 arrives_under headers body path target message a t m =
     ap (λ r. under headers (addressing r) (targeted (target_at headers.to path)) (λ found. message_of headers found body)) a
     ∙ (ap (λ o. under headers (Ok tt) (targeted o) (λ found. message_of headers found body)) t
-    ∙ ap (λ r. r >>= λ said. Ok (arrived headers target said)) m)
+    ∙ ap (λ (r : Result Message Refusal). under headers (Ok tt) (Ok target) (λ found. r)) m)
 
 means : (post : Post) (path : List ℕ) (target : Target) (out : OutgoingHeaders) (body : Tree) → AreHeadersOf post out → IsBodyOf post.message body
     → CanReturn post path target → arrival_of (envelope_tree (blocks_of out) body) path ≡ Ok (returned post target)
