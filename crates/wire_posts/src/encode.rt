@@ -37,7 +37,7 @@ pub fn encode(alloc: Global, outgoing: &Outgoing) -> Result<Vec<u8>, AllocError>
 }
 
 /// The canonical text of the envelope of a message. Where the message can be read at all, it is read as what it was.
-#[tactic(auto, using(crate::proofs::Arriving::text_returns, crate::proofs::Single::text_one))]
+#[tactic(auto, using(crate::proofs::Arriving::text_returns))]
 pub fn encode_post(alloc: Global, post: &Post) -> Result<Vec<u8>, AllocError>
     ensures text { IfOk result (λ bytes. IsTextOf post.now bytes.items) }
     ensures only { IfOk result (λ bytes. (text : List ℕ) → IsTextOf post.now text → text ≡ bytes.items) }
