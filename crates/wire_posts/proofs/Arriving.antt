@@ -1,5 +1,5 @@
 -- What is posted arrives.
-use Rattle.std.proofs.Common.{inl, ◌≡◌, ◌≤◌, ℕ, List, [], ◌∷◌, ◌++◌, Bool, true, false, ◌&&◌, ◌||◌, not, IfSome, Option, Some, None, Result, Ok, Err, refl, ap, subst, sym, ◌∙◌, cond}
+use Rattle.std.proofs.Common.{inl, ◌≡◌, ℕ, List, [], ◌∷◌, Bool, true, false, ◌&&◌, ◌||◌, not, IfSome, Option, Some, None, Result, Ok, Err, refl, ap, subst, sym, ◌∙◌, cond}
 use Rattle.std.specs.Prelude.{codes, is_some}
 use Rattle.std.specs.Option.{option_and_then, option_map}
 use Rattle.std.specs.Str.{bytes_eq, chars, is_utf8}
@@ -8,11 +8,10 @@ use Rattle.url.specs.Parser.{parse_url, Parsed}
 use Rattle.xml_profile.specs.declared.name.QName.{QName}
 use Rattle.xml_profile.specs.declared.tree.Tree.{Tree}
 use Rattle.xml_profile.specs.Canonical.{canonical_text}
-use Rattle.xml_profile.specs.Prefixes.{coordination as coordination_space, soap as soap_space}
+use Rattle.xml_profile.specs.Prefixes.{soap as soap_space}
 use Rattle.xml_grammar.specs.Limits.{IsWithin}
-use Rattle.xml_grammar.specs.Refusals.{IsShort, Reads}
+use Rattle.xml_grammar.specs.Refusals.{IsShort}
 use Rattle.xml_roundtrip.proofs.Reread.{written_reads}
-use Rattle.soap_profile.specs.declared.envelope.Envelope.{Envelope}
 use Rattle.soap_profile.specs.Building.{children_of, qualified}
 use Rattle.soap_profile.specs.Envelopes.{enveloped, envelope_of, envelope_tree, judged, not_understood, opened, sole}
 use Rattle.soap_profile.specs.Values.{elements, is_empty, is_named}
@@ -43,7 +42,7 @@ use Rattle.wire_msgs.specs.declared.decode.Arrival.{Arrival}
 use Rattle.wire_msgs.specs.declared.form.Form.{Form}
 use Rattle.wire_msgs.specs.declared.form.Form.TheVariants as forms
 use Rattle.wire_msgs.specs.declared.refusal.Refusal.{Refusal}
-use Rattle.wire_msgs.specs.Arrivals.{Arrives, arrival_in, arrival_of, arrival_under, arrived, message_of, said_in, targeted}
+use Rattle.wire_msgs.specs.Arrivals.{Arrives, arrival_in, arrival_of, arrival_under, arrived, message_of, targeted}
 use Rattle.wire_msgs.specs.Forms.{action_of, form_of, local_of, space_of, takes_any}
 use Rattle.wire_msgs.specs.Refusals.{addressing, soap, ◌>>=◌}
 use Rattle.wire_msgs.specs.Targets.{path_in, target_at}
@@ -51,12 +50,11 @@ use Rattle.wire_msgs.proofs.Forms.{takes_as_modelled}
 use Rattle.wire_posts.specs.declared.fault.WrittenFault.{WrittenFault}
 use Rattle.wire_posts.specs.declared.fault.WrittenFault.TheVariants.{NotProfileDocument, VersionMismatch, NotEnvelope, MustUnderstand, HeaderRequired, InvalidHeader, ActionNotSupported, InvalidState, InvalidProtocol, InvalidParameters, CannotCreateContext, CannotRegisterParticipant, UnknownTransaction, Other}
 use Rattle.wire_posts.specs.Envelopes.{AreBoth, AreHeadersOf, IsBodyOf, IsEnvelopeOf, IsReplyOf, IsTextOf, IsWorkContext, action_in, context_in, reply_epr}
-use Rattle.wire_posts.specs.Faults.{fault_action, fault_body, fault_named}
-use Rattle.wire_posts.specs.Returning.{CanReturn, IsAnswerable, IsClean, IsInLimits, IsRequest, IsSource, IsWhole, IsWholeMessage, IsWholeReply, Returns, returned, written_to}
+use Rattle.wire_posts.specs.Faults.{fault_action, fault_named}
+use Rattle.wire_posts.specs.Returning.{CanReturn, IsAnswerable, IsClean, IsRequest, IsSource, IsWholeMessage, IsWholeReply, Returns, returned, written_to}
 use Rattle.wire_posts.proofs.Bodies.{ContextRead, contexts_read, fault_message, named, said_body, said_message}
 use Rattle.wire_posts.proofs.Ends.{IsRead, is_read, is_spelled}
-use Rattle.wire_posts.proofs.Spelling.{AllCan, Can, all_can}
-use Rattle.wire_posts.proofs.Tests.{false_unless, taken}
+use Rattle.wire_posts.proofs.Spelling.{Can}
 use Rattle.wire_posts.proofs.Written.{body_can, envelope_can, headers_can}
 
 -- an envelope opens as what it was made of
