@@ -340,9 +340,9 @@ fn refusal_name(refusal: Option<Refusal>) -> &'static str {
 }
 
 /// Why an event is refused, where it is a request.
-fn refusal_of(activities: &Activities, event: &Event, next: Option<Id>) -> &'static str {
+fn refusal_of(activities: &Activities, event: &Event, moment: &Moment) -> &'static str {
     match event {
-        Event::Local(local) => refusal_name(activities.refuses(next, local)),
+        Event::Local(local) => refusal_name(activities.refuses(moment.next, local)),
         _ => "",
     }
 }
@@ -356,7 +356,7 @@ fn step(
     next: Option<Id>,
 ) -> Result<String, AllocError> {
     let moment = moment_at(alloc, now, next)?;
-    let refusal = refusal_of(activities, event.as_ref(), next);
+    let refusal = refusal_of(activities, event.as_ref(), &moment);
     let plan = activities.plan(alloc, event.as_ref(), &moment)?;
     let outs = activities.apply(plan, true);
     let line = outs_line(alloc, &outs)?;
