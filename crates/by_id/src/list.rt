@@ -1,6 +1,8 @@
 //! A list of live items, with room for as many as a node takes.
 
 ghost use Rattle.std.specs.Prelude.{ℕ, Bool, ◌≡◌, IfOk, [], option_copied, length, Some, None};
+ghost use Rattle.std.specs.Fn.{CalledAt};
+ghost use Rattle.std.specs.List.Retain.{IsFiltered};
 ghost use Rattle.at_base.specs.Numbers.{Numbers};
 ghost use Rattle.at_base.specs.declared.event.Moment.{Moment};
 ghost use Rattle.at_model.specs.Book.{is_id, find_by, put_by};
@@ -159,6 +161,14 @@ impl<T: Identified + Drop> ById<T> {
                 unreachable!()
             };
         }
+    }
+
+    /// Keeps the items at which `keeps` answers `true`, in their order. It takes no memory.
+    pub fn retain<F: FnMut(&T) -> bool>(&mut self, keeps: F)
+        requires { F.IsAlwaysCallable keeps }
+        ensures { IsFiltered (CalledAt F.FnMut) keeps self.old self.new }
+    {
+        self.items.retain(keeps);
     }
 
     /// Takes an alteration over. It takes no memory, and cannot fail.

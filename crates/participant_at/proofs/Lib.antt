@@ -1,4 +1,4 @@
-mod Naming
+mod Following
 mod Ending
 mod Employing
 mod Modelled

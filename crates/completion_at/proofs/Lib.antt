@@ -1,0 +1,5 @@
+mod Asking
+mod Ending
+mod Following
+mod Modelled
+mod Slashes

@@ -1,0 +1,17 @@
+use Rattle.std.proofs.Common.{◌≡◌, ◌∙◌, ◌∷◌, [], ap}
+use Rattle.at_base.specs.declared.message.Message.TheVariants as messages
+use Rattle.at_base.specs.declared.outs.Out.TheVariants as outs
+use Rattle.at_model.specs.Activities.{activity_target, service}
+use Rattle.at_model.specs.Addresses.{work_id}
+use Rattle.at_model.specs.Posts.{request_post}
+use Rattle.completion_at.specs.Planning.{nth_work}
+use Rattle.completion_at.proofs.Following.{given}
+use Rattle.completion_at.proofs.requests.nth_work.Goals as goal
+
+pub returns : goal.returns
+unfolding nth_work
+returns c =
+    let named : c.in_ok-id.id ≡ work_id c.args.moment.now.base (activity_target c.args.activity.now) c.args.n = c.in_ok-id.ensures ∙ ap (λ own. work_id c.args.moment.now.base own c.args.n) c.target_of-own.ensures in
+    given c.alone.result _ _
+    (ap (λ p. outs.Post p ∷ []) (c.in_ok-post.ensures ∙ (λ i. request_post c.args.moment.now.base (c.target_of-own.ensures i) (c.in_ok-to.ensures i) (named i) (messages.Work c.args.work))))
+    c.alone.ensures

@@ -1,0 +1,4 @@
+pub mod Branches
+pub mod Names
+pub mod Planning
+pub mod Whole

@@ -1,0 +1,203 @@
+//! What an activity does by itself: it expires, and it sends again (WS-Coordination 1.2, section 2.1; this project's
+//! profile).
+
+ghost use Rattle.std.specs.Prelude.{ℕ, List, ◌≡◌, ◌&&◌, ◌++◌, IfOk, OnOk, [], Some, None, map};
+ghost use Rattle.at_base.specs.declared.outs.Out.TheVariants as outcome;
+ghost use Rattle.at_model.specs.Activities.{is_begun};
+ghost use Rattle.at_model.specs.Due.{has_come, is_quiet, is_some_post, before_active, activity_again, activity_due, activity_reached, completion_register_again};
+ghost use Rattle.at_model.specs.Step.{is_reached};
+ghost use Rattle.by_id.specs.Plans.{decided};
+ghost use Rattle.completion_at.specs.Branches.{kept};
+ghost use Rattle.completion_at.specs.Names.{progress_of};
+
+use crate::activity::{Activity, Progress};
+use crate::posts::{push_completion, push_completion_register};
+use crate::rules::{ignores, is_begun, kept, told};
+use at_base::event::Moment;
+use at_base::id::Id;
+use at_base::outs::{OutList, Told};
+use by_id::list::Identified;
+use by_id::plan::{Branch, Plan};
+use std::alloc::{AllocError, Global};
+
+/// How long an activity waits for an answer before it sends again, in milliseconds.
+pub const RESEND_AFTER: u64 = 5000;
+
+/// Whether a deadline has come.
+fn has_come(now: u64, deadline: Option<u128>) -> bool
+    ensures { result ≡ has_come now deadline }
+{
+    match deadline {
+        Some(time) => time <= u128::from(now),
+        None => false,
+    }
+}
+
+/// Whether the last sending is old, or unknown.
+fn is_quiet(now: u64, sent: Option<u64>) -> bool
+    ensures { result ≡ is_quiet now sent }
+{
+    match sent {
+        Some(sent) => RESEND_AFTER <= now && sent <= now - RESEND_AFTER,
+        None => true,
+    }
+}
+
+/// Whether an activity still waits for its context or its registration.
+fn before_active(progress: Progress) -> bool
+    ensures { result ≡ before_active (progress_of progress) }
+{
+    match progress {
+        Progress::Creating | Progress::Registering => true,
+        Progress::Active | Progress::Completing(_) => false,
+    }
+}
+
+/// Whether a begun activity has expired before it is Active.
+fn is_expired(moment: &Moment, activity: &Activity) -> bool
+    ensures { result
+        ≡ (is_begun activity.now && before_active activity.now.progress
+        && has_come moment.entry.now.now activity.now.deadline) }
+{
+    is_begun(activity)
+        && before_active(activity.progress)
+        && has_come(moment.now, activity.deadline)
+}
+
+/// Whether an activity waits for an answer to what it can send again.
+fn waits(activity: &Activity) -> bool
+    ensures { (base : List ℕ) → result ≡ is_some_post (activity_again base activity.now activity.now.progress) }
+{
+    match activity.progress {
+        Progress::Registering => activity.context.is_some(),
+        Progress::Completing(_) => activity.coordinator.is_some(),
+        Progress::Creating | Progress::Active => false,
+    }
+}
+
+/// Whether an activity has waited long enough to send again.
+fn is_unanswered(moment: &Moment, activity: &Activity) -> bool
+    ensures { result
+        ≡ (is_quiet moment.entry.now.now activity.now.sent
+        && is_some_post (activity_again moment.entry.now.base activity.now activity.now.progress)) }
+{
+    is_quiet(moment.now, activity.sent) && waits(activity)
+}
+
+/// Whether an activity is due.
+pub fn is_due(moment: &Moment, activity: &Activity) -> bool
+    ensures { result ≡ is_reached (activity_due moment.entry.now activity.now) }
+{
+    is_expired(moment, activity) || is_unanswered(moment, activity)
+}
+
+impl Identified for Activity {
+    ghost use Rattle.at_model.specs.Book.{activity_id};
+    ghost use Rattle.at_model.specs.Due.{activity_due};
+    ghost use Rattle.at_model.specs.Step.{is_reached};
+
+    ghost id_of = { activity_id };
+
+    ghost is_due_at = { λ m a. is_reached (activity_due m a) };
+
+    fn id(&self) -> Id {
+        self.id
+    }
+
+    fn is_due(&self, moment: &Moment) -> bool {
+        is_due(moment, self)
+    }
+}
+
+/// The Register that waits for its answer.
+fn push_register_again(
+    alloc: Global,
+    outs: &mut OutList,
+    moment: &Moment,
+    activity: &Activity,
+) -> Result<(), AllocError>
+    ensures { OnOk result
+        (outs.new
+        ≡ outs.old
+        ++ map outcome.Post
+        (completion_register_again moment.entry.now.base activity.now activity.now.context)) }
+{
+    match &activity.context {
+        Some(context) => push_completion_register(
+            alloc,
+            outs,
+            moment,
+            activity,
+            &context.registration,
+        ),
+        None => Ok(()),
+    }
+}
+
+/// What an activity sends again: its Register, or its Commit or Rollback.
+fn push_again(
+    alloc: Global,
+    outs: &mut OutList,
+    moment: &Moment,
+    activity: &Activity,
+) -> Result<(), AllocError>
+    ensures { OnOk result
+        (outs.new
+        ≡ outs.old
+        ++ map outcome.Post (activity_again moment.entry.now.base activity.now activity.now.progress)) }
+{
+    match activity.progress {
+        Progress::Registering => push_register_again(alloc, outs, moment, activity),
+        Progress::Completing(notice) => push_completion(alloc, outs, moment, activity, notice),
+        Progress::Creating | Progress::Active => Ok(()),
+    }
+}
+
+/// A copy of the activity that has sent now.
+fn sent_now(moment: &Moment, activity: &Activity) -> Result<Activity, AllocError>
+    ensures { IfOk result (λ next. next ≡ record activity.now { sent = Some moment.entry.now.now }) }
+{
+    let mut next = activity.clone()?;
+    next.sent = Some(moment.now);
+    Ok(next)
+}
+
+/// The activity sends again.
+fn sends_again(
+    alloc: Global,
+    mut outs: OutList,
+    moment: &Moment,
+    activity: &Activity,
+) -> Result<Branch<Activity>, AllocError>
+    ensures { IfOk result
+        (λ branch. branch
+        ≡ kept (record activity.now { sent = Some moment.entry.now.now })
+        (outs
+        ++ map outcome.Post (activity_again moment.entry.now.base activity.now activity.now.progress))) }
+{
+    push_again(alloc, &mut outs, moment, activity)?;
+    let next = sent_now(moment, activity)?;
+    Ok(kept(alloc, next, outs))
+}
+
+/// An activity that is asked whether it is due.
+#[tactic(auto, unfolding(at_model::specs::Due::activity_reached))]
+pub fn on_due(
+    alloc: Global,
+    outs: OutList,
+    moment: &Moment,
+    activity: &Activity,
+) -> Result<Plan<Activity>, AllocError>
+    ensures { IfOk result
+        (λ plan. plan
+        ≡ decided outs activity.now.id
+        (activity_reached moment.entry.now activity.now (activity_due moment.entry.now activity.now))) }
+{
+    if is_expired(moment, activity) {
+        return told(alloc, outs, activity, Told::Unknown);
+    }
+    if is_unanswered(moment, activity) {
+        return Ok(Plan::Plain(sends_again(alloc, outs, moment, activity)?));
+    }
+    ignores(alloc, outs, activity)
+}

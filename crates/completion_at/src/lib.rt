@@ -1,0 +1,11 @@
+//! A node's activities: the initiators of transactions, and what each event and each request does to them.
+#![tactic(auto)]
+
+pub mod activities;
+pub mod activity;
+pub mod due;
+pub mod posts;
+pub mod requests;
+pub mod rules;
+#[cfg(test)]
+mod tests;

@@ -1,0 +1,534 @@
+//! The requests of the program that runs an initiator.
+
+ghost use Rattle.std.specs.Prelude.{◌≡◌, ◌<◌, ◌+◌, ◌∷◌, IfOk, [], Some, None, option_map, option_copied};
+ghost use Rattle.at_base.specs.declared.outs.Out.TheVariants as outcome;
+ghost use Rattle.at_model.specs.Activities.{service, create_post, asked_expires, new_activity, beginning, on_begin, on_interpose, on_ask, on_complete, is_active};
+ghost use Rattle.at_model.specs.Addresses.{atomic, without_slash};
+ghost use Rattle.at_model.specs.Book.{Progress as Stage};
+ghost use Rattle.at_model.specs.Create.{deadline_of};
+ghost use Rattle.at_model.specs.Moves.{Goes};
+ghost use Rattle.at_model.specs.Step.{refuses_named, works_left, only_begun};
+ghost use Rattle.by_id.specs.declared.plan.Plan.TheVariants as plans;
+ghost use Rattle.by_id.specs.Plans.{decided};
+ghost use Rattle.completion_at.specs.Branches.{kept};
+ghost use Rattle.completion_at.specs.Names.{progress_of, refusal_of};
+ghost use Rattle.completion_at.specs.Planning.{nothing, no_room, unless, begun, nth_work, begin_asked, interpose_asked, asked_of};
+
+use crate::activity::{Activity, Progress};
+use crate::posts::{push_completion, target_of};
+use crate::rules::{ignores, is_begun, kept, silent, unchanged};
+use at_base::epr::Epr;
+use at_base::event::Moment;
+use at_base::id::Id;
+use at_base::message::{Context, Create, Message, Work, cloned_option};
+use at_base::notice::{Kind, Notice, Vote};
+use at_base::outs::{Out, OutList, Post};
+use at_base::text::Text;
+use at_posts::addresses::{create_id, work_id};
+use at_posts::names::atomic;
+use at_posts::posts::request_post;
+use by_id::list::Alteration;
+use by_id::plan::{Branch, Plan};
+use std::alloc::{AllocError, Global};
+
+/// How many activities a node has at most.
+pub const MOST: usize = 256;
+
+/// Why a request is refused.
+#[derive(Clone, Copy, Debug, PartialEq, Eq)]
+pub enum Refusal {
+    /// The activity that it names is gone, or doesn't take it where it stands.
+    Stale,
+    /// The node has as many activities as it may.
+    Full,
+    /// Nothing is left to count with.
+    Spent,
+}
+
+/// A request does nothing.
+pub fn nothing(alloc: Global) -> Plan<Activity>
+    ensures { result ≡ nothing }
+{
+    Plan::Plain(unchanged(alloc, OutList::from_vec(Vec::new(alloc))))
+}
+
+/// Whether an activity takes requests.
+fn is_active(progress: Progress) -> bool
+    ensures { result ≡ is_active (progress_of progress) }
+{
+    match progress {
+        Progress::Active => true,
+        Progress::Creating | Progress::Registering | Progress::Completing(_) => false,
+    }
+}
+
+/// Why no activity can be made.
+pub fn no_room(live: usize, next: Option<Id>) -> Option<Refusal>
+    ensures { option_map refusal_of result ≡ no_room live next }
+{
+    if live >= MOST {
+        return Some(Refusal::Full);
+    }
+    match next {
+        Some(_) => None,
+        None => Some(Refusal::Spent),
+    }
+}
+
+/// Why the activity that a request names doesn't take it, or this.
+pub fn refuses_named(found: Option<&Activity>, more: Option<Refusal>) -> Option<Refusal>
+    ensures { option_map refusal_of result
+        ≡ refuses_named (option_copied found.entry) (option_map refusal_of more) }
+{
+    match found {
+        Some(activity) => {
+            if is_active(activity.progress) {
+                more
+            } else {
+                Some(Refusal::Stale)
+            }
+        }
+        None => Some(Refusal::Stale),
+    }
+}
+
+/// Why an activity can't count one more Work.
+pub fn works_left(found: Option<&Activity>) -> Option<Refusal>
+    ensures { option_map refusal_of result ≡ works_left (option_copied found.entry) }
+{
+    match found {
+        Some(activity) => {
+            if activity.works < u32::MAX {
+                None
+            } else {
+                Some(Refusal::Spent)
+            }
+        }
+        None => Some(Refusal::Stale),
+    }
+}
+
+/// Why an activity can't commit or roll back: it was interposed.
+pub fn only_begun(found: Option<&Activity>) -> Option<Refusal>
+    ensures { option_map refusal_of result ≡ only_begun (option_copied found.entry) }
+{
+    match found {
+        Some(activity) => {
+            if is_begun(activity) {
+                None
+            } else {
+                Some(Refusal::Stale)
+            }
+        }
+        None => Some(Refusal::Stale),
+    }
+}
+
+/// A base URL without a slash at its end.
+fn without_slash(url: &str) -> &str
+    ensures { result.now ≡ without_slash url.now }
+{
+    match url.strip_suffix('/') {
+        Some(front) => front,
+        None => url,
+    }
+}
+
+/// The endpoint of a service at a base URL.
+fn service(alloc: Global, url: &Text, path: &str) -> Result<Epr, AllocError>
+    ensures { IfOk result (λ epr. epr ≡ service url.now path.now) }
+{
+    let base = without_slash(url.as_str());
+    let address = format!(in alloc; "{}{}", base, path)?;
+    Ok(Epr {
+        address: Text::from_string(address),
+        params: Text::copied(alloc, "")?,
+    })
+}
+
+/// The body of CreateCoordinationContext (WS-Coordination 1.2, section 3.1).
+fn create_of(
+    alloc: Global,
+    expires: Option<u32>,
+    current: &Option<Context>,
+) -> Result<Create, AllocError>
+    ensures { IfOk result
+        (λ create. create
+        ≡ record { expires = expires; current = current.now; coordination = atomic }) }
+{
+    let current = cloned_option(current)?;
+    let coordination = Text::copied(alloc, atomic())?;
+    Ok(Create {
+        expires,
+        current,
+        coordination,
+    })
+}
+
+/// One message that is sent.
+fn alone(alloc: Global, post: Post) -> Result<OutList, AllocError>
+    ensures { IfOk result (λ outs. outs ≡ outcome.Post post ∷ []) }
+{
+    let mut outs = OutList::from_vec(Vec::new(alloc));
+    outs.push(Out::Post(post))?;
+    Ok(outs)
+}
+
+/// An activity's CreateCoordinationContext (WS-Coordination 1.2, section 3.1).
+fn create_post(
+    alloc: Global,
+    moment: &Moment,
+    activity: &Activity,
+    coordinator: &Text,
+    expires: Option<u32>,
+    current: &Option<Context>,
+) -> Result<Post, AllocError>
+    ensures { IfOk result
+        (λ post. post
+        ≡ create_post moment.entry.now.base activity.now coordinator.now expires current.now) }
+{
+    let own = target_of(activity);
+    let to = service(alloc, coordinator, "/activation")?;
+    let id = create_id(alloc, &moment.base, &own)?;
+    let create = create_of(alloc, expires, current)?;
+    request_post(alloc, &moment.base, &own, &to, id, Message::Create(create))
+}
+
+/// A new activity, which asks for its context.
+fn beginning(
+    alloc: Global,
+    moment: &Moment,
+    coordinator: &Text,
+    expires: Option<u32>,
+    current: &Option<Context>,
+    activity: Activity,
+) -> Result<Plan<Activity>, AllocError>
+    ensures { IfOk result
+        (λ plan. plan
+        ≡ begun (beginning moment.entry.now.base coordinator.now expires current.now activity)) }
+{
+    let post = create_post(alloc, moment, &activity, coordinator, expires, current)?;
+    let outs = alone(alloc, post)?;
+    Ok(Plan::Plain(Branch {
+        change: Alteration::Add(activity),
+        outs: silent(alloc, outs),
+    }))
+}
+
+/// The Expires that is asked for: none with 0.
+fn asked_expires(ms: u32) -> Option<u32>
+    ensures { result ≡ asked_expires ms }
+{
+    if ms == 0 { None } else { Some(ms) }
+}
+
+/// When something expires that is asked for now.
+fn deadline_of(now: u64, expires: Option<u32>) -> Option<u128>
+    ensures { result ≡ deadline_of now expires }
+{
+    match expires {
+        Some(ms) => Some(u128::from(now) + u128::from(ms)),
+        None => None,
+    }
+}
+
+/// An activity that waits for its context.
+fn new_activity(id: Id, root: Id, deadline: Option<u128>) -> Activity
+    ensures { result ≡ new_activity id root deadline }
+{
+    Activity {
+        id,
+        root,
+        progress: Progress::Creating,
+        context: None,
+        coordinator: None,
+        works: 0,
+        deadline,
+        sent: None,
+    }
+}
+
+/// Begin, under this id.
+#[tactic(auto, unfolding(at_model::specs::Activities::on_begin))]
+fn on_begin(
+    alloc: Global,
+    moment: &Moment,
+    id: Id,
+    coordinator: &Text,
+    ms: u32,
+) -> Result<Plan<Activity>, AllocError>
+    ensures { IfOk result (λ plan. plan ≡ begun (on_begin moment.entry.now id coordinator.now ms)) }
+{
+    let expires = asked_expires(ms);
+    let activity = new_activity(id, id, deadline_of(moment.now, expires));
+    beginning(alloc, moment, coordinator, expires, &None, activity)
+}
+
+/// Interpose, under this id.
+#[tactic(auto, unfolding(at_model::specs::Activities::on_interpose))]
+fn on_interpose(
+    alloc: Global,
+    moment: &Moment,
+    id: Id,
+    coordinator: &Text,
+    above: &Activity,
+) -> Result<Plan<Activity>, AllocError>
+    ensures { IfOk result
+        (λ plan. plan
+        ≡ begun (on_interpose moment.entry.now id coordinator.now above.now.root above.now.context)) }
+{
+    let activity = new_activity(id, above.root, None);
+    beginning(alloc, moment, coordinator, None, &above.context, activity)
+}
+
+/// Begin: a new activity asks for a context (WS-Coordination 1.2, section 3.1).
+pub fn begin(
+    alloc: Global,
+    moment: &Moment,
+    live: usize,
+    coordinator: &Text,
+    ms: u32,
+) -> Result<Plan<Activity>, AllocError>
+    ensures { IfOk result
+        (λ plan. plan
+        ≡ unless (no_room live moment.entry.now.next)
+        (begin_asked moment.entry.now coordinator.now ms moment.entry.now.next)) }
+{
+    match moment.next {
+        Some(id) if live < MOST => on_begin(alloc, moment, id, coordinator, ms),
+        _ => Ok(nothing(alloc)),
+    }
+}
+
+/// Interpose in an activity that takes it.
+fn interpose_in(
+    alloc: Global,
+    moment: &Moment,
+    live: usize,
+    coordinator: &Text,
+    above: &Activity,
+) -> Result<Plan<Activity>, AllocError>
+    ensures { IfOk result
+        (λ plan. plan
+        ≡ unless (no_room live moment.entry.now.next)
+        (interpose_asked moment.entry.now coordinator.now moment.entry.now.next (Some above.now))) }
+{
+    match moment.next {
+        Some(id) if live < MOST => on_interpose(alloc, moment, id, coordinator, above),
+        _ => Ok(nothing(alloc)),
+    }
+}
+
+/// Interpose: a new activity under the root of another asks for a context under that one's.
+pub fn interpose(
+    alloc: Global,
+    moment: &Moment,
+    live: usize,
+    coordinator: &Text,
+    found: Option<&Activity>,
+) -> Result<Plan<Activity>, AllocError>
+    ensures { IfOk result
+        (λ plan. plan
+        ≡ unless (refuses_named (option_copied found.entry) (no_room live moment.entry.now.next))
+        (interpose_asked moment.entry.now coordinator.now moment.entry.now.next (option_copied found.entry))) }
+{
+    match found {
+        Some(above) if is_active(above.progress) => interpose_in(
+            alloc,
+            moment,
+            live,
+            coordinator,
+            above,
+        ),
+        _ => Ok(nothing(alloc)),
+    }
+}
+
+/// The body of a Work under this context.
+fn work_of(
+    context: &Context,
+    kind: Kind,
+    vote: Vote,
+    key: &Text,
+    value: &Text,
+) -> Result<Work, AllocError>
+    ensures { IfOk result
+        (λ work. work
+        ≡ record {
+          context = context.now;
+          key = key.now;
+          value = value.now;
+          kind = kind;
+          vote = vote;
+        }) }
+{
+    let key = key.clone()?;
+    let value = value.clone()?;
+    let context = context.clone()?;
+    Ok(Work {
+        context,
+        key,
+        value,
+        kind,
+        vote,
+    })
+}
+
+/// An activity's n-th Work.
+fn nth_work(
+    alloc: Global,
+    moment: &Moment,
+    activity: &Activity,
+    n: u32,
+    url: &Text,
+    work: Work,
+) -> Result<OutList, AllocError>
+    ensures { IfOk result
+        (λ outs. outs ≡ outcome.Post (nth_work moment.entry.now.base activity.now n url.now work) ∷ []) }
+{
+    let own = target_of(activity);
+    let to = service(alloc, url, "/work")?;
+    let id = work_id(alloc, &moment.base, &own, n)?;
+    let post = request_post(alloc, &moment.base, &own, &to, id, Message::Work(work))?;
+    alone(alloc, post)
+}
+
+/// A copy of the activity that has sent so many Works.
+fn counted(activity: &Activity, works: u32) -> Result<Activity, AllocError>
+    ensures { IfOk result (λ next. next ≡ record activity.now { works = works }) }
+{
+    let mut next = activity.clone()?;
+    next.works = works;
+    Ok(next)
+}
+
+/// The number of the activity's next Work.
+fn next_work(activity: &Activity) -> u32
+    requires { activity.now.works < 4294967295 }
+    ensures { result ≡ activity.now.works + 1 }
+{
+    activity.works + 1
+}
+
+/// The activity's n-th Work is sent.
+fn sends_work(
+    alloc: Global,
+    moment: &Moment,
+    url: &Text,
+    work: Work,
+    n: u32,
+    activity: &Activity,
+) -> Result<Plan<Activity>, AllocError>
+    ensures { IfOk result
+        (λ plan. plan
+        ≡ plans.Plain
+        (kept (record activity.now { works = n })
+        (outcome.Post (nth_work moment.entry.now.base activity.now n url.now work) ∷ []))) }
+{
+    let outs = nth_work(alloc, moment, activity, n, url, work)?;
+    let next = counted(activity, n)?;
+    Ok(Plan::Plain(kept(alloc, next, outs)))
+}
+
+/// Work at an activity that can count it.
+#[tactic(auto, unfolding(at_model::specs::Activities::on_ask))]
+fn asks(
+    alloc: Global,
+    moment: &Moment,
+    url: &Text,
+    kind: Kind,
+    vote: Vote,
+    key: &Text,
+    value: &Text,
+    activity: &Activity,
+) -> Result<Plan<Activity>, AllocError>
+    requires { activity.now.works < 4294967295 }
+    ensures { IfOk result
+        (λ plan. plan
+        ≡ decided [] activity.now.id
+        (Goes
+        (on_ask moment.entry.now url.now kind vote key.now value.now activity.now activity.now.context))) }
+{
+    match &activity.context {
+        Some(context) => {
+            let work = work_of(context, kind, vote, key, value)?;
+            sends_work(alloc, moment, url, work, next_work(activity), activity)
+        }
+        None => ignores(alloc, OutList::from_vec(Vec::new(alloc)), activity),
+    }
+}
+
+/// Work: asks a service for work under the activity's context.
+pub fn ask(
+    alloc: Global,
+    moment: &Moment,
+    url: &Text,
+    kind: Kind,
+    vote: Vote,
+    key: &Text,
+    value: &Text,
+    found: Option<&Activity>,
+) -> Result<Plan<Activity>, AllocError>
+    ensures { IfOk result
+        (λ plan. plan
+        ≡ unless (refuses_named (option_copied found.entry) (works_left (option_copied found.entry)))
+        (asked_of
+        (λ a. on_ask moment.entry.now url.now kind vote key.now value.now a a.context)
+        (option_copied found.entry))) }
+{
+    match found {
+        Some(activity) if is_active(activity.progress) && activity.works < u32::MAX => asks(
+            alloc, moment, url, kind, vote, key, value, activity,
+        ),
+        _ => Ok(nothing(alloc)),
+    }
+}
+
+/// A copy of the activity that asks for its outcome now.
+fn completing(moment: &Moment, notice: Notice, activity: &Activity) -> Result<Activity, AllocError>
+    ensures { IfOk result
+        (λ next. next
+        ≡ record activity.now { progress = Stage.Completing notice; sent = Some moment.entry.now.now }) }
+{
+    let mut next = activity.clone()?;
+    next.progress = Progress::Completing(notice);
+    next.sent = Some(moment.now);
+    Ok(next)
+}
+
+/// The activity asks for its outcome.
+#[tactic(auto, unfolding(at_model::specs::Activities::on_complete))]
+fn completes(
+    alloc: Global,
+    moment: &Moment,
+    notice: Notice,
+    activity: &Activity,
+) -> Result<Plan<Activity>, AllocError>
+    ensures { IfOk result
+        (λ plan. plan ≡ decided [] activity.now.id (Goes (on_complete moment.entry.now notice activity.now))) }
+{
+    let mut outs = OutList::from_vec(Vec::new(alloc));
+    push_completion(alloc, &mut outs, moment, activity, notice)?;
+    let next = completing(moment, notice, activity)?;
+    Ok(Plan::Plain(kept(alloc, next, outs)))
+}
+
+/// Commit or Rollback: asks the completion seat for that outcome (WS-AtomicTransaction 1.2, section 3.2).
+pub fn complete(
+    alloc: Global,
+    moment: &Moment,
+    notice: Notice,
+    found: Option<&Activity>,
+) -> Result<Plan<Activity>, AllocError>
+    ensures { IfOk result
+        (λ plan. plan
+        ≡ unless (refuses_named (option_copied found.entry) (only_begun (option_copied found.entry)))
+        (asked_of (on_complete moment.entry.now notice) (option_copied found.entry))) }
+{
+    match found {
+        Some(activity) if is_active(activity.progress) && is_begun(activity) => completes(
+            alloc, moment, notice, activity,
+        ),
+        _ => Ok(nothing(alloc)),
+    }
+}
