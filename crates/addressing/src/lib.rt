@@ -7,6 +7,4 @@ pub mod headers;
 pub mod post_to;
 pub mod request;
 pub mod stored;
-#[cfg(test)]
-mod tests;
 pub mod writer;

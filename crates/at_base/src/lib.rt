@@ -10,7 +10,5 @@ pub mod notice;
 pub mod outs;
 pub mod record;
 pub mod target;
-#[cfg(test)]
-mod tests;
 pub mod text;
 pub mod well_formed;

@@ -5,5 +5,3 @@
 pub mod cells;
 pub mod laws;
 pub mod names;
-#[cfg(test)]
-mod tests;

@@ -5,6 +5,4 @@ mod children;
 pub mod laws;
 pub mod parameter;
 pub mod reader;
-#[cfg(test)]
-mod tests;
 pub mod writer;

@@ -6,6 +6,4 @@ pub mod leaf;
 pub mod leaves;
 pub mod posts;
 pub mod rules;
-#[cfg(test)]
-mod tests;
 pub mod work;

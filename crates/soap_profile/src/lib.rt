@@ -4,7 +4,5 @@
 pub mod build;
 pub mod envelope;
 pub mod fault;
-#[cfg(test)]
-mod tests;
 pub mod trees;
 pub mod value;

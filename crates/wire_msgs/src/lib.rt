@@ -8,5 +8,3 @@ pub mod form;
 pub mod part;
 pub mod refusal;
 pub mod target;
-#[cfg(test)]
-mod tests;

@@ -10,5 +10,3 @@ pub mod markup;
 mod meaning;
 pub mod reader;
 mod scope;
-#[cfg(test)]
-mod tests;

@@ -6,8 +6,6 @@ pub mod name;
 pub mod names;
 mod spaces;
 pub mod spellable;
-#[cfg(test)]
-mod tests;
 pub mod tree;
 mod used;
 pub mod writer;

@@ -1,12 +1,12 @@
 //! Spellings with the canonical texts of their trees, what is refused, and each limit at its number and past it.
 
-use crate::reader::{BYTES, ELEMENTS, TreeRefusal, read_tree};
 use std::alloc::{AllocError, Global};
 use std::test::Fail;
+use xml_grammar::reader::{BYTES, ELEMENTS, TreeRefusal, read_tree};
 use xml_profile::writer::write_tree;
 
 /// A spelling of each construct, and the canonical text of its tree.
-const READ: [(&str, &str); 27] = [
+const READ: &[(&str, &str)] = &[
     ("<a></a>", "<a/>"),
     (
         " \n<a\tb = \"x\ty\" >1\r\n2</a >\r",
@@ -70,7 +70,7 @@ const READ: [(&str, &str); 27] = [
 ];
 
 /// What spells no tree, a text for each rule.
-const REFUSED: [&str; 59] = [
+const REFUSED: &[&str] = &[
     "<s:Envelope/>",
     "",
     "<a>",
@@ -132,13 +132,19 @@ const REFUSED: [&str; 59] = [
     "<?xml version='1.0' encoding='latin1'?><a/>",
 ];
 
+/// The canonical text of the tree that a text spells.
+fn canonical(alloc: Global, spelling: &str) -> Result<Vec<u8>, Fail> {
+    let tree = read_tree(alloc, spelling.as_bytes())?;
+    let mut out = Vec::new(alloc);
+    write_tree(alloc, &tree, &mut out)?;
+    Ok(out)
+}
+
 #[test]
 fn reads_spellings(rt: HostRuntime) -> Result<(), Fail> {
     for (spelling, wanted) in READ {
-        let tree = read_tree(rt.alloc(), spelling.as_bytes())?;
-        let mut out = Vec::new(rt.alloc());
-        write_tree(rt.alloc(), &tree, &mut out)?;
-        assert_eq!(rt; out.as_slice(), wanted.as_bytes());
+        let found = canonical(rt.alloc(), spelling)?;
+        assert!(rt; found.as_slice() == wanted.as_bytes(), "at {spelling}");
     }
     Ok(())
 }
@@ -150,14 +156,20 @@ fn is_refused(alloc: Global, bytes: &[u8], refusal: TreeRefusal) -> bool {
 #[test]
 fn refuses_other_texts(rt: HostRuntime) -> Result<(), Fail> {
     for spelling in REFUSED {
-        assert!(rt; is_refused(rt.alloc(), spelling.as_bytes(), TreeRefusal::NotSpelled));
+        let right = is_refused(rt.alloc(), spelling.as_bytes(), TreeRefusal::NotSpelled);
+        assert!(rt; right, "at {spelling}");
     }
-    for (bytes, place) in [
-        (b"\xff".as_slice(), 0),
-        (b"<a/>\x80", 4),
-        (b"\xef\xbb\xbf<a>\xc3(", 6),
-    ] {
-        assert!(rt; is_refused(rt.alloc(), bytes, TreeRefusal::NotUtf8 { place }));
+    Ok(())
+}
+
+/// Bytes that are no UTF-8, and the place of the first of them.
+const TORN: &[(&[u8], u64)] = &[(b"\xff", 0), (b"<a/>\x80", 4), (b"\xef\xbb\xbf<a>\xc3(", 6)];
+
+#[test]
+fn refuses_torn_texts(rt: HostRuntime) -> Result<(), Fail> {
+    for (bytes, place) in TORN {
+        let right = is_refused(rt.alloc(), bytes, TreeRefusal::NotUtf8 { place: *place });
+        assert!(rt; right, "at {place}");
     }
     Ok(())
 }
@@ -211,38 +223,54 @@ fn declaring(alloc: Global, count: usize) -> Result<String, Fail> {
     Ok(out)
 }
 
+fn is_read(alloc: Global, text: String) -> bool {
+    read_tree(alloc, text.as_str().as_bytes()).is_ok()
+}
+
+fn is_text_refused(alloc: Global, text: String, refusal: TreeRefusal) -> bool {
+    is_refused(alloc, text.as_str().as_bytes(), refusal)
+}
+
 #[test]
-fn keeps_the_limits(rt: HostRuntime) -> Result<(), Fail> {
+fn reads_up_to_the_limits(rt: HostRuntime) -> Result<(), Fail> {
     let alloc = rt.alloc();
-    for text in [
-        nested(alloc, 32, "")?,
-        repeated(alloc, "<a>", "<b/>", ELEMENTS - 1, "</a>")?,
-        wide(alloc, 32)?,
-        declaring(alloc, 2_000)?,
-        repeated(alloc, "<a>", "b", BYTES - 7, "</a>")?,
-    ] {
-        assert!(rt; read_tree(alloc, text.as_str().as_bytes()).is_ok());
-    }
-    for (text, refusal) in [
-        (nested(alloc, 33, "")?, TreeRefusal::TooDeep),
-        (nested(alloc, 9_000, "")?, TreeRefusal::TooDeep),
-        (nested(alloc, 33, "b")?, TreeRefusal::NotSpelled),
-        (
-            repeated(alloc, "<a>", "<b/>", ELEMENTS, "</a>")?,
-            TreeRefusal::TooMany,
-        ),
-        (wide(alloc, 33)?, TreeRefusal::TooMany),
-        (wide(alloc, 6_000)?, TreeRefusal::TooMany),
-        (
-            repeated(alloc, "<a>", "b", BYTES - 6, "</a>")?,
-            TreeRefusal::TooLong,
-        ),
-        (
-            repeated(alloc, "\u{80}", "\u{80}", BYTES / 2, "")?,
-            TreeRefusal::TooLong,
-        ),
-    ] {
-        assert!(rt; is_refused(alloc, text.as_str().as_bytes(), refusal));
-    }
+    let deep = is_read(alloc, nested(alloc, 32, "")?);
+    let many = is_read(alloc, repeated(alloc, "<a>", "<b/>", ELEMENTS - 1, "</a>")?);
+    let broad = is_read(alloc, wide(alloc, 32)?);
+    let declared = is_read(alloc, declaring(alloc, 2_000)?);
+    let long = is_read(alloc, repeated(alloc, "<a>", "b", BYTES - 7, "</a>")?);
+    assert!(rt; deep && many && broad && declared && long);
+    Ok(())
+}
+
+#[test]
+fn refuses_what_is_too_deep(rt: HostRuntime) -> Result<(), Fail> {
+    let alloc = rt.alloc();
+    let first = is_text_refused(alloc, nested(alloc, 33, "")?, TreeRefusal::TooDeep);
+    let last = is_text_refused(alloc, nested(alloc, 9_000, "")?, TreeRefusal::TooDeep);
+    let spelled = is_text_refused(alloc, nested(alloc, 33, "b")?, TreeRefusal::NotSpelled);
+    assert!(rt; first && last && spelled);
+    Ok(())
+}
+
+#[test]
+fn refuses_what_is_too_many(rt: HostRuntime) -> Result<(), Fail> {
+    let alloc = rt.alloc();
+    let elements = repeated(alloc, "<a>", "<b/>", ELEMENTS, "</a>")?;
+    let elements = is_text_refused(alloc, elements, TreeRefusal::TooMany);
+    let first = is_text_refused(alloc, wide(alloc, 33)?, TreeRefusal::TooMany);
+    let last = is_text_refused(alloc, wide(alloc, 6_000)?, TreeRefusal::TooMany);
+    assert!(rt; elements && first && last);
+    Ok(())
+}
+
+#[test]
+fn refuses_what_is_too_long(rt: HostRuntime) -> Result<(), Fail> {
+    let alloc = rt.alloc();
+    let bytes = repeated(alloc, "<a>", "b", BYTES - 6, "</a>")?;
+    let bytes = is_text_refused(alloc, bytes, TreeRefusal::TooLong);
+    let pairs = repeated(alloc, "\u{80}", "\u{80}", BYTES / 2, "")?;
+    let pairs = is_text_refused(alloc, pairs, TreeRefusal::TooLong);
+    assert!(rt; bytes && pairs);
     Ok(())
 }

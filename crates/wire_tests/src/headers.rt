@@ -1,8 +1,8 @@
-use crate::endpoint::{fault_to, read_epr, reply_to};
-use crate::headers::{AddressingRefusal, Headers, read_headers};
-use crate::post_to::post_to;
-use crate::request::check_request;
-use crate::writer::{Endpoint, OutgoingHeaders, header_blocks};
+use addressing::endpoint::{fault_to, read_epr, reply_to};
+use addressing::headers::{AddressingRefusal, Headers, read_headers};
+use addressing::post_to::{PostTo, post_to};
+use addressing::request::check_request;
+use addressing::writer::{Endpoint, OutgoingHeaders, header_blocks};
 use at_base::epr::{Epr, Reply};
 use at_base::text::Text;
 use soap_profile::envelope::envelope_tree;
@@ -11,7 +11,6 @@ use soap_profile::value::into_elements;
 use std::alloc::Global;
 use std::test::Fail;
 use xml_grammar::reader::read_tree;
-use xml_profile::name::QName;
 use xml_profile::writer::write_tree;
 
 /// The address and the reference parameters of the endpoint with these parts in it.
@@ -24,7 +23,7 @@ fn read(alloc: Global, parts: &str) -> Result<Option<Epr>, Fail> {
 }
 
 /// The parts of an endpoint, and what its address and reference parameters are.
-const READABLE: [(&str, &str, &str); 4] = [
+const READABLE: &[(&str, &str, &str)] = &[
     (
         "<w:Address> http://n1.example/ </w:Address>",
         "http://n1.example/",
@@ -47,7 +46,7 @@ const READABLE: [(&str, &str, &str); 4] = [
     ),
 ];
 
-const UNREADABLE: [&str; 5] = [
+const UNREADABLE: &[&str] = &[
     "",
     "<w:Address> </w:Address>",
     "<w:Address>a</w:Address><w:Address>a</w:Address>",
@@ -55,32 +54,51 @@ const UNREADABLE: [&str; 5] = [
     "<w:Metadata/><w:Address>a</w:Address><w:Metadata/>",
 ];
 
+/// Whether the endpoint with these parts in it is read with this address and these reference parameters.
+fn reads(alloc: Global, parts: &str, address: &str, params: &str) -> Result<bool, Fail> {
+    Ok(read(alloc, parts)?.is_some_and(|epr| epr.address.as_str() == address
+        && epr.params.as_str() == params))
+}
+
+fn is_readable(alloc: Global, parts: &str) -> Result<bool, Fail> {
+    Ok(read(alloc, parts)?.is_some())
+}
+
 #[test]
 fn reads_endpoints(rt: HostRuntime) -> Result<(), Fail> {
-    let alloc = rt.alloc();
     for (parts, address, params) in READABLE {
-        let wanted = Epr {
-            address: Text::copied(alloc, address)?,
-            params: Text::copied(alloc, params)?,
-        };
-        assert!(rt; read(alloc, parts)? == Some(wanted), "at {parts}");
-    }
-    for parts in UNREADABLE {
-        assert!(rt; read(alloc, parts)?.is_none(), "at {parts}");
-    }
-    for (length, readable) in [(2048, true), (2049, false)] {
-        let address = "a".repeat(alloc, length)?;
-        let parts = format!(in alloc; "<w:Address>{address}</w:Address>")?;
-        assert!(rt;
-            read(alloc, parts.as_str())?.is_some() == readable,
-            "at {length}"
-        );
+        let right = reads(rt.alloc(), parts, address, params)?;
+        assert!(rt; right, "at {parts}");
     }
     Ok(())
 }
 
+#[test]
+fn reads_no_other_endpoints(rt: HostRuntime) -> Result<(), Fail> {
+    for parts in UNREADABLE {
+        let readable = is_readable(rt.alloc(), parts)?;
+        assert!(rt; !readable, "at {parts}");
+    }
+    Ok(())
+}
+
+/// Whether an endpoint with an address of so many bytes is read.
+fn is_readable_at(alloc: Global, length: usize) -> Result<bool, Fail> {
+    let address = "a".repeat(alloc, length)?;
+    let parts = format!(in alloc; "<w:Address>{address}</w:Address>")?;
+    is_readable(alloc, parts.as_str())
+}
+
+#[test]
+fn bounds_an_address(rt: HostRuntime) -> Result<(), Fail> {
+    let longest = is_readable_at(rt.alloc(), 2048)?;
+    let longer = is_readable_at(rt.alloc(), 2049)?;
+    assert!(rt; longest && !longer);
+    Ok(())
+}
+
 /// Addresses, and the host, port and path that a post goes to.
-const POSTABLE: [(&str, &str, u16, &str); 4] = [
+const POSTABLE: &[(&str, &str, u16, &str)] = &[
     ("http://n1.example/p/d/1-1", "n1.example", 80, "/p/d/1-1"),
     (
         "http://n1.example:8080/a?b=c#d",
@@ -92,53 +110,95 @@ const POSTABLE: [(&str, &str, u16, &str); 4] = [
     ("http://[::1]:81/x", "[::1]", 81, "/x"),
 ];
 
+fn posted(alloc: Global, address: &str) -> Result<Option<PostTo>, Fail> {
+    let epr = Epr {
+        address: Text::copied(alloc, address)?,
+        params: Text::copied(alloc, "")?,
+    };
+    Ok(post_to(alloc, &epr)?)
+}
+
+/// Whether a post to this address goes to this host, port and path.
+fn posts(alloc: Global, address: &str, host: &str, port: u16, path: &str) -> Result<bool, Fail> {
+    Ok(posted(alloc, address)?.is_some_and(|to| {
+        to.host.as_str() == host && to.port == port && to.path.as_str() == path
+    }))
+}
+
 #[test]
-fn posts_to_http_alone(rt: HostRuntime) -> Result<(), Fail> {
-    let alloc = rt.alloc();
+fn posts_to_http(rt: HostRuntime) -> Result<(), Fail> {
     for (address, host, port, path) in POSTABLE {
-        let epr = Epr {
-            address: Text::copied(alloc, address)?,
-            params: Text::copied(alloc, "")?,
-        };
-        let Some(to) = post_to(alloc, &epr)? else {
-            return Err(Fail::new("not postable"));
-        };
-        assert_eq!(rt; to.host.as_str(), host, "at {address}");
-        assert_eq!(rt; to.port, port, "at {address}");
-        assert_eq!(rt; to.path.as_str(), path, "at {address}");
-    }
-    for address in [
-        "https://n1.example/",
-        "urn:uuid:1",
-        "n1.example",
-        "http://",
-        "",
-    ] {
-        let epr = Epr {
-            address: Text::copied(alloc, address)?,
-            params: Text::copied(alloc, "")?,
-        };
-        assert!(rt; post_to(alloc, &epr)?.is_none(), "at {address}");
+        let right = posts(rt.alloc(), address, host, *port, path)?;
+        assert!(rt; right, "at {address}");
     }
     Ok(())
 }
 
+const UNPOSTABLE: &[&str] = &[
+    "https://n1.example/",
+    "urn:uuid:1",
+    "n1.example",
+    "http://",
+    "",
+];
+
 #[test]
-fn answers_where_told(rt: HostRuntime) -> Result<(), Fail> {
-    let alloc = rt.alloc();
-    let anonymous = read(
-        alloc,
-        "<w:Address>http://www.w3.org/2005/08/addressing/anonymous</w:Address>",
-    )?;
-    let nobody = read(
-        alloc,
-        "<w:Address>http://www.w3.org/2005/08/addressing/none</w:Address>",
-    )?;
-    assert!(rt; reply_to(&None)? == Reply::Anonymous);
-    assert!(rt; reply_to(&anonymous)? == Reply::Anonymous);
-    assert!(rt; reply_to(&nobody)? == Reply::Nobody);
-    assert!(rt; fault_to(&None, &nobody)? == Reply::Nobody);
-    assert!(rt; fault_to(&anonymous, &nobody)? == Reply::Anonymous);
+fn posts_nowhere_else(rt: HostRuntime) -> Result<(), Fail> {
+    for address in UNPOSTABLE {
+        let to = posted(rt.alloc(), address)?;
+        assert!(rt; to.is_none(), "at {address}");
+    }
+    Ok(())
+}
+
+/// The endpoint of an address, none where that is empty.
+fn told_epr(alloc: Global, address: &str) -> Result<Option<Epr>, Fail> {
+    if address.is_empty() {
+        return Ok(None);
+    }
+    Ok(Some(Epr {
+        address: Text::copied(alloc, address)?,
+        params: Text::copied(alloc, "")?,
+    }))
+}
+
+fn told_reply(reply: &Reply) -> &'static str {
+    match reply {
+        Reply::Anonymous => "anonymous",
+        Reply::Nobody => "nobody",
+        Reply::At(_) => "at",
+    }
+}
+
+fn replies(alloc: Global, reply: &str) -> Result<&'static str, Fail> {
+    let reply = told_epr(alloc, reply)?;
+    Ok(told_reply(&reply_to(&reply)?))
+}
+
+fn faults(alloc: Global, fault: &str, reply: &str) -> Result<&'static str, Fail> {
+    let fault = told_epr(alloc, fault)?;
+    let reply = told_epr(alloc, reply)?;
+    Ok(told_reply(&fault_to(&fault, &reply)?))
+}
+
+const ANONYMOUS: &str = "http://www.w3.org/2005/08/addressing/anonymous";
+
+const NOBODY: &str = "http://www.w3.org/2005/08/addressing/none";
+
+#[test]
+fn replies_where_told(rt: HostRuntime) -> Result<(), Fail> {
+    let untold = replies(rt.alloc(), "")?;
+    let anonymous = replies(rt.alloc(), ANONYMOUS)?;
+    let nobody = replies(rt.alloc(), NOBODY)?;
+    assert!(rt; untold == "anonymous" && anonymous == "anonymous" && nobody == "nobody");
+    Ok(())
+}
+
+#[test]
+fn faults_where_told(rt: HostRuntime) -> Result<(), Fail> {
+    let untold = faults(rt.alloc(), "", NOBODY)?;
+    let anonymous = faults(rt.alloc(), ANONYMOUS, NOBODY)?;
+    assert!(rt; untold == "nobody" && anonymous == "anonymous");
     Ok(())
 }
 
@@ -188,25 +248,33 @@ fn push_address(epr: &Option<Epr>, out: &mut String) -> Result<(), Fail> {
     Ok(out.push_str(" ")?)
 }
 
-/// What these header blocks say to a message with this body.
-fn outcome(alloc: Global, blocks: &str, body: &QName) -> Result<String, Fail> {
+fn blocks_of(alloc: Global, blocks: &str) -> Result<Trees, Fail> {
     let spelled = format!(in alloc;
         "<h xmlns:w=\"http://www.w3.org/2005/08/addressing\" xmlns:c=\"http://docs.oasis-open.org/ws-tx/wscoor/2006/06\">{blocks}</h>"
     )?;
     let tree = read_tree(alloc, spelled.as_bytes())?;
-    let blocks = Trees::from_vec(into_elements(alloc, tree.children)?);
-    let headers = match read_headers(alloc, blocks) {
-        Ok(headers) => headers,
-        Err(refusal) => return told(alloc, &refusal),
-    };
-    match check_request(alloc, &headers, body) {
-        Ok(()) => listed(alloc, &headers),
+    Ok(Trees::from_vec(into_elements(alloc, tree.children)?))
+}
+
+/// What headers say to a message with this body.
+fn checked(alloc: Global, headers: &Headers, body: &str) -> Result<String, Fail> {
+    let body = read_tree(alloc, body.as_bytes())?;
+    match check_request(alloc, headers, &body.name) {
+        Ok(()) => listed(alloc, headers),
+        Err(refusal) => told(alloc, &refusal),
+    }
+}
+
+/// What these header blocks say to a message with this body.
+fn outcome(alloc: Global, blocks: &str, body: &str) -> Result<String, Fail> {
+    match read_headers(alloc, blocks_of(alloc, blocks)?) {
+        Ok(headers) => checked(alloc, &headers, body),
         Err(refusal) => told(alloc, &refusal),
     }
 }
 
 /// Header blocks, and what they say.
-const BLOCKS: [(&str, &str); 28] = [
+const BLOCKS: &[(&str, &str)] = &[
     ("", "missing Action"),
     ("<Action>a</Action>", "missing Action"),
     ("<w:Action> a </w:Action>", "- a - - - - - "),
@@ -301,26 +369,20 @@ const BLOCKS: [(&str, &str); 28] = [
 ];
 
 #[test]
-fn reads_headers(rt: HostRuntime) -> Result<(), Fail> {
-    let alloc = rt.alloc();
-    let body = read_tree(alloc, b"<a/>")?.name;
+fn reads_headers_of_blocks(rt: HostRuntime) -> Result<(), Fail> {
     for (blocks, wanted) in BLOCKS {
-        assert_eq!(rt;
-            outcome(alloc, blocks, &body)?.as_str(),
-            wanted,
-            "at {blocks}"
-        );
+        let found = outcome(rt.alloc(), blocks, "<a/>")?;
+        assert!(rt; found.as_str() == *wanted, "at {blocks}");
     }
-    let fault = read_tree(
-        alloc,
-        b"<Fault xmlns=\"http://schemas.xmlsoap.org/soap/envelope/\"/>",
-    )?
-    .name;
+    Ok(())
+}
+
+#[test]
+fn reads_headers_of_a_fault(rt: HostRuntime) -> Result<(), Fail> {
+    let fault = "<Fault xmlns=\"http://schemas.xmlsoap.org/soap/envelope/\"/>";
     let work = "<w:Action>http://example.org/atx/work/1/Work</w:Action>";
-    assert_eq!(rt;
-        outcome(alloc, work, &fault)?.as_str(),
-        "- http://example.org/atx/work/1/Work - - - - - "
-    );
+    let found = outcome(rt.alloc(), work, fault)?;
+    assert!(rt; found.as_str() == "- http://example.org/atx/work/1/Work - - - - - ");
     Ok(())
 }
 
@@ -391,20 +453,20 @@ fn request(alloc: Global) -> Result<OutgoingHeaders, Fail> {
 }
 
 #[test]
-fn writes_headers(rt: HostRuntime) -> Result<(), Fail> {
-    let alloc = rt.alloc();
+fn writes_headers_of_a_notification(rt: HostRuntime) -> Result<(), Fail> {
     let wanted =
         "<s:Envelope xmlns:s=\"http://schemas.xmlsoap.org/soap/envelope/\" xmlns:wsa=\"http://www.w3.org/2005/08/addressing\" xmlns:wsat=\"http://docs.oasis-open.org/ws-tx/wsat/2006/06\"><s:Header><wsa:To>http://n3.example/p/d/1-1</wsa:To><wsa:Action>http://docs.oasis-open.org/ws-tx/wsat/2006/06/Prepare</wsa:Action><wsa:From><wsa:Address>http://n2.example/c/d/1-1/1</wsa:Address></wsa:From><wsa:ReplyTo><wsa:Address>http://www.w3.org/2005/08/addressing/none</wsa:Address></wsa:ReplyTo></s:Header><s:Body><wsat:Prepare/></s:Body></s:Envelope>";
     let prepare = "<Prepare xmlns=\"http://docs.oasis-open.org/ws-tx/wsat/2006/06\"/>";
-    assert_eq!(rt;
-        written(alloc, notification(alloc)?, prepare)?.as_slice(),
-        wanted.as_bytes()
-    );
+    let bytes = written(rt.alloc(), notification(rt.alloc())?, prepare)?;
+    assert!(rt; bytes.as_slice() == wanted.as_bytes());
+    Ok(())
+}
+
+#[test]
+fn writes_headers_of_a_request(rt: HostRuntime) -> Result<(), Fail> {
     let wanted =
         "<s:Envelope xmlns:s=\"http://schemas.xmlsoap.org/soap/envelope/\" xmlns:wsa=\"http://www.w3.org/2005/08/addressing\" xmlns:wscoor=\"http://docs.oasis-open.org/ws-tx/wscoor/2006/06\"><s:Header><wsa:Action>a</wsa:Action><wsa:MessageID/><wsa:RelatesTo>m</wsa:RelatesTo><wsa:ReplyTo><wsa:Address>r</wsa:Address></wsa:ReplyTo><wsa:k a=\"1\" wsa:IsReferenceParameter=\"true\" b=\"2\"/><wsa:l wsa:IsReferenceParameter=\"true\" a=\"1\">x</wsa:l><wscoor:CoordinationContext s:mustUnderstand=\"1\">c</wscoor:CoordinationContext></s:Header><s:Body><b/></s:Body></s:Envelope>";
-    assert_eq!(rt;
-        written(alloc, request(alloc)?, "<b/>")?.as_slice(),
-        wanted.as_bytes()
-    );
+    let bytes = written(rt.alloc(), request(rt.alloc())?, "<b/>")?;
+    assert!(rt; bytes.as_slice() == wanted.as_bytes());
     Ok(())
 }

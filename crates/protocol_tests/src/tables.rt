@@ -1,9 +1,9 @@
 //! Every cell of the four tables, written out by hand.
 
-use crate::cells::{
+use at_base::notice::{Kind, Notice};
+use at_tables::cells::{
     Cell, State, completion_cell, coordinator_cell, initiator_cell, participant_cell,
 };
-use at_base::notice::{Kind, Notice};
 use std::test::Fail;
 
 const COORDINATOR: &str = "\
@@ -83,7 +83,7 @@ Completing, Committed: told committed -> None\n\
 Completing, Aborted: told aborted -> None\n\
 ";
 
-const STATES: [State; 9] = [
+const STATES: &[State] = &[
     State::None,
     State::Registering,
     State::Active,
@@ -95,7 +95,7 @@ const STATES: [State; 9] = [
     State::Completing,
 ];
 
-const NOTICES: [Notice; 7] = [
+const NOTICES: &[Notice] = &[
     Notice::Prepare,
     Notice::Commit,
     Notice::Rollback,
@@ -140,34 +140,36 @@ fn seat_row(kind: Kind, state: State) -> &'static str {
     }
 }
 
+fn seat_stands(rt: HostRuntime, kind: Kind, state: State, notice: Notice) -> Result<bool, Fail> {
+    let cell = coordinator_cell(kind, state, notice);
+    let coordinator = stands(rt, COORDINATOR, seat_row(kind, state), notice, cell)?;
+    let cell = participant_cell(kind, state, notice);
+    let participant = stands(rt, PARTICIPANT, state.name(), notice, cell)?;
+    Ok(coordinator && participant)
+}
+
+fn root_stands(rt: HostRuntime, state: State, notice: Notice) -> Result<bool, Fail> {
+    let cell = completion_cell(state, notice);
+    let completion = stands(rt, COMPLETION, state.name(), notice, cell)?;
+    let cell = initiator_cell(state, notice);
+    let initiator = stands(rt, INITIATOR, state.name(), notice, cell)?;
+    Ok(completion && initiator)
+}
+
+/// Whether the cells of a state and a notice are those of the four tables.
+fn all_stand(rt: HostRuntime, state: State, notice: Notice) -> Result<bool, Fail> {
+    let durable = seat_stands(rt, Kind::Durable, state, notice)?;
+    let volatile = seat_stands(rt, Kind::Volatile, state, notice)?;
+    let root = root_stands(rt, state, notice)?;
+    Ok(durable && volatile && root)
+}
+
 #[test]
 fn every_cell(rt: HostRuntime) -> Result<(), Fail> {
     for state in STATES {
         for notice in NOTICES {
-            for kind in [Kind::Durable, Kind::Volatile] {
-                let cell = coordinator_cell(kind, state, notice);
-                assert!(rt; stands(rt, COORDINATOR, seat_row(kind, state), notice, cell)?);
-                let cell = participant_cell(kind, state, notice);
-                assert!(rt; stands(rt, PARTICIPANT, state.name(), notice, cell)?);
-            }
-            assert!(rt;
-                stands(
-                    rt,
-                    COMPLETION,
-                    state.name(),
-                    notice,
-                    completion_cell(state, notice)
-                )?
-            );
-            assert!(rt;
-                stands(
-                    rt,
-                    INITIATOR,
-                    state.name(),
-                    notice,
-                    initiator_cell(state, notice)
-                )?
-            );
+            let right = all_stand(rt, *state, *notice)?;
+            assert!(rt; right, "at {} and {notice:?}", state.name());
         }
     }
     Ok(())
@@ -176,7 +178,7 @@ fn every_cell(rt: HostRuntime) -> Result<(), Fail> {
 #[test]
 fn every_name(rt: HostRuntime) -> Result<(), Fail> {
     for state in STATES {
-        assert!(rt; State::from_name(state.name()) == Some(state));
+        assert!(rt; State::from_name(state.name()) == Some(*state));
     }
     assert!(rt; State::from_name("none").is_none() && State::from_name("").is_none());
     Ok(())

@@ -1,9 +1,9 @@
-use crate::epr::Epr;
-use crate::id::Id;
-use crate::message_id::message_id;
-use crate::record::{Record, Seated, Seats};
-use crate::text::Text;
-use crate::well_formed::is_well_formed;
+use at_base::epr::Epr;
+use at_base::id::Id;
+use at_base::message_id::message_id;
+use at_base::record::{Record, Seated, Seats};
+use at_base::text::Text;
+use at_base::well_formed::is_well_formed;
 use std::alloc::{AllocError, Global};
 use std::test::Fail;
 
@@ -104,49 +104,93 @@ fn prepared(alloc: Global, epr: Epr, key: &str, value: usize) -> Result<Record, 
     })
 }
 
+fn has_bounds(alloc: Global, address: usize, params: usize) -> Result<bool, AllocError> {
+    let entry = prepared(alloc, endpoint(alloc, address, params)?, "key", 256)?;
+    Ok(is_well_formed(&entry))
+}
+
+fn has_key(alloc: Global, key: &str, value: usize) -> Result<bool, AllocError> {
+    let entry = prepared(alloc, endpoint(alloc, 1, 0)?, key, value)?;
+    Ok(is_well_formed(&entry))
+}
+
+fn has_seats(alloc: Global, numbers: &[u16]) -> Result<bool, AllocError> {
+    let entry = decided(alloc, numbers)?;
+    Ok(is_well_formed(&entry))
+}
+
 #[test]
-fn records_at_their_bounds(rt: HostRuntime) -> Result<(), Fail> {
-    let alloc = rt.alloc();
+fn starts_at_their_bounds(rt: HostRuntime) -> Result<(), Fail> {
     assert!(rt; is_well_formed(&Record::Start { incarnation: 1 }));
     assert!(rt; !is_well_formed(&Record::Start { incarnation: 0 }));
-    for (address, params, good) in [
-        (1, 0, true),
-        (1, 2047, true),
-        (2048, 0, true),
-        (0, 1, false),
-        (1, 2048, false),
-    ] {
-        let entry = prepared(alloc, endpoint(alloc, address, params)?, "key", 256)?;
-        assert_eq!(rt; is_well_formed(&entry), good, "at {address} and {params}");
+    Ok(())
+}
+
+/// Lengths of an address and of reference parameters, and whether an endpoint may have them.
+const ENDPOINTS: &[(usize, usize, bool)] = &[
+    (1, 0, true),
+    (1, 2047, true),
+    (2048, 0, true),
+    (0, 1, false),
+    (1, 2048, false),
+];
+
+#[test]
+fn endpoints_at_their_bounds(rt: HostRuntime) -> Result<(), Fail> {
+    for (address, params, good) in ENDPOINTS {
+        let found = has_bounds(rt.alloc(), *address, *params)?;
+        assert!(rt; found == *good, "at {address} and {params}");
     }
-    for (key, good) in [
-        (
-            "\u{9}\u{a}\u{d} \u{d7ff}\u{e000}\u{fffd}\u{10000}\u{10ffff}",
-            true,
-        ),
-        ("\u{b}", false),
-        ("\u{0}", false),
-        ("\u{fffe}", false),
-        ("\u{ffff}", false),
-    ] {
-        let entry = prepared(alloc, endpoint(alloc, 1, 0)?, key, 0)?;
-        assert_eq!(rt; is_well_formed(&entry), good, "at {key:?}");
+    Ok(())
+}
+
+/// Keys, and whether a record may have them.
+const KEYS: &[(&str, bool)] = &[
+    (
+        "\u{9}\u{a}\u{d} \u{d7ff}\u{e000}\u{fffd}\u{10000}\u{10ffff}",
+        true,
+    ),
+    ("\u{b}", false),
+    ("\u{0}", false),
+    ("\u{fffe}", false),
+    ("\u{ffff}", false),
+];
+
+#[test]
+fn keys_at_their_bounds(rt: HostRuntime) -> Result<(), Fail> {
+    for (key, good) in KEYS {
+        let found = has_key(rt.alloc(), key, 0)?;
+        assert!(rt; found == *good, "at {key:?}");
     }
-    assert!(rt; !is_well_formed(&prepared(alloc, endpoint(alloc, 1, 0)?, "key", 257)?));
-    let mut numbers = [0u16; 65];
-    for (place, number) in numbers.iter_mut().enumerate() {
-        *number = place as u16 + 1;
+    let found = has_key(rt.alloc(), "key", 257)?;
+    assert!(rt; !found);
+    Ok(())
+}
+
+fn numbered(alloc: Global, first: u16, count: u16) -> Result<Vec<u16>, AllocError> {
+    let mut numbers = Vec::new(alloc);
+    for place in 0..count {
+        numbers.push(first.saturating_add(place))?;
     }
-    for (numbers, good) in [
-        (&numbers[..64], true),
-        (&numbers[63..], true),
-        (&numbers[..], false),
-        (&numbers[..0], false),
-    ] {
-        assert_eq!(rt; is_well_formed(&decided(alloc, numbers)?), good);
+    Ok(numbers)
+}
+
+/// The first number and how many there are, and whether a record may have them.
+const RUNS: &[(u16, u16, bool)] = &[(1, 64, true), (64, 2, true), (1, 65, false), (1, 0, false)];
+
+/// Numbers that no record has.
+const DISORDERED: &[[u16; 2]] = &[[0, 1], [1, 1], [2, 1]];
+
+#[test]
+fn seats_at_their_bounds(rt: HostRuntime) -> Result<(), Fail> {
+    for (first, count, good) in RUNS {
+        let numbers = numbered(rt.alloc(), *first, *count)?;
+        let found = has_seats(rt.alloc(), numbers.as_slice())?;
+        assert!(rt; found == *good, "at {first} and {count}");
     }
-    for numbers in [[0, 1], [1, 1], [2, 1]] {
-        assert!(rt; !is_well_formed(&decided(alloc, &numbers)?));
+    for numbers in DISORDERED {
+        let found = has_seats(rt.alloc(), numbers.as_slice())?;
+        assert!(rt; !found);
     }
     Ok(())
 }

@@ -1,15 +1,15 @@
-use crate::parameter::ContextFault;
-use crate::reader::{
-    read_context, read_create, read_create_response, read_register, read_register_response,
-};
-use crate::writer::{
-    OutgoingContext, OutgoingCreate, OutgoingRegister, write_context, write_create,
-    write_create_response, write_register, write_register_response,
-};
 use addressing::writer::Endpoint;
 use at_base::epr::Epr;
 use at_base::message::{Context, Create, Register};
 use at_base::text::Text;
+use context::parameter::ContextFault;
+use context::reader::{
+    read_context, read_create, read_create_response, read_register, read_register_response,
+};
+use context::writer::{
+    OutgoingContext, OutgoingCreate, OutgoingRegister, write_context, write_create,
+    write_create_response, write_register, write_register_response,
+};
 use soap_profile::build::qualified;
 use std::alloc::Global;
 use std::test::Fail;
@@ -63,49 +63,58 @@ fn told_register(alloc: Global, body: &Register) -> Result<String, Fail> {
     Ok(format!(in alloc; "{} {participant}", body.protocol.as_str())?)
 }
 
-/// What a body says that is read as this message.
-fn read_as(
-    alloc: Global,
-    message: &str,
-    tree: &Tree,
-) -> Result<Result<String, ContextFault>, Fail> {
-    Ok(match message {
-        "Create" => match read_create(alloc, tree) {
-            Ok(body) => Ok(told_create(alloc, &body)?),
-            Err(fault) => Err(fault),
-        },
-        "CreateResponse" => match read_create_response(alloc, tree) {
-            Ok(context) => Ok(told_context(alloc, &context)?),
-            Err(fault) => Err(fault),
-        },
-        "Register" => match read_register(alloc, tree) {
-            Ok(body) => Ok(told_register(alloc, &body)?),
-            Err(fault) => Err(fault),
-        },
-        "RegisterResponse" => match read_register_response(alloc, tree) {
-            Ok(epr) => Ok(told_epr(alloc, &epr)?),
-            Err(fault) => Err(fault),
-        },
-        _ => match read_context(alloc, tree) {
-            Ok(context) => Ok(told_context(alloc, &context)?),
-            Err(fault) => Err(fault),
-        },
-    })
+fn create_of(alloc: Global, tree: &Tree) -> Result<String, Fail> {
+    match read_create(alloc, tree) {
+        Ok(body) => told_create(alloc, &body),
+        Err(fault) => told_fault(alloc, &fault),
+    }
 }
 
+fn create_response_of(alloc: Global, tree: &Tree) -> Result<String, Fail> {
+    match read_create_response(alloc, tree) {
+        Ok(context) => told_context(alloc, &context),
+        Err(fault) => told_fault(alloc, &fault),
+    }
+}
+
+fn register_of(alloc: Global, tree: &Tree) -> Result<String, Fail> {
+    match read_register(alloc, tree) {
+        Ok(body) => told_register(alloc, &body),
+        Err(fault) => told_fault(alloc, &fault),
+    }
+}
+
+fn register_response_of(alloc: Global, tree: &Tree) -> Result<String, Fail> {
+    match read_register_response(alloc, tree) {
+        Ok(epr) => told_epr(alloc, &epr),
+        Err(fault) => told_fault(alloc, &fault),
+    }
+}
+
+fn context_of(alloc: Global, tree: &Tree) -> Result<String, Fail> {
+    match read_context(alloc, tree) {
+        Ok(context) => told_context(alloc, &context),
+        Err(fault) => told_fault(alloc, &fault),
+    }
+}
+
+/// What the body with these children says that is read as this message.
 fn outcome(alloc: Global, message: &str, children: &str) -> Result<String, Fail> {
     let spelled = format!(in alloc;
         "<a xmlns:w=\"http://www.w3.org/2005/08/addressing\" xmlns:c=\"http://docs.oasis-open.org/ws-tx/wscoor/2006/06\">{children}</a>"
     )?;
     let tree = read_tree(alloc, spelled.as_bytes())?;
-    match read_as(alloc, message, &tree)? {
-        Ok(said) => Ok(said),
-        Err(fault) => told_fault(alloc, &fault),
+    match message {
+        "Create" => create_of(alloc, &tree),
+        "CreateResponse" => create_response_of(alloc, &tree),
+        "Register" => register_of(alloc, &tree),
+        "RegisterResponse" => register_response_of(alloc, &tree),
+        _ => context_of(alloc, &tree),
     }
 }
 
 /// Bodies, and what they say.
-const BODIES: [(&str, &str, &str); 33] = [
+const BODIES: &[(&str, &str, &str)] = &[
     // in any order, beside texts and other elements
     (
         "Context",
@@ -244,24 +253,26 @@ const BODIES: [(&str, &str, &str); 33] = [
 
 #[test]
 fn reads_bodies(rt: HostRuntime) -> Result<(), Fail> {
-    let alloc = rt.alloc();
     for (message, children, wanted) in BODIES {
-        assert_eq!(rt;
-            outcome(alloc, message, children)?.as_str(),
-            wanted,
-            "at {message} {children}"
-        );
+        let found = outcome(rt.alloc(), message, children)?;
+        assert!(rt; found.as_str() == *wanted, "at {message} {children}");
     }
-    let wanted = ["parameters CoordinationType", "parameters Identifier"];
-    for (length, wanted) in [(2048, wanted[0]), (2049, wanted[1])] {
-        let identifier = "i".repeat(alloc, length)?;
-        let children = format!(in alloc; "<c:Identifier>{identifier}</c:Identifier>")?;
-        assert_eq!(rt;
-            outcome(alloc, "Context", children.as_str())?.as_str(),
-            wanted,
-            "at {length}"
-        );
-    }
+    Ok(())
+}
+
+/// What a context says that has an identifier of so many bytes alone.
+fn identified(alloc: Global, length: usize) -> Result<String, Fail> {
+    let identifier = "i".repeat(alloc, length)?;
+    let children = format!(in alloc; "<c:Identifier>{identifier}</c:Identifier>")?;
+    outcome(alloc, "Context", children.as_str())
+}
+
+#[test]
+fn bounds_an_identifier(rt: HostRuntime) -> Result<(), Fail> {
+    let longest = identified(rt.alloc(), 2048)?;
+    let longer = identified(rt.alloc(), 2049)?;
+    assert!(rt; longest.as_str() == "parameters CoordinationType");
+    assert!(rt; longer.as_str() == "parameters Identifier");
     Ok(())
 }
 
@@ -292,44 +303,84 @@ fn written(alloc: Global, tree: &Tree) -> Result<Vec<u8>, Fail> {
     Ok(bytes)
 }
 
-#[test]
-fn writes_contexts(rt: HostRuntime) -> Result<(), Fail> {
-    let alloc = rt.alloc();
+fn written_context(alloc: Global) -> Result<Vec<u8>, Fail> {
     let name = qualified(alloc, "http://docs.oasis-open.org/ws-tx/wsat/2006/06", "a")?;
     let tree = write_context(alloc, context(alloc, None)?, name)?;
+    written(alloc, &tree)
+}
+
+fn written_create_response(alloc: Global) -> Result<Vec<u8>, Fail> {
+    let tree = write_create_response(alloc, context(alloc, Some(4294967295))?)?;
+    written(alloc, &tree)
+}
+
+fn written_create(alloc: Global) -> Result<Vec<u8>, Fail> {
+    let coordination = Text::copied(alloc, "u")?;
+    let create = OutgoingCreate {
+        expires: Some(0),
+        current: Some(context(alloc, Some(60))?),
+        coordination,
+    };
+    let tree = write_create(alloc, create)?;
+    written(alloc, &tree)
+}
+
+fn written_register(alloc: Global) -> Result<Vec<u8>, Fail> {
+    let protocol = Text::copied(alloc, "p")?;
+    let register = OutgoingRegister {
+        protocol,
+        participant: endpoint(alloc, "s")?,
+    };
+    let tree = write_register(alloc, register)?;
+    written(alloc, &tree)
+}
+
+fn written_register_response(alloc: Global) -> Result<Vec<u8>, Fail> {
+    let tree = write_register_response(alloc, endpoint(alloc, "c")?)?;
+    written(alloc, &tree)
+}
+
+#[test]
+fn writes_a_context(rt: HostRuntime) -> Result<(), Fail> {
+    let bytes = written_context(rt.alloc())?;
     let wanted =
         "<wsat:a xmlns:wsat=\"http://docs.oasis-open.org/ws-tx/wsat/2006/06\" xmlns:wscoor=\"http://docs.oasis-open.org/ws-tx/wscoor/2006/06\" xmlns:wsa=\"http://www.w3.org/2005/08/addressing\"><wscoor:Identifier>i</wscoor:Identifier><wscoor:CoordinationType>t</wscoor:CoordinationType><wscoor:RegistrationService><wsa:Address>r</wsa:Address><wsa:ReferenceParameters><k>7</k></wsa:ReferenceParameters></wscoor:RegistrationService></wsat:a>";
-    assert_eq!(rt; written(alloc, &tree)?.as_slice(), wanted.as_bytes());
-    let tree = write_create_response(alloc, context(alloc, Some(4294967295))?)?;
-    let wanted =
-        "<wscoor:CreateCoordinationContextResponse xmlns:wscoor=\"http://docs.oasis-open.org/ws-tx/wscoor/2006/06\" xmlns:wsa=\"http://www.w3.org/2005/08/addressing\"><wscoor:CoordinationContext><wscoor:Identifier>i</wscoor:Identifier><wscoor:Expires>4294967295</wscoor:Expires><wscoor:CoordinationType>t</wscoor:CoordinationType><wscoor:RegistrationService><wsa:Address>r</wsa:Address><wsa:ReferenceParameters><k>7</k></wsa:ReferenceParameters></wscoor:RegistrationService></wscoor:CoordinationContext></wscoor:CreateCoordinationContextResponse>";
-    assert_eq!(rt; written(alloc, &tree)?.as_slice(), wanted.as_bytes());
+    assert!(rt; bytes.as_slice() == wanted.as_bytes());
     Ok(())
 }
 
 #[test]
-fn writes_bodies(rt: HostRuntime) -> Result<(), Fail> {
-    let alloc = rt.alloc();
-    let create = OutgoingCreate {
-        expires: Some(0),
-        current: Some(context(alloc, Some(60))?),
-        coordination: Text::copied(alloc, "u")?,
-    };
+fn writes_a_create_response(rt: HostRuntime) -> Result<(), Fail> {
+    let bytes = written_create_response(rt.alloc())?;
+    let wanted =
+        "<wscoor:CreateCoordinationContextResponse xmlns:wscoor=\"http://docs.oasis-open.org/ws-tx/wscoor/2006/06\" xmlns:wsa=\"http://www.w3.org/2005/08/addressing\"><wscoor:CoordinationContext><wscoor:Identifier>i</wscoor:Identifier><wscoor:Expires>4294967295</wscoor:Expires><wscoor:CoordinationType>t</wscoor:CoordinationType><wscoor:RegistrationService><wsa:Address>r</wsa:Address><wsa:ReferenceParameters><k>7</k></wsa:ReferenceParameters></wscoor:RegistrationService></wscoor:CoordinationContext></wscoor:CreateCoordinationContextResponse>";
+    assert!(rt; bytes.as_slice() == wanted.as_bytes());
+    Ok(())
+}
+
+#[test]
+fn writes_a_create(rt: HostRuntime) -> Result<(), Fail> {
+    let bytes = written_create(rt.alloc())?;
     let wanted =
         "<wscoor:CreateCoordinationContext xmlns:wscoor=\"http://docs.oasis-open.org/ws-tx/wscoor/2006/06\" xmlns:wsa=\"http://www.w3.org/2005/08/addressing\"><wscoor:Expires>0</wscoor:Expires><wscoor:CurrentContext><wscoor:Identifier>i</wscoor:Identifier><wscoor:Expires>60</wscoor:Expires><wscoor:CoordinationType>t</wscoor:CoordinationType><wscoor:RegistrationService><wsa:Address>r</wsa:Address><wsa:ReferenceParameters><k>7</k></wsa:ReferenceParameters></wscoor:RegistrationService></wscoor:CurrentContext><wscoor:CoordinationType>u</wscoor:CoordinationType></wscoor:CreateCoordinationContext>";
-    let tree = write_create(alloc, create)?;
-    assert_eq!(rt; written(alloc, &tree)?.as_slice(), wanted.as_bytes());
-    let register = OutgoingRegister {
-        protocol: Text::copied(alloc, "p")?,
-        participant: endpoint(alloc, "s")?,
-    };
+    assert!(rt; bytes.as_slice() == wanted.as_bytes());
+    Ok(())
+}
+
+#[test]
+fn writes_a_register(rt: HostRuntime) -> Result<(), Fail> {
+    let bytes = written_register(rt.alloc())?;
     let wanted =
         "<wscoor:Register xmlns:wscoor=\"http://docs.oasis-open.org/ws-tx/wscoor/2006/06\" xmlns:wsa=\"http://www.w3.org/2005/08/addressing\"><wscoor:ProtocolIdentifier>p</wscoor:ProtocolIdentifier><wscoor:ParticipantProtocolService><wsa:Address>s</wsa:Address></wscoor:ParticipantProtocolService></wscoor:Register>";
-    let tree = write_register(alloc, register)?;
-    assert_eq!(rt; written(alloc, &tree)?.as_slice(), wanted.as_bytes());
+    assert!(rt; bytes.as_slice() == wanted.as_bytes());
+    Ok(())
+}
+
+#[test]
+fn writes_a_register_response(rt: HostRuntime) -> Result<(), Fail> {
+    let bytes = written_register_response(rt.alloc())?;
     let wanted =
         "<wscoor:RegisterResponse xmlns:wscoor=\"http://docs.oasis-open.org/ws-tx/wscoor/2006/06\" xmlns:wsa=\"http://www.w3.org/2005/08/addressing\"><wscoor:CoordinatorProtocolService><wsa:Address>c</wsa:Address></wscoor:CoordinatorProtocolService></wscoor:RegisterResponse>";
-    let tree = write_register_response(alloc, endpoint(alloc, "c")?)?;
-    assert_eq!(rt; written(alloc, &tree)?.as_slice(), wanted.as_bytes());
+    assert!(rt; bytes.as_slice() == wanted.as_bytes());
     Ok(())
 }

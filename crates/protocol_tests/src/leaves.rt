@@ -1,7 +1,5 @@
 //! What a leaf does at each message that can reach it, and by itself, written out by hand.
 
-use crate::leaf::{Leaf, WorkRequest};
-use crate::leaves::Leaves;
 use at_base::epr::{Epr, Reply};
 use at_base::event::{Arrived, Event, Item, Moment};
 use at_base::id::Id;
@@ -12,6 +10,8 @@ use at_base::record::Record;
 use at_base::target::Target;
 use at_base::text::Text;
 use at_tables::cells::State;
+use participant_at::leaf::{Leaf, WorkRequest};
+use participant_at::leaves::Leaves;
 use std::alloc::{AllocError, Global};
 use std::test::Fail;
 

@@ -1,11 +1,13 @@
-use crate::decode::{Arrival, decode};
-use crate::form::Form;
-use crate::refusal::{ParameterName, Refusal};
+use at_base::epr::Epr;
 use at_base::message::Message;
 use at_base::notice::{Kind, Vote};
 use at_base::target::Target;
+use at_base::text::Text;
 use std::alloc::Global;
 use std::test::Fail;
+use wire_msgs::decode::{Arrival, decode};
+use wire_msgs::form::Form;
+use wire_msgs::refusal::{ParameterName, Refusal};
 
 /// The namespace of a prefix in the tables below.
 fn space(prefix: &str) -> &'static str {
@@ -114,21 +116,23 @@ fn told_refusal(alloc: Global, refusal: &Refusal) -> Result<String, Fail> {
     })
 }
 
-/// The message and its target, or the refusal.
-fn told(alloc: Global, outcome: &Result<Arrival, Refusal>) -> Result<String, Fail> {
-    match outcome {
-        Ok(arrival) => {
-            let message = told_message(alloc, &arrival.message)?;
-            let target = told_target(alloc, arrival.target)?;
-            Ok(format!(in alloc; "{message} at {target}")?)
-        }
-        Err(refusal) => told_refusal(alloc, refusal),
+fn told_arrival(alloc: Global, arrival: &Arrival) -> Result<String, Fail> {
+    let message = told_message(alloc, &arrival.message)?;
+    let target = told_target(alloc, arrival.target)?;
+    Ok(format!(in alloc; "{message} at {target}")?)
+}
+
+/// The message that bytes mean at a path and its target, or the refusal.
+fn told(alloc: Global, bytes: &[u8], path: &str) -> Result<String, Fail> {
+    match decode(alloc, bytes, path) {
+        Ok(arrival) => told_arrival(alloc, &arrival),
+        Err(refusal) => told_refusal(alloc, &refusal),
     }
 }
 
 /// The request's path, the action, the other header blocks, the body, and the outcome. `CONTEXT` stands for the children
 /// of a context, `WORK` for the first children of a Work.
-const MESSAGES: [(&str, &str, &str, &str, &str); 17] = [
+const MESSAGES: &[(&str, &str, &str, &str, &str)] = &[
     (
         "/activation",
         "c:CreateCoordinationContext",
@@ -238,7 +242,7 @@ const MESSAGES: [(&str, &str, &str, &str, &str); 17] = [
     ),
 ];
 
-const REFUSALS: [(&str, &str, &str, &str, &str); 25] = [
+const REFUSALS: &[(&str, &str, &str, &str, &str)] = &[
     ("/i/1-2", "w:WorkDone", "", "<w:WorkDone>", "not spelled"),
     (
         "/i/1-2",
@@ -354,84 +358,128 @@ fn decoded(
     let body = body.replace(alloc, "CONTEXT", CONTEXT)?;
     let body = body.replace(alloc, "WORK", WORK)?;
     let spelled = envelope(alloc, action, headers.as_str(), body.as_str())?;
-    told(alloc, &decode(alloc, spelled.as_bytes(), path))
+    told(alloc, spelled.as_bytes(), path)
 }
 
 #[test]
 fn decodes_each_message(rt: HostRuntime) -> Result<(), Fail> {
-    let alloc = rt.alloc();
     for (path, action, headers, body, outcome) in MESSAGES {
-        let found = decoded(alloc, path, action, headers, body)?;
-        assert_eq!(rt; found.as_str(), outcome, "at {path} {action}");
+        let found = decoded(rt.alloc(), path, action, headers, body)?;
+        assert!(rt; found.as_str() == *outcome, "at {path} {action}");
     }
     Ok(())
 }
 
 #[test]
 fn refuses_for_the_first_cause(rt: HostRuntime) -> Result<(), Fail> {
-    let alloc = rt.alloc();
     for (path, action, headers, body, outcome) in REFUSALS {
-        let found = decoded(alloc, path, action, headers, body)?;
-        assert_eq!(rt; found.as_str(), outcome, "at {path} {action}");
+        let found = decoded(rt.alloc(), path, action, headers, body)?;
+        assert!(rt; found.as_str() == *outcome, "at {path} {action}");
     }
-    for (bytes, outcome) in [
-        (b"<a>\xFF</a>".as_slice(), "no UTF-8 3"),
-        (b"<a/>", "not an envelope"),
-        (b"<Envelope xmlns='urn:e'/>", "wrong envelope version"),
-    ] {
-        let found = told(alloc, &decode(alloc, bytes, "/work"))?;
-        assert_eq!(rt; found.as_str(), outcome);
-    }
-    let long = " ".repeat(alloc, 65_537)?;
-    let found = told(alloc, &decode(alloc, long.as_bytes(), "/work"))?;
-    assert_eq!(rt; found.as_str(), "over 65,536 bytes");
-    let deep = format!(in alloc;
-        "{}<a/>{}",
-        "<a>".repeat(alloc, 32)?,
-        "</a>".repeat(alloc, 32)?
-    )?;
-    let found = told(alloc, &decode(alloc, deep.as_bytes(), "/work"))?;
-    assert_eq!(rt; found.as_str(), "over 32 levels");
-    let many = format!(in alloc; "<a>{}</a>", "<a/>".repeat(alloc, 4_096)?)?;
-    let found = told(alloc, &decode(alloc, many.as_bytes(), "/work"))?;
-    assert_eq!(rt;
-        found.as_str(),
-        "over 4,096 elements, or over 32 attributes on one"
-    );
     Ok(())
+}
+
+/// Whole requests, and the outcome.
+const WHOLE: &[(&[u8], &str)] = &[
+    (b"<a>\xFF</a>", "no UTF-8 3"),
+    (b"<a/>", "not an envelope"),
+    (b"<Envelope xmlns='urn:e'/>", "wrong envelope version"),
+];
+
+#[test]
+fn refuses_whole_requests(rt: HostRuntime) -> Result<(), Fail> {
+    for (bytes, outcome) in WHOLE {
+        let found = told(rt.alloc(), bytes, "/work")?;
+        assert!(rt; found.as_str() == *outcome);
+    }
+    Ok(())
+}
+
+#[test]
+fn refuses_what_is_too_long(rt: HostRuntime) -> Result<(), Fail> {
+    let long = " ".repeat(rt.alloc(), 65_537)?;
+    let found = told(rt.alloc(), long.as_bytes(), "/work")?;
+    assert!(rt; found.as_str() == "over 65,536 bytes");
+    Ok(())
+}
+
+#[test]
+fn refuses_what_is_too_deep(rt: HostRuntime) -> Result<(), Fail> {
+    let open = "<a>".repeat(rt.alloc(), 32)?;
+    let close = "</a>".repeat(rt.alloc(), 32)?;
+    let deep = format!(in rt.alloc(); "{open}<a/>{close}")?;
+    let found = told(rt.alloc(), deep.as_bytes(), "/work")?;
+    assert!(rt; found.as_str() == "over 32 levels");
+    Ok(())
+}
+
+#[test]
+fn refuses_what_is_too_many(rt: HostRuntime) -> Result<(), Fail> {
+    let inner = "<a/>".repeat(rt.alloc(), 4_096)?;
+    let many = format!(in rt.alloc(); "<a>{inner}</a>")?;
+    let found = told(rt.alloc(), many.as_bytes(), "/work")?;
+    assert!(rt; found.as_str() == "over 4,096 elements, or over 32 attributes on one");
+    Ok(())
+}
+
+/// The outcome of a Work whose key has so many bytes.
+fn keyed(alloc: Global, length: usize) -> Result<String, Fail> {
+    let key = "k".repeat(alloc, length)?;
+    let body = format!(in alloc;
+        "<w:Work><w:Key> {key} </w:Key><w:Value/><w:Kind>durable</w:Kind><w:Vote>aborted</w:Vote></w:Work>"
+    )?;
+    let headers = "<a:MessageID/><c:CoordinationContext>CONTEXT</c:CoordinationContext>";
+    decoded(alloc, "/work", "w:Work", headers, body.as_str())
 }
 
 #[test]
 fn bounds_a_key(rt: HostRuntime) -> Result<(), Fail> {
-    let alloc = rt.alloc();
-    for (length, outcome) in [(256, "at work"), (257, "parameters Key")] {
-        let key = "k".repeat(alloc, length)?;
-        let body = format!(in alloc;
-            "<w:Work><w:Key> {key} </w:Key><w:Value/><w:Kind>durable</w:Kind><w:Vote>aborted</w:Vote></w:Work>"
-        )?;
-        let headers = "<a:MessageID/><c:CoordinationContext>CONTEXT</c:CoordinationContext>";
-        let found = decoded(alloc, "/work", "w:Work", headers, body.as_str())?;
-        assert!(rt; found.as_str().ends_with(outcome), "at {length}");
-    }
+    let longest = keyed(rt.alloc(), 256)?;
+    let longer = keyed(rt.alloc(), 257)?;
+    assert!(rt; longest.as_str().ends_with("at work"), "at 256");
+    assert!(rt; longer.as_str().ends_with("parameters Key"), "at 257");
     Ok(())
+}
+
+fn word(text: &Option<Text>) -> &str {
+    match text {
+        Some(text) => text.as_str(),
+        None => "-",
+    }
+}
+
+fn address(epr: &Option<Epr>) -> &str {
+    match epr {
+        Some(epr) => epr.address.as_str(),
+        None => "-",
+    }
+}
+
+/// To, MessageID, RelatesTo, and the addresses of From, ReplyTo and FaultTo.
+fn told_headers(alloc: Global, arrival: &Arrival) -> Result<String, Fail> {
+    let to = word(&arrival.to);
+    let id = word(&arrival.id);
+    let relates = word(&arrival.relates);
+    let from = address(&arrival.from);
+    let reply = address(&arrival.reply);
+    let fault = address(&arrival.fault);
+    Ok(format!(in alloc; "{to} {id} {relates} {from} {reply} {fault}")?)
+}
+
+/// The headers of a WorkDone with these header blocks.
+fn headers_of(alloc: Global, headers: &str) -> Result<String, Fail> {
+    let spelled = envelope(alloc, "w:WorkDone", headers, "")?;
+    match decode(alloc, spelled.as_bytes(), "/") {
+        Ok(arrival) => told_headers(alloc, &arrival),
+        Err(refusal) => told_refusal(alloc, &refusal),
+    }
 }
 
 #[test]
 fn tells_headers(rt: HostRuntime) -> Result<(), Fail> {
-    let alloc = rt.alloc();
     let headers =
         "<a:To>http://n1.example/i/1-2</a:To><a:MessageID> m </a:MessageID><a:RelatesTo>r</a:RelatesTo><a:From><a:Address>f</a:Address></a:From><a:ReplyTo><a:Address>p</a:Address></a:ReplyTo><a:FaultTo><a:Address>t</a:Address></a:FaultTo>";
-    let spelled = envelope(alloc, "w:WorkDone", headers, "")?;
-    let arrival = decode(alloc, spelled.as_bytes(), "/")?;
-    assert!(rt;
-        arrival
-            .to
-            .is_some_and(|to| to.as_str() == "http://n1.example/i/1-2")
-    );
-    assert!(rt; arrival.id.is_some_and(|id| id.as_str() == "m"));
-    assert!(rt; arrival.relates.is_some_and(|id| id.as_str() == "r"));
-    assert!(rt; arrival.from.is_some_and(|epr| epr.address.as_str() == "f"));
-    assert!(rt; arrival.reply.is_some_and(|epr| epr.address.as_str() == "p"));
-    assert!(rt; arrival.fault.is_some_and(|epr| epr.address.as_str() == "t"));
+    let told = headers_of(rt.alloc(), headers)?;
+    assert!(rt; told.as_str() == "http://n1.example/i/1-2 m r f p t");
     Ok(())
 }

@@ -1,0 +1,7 @@
+//! Tests of the canonical text and of the reader. They stand apart, since a crate with tests is proved twice.
+#![tactic(auto)]
+
+#[cfg(test)]
+mod canonical;
+#[cfg(test)]
+mod spellings;
