@@ -6,5 +6,3 @@ pub mod answers;
 pub mod list;
 pub mod names;
 pub mod posts;
-#[cfg(test)]
-mod tests;

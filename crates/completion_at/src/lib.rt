@@ -7,5 +7,3 @@ pub mod due;
 pub mod posts;
 pub mod requests;
 pub mod rules;
-#[cfg(test)]
-mod tests;

@@ -9,5 +9,3 @@ pub mod names;
 pub mod printed;
 pub mod refusals;
 pub mod table;
-#[cfg(test)]
-mod tests;

@@ -1,8 +1,13 @@
-//! Tests of records, of the state tables and of leaves. They stand apart, since a crate with tests is proved twice.
+//! Tests of records, of the state tables, of what a node posts, of leaves and of activities. They stand apart, since a
+//! crate with tests is proved twice.
 #![tactic(auto)]
 
 #[cfg(test)]
+mod activities;
+#[cfg(test)]
 mod leaves;
+#[cfg(test)]
+mod posts;
 #[cfg(test)]
 mod records;
 #[cfg(test)]

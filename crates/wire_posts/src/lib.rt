@@ -7,5 +7,3 @@ pub mod encode;
 pub mod fault;
 pub mod headers;
 pub mod laws;
-#[cfg(test)]
-mod tests;

@@ -1,4 +1,5 @@
-//! Tests of envelopes, headers, bodies and requests. They stand apart, since a crate with tests is proved twice.
+//! Tests of envelopes, headers, bodies, requests, posts and reports. They stand apart, since a crate with tests is proved
+//! twice.
 #![tactic(auto)]
 
 #[cfg(test)]
@@ -7,5 +8,9 @@ mod bodies;
 mod envelopes;
 #[cfg(test)]
 mod headers;
+#[cfg(test)]
+mod posts;
+#[cfg(test)]
+mod reports;
 #[cfg(test)]
 mod requests;

@@ -1,8 +1,5 @@
 //! What an activity does at each message and request that can reach it, and by itself, written out by hand.
 
-use crate::activities::Activities;
-use crate::activity::{Activity, Progress};
-use crate::requests::Refusal;
 use at_base::epr::{Epr, Reply};
 use at_base::event::{Arrived, Event, Item, Local, Moment};
 use at_base::id::Id;
@@ -11,6 +8,9 @@ use at_base::notice::{Kind, Notice, Vote};
 use at_base::outs::{Effect, Out, Outs, Post};
 use at_base::target::Target;
 use at_base::text::Text;
+use completion_at::activities::Activities;
+use completion_at::activity::{Activity, Progress};
+use completion_at::requests::Refusal;
 use std::alloc::{AllocError, Global};
 use std::test::Fail;
 

@@ -1,4 +1,3 @@
-use crate::encode::{Outgoing, encode, encode_post};
 use at_base::epr::{Epr, Reply};
 use at_base::message::{Context, Create, Message, Register, Work};
 use at_base::notice::{Kind, Notice, Vote};
@@ -8,6 +7,7 @@ use std::alloc::{AllocError, Global};
 use std::test::Fail;
 use wire_msgs::decode::{Arrival, decode};
 use wire_msgs::refusal::Refusal;
+use wire_posts::encode::{Outgoing, encode, encode_post};
 
 fn endpoint(alloc: Global, address: &str) -> Result<Epr, AllocError> {
     let address = Text::copied(alloc, address)?;

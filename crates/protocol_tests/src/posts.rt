@@ -1,10 +1,10 @@
 //! The address of each target.
 
-use crate::addresses::{address_of, create_id, register_id, work_id};
 use at_base::id::Id;
 use at_base::notice::Kind;
 use at_base::target::{Seat, Target};
 use at_base::text::Text;
+use at_posts::addresses::{address_of, create_id, register_id, work_id};
 use std::test::Fail;
 
 #[test]
