@@ -1,5 +1,5 @@
 -- What is posted arrives.
-use Rattle.std.proofs.Common.{inl, ◌≡◌, ◌≤◌, ℕ, List, [], ◌∷◌, ◌++◌, Bool, true, false, ◌&&◌, ◌||◌, not, IfSome, Option, Some, None, Result, Ok, Err, refl, ap, subst, sym, ◌∙◌, cond}
+use Rattle.std.proofs.Common.{inl, ◌≡◌, ℕ, List, [], ◌∷◌, Bool, true, false, ◌&&◌, ◌||◌, not, IfSome, Option, Some, None, Result, Ok, Err, refl, ap, subst, sym, ◌∙◌, cond}
 use Rattle.std.specs.Prelude.{codes, is_some}
 use Rattle.std.specs.Option.{option_and_then, option_map}
 use Rattle.std.specs.Str.{bytes_eq, chars, is_utf8}
@@ -8,11 +8,10 @@ use Rattle.url.specs.Parser.{parse_url, Parsed}
 use Rattle.xml_profile.specs.declared.name.QName.{QName}
 use Rattle.xml_profile.specs.declared.tree.Tree.{Tree}
 use Rattle.xml_profile.specs.Canonical.{canonical_text}
-use Rattle.xml_profile.specs.Prefixes.{coordination as coordination_space, soap as soap_space}
+use Rattle.xml_profile.specs.Prefixes.{soap as soap_space}
 use Rattle.xml_grammar.specs.Limits.{IsWithin}
-use Rattle.xml_grammar.specs.Refusals.{IsShort, Reads}
+use Rattle.xml_grammar.specs.Refusals.{IsShort}
 use Rattle.xml_roundtrip.proofs.Reread.{written_reads}
-use Rattle.soap_profile.specs.declared.envelope.Envelope.{Envelope}
 use Rattle.soap_profile.specs.Building.{children_of, qualified}
 use Rattle.soap_profile.specs.Envelopes.{enveloped, envelope_of, envelope_tree, judged, not_understood, opened, sole}
 use Rattle.soap_profile.specs.Values.{elements, is_empty, is_named}
@@ -43,7 +42,7 @@ use Rattle.wire_msgs.specs.declared.decode.Arrival.{Arrival}
 use Rattle.wire_msgs.specs.declared.form.Form.{Form}
 use Rattle.wire_msgs.specs.declared.form.Form.TheVariants as forms
 use Rattle.wire_msgs.specs.declared.refusal.Refusal.{Refusal}
-use Rattle.wire_msgs.specs.Arrivals.{Arrives, arrival_in, arrival_of, arrival_under, arrived, message_of, said_in, targeted}
+use Rattle.wire_msgs.specs.Arrivals.{Arrives, arrival_in, arrival_of, arrival_under, arrived, message_of, targeted}
 use Rattle.wire_msgs.specs.Forms.{action_of, form_of, local_of, space_of, takes_any}
 use Rattle.wire_msgs.specs.Refusals.{addressing, soap, ◌>>=◌}
 use Rattle.wire_msgs.specs.Targets.{path_in, target_at}
@@ -51,12 +50,11 @@ use Rattle.wire_msgs.proofs.Forms.{takes_as_modelled}
 use Rattle.wire_posts.specs.declared.fault.WrittenFault.{WrittenFault}
 use Rattle.wire_posts.specs.declared.fault.WrittenFault.TheVariants.{NotProfileDocument, VersionMismatch, NotEnvelope, MustUnderstand, HeaderRequired, InvalidHeader, ActionNotSupported, InvalidState, InvalidProtocol, InvalidParameters, CannotCreateContext, CannotRegisterParticipant, UnknownTransaction, Other}
 use Rattle.wire_posts.specs.Envelopes.{AreBoth, AreHeadersOf, IsBodyOf, IsEnvelopeOf, IsReplyOf, IsTextOf, IsWorkContext, action_in, context_in, reply_epr}
-use Rattle.wire_posts.specs.Faults.{fault_action, fault_body, fault_named}
-use Rattle.wire_posts.specs.Returning.{CanReturn, IsAnswerable, IsClean, IsInLimits, IsRequest, IsSource, IsWhole, IsWholeMessage, IsWholeReply, Returns, returned, written_to}
+use Rattle.wire_posts.specs.Faults.{fault_action, fault_named}
+use Rattle.wire_posts.specs.Returning.{CanReturn, IsAnswerable, IsClean, IsRequest, IsSource, IsWholeMessage, IsWholeReply, Returns, returned, written_to}
 use Rattle.wire_posts.proofs.Bodies.{ContextRead, contexts_read, fault_message, named, said_body, said_message}
 use Rattle.wire_posts.proofs.Ends.{IsRead, is_read, is_spelled}
-use Rattle.wire_posts.proofs.Spelling.{AllCan, Can, all_can}
-use Rattle.wire_posts.proofs.Tests.{false_unless, taken}
+use Rattle.wire_posts.proofs.Spelling.{Can}
 use Rattle.wire_posts.proofs.Written.{body_can, envelope_can, headers_can}
 
 -- an envelope opens as what it was made of
@@ -351,14 +349,16 @@ message_read (messages.Fault name) headers target body a t h w k =
 abbrev meant : Result Headers Refusal → Tree → List ℕ → Result Arrival Refusal
 meant said body path = said >>= λ headers. arrival_under headers body path
 
+abbrev said_by : Result (Unit {0}) Refusal → Result Target Refusal → (Target → Result Message Refusal) → Result (Target × Message) Refusal
+said_by said_asked said_target said_message = do
+  asked ← said_asked
+  target ← said_target
+  message ← said_message target
+  Ok (target, message)
+
 abbrev under : Headers → Result (Unit {0}) Refusal → Result Target Refusal → (Target → Result Message Refusal) → Result Arrival Refusal
-under headers said_asked said_target said_message = do
-  said ← (do
-    asked ← said_asked
-    target ← said_target
-    message ← said_message target
-    Ok (target, message))
-  Ok (arrived headers said.0 said.1)
+under headers said_asked said_target said_message =
+    said_by said_asked said_target said_message >>= λ said. Ok (arrived headers said.0 said.1)
 
 arrives_under : (headers : Headers) (body : Tree) (path : List ℕ) (target : Target) (message : Message) → request_of headers body.name ≡ Ok tt
     → target_at headers.to path ≡ Some target → message_of headers target body ≡ Ok message
@@ -366,7 +366,7 @@ arrives_under : (headers : Headers) (body : Tree) (path : List ℕ) (target : Ta
 arrives_under headers body path target message a t m =
     ap (λ r. under headers (addressing r) (targeted (target_at headers.to path)) (λ found. message_of headers found body)) a
     ∙ (ap (λ o. under headers (Ok tt) (targeted o) (λ found. message_of headers found body)) t
-    ∙ ap (λ r. r >>= λ said. Ok (arrived headers target said)) m)
+    ∙ ap (λ (r : Result Message Refusal). under headers (Ok tt) (Ok target) (λ found. r)) m)
 
 means : (post : Post) (path : List ℕ) (target : Target) (out : OutgoingHeaders) (body : Tree) → AreHeadersOf post out → IsBodyOf post.message body
     → CanReturn post path target → arrival_of (envelope_tree (blocks_of out) body) path ≡ Ok (returned post target)

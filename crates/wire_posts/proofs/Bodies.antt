@@ -1,8 +1,7 @@
 -- What a body that is written is read as.
-use Rattle.std.proofs.Common.{◌≡◌, ◌≤◌, ◌<◌, ◌^◌, ℕ, List, [], ◌∷◌, length, Bool, true, false, IfSome, Option, Some, None, Result, Ok, Err, refl, ap, subst, sym, ◌∙◌, cond}
+use Rattle.std.proofs.Common.{◌≡◌, ◌≤◌, ℕ, List, [], ◌∷◌, length, Bool, true, false, IfSome, Option, Some, None, Result, Ok, Err, refl, ap, subst, sym, ◌∙◌, cond}
 use Rattle.std.specs.Prelude.{codes, is_some, nat_le}
 use Rattle.std.specs.Option.{option_map}
-use Rattle.std.specs.Str.{bytes_eq}
 use Rattle.std.proofs.lemmas.Bool.{le-leb}
 use Rattle.std.proofs.lemmas.List.{append-nil}
 use Rattle.std.proofs.lemmas.Slice.Eq.{bytes_eq-Decides}
@@ -20,7 +19,6 @@ use Rattle.at_base.specs.declared.message.Message.{Message}
 use Rattle.at_base.specs.declared.message.Message.TheVariants as messages
 use Rattle.at_base.specs.declared.notice.Kind.{Kind}
 use Rattle.at_base.specs.declared.notice.Kind.TheVariants as kinds
-use Rattle.at_base.specs.declared.notice.Notice.TheVariants as notices
 use Rattle.at_base.specs.declared.notice.Vote.{Vote}
 use Rattle.at_base.specs.declared.notice.Vote.TheVariants as votes
 use Rattle.at_base.specs.declared.target.Target.{Target}
@@ -35,7 +33,7 @@ use Rattle.context.specs.declared.writer.OutgoingContext.{OutgoingContext}
 use Rattle.context.specs.declared.writer.OutgoingCreate.{OutgoingCreate}
 use Rattle.context.specs.declared.writer.OutgoingRegister.{OutgoingRegister}
 use Rattle.context.specs.Reading.{context_of, create_of, create_response_of, is_identifier, readable as context_readable, register_of, register_response_of}
-use Rattle.context.specs.Writing.{CurrentReturns, IsLegibleContext, IsLegibleCreate, IsLegibleRegister, IsNarrow, context_in as context_read_in, context_tree, create_in, create_response_tree, create_tree, parameter_name, register_in, register_response_tree, register_tree}
+use Rattle.context.specs.Writing.{CurrentReturns, IsLegibleContext, IsLegibleCreate, IsLegibleRegister, IsNarrow, context_in as context_read_in, context_tree, create_in, create_tree, parameter_name, register_in, register_response_tree, register_tree}
 use Rattle.context.proofs.Returned.{context_returns, create_returns, register_returns}
 use Rattle.wire_msgs.specs.declared.form.Form.{Form}
 use Rattle.wire_msgs.specs.declared.form.Form.TheVariants as forms
@@ -51,7 +49,7 @@ use Rattle.wire_msgs.specs.Refusals.{coordination, ◌>>=◌}
 use Rattle.wire_msgs.proofs.Forms.{actions_differ}
 use Rattle.wire_posts.specs.declared.fault.WrittenFault.{WrittenFault}
 use Rattle.wire_posts.specs.declared.fault.WrittenFault.TheVariants.{InvalidState, InvalidProtocol, InvalidParameters, CannotCreateContext, CannotRegisterParticipant, UnknownTransaction}
-use Rattle.wire_posts.specs.Envelopes.{AreBoth, IsBodyOf, IsContextOf, IsCreateOf, IsRegisterOf, IsWorkContext, context_in, empty_tree, work_part, work_tree}
+use Rattle.wire_posts.specs.Envelopes.{AreBoth, IsBodyOf, IsContextOf, IsCreateOf, IsRegisterOf, IsWorkContext, context_in, work_part, work_tree}
 use Rattle.wire_posts.specs.Faults.{detail_of, fault_body, fault_named, name_of}
 use Rattle.wire_posts.specs.Returning.{IsProtocolFault, IsWhole, IsWholeContext, IsWholeCreate, IsWholeMessage, IsWholeRegister, IsWholeWork}
 use Rattle.wire_posts.proofs.Ends.{IsRead, is_read}

@@ -1,9 +1,9 @@
 pub mod Arriving
 pub mod Bodies
+pub mod Bools
 pub mod Ends
 pub mod Marking
 pub mod Naming
 pub mod Single
 pub mod Spelling
-pub mod Tests
 pub mod Written

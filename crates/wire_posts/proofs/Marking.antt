@@ -1,5 +1,5 @@
 -- A reference parameter that can be spelled can be spelled items a header block.
-use Rattle.std.proofs.Common.{◌≡◌, ℕ, List, [], ◌∷◌, ◌++◌, map, Bool, true, false, ◌&&◌, ◌||◌, not, Option, Some, None, refl, ap, subst, sym, ◌∙◌, cond, codes}
+use Rattle.std.proofs.Common.{◌≡◌, ℕ, List, [], ◌∷◌, ◌++◌, map, Bool, true, false, ◌&&◌, ◌||◌, not, Option, Some, None, refl, ap, sym, ◌∙◌, cond, codes}
 use Rattle.std.specs.List.{list_all, list_any}
 use Rattle.std.specs.Str.{bytes_eq}
 use Rattle.std.proofs.lemmas.Slice.Eq.{bytes_eq-Decides}
@@ -9,10 +9,10 @@ use Rattle.xml_profile.specs.declared.name.Attribute.{Attribute}
 use Rattle.xml_profile.specs.declared.tree.Tree.{Tree}
 use Rattle.xml_profile.specs.Prefixes.{addressing}
 use Rattle.xml_profile.specs.Spellable.{are_apart, is_attribute, is_content, is_name, is_tag, same_name, same_space, texts_apart}
-use Rattle.soap_profile.specs.Values.{is_in, is_named}
-use Rattle.addressing.specs.Writing.{added_mark, is_mark, mark, marked, marked_attributes, with_mark}
+use Rattle.soap_profile.specs.Values.{is_in}
+use Rattle.addressing.specs.Writing.{is_mark, mark, marked, marked_attributes, with_mark}
 use Rattle.wire_posts.proofs.Spelling.{AllCan, Can}
-use Rattle.wire_posts.proofs.Tests.{apart, both, both_true, false_unless, named_so, not_so}
+use Rattle.wire_posts.proofs.Bools.{apart, both, both_true, false_unless, named_so, not_so}
 
 mark_fits : is_attribute mark ≡ true
 unfolding chars is_utf8 lib.Utf8.encode

@@ -1,26 +1,17 @@
 -- A post has one envelope, and one text.
-use Rattle.std.proofs.Common.{inl, inr, ◌≡◌, ℕ, List, [], ◌∷◌, Option, Some, None, refl, ap, subst, sym, ◌∙◌}
-use Rattle.std.specs.Prelude.{◌⊎◌, codes}
-use Rattle.xml_profile.specs.declared.name.QName.{QName}
+use Rattle.std.proofs.Common.{inl, inr, ◌≡◌, ℕ, List, [], ◌∷◌, Option, Some, None, refl, ap, sym, ◌∙◌}
+use Rattle.std.specs.Prelude.{codes}
 use Rattle.xml_profile.specs.declared.tree.Tree.{Tree}
 use Rattle.xml_profile.specs.Canonical.{canonical_text}
 use Rattle.xml_profile.specs.Prefixes.{coordination}
 use Rattle.soap_profile.specs.Building.{qualified}
 use Rattle.soap_profile.specs.Envelopes.{envelope_tree}
 use Rattle.at_base.specs.declared.epr.Epr.{Epr}
-use Rattle.at_base.specs.declared.message.Context.{Context}
-use Rattle.at_base.specs.declared.message.Create.{Create}
-use Rattle.at_base.specs.declared.message.Register.{Register}
-use Rattle.at_base.specs.declared.message.Message.{Message}
 use Rattle.at_base.specs.declared.message.Message.TheVariants as messages
 use Rattle.at_base.specs.declared.outs.Post.{Post}
 use Rattle.addressing.specs.declared.writer.Endpoint.{Endpoint}
-use Rattle.addressing.specs.declared.writer.OutgoingHeaders.{OutgoingHeaders}
 use Rattle.addressing.specs.Stored.{IsEndpointOf, IsWith}
 use Rattle.addressing.specs.Writing.{blocks_of, endpoint_with}
-use Rattle.context.specs.declared.writer.OutgoingContext.{OutgoingContext}
-use Rattle.context.specs.declared.writer.OutgoingCreate.{OutgoingCreate}
-use Rattle.context.specs.declared.writer.OutgoingRegister.{OutgoingRegister}
 use Rattle.context.specs.Writing.{context_tree, create_response_tree, create_tree, register_response_tree, register_tree}
 use Rattle.wire_posts.specs.Envelopes.{AreBoth, AreHeadersOf, IsBodyOf, IsContextOf, IsCreateOf, IsEnvelopeOf, IsMadeOf, IsRegisterOf, IsReplyOf, IsTextOf, IsWorkContext, context_in, reply_epr}
 

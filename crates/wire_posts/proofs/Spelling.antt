@@ -1,5 +1,5 @@
 -- What is built of parts that can be spelled can be spelled.
-use Rattle.std.proofs.Common.{◌≡◌, ℕ, ◌<◌, ◌^◌, List, [], ◌∷◌, ◌++◌, map, Bool, true, false, ◌&&◌, not, Option, Some, None, refl, ap, subst, sym, ◌∙◌, arith, codes, encode_utf8}
+use Rattle.std.proofs.Common.{◌≡◌, ℕ, ◌<◌, ◌^◌, List, [], ◌∷◌, ◌++◌, true, ◌&&◌, not, refl, ap, subst, arith, encode_utf8}
 use Rattle.std.specs.List.{AllByRecursion}
 use Rattle.std.specs.Char.{is_ascii_digit}
 use Rattle.std.specs.Str.{all_ascii_digits}
@@ -11,7 +11,6 @@ use Rattle.std.proofs.lemmas.Str.Parse.{IsNumeralModel, numerals_by_value}
 use Rattle.std.proofs.lemmas.Fmt.{digits_decimal}
 use Rattle.at_base.specs.Chars.{is_xml_char}
 use Rattle.xml_profile.specs.declared.name.QName.{QName}
-use Rattle.xml_profile.specs.declared.name.Attribute.{Attribute}
 use Rattle.xml_profile.specs.declared.tree.Tree.{Tree}
 use Rattle.xml_profile.specs.Forest.{Forest}
 use Rattle.xml_profile.specs.Forest.Forest.{End, Text_then, Element_then}
@@ -19,7 +18,7 @@ use Rattle.xml_profile.specs.Spellable.{can_be_spelled, is_content, is_empty, is
 use Rattle.xml_roundtrip.proofs.Kept.{XmlText, is_text as text_from, text_all, text_both, text_one}
 use Rattle.soap_profile.specs.Building.{children_of, element, text_children}
 use Rattle.soap_profile.specs.Values.{elements}
-use Rattle.wire_posts.proofs.Tests.{both, both_true}
+use Rattle.wire_posts.proofs.Bools.{both, both_true}
 
 abbrev pub Can : Tree → Type 0
 Can t = can_be_spelled t ≡ true

@@ -1,5 +1,5 @@
 -- The envelope of a post whose texts can be spelled can be spelled.
-use Rattle.std.proofs.Common.{◌≡◌, ◌<◌, ◌^◌, ℕ, List, [], ◌∷◌, ◌++◌, map, Bool, true, false, ◌&&◌, IfSome, Option, Some, None, refl, ap, subst, sym, ◌∙◌, cond}
+use Rattle.std.proofs.Common.{◌≡◌, ℕ, List, [], ◌∷◌, ◌++◌, Bool, true, false, ◌&&◌, IfSome, Option, Some, None, refl, ap, subst, sym, ◌∙◌, cond}
 use Rattle.std.specs.Prelude.{codes}
 use Rattle.std.specs.Option.{option_to_list}
 use Rattle.std.specs.Str.{bytes_eq, chars, is_utf8}
@@ -7,9 +7,9 @@ use Rattle.std.specs.Fmt.{decimal}
 use Rattle.xml_profile.specs.declared.name.QName.{QName}
 use Rattle.xml_profile.specs.declared.tree.Tree.{Tree}
 use Rattle.xml_profile.specs.Forest.Forest.{End}
-use Rattle.xml_profile.specs.Prefixes.{addressing, coordination, soap, work}
-use Rattle.xml_profile.specs.Spellable.{is_attribute, is_content, is_name, is_tag, is_text, texts_apart}
-use Rattle.soap_profile.specs.Building.{children_of, element, qualified, text_children, unqualified}
+use Rattle.xml_profile.specs.Prefixes.{addressing, soap, work}
+use Rattle.xml_profile.specs.Spellable.{is_content, is_name, is_tag, is_text, texts_apart}
+use Rattle.soap_profile.specs.Building.{children_of, element, qualified}
 use Rattle.soap_profile.specs.Envelopes.{envelope_tree}
 use Rattle.soap_profile.specs.Values.{elements}
 use Rattle.at_base.specs.declared.epr.Epr.{Epr}
@@ -32,13 +32,13 @@ use Rattle.addressing.specs.declared.writer.Endpoint.{Endpoint}
 use Rattle.addressing.specs.declared.writer.OutgoingHeaders.{OutgoingHeaders}
 use Rattle.addressing.specs.Endpoints.{anonymous}
 use Rattle.addressing.specs.Stored.{IsEndpointOf}
-use Rattle.addressing.specs.Writing.{IsContext, blocks_of, context_block, context_blocks, endpoint_blocks, endpoint_tree, marked, message_blocks, parameters_in, parameters_of, text_blocks, text_element, to_blocks}
+use Rattle.addressing.specs.Writing.{blocks_of, context_block, context_blocks, endpoint_blocks, endpoint_tree, message_blocks, parameters_in, parameters_of, text_blocks, text_element, to_blocks}
 use Rattle.context.specs.declared.parameter.Parameter.{Parameter}
 use Rattle.context.specs.declared.parameter.Parameter.TheVariants.{Identifier, Expires, CoordinationType, RegistrationService, CurrentContext, CoordinationContext, ProtocolIdentifier, ParticipantProtocolService, CoordinatorProtocolService}
 use Rattle.context.specs.declared.writer.OutgoingContext.{OutgoingContext}
 use Rattle.context.specs.declared.writer.OutgoingCreate.{OutgoingCreate}
 use Rattle.context.specs.declared.writer.OutgoingRegister.{OutgoingRegister}
-use Rattle.context.specs.Writing.{IsNarrow, context_tree, create_response_tree, create_tree, current_parameter, endpoint_parameter, expires_parameter, parameter_name, register_response_tree, register_tree, text_parameter}
+use Rattle.context.specs.Writing.{IsNarrow, context_tree, create_tree, current_parameter, endpoint_parameter, expires_parameter, parameter_name, register_tree, text_parameter}
 use Rattle.wire_msgs.specs.declared.form.Form.{Form}
 use Rattle.wire_msgs.specs.declared.form.Form.TheVariants as forms
 use Rattle.wire_msgs.specs.declared.part.Part.{Part}
@@ -47,13 +47,13 @@ use Rattle.wire_msgs.specs.Forms.{action_of, local_of, space_of}
 use Rattle.wire_msgs.specs.Parts.{part_name}
 use Rattle.wire_posts.specs.declared.fault.WrittenFault.{WrittenFault}
 use Rattle.wire_posts.specs.declared.fault.WrittenFault.TheVariants.{NotProfileDocument, VersionMismatch, NotEnvelope, MustUnderstand, HeaderRequired, InvalidHeader, ActionNotSupported, InvalidState, InvalidProtocol, InvalidParameters, CannotCreateContext, CannotRegisterParticipant, UnknownTransaction, Other}
-use Rattle.wire_posts.specs.Envelopes.{AreBoth, AreHeadersOf, IsBodyOf, IsContextOf, IsCreateOf, IsEnvelopeOf, IsRegisterOf, IsReplyOf, IsWorkContext, action_in, context_in, empty_tree, kind_name, reply_epr, vote_name, work_part, work_tree}
+use Rattle.wire_posts.specs.Envelopes.{AreBoth, AreHeadersOf, IsBodyOf, IsContextOf, IsCreateOf, IsRegisterOf, IsReplyOf, IsWorkContext, action_in, context_in, empty_tree, kind_name, reply_epr, vote_name, work_part, work_tree}
 use Rattle.wire_posts.specs.Faults.{fault_action, fault_body, fault_named}
-use Rattle.wire_posts.specs.Returning.{CanReturn, IsClean, IsSource, IsWhole, IsWholeContext, IsWholeCreate, IsWholeMessage, IsWholeRegister, IsWholeReply, IsWholeWork}
+use Rattle.wire_posts.specs.Returning.{CanReturn, IsClean, IsSource, IsWholeContext, IsWholeCreate, IsWholeMessage, IsWholeRegister, IsWholeReply, IsWholeWork}
 use Rattle.wire_posts.proofs.Ends.{IsSpelled, is_spelled}
 use Rattle.wire_posts.proofs.Marking.{all_marked}
-use Rattle.wire_posts.proofs.Spelling.{AllCan, Can, all_can, decimal_text, element_can, elements_can, elements_inside, elements_of, text_can}
-use Rattle.wire_posts.proofs.Tests.{both, both_true}
+use Rattle.wire_posts.proofs.Spelling.{AllCan, Can, all_can, decimal_text, element_can, elements_can, elements_of, text_can}
+use Rattle.wire_posts.proofs.Bools.{both, both_true}
 
 -- names
 

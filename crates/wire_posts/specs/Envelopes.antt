@@ -34,7 +34,6 @@ use Rattle.wire_msgs.specs.declared.form.Form.{Form}
 use Rattle.wire_msgs.specs.declared.form.Form.TheVariants as forms
 use Rattle.wire_msgs.specs.declared.part.Part.{Part}
 use Rattle.wire_msgs.specs.declared.part.Part.TheVariants as parts
-use Rattle.wire_msgs.specs.declared.refusal.Refusal.{Refusal}
 use Rattle.wire_msgs.specs.Forms.{action_of, local_of, space_of}
 use Rattle.wire_msgs.specs.Parts.{part_name}
 use Rattle.wire_posts.specs.declared.encode.Outgoing.{Outgoing}

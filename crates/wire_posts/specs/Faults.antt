@@ -2,7 +2,7 @@
 -- section 4; WS-AtomicTransaction 1.2, section 7), and which of them a refusal is.
 use Rattle.std.specs.Prelude.{◌≡◌, refl, ℕ, List, [], ◌∷◌, ◌++◌, ◌||◌, Option, Some, None, if◌then◌else◌, codes}
 use Rattle.std.specs.List.{find}
-use Rattle.std.specs.Option.{option_map, unwrap_or}
+use Rattle.std.specs.Option.{unwrap_or}
 use Rattle.std.specs.Str.{bytes_eq}
 use Rattle.xml_profile.specs.declared.name.QName.{QName}
 use Rattle.xml_profile.specs.declared.tree.Tree.{Tree}
@@ -122,8 +122,12 @@ abbrev pub refusal_tree : WrittenFault → Tree
 refusal_tree fault = envelope_tree (text_element (codes "Action") (fault_action fault) ∷ []) (fault_body fault)
 
 -- empty where the answer has no body
+abbrev pub answer_text : Option WrittenFault → List ℕ
+answer_text None = []
+answer_text (Some fault) = canonical_text (refusal_tree fault)
+
 abbrev pub refusal_text : Refusal → List ℕ
-refusal_text refusal = unwrap_or (option_map (λ fault. canonical_text (refusal_tree fault)) (refusal_fault refusal)) []
+refusal_text refusal = answer_text (refusal_fault refusal)
 
 pub code_of_a_missing_header : code_of HeaderRequired ≡ codes "wsa:MessageAddressingHeaderRequired"
 code_of_a_missing_header = refl

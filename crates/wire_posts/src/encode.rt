@@ -37,14 +37,15 @@ pub fn encode(alloc: Global, outgoing: &Outgoing) -> Result<Vec<u8>, AllocError>
 }
 
 /// The canonical text of the envelope of a message. Where the message can be read at all, it is read as what it was.
-#[tactic(auto, using(crate::proofs::Arriving::text_returns, crate::proofs::Single::text_one))]
+#[tactic(auto, using(crate::proofs::Arriving::text_returns))]
 pub fn encode_post(alloc: Global, post: &Post) -> Result<Vec<u8>, AllocError>
     ensures text { IfOk result (λ bytes. IsTextOf post.now bytes.items) }
     ensures only { IfOk result (λ bytes. (text : List ℕ) → IsTextOf post.now text → text ≡ bytes.items) }
     ensures returns { IfOk result (λ bytes. Returns post.now bytes.items) }
 {
     let tree = envelope_of(alloc, post)?;
-    canonical_text(alloc, &tree)
+    let bytes = canonical_text(alloc, &tree)?;
+    Ok(bytes)
 }
 
 /// The canonical text of the envelope that a refused request is answered with, or no bytes where its answer has no body:
@@ -55,7 +56,8 @@ pub fn encode_refusal(alloc: Global, refusal: &Refusal) -> Result<Vec<u8>, Alloc
     match WrittenFault::of_refusal(refusal) {
         Some(fault) => {
             let tree = refusal_tree(alloc, fault)?;
-            canonical_text(alloc, &tree)
+            let bytes = canonical_text(alloc, &tree)?;
+            Ok(bytes)
         }
         None => Ok(Vec::new(alloc)),
     }

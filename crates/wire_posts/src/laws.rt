@@ -6,7 +6,7 @@ ghost use Rattle.wire_posts.specs.Envelopes.{IsTextOf};
 ghost use Rattle.wire_posts.specs.Returning.{Returns};
 
 /// A post has one text, and it is read as what was posted.
-#[tactic(auto, using(crate::proofs::Single::text_one, crate::proofs::Arriving::text_returns))]
+#[tactic(auto, using(crate::proofs::Arriving::text_returns))]
 pub fn what_is_posted_arrives()
     ensures one { (post : Post) → (x : List ℕ) → (y : List ℕ) → IsTextOf post x → IsTextOf post y → x ≡ y }
     ensures arrives { (post : Post) → (text : List ℕ) → IsTextOf post text → Returns post text }

@@ -1,4 +1,4 @@
-use crate::encode::{encode_post, encode_refusal};
+use crate::encode::{Outgoing, encode, encode_post};
 use at_base::epr::{Epr, Reply};
 use at_base::message::{Context, Create, Message, Register, Work};
 use at_base::notice::{Kind, Notice, Vote};
@@ -303,12 +303,25 @@ fn a_notification_is_written(rt: HostRuntime) -> Result<(), Fail> {
     Ok(())
 }
 
+fn refused(alloc: Global, refusal: Refusal) -> Result<Vec<u8>, AllocError> {
+    let outgoing = Outgoing::Refusal(refusal);
+    encode(alloc, &outgoing)
+}
+
 #[test]
-fn refusals_are_written(rt: HostRuntime) -> Result<(), Fail> {
+fn a_refusal_is_written(rt: HostRuntime) -> Result<(), Fail> {
     let alloc = rt.alloc();
-    let text = encode_refusal(alloc, &Refusal::Action)?;
     let expected =
         "<s:Envelope xmlns:s=\"http://schemas.xmlsoap.org/soap/envelope/\" xmlns:wsa=\"http://www.w3.org/2005/08/addressing\"><s:Header><wsa:Action>http://www.w3.org/2005/08/addressing/fault</wsa:Action></s:Header><s:Body><s:Fault><faultcode>wsa:ActionNotSupported</faultcode><faultstring>action not supported</faultstring></s:Fault></s:Body></s:Envelope>";
+    let text = refused(alloc, Refusal::Action)?;
     assert_eq!(rt; text.as_slice(), expected.as_bytes());
+    Ok(())
+}
+
+#[test]
+fn a_refusal_without_a_body_is_empty(rt: HostRuntime) -> Result<(), Fail> {
+    let alloc = rt.alloc();
+    assert!(rt; refused(alloc, Refusal::TooLong)?.is_empty());
+    assert!(rt; refused(alloc, Refusal::NoTarget)?.is_empty());
     Ok(())
 }
