@@ -617,11 +617,21 @@ fn faults(rt: HostRuntime) -> Result<(), Fail> {
     Ok(())
 }
 
+/// What is printed of an input of so many spaces.
+fn prints_of_spaces(rt: HostRuntime, count: usize, printed: &str) -> Result<(u8, bool), Fail> {
+    let input = vec![in rt.alloc(); b' '; count]?;
+    prints(rt, "check", input.as_slice(), printed)
+}
+
 #[test]
 fn limits_of_the_source(rt: HostRuntime) -> Result<(), Fail> {
-    let long = vec![in rt.alloc(); b' '; 1_048_577]?;
-    assert!(rt; prints(rt, "check", long.as_slice(), "")? == (10, true));
-    assert!(rt; prints(rt, "check", &long[1..], "refused 1 TooLong\n")? == (3, true));
-    assert!(rt; prints(rt, "check", &long[..65_536], "refused 3 NotSpelled\n")? == (3, true));
+    for (count, status, printed) in [
+        (65_536, 3, "refused 3 NotSpelled\n"),
+        (65_537, 3, "refused 1 TooLong\n"),
+        (1_048_576, 3, "refused 1 TooLong\n"),
+        (1_048_577, 10, ""),
+    ] {
+        assert!(rt; prints_of_spaces(rt, count, printed)? == (status, true));
+    }
     Ok(())
 }
