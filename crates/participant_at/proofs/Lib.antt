@@ -1,4 +1,4 @@
-mod Following
+mod Naming
 mod Ending
 mod Employing
 mod Modelled

@@ -15,7 +15,7 @@ ghost use Rattle.participant_at.specs.Planning.{nothing, work_arrived, leaf_arri
 
 use crate::due::{may_expire, on_due};
 use crate::leaf::Leaf;
-use at_posts::answers::accepted;
+use crate::posts::accepted;
 use crate::rules::{ending, on_leaf, unchanged};
 use crate::work::on_work;
 use at_base::event::{Arrived, Event, Item, Moment};

@@ -8,8 +8,7 @@ ghost use Rattle.at_model.specs.Leaves.{new_leaf, leaf_register, refuse_work, em
 ghost use Rattle.participant_at.specs.Employing.{employed};
 
 use crate::leaf::{Leaf, WorkRequest};
-use crate::posts::{Answer, push_register, replied};
-use at_posts::answers::accepted;
+use crate::posts::{Answer, accepted, push_register, replied};
 use crate::rules::{silent, unchanged};
 use at_base::epr::{Epr, Reply};
 use at_base::event::{Arrived, Moment};
