@@ -1,0 +1,4 @@
+//! A node's transactions: what a transaction is, and how one moves.
+#![tactic(auto)]
+
+pub mod transaction;
