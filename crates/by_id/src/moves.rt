@@ -3,6 +3,7 @@
 ghost use Rattle.std.specs.Prelude.{◌≡◌, ◌++◌, IfOk, OnOk, map};
 ghost use Rattle.at_base.specs.declared.outs.Out.TheVariants as out;
 ghost use Rattle.at_model.specs.Moves.{begin, post, effect, stays, forgotten, ignored};
+ghost use Rattle.by_id.specs.Decided.{decision_of};
 ghost use Rattle.by_id.specs.Plans.{unchanged, changed, if_absent, decided};
 
 use crate::list::Alteration;
@@ -57,15 +58,6 @@ pub enum Decision<T> {
         /// What is done where it is certainly absent; none where the step is undone.
         absent: Option<Change<T>>,
     },
-}
-
-impl<T> Model for Decision<T> {
-    ghost use Rattle.at_model.specs.Moves.{Decision as Decided};
-    ghost use Rattle.by_id.specs.Decided.{decision_of};
-
-    ghost Value = { Decided T };
-
-    ghost view = { decision_of };
 }
 
 impl<T: Drop> Moving<T> {
@@ -134,7 +126,7 @@ impl<T: Clone> Clone for Moving<T> {
 
 /// Nothing happens to the item.
 pub fn ignored<T: Drop>(alloc: Global, item: T) -> Decision<T>
-    ensures { result ≡ ignored item }
+    ensures { decision_of result ≡ ignored item }
 {
     Decision::Goes(Moving::begin(alloc, item).stays())
 }
@@ -199,7 +191,7 @@ fn absent_branch<T: Drop>(
 impl<T: Drop> Decision<T> {
     /// The plan of the decision on the item of this id, behind this answer.
     pub fn into_plan(self, alloc: Global, answer: OutList, id: Id) -> Result<Plan<T>, AllocError>
-        ensures { IfOk result (λ plan. plan ≡ decided answer id self) }
+        ensures { IfOk result (λ plan. plan ≡ decided answer id (decision_of self)) }
     {
         match self {
             Decision::Goes(change) => Ok(Plan::Plain(change.into_branch(answer, id)?)),
