@@ -129,12 +129,15 @@ fn push_answer(
             push_refused(alloc, posts, request)?;
             Ok(true)
         }
-        Phase::Registering => push_ready(alloc, moment, request, superior, transaction, posts),
-        Phase::Active => push_ready(alloc, moment, request, superior, transaction, posts),
-        Phase::Volatile => push_ready(alloc, moment, request, superior, transaction, posts),
-        Phase::Durable => push_ready(alloc, moment, request, superior, transaction, posts),
-        Phase::Voted => push_ready(alloc, moment, request, superior, transaction, posts),
-        Phase::Committing => push_ready(alloc, moment, request, superior, transaction, posts),
+        Phase::Registering
+        | Phase::Active
+        | Phase::Volatile
+        | Phase::Durable
+        | Phase::Voted
+        | Phase::Committing => {
+            let ready = push_ready(alloc, moment, request, superior, transaction, posts)?;
+            Ok(ready)
+        }
     }
 }
 
