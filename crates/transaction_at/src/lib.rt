@@ -1,0 +1,14 @@
+//! A node's transactions: what a transaction is, and how one moves.
+#![tactic(auto)]
+
+pub mod abort;
+pub mod answer;
+pub mod at_completion;
+pub mod at_link;
+pub mod at_seat;
+pub mod links;
+pub mod phases;
+pub mod seats;
+#[cfg(test)]
+mod tests;
+pub mod transaction;

@@ -1,0 +1,348 @@
+//! A transaction: its phase, its participants' seats, its initiator, and what makes it a subordinate.
+
+ghost use Rattle.std.specs.Prelude.{◌≡◌, ◌++◌, ◌∷◌, [], OnOk, OnErr};
+ghost use Rattle.at_model.specs.Seats.{moved};
+ghost use Rattle.transaction_at.specs.Groups.{belongs};
+
+use crate::seats::{Group, belongs};
+use at_base::epr::{Epr, Reply};
+use at_base::id::Id;
+use at_base::message::cloned_option;
+use at_base::notice::Kind;
+use at_base::text::Text;
+use at_tables::cells::State;
+use std::alloc::{AllocError, Global};
+use std::marker::Model;
+
+/// A participant that a transaction accepted, and its seat (WS-Coordination 1.2, section 3.2).
+#[derive(Debug, Drop)]
+pub struct Enlistment {
+    /// 1 to 64, in the order of registration.
+    pub number: u16,
+    /// The protocol that it registered for.
+    pub kind: Kind,
+    /// The participant's endpoint.
+    pub participant: Epr,
+    /// The state of its seat.
+    pub state: State,
+}
+
+impl Model for Enlistment {
+    ghost use Rattle.at_model.specs.Book.{Enlistment as Known};
+
+    ghost Value = { Known };
+
+    ghost view = { λ s. record {
+      number = s.number;
+      kind = s.kind;
+      participant = s.participant;
+      state = s.state;
+    } };
+}
+
+impl Clone for Enlistment {
+    ghost is_clone = { λ seat copy. copy ≡ seat };
+
+    fn clone(&self) -> Result<Enlistment, AllocError> {
+        let participant = self.participant.clone()?;
+        Ok(Enlistment {
+            number: self.number,
+            kind: self.kind,
+            participant,
+            state: self.state,
+        })
+    }
+}
+
+/// The seats of one transaction, in the order of registration, at most 64.
+#[derive(Debug, Drop)]
+pub struct Seats {
+    items: Vec<Enlistment>,
+}
+
+impl Model for Seats {
+    ghost use Rattle.std.specs.Prelude.{List};
+    ghost use Rattle.at_model.specs.Book.{Enlistment as Known};
+
+    ghost Value = { List Known };
+
+    ghost view = { λ s. s.items.items };
+}
+
+impl Seats {
+    /// No seats.
+    pub fn new(alloc: Global) -> Seats
+        ensures { result ≡ [] }
+    {
+        Seats {
+            items: Vec::new(alloc),
+        }
+    }
+
+    /// The list of a `Vec`, without a copy.
+    pub fn from_vec(items: Vec<Enlistment>) -> Seats
+        ensures { result ≡ items.items }
+    {
+        Seats { items }
+    }
+
+    /// The `Vec` of the list, without a copy.
+    pub fn into_vec(self) -> Vec<Enlistment>
+        ensures { result.items ≡ self }
+    {
+        self.items
+    }
+
+    /// The list as a slice.
+    pub fn as_slice(&self) -> &[Enlistment]
+        ensures { result.now ≡ self.now }
+    {
+        self.items.as_slice()
+    }
+
+    /// Adds one at the end. After an error the list is as before.
+    pub fn push(&mut self, seat: Enlistment) -> Result<(), AllocError>
+        ensures ok { OnOk result (self.new ≡ self.old ++ seat ∷ []) }
+        ensures err { OnErr result (self.new ≡ self.old) }
+    {
+        self.items.push(seat)?;
+        Ok(())
+    }
+
+    /// Moves each seat of the group into this state.
+    pub fn move_each(&mut self, group: Group, state: State)
+        ensures { self.new ≡ moved (belongs group) state self.old }
+    {
+        for seat in self.items.iter_mut() {
+            if belongs(seat, group) {
+                seat.state = state;
+            }
+        }
+    }
+}
+
+impl Clone for Seats {
+    ghost is_clone = { λ items copy. copy ≡ items };
+
+    fn clone(&self) -> Result<Seats, AllocError> {
+        Ok(Seats {
+            items: self.items.clone()?,
+        })
+    }
+}
+
+/// The initiator that registered for Completion (WS-AtomicTransaction 1.2, section 3.2).
+#[derive(Debug, Drop)]
+pub struct Completion {
+    /// The initiator's endpoint.
+    pub initiator: Epr,
+    /// The state of its seat.
+    pub state: State,
+}
+
+impl Model for Completion {
+    ghost use Rattle.at_model.specs.Book.{Completion as Known};
+
+    ghost Value = { Known };
+
+    ghost view = { λ c. record { initiator = c.initiator; state = c.state } };
+}
+
+impl Clone for Completion {
+    ghost is_clone = { λ completion copy. copy ≡ completion };
+
+    fn clone(&self) -> Result<Completion, AllocError> {
+        let initiator = self.initiator.clone()?;
+        Ok(Completion {
+            initiator,
+            state: self.state,
+        })
+    }
+}
+
+/// One of a subordinate's two registrations at its superior.
+#[derive(Debug, Drop)]
+pub struct Link {
+    pub state: State,
+    /// The endpoint of the superior's seat for it, once that is known.
+    pub coordinator: Option<Epr>,
+}
+
+impl Model for Link {
+    ghost use Rattle.at_model.specs.Book.{Link as Known};
+
+    ghost Value = { Known };
+
+    ghost view = { λ l. record { state = l.state; coordinator = l.coordinator } };
+}
+
+impl Clone for Link {
+    ghost is_clone = { λ link copy. copy ≡ link };
+
+    fn clone(&self) -> Result<Link, AllocError> {
+        let coordinator = cloned_option(&self.coordinator)?;
+        Ok(Link {
+            state: self.state,
+            coordinator,
+        })
+    }
+}
+
+/// A subordinate's CreateCoordinationContext that is still to be answered (WS-Coordination 1.2, section 3.1).
+#[derive(Debug, Drop)]
+pub struct Request {
+    /// Its MessageID.
+    pub id: Option<Text>,
+    /// Where its reply goes.
+    pub reply: Epr,
+    /// Where its fault goes.
+    pub fault: Reply,
+    /// The Expires of the answer, in milliseconds.
+    pub expires: Option<u32>,
+    /// Where the subordinate registers.
+    pub registration: Epr,
+}
+
+impl Model for Request {
+    ghost use Rattle.at_model.specs.Book.{Request as Known};
+
+    ghost Value = { Known };
+
+    ghost view = { λ r. record {
+      id = r.id;
+      reply = r.reply;
+      fault = r.fault;
+      expires = r.expires;
+      registration = r.registration;
+    } };
+}
+
+impl Clone for Request {
+    ghost is_clone = { λ request copy. copy ≡ request };
+
+    fn clone(&self) -> Result<Request, AllocError> {
+        let id = cloned_option(&self.id)?;
+        let reply = self.reply.clone()?;
+        let fault = self.fault.clone()?;
+        let registration = self.registration.clone()?;
+        Ok(Request {
+            id,
+            reply,
+            fault,
+            expires: self.expires,
+            registration,
+        })
+    }
+}
+
+/// What makes a transaction a subordinate: its links to its superior.
+#[derive(Debug, Drop)]
+pub struct Superior {
+    /// Its registration for Volatile Two-Phase Commit.
+    pub volatile: Link,
+    /// Its registration for Durable Two-Phase Commit.
+    pub durable: Link,
+    /// The CreateCoordinationContext that made it, until it is answered.
+    pub request: Option<Request>,
+}
+
+impl Model for Superior {
+    ghost use Rattle.at_model.specs.Book.{Superior as Known};
+
+    ghost Value = { Known };
+
+    ghost view = { λ s. record { volatile = s.volatile; durable = s.durable; request = s.request } };
+}
+
+impl Clone for Superior {
+    ghost is_clone = { λ superior copy. copy ≡ superior };
+
+    fn clone(&self) -> Result<Superior, AllocError> {
+        let volatile = self.volatile.clone()?;
+        let durable = self.durable.clone()?;
+        let request = cloned_option(&self.request)?;
+        Ok(Superior {
+            volatile,
+            durable,
+            request,
+        })
+    }
+}
+
+/// Where a transaction stands (WS-AtomicTransaction 1.2, section 3.3).
+#[derive(Clone, Copy, Debug, PartialEq, Eq)]
+pub enum Phase {
+    /// A subordinate that waits for the answer of a Register.
+    Registering,
+    /// It takes participants.
+    Active,
+    /// Its volatile participants prepare.
+    Volatile,
+    /// Its durable participants prepare.
+    Durable,
+    /// A subordinate that voted Prepared and waits for its superior.
+    Voted,
+    Committing,
+    Aborting,
+}
+
+/// A transaction that this node coordinates (WS-AtomicTransaction 1.2, section 3).
+#[derive(Debug, Drop)]
+pub struct Transaction {
+    pub id: Id,
+    /// The Identifier of its coordination context.
+    pub identifier: Text,
+    /// None of a root.
+    pub superior: Option<Superior>,
+    pub phase: Phase,
+    /// When it expires, in milliseconds.
+    pub deadline: Option<u128>,
+    /// When it last sent a message that is repeated, in milliseconds; none since it was recovered.
+    pub sent: Option<u64>,
+    /// When it aborted, in milliseconds.
+    pub aborted: Option<u64>,
+    pub seats: Seats,
+    /// None before an initiator registered for Completion.
+    pub completion: Option<Completion>,
+}
+
+impl Model for Transaction {
+    ghost use Rattle.at_model.specs.Book.{Transaction as Known};
+    ghost use Rattle.transaction_at.specs.PhaseNames.{phase_of};
+
+    ghost Value = { Known };
+
+    ghost view = { λ t. record {
+      id = t.id;
+      identifier = t.identifier;
+      superior = t.superior;
+      phase = phase_of t.phase;
+      deadline = t.deadline;
+      sent = t.sent;
+      aborted = t.aborted;
+      seats = t.seats;
+      completion = t.completion;
+    } };
+}
+
+impl Clone for Transaction {
+    ghost is_clone = { λ transaction copy. copy ≡ transaction };
+
+    fn clone(&self) -> Result<Transaction, AllocError> {
+        let identifier = self.identifier.clone()?;
+        let superior = cloned_option(&self.superior)?;
+        let seats = self.seats.clone()?;
+        let completion = cloned_option(&self.completion)?;
+        Ok(Transaction {
+            id: self.id,
+            identifier,
+            superior,
+            phase: self.phase,
+            deadline: self.deadline,
+            sent: self.sent,
+            aborted: self.aborted,
+            seats,
+            completion,
+        })
+    }
+}
