@@ -1,5 +1,10 @@
 //! A node's transactions: what a transaction is, and how one moves.
 #![tactic(auto)]
 
+pub mod abort;
 pub mod due;
+pub mod links;
+pub mod seats;
+#[cfg(test)]
+mod tests;
 pub mod transaction;

@@ -1,7 +1,10 @@
 //! A transaction: its phase, its participants' seats, its initiator, and what makes it a subordinate.
 
 ghost use Rattle.std.specs.Prelude.{◌≡◌, ◌++◌, ◌∷◌, [], OnOk, OnErr};
+ghost use Rattle.at_model.specs.Seats.{moved};
+ghost use Rattle.transaction_at.specs.Groups.{belongs};
 
+use crate::seats::{Group, belongs};
 use at_base::epr::{Epr, Reply};
 use at_base::id::Id;
 use at_base::message::cloned_option;
@@ -104,6 +107,17 @@ impl Seats {
     {
         self.items.push(seat)?;
         Ok(())
+    }
+
+    /// Moves each seat of the group into this state.
+    pub fn move_each(&mut self, group: Group, state: State)
+        ensures { self.new ≡ moved (belongs group) state self.old }
+    {
+        for seat in self.items.iter_mut() {
+            if belongs(seat, group) {
+                seat.state = state;
+            }
+        }
     }
 }
 

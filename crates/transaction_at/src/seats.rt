@@ -1,0 +1,317 @@
+//! The seats of a transaction: tests, and small changes.
+
+ghost use Rattle.std.specs.Prelude.{◌≡◌, ◌++◌, ◌∷◌, [], IfOk, OnOk, Some};
+ghost use Rattle.std.specs.List.{list_any};
+ghost use Rattle.at_tables.specs.Names.{state_place, kind_place, is_state, is_kind};
+ghost use Rattle.at_model.specs.Moves.{begin, ignored};
+ghost use Rattle.at_model.specs.Posts.{notice_post};
+ghost use Rattle.at_model.specs.Seats.{is_of, is_open, answered, all_left, is_prepared_durable, prepared, seated, seat_target, notices_to, sent_to, send_each, seat_in, sent_now, moved};
+ghost use Rattle.by_id.specs.Decided.{decision_of};
+ghost use Rattle.transaction_at.specs.Groups.{belongs};
+
+use crate::transaction::{Enlistment, Transaction};
+use at_base::event::Moment;
+use at_base::id::Id;
+use at_base::notice::{Kind, Notice};
+use at_base::outs::Post;
+use at_base::record::{Seated, Seats};
+use at_base::target::{Seat, Target};
+use at_posts::list::PostList;
+use at_posts::posts::notice_post;
+use at_tables::cells::State;
+use by_id::moves::{Decision, Moving, ignored};
+use std::alloc::{AllocError, Global};
+
+/// Seats that are told or moved together.
+#[derive(Clone, Copy, Debug, PartialEq, Eq)]
+pub enum Group {
+    /// Active, Preparing or Prepared: what an abort rolls back.
+    Open,
+    /// In this state.
+    In(State),
+    /// Of this kind, in this state.
+    Of { kind: Kind, state: State },
+    /// Of this kind, and Active or Preparing: neither voted nor left.
+    Unanswered(Kind),
+    /// Durable, and not left.
+    DurableStaying,
+    /// Of this number.
+    Numbered(u16),
+}
+
+/// The place of a state in the order of the states.
+fn place(state: State) -> u8
+    ensures { result ≡ state_place state }
+{
+    match state {
+        State::None => 0,
+        State::Registering => 1,
+        State::Active => 2,
+        State::Preparing => 3,
+        State::Prepared => 4,
+        State::PreparedSuccess => 5,
+        State::Committing => 6,
+        State::Aborting => 7,
+        State::Completing => 8,
+    }
+}
+
+/// Whether two states are the same.
+pub fn is_state(state: State, other: State) -> bool
+    ensures { result ≡ is_state state other }
+{
+    place(state) == place(other)
+}
+
+/// The place of a kind in the order of the kinds.
+fn kind_place(kind: Kind) -> u8
+    ensures { result ≡ kind_place kind }
+{
+    match kind {
+        Kind::Volatile => 0,
+        Kind::Durable => 1,
+    }
+}
+
+/// Whether two kinds are the same.
+pub fn is_kind(kind: Kind, other: Kind) -> bool
+    ensures { result ≡ is_kind kind other }
+{
+    kind_place(kind) == kind_place(other)
+}
+
+/// Whether an abort rolls a seat back.
+fn is_open(seat: &Enlistment) -> bool
+    ensures { result ≡ is_open seat.now }
+{
+    is_state(seat.state, State::Active)
+        || is_state(seat.state, State::Preparing)
+        || is_state(seat.state, State::Prepared)
+}
+
+/// Whether a seat has this kind and this state.
+fn is_of(seat: &Enlistment, kind: Kind, state: State) -> bool
+    ensures { result ≡ is_of kind state seat.now }
+{
+    is_kind(seat.kind, kind) && is_state(seat.state, state)
+}
+
+/// Whether a seat is in the group.
+pub fn belongs(seat: &Enlistment, group: Group) -> bool
+    ensures { result ≡ belongs group seat.now }
+{
+    match group {
+        Group::Open => is_open(seat),
+        Group::In(state) => is_state(seat.state, state),
+        Group::Of { kind, state } => is_of(seat, kind, state),
+        Group::Unanswered(kind) => {
+            is_of(seat, kind, State::Active) || is_of(seat, kind, State::Preparing)
+        }
+        Group::DurableStaying => {
+            is_kind(seat.kind, Kind::Durable) && !is_state(seat.state, State::None)
+        }
+        Group::Numbered(number) => seat.number == number,
+    }
+}
+
+/// Whether a seat of the group is among these.
+pub fn has_any(seats: &[Enlistment], group: Group) -> bool
+    ensures { result ≡ list_any (belongs group) seats.now }
+{
+    for seat in seats {
+        if belongs(seat, group) {
+            return true;
+        }
+    }
+    false
+}
+
+/// Whether each seat of the kind has voted or left.
+pub fn answered(seats: &[Enlistment], kind: Kind) -> bool
+    ensures { result ≡ answered kind seats.now }
+{
+    !has_any(seats, Group::Unanswered(kind))
+}
+
+/// Whether every durable seat has left.
+pub fn all_left(seats: &[Enlistment]) -> bool
+    ensures { result ≡ all_left seats.now }
+{
+    !has_any(seats, Group::DurableStaying)
+}
+
+/// Whether a durable seat voted Prepared.
+pub fn has_prepared(seats: &[Enlistment]) -> bool
+    ensures { result ≡ list_any is_prepared_durable seats.now }
+{
+    has_any(seats, PREPARED_DURABLE)
+}
+
+/// The durable seats that voted Prepared.
+const PREPARED_DURABLE: Group = Group::Of {
+    kind: Kind::Durable,
+    state: State::Prepared,
+};
+
+/// A seat as a record has it.
+fn seated(seat: &Enlistment) -> Result<Seated, AllocError>
+    ensures { IfOk result (λ copy. copy ≡ seated seat.now) }
+{
+    Ok(Seated {
+        number: seat.number,
+        endpoint: seat.participant.clone()?,
+    })
+}
+
+/// The durable seats that voted Prepared, as a record has them.
+pub fn prepared(alloc: Global, seats: &[Enlistment]) -> Result<Seats, AllocError>
+    ensures { IfOk result (λ list. list ≡ prepared seats.now) }
+{
+    let mut list = Seats::from_vec(Vec::new(alloc));
+    for seat in seats {
+        if is_of(seat, Kind::Durable, State::Prepared) {
+            list.push(seated(seat)?)?;
+        }
+    }
+    Ok(list)
+}
+
+/// What a seat's endpoint names.
+fn seat_target(id: Id, seat: &Enlistment) -> Target
+    ensures { result ≡ seat_target id seat.now }
+{
+    Target::Coordinator {
+        id,
+        seat: Seat {
+            number: seat.number,
+            kind: seat.kind,
+        },
+    }
+}
+
+/// A notification of a seat to its participant.
+pub fn seat_notice(
+    alloc: Global,
+    moment: &Moment,
+    id: Id,
+    seat: &Enlistment,
+    notice: Notice,
+) -> Result<Post, AllocError>
+    ensures { IfOk result
+        (λ post. post
+        ≡ notice_post moment.entry.now.base (seat_target id seat.now) seat.now.participant notice) }
+{
+    let own = seat_target(id, seat);
+    notice_post(alloc, &moment.base, &own, &seat.participant, notice)
+}
+
+/// Adds a notification to each seat of the group, in order.
+pub fn push_notices(
+    alloc: Global,
+    posts: &mut PostList,
+    moment: &Moment,
+    id: Id,
+    notice: Notice,
+    seats: &[Enlistment],
+    group: Group,
+) -> Result<(), AllocError>
+    ensures { OnOk result
+        (posts.new ≡ posts.old ++ notices_to moment.entry.now.base id notice seats.now (belongs group)) }
+{
+    for seat in seats {
+        if belongs(seat, group) {
+            posts.push(seat_notice(alloc, moment, id, seat, notice)?)?;
+        }
+    }
+    Ok(())
+}
+
+/// When the transaction last sent: now, where it sends to a seat of the group.
+fn sent_to(moment: &Moment, before: Option<u64>, seats: &[Enlistment], group: Group) -> Option<u64>
+    ensures { result ≡ sent_to moment.entry.now.now before seats.now (belongs group) }
+{
+    if has_any(seats, group) {
+        Some(moment.now)
+    } else {
+        before
+    }
+}
+
+/// Moves the seats of the group into this state; the transaction sends to them now.
+fn move_sent(moment: &Moment, transaction: &mut Transaction, group: Group, state: State)
+    ensures { transaction.new ≡ record transaction.old {
+      seats = moved (belongs group) state transaction.old.seats;
+      sent = sent_to moment.entry.now.now transaction.old.sent transaction.old.seats (belongs group);
+    } }
+{
+    transaction.sent = sent_to(
+        moment,
+        transaction.sent,
+        transaction.seats.as_slice(),
+        group,
+    );
+    transaction.seats.move_each(group, state);
+}
+
+/// Each seat of the group goes into this state and is sent the notification.
+pub fn send_each(
+    alloc: Global,
+    moving: &mut Moving<Transaction>,
+    moment: &Moment,
+    notice: Notice,
+    state: State,
+    group: Group,
+) -> Result<(), AllocError>
+    ensures { OnOk result (moving.new ≡ send_each moment.entry.now notice state (belongs group) moving.old) }
+{
+    push_notices(
+        alloc,
+        &mut moving.posts,
+        moment,
+        moving.item.id,
+        notice,
+        moving.item.seats.as_slice(),
+        group,
+    )?;
+    move_sent(moment, &mut moving.item, group, state);
+    Ok(())
+}
+
+/// A copy of the transaction with the seat of this number in this state.
+pub fn seat_in(
+    transaction: &Transaction,
+    number: u16,
+    state: State,
+) -> Result<Transaction, AllocError>
+    ensures { IfOk result (λ next. next ≡ seat_in number state transaction.now) }
+{
+    let mut next = transaction.clone()?;
+    next.seats.move_each(Group::Numbered(number), state);
+    Ok(next)
+}
+
+/// A copy of the transaction that has sent now.
+pub fn sent_now(moment: &Moment, transaction: &Transaction) -> Result<Transaction, AllocError>
+    ensures { IfOk result (λ next. next ≡ sent_now moment.entry.now transaction.now) }
+{
+    let mut next = transaction.clone()?;
+    next.sent = Some(moment.now);
+    Ok(next)
+}
+
+/// The transaction at the begin of a step.
+pub fn still(alloc: Global, transaction: &Transaction) -> Result<Moving<Transaction>, AllocError>
+    ensures { IfOk result (λ moving. moving ≡ begin transaction.now) }
+{
+    Ok(Moving::begin(alloc, transaction.clone()?))
+}
+
+/// Nothing happens to the transaction.
+pub fn ignores(
+    alloc: Global,
+    transaction: &Transaction,
+) -> Result<Decision<Transaction>, AllocError>
+    ensures { IfOk result (λ decision. decision_of decision ≡ ignored transaction.now) }
+{
+    Ok(ignored(alloc, transaction.clone()?))
+}
