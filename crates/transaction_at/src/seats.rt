@@ -177,7 +177,7 @@ pub fn prepared(alloc: Global, seats: &[Enlistment]) -> Result<Seats, AllocError
 }
 
 /// What a seat's endpoint names.
-fn seat_target(id: Id, seat: &Enlistment) -> Target
+pub fn seat_target(id: Id, seat: &Enlistment) -> Target
     ensures { result ≡ seat_target id seat.now }
 {
     Target::Coordinator {
