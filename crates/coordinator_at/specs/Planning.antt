@@ -1,5 +1,5 @@
 -- What an event does to the live transactions of a node.
-use Rattle.std.specs.Prelude.{ℕ, List, [], ◌++◌, Option, Some, None, length, filter, map}
+use Rattle.std.specs.Prelude.{ℕ, List, [], ◌++◌, Option, Some, None, Bool, false, length, filter, map, is_some}
 use Rattle.at_base.specs.declared.notice.Kind.{Kind}
 use Rattle.at_base.specs.declared.message.Message.{Message}
 use Rattle.at_base.specs.declared.message.Message.TheVariants as messages
@@ -116,3 +116,16 @@ subordinates_lost ts = map transaction_lost (filter is_lost_subordinate ts)
 
 abbrev pub transactions_lost : List Transaction → List Effect
 transactions_lost ts = roots_lost ts ++ subordinates_lost ts
+
+-- whether the transaction has an initiator, a seat of this number and kind, a superior
+abbrev pub has_initiator : Option Transaction → Bool
+has_initiator None = false
+has_initiator (Some t) = is_some t.completion
+
+abbrev pub has_seat : ℕ → Kind → Option Transaction → Bool
+has_seat number kind None = false
+has_seat number kind (Some t) = is_some (find_seat number kind t.seats)
+
+abbrev pub has_superior : Option Transaction → Bool
+has_superior None = false
+has_superior (Some t) = is_some t.superior

@@ -1,5 +1,5 @@
 -- The plan of the transactions is the model's plan of the whole book, at each event that moves or makes a transaction.
-use Rattle.std.specs.Prelude.{ℕ, List, Option, Some, None, Bool, false, true, ◌+◌, ◌≡◌, IsTrue, is_some, option_and_then}
+use Rattle.std.specs.Prelude.{ℕ, List, Some, None, ◌+◌, ◌≡◌, IsTrue, is_some}
 use Rattle.at_base.specs.declared.message.Message.{Message}
 use Rattle.at_base.specs.declared.message.Message.TheVariants as messages
 use Rattle.at_base.specs.declared.target.Target.{Target}
@@ -8,16 +8,15 @@ use Rattle.at_base.specs.declared.event.Item.{Item}
 use Rattle.at_base.specs.declared.event.Item.TheVariants as items
 use Rattle.at_base.specs.declared.event.Event.{Event}
 use Rattle.at_base.specs.declared.event.Event.TheVariants as events
-use Rattle.at_base.specs.declared.notice.Kind.{Kind}
 use Rattle.at_model.specs.Book.{Book, Transaction, transaction_id}
-use Rattle.at_model.specs.Step.{Outcome, Plan, plain, plan, at_time, moment_of, transaction_at, find_seat}
+use Rattle.at_model.specs.Step.{Outcome, Plan, plain, plan, at_time, moment_of, transaction_at}
 use Rattle.by_id.specs.Lists.{altered}
 use Rattle.by_id.specs.declared.list.Alteration.{Alteration}
 use Rattle.by_id.specs.declared.list.Alteration.TheVariants as alterations
 use Rattle.by_id.specs.declared.plan.Branch.{Branch}
 use Rattle.by_id.specs.declared.plan.Plan.{Plan as Planned}
 use Rattle.by_id.specs.declared.plan.Plan.TheVariants as plans
-use Rattle.coordinator_at.specs.Planning.{transactions_plan}
+use Rattle.coordinator_at.specs.Planning.{transactions_plan, has_initiator, has_seat, has_superior}
 
 -- a transaction that is made draws an id
 abbrev pub drawn : Alteration Transaction → ℕ → ℕ
@@ -58,19 +57,6 @@ IsCreate other = ⊥
 abbrev pub IsRegister : Message → Type 0
 IsRegister (messages.Register r) = Unit {0}
 IsRegister other = ⊥
-
--- whether the transaction has an initiator, a seat of this number and kind, a superior
-abbrev pub has_initiator : Option Transaction → Bool
-has_initiator None = false
-has_initiator (Some t) = is_some t.completion
-
-abbrev pub has_seat : ℕ → Kind → Option Transaction → Bool
-has_seat number kind None = false
-has_seat number kind (Some t) = is_some (find_seat number kind t.seats)
-
-abbrev pub has_superior : Option Transaction → Bool
-has_superior None = false
-has_superior (Some t) = is_some t.superior
 
 -- CreateCoordinationContext; or a Register, or a message at a completion seat, a seat or a link, of a transaction that
 -- stands in the book.

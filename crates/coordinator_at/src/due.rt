@@ -155,14 +155,9 @@ fn push_again(
     ensures { OnOk result
         (posts.new ≡ posts.old ++ transaction_again moment.entry.now.base transaction.now) }
 {
+    let seats = transaction.seats.as_slice();
     push_links_again(alloc, posts, moment, transaction.id, &transaction.superior)?;
-    push_seats_again(
-        alloc,
-        posts,
-        moment,
-        transaction.id,
-        transaction.seats.as_slice(),
-    )
+    push_seats_again(alloc, posts, moment, transaction.id, seats)
 }
 
 /// A copy of the transaction that sends now.

@@ -1,6 +1,6 @@
 //! Register: which participants a transaction accepts, and what it answers (WS-Coordination 1.2, section 3.2).
 
-ghost use Rattle.std.specs.Prelude.{◌≡◌, ◌<◌, ◌++◌, ◌&&◌, if◌then◌else◌, IfOk, OnOk, Some, None, find, length, nat_lt, option_copied, is_none};
+ghost use Rattle.std.specs.Prelude.{◌≡◌, ◌<◌, ◌++◌, ◌&&◌, if◌then◌else◌, IfOk, OnOk, Some, None, find, length, nat_lt, option_copied, option_map, is_none};
 ghost use Rattle.at_model.specs.Book.{is_epr};
 ghost use Rattle.at_model.specs.Seats.{seat_target};
 ghost use Rattle.at_model.specs.Posts.{invalid_protocol, invalid_parameters, cannot_register};
@@ -113,6 +113,22 @@ fn completion_for(
     }
 }
 
+/// The coordinator's endpoint of a seat that was found.
+fn found_endpoint(
+    alloc: Global,
+    moment: &Moment,
+    id: Id,
+    found: Option<&Enlistment>,
+) -> Result<Option<Epr>, AllocError>
+    ensures { IfOk result
+        (λ held. held ≡ option_map (seat_endpoint moment.entry.now.base id) (option_copied found.entry)) }
+{
+    match found {
+        Some(seat) => Ok(Some(seat_endpoint(alloc, &moment.base, id, seat)?)),
+        None => Ok(None),
+    }
+}
+
 /// The coordinator's endpoint of the seat that an endpoint has for a protocol, also where it has left.
 fn seat_for(
     alloc: Global,
@@ -127,10 +143,10 @@ fn seat_for(
         transaction.now.completion) }
 {
     match protocol {
-        Some(kind) => match seat_of(transaction.seats.as_slice(), kind, participant) {
-            Some(seat) => Ok(Some(seat_endpoint(alloc, &moment.base, transaction.id, seat)?)),
-            None => Ok(None),
-        },
+        Some(kind) => {
+            let found = seat_of(transaction.seats.as_slice(), kind, participant);
+            found_endpoint(alloc, moment, transaction.id, found)
+        }
         None => completion_for(alloc, moment, transaction, participant),
     }
 }

@@ -8,7 +8,7 @@ use at_base::id::Id;
 use at_base::message::{Context, Create, Message, Register};
 use at_base::notice::Kind;
 use at_base::outs::{Effect, Out, OutList, Outs, Post};
-use at_base::target::Target;
+use at_base::target::{Seat, Target};
 use at_base::text::Text;
 use at_tables::cells::State;
 use std::alloc::{AllocError, Global};
@@ -613,5 +613,26 @@ fn due(alloc: Global) -> Result<bool, AllocError> {
 fn due_transactions(rt: HostRuntime) -> Result<(), Fail> {
     let right = due(rt.alloc())?;
     assert!(rt; right);
+    Ok(())
+}
+
+/// Which parts the transaction 1-1 of this kind has: an initiator, a durable first seat, a superior.
+fn parts(alloc: Global, part: &str, count: u16) -> Result<(bool, bool, bool), AllocError> {
+    let transactions = one(alloc, "Active", part, count, "Active")?;
+    let id = Id::new(1, 1);
+    let seat = Seat {
+        number: 1,
+        kind: Kind::Durable,
+    };
+    let initiator = transactions.has_initiator(id);
+    let seated = transactions.has_seat(id, seat);
+    Ok((initiator, seated, transactions.has_superior(id)))
+}
+
+#[test]
+fn known_parts(rt: HostRuntime) -> Result<(), Fail> {
+    let begun = parts(rt.alloc(), "begun", 0)? == (true, false, false);
+    let sub = parts(rt.alloc(), "sub", 1)? == (false, true, true);
+    assert!(rt; begun && sub);
     Ok(())
 }

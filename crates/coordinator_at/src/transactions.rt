@@ -10,7 +10,7 @@ ghost use Rattle.by_id.specs.Decided.{decision_of};
 ghost use Rattle.by_id.specs.Lists.{altered, next_due};
 ghost use Rattle.by_id.specs.Plans.{branch_of};
 ghost use Rattle.coordinator_at.specs.Whole.{PlansAsTheModel};
-ghost use Rattle.coordinator_at.specs.Planning.{nothing, moved, creation_arrived, register_at, registration_arrived, completion_arrived, completion_at, seat_arrived, seat_at, link_arrived, link_at, arrived_at, transaction_asked, item_asked, transactions_plan, roots_lost, subordinates_lost, transactions_lost};
+ghost use Rattle.coordinator_at.specs.Planning.{nothing, moved, creation_arrived, register_at, registration_arrived, completion_arrived, completion_at, seat_arrived, seat_at, link_arrived, link_at, arrived_at, transaction_asked, item_asked, transactions_plan, roots_lost, subordinates_lost, transactions_lost, has_initiator, has_seat, has_superior};
 
 use crate::create::on_create;
 use crate::due::on_due;
@@ -357,6 +357,38 @@ impl Transactions {
         ensures { option_copied result ≡ find_by transaction_id id self.now }
     {
         self.live.find(id)
+    }
+
+    /// Whether an initiator registered at the transaction of this id.
+    pub fn has_initiator(&self, id: Id) -> bool
+        ensures { result ≡ has_initiator (find_by transaction_id id self.now) }
+    {
+        match self.live.find(id) {
+            Some(transaction) => transaction.completion.is_some(),
+            None => false,
+        }
+    }
+
+    /// Whether the transaction of this id has this seat.
+    pub fn has_seat(&self, id: Id, seat: Seat) -> bool
+        ensures { result ≡ has_seat seat.number seat.kind (find_by transaction_id id self.now) }
+    {
+        match self.live.find(id) {
+            Some(transaction) => {
+                find_seat(transaction.seats.as_slice(), seat.number, seat.kind).is_some()
+            }
+            None => false,
+        }
+    }
+
+    /// Whether the transaction of this id is a subordinate, with links to its superior.
+    pub fn has_superior(&self, id: Id) -> bool
+        ensures { result ≡ has_superior (find_by transaction_id id self.now) }
+    {
+        match self.live.find(id) {
+            Some(transaction) => transaction.superior.is_some(),
+            None => false,
+        }
     }
 
     /// The id of the first transaction that is due, behind this one or at all.
