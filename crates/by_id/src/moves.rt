@@ -73,17 +73,17 @@ impl<T: Drop> Moving<T> {
     }
 
     /// Posts one more.
-    pub fn post(&mut self, post: Post) -> Result<(), AllocError>
-        ensures { OnOk result (self.new ≡ post post.entry self.old) }
+    pub fn post(&mut self, message: Post) -> Result<(), AllocError>
+        ensures { OnOk result (self.new ≡ post message self.old) }
     {
-        self.posts.push(post)
+        self.posts.push(message)
     }
 
     /// One more thing happened.
-    pub fn effect(&mut self, effect: Effect) -> Result<(), AllocError>
-        ensures { OnOk result (self.new ≡ effect effect.entry self.old) }
+    pub fn effect(&mut self, happened: Effect) -> Result<(), AllocError>
+        ensures { OnOk result (self.new ≡ effect happened self.old) }
     {
-        self.effects.push(effect)
+        self.effects.push(happened)
     }
 
     /// The item stays as it stands.
@@ -109,10 +109,12 @@ impl<T: Drop> Moving<T> {
     }
 }
 
-impl<T: Clone> Clone for Moving<T> {
-    ghost is_clone = { λ moving copy. copy ≡ moving };
-
-    fn clone(&self) -> Result<Moving<T>, AllocError> {
+impl<T: Clone + Drop> Moving<T> {
+    /// A copy, for the other of two branches.
+    pub fn branch(&self) -> Result<Moving<T>, AllocError>
+        requires { (value copy : T) → T.is_clone value copy → copy ≡ value }
+        ensures { IfOk result (λ copy. copy ≡ self.now) }
+    {
         let posts = self.posts.clone()?;
         let effects = self.effects.clone()?;
         let item = self.item.clone()?;

@@ -2,8 +2,11 @@
 #![tactic(auto)]
 
 pub mod abort;
+pub mod at_completion;
+pub mod at_seat;
 pub mod due;
 pub mod links;
+pub mod phases;
 pub mod seats;
 #[cfg(test)]
 mod tests;

@@ -1,5 +1,5 @@
 //! Tests.
-use std::runtime::HostRuntime;
+use std::test::Fail;
 
 #[test]
 fn none(rt: HostRuntime) -> Result<(), Fail> {

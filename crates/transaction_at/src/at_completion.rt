@@ -1,0 +1,169 @@
+//! What a message does at the completion seat of a transaction (WS-AtomicTransaction 1.2, section 3.2).
+
+ghost use Rattle.std.specs.Prelude.{◌≡◌, IfOk, Some};
+ghost use Rattle.at_tables.specs.Tables.{completion_of};
+ghost use Rattle.at_tables.specs.declared.cells.State.TheVariants as states;
+ghost use Rattle.at_model.specs.Arrivals.{completion_act, completion_notice, on_completion};
+ghost use Rattle.at_model.specs.Moves.{Goes, begin, post, stays};
+ghost use Rattle.at_model.specs.Phases.{go_volatile};
+ghost use Rattle.at_model.specs.Posts.{fault_post};
+ghost use Rattle.by_id.specs.Decided.{decision_of};
+
+use crate::phases::{aborts, go_volatile};
+use crate::seats::{ignores, still};
+use crate::transaction::{Completion, Transaction};
+use at_base::event::{Arrived, Moment};
+use at_base::message::Message;
+use at_base::notice::Notice;
+use at_posts::names::{invalid_state, unknown_transaction};
+use at_posts::posts::fault_post;
+use at_tables::cells::{Act, State, completion_cell};
+use by_id::moves::{Decision, Moving};
+use std::alloc::{AllocError, Global};
+
+/// A fault to the initiator, which leaves the transaction as it stands.
+fn faults(
+    alloc: Global,
+    arrived: &Arrived,
+    completion: &Completion,
+    transaction: &Transaction,
+    name: &str,
+) -> Result<Decision<Transaction>, AllocError>
+    ensures { IfOk result
+        (λ decision. decision_of decision
+        ≡ Goes (stays (post (fault_post (Some completion.now.initiator) arrived.now.id name.now) (begin transaction.now)))) }
+{
+    let to = completion.initiator.clone()?;
+    let mut moving = still(alloc, transaction)?;
+    moving.post(fault_post(alloc, Some(to), &arrived.id, name)?)?;
+    Ok(Decision::Goes(moving.stays()))
+}
+
+/// A completion seat that was told to commit.
+fn completing(completion: &Completion) -> Result<Completion, AllocError>
+    ensures { IfOk result (λ next. next ≡ record completion.now { state = states.Completing }) }
+{
+    let initiator = completion.initiator.clone()?;
+    Ok(Completion {
+        initiator,
+        state: State::Completing,
+    })
+}
+
+/// A copy of the transaction with this completion seat.
+fn with_completion(
+    transaction: &Transaction,
+    completion: Completion,
+) -> Result<Transaction, AllocError>
+    ensures { IfOk result (λ next. next ≡ record transaction.now { completion = Some completion.entry }) }
+{
+    let mut next = transaction.clone()?;
+    next.completion = Some(completion);
+    Ok(next)
+}
+
+/// The initiator asks for commit: the volatile seats are asked first.
+fn completes(
+    alloc: Global,
+    moment: &Moment,
+    completion: &Completion,
+    transaction: &Transaction,
+) -> Result<Decision<Transaction>, AllocError>
+    ensures { IfOk result
+        (λ decision. decision_of decision
+        ≡ go_volatile moment.entry.now
+        (begin (record transaction.now { completion = Some (record completion.now { state = states.Completing }) }))) }
+{
+    let next = with_completion(transaction, completing(completion)?)?;
+    go_volatile(alloc, moment, Moving::begin(alloc, next))
+}
+
+/// An act of the completion table.
+#[tactic(auto, unfolding(at_model::specs::Arrivals::completion_act))]
+fn acts(
+    alloc: Global,
+    moment: &Moment,
+    arrived: &Arrived,
+    completion: &Completion,
+    transaction: &Transaction,
+    act: Act,
+) -> Result<Decision<Transaction>, AllocError>
+    ensures { IfOk result
+        (λ decision. decision_of decision
+        ≡ completion_act moment.entry.now arrived.now.id completion.now transaction.now act) }
+{
+    match act {
+        Act::FaultUnknownTransaction => faults(
+            alloc,
+            arrived,
+            completion,
+            transaction,
+            unknown_transaction(),
+        ),
+        Act::FaultInvalidState => faults(alloc, arrived, completion, transaction, invalid_state()),
+        Act::Complete => completes(alloc, moment, completion, transaction),
+        Act::AbortAndSendAborted => aborts(alloc, moment, still(alloc, transaction)?),
+        Act::Ignore
+        | Act::SendPrepared
+        | Act::SendCommit
+        | Act::SendRollback
+        | Act::SendCommitted
+        | Act::SendAborted
+        | Act::FaultInvalidStateAndAbort
+        | Act::Leave
+        | Act::LeaveAndAbort
+        | Act::Vote
+        | Act::Gather
+        | Act::Commit
+        | Act::RecordAndSendAborted
+        | Act::TellCommitted
+        | Act::TellAborted => ignores(alloc, transaction),
+    }
+}
+
+/// The initiator's notification at the completion seat.
+#[tactic(auto, unfolding(at_model::specs::Arrivals::completion_notice))]
+fn notified(
+    alloc: Global,
+    moment: &Moment,
+    arrived: &Arrived,
+    completion: &Completion,
+    transaction: &Transaction,
+    notice: Notice,
+) -> Result<Decision<Transaction>, AllocError>
+    ensures { IfOk result
+        (λ decision. decision_of decision
+        ≡ completion_notice moment.entry.now arrived.now.id completion.now transaction.now
+        (completion_of completion.now.state notice)) }
+{
+    match completion_cell(completion.state, notice) {
+        Some(cell) => acts(alloc, moment, arrived, completion, transaction, cell.act),
+        None => ignores(alloc, transaction),
+    }
+}
+
+/// A message at the completion seat: a notification; all else is ignored.
+#[tactic(auto, unfolding(at_model::specs::Arrivals::on_completion))]
+pub fn on_completion(
+    alloc: Global,
+    moment: &Moment,
+    arrived: &Arrived,
+    transaction: &Transaction,
+    completion: &Completion,
+) -> Result<Decision<Transaction>, AllocError>
+    ensures { IfOk result
+        (λ decision. decision_of decision
+        ≡ on_completion moment.entry.now arrived.now transaction.now completion.now arrived.now.message) }
+{
+    match &arrived.message {
+        Message::Notice(notice) => notified(
+            alloc,
+            moment,
+            arrived,
+            completion,
+            transaction,
+            *notice,
+        ),
+        _ => ignores(alloc, transaction),
+    }
+}

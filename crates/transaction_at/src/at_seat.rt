@@ -1,0 +1,249 @@
+//! What a message does at a seat of a transaction (WS-AtomicTransaction 1.2, section 10).
+
+ghost use Rattle.std.specs.Prelude.{◌≡◌, IfOk, Some};
+ghost use Rattle.at_base.specs.declared.notice.Notice.TheVariants as notices;
+ghost use Rattle.at_tables.specs.Tables.{coordinator_of};
+ghost use Rattle.at_tables.specs.declared.cells.State.TheVariants as states;
+ghost use Rattle.at_model.specs.Abort.{abort, Alone};
+ghost use Rattle.at_model.specs.Arrivals.{answer_seat, answer_left_seat, on_seat, seat_act, seat_notice};
+ghost use Rattle.at_model.specs.Moves.{Goes, begin, post, stays};
+ghost use Rattle.at_model.specs.Phases.{advance};
+ghost use Rattle.at_model.specs.Posts.{fault_post, invalid_state};
+ghost use Rattle.at_model.specs.Seats.{in_state, seat_in};
+ghost use Rattle.by_id.specs.Decided.{decision_of};
+
+use crate::phases::{aborts, advance};
+use crate::seats::{ignores, is_state, seat_in, seat_notice, seat_target, sent_now, still};
+use crate::transaction::{Enlistment, Transaction};
+use at_base::event::{Arrived, Moment};
+use at_base::message::Message;
+use at_base::notice::Notice;
+use at_base::text::Text;
+use at_posts::names::{invalid_state, unknown_transaction};
+use at_posts::posts::{fault_post, stranger_post};
+use at_tables::cells::{Act, State, coordinator_cell};
+use by_id::moves::{Decision, Moving};
+use std::alloc::{AllocError, Global};
+
+/// The seat's own answer, which counts as a sending.
+fn answers(
+    alloc: Global,
+    moment: &Moment,
+    notice: Notice,
+    transaction: &Transaction,
+    seat: &Enlistment,
+) -> Result<Decision<Transaction>, AllocError>
+    ensures { IfOk result
+        (λ decision. decision_of decision ≡ answer_seat moment.entry.now notice transaction.now seat.now) }
+{
+    let next = sent_now(moment, transaction)?;
+    let mut moving = Moving::begin(alloc, next);
+    moving.post(seat_notice(alloc, moment, transaction.id, seat, notice)?)?;
+    Ok(Decision::Goes(moving.stays()))
+}
+
+/// The answer of a seat that its participant has left.
+fn answers_left(
+    alloc: Global,
+    moment: &Moment,
+    notice: Notice,
+    transaction: &Transaction,
+    seat: &Enlistment,
+) -> Result<Decision<Transaction>, AllocError>
+    ensures { IfOk result
+        (λ decision. decision_of decision ≡ answer_left_seat moment.entry.now notice transaction.now seat.now) }
+{
+    let own = seat_target(transaction.id, seat);
+    let mut moving = still(alloc, transaction)?;
+    moving.post(stranger_post(alloc, &moment.base, &own, &seat.participant, notice)?)?;
+    Ok(Decision::Goes(moving.stays()))
+}
+
+/// A seat answers Rollback; abort is presumed where it was left.
+fn answers_rollback(
+    alloc: Global,
+    moment: &Moment,
+    transaction: &Transaction,
+    seat: &Enlistment,
+) -> Result<Decision<Transaction>, AllocError>
+    ensures { IfOk result
+        (λ decision. decision_of decision
+        ≡ (if in_state states.None seat.now
+        then answer_left_seat moment.entry.now notices.Rollback transaction.now seat.now
+        else answer_seat moment.entry.now notices.Rollback transaction.now seat.now)) }
+{
+    if is_state(seat.state, State::None) {
+        answers_left(alloc, moment, Notice::Rollback, transaction, seat)
+    } else {
+        answers(alloc, moment, Notice::Rollback, transaction, seat)
+    }
+}
+
+/// The transaction, with a fault to the participant that drew it.
+fn with_fault(
+    alloc: Global,
+    arrived: &Arrived,
+    transaction: &Transaction,
+    seat: &Enlistment,
+    name: &str,
+) -> Result<Moving<Transaction>, AllocError>
+    ensures { IfOk result
+        (λ moving. moving
+        ≡ post (fault_post (Some seat.now.participant) arrived.now.id name.now) (begin transaction.now)) }
+{
+    let to = seat.participant.clone()?;
+    let mut moving = still(alloc, transaction)?;
+    moving.post(fault_post(alloc, Some(to), &arrived.id, name)?)?;
+    Ok(moving)
+}
+
+/// A fault to the participant, which leaves the transaction as it stands.
+fn faults(
+    alloc: Global,
+    arrived: &Arrived,
+    transaction: &Transaction,
+    seat: &Enlistment,
+    name: &str,
+) -> Result<Decision<Transaction>, AllocError>
+    ensures { IfOk result
+        (λ decision. decision_of decision
+        ≡ Goes (stays (post (fault_post (Some seat.now.participant) arrived.now.id name.now) (begin transaction.now)))) }
+{
+    Ok(Decision::Goes(with_fault(alloc, arrived, transaction, seat, name)?.stays()))
+}
+
+/// The fault InvalidState to the participant, which aborts the transaction.
+fn faults_and_aborts(
+    alloc: Global,
+    moment: &Moment,
+    arrived: &Arrived,
+    transaction: &Transaction,
+    seat: &Enlistment,
+) -> Result<Decision<Transaction>, AllocError>
+    ensures { IfOk result
+        (λ decision. decision_of decision
+        ≡ Goes (abort moment.entry.now Alone (post (fault_post (Some seat.now.participant) arrived.now.id invalid_state) (begin transaction.now)))) }
+{
+    let moving = with_fault(alloc, arrived, transaction, seat, invalid_state())?;
+    aborts(alloc, moment, moving)
+}
+
+/// The seat is in this state, and the transaction goes on.
+fn moves(
+    alloc: Global,
+    moment: &Moment,
+    transaction: &Transaction,
+    seat: &Enlistment,
+    state: State,
+) -> Result<Decision<Transaction>, AllocError>
+    ensures { IfOk result
+        (λ decision. decision_of decision
+        ≡ advance moment.entry.now (begin (seat_in seat.now.number state transaction.now))) }
+{
+    let next = seat_in(transaction, seat.number, state)?;
+    advance(alloc, moment, Moving::begin(alloc, next))
+}
+
+/// The participant leaves its seat, and the transaction aborts.
+fn leaves_and_aborts(
+    alloc: Global,
+    moment: &Moment,
+    transaction: &Transaction,
+    seat: &Enlistment,
+) -> Result<Decision<Transaction>, AllocError>
+    ensures { IfOk result
+        (λ decision. decision_of decision
+        ≡ Goes (abort moment.entry.now Alone (begin (seat_in seat.now.number states.None transaction.now)))) }
+{
+    let next = seat_in(transaction, seat.number, State::None)?;
+    aborts(alloc, moment, Moving::begin(alloc, next))
+}
+
+/// An act of the coordinator's table at a seat.
+#[tactic(auto, unfolding(at_model::specs::Arrivals::seat_act))]
+fn acts(
+    alloc: Global,
+    moment: &Moment,
+    arrived: &Arrived,
+    transaction: &Transaction,
+    seat: &Enlistment,
+    act: Act,
+) -> Result<Decision<Transaction>, AllocError>
+    ensures { IfOk result
+        (λ decision. decision_of decision
+        ≡ seat_act moment.entry.now arrived.now.id transaction.now seat.now act) }
+{
+    match act {
+        Act::SendCommit => answers(alloc, moment, Notice::Commit, transaction, seat),
+        Act::SendRollback => answers_rollback(alloc, moment, transaction, seat),
+        Act::FaultUnknownTransaction => faults(
+            alloc,
+            arrived,
+            transaction,
+            seat,
+            unknown_transaction(),
+        ),
+        Act::FaultInvalidState => faults(alloc, arrived, transaction, seat, invalid_state()),
+        Act::FaultInvalidStateAndAbort => faults_and_aborts(
+            alloc,
+            moment,
+            arrived,
+            transaction,
+            seat,
+        ),
+        Act::Leave => moves(alloc, moment, transaction, seat, State::None),
+        Act::LeaveAndAbort => leaves_and_aborts(alloc, moment, transaction, seat),
+        Act::Vote => moves(alloc, moment, transaction, seat, State::Prepared),
+        Act::Ignore
+        | Act::SendPrepared
+        | Act::SendCommitted
+        | Act::SendAborted
+        | Act::Gather
+        | Act::Commit
+        | Act::AbortAndSendAborted
+        | Act::RecordAndSendAborted
+        | Act::Complete
+        | Act::TellCommitted
+        | Act::TellAborted => ignores(alloc, transaction),
+    }
+}
+
+/// A participant's notification at its seat.
+#[tactic(auto, unfolding(at_model::specs::Arrivals::seat_notice))]
+fn notified(
+    alloc: Global,
+    moment: &Moment,
+    arrived: &Arrived,
+    transaction: &Transaction,
+    seat: &Enlistment,
+    notice: Notice,
+) -> Result<Decision<Transaction>, AllocError>
+    ensures { IfOk result
+        (λ decision. decision_of decision
+        ≡ seat_notice moment.entry.now arrived.now.id transaction.now seat.now
+        (coordinator_of seat.now.kind seat.now.state notice)) }
+{
+    match coordinator_cell(seat.kind, seat.state, notice) {
+        Some(cell) => acts(alloc, moment, arrived, transaction, seat, cell.act),
+        None => ignores(alloc, transaction),
+    }
+}
+
+/// A message at a seat: a notification; all else is ignored.
+#[tactic(auto, unfolding(at_model::specs::Arrivals::on_seat))]
+pub fn on_seat(
+    alloc: Global,
+    moment: &Moment,
+    arrived: &Arrived,
+    transaction: &Transaction,
+    seat: &Enlistment,
+) -> Result<Decision<Transaction>, AllocError>
+    ensures { IfOk result
+        (λ decision. decision_of decision
+        ≡ on_seat moment.entry.now arrived.now transaction.now seat.now arrived.now.message) }
+{
+    match &arrived.message {
+        Message::Notice(notice) => notified(alloc, moment, arrived, transaction, seat, *notice),
+        _ => ignores(alloc, transaction),
+    }
+}

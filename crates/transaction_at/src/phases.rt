@@ -1,0 +1,457 @@
+//! The phases of a transaction, from the first Prepare to the end (WS-AtomicTransaction 1.2, section 3.3).
+
+ghost use Rattle.std.specs.Prelude.{◌≡◌, ◌++◌, IfOk, OnOk, Some};
+ghost use Rattle.at_model.specs.Book.{Phase};
+ghost use Rattle.at_base.specs.declared.notice.Notice.TheVariants as notices;
+ghost use Rattle.at_base.specs.declared.record.Record.TheVariants as records;
+ghost use Rattle.at_model.specs.Abort.{abort, Alone};
+ghost use Rattle.at_model.specs.Moves.{Goes, Records, become, forgotten, posts, stays};
+ghost use Rattle.at_model.specs.Seats.{link_in, prepared};
+ghost use Rattle.at_tables.specs.declared.cells.State.TheVariants as states;
+ghost use Rattle.at_base.specs.declared.notice.Kind.TheVariants as kinds;
+ghost use Rattle.at_model.specs.Phases.{commit_seats, decided, root_answered, voted, sub_answered, durable_answered, if_durable_answered, prepare_seats, go_durable, volatile_answered, ended_posts, all_committed, advance, advance_in, upwards, go_volatile};
+ghost use Rattle.by_id.specs.Decided.{decision_of};
+
+use crate::abort::{Reason, abort, until_rolled_back};
+use crate::links::{ending, push_upwards, tell_initiator};
+use crate::seats::{Group, all_left, answered, has_prepared, is_state, prepared, send_each};
+use crate::transaction::{Phase, Superior, Transaction};
+use at_base::epr::Epr;
+use at_base::event::Moment;
+use at_base::id::Id;
+use at_base::message::cloned_option;
+use at_base::notice::{Kind, Notice};
+use at_base::outs::Ending;
+use at_base::record::Record;
+use at_posts::list::PostList;
+use at_tables::cells::State;
+use by_id::moves::{Decision, Moving};
+use std::alloc::{AllocError, Global};
+
+/// Commit to every Prepared seat, in order; the seats then are Committing (section 3.3.3).
+pub fn commit_seats(
+    alloc: Global,
+    moment: &Moment,
+    moving: &mut Moving<Transaction>,
+) -> Result<(), AllocError>
+    ensures { OnOk result (moving.new ≡ commit_seats moment.entry.now moving.old) }
+{
+    send_each(
+        alloc,
+        moving,
+        moment,
+        Notice::Commit,
+        State::Committing,
+        Group::In(State::Prepared),
+    )
+}
+
+/// A root's decision: Commit to every Prepared seat, then Committed to the initiator.
+#[tactic(auto, unfolding(at_model::specs::Phases::decided))]
+fn decided(
+    alloc: Global,
+    moment: &Moment,
+    mut moving: Moving<Transaction>,
+) -> Result<Moving<Transaction>, AllocError>
+    ensures { IfOk result (λ moved. moved ≡ decided moment.entry.now moving) }
+{
+    moving.effect(ending(&moving.item, Ending::Committed))?;
+    commit_seats(alloc, moment, &mut moving)?;
+    moving.item.phase = Phase::Committing;
+    tell_initiator(alloc, &mut moving, moment, Notice::Committed)?;
+    Ok(moving)
+}
+
+/// Every durable seat of a root has answered: with one Prepared the decision is recorded first, and where that record is
+/// absent the transaction aborts; with none, nobody waits for the decision, and no record is made.
+#[tactic(auto, unfolding(at_model::specs::Phases::root_answered))]
+fn root_answered(
+    alloc: Global,
+    moment: &Moment,
+    moving: Moving<Transaction>,
+) -> Result<Decision<Transaction>, AllocError>
+    ensures { IfOk result (λ decision. decision_of decision ≡ root_answered moment.entry.now moving) }
+{
+    if !has_prepared(moving.item.seats.as_slice()) {
+        return Ok(Decision::Goes(decided(alloc, moment, moving)?.forgotten()));
+    }
+    let id = moving.item.id;
+    let seats = prepared(alloc, moving.item.seats.as_slice())?;
+    let absent = abort(alloc, moment, &Reason::Alone, moving.branch()?)?;
+    let stands = decided(alloc, moment, moving)?.stays();
+    Ok(Decision::Records {
+        entry: Record::Decided { id, seats },
+        stands,
+        absent: Some(absent),
+    })
+}
+
+/// The transaction has voted, under this superior.
+fn vote(moment: &Moment, transaction: &mut Transaction, superior: Superior)
+    ensures { transaction.new ≡ record transaction.old {
+      superior = Some superior.entry;
+      phase = Phase.Voted;
+      sent = Some moment.entry.now.now;
+    } }
+{
+    transaction.superior = Some(superior);
+    transaction.phase = Phase::Voted;
+    transaction.sent = Some(moment.now);
+}
+
+/// A subordinate's vote: Prepared upwards.
+#[tactic(auto, unfolding(at_model::specs::Phases::voted))]
+fn voted(
+    alloc: Global,
+    moment: &Moment,
+    mut superior: Superior,
+    mut moving: Moving<Transaction>,
+) -> Result<Moving<Transaction>, AllocError>
+    ensures { IfOk result (λ moved. moved ≡ voted moment.entry.now superior moving) }
+{
+    push_upwards(
+        alloc,
+        &mut moving.posts,
+        moment,
+        moving.item.id,
+        Kind::Durable,
+        Notice::Prepared,
+        &superior.durable,
+    )?;
+    superior.move_link(Kind::Durable, State::PreparedSuccess);
+    vote(moment, &mut moving.item, superior);
+    Ok(moving)
+}
+
+/// A subordinate with no seat Prepared votes ReadOnly, and is forgotten.
+fn votes_read_only(
+    alloc: Global,
+    moment: &Moment,
+    superior: &Superior,
+    mut moving: Moving<Transaction>,
+) -> Result<Decision<Transaction>, AllocError>
+    ensures { IfOk result
+        (λ decision. decision_of decision
+        ≡ Goes (forgotten (posts (upwards moment.entry.now.base moving.item.id kinds.Durable notices.ReadOnly superior.now.durable) moving))) }
+{
+    push_upwards(
+        alloc,
+        &mut moving.posts,
+        moment,
+        moving.item.id,
+        Kind::Durable,
+        Notice::ReadOnly,
+        &superior.durable,
+    )?;
+    Ok(Decision::Goes(moving.forgotten()))
+}
+
+/// A subordinate with a seat Prepared records its vote first; where that record is absent it aborts.
+fn records_vote(
+    alloc: Global,
+    moment: &Moment,
+    superior: Superior,
+    coordinator: Epr,
+    moving: Moving<Transaction>,
+) -> Result<Decision<Transaction>, AllocError>
+    ensures { IfOk result
+        (λ decision. decision_of decision
+        ≡ Records (records.Voted moving.item.id coordinator (prepared moving.item.seats))
+        (stays (voted moment.entry.now superior moving))
+        (Some (abort moment.entry.now Alone moving))) }
+{
+    let id = moving.item.id;
+    let seats = prepared(alloc, moving.item.seats.as_slice())?;
+    let absent = abort(alloc, moment, &Reason::Alone, moving.branch()?)?;
+    let stands = voted(alloc, moment, superior, moving)?.stays();
+    Ok(Decision::Records {
+        entry: Record::Voted {
+            id,
+            superior: coordinator,
+            seats,
+        },
+        stands,
+        absent: Some(absent),
+    })
+}
+
+/// Every durable seat of a subordinate has answered: it votes, or aborts where it knows no superior to tell.
+#[tactic(auto, unfolding(at_model::specs::Phases::sub_answered))]
+fn sub_answered(
+    alloc: Global,
+    moment: &Moment,
+    superior: Superior,
+    moving: Moving<Transaction>,
+) -> Result<Decision<Transaction>, AllocError>
+    ensures { IfOk result
+        (λ decision. decision_of decision
+        ≡ sub_answered moment.entry.now superior superior.durable.coordinator moving) }
+{
+    match cloned_option(&superior.durable.coordinator)? {
+        None => aborts(alloc, moment, moving),
+        Some(coordinator) => {
+            if has_prepared(moving.item.seats.as_slice()) {
+                records_vote(alloc, moment, superior, coordinator, moving)
+            } else {
+                votes_read_only(alloc, moment, &superior, moving)
+            }
+        }
+    }
+}
+
+/// The transaction aborts on its own.
+pub fn aborts(
+    alloc: Global,
+    moment: &Moment,
+    moving: Moving<Transaction>,
+) -> Result<Decision<Transaction>, AllocError>
+    ensures { IfOk result (λ decision. decision_of decision ≡ Goes (abort moment.entry.now Alone moving)) }
+{
+    Ok(Decision::Goes(abort(alloc, moment, &Reason::Alone, moving)?))
+}
+
+/// Every durable seat has answered.
+fn durable_answered(
+    alloc: Global,
+    moment: &Moment,
+    moving: Moving<Transaction>,
+) -> Result<Decision<Transaction>, AllocError>
+    ensures { IfOk result
+        (λ decision. decision_of decision ≡ durable_answered moment.entry.now moving.item.superior moving) }
+{
+    match cloned_option(&moving.item.superior)? {
+        None => root_answered(alloc, moment, moving),
+        Some(superior) => sub_answered(alloc, moment, superior, moving),
+    }
+}
+
+/// What follows once every durable seat has answered.
+fn if_durable_answered(
+    alloc: Global,
+    moment: &Moment,
+    moving: Moving<Transaction>,
+) -> Result<Decision<Transaction>, AllocError>
+    ensures { IfOk result (λ decision. decision_of decision ≡ if_durable_answered moment.entry.now moving) }
+{
+    if answered(moving.item.seats.as_slice(), Kind::Durable) {
+        durable_answered(alloc, moment, moving)
+    } else {
+        Ok(Decision::Goes(moving.stays()))
+    }
+}
+
+/// Every Active seat of the kind gets Prepare.
+fn prepare_seats(
+    alloc: Global,
+    moment: &Moment,
+    kind: Kind,
+    moving: &mut Moving<Transaction>,
+) -> Result<(), AllocError>
+    ensures { OnOk result (moving.new ≡ prepare_seats moment.entry.now kind moving.old) }
+{
+    let group = Group::Of {
+        kind,
+        state: State::Active,
+    };
+    send_each(
+        alloc,
+        moving,
+        moment,
+        Notice::Prepare,
+        State::Preparing,
+        group,
+    )
+}
+
+/// The second phase of asking: Prepare to the durable seats, once every volatile one has answered (section 3.3.1).
+#[tactic(auto, unfolding(at_model::specs::Phases::go_durable))]
+fn go_durable(
+    alloc: Global,
+    moment: &Moment,
+    mut moving: Moving<Transaction>,
+) -> Result<Decision<Transaction>, AllocError>
+    ensures { IfOk result (λ decision. decision_of decision ≡ go_durable moment.entry.now moving) }
+{
+    moving.item.phase = Phase::Durable;
+    prepare_seats(alloc, moment, Kind::Durable, &mut moving)?;
+    if_durable_answered(alloc, moment, moving)
+}
+
+/// The transaction is Active again, under this superior.
+fn reactivate(transaction: &mut Transaction, superior: Superior)
+    ensures { transaction.new ≡ record transaction.old { superior = Some superior.entry; phase = Phase.Active } }
+{
+    transaction.superior = Some(superior);
+    transaction.phase = Phase::Active;
+}
+
+/// A volatile link that was asked answers ReadOnly, and the transaction is Active again.
+fn answers_volatile_link(
+    alloc: Global,
+    moment: &Moment,
+    mut superior: Superior,
+    mut moving: Moving<Transaction>,
+) -> Result<Decision<Transaction>, AllocError>
+    ensures { IfOk result
+        (λ decision. decision_of decision
+        ≡ Goes (stays (posts (upwards moment.entry.now.base moving.item.id kinds.Volatile notices.ReadOnly superior.volatile)
+        (become (record moving.item {
+          superior = Some (link_in kinds.Volatile states.None superior);
+          phase = Phase.Active;
+        }) moving)))) }
+{
+    push_upwards(
+        alloc,
+        &mut moving.posts,
+        moment,
+        moving.item.id,
+        Kind::Volatile,
+        Notice::ReadOnly,
+        &superior.volatile,
+    )?;
+    superior.move_link(Kind::Volatile, State::None);
+    reactivate(&mut moving.item, superior);
+    Ok(Decision::Goes(moving.stays()))
+}
+
+/// Every volatile seat of a subordinate has answered.
+#[tactic(auto, unfolding(at_model::specs::Phases::volatile_answered))]
+fn sub_volatile_answered(
+    alloc: Global,
+    moment: &Moment,
+    superior: Superior,
+    moving: Moving<Transaction>,
+) -> Result<Decision<Transaction>, AllocError>
+    ensures { IfOk result
+        (λ decision. decision_of decision ≡ volatile_answered moment.entry.now (Some superior) moving) }
+{
+    if is_state(superior.volatile.state, State::Preparing) {
+        return answers_volatile_link(alloc, moment, superior, moving);
+    }
+    if is_state(superior.durable.state, State::Preparing) {
+        return go_durable(alloc, moment, moving);
+    }
+    Ok(Decision::Goes(moving.stays()))
+}
+
+/// Every volatile seat has answered: a volatile link that was asked answers; a root, or a durable link that was asked,
+/// goes on to the durable seats.
+#[tactic(auto, unfolding(at_model::specs::Phases::volatile_answered))]
+fn volatile_answered(
+    alloc: Global,
+    moment: &Moment,
+    moving: Moving<Transaction>,
+) -> Result<Decision<Transaction>, AllocError>
+    ensures { IfOk result
+        (λ decision. decision_of decision ≡ volatile_answered moment.entry.now moving.item.superior moving) }
+{
+    match cloned_option(&moving.item.superior)? {
+        None => go_durable(alloc, moment, moving),
+        Some(superior) => sub_volatile_answered(alloc, moment, superior, moving),
+    }
+}
+
+/// What follows once every volatile seat has answered.
+fn if_volatile_answered(
+    alloc: Global,
+    moment: &Moment,
+    moving: Moving<Transaction>,
+) -> Result<Decision<Transaction>, AllocError>
+    ensures { IfOk result
+        (λ decision. decision_of decision ≡ advance_in moment.entry.now Phase.Volatile moving) }
+{
+    if answered(moving.item.seats.as_slice(), Kind::Volatile) {
+        volatile_answered(alloc, moment, moving)
+    } else {
+        Ok(Decision::Goes(moving.stays()))
+    }
+}
+
+/// Adds Committed to the superior, where there is one.
+fn push_ended(
+    alloc: Global,
+    posts: &mut PostList,
+    moment: &Moment,
+    id: Id,
+    superior: &Option<Superior>,
+) -> Result<(), AllocError>
+    ensures { OnOk result (posts.new ≡ posts.old ++ ended_posts moment.entry.now.base id superior.now) }
+{
+    match superior {
+        None => Ok(()),
+        Some(superior) => push_upwards(
+            alloc,
+            posts,
+            moment,
+            id,
+            Kind::Durable,
+            Notice::Committed,
+            &superior.durable,
+        ),
+    }
+}
+
+/// Every durable seat has left after the decision: a subordinate tells its superior Committed (section 3.3.3).
+#[tactic(auto, unfolding(at_model::specs::Phases::all_committed))]
+fn all_committed(
+    alloc: Global,
+    moment: &Moment,
+    mut moving: Moving<Transaction>,
+) -> Result<Decision<Transaction>, AllocError>
+    ensures { IfOk result (λ decision. decision_of decision ≡ all_committed moment.entry.now moving) }
+{
+    let id = moving.item.id;
+    push_ended(alloc, &mut moving.posts, moment, id, &moving.item.superior)?;
+    Ok(Decision::Records {
+        entry: Record::Ended { id },
+        stands: moving.forgotten(),
+        absent: None,
+    })
+}
+
+/// What follows once every durable seat has left.
+fn if_all_left(
+    alloc: Global,
+    moment: &Moment,
+    moving: Moving<Transaction>,
+) -> Result<Decision<Transaction>, AllocError>
+    ensures { IfOk result
+        (λ decision. decision_of decision ≡ advance_in moment.entry.now Phase.Committing moving) }
+{
+    if all_left(moving.item.seats.as_slice()) {
+        all_committed(alloc, moment, moving)
+    } else {
+        Ok(Decision::Goes(moving.stays()))
+    }
+}
+
+/// Goes on, where what the transaction's phase waits for has come.
+pub fn advance(
+    alloc: Global,
+    moment: &Moment,
+    moving: Moving<Transaction>,
+) -> Result<Decision<Transaction>, AllocError>
+    ensures { IfOk result (λ decision. decision_of decision ≡ advance moment.entry.now moving) }
+{
+    match moving.item.phase {
+        Phase::Registering | Phase::Active | Phase::Voted => Ok(Decision::Goes(moving.stays())),
+        Phase::Volatile => if_volatile_answered(alloc, moment, moving),
+        Phase::Durable => if_durable_answered(alloc, moment, moving),
+        Phase::Committing => if_all_left(alloc, moment, moving),
+        Phase::Aborting => Ok(Decision::Goes(until_rolled_back(moving))),
+    }
+}
+
+/// The first phase of asking: Prepare to the volatile seats (section 3.3.1).
+#[tactic(auto, unfolding(at_model::specs::Phases::go_volatile))]
+pub fn go_volatile(
+    alloc: Global,
+    moment: &Moment,
+    mut moving: Moving<Transaction>,
+) -> Result<Decision<Transaction>, AllocError>
+    ensures { IfOk result (λ decision. decision_of decision ≡ go_volatile moment.entry.now moving) }
+{
+    moving.item.phase = Phase::Volatile;
+    prepare_seats(alloc, moment, Kind::Volatile, &mut moving)?;
+    advance(alloc, moment, moving)
+}
