@@ -1,7 +1,7 @@
 //! Abort (WS-AtomicTransaction 1.2, sections 3.2, 3.3.3 and 3.3.4).
 
 ghost use Rattle.std.specs.Prelude.{◌≡◌, ◌++◌, IfOk, OnOk, Some, option_copied};
-ghost use Rattle.at_model.specs.Book.{Phase};
+ghost use Rattle.at_model.specs.Book.{Phase as Stage};
 ghost use Rattle.at_base.specs.declared.outs.Ending.TheVariants as endings;
 ghost use Rattle.at_model.specs.Moves.{posts, effect};
 ghost use Rattle.at_model.specs.Posts.{stored_or};
@@ -141,7 +141,7 @@ fn end_links(superior: &mut Option<Superior>)
 fn aborting(moment: &Moment, transaction: &mut Transaction)
     ensures { transaction.new ≡ record transaction.old {
       superior = without_links transaction.old.superior;
-      phase = Phase.Aborting;
+      phase = Stage.Aborting;
       aborted = Some moment.entry.now.now;
     } }
 {
@@ -171,7 +171,8 @@ fn abort_links(
     ensures { OnOk result
         (moving.new ≡ posts (links_aborted moment.entry.now.base moving.old.item.id (reason_of reason.now) moving.old.item.superior) (effect (ending moving.old.item endings.Aborted) moving.old)) }
 {
-    moving.effect(ending(&moving.item, Ending::Aborted))?;
+    let what = ending(&moving.item, Ending::Aborted);
+    moving.effect(what)?;
     push_links_aborted(
         alloc,
         &mut moving.posts,

@@ -55,7 +55,7 @@ fn with_completion(
     transaction: &Transaction,
     completion: Completion,
 ) -> Result<Transaction, AllocError>
-    ensures { IfOk result (λ next. next ≡ record transaction.now { completion = Some completion.entry }) }
+    ensures { IfOk result (λ next. next ≡ record transaction.now { completion = Some completion }) }
 {
     let mut next = transaction.clone()?;
     next.completion = Some(completion);

@@ -1,6 +1,6 @@
 //! What a message does at a seat of a transaction (WS-AtomicTransaction 1.2, section 10).
 
-ghost use Rattle.std.specs.Prelude.{◌≡◌, IfOk, Some};
+ghost use Rattle.std.specs.Prelude.{◌≡◌, IfOk, Some, if◌then◌else◌};
 ghost use Rattle.at_base.specs.declared.notice.Notice.TheVariants as notices;
 ghost use Rattle.at_tables.specs.Tables.{coordinator_of};
 ghost use Rattle.at_tables.specs.declared.cells.State.TheVariants as states;

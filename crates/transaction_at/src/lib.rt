@@ -2,7 +2,9 @@
 #![tactic(auto)]
 
 pub mod abort;
+pub mod answer;
 pub mod at_completion;
+pub mod at_link;
 pub mod at_seat;
 pub mod due;
 pub mod links;

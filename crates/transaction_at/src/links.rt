@@ -45,7 +45,7 @@ impl Superior {
 
     /// The link of the kind is Active, with its superior's seat at this endpoint.
     pub fn register_link(&mut self, kind: Kind, coordinator: Epr)
-        ensures { self.new ≡ set_link kind (record { state = states.Active; coordinator = Some coordinator.entry }) self.old }
+        ensures { self.new ≡ set_link kind (record { state = states.Active; coordinator = Some coordinator }) self.old }
     {
         let link = Link {
             state: State::Active,

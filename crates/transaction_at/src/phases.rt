@@ -1,7 +1,7 @@
 //! The phases of a transaction, from the first Prepare to the end (WS-AtomicTransaction 1.2, section 3.3).
 
 ghost use Rattle.std.specs.Prelude.{◌≡◌, ◌++◌, IfOk, OnOk, Some};
-ghost use Rattle.at_model.specs.Book.{Phase};
+ghost use Rattle.at_model.specs.Book.{Phase as Stage};
 ghost use Rattle.at_base.specs.declared.notice.Notice.TheVariants as notices;
 ghost use Rattle.at_base.specs.declared.record.Record.TheVariants as records;
 ghost use Rattle.at_model.specs.Abort.{abort, Alone};
@@ -18,12 +18,10 @@ use crate::seats::{Group, all_left, answered, has_prepared, is_state, prepared, 
 use crate::transaction::{Phase, Superior, Transaction};
 use at_base::epr::Epr;
 use at_base::event::Moment;
-use at_base::id::Id;
 use at_base::message::cloned_option;
 use at_base::notice::{Kind, Notice};
 use at_base::outs::Ending;
-use at_base::record::Record;
-use at_posts::list::PostList;
+use at_base::record::{Record, Seats};
 use at_tables::cells::State;
 use by_id::moves::{Decision, Moving};
 use std::alloc::{AllocError, Global};
@@ -55,11 +53,19 @@ fn decided(
 ) -> Result<Moving<Transaction>, AllocError>
     ensures { IfOk result (λ moved. moved ≡ decided moment.entry.now moving) }
 {
-    moving.effect(ending(&moving.item, Ending::Committed))?;
+    let what = ending(&moving.item, Ending::Committed);
+    moving.effect(what)?;
     commit_seats(alloc, moment, &mut moving)?;
     moving.item.phase = Phase::Committing;
     tell_initiator(alloc, &mut moving, moment, Notice::Committed)?;
     Ok(moving)
+}
+
+/// The durable seats that voted Prepared, as a record has them.
+fn prepared_in(alloc: Global, moving: &Moving<Transaction>) -> Result<Seats, AllocError>
+    ensures { IfOk result (λ seats. seats ≡ prepared moving.now.item.seats) }
+{
+    prepared(alloc, moving.item.seats.as_slice())
 }
 
 /// Every durable seat of a root has answered: with one Prepared the decision is recorded first, and where that record is
@@ -76,7 +82,7 @@ fn root_answered(
         return Ok(Decision::Goes(decided(alloc, moment, moving)?.forgotten()));
     }
     let id = moving.item.id;
-    let seats = prepared(alloc, moving.item.seats.as_slice())?;
+    let seats = prepared_in(alloc, &moving)?;
     let absent = abort(alloc, moment, &Reason::Alone, moving.branch()?)?;
     let stands = decided(alloc, moment, moving)?.stays();
     Ok(Decision::Records {
@@ -89,8 +95,8 @@ fn root_answered(
 /// The transaction has voted, under this superior.
 fn vote(moment: &Moment, transaction: &mut Transaction, superior: Superior)
     ensures { transaction.new ≡ record transaction.old {
-      superior = Some superior.entry;
-      phase = Phase.Voted;
+      superior = Some superior;
+      phase = Stage.Voted;
       sent = Some moment.entry.now.now;
     } }
 {
@@ -161,7 +167,7 @@ fn records_vote(
         (Some (abort moment.entry.now Alone moving))) }
 {
     let id = moving.item.id;
-    let seats = prepared(alloc, moving.item.seats.as_slice())?;
+    let seats = prepared_in(alloc, &moving)?;
     let absent = abort(alloc, moment, &Reason::Alone, moving.branch()?)?;
     let stands = voted(alloc, moment, superior, moving)?.stays();
     Ok(Decision::Records {
@@ -187,7 +193,8 @@ fn sub_answered(
         (λ decision. decision_of decision
         ≡ sub_answered moment.entry.now superior superior.durable.coordinator moving) }
 {
-    match cloned_option(&superior.durable.coordinator)? {
+    let coordinator = cloned_option(&superior.durable.coordinator)?;
+    match coordinator {
         None => aborts(alloc, moment, moving),
         Some(coordinator) => {
             if has_prepared(moving.item.seats.as_slice()) {
@@ -279,7 +286,7 @@ fn go_durable(
 
 /// The transaction is Active again, under this superior.
 fn reactivate(transaction: &mut Transaction, superior: Superior)
-    ensures { transaction.new ≡ record transaction.old { superior = Some superior.entry; phase = Phase.Active } }
+    ensures { transaction.new ≡ record transaction.old { superior = Some superior; phase = Stage.Active } }
 {
     transaction.superior = Some(superior);
     transaction.phase = Phase::Active;
@@ -297,7 +304,7 @@ fn answers_volatile_link(
         ≡ Goes (stays (posts (upwards moment.entry.now.base moving.item.id kinds.Volatile notices.ReadOnly superior.volatile)
         (become (record moving.item {
           superior = Some (link_in kinds.Volatile states.None superior);
-          phase = Phase.Active;
+          phase = Stage.Active;
         }) moving)))) }
 {
     push_upwards(
@@ -358,7 +365,7 @@ fn if_volatile_answered(
     moving: Moving<Transaction>,
 ) -> Result<Decision<Transaction>, AllocError>
     ensures { IfOk result
-        (λ decision. decision_of decision ≡ advance_in moment.entry.now Phase.Volatile moving) }
+        (λ decision. decision_of decision ≡ advance_in moment.entry.now Stage.Volatile moving) }
 {
     if answered(moving.item.seats.as_slice(), Kind::Volatile) {
         volatile_answered(alloc, moment, moving)
@@ -367,28 +374,29 @@ fn if_volatile_answered(
     }
 }
 
-/// Adds Committed to the superior, where there is one.
-fn push_ended(
+/// Committed to the superior, where there is one.
+fn tell_superior(
     alloc: Global,
-    posts: &mut PostList,
     moment: &Moment,
-    id: Id,
-    superior: &Option<Superior>,
+    moving: &mut Moving<Transaction>,
 ) -> Result<(), AllocError>
-    ensures { OnOk result (posts.new ≡ posts.old ++ ended_posts moment.entry.now.base id superior.now) }
+    ensures { OnOk result
+        (moving.new
+        ≡ posts (ended_posts moment.entry.now.base moving.old.item.id moving.old.item.superior) moving.old) }
 {
-    match superior {
-        None => Ok(()),
-        Some(superior) => push_upwards(
-            alloc,
-            posts,
-            moment,
-            id,
-            Kind::Durable,
-            Notice::Committed,
-            &superior.durable,
-        ),
-    }
+    let id = moving.item.id;
+    let Some(superior) = &moving.item.superior else {
+        return Ok(());
+    };
+    push_upwards(
+        alloc,
+        &mut moving.posts,
+        moment,
+        id,
+        Kind::Durable,
+        Notice::Committed,
+        &superior.durable,
+    )
 }
 
 /// Every durable seat has left after the decision: a subordinate tells its superior Committed (section 3.3.3).
@@ -400,8 +408,8 @@ fn all_committed(
 ) -> Result<Decision<Transaction>, AllocError>
     ensures { IfOk result (λ decision. decision_of decision ≡ all_committed moment.entry.now moving) }
 {
+    tell_superior(alloc, moment, &mut moving)?;
     let id = moving.item.id;
-    push_ended(alloc, &mut moving.posts, moment, id, &moving.item.superior)?;
     Ok(Decision::Records {
         entry: Record::Ended { id },
         stands: moving.forgotten(),
@@ -416,7 +424,7 @@ fn if_all_left(
     moving: Moving<Transaction>,
 ) -> Result<Decision<Transaction>, AllocError>
     ensures { IfOk result
-        (λ decision. decision_of decision ≡ advance_in moment.entry.now Phase.Committing moving) }
+        (λ decision. decision_of decision ≡ advance_in moment.entry.now Stage.Committing moving) }
 {
     if all_left(moving.item.seats.as_slice()) {
         all_committed(alloc, moment, moving)

@@ -1,0 +1,295 @@
+//! How a subordinate's CreateCoordinationContext is answered (WS-Coordination 1.2, section 3.1): with the context once
+//! neither link is Registering, with CannotCreateContext where the subordinate ended before.
+
+ghost use Rattle.std.specs.Prelude.{◌≡◌, ◌++◌, ◌∷◌, [], IfOk, OnOk, Some, None, option_copied, option_map};
+ghost use Rattle.at_base.specs.declared.message.Message.TheVariants as messages;
+ghost use Rattle.at_model.specs.Arrivals.{answer_request, context_of, refused_request, request_answered, request_left, request_of, request_stands, request_under, with_answer};
+ghost use Rattle.at_model.specs.Book.{Phase as Stage};
+ghost use Rattle.at_model.specs.Posts.{reply_post};
+ghost use Rattle.at_model.specs.Seats.{under};
+ghost use Rattle.by_id.specs.Decided.{decision_of};
+
+use crate::at_link::is_registering;
+use crate::transaction::{Phase, Request, Superior, Transaction};
+use at_base::epr::Reply;
+use at_base::event::Moment;
+use at_base::message::{Context, Message, cloned_option};
+use at_base::outs::Effects;
+use at_base::target::Target;
+use at_base::text::Text;
+use at_posts::addresses::endpoint_of;
+use at_posts::list::PostList;
+use at_posts::names::{atomic, cannot_create};
+use at_posts::posts::{fault_post, reply_post};
+use by_id::moves::{Change, Decision};
+use std::alloc::{AllocError, Global};
+
+/// The context of a transaction, which lasts this many milliseconds, or any time.
+pub fn context_of(
+    alloc: Global,
+    base: &Text,
+    transaction: &Transaction,
+    expires: Option<u32>,
+) -> Result<Context, AllocError>
+    ensures { IfOk result (λ context. context ≡ context_of base.now transaction.now expires) }
+{
+    let identifier = transaction.identifier.clone()?;
+    let coordination = Text::copied(alloc, atomic())?;
+    let registration = endpoint_of(alloc, base, &Target::Registration(transaction.id))?;
+    Ok(Context {
+        identifier,
+        expires,
+        coordination,
+        registration,
+    })
+}
+
+/// Adds the fault CannotCreateContext, where it can be sent.
+fn push_refused(alloc: Global, posts: &mut PostList, request: &Request) -> Result<(), AllocError>
+    ensures { OnOk result (posts.new ≡ posts.old ++ refused_request request.now) }
+{
+    match &request.fault {
+        Reply::Anonymous | Reply::Nobody => Ok(()),
+        Reply::At(to) => {
+            let to = to.clone()?;
+            posts.push(fault_post(alloc, Some(to), &request.id, cannot_create())?)
+        }
+    }
+}
+
+/// Adds the answer with the transaction's context.
+fn push_created(
+    alloc: Global,
+    posts: &mut PostList,
+    moment: &Moment,
+    request: &Request,
+    transaction: &Transaction,
+) -> Result<(), AllocError>
+    ensures { OnOk result
+        (posts.new
+        ≡ posts.old
+        ++ reply_post (Some request.now.reply) request.now.id
+        (messages.CreateResponse (context_of moment.entry.now.base transaction.now request.now.expires))
+        ∷ []) }
+{
+    let to = request.reply.clone()?;
+    let context = context_of(alloc, &moment.base, transaction, request.expires)?;
+    posts.push(reply_post(Some(to), &request.id, Message::CreateResponse(context))?)
+}
+
+/// The transaction under this superior, whose request is answered.
+fn answered_under(mut superior: Superior, mut transaction: Transaction) -> Transaction
+    ensures { result ≡ under (request_answered superior) transaction }
+{
+    superior.request = None;
+    transaction.superior = Some(superior);
+    transaction
+}
+
+/// The answer, where the transaction stays under this superior.
+fn request_stands(
+    alloc: Global,
+    moment: &Moment,
+    request: &Request,
+    superior: Superior,
+    transaction: Transaction,
+    mut posts: PostList,
+    effects: Effects,
+) -> Result<Change<Transaction>, AllocError>
+    ensures { IfOk result
+        (λ change. change
+        ≡ request_stands moment.entry.now request.now transaction superior transaction.phase
+        (record { item = Some transaction; posts = posts; effects = effects })) }
+{
+    match transaction.phase {
+        Phase::Aborting => {
+            push_refused(alloc, &mut posts, request)?;
+            let item = Some(answered_under(superior, transaction));
+            Ok(Change {
+                item,
+                posts,
+                effects,
+            })
+        }
+        Phase::Registering
+        | Phase::Active
+        | Phase::Volatile
+        | Phase::Durable
+        | Phase::Voted
+        | Phase::Committing => request_ready(
+            alloc,
+            moment,
+            request,
+            superior,
+            transaction,
+            posts,
+            effects,
+        ),
+    }
+}
+
+/// The answer, where the transaction isn't Aborting.
+fn request_ready(
+    alloc: Global,
+    moment: &Moment,
+    request: &Request,
+    superior: Superior,
+    transaction: Transaction,
+    mut posts: PostList,
+    effects: Effects,
+) -> Result<Change<Transaction>, AllocError>
+    ensures { IfOk result
+        (λ change. change
+        ≡ request_stands moment.entry.now request.now transaction superior Stage.Active
+        (record { item = Some transaction; posts = posts; effects = effects })) }
+{
+    if is_registering(&superior) {
+        return Ok(Change {
+            item: Some(transaction),
+            posts,
+            effects,
+        });
+    }
+    push_created(alloc, &mut posts, moment, request, &transaction)?;
+    let item = Some(answered_under(superior, transaction));
+    Ok(Change {
+        item,
+        posts,
+        effects,
+    })
+}
+
+/// The answer, where the transaction stays.
+fn request_under(
+    alloc: Global,
+    moment: &Moment,
+    request: &Request,
+    transaction: Transaction,
+    posts: PostList,
+    effects: Effects,
+) -> Result<Change<Transaction>, AllocError>
+    ensures { IfOk result
+        (λ change. change
+        ≡ request_under moment.entry.now request.now transaction transaction.superior
+        (record { item = Some transaction; posts = posts; effects = effects })) }
+{
+    let superior = cloned_option(&transaction.superior)?;
+    match superior {
+        None => Ok(Change {
+            item: Some(transaction),
+            posts,
+            effects,
+        }),
+        Some(superior) => request_stands(
+            alloc,
+            moment,
+            request,
+            superior,
+            transaction,
+            posts,
+            effects,
+        ),
+    }
+}
+
+/// The answer of a request, behind what is posted.
+fn request_left(
+    alloc: Global,
+    moment: &Moment,
+    request: &Request,
+    change: Change<Transaction>,
+) -> Result<Change<Transaction>, AllocError>
+    ensures { IfOk result
+        (λ next. next ≡ request_left moment.entry.now request.now change.item change) }
+{
+    let Change {
+        item,
+        mut posts,
+        effects,
+    } = change;
+    match item {
+        None => {
+            push_refused(alloc, &mut posts, request)?;
+            Ok(Change {
+                item: None,
+                posts,
+                effects,
+            })
+        }
+        Some(transaction) => request_under(alloc, moment, request, transaction, posts, effects),
+    }
+}
+
+/// The answer of a request, where there is one.
+fn answer_request(
+    alloc: Global,
+    moment: &Moment,
+    request: Option<&Request>,
+    change: Change<Transaction>,
+) -> Result<Change<Transaction>, AllocError>
+    ensures { IfOk result
+        (λ next. next ≡ answer_request moment.entry.now (option_copied request.entry) change) }
+{
+    match request {
+        None => Ok(change),
+        Some(request) => request_left(alloc, moment, request, change),
+    }
+}
+
+/// The answer of a request in the branch where a record is absent.
+fn answer_absent(
+    alloc: Global,
+    moment: &Moment,
+    request: Option<&Request>,
+    absent: Option<Change<Transaction>>,
+) -> Result<Option<Change<Transaction>>, AllocError>
+    ensures { IfOk result
+        (λ next. next ≡ option_map (answer_request moment.entry.now (option_copied request.entry)) absent) }
+{
+    match absent {
+        None => Ok(None),
+        Some(change) => Ok(Some(answer_request(alloc, moment, request, change)?)),
+    }
+}
+
+/// The request that made the transaction and waits for its answer.
+fn request_of(transaction: &Transaction) -> Option<&Request>
+    ensures { option_copied result ≡ request_of transaction.now.superior }
+{
+    match &transaction.superior {
+        None => None,
+        Some(superior) => superior.request.as_ref(),
+    }
+}
+
+/// The decision, with the answer of the request that the transaction waits to give as its last post.
+pub fn with_answer(
+    alloc: Global,
+    moment: &Moment,
+    transaction: &Transaction,
+    decision: Decision<Transaction>,
+) -> Result<Decision<Transaction>, AllocError>
+    ensures { IfOk result
+        (λ answered. decision_of answered
+        ≡ with_answer moment.entry.now transaction.now (decision_of decision)) }
+{
+    let request = request_of(transaction);
+    match decision {
+        Decision::Goes(change) => Ok(Decision::Goes(answer_request(
+            alloc, moment, request, change,
+        )?)),
+        Decision::Records {
+            entry,
+            stands,
+            absent,
+        } => {
+            let stands = answer_request(alloc, moment, request, stands)?;
+            let absent = answer_absent(alloc, moment, request, absent)?;
+            Ok(Decision::Records {
+                entry,
+                stands,
+                absent,
+            })
+        }
+    }
+}

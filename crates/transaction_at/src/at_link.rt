@@ -1,0 +1,542 @@
+//! What a message does at a subordinate's link to its superior (WS-AtomicTransaction 1.2, sections 3.3.3 and 10).
+
+ghost use Rattle.std.specs.Prelude.{◌≡◌, IfOk, Some, None, ◌&&◌};
+ghost use Rattle.at_base.specs.declared.notice.Kind.TheVariants as kinds;
+ghost use Rattle.at_base.specs.declared.notice.Notice.TheVariants as notices;
+ghost use Rattle.at_base.specs.declared.outs.Ending.TheVariants as endings;
+ghost use Rattle.at_base.specs.declared.record.Record.TheVariants as records;
+ghost use Rattle.at_base.specs.declared.target.Target.TheVariants as targets;
+ghost use Rattle.at_tables.specs.Tables.{participant_of};
+ghost use Rattle.at_tables.specs.declared.cells.State.TheVariants as states;
+ghost use Rattle.at_model.specs.Book.{Phase as Stage};
+ghost use Rattle.at_model.specs.Abort.{abort, Alone, Asked, Faulted};
+ghost use Rattle.at_model.specs.Arrivals.{asked, commit_voted, is_registering, link_act, link_fault, link_notice, link_registered, on_link, registered, relates_to};
+ghost use Rattle.at_model.specs.Addresses.{register_id};
+ghost use Rattle.at_model.specs.Moves.{Goes, Records, become, begin, effect, posts, stays};
+ghost use Rattle.at_model.specs.Phases.{commit_seats, go_volatile, upwards};
+ghost use Rattle.at_model.specs.Posts.{fault_post, invalid_state, stored_or, stranger_post, to_each};
+ghost use Rattle.at_model.specs.Seats.{ending, link_in, link_of, sent_now, set_link, under};
+ghost use Rattle.at_tables.specs.Names.{is_state};
+ghost use Rattle.by_id.specs.Decided.{decision_of};
+ghost use Rattle.transaction_at.specs.PhaseNames.{phase_of};
+
+use crate::abort::{Reason, abort};
+use crate::links::{ending, push_upwards};
+use crate::phases::{aborts, commit_seats, go_volatile};
+use crate::seats::{ignores, is_state, sent_now, still};
+use crate::transaction::{Phase, Superior, Transaction};
+use at_base::epr::Epr;
+use at_base::event::{Arrived, Moment};
+use at_base::message::{Message, cloned_option};
+use at_base::notice::{Kind, Notice};
+use at_base::outs::Ending;
+use at_base::record::Record;
+use at_base::target::Target;
+use at_base::text::Text;
+use at_posts::addresses::register_id;
+use at_posts::names::invalid_state;
+use at_posts::posts::{fault_post, stored_or, stranger_post};
+use at_tables::cells::{Act, State, participant_cell};
+use by_id::moves::{Decision, Moving};
+use std::alloc::{AllocError, Global};
+
+/// The link answers Prepared once more, which counts as a sending.
+fn prepares_again(
+    alloc: Global,
+    moment: &Moment,
+    kind: Kind,
+    superior: &Superior,
+    transaction: &Transaction,
+) -> Result<Decision<Transaction>, AllocError>
+    ensures { IfOk result
+        (λ decision. decision_of decision
+        ≡ Goes (stays (posts (upwards moment.entry.now.base transaction.now.id kind notices.Prepared (link_of kind superior.now)) (become (sent_now moment.entry.now transaction.now) (begin transaction.now))))) }
+{
+    let next = sent_now(moment, transaction)?;
+    let mut moving = Moving::begin(alloc, next);
+    let link = superior.link(kind);
+    push_upwards(
+        alloc,
+        &mut moving.posts,
+        moment,
+        transaction.id,
+        kind,
+        Notice::Prepared,
+        link,
+    )?;
+    Ok(Decision::Goes(moving.stays()))
+}
+
+/// The link answers, to the superior or to the message's From, as one that isn't waited for.
+fn answers(
+    alloc: Global,
+    moment: &Moment,
+    arrived: &Arrived,
+    kind: Kind,
+    superior: &Superior,
+    transaction: &Transaction,
+    notice: Notice,
+) -> Result<Decision<Transaction>, AllocError>
+    ensures { IfOk result
+        (λ decision. decision_of decision
+        ≡ Goes (stays (posts (to_each (stored_or (link_of kind superior.now).coordinator arrived.now.from)
+        (λ to. stranger_post moment.entry.now.base (targets.Participant transaction.now.id kind) to notice)) (begin transaction.now)))) }
+{
+    let own = Target::Participant {
+        id: transaction.id,
+        kind,
+    };
+    let mut moving = still(alloc, transaction)?;
+    if let Some(to) = stored_or(&superior.link(kind).coordinator, &arrived.from) {
+        moving.post(stranger_post(alloc, &moment.base, &own, to, notice)?)?;
+    }
+    Ok(Decision::Goes(moving.stays()))
+}
+
+/// The transaction, with the fault InvalidState to the superior or to the message's From.
+fn with_fault(
+    alloc: Global,
+    arrived: &Arrived,
+    kind: Kind,
+    superior: &Superior,
+    transaction: &Transaction,
+) -> Result<Moving<Transaction>, AllocError>
+    ensures { IfOk result
+        (λ moving. moving
+        ≡ posts (to_each (stored_or (link_of kind superior.now).coordinator arrived.now.from)
+        (λ to. fault_post (Some to) arrived.now.id invalid_state)) (begin transaction.now)) }
+{
+    let mut moving = still(alloc, transaction)?;
+    if let Some(to) = stored_or(&superior.link(kind).coordinator, &arrived.from) {
+        moving.post(fault_post(alloc, Some(to.clone()?), &arrived.id, invalid_state())?)?;
+    }
+    Ok(moving)
+}
+
+/// The fault InvalidState, which leaves the transaction as it stands.
+fn faults(
+    alloc: Global,
+    arrived: &Arrived,
+    kind: Kind,
+    superior: &Superior,
+    transaction: &Transaction,
+) -> Result<Decision<Transaction>, AllocError>
+    ensures { IfOk result
+        (λ decision. decision_of decision
+        ≡ Goes (stays (posts (to_each (stored_or (link_of kind superior.now).coordinator arrived.now.from)
+        (λ to. fault_post (Some to) arrived.now.id invalid_state)) (begin transaction.now)))) }
+{
+    Ok(Decision::Goes(with_fault(alloc, arrived, kind, superior, transaction)?.stays()))
+}
+
+/// The fault InvalidState, which aborts the transaction.
+fn faults_and_aborts(
+    alloc: Global,
+    moment: &Moment,
+    arrived: &Arrived,
+    kind: Kind,
+    superior: &Superior,
+    transaction: &Transaction,
+) -> Result<Decision<Transaction>, AllocError>
+    ensures { IfOk result
+        (λ decision. decision_of decision
+        ≡ Goes (abort moment.entry.now (Faulted kind) (posts (to_each (stored_or (link_of kind superior.now).coordinator arrived.now.from)
+        (λ to. fault_post (Some to) arrived.now.id invalid_state)) (begin transaction.now)))) }
+{
+    let moving = with_fault(alloc, arrived, kind, superior, transaction)?;
+    Ok(Decision::Goes(abort(alloc, moment, &Reason::Faulted(kind), moving)?))
+}
+
+/// A copy of the superior whose link of the kind was asked. A durable Prepare also ends a volatile link that wasn't
+/// answered for.
+fn asked(kind: Kind, superior: &Superior) -> Result<Superior, AllocError>
+    ensures { IfOk result (λ next. next ≡ asked kind superior.now) }
+{
+    let mut next = superior.clone()?;
+    match kind {
+        Kind::Volatile => next.move_link(Kind::Volatile, State::Preparing),
+        Kind::Durable => {
+            next.move_link(Kind::Durable, State::Preparing);
+            next.move_link(Kind::Volatile, State::None);
+        }
+    }
+    Ok(next)
+}
+
+/// A copy of the transaction under this superior.
+fn under(superior: Superior, transaction: &Transaction) -> Result<Transaction, AllocError>
+    ensures { IfOk result (λ next. next ≡ under superior transaction.now) }
+{
+    let mut next = transaction.clone()?;
+    next.superior = Some(superior);
+    Ok(next)
+}
+
+/// Prepare asks the seats.
+fn gathers(
+    alloc: Global,
+    moment: &Moment,
+    kind: Kind,
+    superior: &Superior,
+    transaction: &Transaction,
+) -> Result<Decision<Transaction>, AllocError>
+    ensures { IfOk result
+        (λ decision. decision_of decision
+        ≡ go_volatile moment.entry.now (begin (under (asked kind superior.now) transaction.now))) }
+{
+    let next = under(asked(kind, superior)?, transaction)?;
+    go_volatile(alloc, moment, Moving::begin(alloc, next))
+}
+
+/// The transaction is told to commit, under this superior.
+fn committing(transaction: &mut Transaction, superior: Superior)
+    ensures { transaction.new ≡ record transaction.old { superior = Some superior; phase = Stage.Committing } }
+{
+    transaction.superior = Some(superior);
+    transaction.phase = Phase::Committing;
+}
+
+/// A copy of the superior whose durable link was told to commit.
+fn told_to_commit(superior: &Superior) -> Result<Superior, AllocError>
+    ensures { IfOk result (λ next. next ≡ link_in kinds.Durable states.Committing superior.now) }
+{
+    let mut next = superior.clone()?;
+    next.move_link(Kind::Durable, State::Committing);
+    Ok(next)
+}
+
+/// A subordinate that was told to commit: the record first, then Commit to every Prepared seat. Where the record is
+/// absent the step is undone, and the superior asks again.
+#[tactic(auto, unfolding(at_model::specs::Arrivals::commit_voted))]
+fn commits(
+    alloc: Global,
+    moment: &Moment,
+    superior: &Superior,
+    transaction: &Transaction,
+) -> Result<Decision<Transaction>, AllocError>
+    ensures { IfOk result
+        (λ decision. decision_of decision ≡ commit_voted moment.entry.now superior.now transaction.now) }
+{
+    let next = told_to_commit(superior)?;
+    let mut moving = still(alloc, transaction)?;
+    moving.effect(ending(transaction, Ending::Committed))?;
+    committing(&mut moving.item, next);
+    commit_seats(alloc, moment, &mut moving)?;
+    Ok(Decision::Records {
+        entry: Record::SubCommitted { id: transaction.id },
+        stands: moving.stays(),
+        absent: None,
+    })
+}
+
+/// A Rollback before the vote aborts.
+fn rolls_back(
+    alloc: Global,
+    moment: &Moment,
+    arrived: &Arrived,
+    kind: Kind,
+    transaction: &Transaction,
+) -> Result<Decision<Transaction>, AllocError>
+    ensures { IfOk result
+        (λ decision. decision_of decision
+        ≡ Goes (abort moment.entry.now (Asked kind arrived.now.from) (begin transaction.now))) }
+{
+    let from = cloned_option(&arrived.from)?;
+    let reason = Reason::Asked { kind, from };
+    let moving = still(alloc, transaction)?;
+    Ok(Decision::Goes(abort(alloc, moment, &reason, moving)?))
+}
+
+/// A Rollback behind the vote aborts behind a record. Where that is absent the step is undone, and the superior asks
+/// again.
+fn rolls_back_voted(
+    alloc: Global,
+    moment: &Moment,
+    arrived: &Arrived,
+    kind: Kind,
+    transaction: &Transaction,
+) -> Result<Decision<Transaction>, AllocError>
+    ensures { IfOk result
+        (λ decision. decision_of decision
+        ≡ Records (records.Ended transaction.now.id)
+        (abort moment.entry.now (Asked kind arrived.now.from) (begin transaction.now)) None) }
+{
+    let from = cloned_option(&arrived.from)?;
+    let reason = Reason::Asked { kind, from };
+    let moving = still(alloc, transaction)?;
+    Ok(Decision::Records {
+        entry: Record::Ended { id: transaction.id },
+        stands: abort(alloc, moment, &reason, moving)?,
+        absent: None,
+    })
+}
+
+/// An act of the participant's table at a link.
+#[tactic(auto, unfolding(at_model::specs::Arrivals::link_act))]
+fn acts(
+    alloc: Global,
+    moment: &Moment,
+    arrived: &Arrived,
+    kind: Kind,
+    superior: &Superior,
+    transaction: &Transaction,
+    act: Act,
+) -> Result<Decision<Transaction>, AllocError>
+    ensures { IfOk result
+        (λ decision. decision_of decision
+        ≡ link_act moment.entry.now arrived.now.from arrived.now.id kind superior.now transaction.now act) }
+{
+    match act {
+        Act::SendPrepared => prepares_again(alloc, moment, kind, superior, transaction),
+        Act::SendCommitted => answers(
+            alloc,
+            moment,
+            arrived,
+            kind,
+            superior,
+            transaction,
+            Notice::Committed,
+        ),
+        Act::SendAborted => answers(
+            alloc,
+            moment,
+            arrived,
+            kind,
+            superior,
+            transaction,
+            Notice::Aborted,
+        ),
+        Act::FaultInvalidState => faults(alloc, arrived, kind, superior, transaction),
+        Act::FaultInvalidStateAndAbort => faults_and_aborts(
+            alloc,
+            moment,
+            arrived,
+            kind,
+            superior,
+            transaction,
+        ),
+        Act::Gather => gathers(alloc, moment, kind, superior, transaction),
+        Act::Commit => commits(alloc, moment, superior, transaction),
+        Act::AbortAndSendAborted => rolls_back(alloc, moment, arrived, kind, transaction),
+        Act::RecordAndSendAborted => rolls_back_voted(alloc, moment, arrived, kind, transaction),
+        Act::Ignore
+        | Act::SendCommit
+        | Act::SendRollback
+        | Act::FaultUnknownTransaction
+        | Act::Leave
+        | Act::LeaveAndAbort
+        | Act::Vote
+        | Act::Complete
+        | Act::TellCommitted
+        | Act::TellAborted => ignores(alloc, transaction),
+    }
+}
+
+/// The superior's notification on a link.
+#[tactic(auto, unfolding(at_model::specs::Arrivals::link_notice))]
+fn notified(
+    alloc: Global,
+    moment: &Moment,
+    arrived: &Arrived,
+    kind: Kind,
+    superior: &Superior,
+    transaction: &Transaction,
+    notice: Notice,
+) -> Result<Decision<Transaction>, AllocError>
+    ensures { IfOk result
+        (λ decision. decision_of decision
+        ≡ link_notice moment.entry.now arrived.now.from arrived.now.id kind superior.now transaction.now
+        (participant_of kind (link_of kind superior.now).state notice)) }
+{
+    match participant_cell(kind, superior.link(kind).state, notice) {
+        Some(cell) => acts(
+            alloc,
+            moment,
+            arrived,
+            kind,
+            superior,
+            transaction,
+            cell.act,
+        ),
+        None => ignores(alloc, transaction),
+    }
+}
+
+/// Whether a message answers the request of this name (WS-Addressing 1.0 Core, section 3.3).
+fn relates_to(relates: &Option<Text>, id: &Text) -> bool
+    ensures { result ≡ relates_to relates.now id.now }
+{
+    match relates {
+        Some(text) => text.as_str() == id.as_str(),
+        None => false,
+    }
+}
+
+/// Whether a message answers the link's Register, which waits for it.
+fn is_answer(
+    alloc: Global,
+    moment: &Moment,
+    relates: &Option<Text>,
+    kind: Kind,
+    superior: &Superior,
+    transaction: &Transaction,
+) -> Result<bool, AllocError>
+    ensures { IfOk result
+        (λ yes. yes
+        ≡ (is_state (link_of kind superior.now).state states.Registering
+        && relates_to relates.now (register_id moment.entry.now.base (targets.Participant transaction.now.id kind)))) }
+{
+    if !is_state(superior.link(kind).state, State::Registering) {
+        return Ok(false);
+    }
+    let own = Target::Participant {
+        id: transaction.id,
+        kind,
+    };
+    let id = register_id(alloc, &moment.base, &own)?;
+    Ok(relates_to(relates, &id))
+}
+
+/// Whether a link waits for the answer of its Register.
+pub fn is_registering(superior: &Superior) -> bool
+    ensures { result ≡ is_registering superior.now }
+{
+    is_state(superior.volatile.state, State::Registering)
+        || is_state(superior.durable.state, State::Registering)
+}
+
+/// Registering ends once neither link is.
+fn registered(superior: &Superior, phase: Phase) -> Phase
+    ensures { phase_of result ≡ registered superior.now (phase_of phase) }
+{
+    match phase {
+        Phase::Registering => {
+            if is_registering(superior) {
+                Phase::Registering
+            } else {
+                Phase::Active
+            }
+        }
+        other => other,
+    }
+}
+
+/// A copy of the superior whose link of the kind is Active, with its seat at this endpoint.
+fn with_coordinator(
+    kind: Kind,
+    superior: &Superior,
+    coordinator: &Epr,
+) -> Result<Superior, AllocError>
+    ensures { IfOk result
+        (λ next. next
+        ≡ set_link kind (record { state = states.Active; coordinator = Some coordinator.now }) superior.now) }
+{
+    let coordinator = coordinator.clone()?;
+    let mut next = superior.clone()?;
+    next.register_link(kind, coordinator);
+    Ok(next)
+}
+
+/// A copy of the transaction under this superior, in the phase that follows.
+fn registered_under(
+    superior: Superior,
+    transaction: &Transaction,
+) -> Result<Transaction, AllocError>
+    ensures { IfOk result
+        (λ next. next
+        ≡ record transaction.now { superior = Some superior; phase = registered superior transaction.now.phase }) }
+{
+    let phase = registered(&superior, transaction.phase);
+    let mut next = under(superior, transaction)?;
+    next.phase = phase;
+    Ok(next)
+}
+
+/// A RegisterResponse that answers a link's Register makes the link Active (WS-Coordination 1.2, section 3.2).
+#[tactic(auto, unfolding(at_model::specs::Arrivals::link_registered))]
+fn link_registered(
+    alloc: Global,
+    moment: &Moment,
+    relates: &Option<Text>,
+    coordinator: &Epr,
+    kind: Kind,
+    superior: &Superior,
+    transaction: &Transaction,
+) -> Result<Decision<Transaction>, AllocError>
+    ensures { IfOk result
+        (λ decision. decision_of decision
+        ≡ link_registered moment.entry.now relates.now coordinator.now kind superior.now transaction.now) }
+{
+    if !is_answer(alloc, moment, relates, kind, superior, transaction)? {
+        return ignores(alloc, transaction);
+    }
+    let superior = with_coordinator(kind, superior, coordinator)?;
+    let next = registered_under(superior, transaction)?;
+    Ok(Decision::Goes(Moving::begin(alloc, next).stays()))
+}
+
+/// A fault that answers a link's Register aborts the subordinate; every other fault is ignored.
+#[tactic(auto, unfolding(at_model::specs::Arrivals::link_fault))]
+fn link_faulted(
+    alloc: Global,
+    moment: &Moment,
+    relates: &Option<Text>,
+    kind: Kind,
+    superior: &Superior,
+    transaction: &Transaction,
+) -> Result<Decision<Transaction>, AllocError>
+    ensures { IfOk result
+        (λ decision. decision_of decision
+        ≡ link_fault moment.entry.now relates.now kind superior.now transaction.now) }
+{
+    if is_answer(alloc, moment, relates, kind, superior, transaction)? {
+        aborts(alloc, moment, still(alloc, transaction)?)
+    } else {
+        ignores(alloc, transaction)
+    }
+}
+
+/// A message at a link: a notification, the answer of its Register, or a fault; all else is ignored.
+#[tactic(auto, unfolding(at_model::specs::Arrivals::on_link))]
+pub fn on_link(
+    alloc: Global,
+    moment: &Moment,
+    arrived: &Arrived,
+    kind: Kind,
+    transaction: &Transaction,
+    superior: &Superior,
+) -> Result<Decision<Transaction>, AllocError>
+    ensures { IfOk result
+        (λ decision. decision_of decision
+        ≡ on_link moment.entry.now arrived.now kind transaction.now superior.now arrived.now.message) }
+{
+    match &arrived.message {
+        Message::Notice(notice) => notified(
+            alloc,
+            moment,
+            arrived,
+            kind,
+            superior,
+            transaction,
+            *notice,
+        ),
+        Message::RegisterResponse(coordinator) => link_registered(
+            alloc,
+            moment,
+            &arrived.relates,
+            coordinator,
+            kind,
+            superior,
+            transaction,
+        ),
+        Message::Fault { .. } => link_faulted(
+            alloc,
+            moment,
+            &arrived.relates,
+            kind,
+            superior,
+            transaction,
+        ),
+        _ => ignores(alloc, transaction),
+    }
+}
