@@ -183,9 +183,32 @@ fn abort_links(
     )
 }
 
-/// Aborts: every link says Aborted, every open seat is told Rollback and is Aborting, the initiator is told Aborted.
-/// Nothing is recorded, since abort is presumed.
+/// All that an abort does while the transaction stands: every link says Aborted, every open seat is told Rollback and is
+/// Aborting, the initiator is told Aborted.
 #[tactic(auto, unfolding(at_model::specs::Abort::abort))]
+fn abort_all(
+    alloc: Global,
+    moment: &Moment,
+    reason: &Reason,
+    moving: &mut Moving<Transaction>,
+) -> Result<(), AllocError>
+    ensures { OnOk result
+        (until_rolled_back moving.new ≡ abort moment.entry.now (reason_of reason.now) moving.old) }
+{
+    abort_links(alloc, moment, reason, moving)?;
+    aborting(moment, &mut moving.item);
+    send_each(
+        alloc,
+        moving,
+        moment,
+        Notice::Rollback,
+        State::Aborting,
+        Group::Open,
+    )?;
+    tell_initiator(alloc, moving, moment, Notice::Aborted)
+}
+
+/// Aborts. Nothing is recorded, since abort is presumed.
 pub fn abort(
     alloc: Global,
     moment: &Moment,
@@ -194,16 +217,6 @@ pub fn abort(
 ) -> Result<Change<Transaction>, AllocError>
     ensures { IfOk result (λ change. change ≡ abort moment.entry.now (reason_of reason.now) moving) }
 {
-    abort_links(alloc, moment, reason, &mut moving)?;
-    aborting(moment, &mut moving.item);
-    send_each(
-        alloc,
-        &mut moving,
-        moment,
-        Notice::Rollback,
-        State::Aborting,
-        Group::Open,
-    )?;
-    tell_initiator(alloc, &mut moving, moment, Notice::Aborted)?;
+    abort_all(alloc, moment, reason, &mut moving)?;
     Ok(until_rolled_back(moving))
 }

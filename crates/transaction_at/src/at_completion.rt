@@ -10,7 +10,7 @@ ghost use Rattle.at_model.specs.Posts.{fault_post};
 ghost use Rattle.by_id.specs.Decided.{decision_of};
 
 use crate::phases::{aborts, go_volatile};
-use crate::seats::{ignores, still};
+use crate::seats::{ignores, posting, still};
 use crate::transaction::{Completion, Transaction};
 use at_base::event::{Arrived, Moment};
 use at_base::message::Message;
@@ -34,9 +34,9 @@ fn faults(
         ≡ Goes (stays (post (fault_post (Some completion.now.initiator) arrived.now.id name.now) (begin transaction.now)))) }
 {
     let to = completion.initiator.clone()?;
-    let mut moving = still(alloc, transaction)?;
-    moving.post(fault_post(alloc, Some(to), &arrived.id, name)?)?;
-    Ok(Decision::Goes(moving.stays()))
+    let message = fault_post(alloc, Some(to), &arrived.id, name)?;
+    let next = transaction.clone()?;
+    Ok(Decision::Goes(posting(alloc, next, message)?.stays()))
 }
 
 /// A completion seat that was told to commit.

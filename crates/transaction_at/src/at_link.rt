@@ -22,8 +22,8 @@ ghost use Rattle.transaction_at.specs.PhaseNames.{phase_of};
 
 use crate::abort::{Reason, abort};
 use crate::links::{ending, push_upwards};
-use crate::phases::{aborts, commit_seats, go_volatile};
-use crate::seats::{ignores, is_state, sent_now, still};
+use crate::phases::{aborts, commit_seats, go_volatile, or_undone};
+use crate::seats::{happening, ignores, is_state, posting, sent_now, still};
 use crate::transaction::{Phase, Superior, Transaction};
 use at_base::epr::Epr;
 use at_base::event::{Arrived, Moment};
@@ -86,10 +86,14 @@ fn answers(
         id: transaction.id,
         kind,
     };
-    let mut moving = still(alloc, transaction)?;
-    if let Some(to) = stored_or(&superior.link(kind).coordinator, &arrived.from) {
-        moving.post(stranger_post(alloc, &moment.base, &own, to, notice)?)?;
-    }
+    let next = transaction.clone()?;
+    let moving = match stored_or(&superior.link(kind).coordinator, &arrived.from) {
+        Some(to) => {
+            let message = stranger_post(alloc, &moment.base, &own, to, notice)?;
+            posting(alloc, next, message)?
+        }
+        None => Moving::begin(alloc, next),
+    };
     Ok(Decision::Goes(moving.stays()))
 }
 
@@ -106,11 +110,13 @@ fn with_fault(
         ≡ posts (to_each (stored_or (link_of kind superior.now).coordinator arrived.now.from)
         (λ to. fault_post (Some to) arrived.now.id invalid_state)) (begin transaction.now)) }
 {
-    let mut moving = still(alloc, transaction)?;
-    if let Some(to) = stored_or(&superior.link(kind).coordinator, &arrived.from) {
-        moving.post(fault_post(alloc, Some(to.clone()?), &arrived.id, invalid_state())?)?;
-    }
-    Ok(moving)
+    let Some(to) = stored_or(&superior.link(kind).coordinator, &arrived.from) else {
+        return still(alloc, transaction);
+    };
+    let to = to.clone()?;
+    let message = fault_post(alloc, Some(to), &arrived.id, invalid_state())?;
+    let next = transaction.clone()?;
+    posting(alloc, next, message)
 }
 
 /// The fault InvalidState, which leaves the transaction as it stands.
@@ -205,6 +211,24 @@ fn told_to_commit(superior: &Superior) -> Result<Superior, AllocError>
     Ok(next)
 }
 
+/// A copy of the transaction that is told to commit, under this superior.
+fn committing_under(
+    superior: &Superior,
+    transaction: &Transaction,
+) -> Result<Transaction, AllocError>
+    ensures { IfOk result
+        (λ next. next
+        ≡ record transaction.now {
+          superior = Some (link_in kinds.Durable states.Committing superior.now);
+          phase = Stage.Committing;
+        }) }
+{
+    let superior = told_to_commit(superior)?;
+    let mut next = transaction.clone()?;
+    committing(&mut next, superior);
+    Ok(next)
+}
+
 /// A subordinate that was told to commit: the record first, then Commit to every Prepared seat. Where the record is
 /// absent the step is undone, and the superior asks again.
 #[tactic(auto, unfolding(at_model::specs::Arrivals::commit_voted))]
@@ -217,16 +241,11 @@ fn commits(
     ensures { IfOk result
         (λ decision. decision_of decision ≡ commit_voted moment.entry.now superior.now transaction.now) }
 {
-    let next = told_to_commit(superior)?;
-    let mut moving = still(alloc, transaction)?;
-    moving.effect(ending(transaction, Ending::Committed))?;
-    committing(&mut moving.item, next);
+    let next = committing_under(superior, transaction)?;
+    let mut moving = happening(alloc, next, ending(transaction, Ending::Committed))?;
     commit_seats(alloc, moment, &mut moving)?;
-    Ok(Decision::Records {
-        entry: Record::SubCommitted { id: transaction.id },
-        stands: moving.stays(),
-        absent: None,
-    })
+    let id = transaction.id;
+    Ok(or_undone(Record::SubCommitted { id }, moving.stays()))
 }
 
 /// A Rollback before the vote aborts.
@@ -264,11 +283,8 @@ fn rolls_back_voted(
     let from = cloned_option(&arrived.from)?;
     let reason = Reason::Asked { kind, from };
     let moving = still(alloc, transaction)?;
-    Ok(Decision::Records {
-        entry: Record::Ended { id: transaction.id },
-        stands: abort(alloc, moment, &reason, moving)?,
-        absent: None,
-    })
+    let stands = abort(alloc, moment, &reason, moving)?;
+    Ok(or_undone(Record::Ended { id: transaction.id }, stands))
 }
 
 /// An act of the participant's table at a link.

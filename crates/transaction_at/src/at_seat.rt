@@ -13,7 +13,7 @@ ghost use Rattle.at_model.specs.Seats.{in_state, seat_in};
 ghost use Rattle.by_id.specs.Decided.{decision_of};
 
 use crate::phases::{aborts, advance};
-use crate::seats::{ignores, is_state, seat_in, seat_notice, seat_target, sent_now, still};
+use crate::seats::{ignores, is_state, posting, seat_in, seat_notice, seat_target, sent_now};
 use crate::transaction::{Enlistment, Transaction};
 use at_base::event::{Arrived, Moment};
 use at_base::message::Message;
@@ -36,10 +36,9 @@ fn answers(
     ensures { IfOk result
         (λ decision. decision_of decision ≡ answer_seat moment.entry.now notice transaction.now seat.now) }
 {
+    let message = seat_notice(alloc, moment, transaction.id, seat, notice)?;
     let next = sent_now(moment, transaction)?;
-    let mut moving = Moving::begin(alloc, next);
-    moving.post(seat_notice(alloc, moment, transaction.id, seat, notice)?)?;
-    Ok(Decision::Goes(moving.stays()))
+    Ok(Decision::Goes(posting(alloc, next, message)?.stays()))
 }
 
 /// The answer of a seat that its participant has left.
@@ -54,9 +53,9 @@ fn answers_left(
         (λ decision. decision_of decision ≡ answer_left_seat moment.entry.now notice transaction.now seat.now) }
 {
     let own = seat_target(transaction.id, seat);
-    let mut moving = still(alloc, transaction)?;
-    moving.post(stranger_post(alloc, &moment.base, &own, &seat.participant, notice)?)?;
-    Ok(Decision::Goes(moving.stays()))
+    let message = stranger_post(alloc, &moment.base, &own, &seat.participant, notice)?;
+    let next = transaction.clone()?;
+    Ok(Decision::Goes(posting(alloc, next, message)?.stays()))
 }
 
 /// A seat answers Rollback; abort is presumed where it was left.
@@ -92,9 +91,9 @@ fn with_fault(
         ≡ post (fault_post (Some seat.now.participant) arrived.now.id name.now) (begin transaction.now)) }
 {
     let to = seat.participant.clone()?;
-    let mut moving = still(alloc, transaction)?;
-    moving.post(fault_post(alloc, Some(to), &arrived.id, name)?)?;
-    Ok(moving)
+    let message = fault_post(alloc, Some(to), &arrived.id, name)?;
+    let next = transaction.clone()?;
+    posting(alloc, next, message)
 }
 
 /// A fault to the participant, which leaves the transaction as it stands.

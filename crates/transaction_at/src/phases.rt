@@ -1,6 +1,6 @@
 //! The phases of a transaction, from the first Prepare to the end (WS-AtomicTransaction 1.2, section 3.3).
 
-ghost use Rattle.std.specs.Prelude.{◌≡◌, ◌++◌, IfOk, OnOk, Some};
+ghost use Rattle.std.specs.Prelude.{◌≡◌, ◌++◌, IfOk, OnOk, Some, None};
 ghost use Rattle.at_model.specs.Book.{Phase as Stage};
 ghost use Rattle.at_base.specs.declared.notice.Notice.TheVariants as notices;
 ghost use Rattle.at_base.specs.declared.record.Record.TheVariants as records;
@@ -18,12 +18,13 @@ use crate::seats::{Group, all_left, answered, has_prepared, is_state, prepared, 
 use crate::transaction::{Phase, Superior, Transaction};
 use at_base::epr::Epr;
 use at_base::event::Moment;
+use at_base::id::Id;
 use at_base::message::cloned_option;
 use at_base::notice::{Kind, Notice};
 use at_base::outs::Ending;
 use at_base::record::{Record, Seats};
 use at_tables::cells::State;
-use by_id::moves::{Decision, Moving};
+use by_id::moves::{Change, Decision, Moving};
 use std::alloc::{AllocError, Global};
 
 /// Commit to every Prepared seat, in order; the seats then are Committing (section 3.3.3).
@@ -46,19 +47,77 @@ pub fn commit_seats(
 
 /// A root's decision: Commit to every Prepared seat, then Committed to the initiator.
 #[tactic(auto, unfolding(at_model::specs::Phases::decided))]
-fn decided(
+fn decide(
     alloc: Global,
     moment: &Moment,
-    mut moving: Moving<Transaction>,
-) -> Result<Moving<Transaction>, AllocError>
-    ensures { IfOk result (λ moved. moved ≡ decided moment.entry.now moving) }
+    moving: &mut Moving<Transaction>,
+) -> Result<(), AllocError>
+    ensures { OnOk result (moving.new ≡ decided moment.entry.now moving.old) }
 {
     let what = ending(&moving.item, Ending::Committed);
     moving.effect(what)?;
-    commit_seats(alloc, moment, &mut moving)?;
+    commit_seats(alloc, moment, moving)?;
     moving.item.phase = Phase::Committing;
-    tell_initiator(alloc, &mut moving, moment, Notice::Committed)?;
-    Ok(moving)
+    tell_initiator(alloc, moving, moment, Notice::Committed)
+}
+
+/// A root's decision for which nobody waits: it is forgotten.
+fn decides_alone(
+    alloc: Global,
+    moment: &Moment,
+    mut moving: Moving<Transaction>,
+) -> Result<Decision<Transaction>, AllocError>
+    ensures { IfOk result
+        (λ decision. decision_of decision ≡ Goes (forgotten (decided moment.entry.now moving))) }
+{
+    decide(alloc, moment, &mut moving)?;
+    Ok(Decision::Goes(moving.forgotten()))
+}
+
+/// A root's decision behind its record.
+fn decides(
+    alloc: Global,
+    moment: &Moment,
+    mut moving: Moving<Transaction>,
+    seats: Seats,
+    absent: Change<Transaction>,
+) -> Result<Decision<Transaction>, AllocError>
+    ensures { IfOk result
+        (λ decision. decision_of decision
+        ≡ Records (records.Decided moving.item.id seats) (stays (decided moment.entry.now moving)) (Some absent)) }
+{
+    let id = id_of(&moving);
+    decide(alloc, moment, &mut moving)?;
+    Ok(Decision::Records {
+        entry: Record::Decided { id, seats },
+        stands: moving.stays(),
+        absent: Some(absent),
+    })
+}
+
+/// The abort that is done where a record is absent.
+fn absent_abort(
+    alloc: Global,
+    moment: &Moment,
+    moving: &Moving<Transaction>,
+) -> Result<Change<Transaction>, AllocError>
+    ensures { IfOk result (λ change. change ≡ abort moment.entry.now Alone moving.now) }
+{
+    abort(alloc, moment, &Reason::Alone, moving.branch()?)
+}
+
+/// The id of the transaction.
+fn id_of(moving: &Moving<Transaction>) -> Id
+    ensures { result ≡ moving.now.item.id }
+{
+    moving.item.id
+}
+
+/// The endpoint of the superior's durable seat, once that is known.
+fn coordinator_of(superior: &Superior) -> Result<Option<Epr>, AllocError>
+    ensures { IfOk result (λ epr. epr ≡ superior.now.durable.coordinator) }
+{
+    cloned_option(&superior.durable.coordinator)
 }
 
 /// The durable seats that voted Prepared, as a record has them.
@@ -79,17 +138,11 @@ fn root_answered(
     ensures { IfOk result (λ decision. decision_of decision ≡ root_answered moment.entry.now moving) }
 {
     if !has_prepared(moving.item.seats.as_slice()) {
-        return Ok(Decision::Goes(decided(alloc, moment, moving)?.forgotten()));
+        return decides_alone(alloc, moment, moving);
     }
-    let id = moving.item.id;
     let seats = prepared_in(alloc, &moving)?;
-    let absent = abort(alloc, moment, &Reason::Alone, moving.branch()?)?;
-    let stands = decided(alloc, moment, moving)?.stays();
-    Ok(Decision::Records {
-        entry: Record::Decided { id, seats },
-        stands,
-        absent: Some(absent),
-    })
+    let absent = absent_abort(alloc, moment, &moving)?;
+    decides(alloc, moment, moving, seats, absent)
 }
 
 /// The transaction has voted, under this superior.
@@ -152,6 +205,35 @@ fn votes_read_only(
     Ok(Decision::Goes(moving.forgotten()))
 }
 
+/// A subordinate's vote behind its record.
+fn votes(
+    alloc: Global,
+    moment: &Moment,
+    superior: Superior,
+    coordinator: Epr,
+    moving: Moving<Transaction>,
+    seats: Seats,
+    absent: Change<Transaction>,
+) -> Result<Decision<Transaction>, AllocError>
+    ensures { IfOk result
+        (λ decision. decision_of decision
+        ≡ Records (records.Voted moving.item.id coordinator seats)
+        (stays (voted moment.entry.now superior moving))
+        (Some absent)) }
+{
+    let id = id_of(&moving);
+    let stands = voted(alloc, moment, superior, moving)?.stays();
+    Ok(Decision::Records {
+        entry: Record::Voted {
+            id,
+            superior: coordinator,
+            seats,
+        },
+        stands,
+        absent: Some(absent),
+    })
+}
+
 /// A subordinate with a seat Prepared records its vote first; where that record is absent it aborts.
 fn records_vote(
     alloc: Global,
@@ -166,19 +248,9 @@ fn records_vote(
         (stays (voted moment.entry.now superior moving))
         (Some (abort moment.entry.now Alone moving))) }
 {
-    let id = moving.item.id;
     let seats = prepared_in(alloc, &moving)?;
-    let absent = abort(alloc, moment, &Reason::Alone, moving.branch()?)?;
-    let stands = voted(alloc, moment, superior, moving)?.stays();
-    Ok(Decision::Records {
-        entry: Record::Voted {
-            id,
-            superior: coordinator,
-            seats,
-        },
-        stands,
-        absent: Some(absent),
-    })
+    let absent = absent_abort(alloc, moment, &moving)?;
+    votes(alloc, moment, superior, coordinator, moving, seats, absent)
 }
 
 /// Every durable seat of a subordinate has answered: it votes, or aborts where it knows no superior to tell.
@@ -193,7 +265,7 @@ fn sub_answered(
         (λ decision. decision_of decision
         ≡ sub_answered moment.entry.now superior superior.durable.coordinator moving) }
 {
-    let coordinator = cloned_option(&superior.durable.coordinator)?;
+    let coordinator = coordinator_of(&superior)?;
     match coordinator {
         None => aborts(alloc, moment, moving),
         Some(coordinator) => {
@@ -226,7 +298,8 @@ fn durable_answered(
     ensures { IfOk result
         (λ decision. decision_of decision ≡ durable_answered moment.entry.now moving.item.superior moving) }
 {
-    match cloned_option(&moving.item.superior)? {
+    let superior = cloned_option(&moving.item.superior)?;
+    match superior {
         None => root_answered(alloc, moment, moving),
         Some(superior) => sub_answered(alloc, moment, superior, moving),
     }
@@ -352,7 +425,8 @@ fn volatile_answered(
     ensures { IfOk result
         (λ decision. decision_of decision ≡ volatile_answered moment.entry.now moving.item.superior moving) }
 {
-    match cloned_option(&moving.item.superior)? {
+    let superior = cloned_option(&moving.item.superior)?;
+    match superior {
         None => go_durable(alloc, moment, moving),
         Some(superior) => sub_volatile_answered(alloc, moment, superior, moving),
     }
@@ -399,6 +473,17 @@ fn tell_superior(
     )
 }
 
+/// What is done behind a record, and undone where that is absent.
+pub fn or_undone(entry: Record, stands: Change<Transaction>) -> Decision<Transaction>
+    ensures { decision_of result ≡ Records entry stands None }
+{
+    Decision::Records {
+        entry,
+        stands,
+        absent: None,
+    }
+}
+
 /// Every durable seat has left after the decision: a subordinate tells its superior Committed (section 3.3.3).
 #[tactic(auto, unfolding(at_model::specs::Phases::all_committed))]
 fn all_committed(
@@ -409,12 +494,8 @@ fn all_committed(
     ensures { IfOk result (λ decision. decision_of decision ≡ all_committed moment.entry.now moving) }
 {
     tell_superior(alloc, moment, &mut moving)?;
-    let id = moving.item.id;
-    Ok(Decision::Records {
-        entry: Record::Ended { id },
-        stands: moving.forgotten(),
-        absent: None,
-    })
+    let id = id_of(&moving);
+    Ok(or_undone(Record::Ended { id }, moving.forgotten()))
 }
 
 /// What follows once every durable seat has left.

@@ -3,7 +3,7 @@
 ghost use Rattle.std.specs.Prelude.{◌≡◌, ◌++◌, ◌∷◌, [], IfOk, OnOk, Some};
 ghost use Rattle.std.specs.List.{list_any};
 ghost use Rattle.at_tables.specs.Names.{state_place, kind_place, is_state, is_kind};
-ghost use Rattle.at_model.specs.Moves.{begin, ignored};
+ghost use Rattle.at_model.specs.Moves.{begin, effect, ignored, post};
 ghost use Rattle.at_model.specs.Posts.{notice_post};
 ghost use Rattle.at_model.specs.Seats.{is_of, is_open, answered, all_left, is_prepared_durable, prepared, seated, seat_target, notices_to, sent_to, send_each, seat_in, sent_now, moved};
 ghost use Rattle.by_id.specs.Decided.{decision_of};
@@ -13,7 +13,7 @@ use crate::transaction::{Enlistment, Transaction};
 use at_base::event::Moment;
 use at_base::id::Id;
 use at_base::notice::{Kind, Notice};
-use at_base::outs::Post;
+use at_base::outs::{Effect, Effects, Post};
 use at_base::record::{Seated, Seats};
 use at_base::target::{Seat, Target};
 use at_posts::list::PostList;
@@ -314,4 +314,38 @@ pub fn ignores(
     ensures { IfOk result (λ decision. decision_of decision ≡ ignored transaction.now) }
 {
     Ok(ignored(alloc, transaction.clone()?))
+}
+
+/// The transaction at the begin of a step that posts this.
+pub fn posting(
+    alloc: Global,
+    transaction: Transaction,
+    message: Post,
+) -> Result<Moving<Transaction>, AllocError>
+    ensures { IfOk result (λ moving. moving ≡ post message (begin transaction)) }
+{
+    let mut posts = PostList::new(alloc);
+    posts.push(message)?;
+    Ok(Moving {
+        item: transaction,
+        posts,
+        effects: Effects::from_vec(Vec::new(alloc)),
+    })
+}
+
+/// The transaction at the begin of a step in which this happened.
+pub fn happening(
+    alloc: Global,
+    transaction: Transaction,
+    what: Effect,
+) -> Result<Moving<Transaction>, AllocError>
+    ensures { IfOk result (λ moving. moving ≡ effect what (begin transaction)) }
+{
+    let mut effects = Effects::from_vec(Vec::new(alloc));
+    effects.push(what)?;
+    Ok(Moving {
+        item: transaction,
+        posts: PostList::new(alloc),
+        effects,
+    })
 }
