@@ -1,20 +1,23 @@
 //! How a subordinate's CreateCoordinationContext is answered (WS-Coordination 1.2, section 3.1): with the context once
 //! neither link is Registering, with CannotCreateContext where the subordinate ended before.
 
-ghost use Rattle.std.specs.Prelude.{◌≡◌, ◌++◌, ◌∷◌, [], IfOk, OnOk, Some, None, option_copied, option_map};
+ghost use Rattle.std.specs.Prelude.{◌≡◌, ◌++◌, ◌∷◌, [], IfOk, OnOk, Some, None, option_copied};
 ghost use Rattle.at_base.specs.declared.message.Message.TheVariants as messages;
 ghost use Rattle.at_model.specs.Arrivals.{answer_request, context_of, refused_request, request_answered, request_left, request_of, request_stands, request_under, with_answer};
 ghost use Rattle.at_model.specs.Book.{Phase as Stage};
+ghost use Rattle.at_model.specs.Moves.{Records};
 ghost use Rattle.at_model.specs.Posts.{reply_post};
 ghost use Rattle.at_model.specs.Seats.{under};
 ghost use Rattle.by_id.specs.Decided.{decision_of};
 
 use crate::at_link::is_registering;
+use crate::phases::or_undone;
 use crate::transaction::{Phase, Request, Superior, Transaction};
 use at_base::epr::Reply;
 use at_base::event::Moment;
 use at_base::message::{Context, Message, cloned_option};
 use at_base::outs::Effects;
+use at_base::record::Record;
 use at_base::target::Target;
 use at_base::text::Text;
 use at_posts::addresses::endpoint_of;
@@ -241,15 +244,20 @@ fn answer_absent(
     alloc: Global,
     moment: &Moment,
     request: Option<&Request>,
-    absent: Option<Change<Transaction>>,
-) -> Result<Option<Change<Transaction>>, AllocError>
+    entry: Record,
+    stands: Change<Transaction>,
+    absent: Change<Transaction>,
+) -> Result<Decision<Transaction>, AllocError>
     ensures { IfOk result
-        (λ next. next ≡ option_map (answer_request moment.entry.now (option_copied request.entry)) absent) }
+        (λ decision. decision_of decision
+        ≡ Records entry stands (Some (answer_request moment.entry.now (option_copied request.entry) absent))) }
 {
-    match absent {
-        None => Ok(None),
-        Some(change) => Ok(Some(answer_request(alloc, moment, request, change)?)),
-    }
+    let absent = answer_request(alloc, moment, request, absent)?;
+    Ok(Decision::Records {
+        entry,
+        stands,
+        absent: Some(absent),
+    })
 }
 
 /// The request that made the transaction and waits for its answer.
@@ -284,12 +292,10 @@ pub fn with_answer(
             absent,
         } => {
             let stands = answer_request(alloc, moment, request, stands)?;
-            let absent = answer_absent(alloc, moment, request, absent)?;
-            Ok(Decision::Records {
-                entry,
-                stands,
-                absent,
-            })
+            match absent {
+                None => Ok(or_undone(entry, stands)),
+                Some(absent) => answer_absent(alloc, moment, request, entry, stands, absent),
+            }
         }
     }
 }

@@ -433,6 +433,7 @@ fn volatile_answered(
 }
 
 /// What follows once every volatile seat has answered.
+#[tactic(auto, unfolding(at_model::specs::Phases::advance_in))]
 fn if_volatile_answered(
     alloc: Global,
     moment: &Moment,
@@ -499,6 +500,7 @@ fn all_committed(
 }
 
 /// What follows once every durable seat has left.
+#[tactic(auto, unfolding(at_model::specs::Phases::advance_in))]
 fn if_all_left(
     alloc: Global,
     moment: &Moment,
@@ -515,6 +517,7 @@ fn if_all_left(
 }
 
 /// Goes on, where what the transaction's phase waits for has come.
+#[tactic(auto, unfolding(at_model::specs::Phases::advance_in))]
 pub fn advance(
     alloc: Global,
     moment: &Moment,
