@@ -20,14 +20,15 @@ use at_base::notice::Kind;
 use at_base::outs::{Effects, OutList, Outs};
 use at_base::target::Target;
 use at_base::text::Text;
-use at_posts::addresses::endpoint_of;
 use at_posts::answers::{accepted, faulted, replied};
 use at_posts::names::{atomic, cannot_create, protocol_of};
 use at_posts::posts::push_register;
 use at_tables::cells::State;
 use by_id::list::{Alteration, MOST};
+use by_id::moves::unchanged;
 use by_id::plan::{Branch, Plan};
 use std::alloc::{AllocError, Global};
+use transaction_at::answer::context_of;
 use transaction_at::transaction::{Link, Phase, Request, Seats, Superior, Transaction};
 
 /// When something expires that came now.
@@ -70,43 +71,16 @@ fn new_root(
     })
 }
 
-/// The context of a transaction (WS-Coordination 1.2, section 2).
-fn context_of(
-    alloc: Global,
-    base: &Text,
-    transaction: &Transaction,
-    expires: Option<u32>,
-) -> Result<Context, AllocError>
-    ensures { IfOk result (λ context. context ≡ context_of base.now transaction.now expires) }
-{
-    let identifier = transaction.identifier.clone()?;
-    let coordination = Text::copied(alloc, atomic())?;
-    let registration = endpoint_of(alloc, base, &Target::Registration(transaction.id))?;
-    Ok(Context {
-        identifier,
-        expires,
-        coordination,
-        registration,
-    })
-}
-
-/// What is sent, with no effect.
-fn silent(alloc: Global, outs: OutList) -> Outs
-    ensures { result ≡ record { outs = outs; effects = [] } }
-{
-    Outs {
-        outs,
-        effects: Effects::from_vec(Vec::new(alloc)),
-    }
-}
-
 /// One transaction more, and this is sent.
 fn added(alloc: Global, transaction: Transaction, outs: OutList) -> Plan<Transaction>
     ensures { result ≡ plans.Plain (added transaction outs) }
 {
     Plan::Plain(Branch {
         change: Alteration::Add(transaction),
-        outs: silent(alloc, outs),
+        outs: Outs {
+            outs,
+            effects: Effects::from_vec(Vec::new(alloc)),
+        },
     })
 }
 
@@ -115,10 +89,7 @@ fn refuse_create(alloc: Global, arrived: &Arrived) -> Result<Plan<Transaction>, 
     ensures { IfOk result (λ plan. plan ≡ created (refuse_create arrived.now)) }
 {
     let outs = faulted(alloc, &arrived.fault, &arrived.id, cannot_create())?;
-    Ok(Plan::Plain(Branch {
-        change: Alteration::Keep,
-        outs: silent(alloc, outs),
-    }))
+    Ok(Plan::Plain(unchanged(alloc, outs)))
 }
 
 /// The answer of a CreateCoordinationContext that made a root.

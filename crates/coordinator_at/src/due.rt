@@ -17,12 +17,12 @@ use at_posts::list::PostList;
 use at_posts::names::protocol_of;
 use at_posts::posts::register_post;
 use at_tables::cells::State;
-use by_id::moves::{Change, Decision, Moving, ignored};
+use by_id::moves::{Change, Decision, Moving};
 use std::alloc::{AllocError, Global};
 use transaction_at::abort::{Reason, abort};
 use transaction_at::due::{Cause, cause_of, unanswered_seat};
 use transaction_at::links::push_upwards;
-use transaction_at::seats::seat_notice;
+use transaction_at::seats::{ignores, seat_notice, sent_now};
 use transaction_at::transaction::{Enlistment, Link, Request, Superior, Transaction};
 
 /// What a seat was asked, once more, where it hasn't answered.
@@ -160,15 +160,6 @@ fn push_again(
     push_seats_again(alloc, posts, moment, transaction.id, seats)
 }
 
-/// A copy of the transaction that sends now.
-fn sent_now(moment: &Moment, transaction: &Transaction) -> Result<Transaction, AllocError>
-    ensures { IfOk result (λ next. next ≡ sent_now moment.entry.now transaction.now) }
-{
-    let mut next = transaction.clone()?;
-    next.sent = Some(moment.now);
-    Ok(next)
-}
-
 /// The transaction sends again.
 fn sends_again(
     alloc: Global,
@@ -214,7 +205,7 @@ fn reaches(
         Cause::Expired => Ok(Decision::Goes(expires(alloc, moment, transaction)?)),
         Cause::Over => Ok(Decision::Goes(Moving::begin(alloc, transaction.clone()?).forgotten())),
         Cause::Unanswered => Ok(Decision::Goes(sends_again(alloc, moment, transaction)?)),
-        Cause::Nothing => Ok(ignored(alloc, transaction.clone()?)),
+        Cause::Nothing => ignores(alloc, transaction),
     }
 }
 
