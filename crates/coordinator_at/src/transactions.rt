@@ -141,8 +141,9 @@ fn completion_arrived(
 {
     match &transaction.completion {
         Some(completion) => {
+            let answer = accepted(alloc)?;
             let decision = on_completion(alloc, moment, arrived, transaction, completion)?;
-            moved(alloc, moment, accepted(alloc)?, transaction, decision)
+            moved(alloc, moment, answer, transaction, decision)
         }
         None => Ok(nothing(alloc)),
     }
@@ -197,8 +198,9 @@ fn seat_arrived(
 {
     match found {
         Some(seat) => {
+            let answer = accepted(alloc)?;
             let decision = on_seat(alloc, moment, arrived, transaction, seat)?;
-            moved(alloc, moment, accepted(alloc)?, transaction, decision)
+            moved(alloc, moment, answer, transaction, decision)
         }
         None => Ok(nothing(alloc)),
     }
@@ -239,8 +241,9 @@ fn link_arrived(
 {
     match &transaction.superior {
         Some(superior) => {
+            let answer = accepted(alloc)?;
             let decision = on_link(alloc, moment, arrived, kind, transaction, superior)?;
-            moved(alloc, moment, accepted(alloc)?, transaction, decision)
+            moved(alloc, moment, answer, transaction, decision)
         }
         None => Ok(nothing(alloc)),
     }
