@@ -1,5 +1,5 @@
 -- The plan of the transactions is the model's plan of the whole book, at each event that moves or makes a transaction.
-use Rattle.std.specs.Prelude.{ℕ, List, Some, None, ◌+◌, ◌≡◌, IsTrue, is_some}
+use Rattle.std.specs.Prelude.{ℕ, Some, ◌+◌, ◌≡◌, IsTrue, is_some}
 use Rattle.at_base.specs.declared.message.Message.{Message}
 use Rattle.at_base.specs.declared.message.Message.TheVariants as messages
 use Rattle.at_base.specs.declared.target.Target.{Target}
