@@ -1,9 +1,10 @@
 //! How a subordinate's CreateCoordinationContext is answered (WS-Coordination 1.2, section 3.1): with the context once
 //! neither link is Registering, with CannotCreateContext where the subordinate ended before.
 
-ghost use Rattle.std.specs.Prelude.{◌≡◌, ◌++◌, ◌∷◌, [], IfOk, OnOk, Some, None, option_copied};
+ghost use Rattle.std.specs.Prelude.{◌≡◌, ◌++◌, ◌∷◌, [], List, IfOk, OnOk, Some, None, if◌then◌else◌, option_copied, option_map};
 ghost use Rattle.at_base.specs.declared.message.Message.TheVariants as messages;
 ghost use Rattle.at_model.specs.Arrivals.{answer_request, context_of, refused_request, request_answered, request_left, request_of, request_stands, request_under, with_answer};
+ghost use Rattle.at_base.specs.declared.outs.Effect.{Effect};
 ghost use Rattle.at_model.specs.Book.{Phase as Stage};
 ghost use Rattle.at_model.specs.Moves.{Records};
 ghost use Rattle.at_model.specs.Posts.{reply_post};
@@ -15,8 +16,7 @@ use crate::phases::or_undone;
 use crate::transaction::{Phase, Request, Superior, Transaction};
 use at_base::epr::Reply;
 use at_base::event::Moment;
-use at_base::message::{Context, Message, cloned_option};
-use at_base::outs::Effects;
+use at_base::message::{Context, Message};
 use at_base::record::Record;
 use at_base::target::Target;
 use at_base::text::Text;
@@ -80,86 +80,62 @@ fn push_created(
     posts.push(reply_post(Some(to), &request.id, Message::CreateResponse(context))?)
 }
 
-/// The transaction under this superior, whose request is answered.
-fn answered_under(mut superior: Superior, mut transaction: Transaction) -> Transaction
-    ensures { result ≡ under (request_answered superior) transaction }
+/// The transaction's own request is answered.
+fn set_answered(transaction: &mut Transaction)
+    ensures { transaction.new ≡ record transaction.old { superior = option_map request_answered transaction.old.superior } }
 {
-    superior.request = None;
-    transaction.superior = Some(superior);
-    transaction
+    if let Some(superior) = &mut transaction.superior {
+        superior.request = None;
+    }
 }
 
-/// The answer, where the transaction stays under this superior.
-fn request_stands(
+/// Adds the answer of a request that the transaction, which isn't Aborting, can give by now; whether it does.
+fn push_ready(
     alloc: Global,
     moment: &Moment,
     request: &Request,
-    superior: Superior,
-    transaction: Transaction,
-    mut posts: PostList,
-    effects: Effects,
-) -> Result<Change<Transaction>, AllocError>
-    ensures { IfOk result
-        (λ change. change
-        ≡ request_stands moment.entry.now request.now transaction superior transaction.phase
-        (record { item = Some transaction; posts = posts; effects = effects })) }
+    superior: &Superior,
+    transaction: &Transaction,
+    posts: &mut PostList,
+) -> Result<bool, AllocError>
+    ensures { (effects : List Effect) → IfOk result
+        (λ yes. record { item = Some (if yes then under (request_answered superior.now) transaction.now else transaction.now); posts = posts.new; effects = effects }
+        ≡ request_stands moment.entry.now request.now transaction.now superior.now Stage.Active
+        (record { item = Some transaction.now; posts = posts.old; effects = effects })) }
+{
+    if is_registering(superior) {
+        return Ok(false);
+    }
+    push_created(alloc, posts, moment, request, transaction)?;
+    Ok(true)
+}
+
+/// Adds the answer of a request, where the transaction can give it by now; whether it does.
+fn push_answer(
+    alloc: Global,
+    moment: &Moment,
+    request: &Request,
+    superior: &Superior,
+    transaction: &Transaction,
+    posts: &mut PostList,
+) -> Result<bool, AllocError>
+    ensures { (effects : List Effect) → IfOk result
+        (λ yes. record { item = Some (if yes then under (request_answered superior.now) transaction.now else transaction.now); posts = posts.new; effects = effects }
+        ≡ request_stands moment.entry.now request.now transaction.now superior.now transaction.now.phase
+        (record { item = Some transaction.now; posts = posts.old; effects = effects })) }
 {
     match transaction.phase {
         Phase::Aborting => {
-            push_refused(alloc, &mut posts, request)?;
-            let item = Some(answered_under(superior, transaction));
-            Ok(Change {
-                item,
-                posts,
-                effects,
-            })
+            push_refused(alloc, posts, request)?;
+            Ok(true)
         }
         Phase::Registering
         | Phase::Active
         | Phase::Volatile
         | Phase::Durable
         | Phase::Voted
-        | Phase::Committing => request_ready(
-            alloc,
-            moment,
-            request,
-            superior,
-            transaction,
-            posts,
-            effects,
-        ),
+        | Phase::Committing => push_ready(alloc, moment, request, superior, transaction, posts),
     }
-}
-
-/// The answer, where the transaction isn't Aborting.
-fn request_ready(
-    alloc: Global,
-    moment: &Moment,
-    request: &Request,
-    superior: Superior,
-    transaction: Transaction,
-    mut posts: PostList,
-    effects: Effects,
-) -> Result<Change<Transaction>, AllocError>
-    ensures { IfOk result
-        (λ change. change
-        ≡ request_stands moment.entry.now request.now transaction superior Stage.Active
-        (record { item = Some transaction; posts = posts; effects = effects })) }
-{
-    if is_registering(&superior) {
-        return Ok(Change {
-            item: Some(transaction),
-            posts,
-            effects,
-        });
-    }
-    push_created(alloc, &mut posts, moment, request, &transaction)?;
-    let item = Some(answered_under(superior, transaction));
-    Ok(Change {
-        item,
-        posts,
-        effects,
-    })
 }
 
 /// The answer, where the transaction stays.
@@ -167,32 +143,22 @@ fn request_under(
     alloc: Global,
     moment: &Moment,
     request: &Request,
-    transaction: Transaction,
-    posts: PostList,
-    effects: Effects,
-) -> Result<Change<Transaction>, AllocError>
-    ensures { IfOk result
-        (λ change. change
-        ≡ request_under moment.entry.now request.now transaction transaction.superior
-        (record { item = Some transaction; posts = posts; effects = effects })) }
+    transaction: &mut Transaction,
+    posts: &mut PostList,
+) -> Result<(), AllocError>
+    ensures { (effects : List Effect) → OnOk result
+        (record { item = Some transaction.new; posts = posts.new; effects = effects }
+        ≡ request_under moment.entry.now request.now transaction.old transaction.old.superior
+        (record { item = Some transaction.old; posts = posts.old; effects = effects })) }
 {
-    let superior = cloned_option(&transaction.superior)?;
-    match superior {
-        None => Ok(Change {
-            item: Some(transaction),
-            posts,
-            effects,
-        }),
-        Some(superior) => request_stands(
-            alloc,
-            moment,
-            request,
-            superior,
-            transaction,
-            posts,
-            effects,
-        ),
+    let now = &*transaction;
+    let Some(superior) = &now.superior else {
+        return Ok(());
+    };
+    if push_answer(alloc, moment, request, superior, now, posts)? {
+        set_answered(transaction);
     }
+    Ok(())
 }
 
 /// The answer of a request, behind what is posted.
@@ -200,26 +166,13 @@ fn request_left(
     alloc: Global,
     moment: &Moment,
     request: &Request,
-    change: Change<Transaction>,
-) -> Result<Change<Transaction>, AllocError>
-    ensures { IfOk result
-        (λ next. next ≡ request_left moment.entry.now request.now change.item change) }
+    change: &mut Change<Transaction>,
+) -> Result<(), AllocError>
+    ensures { OnOk result (change.new ≡ request_left moment.entry.now request.now change.old.item change.old) }
 {
-    let Change {
-        item,
-        mut posts,
-        effects,
-    } = change;
-    match item {
-        None => {
-            push_refused(alloc, &mut posts, request)?;
-            Ok(Change {
-                item: None,
-                posts,
-                effects,
-            })
-        }
-        Some(transaction) => request_under(alloc, moment, request, transaction, posts, effects),
+    match &mut change.item {
+        None => push_refused(alloc, &mut change.posts, request),
+        Some(transaction) => request_under(alloc, moment, request, transaction, &mut change.posts),
     }
 }
 
@@ -228,14 +181,17 @@ fn answer_request(
     alloc: Global,
     moment: &Moment,
     request: Option<&Request>,
-    change: Change<Transaction>,
+    mut change: Change<Transaction>,
 ) -> Result<Change<Transaction>, AllocError>
     ensures { IfOk result
         (λ next. next ≡ answer_request moment.entry.now (option_copied request.entry) change) }
 {
     match request {
         None => Ok(change),
-        Some(request) => request_left(alloc, moment, request, change),
+        Some(request) => {
+            request_left(alloc, moment, request, &mut change)?;
+            Ok(change)
+        }
     }
 }
 

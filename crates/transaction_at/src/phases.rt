@@ -113,13 +113,6 @@ fn id_of(moving: &Moving<Transaction>) -> Id
     moving.item.id
 }
 
-/// The endpoint of the superior's durable seat, once that is known.
-fn coordinator_of(superior: &Superior) -> Result<Option<Epr>, AllocError>
-    ensures { IfOk result (λ epr. epr ≡ superior.now.durable.coordinator) }
-{
-    cloned_option(&superior.durable.coordinator)
-}
-
 /// The durable seats that voted Prepared, as a record has them.
 fn prepared_in(alloc: Global, moving: &Moving<Transaction>) -> Result<Seats, AllocError>
     ensures { IfOk result (λ seats. seats ≡ prepared moving.now.item.seats) }
@@ -158,15 +151,24 @@ fn vote(moment: &Moment, transaction: &mut Transaction, superior: Superior)
     transaction.sent = Some(moment.now);
 }
 
+/// A copy of the superior whose durable link voted Prepared.
+fn voted_superior(superior: &Superior) -> Result<Superior, AllocError>
+    ensures { IfOk result (λ next. next ≡ link_in kinds.Durable states.PreparedSuccess superior.now) }
+{
+    let mut next = superior.clone()?;
+    next.move_link(Kind::Durable, State::PreparedSuccess);
+    Ok(next)
+}
+
 /// A subordinate's vote: Prepared upwards.
 #[tactic(auto, unfolding(at_model::specs::Phases::voted))]
-fn voted(
+fn vote_upwards(
     alloc: Global,
     moment: &Moment,
-    mut superior: Superior,
-    mut moving: Moving<Transaction>,
-) -> Result<Moving<Transaction>, AllocError>
-    ensures { IfOk result (λ moved. moved ≡ voted moment.entry.now superior moving) }
+    superior: &Superior,
+    moving: &mut Moving<Transaction>,
+) -> Result<(), AllocError>
+    ensures { OnOk result (moving.new ≡ voted moment.entry.now superior.now moving.old) }
 {
     push_upwards(
         alloc,
@@ -177,9 +179,23 @@ fn voted(
         Notice::Prepared,
         &superior.durable,
     )?;
-    superior.move_link(Kind::Durable, State::PreparedSuccess);
-    vote(moment, &mut moving.item, superior);
-    Ok(moving)
+    let next = voted_superior(superior)?;
+    vote(moment, &mut moving.item, next);
+    Ok(())
+}
+
+/// The vote that is done where its record stands.
+fn standing_vote(
+    alloc: Global,
+    moment: &Moment,
+    superior: &Superior,
+    moving: &Moving<Transaction>,
+) -> Result<Change<Transaction>, AllocError>
+    ensures { IfOk result (λ change. change ≡ stays (voted moment.entry.now superior.now moving.now)) }
+{
+    let mut moving = moving.branch()?;
+    vote_upwards(alloc, moment, superior, &mut moving)?;
+    Ok(moving.stays())
 }
 
 /// A subordinate with no seat Prepared votes ReadOnly, and is forgotten.
@@ -205,32 +221,22 @@ fn votes_read_only(
     Ok(Decision::Goes(moving.forgotten()))
 }
 
-/// A subordinate's vote behind its record.
-fn votes(
+/// The record of a subordinate's vote.
+fn vote_record(
     alloc: Global,
-    moment: &Moment,
-    superior: Superior,
-    coordinator: Epr,
-    moving: Moving<Transaction>,
-    seats: Seats,
-    absent: Change<Transaction>,
-) -> Result<Decision<Transaction>, AllocError>
+    coordinator: &Epr,
+    moving: &Moving<Transaction>,
+) -> Result<Record, AllocError>
     ensures { IfOk result
-        (λ decision. decision_of decision
-        ≡ Records (records.Voted moving.item.id coordinator seats)
-        (stays (voted moment.entry.now superior moving))
-        (Some absent)) }
+        (λ entry. entry ≡ records.Voted moving.now.item.id coordinator.now (prepared moving.now.item.seats)) }
 {
-    let id = id_of(&moving);
-    let stands = voted(alloc, moment, superior, moving)?.stays();
-    Ok(Decision::Records {
-        entry: Record::Voted {
-            id,
-            superior: coordinator,
-            seats,
-        },
-        stands,
-        absent: Some(absent),
+    let id = id_of(moving);
+    let seats = prepared_in(alloc, moving)?;
+    let superior = coordinator.clone()?;
+    Ok(Record::Voted {
+        id,
+        superior,
+        seats,
     })
 }
 
@@ -238,19 +244,24 @@ fn votes(
 fn records_vote(
     alloc: Global,
     moment: &Moment,
-    superior: Superior,
-    coordinator: Epr,
-    moving: Moving<Transaction>,
+    superior: &Superior,
+    coordinator: &Epr,
+    moving: &Moving<Transaction>,
 ) -> Result<Decision<Transaction>, AllocError>
     ensures { IfOk result
         (λ decision. decision_of decision
-        ≡ Records (records.Voted moving.item.id coordinator (prepared moving.item.seats))
-        (stays (voted moment.entry.now superior moving))
-        (Some (abort moment.entry.now Alone moving))) }
+        ≡ Records (records.Voted moving.now.item.id coordinator.now (prepared moving.now.item.seats))
+        (stays (voted moment.entry.now superior.now moving.now))
+        (Some (abort moment.entry.now Alone moving.now))) }
 {
-    let seats = prepared_in(alloc, &moving)?;
-    let absent = absent_abort(alloc, moment, &moving)?;
-    votes(alloc, moment, superior, coordinator, moving, seats, absent)
+    let stands = standing_vote(alloc, moment, superior, moving)?;
+    let absent = absent_abort(alloc, moment, moving)?;
+    let entry = vote_record(alloc, coordinator, moving)?;
+    Ok(Decision::Records {
+        entry,
+        stands,
+        absent: Some(absent),
+    })
 }
 
 /// Every durable seat of a subordinate has answered: it votes, or aborts where it knows no superior to tell.
@@ -258,23 +269,20 @@ fn records_vote(
 fn sub_answered(
     alloc: Global,
     moment: &Moment,
-    superior: Superior,
+    superior: &Superior,
     moving: Moving<Transaction>,
 ) -> Result<Decision<Transaction>, AllocError>
     ensures { IfOk result
         (λ decision. decision_of decision
-        ≡ sub_answered moment.entry.now superior superior.durable.coordinator moving) }
+        ≡ sub_answered moment.entry.now superior.now superior.now.durable.coordinator moving) }
 {
-    let coordinator = coordinator_of(&superior)?;
-    match coordinator {
-        None => aborts(alloc, moment, moving),
-        Some(coordinator) => {
-            if has_prepared(moving.item.seats.as_slice()) {
-                records_vote(alloc, moment, superior, coordinator, moving)
-            } else {
-                votes_read_only(alloc, moment, &superior, moving)
-            }
-        }
+    let Some(coordinator) = &superior.durable.coordinator else {
+        return aborts(alloc, moment, moving);
+    };
+    if has_prepared(moving.item.seats.as_slice()) {
+        records_vote(alloc, moment, superior, coordinator, &moving)
+    } else {
+        votes_read_only(alloc, moment, superior, moving)
     }
 }
 
@@ -301,7 +309,7 @@ fn durable_answered(
     let superior = cloned_option(&moving.item.superior)?;
     match superior {
         None => root_answered(alloc, moment, moving),
-        Some(superior) => sub_answered(alloc, moment, superior, moving),
+        Some(superior) => sub_answered(alloc, moment, &superior, moving),
     }
 }
 
