@@ -1,10 +1,9 @@
 //! CreateCoordinationContext: new transactions, roots and subordinates (WS-Coordination 1.2, section 3.1).
 
-ghost use Rattle.std.specs.Prelude.{◌≡◌, ◌++◌, ◌∷◌, ◌&&◌, IfOk, OnOk, [], Some, None, nat_lt, bytes_eq};
+ghost use Rattle.std.specs.Prelude.{◌≡◌, ◌++◌, ◌∷◌, ◌&&◌, IfOk, OnOk, [], nat_lt, bytes_eq};
 ghost use Rattle.at_base.specs.declared.message.Message.TheVariants as messages;
 ghost use Rattle.at_base.specs.declared.outs.Out.TheVariants as outcome;
-ghost use Rattle.at_base.specs.declared.target.Target.TheVariants as targets;
-ghost use Rattle.at_model.specs.Addresses.{atomic, or_else};
+ghost use Rattle.at_model.specs.Addresses.{atomic};
 ghost use Rattle.at_model.specs.Arrivals.{context_of};
 ghost use Rattle.at_model.specs.Create.{deadline_of, identifier_of, new_root, expires_under, new_link, new_subordinate, link_register, subordinate_posts, refuse_create, create_root, create_under, create_in, on_create};
 ghost use Rattle.at_model.specs.Posts.{accepted, replied};

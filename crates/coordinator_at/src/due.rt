@@ -1,7 +1,7 @@
 //! What a transaction does by itself: it expires, it is forgotten, and it sends again (WS-Coordination 1.2, section 2.1;
 //! this project's profile).
 
-ghost use Rattle.std.specs.Prelude.{◌≡◌, ◌++◌, IfOk, OnOk, Some, None};
+ghost use Rattle.std.specs.Prelude.{◌≡◌, ◌++◌, IfOk, OnOk};
 ghost use Rattle.at_model.specs.Abort.{abort, Alone};
 ghost use Rattle.at_model.specs.Due.{seat_again, seats_again, unanswered_seat, register_again_at, link_again, links_again, transaction_again, transaction_due, transaction_reached};
 ghost use Rattle.at_model.specs.Moves.{begin, posts, stays};

@@ -2,7 +2,6 @@
 
 ghost use Rattle.std.specs.Prelude.{◌≡◌, ◌<◌, ◌++◌, ◌&&◌, if◌then◌else◌, IfOk, OnOk, Some, None, find, length, nat_lt, option_copied, option_map, is_none};
 ghost use Rattle.at_model.specs.Book.{is_epr};
-ghost use Rattle.at_model.specs.Seats.{seat_target};
 ghost use Rattle.at_model.specs.Posts.{invalid_protocol, invalid_parameters, cannot_register};
 ghost use Rattle.at_model.specs.Register.{protocol_named, seat_endpoint, completion_endpoint, seat_for, accepts, may_complete, may_register, registered_reply, is_late, new_seat, late_prepare, with_seat, accept_seat, accept, refuse_register, register_new, register_again, held_seat, on_register, register_unknown};
 ghost use Rattle.at_tables.specs.Names.{is_kind};

@@ -1,8 +1,7 @@
 //! The live transactions of a node: planned first, and then done.
 
-ghost use Rattle.std.specs.Prelude.{◌≡◌, ◌∷◌, ◌++◌, ◌&&◌, IfOk, OnOk, [], Some, None, find, length, nat_eq, option_copied};
+ghost use Rattle.std.specs.Prelude.{◌≡◌, ◌∷◌, ◌++◌, ◌&&◌, IfOk, OnOk, [], length, nat_eq, option_copied};
 ghost use Rattle.at_model.specs.Book.{find_by, transaction_id};
-ghost use Rattle.at_model.specs.Posts.{accepted};
 ghost use Rattle.at_model.specs.Due.{transaction_due};
 ghost use Rattle.at_model.specs.Step.{find_seat, is_reached};
 ghost use Rattle.at_tables.specs.Names.{is_kind};
