@@ -1,3 +1,4 @@
+pub mod Causes
 pub mod Groups
 pub mod PhaseNames
 pub mod Reasons

@@ -6,6 +6,7 @@ pub mod answer;
 pub mod at_completion;
 pub mod at_link;
 pub mod at_seat;
+pub mod due;
 pub mod links;
 pub mod phases;
 pub mod seats;

@@ -1,0 +1,4 @@
+pub mod Creating
+pub mod Planning
+pub mod Registering
+pub mod Whole

@@ -1,0 +1,10 @@
+//! A node's transactions: how they are made, which participants they accept, what they do by themselves, and what each
+//! event does to them.
+#![tactic(auto)]
+
+pub mod create;
+pub mod due;
+pub mod register;
+#[cfg(test)]
+mod tests;
+pub mod transactions;

@@ -1,0 +1,514 @@
+//! Register: which participants a transaction accepts, and what it answers (WS-Coordination 1.2, section 3.2).
+
+ghost use Rattle.std.specs.Prelude.{◌≡◌, ◌<◌, ◌++◌, ◌&&◌, if◌then◌else◌, IfOk, OnOk, Some, None, find, length, nat_lt, option_copied, option_map, is_none};
+ghost use Rattle.at_model.specs.Book.{is_epr};
+ghost use Rattle.at_model.specs.Posts.{invalid_protocol, invalid_parameters, cannot_register};
+ghost use Rattle.at_model.specs.Register.{protocol_named, seat_endpoint, completion_endpoint, seat_for, accepts, may_complete, may_register, registered_reply, is_late, new_seat, late_prepare, with_seat, accept_seat, accept, refuse_register, register_new, register_again, held_seat, on_register, register_unknown};
+ghost use Rattle.at_tables.specs.Names.{is_kind};
+ghost use Rattle.at_tables.specs.declared.cells.State.TheVariants as states;
+ghost use Rattle.coordinator_at.specs.Registering.{given_anew, registered};
+ghost use Rattle.transaction_at.specs.PhaseNames.{phase_of};
+
+use at_base::epr::Epr;
+use at_base::event::{Arrived, Moment};
+use at_base::id::Id;
+use at_base::message::{Message, Register};
+use at_base::notice::{Kind, Notice};
+use at_base::outs::{Effects, OutList, Outs};
+use at_base::target::Target;
+use at_base::text::Text;
+use at_posts::addresses::endpoint_of;
+use at_posts::answers::{faulted, replied};
+use at_posts::names::{
+    cannot_register, completion_protocol, invalid_parameters, invalid_protocol, protocol_of,
+};
+use at_posts::posts::push_notice;
+use at_tables::cells::State;
+use by_id::list::Alteration;
+use by_id::plan::{Branch, Plan};
+use std::alloc::{AllocError, Global};
+use transaction_at::seats::{is_kind, seat_target};
+use transaction_at::transaction::{Completion, Enlistment, Phase, Transaction};
+
+/// How many seats a transaction has at most.
+pub const MOST_SEATS: usize = 64;
+
+/// What a Register asks for: a seat of a kind, or none for Completion (WS-AtomicTransaction 1.2, section 3).
+pub type Protocol = Option<Kind>;
+
+/// The protocol of an identifier, or none where it is unknown.
+fn protocol_named(name: &Text) -> Option<Protocol>
+    ensures { result ≡ protocol_named name.now }
+{
+    if name.as_str() == protocol_of(Kind::Volatile) {
+        Some(Some(Kind::Volatile))
+    } else if name.as_str() == protocol_of(Kind::Durable) {
+        Some(Some(Kind::Durable))
+    } else if name.as_str() == completion_protocol() {
+        Some(None)
+    } else {
+        None
+    }
+}
+
+/// Whether two endpoints are the same.
+fn is_same(a: &Epr, b: &Epr) -> bool
+    ensures { result ≡ is_epr a.now b.now }
+{
+    a.address.as_str() == b.address.as_str() && a.params.as_str() == b.params.as_str()
+}
+
+/// Whether a seat is this endpoint's, for this kind.
+fn is_held(seat: &Enlistment, kind: Kind, participant: &Epr) -> bool
+    ensures { result ≡ (is_kind seat.now.kind kind && is_epr seat.now.participant participant.now) }
+{
+    is_kind(seat.kind, kind) && is_same(&seat.participant, participant)
+}
+
+/// The seat that an endpoint has for this kind.
+fn seat_of<'a>(seats: &'a [Enlistment], kind: Kind, participant: &Epr) -> Option<&'a Enlistment>
+    ensures { option_copied result
+        ≡ find (λ s. is_kind s.kind kind && is_epr s.participant participant.now) seats.entry.now }
+{
+    for seat in seats {
+        if is_held(seat, kind, participant) {
+            return Some(seat);
+        }
+    }
+    None
+}
+
+/// The endpoint of the coordinator for a seat.
+fn seat_endpoint(alloc: Global, base: &Text, id: Id, seat: &Enlistment) -> Result<Epr, AllocError>
+    ensures { IfOk result (λ epr. epr ≡ seat_endpoint base.now id seat.now) }
+{
+    endpoint_of(alloc, base, &seat_target(id, seat))
+}
+
+/// The endpoint of the coordinator for the completion seat.
+fn completion_endpoint(alloc: Global, base: &Text, id: Id) -> Result<Epr, AllocError>
+    ensures { IfOk result (λ epr. epr ≡ completion_endpoint base.now id) }
+{
+    endpoint_of(alloc, base, &Target::Completion(id))
+}
+
+/// The coordinator's endpoint of the completion seat, where an endpoint has it.
+fn completion_for(
+    alloc: Global,
+    moment: &Moment,
+    transaction: &Transaction,
+    participant: &Epr,
+) -> Result<Option<Epr>, AllocError>
+    ensures { IfOk result
+        (λ held. held
+        ≡ seat_for moment.entry.now.base transaction.now.id participant.now None transaction.now.seats
+        transaction.now.completion) }
+{
+    match &transaction.completion {
+        Some(completion) if is_same(&completion.initiator, participant) => Ok(Some(
+            completion_endpoint(alloc, &moment.base, transaction.id)?,
+        )),
+        _ => Ok(None),
+    }
+}
+
+/// The coordinator's endpoint of a seat that was found.
+fn found_endpoint(
+    alloc: Global,
+    moment: &Moment,
+    id: Id,
+    found: Option<&Enlistment>,
+) -> Result<Option<Epr>, AllocError>
+    ensures { IfOk result
+        (λ held. held ≡ option_map (seat_endpoint moment.entry.now.base id) (option_copied found.entry)) }
+{
+    match found {
+        Some(seat) => Ok(Some(seat_endpoint(alloc, &moment.base, id, seat)?)),
+        None => Ok(None),
+    }
+}
+
+/// The coordinator's endpoint of the seat that an endpoint has for a protocol, also where it has left.
+fn seat_for(
+    alloc: Global,
+    moment: &Moment,
+    transaction: &Transaction,
+    participant: &Epr,
+    protocol: Protocol,
+) -> Result<Option<Epr>, AllocError>
+    ensures { IfOk result
+        (λ held. held
+        ≡ seat_for moment.entry.now.base transaction.now.id participant.now protocol transaction.now.seats
+        transaction.now.completion) }
+{
+    match protocol {
+        Some(kind) => {
+            let found = seat_of(transaction.seats.as_slice(), kind, participant);
+            found_endpoint(alloc, moment, transaction.id, found)
+        }
+        None => completion_for(alloc, moment, transaction, participant),
+    }
+}
+
+/// Whether a new participant is accepted in this phase: until the durable ones are asked.
+fn accepts(phase: Phase) -> bool
+    ensures { result ≡ accepts (phase_of phase) }
+{
+    match phase {
+        Phase::Active | Phase::Volatile => true,
+        Phase::Registering | Phase::Durable | Phase::Voted | Phase::Committing | Phase::Aborting =>
+            false,
+    }
+}
+
+/// Whether Completion is for this transaction: a root that has no initiator yet (WS-AtomicTransaction 1.2, section
+/// 3.2).
+fn may_complete(transaction: &Transaction, protocol: Protocol) -> bool
+    ensures { result ≡ may_complete transaction.now protocol }
+{
+    match protocol {
+        Some(_) => true,
+        None => transaction.superior.is_none() && transaction.completion.is_none(),
+    }
+}
+
+/// Whether a seat is left.
+fn has_room(transaction: &Transaction) -> bool
+    ensures { result ≡ nat_lt (length transaction.now.seats) 64 }
+{
+    transaction.seats.as_slice().len() < MOST_SEATS
+}
+
+/// Whether a transaction takes a new participant, or an initiator.
+fn may_register(transaction: &Transaction, protocol: Protocol) -> bool
+    ensures { result ≡ may_register transaction.now protocol }
+{
+    accepts(transaction.phase) && has_room(transaction) && may_complete(transaction, protocol)
+}
+
+/// Whether a participant registers while the volatile ones are asked, and is one of them.
+fn is_late(phase: Phase, kind: Kind) -> bool
+    ensures { result ≡ is_late (phase_of phase) kind }
+{
+    match (phase, kind) {
+        (Phase::Volatile, Kind::Volatile) => true,
+        _ => false,
+    }
+}
+
+/// The state of a new seat.
+fn first_state(phase: Phase, kind: Kind) -> State
+    ensures { result ≡ (if is_late (phase_of phase) kind then states.Preparing else states.Active) }
+{
+    if is_late(phase, kind) {
+        State::Preparing
+    } else {
+        State::Active
+    }
+}
+
+/// The seat of a new participant.
+fn new_seat(
+    transaction: &Transaction,
+    participant: &Epr,
+    kind: Kind,
+) -> Result<Enlistment, AllocError>
+    requires { length transaction.now.seats < 64 }
+    ensures { IfOk result (λ seat. seat ≡ new_seat transaction.now participant.now kind) }
+{
+    let participant = participant.clone()?;
+    Ok(Enlistment {
+        number: transaction.seats.as_slice().len() as u16 + 1,
+        kind,
+        participant,
+        state: first_state(transaction.phase, kind),
+    })
+}
+
+/// The transaction with one seat more.
+fn with_seat(
+    moment: &Moment,
+    transaction: &Transaction,
+    seat: &Enlistment,
+) -> Result<Transaction, AllocError>
+    ensures { IfOk result (λ next. next ≡ with_seat moment.entry.now transaction.now seat.now) }
+{
+    let mut next = transaction.clone()?;
+    next.seats.push(seat.clone()?)?;
+    if is_late(transaction.phase, seat.kind) {
+        next.sent = Some(moment.now);
+    }
+    Ok(next)
+}
+
+/// The answer of a Register, with the coordinator's endpoint.
+fn registered_reply(
+    alloc: Global,
+    arrived: &Arrived,
+    coordinator: Epr,
+) -> Result<OutList, AllocError>
+    ensures { IfOk result (λ outs. outs ≡ registered_reply arrived.now coordinator) }
+{
+    replied(
+        alloc,
+        &arrived.reply,
+        &arrived.id,
+        Message::RegisterResponse(coordinator),
+    )
+}
+
+/// Prepare to a participant that registered late.
+fn push_late(
+    alloc: Global,
+    outs: &mut OutList,
+    moment: &Moment,
+    transaction: &Transaction,
+    seat: &Enlistment,
+) -> Result<(), AllocError>
+    ensures { OnOk result
+        (outs.new
+        ≡ outs.old
+        ++ late_prepare moment.entry.now transaction.now.id (is_late transaction.now.phase seat.now.kind) seat.now) }
+{
+    if is_late(transaction.phase, seat.kind) {
+        let own = seat_target(transaction.id, seat);
+        push_notice(
+            alloc,
+            outs,
+            &moment.base,
+            &own,
+            &seat.participant,
+            Notice::Prepare,
+        )?;
+    }
+    Ok(())
+}
+
+/// The transaction is given anew, and this is sent.
+fn given_anew(alloc: Global, transaction: Transaction, outs: OutList) -> Plan<Transaction>
+    ensures { result ≡ given_anew transaction outs }
+{
+    Plan::Plain(Branch {
+        change: Alteration::Put {
+            id: transaction.id,
+            item: Some(transaction),
+        },
+        outs: Outs {
+            outs,
+            effects: Effects::from_vec(Vec::new(alloc)),
+        },
+    })
+}
+
+/// Accepts a participant in this seat.
+fn accept_seat(
+    alloc: Global,
+    moment: &Moment,
+    arrived: &Arrived,
+    transaction: &Transaction,
+    seat: &Enlistment,
+) -> Result<Plan<Transaction>, AllocError>
+    ensures { IfOk result
+        (λ plan. plan ≡ registered (accept_seat moment.entry.now arrived.now transaction.now seat.now)) }
+{
+    let coordinator = seat_endpoint(alloc, &moment.base, transaction.id, seat)?;
+    let mut outs = registered_reply(alloc, arrived, coordinator)?;
+    push_late(alloc, &mut outs, moment, transaction, seat)?;
+    let next = with_seat(moment, transaction, seat)?;
+    Ok(given_anew(alloc, next, outs))
+}
+
+/// The transaction with its initiator.
+fn with_initiator(transaction: &Transaction, initiator: &Epr) -> Result<Transaction, AllocError>
+    ensures { IfOk result
+        (λ next. next
+        ≡ record transaction.now {
+          completion = Some (record { initiator = initiator.now; state = states.Active });
+        }) }
+{
+    let initiator = initiator.clone()?;
+    let mut next = transaction.clone()?;
+    next.completion = Some(Completion {
+        initiator,
+        state: State::Active,
+    });
+    Ok(next)
+}
+
+/// Accepts an initiator.
+#[tactic(auto, unfolding(at_model::specs::Register::accept))]
+fn accept_initiator(
+    alloc: Global,
+    moment: &Moment,
+    arrived: &Arrived,
+    transaction: &Transaction,
+    initiator: &Epr,
+) -> Result<Plan<Transaction>, AllocError>
+    ensures { IfOk result
+        (λ plan. plan
+        ≡ registered (accept moment.entry.now arrived.now transaction.now initiator.now None)) }
+{
+    let coordinator = completion_endpoint(alloc, &moment.base, transaction.id)?;
+    let outs = registered_reply(alloc, arrived, coordinator)?;
+    let next = with_initiator(transaction, initiator)?;
+    Ok(given_anew(alloc, next, outs))
+}
+
+/// Accepts a participant, or an initiator.
+#[tactic(auto, unfolding(at_model::specs::Register::accept))]
+fn accept(
+    alloc: Global,
+    moment: &Moment,
+    arrived: &Arrived,
+    transaction: &Transaction,
+    participant: &Epr,
+    protocol: Protocol,
+) -> Result<Plan<Transaction>, AllocError>
+    requires { length transaction.now.seats < 64 }
+    ensures { IfOk result
+        (λ plan. plan
+        ≡ registered
+        (accept moment.entry.now arrived.now transaction.now participant.now protocol)) }
+{
+    match protocol {
+        Some(kind) => {
+            let seat = new_seat(transaction, participant, kind)?;
+            accept_seat(alloc, moment, arrived, transaction, &seat)
+        }
+        None => accept_initiator(alloc, moment, arrived, transaction, participant),
+    }
+}
+
+/// A Register is refused with this fault, and changes nothing.
+fn refuse_register(
+    alloc: Global,
+    arrived: &Arrived,
+    transaction: &Transaction,
+    name: &str,
+) -> Result<Plan<Transaction>, AllocError>
+    ensures { IfOk result (λ plan. plan ≡ registered (refuse_register arrived.now transaction.now name.now)) }
+{
+    let outs = faulted(alloc, &arrived.fault, &arrived.id, name)?;
+    let same = transaction.clone()?;
+    Ok(given_anew(alloc, same, outs))
+}
+
+/// A Register that isn't repeated.
+#[tactic(auto, unfolding(at_model::specs::Register::register_new))]
+fn register_new(
+    alloc: Global,
+    moment: &Moment,
+    arrived: &Arrived,
+    register: &Register,
+    transaction: &Transaction,
+    protocol: Option<Protocol>,
+) -> Result<Plan<Transaction>, AllocError>
+    ensures { IfOk result
+        (λ plan. plan
+        ≡ registered
+        (register_new moment.entry.now arrived.now register.now transaction.now protocol)) }
+{
+    let Some(protocol) = protocol else {
+        return refuse_register(alloc, arrived, transaction, invalid_protocol());
+    };
+    if !arrived.postable {
+        return refuse_register(alloc, arrived, transaction, invalid_parameters());
+    }
+    if may_register(transaction, protocol) {
+        accept(
+            alloc,
+            moment,
+            arrived,
+            transaction,
+            &register.participant,
+            protocol,
+        )
+    } else {
+        refuse_register(alloc, arrived, transaction, cannot_register())
+    }
+}
+
+/// A repeated Register gets the same answer in every phase, and changes nothing.
+fn register_again(
+    alloc: Global,
+    arrived: &Arrived,
+    transaction: &Transaction,
+    coordinator: Epr,
+) -> Result<Plan<Transaction>, AllocError>
+    ensures { IfOk result (λ plan. plan ≡ given_anew transaction.now (registered_reply arrived.now coordinator)) }
+{
+    let outs = registered_reply(alloc, arrived, coordinator)?;
+    let same = transaction.clone()?;
+    Ok(given_anew(alloc, same, outs))
+}
+
+/// The coordinator's endpoint of the seat that the sender of a Register has already.
+fn held_seat(
+    alloc: Global,
+    moment: &Moment,
+    register: &Register,
+    transaction: &Transaction,
+    protocol: Option<Protocol>,
+) -> Result<Option<Epr>, AllocError>
+    ensures { IfOk result
+        (λ held. held ≡ held_seat moment.entry.now register.now transaction.now protocol) }
+{
+    match protocol {
+        Some(protocol) => seat_for(alloc, moment, transaction, &register.participant, protocol),
+        None => Ok(None),
+    }
+}
+
+/// Register at a transaction: it accepts the participant or the initiator, answers a repeated one as before, or refuses
+/// it by a fault.
+#[tactic(auto, unfolding(at_model::specs::Register::on_register, at_model::specs::Register::register_again))]
+pub fn on_register(
+    alloc: Global,
+    moment: &Moment,
+    arrived: &Arrived,
+    register: &Register,
+    transaction: &Transaction,
+) -> Result<Plan<Transaction>, AllocError>
+    ensures { IfOk result
+        (λ plan. plan
+        ≡ registered (on_register moment.entry.now arrived.now register.now transaction.now)) }
+{
+    let protocol = protocol_named(&register.protocol);
+    match held_seat(alloc, moment, register, transaction, protocol)? {
+        Some(coordinator) => register_again(alloc, arrived, transaction, coordinator),
+        None => register_new(alloc, moment, arrived, register, transaction, protocol),
+    }
+}
+
+/// The fault that a Register draws where no such transaction is known.
+fn refusal_of(arrived: &Arrived, protocol: Option<Protocol>) -> &'static str
+    ensures { result.now
+        ≡ if is_none protocol then invalid_protocol
+        else if arrived.now.postable then cannot_register else invalid_parameters }
+{
+    match protocol {
+        None => invalid_protocol(),
+        Some(_) => {
+            if arrived.postable {
+                cannot_register()
+            } else {
+                invalid_parameters()
+            }
+        }
+    }
+}
+
+/// Register where no such transaction is known: a fault.
+#[tactic(auto, unfolding(at_model::specs::Register::register_unknown))]
+pub fn register_unknown(
+    alloc: Global,
+    arrived: &Arrived,
+    register: &Register,
+) -> Result<OutList, AllocError>
+    ensures { IfOk result
+        (λ outs. outs
+        ≡ register_unknown arrived.now register.now (protocol_named register.now.protocol)) }
+{
+    let name = refusal_of(arrived, protocol_named(&register.protocol));
+    faulted(alloc, &arrived.fault, &arrived.id, name)
+}

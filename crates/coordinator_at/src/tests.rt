@@ -1,0 +1,638 @@
+//! What a Register, a CreateCoordinationContext and the passing of time do to transactions, written out by hand.
+
+use crate::register::register_unknown;
+use crate::transactions::Transactions;
+use at_base::epr::{Epr, Reply};
+use at_base::event::{Arrived, Event, Item, Moment};
+use at_base::id::Id;
+use at_base::message::{Context, Create, Message, Register};
+use at_base::notice::Kind;
+use at_base::outs::{Effect, Out, OutList, Outs, Post};
+use at_base::target::{Seat, Target};
+use at_base::text::Text;
+use at_tables::cells::State;
+use std::alloc::{AllocError, Global};
+use std::test::Fail;
+use transaction_at::transaction::{
+    Completion, Enlistment, Link, Phase, Request, Seats, Superior, Transaction,
+};
+
+/// The phase, the part and the number of durable seats of a transaction, the protocol of a Register, its participant,
+/// and whether that can be posted to; then what is sent; then the number of seats, and the state of the last one and of
+/// the completion seat.
+const REGISTERS: &str = "\
+Active root 0 Durable new yes| 202 http://n1/c/d/1-1/1@reply|1 Active -\n\
+Active root 63 Volatile new yes| 202 http://n1/c/v/1-1/64@reply|64 Active -\n\
+Active root 64 Volatile new yes| 202 CannotRegisterParticipant@fault|64 Active -\n\
+Active root 64 Durable p64 yes| 202 http://n1/c/d/1-1/64@reply|64 Active -\n\
+Active root 1 Volatile p1 yes| 202 http://n1/c/v/1-1/2@reply|2 Active -\n\
+Volatile root 1 Durable new yes| 202 http://n1/c/d/1-1/2@reply|2 Active -\n\
+Volatile root 1 Volatile new yes| 202 http://n1/c/v/1-1/2@reply Prepare@new|2 Preparing -\n\
+Durable root 1 Durable new yes| 202 CannotRegisterParticipant@fault|1 Active -\n\
+Durable root 1 Volatile new yes| 202 CannotRegisterParticipant@fault|1 Active -\n\
+Registering sub 0 Durable new yes| 202 CannotRegisterParticipant@fault|0 - -\n\
+Voted sub 1 Durable new yes| 202 CannotRegisterParticipant@fault|1 Active -\n\
+Committing root 1 Durable new yes| 202 CannotRegisterParticipant@fault|1 Active -\n\
+Aborting root 1 Durable new yes| 202 CannotRegisterParticipant@fault|1 Active -\n\
+Registering sub 1 Durable p1 yes| 202 http://n1/c/d/1-1/1@reply|1 Active -\n\
+Active root 1 Durable p1 yes| 202 http://n1/c/d/1-1/1@reply|1 Active -\n\
+Volatile root 1 Durable p1 yes| 202 http://n1/c/d/1-1/1@reply|1 Active -\n\
+Durable root 1 Durable p1 yes| 202 http://n1/c/d/1-1/1@reply|1 Active -\n\
+Voted sub 1 Durable p1 yes| 202 http://n1/c/d/1-1/1@reply|1 Active -\n\
+Committing root 1 Durable p1 yes| 202 http://n1/c/d/1-1/1@reply|1 Active -\n\
+Aborting root 1 Durable p1 yes| 202 http://n1/c/d/1-1/1@reply|1 Active -\n\
+Active root 1 Durable p1 no| 202 http://n1/c/d/1-1/1@reply|1 Active -\n\
+Active root 1 Durable new no| 202 InvalidParameters@fault|1 Active -\n\
+Active root 1 Unknown new yes| 202 InvalidProtocol@fault|1 Active -\n\
+Active root 1 Unknown new no| 202 InvalidProtocol@fault|1 Active -\n\
+Active root 0 Completion new yes| 202 http://n1/completion/1-1@reply|0 - Active\n\
+Active begun 0 Completion initiator yes| 202 http://n1/completion/1-1@reply|0 - Completing\n\
+Committing begun 0 Completion initiator yes| 202 http://n1/completion/1-1@reply|0 - Completing\n\
+Active begun 0 Completion new yes| 202 CannotRegisterParticipant@fault|0 - Completing\n\
+Active sub 0 Completion new yes| 202 CannotRegisterParticipant@fault|0 - -\n\
+Durable root 0 Completion new yes| 202 CannotRegisterParticipant@fault|0 - -\n\
+";
+
+/// The phase and the part of a transaction that sent at 100000, aborted at 150000 and expires at 200000, the state of
+/// its one seat, when it is asked; then its phase, and what is sent and happened.
+const TIMES: &str = "\
+Active root Active 199999|Active\n\
+Active root Active 200000|Aborting Rollback@p1 RootAborted\n\
+Registering sub Active 200000|Aborting Rollback@p1 SubAborted\n\
+Volatile root Preparing 200000|Aborting Rollback@p1 RootAborted\n\
+Durable root Prepared 200000|Aborting Rollback@p1 RootAborted\n\
+Durable root None 200000|gone RootAborted\n\
+Active begun None 200000|gone Aborted@initiator RootAborted\n\
+Voted sub Prepared 200000|Voted Prepared@superior\n\
+Committing root Committing 200000|Committing Commit@p1\n\
+Committing root Committing 104999|Committing\n\
+Committing root Committing 105000|Committing Commit@p1\n\
+Committing root None 105000|Committing\n\
+Durable root Preparing 105000|Durable Prepare@p1\n\
+Durable root Prepared 105000|Durable\n\
+Voted sub Committing 105000|Voted Prepared@superior Commit@p1\n\
+Registering sub Preparing 105000|Registering Register@registration Register@registration Prepare@p1\n\
+Aborting root Aborting 209999|Aborting Rollback@p1\n\
+Aborting root Aborting 210000|gone\n\
+";
+
+fn text(alloc: Global, text: &str) -> Result<Text, AllocError> {
+    Text::copied(alloc, text)
+}
+
+fn epr(alloc: Global, address: &str) -> Result<Epr, AllocError> {
+    Ok(Epr {
+        address: text(alloc, address)?,
+        params: text(alloc, "")?,
+    })
+}
+
+fn moment_at(alloc: Global, now: u64, next: Option<Id>) -> Result<Moment, AllocError> {
+    Ok(Moment {
+        now,
+        next,
+        base: text(alloc, "http://n1")?,
+    })
+}
+
+fn phase_of(name: &str) -> Phase {
+    match name {
+        "Registering" => Phase::Registering,
+        "Volatile" => Phase::Volatile,
+        "Durable" => Phase::Durable,
+        "Voted" => Phase::Voted,
+        "Committing" => Phase::Committing,
+        "Aborting" => Phase::Aborting,
+        _ => Phase::Active,
+    }
+}
+
+fn state_of(name: &str) -> State {
+    match name {
+        "Preparing" => State::Preparing,
+        "Prepared" => State::Prepared,
+        "Committing" => State::Committing,
+        "Aborting" => State::Aborting,
+        "None" => State::None,
+        _ => State::Active,
+    }
+}
+
+fn seat(alloc: Global, number: u16, state: State) -> Result<Enlistment, AllocError> {
+    let address = format!(in alloc; "p{number}")?;
+    Ok(Enlistment {
+        number,
+        kind: Kind::Durable,
+        participant: epr(alloc, address.as_str())?,
+        state,
+    })
+}
+
+/// So many durable seats, of the participants p1, p2 and so on.
+fn seats(alloc: Global, count: u16, state: State) -> Result<Seats, AllocError> {
+    let mut seats = Seats::new(alloc);
+    for place in 0..count.min(64) {
+        seats.push(seat(alloc, place + 1, state)?)?;
+    }
+    Ok(seats)
+}
+
+fn request(alloc: Global) -> Result<Request, AllocError> {
+    Ok(Request {
+        id: None,
+        reply: epr(alloc, "creator")?,
+        fault: Reply::Nobody,
+        expires: None,
+        registration: epr(alloc, "registration")?,
+    })
+}
+
+fn link(alloc: Global, state: State) -> Result<Link, AllocError> {
+    Ok(Link {
+        state,
+        coordinator: match state {
+            State::PreparedSuccess => Some(epr(alloc, "superior")?),
+            _ => None,
+        },
+    })
+}
+
+/// The links of a subordinate in this phase.
+fn superior(alloc: Global, phase: Phase) -> Result<Superior, AllocError> {
+    match phase {
+        Phase::Registering => Ok(Superior {
+            volatile: link(alloc, State::Registering)?,
+            durable: link(alloc, State::Registering)?,
+            request: Some(request(alloc)?),
+        }),
+        Phase::Voted => Ok(Superior {
+            volatile: link(alloc, State::None)?,
+            durable: link(alloc, State::PreparedSuccess)?,
+            request: None,
+        }),
+        _ => Ok(Superior {
+            volatile: link(alloc, State::Active)?,
+            durable: link(alloc, State::Active)?,
+            request: None,
+        }),
+    }
+}
+
+fn initiator(alloc: Global) -> Result<Completion, AllocError> {
+    Ok(Completion {
+        initiator: epr(alloc, "initiator")?,
+        state: State::Completing,
+    })
+}
+
+/// A transaction that sent at 100000, aborted at 150000 and expires at 200000.
+fn transaction_in(
+    alloc: Global,
+    id: Id,
+    phase: Phase,
+    part: &str,
+    seats: Seats,
+) -> Result<Transaction, AllocError> {
+    let identifier = text(alloc, "urn:t")?;
+    let superior = match part {
+        "sub" => Some(superior(alloc, phase)?),
+        _ => None,
+    };
+    let completion = match part {
+        "begun" => Some(initiator(alloc)?),
+        _ => None,
+    };
+    Ok(Transaction {
+        id,
+        identifier,
+        superior,
+        phase,
+        deadline: Some(200000),
+        sent: Some(100000),
+        aborted: Some(150000),
+        seats,
+        completion,
+    })
+}
+
+/// The one transaction 1-1 of a node.
+fn one(
+    alloc: Global,
+    phase: &str,
+    part: &str,
+    count: u16,
+    state: &str,
+) -> Result<Transactions, AllocError> {
+    let seats = seats(alloc, count, state_of(state))?;
+    let mut items = Vec::new(alloc);
+    items.push(transaction_in(alloc, Id::new(1, 1), phase_of(phase), part, seats)?)?;
+    Transactions::from_vec(items)
+}
+
+fn post_line(alloc: Global, post: &Post) -> Result<String, AllocError> {
+    let to = match &post.to {
+        Some(epr) => epr.address.as_str(),
+        None => "connection",
+    };
+    match &post.message {
+        Message::Notice(notice) => format!(in alloc; " {notice:?}@{to}"),
+        Message::Fault { name } => format!(in alloc; " {name}@{to}"),
+        Message::Register(_) => format!(in alloc; " Register@{to}"),
+        Message::RegisterResponse(coordinator) => {
+            let address = coordinator.address.as_str();
+            format!(in alloc; " {address}@{to}")
+        }
+        Message::CreateResponse(context) => {
+            let identifier = context.identifier.as_str();
+            format!(in alloc; " {identifier}@{to}")
+        }
+        _ => format!(in alloc; " other@{to}"),
+    }
+}
+
+fn out_line(alloc: Global, out: &Out) -> Result<String, AllocError> {
+    match out {
+        Out::Answer {
+            status,
+            reply: Some(post),
+        } => {
+            let line = post_line(alloc, post)?;
+            format!(in alloc; " {status}{line}")
+        }
+        Out::Answer { status, .. } => format!(in alloc; " {status}"),
+        Out::Post(post) => post_line(alloc, post),
+    }
+}
+
+fn effect_line(alloc: Global, effect: &Effect) -> Result<String, AllocError> {
+    match effect {
+        Effect::Root { what, .. } => format!(in alloc; " Root{what:?}"),
+        Effect::Sub { what, .. } => format!(in alloc; " Sub{what:?}"),
+        _ => format!(in alloc; " other"),
+    }
+}
+
+fn push_outs(alloc: Global, line: &mut String, outs: &OutList) -> Result<(), AllocError> {
+    for out in outs.as_slice() {
+        line.push_str(out_line(alloc, out)?.as_str())?;
+    }
+    Ok(())
+}
+
+fn outs_line(alloc: Global, outs: &Outs) -> Result<String, AllocError> {
+    let mut line = String::new(alloc);
+    push_outs(alloc, &mut line, &outs.outs)?;
+    for effect in outs.effects.as_slice() {
+        line.push_str(effect_line(alloc, effect)?.as_str())?;
+    }
+    Ok(line)
+}
+
+/// What is sent and happened at a step.
+fn step(
+    alloc: Global,
+    transactions: &mut Transactions,
+    event: Box<Event>,
+    moment: &Moment,
+) -> Result<String, AllocError> {
+    let plan = transactions.plan(alloc, event.as_ref(), moment)?;
+    let outs = transactions.apply(plan, true);
+    outs_line(alloc, &outs)
+}
+
+fn arrived(
+    alloc: Global,
+    target: Target,
+    postable: bool,
+    message: Message,
+) -> Result<Event, AllocError> {
+    Ok(Event::Arrived(Arrived {
+        target,
+        id: Some(text(alloc, "id")?),
+        relates: None,
+        from: None,
+        reply: Reply::At(epr(alloc, "reply")?),
+        fault: Reply::At(epr(alloc, "fault")?),
+        postable,
+        message,
+    }))
+}
+
+fn protocol_of(name: &str) -> &'static str {
+    match name {
+        "Volatile" => "http://docs.oasis-open.org/ws-tx/wsat/2006/06/Volatile2PC",
+        "Durable" => "http://docs.oasis-open.org/ws-tx/wsat/2006/06/Durable2PC",
+        "Completion" => "http://docs.oasis-open.org/ws-tx/wsat/2006/06/Completion",
+        _ => "http://docs.oasis-open.org/ws-tx/wsat/2006/06/",
+    }
+}
+
+/// A Register at the transaction 1-1.
+fn register(
+    alloc: Global,
+    protocol: &str,
+    participant: &str,
+    postable: bool,
+) -> Result<Box<Event>, AllocError> {
+    let register = Register {
+        protocol: text(alloc, protocol_of(protocol))?,
+        participant: epr(alloc, participant)?,
+    };
+    let event = arrived(
+        alloc,
+        Target::Registration(Id::new(1, 1)),
+        postable,
+        Message::Register(register),
+    )?;
+    Ok(Box::new(alloc, event)?)
+}
+
+/// The number of seats of the one transaction, and the states of the last one and of the completion seat.
+fn seats_line(alloc: Global, transactions: &Transactions) -> Result<String, AllocError> {
+    let Some(transaction) = transactions.find(Id::new(1, 1)) else {
+        return format!(in alloc; "gone");
+    };
+    let count = transaction.seats.as_slice().len();
+    let last = match transaction.seats.as_slice().last() {
+        Some(seat) => seat.state.name(),
+        None => "-",
+    };
+    let completion = match &transaction.completion {
+        Some(completion) => completion.state.name(),
+        None => "-",
+    };
+    format!(in alloc; "{count} {last} {completion}")
+}
+
+/// What a row's Register gives.
+fn registered(alloc: Global, row: &str) -> Result<String, AllocError> {
+    let mut words = row.split_whitespace();
+    let phase = words.next().unwrap_or("");
+    let part = words.next().unwrap_or("");
+    let count: u16 = words.next().unwrap_or("").parse().unwrap_or(0);
+    let mut transactions = one(alloc, phase, part, count, "Active")?;
+    let protocol = words.next().unwrap_or("");
+    let participant = words.next().unwrap_or("");
+    let event = register(alloc, protocol, participant, words.next() == Some("yes"))?;
+    let moment = moment_at(alloc, 100001, None)?;
+    let outs = step(alloc, &mut transactions, event, &moment)?;
+    let seats = seats_line(alloc, &transactions)?;
+    format!(in alloc; "{outs}|{seats}")
+}
+
+fn phase_name(transactions: &Transactions) -> &'static str {
+    match transactions.find(Id::new(1, 1)) {
+        Some(transaction) => match transaction.phase {
+            Phase::Registering => "Registering",
+            Phase::Active => "Active",
+            Phase::Volatile => "Volatile",
+            Phase::Durable => "Durable",
+            Phase::Voted => "Voted",
+            Phase::Committing => "Committing",
+            Phase::Aborting => "Aborting",
+        },
+        None => "gone",
+    }
+}
+
+/// What a row's transaction does when it is asked.
+fn asked(alloc: Global, row: &str) -> Result<String, AllocError> {
+    let mut words = row.split_whitespace();
+    let phase = words.next().unwrap_or("");
+    let part = words.next().unwrap_or("");
+    let state = words.next().unwrap_or("");
+    let mut transactions = one(alloc, phase, part, 1, state)?;
+    let now: u64 = words.next().unwrap_or("").parse().unwrap_or(0);
+    let moment = moment_at(alloc, now, None)?;
+    let due = Box::new(alloc, Event::Due(Item::Transaction(Id::new(1, 1))))?;
+    let outs = step(alloc, &mut transactions, due, &moment)?;
+    let phase = phase_name(&transactions);
+    format!(in alloc; "{phase}{outs}")
+}
+
+/// The registers' rows that don't stand, a line each.
+fn wrong_registers(alloc: Global) -> Result<String, AllocError> {
+    let mut wrong = String::new(alloc);
+    for row in REGISTERS.lines() {
+        let (given, wanted) = row.split_once('|').unwrap_or((row, ""));
+        if registered(alloc, given)?.as_str() != wanted {
+            wrong.push_str(row)?;
+            wrong.push_str("\n")?;
+        }
+    }
+    Ok(wrong)
+}
+
+/// The times' rows that don't stand, a line each.
+fn wrong_times(alloc: Global) -> Result<String, AllocError> {
+    let mut wrong = String::new(alloc);
+    for row in TIMES.lines() {
+        let (given, wanted) = row.split_once('|').unwrap_or((row, ""));
+        if asked(alloc, given)?.as_str() != wanted {
+            wrong.push_str(row)?;
+            wrong.push_str("\n")?;
+        }
+    }
+    Ok(wrong)
+}
+
+#[test]
+fn each_register(rt: HostRuntime) -> Result<(), Fail> {
+    let wrong = wrong_registers(rt.alloc())?;
+    assert_eq!(rt; wrong.as_str(), "");
+    Ok(())
+}
+
+#[test]
+fn each_time(rt: HostRuntime) -> Result<(), Fail> {
+    let wrong = wrong_times(rt.alloc())?;
+    assert_eq!(rt; wrong.as_str(), "");
+    Ok(())
+}
+
+/// So many roots.
+fn roots(alloc: Global, count: u32) -> Result<Transactions, AllocError> {
+    let mut items = Vec::new(alloc);
+    for place in 0..count.min(2000) {
+        let id = Id::new(1, place + 1);
+        items.push(transaction_in(alloc, id, Phase::Active, "root", Seats::new(alloc))?)?;
+    }
+    Transactions::from_vec(items)
+}
+
+fn current(alloc: Global) -> Result<Context, AllocError> {
+    let identifier = text(alloc, "urn:superior")?;
+    let coordination = text(alloc, "http://docs.oasis-open.org/ws-tx/wsat/2006/06")?;
+    let registration = epr(alloc, "registration")?;
+    Ok(Context {
+        identifier,
+        expires: Some(60000),
+        coordination,
+        registration,
+    })
+}
+
+/// A CreateCoordinationContext of this coordination type, for a root or a subordinate.
+fn create(alloc: Global, coordination: &str, part: &str) -> Result<Box<Event>, AllocError> {
+    let coordination = text(alloc, coordination)?;
+    let current = match part {
+        "sub" => Some(current(alloc)?),
+        _ => None,
+    };
+    let create = Create {
+        expires: None,
+        current,
+        coordination,
+    };
+    let event = arrived(alloc, Target::Activation, false, Message::Create(create))?;
+    Ok(Box::new(alloc, event)?)
+}
+
+/// What is sent at a CreateCoordinationContext where so many live, and how many live then.
+fn created(
+    alloc: Global,
+    live: u32,
+    next: Option<Id>,
+    coordination: &str,
+    part: &str,
+) -> Result<String, AllocError> {
+    let mut transactions = roots(alloc, live)?;
+    let event = create(alloc, coordination, part)?;
+    let moment = moment_at(alloc, 7, next)?;
+    let outs = step(alloc, &mut transactions, event, &moment)?;
+    let live = transactions.len();
+    format!(in alloc; "{live}{outs}")
+}
+
+const ATOMIC: &str = "http://docs.oasis-open.org/ws-tx/wsat/2006/06";
+
+#[test]
+fn creates_a_root(rt: HostRuntime) -> Result<(), Fail> {
+    let line = created(rt.alloc(), 1023, Some(Id::new(2, 1)), ATOMIC, "root")?;
+    assert_eq!(rt; line.as_str(), "1024 202 http://n1/t/2-1@reply");
+    Ok(())
+}
+
+#[test]
+fn creates_a_subordinate(rt: HostRuntime) -> Result<(), Fail> {
+    let line = created(rt.alloc(), 0, Some(Id::new(2, 1)), ATOMIC, "sub")?;
+    assert_eq!(rt;
+        line.as_str(),
+        "1 202 Register@registration Register@registration"
+    );
+    Ok(())
+}
+
+#[test]
+fn creates_no_more_than_1024(rt: HostRuntime) -> Result<(), Fail> {
+    let line = created(rt.alloc(), 1024, Some(Id::new(2, 1)), ATOMIC, "root")?;
+    assert_eq!(rt; line.as_str(), "1024 202 CannotCreateContext@fault");
+    Ok(())
+}
+
+#[test]
+fn creates_nothing_without_an_id(rt: HostRuntime) -> Result<(), Fail> {
+    let line = created(rt.alloc(), 0, None, ATOMIC, "root")?;
+    assert_eq!(rt; line.as_str(), "0 202 CannotCreateContext@fault");
+    Ok(())
+}
+
+#[test]
+fn creates_nothing_of_another_type(rt: HostRuntime) -> Result<(), Fail> {
+    let other = "http://docs.oasis-open.org/ws-tx/wsba/2006/06/AtomicOutcome";
+    let line = created(rt.alloc(), 0, Some(Id::new(2, 1)), other, "root")?;
+    assert_eq!(rt; line.as_str(), "0 202 CannotCreateContext@fault");
+    Ok(())
+}
+
+/// What a Register for this protocol is answered where no transaction is known.
+fn unknown(alloc: Global, protocol: &str, postable: bool) -> Result<String, AllocError> {
+    let mut line = String::new(alloc);
+    let event = register(alloc, protocol, "new", postable)?;
+    if let Event::Arrived(arrived) = event.as_ref() {
+        if let Message::Register(register) = &arrived.message {
+            let outs = register_unknown(alloc, arrived, register)?;
+            push_outs(alloc, &mut line, &outs)?;
+        }
+    }
+    Ok(line)
+}
+
+#[test]
+fn unknown_transactions(rt: HostRuntime) -> Result<(), Fail> {
+    let mut lines = unknown(rt.alloc(), "Durable", true)?;
+    lines.push_str(unknown(rt.alloc(), "Durable", false)?.as_str())?;
+    lines.push_str(unknown(rt.alloc(), "Unknown", false)?.as_str())?;
+    let wanted =
+        " 202 CannotRegisterParticipant@fault 202 InvalidParameters@fault 202 InvalidProtocol@fault";
+    assert_eq!(rt; lines.as_str(), wanted);
+    Ok(())
+}
+
+/// A subordinate, and then a root.
+fn two(alloc: Global) -> Result<Transactions, AllocError> {
+    let mut items = Vec::new(alloc);
+    let none = Seats::new(alloc);
+    items.push(transaction_in(alloc, Id::new(1, 1), Phase::Active, "sub", none)?)?;
+    let none = Seats::new(alloc);
+    items.push(transaction_in(alloc, Id::new(1, 2), Phase::Durable, "root", none)?)?;
+    Transactions::from_vec(items)
+}
+
+/// What going down loses, of a subordinate and a root.
+fn lost(alloc: Global) -> Result<String, AllocError> {
+    let mut line = String::new(alloc);
+    let transactions = two(alloc)?;
+    let effects = transactions.lost(alloc)?;
+    for effect in effects.as_slice() {
+        line.push_str(effect_line(alloc, effect)?.as_str())?;
+    }
+    Ok(line)
+}
+
+#[test]
+fn lost_transactions(rt: HostRuntime) -> Result<(), Fail> {
+    let line = lost(rt.alloc())?;
+    assert_eq!(rt; line.as_str(), " RootLost SubLost");
+    Ok(())
+}
+
+/// Whether both are due at 200000, in the order of making.
+fn due(alloc: Global) -> Result<bool, AllocError> {
+    let transactions = two(alloc)?;
+    let early = moment_at(alloc, 199999, None)?;
+    let late = moment_at(alloc, 200000, None)?;
+    let first = transactions.next_due(None, &late) == Some(Id::new(1, 1));
+    let second = transactions.next_due(Some(Id::new(1, 1)), &late) == Some(Id::new(1, 2));
+    let last = transactions.next_due(Some(Id::new(1, 2)), &late).is_none();
+    let none = transactions.next_due(None, &early).is_none();
+    Ok(first && second && last && none)
+}
+
+#[test]
+fn due_transactions(rt: HostRuntime) -> Result<(), Fail> {
+    let right = due(rt.alloc())?;
+    assert!(rt; right);
+    Ok(())
+}
+
+/// Which parts the transaction 1-1 of this kind has: an initiator, a durable first seat, a superior.
+fn parts(alloc: Global, part: &str, count: u16) -> Result<(bool, bool, bool), AllocError> {
+    let transactions = one(alloc, "Active", part, count, "Active")?;
+    let id = Id::new(1, 1);
+    let seat = Seat {
+        number: 1,
+        kind: Kind::Durable,
+    };
+    let initiator = transactions.has_initiator(id);
+    let seated = transactions.has_seat(id, seat);
+    Ok((initiator, seated, transactions.has_superior(id)))
+}
+
+#[test]
+fn known_parts(rt: HostRuntime) -> Result<(), Fail> {
+    let begun = parts(rt.alloc(), "begun", 0)? == (true, false, false);
+    let sub = parts(rt.alloc(), "sub", 1)? == (false, true, true);
+    assert!(rt; begun && sub);
+    Ok(())
+}
