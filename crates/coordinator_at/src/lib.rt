@@ -5,6 +5,4 @@
 pub mod create;
 pub mod due;
 pub mod register;
-#[cfg(test)]
-mod tests;
 pub mod transactions;

@@ -1,4 +1,4 @@
-//! Tests of records, of the state tables, of what a node posts, of leaves and of activities. They stand apart, since a
+//! Tests of records, of the state tables, of what a node posts, and of its leaves and activities. They stand apart, since a
 //! crate with tests is proved twice.
 #![tactic(auto)]
 

@@ -10,6 +10,4 @@ pub mod due;
 pub mod links;
 pub mod phases;
 pub mod seats;
-#[cfg(test)]
-mod tests;
 pub mod transaction;

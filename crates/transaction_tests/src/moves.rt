@@ -1,13 +1,5 @@
 //! What a message does at a seat, a link and a completion seat, written out by hand.
 
-use crate::answer::with_answer;
-use crate::at_completion::on_completion;
-use crate::at_link::on_link;
-use crate::at_seat::on_seat;
-use crate::seats::ignores;
-use crate::transaction::{
-    Completion, Enlistment, Link, Phase, Request, Seats, Superior, Transaction,
-};
 use at_base::epr::{Epr, Reply};
 use at_base::event::{Arrived, Moment};
 use at_base::id::Id;
@@ -21,6 +13,14 @@ use at_tables::cells::State;
 use by_id::moves::{Change, Decision};
 use std::alloc::{AllocError, Global};
 use std::test::Fail;
+use transaction_at::answer::with_answer;
+use transaction_at::at_completion::on_completion;
+use transaction_at::at_link::on_link;
+use transaction_at::at_seat::on_seat;
+use transaction_at::seats::ignores;
+use transaction_at::transaction::{
+    Completion, Enlistment, Link, Phase, Request, Seats, Superior, Transaction,
+};
 
 /// A transaction: root, or the states of its volatile and durable link; its phase, its seats, its completion seat; where
 /// a message comes, a seat's number, v, d or c; and the message. Then the record; and what follows where it stands, and

@@ -1,7 +1,5 @@
 //! What a Register, a CreateCoordinationContext and the passing of time do to transactions, written out by hand.
 
-use crate::register::register_unknown;
-use crate::transactions::Transactions;
 use at_base::epr::{Epr, Reply};
 use at_base::event::{Arrived, Event, Item, Moment};
 use at_base::id::Id;
@@ -11,6 +9,8 @@ use at_base::outs::{Effect, Out, OutList, Outs, Post};
 use at_base::target::{Seat, Target};
 use at_base::text::Text;
 use at_tables::cells::State;
+use coordinator_at::register::register_unknown;
+use coordinator_at::transactions::Transactions;
 use std::alloc::{AllocError, Global};
 use std::test::Fail;
 use transaction_at::transaction::{
