@@ -248,13 +248,12 @@ impl Activities {
 
     /// What an event does to the activities. It takes the memory that doing it needs, and changes nothing.
     pub fn plan(
-        &mut self,
+        &self,
         alloc: Global,
         event: &Event,
         moment: &Moment,
     ) -> Result<Plan<Activity>, AllocError>
-        ensures plan { IfOk result (λ plan. plan ≡ activities_plan moment.entry.now event.now self.old) }
-        ensures kept { self.new ≡ self.old }
+        ensures { IfOk result (λ plan. plan ≡ activities_plan moment.entry.now event.now self.now) }
     {
         match event {
             Event::Arrived(arrived) => self.arrived_at(alloc, moment, arrived),

@@ -225,13 +225,12 @@ impl Leaves {
 
     /// What an event does to the leaves. It takes the memory that doing it needs, and changes nothing.
     pub fn plan(
-        &mut self,
+        &self,
         alloc: Global,
         event: &Event,
         moment: &Moment,
     ) -> Result<Plan<Leaf>, AllocError>
-        ensures plan { IfOk result (λ plan. plan ≡ leaves_plan moment.entry.now event.now self.old) }
-        ensures kept { self.new ≡ self.old }
+        ensures { IfOk result (λ plan. plan ≡ leaves_plan moment.entry.now event.now self.now) }
     {
         match event {
             Event::Arrived(arrived) => self.arrived_at(alloc, moment, arrived),

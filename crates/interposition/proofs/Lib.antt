@@ -1,0 +1,4 @@
+pub mod Modelled
+pub mod Parting
+pub mod Taking
+pub mod Undrawn

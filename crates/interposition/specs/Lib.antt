@@ -1,0 +1,4 @@
+pub mod Doing
+pub mod Due
+pub mod Planning
+pub mod Whole

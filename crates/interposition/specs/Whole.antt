@@ -1,0 +1,17 @@
+-- The plan of a book is the model's, and doing it is the model's step.
+use Rattle.std.specs.Prelude.{ℕ, Option, Bool, ◌≡◌}
+use Rattle.at_base.specs.declared.event.Event.{Event}
+use Rattle.at_model.specs.Book.{Book}
+use Rattle.at_model.specs.Step.{plan, step}
+use Rattle.interposition.specs.Planning.{planned}
+use Rattle.interposition.specs.Doing.{done, sent, recorded}
+
+-- The model's step of an event, and the record that it is made behind, are what the plan of the event does and has.
+pub record IsStep (b : Book) (e : Event) (now : ℕ) : Type 0 where
+  pub entry : recorded (planned b e now) ≡ (plan b e now).entry
+  pub book : (landed : Bool) → done (planned b e now) landed b ≡ (step b e now landed).book
+  pub outs : (landed : Bool) → (sent (planned b e now) landed).outs ≡ (step b e now landed).outs
+  pub effects : (landed : Bool) → (sent (planned b e now) landed).effects ≡ (step b e now landed).effects
+
+abbrev pub StepsAsTheModel : Type 0
+StepsAsTheModel = (b : Book) (e : Event) (now : ℕ) → IsStep b e now
