@@ -186,6 +186,22 @@ fn vote_record(leaf: &Leaf, coordinator: &Epr) -> Result<Record, AllocError>
     })
 }
 
+/// A durable leaf's vote where its record landed, Prepared, and where it is absent, Aborted.
+fn both_votes(
+    alloc: Global,
+    outs: OutList,
+    moment: &Moment,
+    leaf: &Leaf,
+) -> Result<(Branch<Leaf>, Branch<Leaf>), AllocError>
+    ensures { IfOk result
+        (λ both. both
+        ≡ (changed outs leaf.now.id (leaf_prepares moment.entry.now leaf.now), changed outs leaf.now.id (leaf_aborts moment.entry.now None leaf.now))) }
+{
+    let absent = aborts(alloc, outs.clone()?, moment, &None, leaf)?;
+    let landed = prepares(alloc, outs, moment, leaf)?;
+    Ok((landed, absent))
+}
+
 /// A durable leaf's vote Prepared, behind its record; where the record is absent it votes Aborted.
 fn records_vote(
     alloc: Global,
@@ -200,9 +216,8 @@ fn records_vote(
     let Some(coordinator) = &leaf.coordinator else {
         return Ok(Plan::Plain(aborts(alloc, outs, moment, &None, leaf)?));
     };
-    let absent = aborts(alloc, outs.clone()?, moment, &None, leaf)?;
-    let landed = prepares(alloc, outs, moment, leaf)?;
     let entry = vote_record(leaf, coordinator)?;
+    let (landed, absent) = both_votes(alloc, outs, moment, leaf)?;
     Ok(Plan::Recorded {
         entry,
         landed,
