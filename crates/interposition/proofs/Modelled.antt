@@ -35,7 +35,7 @@ use Rattle.interposition.specs.Planning.{cell_of_none, stranger, at_activation, 
 
 -- a part, as a plan of the whole book
 abbrev pub whole : Book → ℕ → Part → Plan
-whole b now (parts.Still yes o) = plain (record { book = noted yes now b; outs = o.outs; effects = o.effects })
+whole b now (parts.Still holds o) = plain (record { book = noted holds now b; outs = o.outs; effects = o.effects })
 whole b now (parts.Transactions p) = of_transactions b now p
 whole b now (parts.Leaves p) = of_leaves b now p
 whole b now (parts.Activities p) = of_activities b now p
@@ -72,7 +72,7 @@ by_activities law b now a t e h =
 -- activation
 activates : TransactionsAsTheModel → (b : Book) (now : ℕ) (a : Arrived) (message : Message) → a.target ≡ targets.Activation → a.message ≡ message
     → whole b now (at_activation b (moment_of b now) a message) ≡ activation_plan b now a message
-unfolding activation_plan, arrived_plan
+unfolding activation_plan arrived_plan
 activates law b now a (messages.Create c) e f =
     by_transactions law b now a targets.Activation e (rw f tt) ∙ ap (activation_plan b now a) f
 activates law b now a (messages.Notice n) e f = refl
@@ -88,9 +88,9 @@ activates law b now a (messages.Fault name) e f = refl
 registers : TransactionsAsTheModel → (b : Book) (now : ℕ) (a : Arrived) (id : Numbers) (message : Message) (o : Option Transaction) → a.target ≡ targets.Registration id
     → a.message ≡ message → transaction_at b id ≡ o
     → whole b now (at_registration b (moment_of b now) a o message) ≡ registration_plan b now a message o
-unfolding registration_plan, arrived_plan
+unfolding registration_plan arrived_plan
 registers law b now a id (messages.Register r) (Some t) e f g =
-    by_transactions law b now a (targets.Registration id) e (rw f (tt, rw g tt))
+    by_transactions law b now a (targets.Registration id) e (rw f (tt, rw g refl))
     ∙ (λ i. registration_plan b now a (f i) (g i))
 registers law b now a id (messages.Register r) None e f g = refl
 registers law b now a id (messages.Create c) (Some t) e f g = refl
@@ -157,7 +157,7 @@ no_link b now a id kind t (Some s) e = absurd cc
 links : TransactionsAsTheModel → (b : Book) (now : ℕ) (a : Arrived) (id : Numbers) (kind : Kind) (t : Transaction) (has : Bool)
     → a.target ≡ targets.Participant id kind → transaction_at b id ≡ Some t → is_some t.superior ≡ has
     → whole b now (at_transaction b (moment_of b now) a (targets.Participant id kind) has) ≡ participant_plan b now a kind (Some t) (leaf_at b id)
-unfolding participant_plan, arrived_plan
+unfolding participant_plan arrived_plan
 links law b now a id kind t true e g h =
     by_transactions law b now a (targets.Participant id kind) e (rw g h)
     ∙ (λ i. participant_plan b now a kind (g i) (leaf_at b id))
@@ -172,7 +172,7 @@ no_leaf b now a id kind (Some l) e = rw e (strange b now a (targets.Participant 
 leaf : LeavesAsTheModel → (b : Book) (now : ℕ) (a : Arrived) (id : Numbers) (kind : Kind) (has : Bool)
     → a.target ≡ targets.Participant id kind → transaction_at b id ≡ None → has_kind kind (leaf_at b id) ≡ has
     → whole b now (at_leaf b (moment_of b now) a (targets.Participant id kind) has) ≡ participant_plan b now a kind None (leaf_at b id)
-unfolding participant_plan, arrived_plan
+unfolding participant_plan arrived_plan
 leaf law b now a id kind true e g h =
     by_leaves law b now a (targets.Participant id kind) e (g, h)
     ∙ (λ i. participant_plan b now a kind (g i) (leaf_at b id))
@@ -201,7 +201,7 @@ initiates law b now a id false e h = no_activity b now a id (activity_at b id) h
 -- work
 works : LeavesAsTheModel → (b : Book) (now : ℕ) (a : Arrived) (message : Message) → a.target ≡ targets.Work → a.message ≡ message
     → whole b now (at_work b (moment_of b now) a message) ≡ work_plan b now a message
-unfolding work_plan, arrived_plan
+unfolding work_plan arrived_plan
 works law b now a (messages.Work w) e f = by_leaves law b now a targets.Work e (rw f tt) ∙ ap (work_plan b now a) f
 works law b now a (messages.Create c) e f = refl
 works law b now a (messages.Notice n) e f = refl
@@ -235,21 +235,21 @@ asks_transaction : TransactionsAsTheModel → (b : Book) (now : ℕ) (id : Numbe
     → whole b now (if_known (is_some o) (parts.Transactions (transactions_plan (moment_of b now) (events.Due (items.Transaction id)) b.transactions)))
     ≡ transaction_due_plan b now o
 unfolding due_plan
-asks_transaction law b now id (Some t) g = sym (law b (events.Due (items.Transaction id)) now (rw g tt)) ∙ ap (transaction_due_plan b now) g
+asks_transaction law b now id (Some t) g = sym (law b (events.Due (items.Transaction id)) now (rw g refl)) ∙ ap (transaction_due_plan b now) g
 asks_transaction law b now id None g = refl
 
 asks_leaf : LeavesAsTheModel → (b : Book) (now : ℕ) (id : Numbers) (o : Option Leaf) → leaf_at b id ≡ o
     → whole b now (if_known (is_some o) (parts.Leaves (leaves_plan (moment_of b now) (events.Due (items.Leaf id)) b.leaves)))
     ≡ leaf_due_plan b now o
 unfolding due_plan
-asks_leaf law b now id (Some l) g = sym (law b (events.Due (items.Leaf id)) now (rw g tt)) ∙ ap (leaf_due_plan b now) g
+asks_leaf law b now id (Some l) g = sym (law b (events.Due (items.Leaf id)) now (rw g refl)) ∙ ap (leaf_due_plan b now) g
 asks_leaf law b now id None g = refl
 
 asks_activity : ActivitiesAsTheModel → (b : Book) (now : ℕ) (id : Numbers) (o : Option Activity) → activity_at b id ≡ o
     → whole b now (if_known (is_some o) (parts.Activities (activities_plan (moment_of b now) (events.Due (items.Activity id)) b.activities)))
     ≡ activity_due_plan b now o
 unfolding due_plan
-asks_activity law b now id (Some a) g = sym (law b (events.Due (items.Activity id)) now (rw g tt)) ∙ ap (activity_due_plan b now) g
+asks_activity law b now id (Some a) g = sym (law b (events.Due (items.Activity id)) now (rw g refl)) ∙ ap (activity_due_plan b now) g
 asks_activity law b now id None g = refl
 
 due : TransactionsAsTheModel → LeavesAsTheModel → ActivitiesAsTheModel → (b : Book) (now : ℕ) (item : Item)

@@ -27,7 +27,7 @@ use Rattle.interposition.proofs.Undrawn.{transactions_undrawn, leaves_undrawn, a
 
 -- where the part makes an item, there is an id for it
 abbrev pub IsDrawable : Book → Part → Bool → Type 0
-IsDrawable b (parts.Still yes o) landed = Unit {0}
+IsDrawable b (parts.Still holds o) landed = Unit {0}
 IsDrawable b (parts.Transactions p) landed = draws p landed ≡ true → nat_lt b.counter last_counter ≡ true
 IsDrawable b (parts.Leaves p) landed = draws p landed ≡ true → nat_lt b.counter last_counter ≡ true
 IsDrawable b (parts.Activities p) landed = draws p landed ≡ true → nat_lt b.counter last_counter ≡ true
@@ -35,12 +35,9 @@ IsDrawable b (parts.Activities p) landed = draws p landed ≡ true → nat_lt b.
 spent : (b : Book) → nat_lt b.counter last_counter ≡ false → next_id b ≡ None
 spent b e = rw e refl
 
-by_counter : (b : Book) (yes left : Bool) → nat_lt b.counter last_counter ≡ left → (next_id b ≡ None → yes ≡ false) → yes ≡ true → nat_lt b.counter last_counter ≡ true
-by_counter b yes true e h f = e
-by_counter b yes false e h f = absurd cc
-  where
-    g : yes ≡ false
-    g = h (spent b e)
+by_counter : (b : Book) (holds left : Bool) → nat_lt b.counter last_counter ≡ left → (next_id b ≡ None → holds ≡ false) → holds ≡ true → nat_lt b.counter last_counter ≡ true
+by_counter b holds true e h f = e
+by_counter b holds false e h f = e ∙ (sym (h (spent b e)) ∙ f)
 
 transactions : (b : Book) (e : Event) (now : ℕ) (landed : Bool) → IsDrawable b (parts.Transactions (transactions_plan (moment_of b now) e b.transactions)) landed
 transactions b e now landed =
@@ -139,7 +136,7 @@ requested : (b : Book) (now : ℕ) (l : Local) (why : Option Refusal) (landed : 
 requested b now l (Some why) landed = tt
 requested b now l None landed = activities b (events.Local l) now landed
 
-known : (b : Book) (part : Part) (yes landed : Bool) → IsDrawable b part landed → IsDrawable b (if_known yes part) landed
+known : (b : Book) (part : Part) (holds landed : Bool) → IsDrawable b part landed → IsDrawable b (if_known holds part) landed
 known b part true landed h = h
 known b part false landed h = tt
 

@@ -31,7 +31,7 @@ use Rattle.interposition.proofs.Parting.{IsDrawable, part_is_drawable}
 
 -- an item is made only where the counter isn't spent
 abbrev HasNext : Book → Bool → Type 0
-HasNext b yes = yes ≡ true → nat_lt b.counter last_counter ≡ true
+HasNext b holds = holds ≡ true → nat_lt b.counter last_counter ≡ true
 
 -- transactions
 
@@ -114,8 +114,8 @@ activities now b (plans.Recorded entry x absent) false h = activity_absent now b
 
 takes : (now : ℕ) (b : Book) (part : Part) (landed : Bool) → IsDrawable b part landed
     → done_part now part landed b ≡ (branch (whole b now part) landed).book
-takes now b (parts.Still yes o) true h = refl
-takes now b (parts.Still yes o) false h = refl
+takes now b (parts.Still holds o) true h = refl
+takes now b (parts.Still holds o) false h = refl
 takes now b (parts.Transactions p) landed h = transactions now b p landed h
 takes now b (parts.Leaves p) landed h = leaves now b p landed h
 takes now b (parts.Activities p) landed h = activities now b p landed h
@@ -124,23 +124,23 @@ abbrev IsSent : ℕ → Book → Part → Bool → Type 0
 IsSent now b part landed = ((part_outs part landed).outs ≡ (branch (whole b now part) landed).outs) × ((part_outs part landed).effects ≡ (branch (whole b now part) landed).effects)
 
 sends : (now : ℕ) (b : Book) (part : Part) (landed : Bool) → IsSent now b part landed
-sends now b (parts.Still yes o) true = refl, refl
-sends now b (parts.Still yes o) false = refl, refl
-sends now b (parts.Transactions (plans.Plain x)) true = refl, refl
-sends now b (parts.Transactions (plans.Plain x)) false = refl, refl
-sends now b (parts.Transactions (plans.Recorded entry x absent)) true = refl, refl
-sends now b (parts.Transactions (plans.Recorded entry x absent)) false = refl, refl
-sends now b (parts.Leaves (plans.Plain x)) true = refl, refl
-sends now b (parts.Leaves (plans.Plain x)) false = refl, refl
-sends now b (parts.Leaves (plans.Recorded entry x absent)) true = refl, refl
-sends now b (parts.Leaves (plans.Recorded entry x absent)) false = refl, refl
-sends now b (parts.Activities (plans.Plain x)) true = refl, refl
-sends now b (parts.Activities (plans.Plain x)) false = refl, refl
-sends now b (parts.Activities (plans.Recorded entry x absent)) true = refl, refl
-sends now b (parts.Activities (plans.Recorded entry x absent)) false = refl, refl
+sends now b (parts.Still holds o) true = (refl, refl)
+sends now b (parts.Still holds o) false = (refl, refl)
+sends now b (parts.Transactions (plans.Plain x)) true = (refl, refl)
+sends now b (parts.Transactions (plans.Plain x)) false = (refl, refl)
+sends now b (parts.Transactions (plans.Recorded entry x absent)) true = (refl, refl)
+sends now b (parts.Transactions (plans.Recorded entry x absent)) false = (refl, refl)
+sends now b (parts.Leaves (plans.Plain x)) true = (refl, refl)
+sends now b (parts.Leaves (plans.Plain x)) false = (refl, refl)
+sends now b (parts.Leaves (plans.Recorded entry x absent)) true = (refl, refl)
+sends now b (parts.Leaves (plans.Recorded entry x absent)) false = (refl, refl)
+sends now b (parts.Activities (plans.Plain x)) true = (refl, refl)
+sends now b (parts.Activities (plans.Plain x)) false = (refl, refl)
+sends now b (parts.Activities (plans.Recorded entry x absent)) true = (refl, refl)
+sends now b (parts.Activities (plans.Recorded entry x absent)) false = (refl, refl)
 
 records : (now : ℕ) (b : Book) (part : Part) → part_entry part ≡ (whole b now part).entry
-records now b (parts.Still yes o) = refl
+records now b (parts.Still holds o) = refl
 records now b (parts.Transactions (plans.Plain x)) = refl
 records now b (parts.Transactions (plans.Recorded entry x absent)) = refl
 records now b (parts.Leaves (plans.Plain x)) = refl

@@ -35,16 +35,16 @@ abbrev pub draws : {A : Type 0} → Planned A → Bool → Bool
 draws p landed = is_addition (branch_of p landed).change
 
 abbrev pub noted : Bool → ℕ → Book → Book
-noted yes now b = if yes then at_time now b else b
+noted holds now b = if holds then at_time now b else b
 
 abbrev pub drawn : Bool → Book → Book
-drawn yes b = record b { counter = if yes then (if nat_lt b.counter last_counter then b.counter + 1 else b.counter) else b.counter }
+drawn holds b = record b { counter = if holds then (if nat_lt b.counter last_counter then b.counter + 1 else b.counter) else b.counter }
 
 abbrev pub moved : {A : Type 0} → ℕ → Planned A → Bool → Book → Book
 moved now p landed b = drawn (draws p landed) (noted (notes_time p landed) now b)
 
 abbrev pub done_part : ℕ → Part → Bool → Book → Book
-done_part now (parts.Still yes outs) landed b = noted yes now b
+done_part now (parts.Still holds outs) landed b = noted holds now b
 done_part now (parts.Transactions p) landed b =
     record (moved now p landed b) { transactions = altered transaction_id (branch_of p landed).change b.transactions }
 done_part now (parts.Leaves p) landed b =
@@ -53,13 +53,13 @@ done_part now (parts.Activities p) landed b =
     record (moved now p landed b) { activities = settled (branch_of p landed).change b.activities }
 
 abbrev pub part_entry : Part → Option Record
-part_entry (parts.Still yes outs) = None
+part_entry (parts.Still holds outs) = None
 part_entry (parts.Transactions p) = entry_of p
 part_entry (parts.Leaves p) = entry_of p
 part_entry (parts.Activities p) = entry_of p
 
 abbrev pub part_outs : Part → Bool → Outs
-part_outs (parts.Still yes outs) landed = outs
+part_outs (parts.Still holds outs) landed = outs
 part_outs (parts.Transactions p) landed = (branch_of p landed).outs
 part_outs (parts.Leaves p) landed = (branch_of p landed).outs
 part_outs (parts.Activities p) landed = (branch_of p landed).outs

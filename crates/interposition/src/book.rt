@@ -1,6 +1,6 @@
 //! A node's book: planned first, and then done.
 
-ghost use Rattle.std.specs.Prelude.{ℕ, ◌≡◌, ◌≤◌, ◌++◌, ◌∷◌, [], IfOk, Option, Some, None, option_map};
+ghost use Rattle.std.specs.Prelude.{ℕ, ◌≡◌, ◌≤◌, ◌++◌, ◌∷◌, [], IfOk, OnOk, Option, Some, None, option_map};
 ghost use Rattle.at_base.specs.declared.event.Event.TheVariants as events;
 ghost use Rattle.at_base.specs.declared.record.Record.TheVariants as records;
 ghost use Rattle.at_base.specs.declared.target.Target.TheVariants as targets;
@@ -32,15 +32,12 @@ use completion_at::activities::{
 };
 use completion_at::requests::Refusal;
 use coordinator_at::register::register_unknown;
-use coordinator_at::transactions::{
-    Transactions, plans_as_the_model as transactions_as_the_model,
-};
+use coordinator_at::transactions::{Transactions, plans_as_the_model as transactions_as_the_model};
 use participant_at::leaves::{Leaves, plans_as_the_model as leaves_as_the_model};
 use std::alloc::{AllocError, Global};
 use std::marker::Model;
 
 /// The plan of an event is the model's plan of it, and doing the plan is the model's step.
-#[tactic(auto, using(crate::proofs::Taking::steps_as_the_model))]
 pub fn steps_as_the_model()
     ensures { StepsAsTheModel }
 {
@@ -48,6 +45,15 @@ pub fn steps_as_the_model()
     leaves_as_the_model();
     activities_as_the_model();
     requests_as_the_model();
+}
+
+fn append(effects: &mut Effects, more: Effects) -> Result<(), AllocError>
+    ensures { OnOk result (effects.new ≡ effects.old ++ more) }
+{
+    for effect in more.into_vec() {
+        effects.push(effect)?;
+    }
+    Ok(())
 }
 
 /// What a node knows: its transactions, leaves and activities, and how many ids it drew.
@@ -132,12 +138,7 @@ impl Book {
         Ok(Part::Transactions(plan))
     }
 
-    fn plan_leaves(
-        &self,
-        alloc: Global,
-        event: &Event,
-        moment: &Moment,
-    ) -> Result<Part, AllocError>
+    fn plan_leaves(&self, alloc: Global, event: &Event, moment: &Moment) -> Result<Part, AllocError>
         ensures { IfOk result (λ part. part ≡ parts.Leaves (leaves_plan moment.entry.now event.now self.now.leaves)) }
     {
         let plan = self.leaves.plan(alloc, event, moment)?;
@@ -403,19 +404,19 @@ impl Book {
     }
 
     /// Time is the greater of the clock and the last time seen.
-    fn note(&mut self, yes: bool, now: u64)
-        ensures { self.new ≡ noted yes now self.old }
+    fn note(&mut self, holds: bool, now: u64)
+        ensures { self.new ≡ noted holds now self.old }
     {
-        if yes {
+        if holds {
             self.seen = now.max(self.seen);
         }
     }
 
     /// An item that is made draws an id.
-    fn draw(&mut self, yes: bool)
-        ensures { self.new ≡ drawn yes self.old }
+    fn draw(&mut self, holds: bool)
+        ensures { self.new ≡ drawn holds self.old }
     {
-        if yes && self.counter < u32::MAX {
+        if holds && self.counter < u32::MAX {
             self.counter += 1;
         }
     }
@@ -480,14 +481,14 @@ impl Book {
         }
     }
 
-    fn due_behind(&self, moment: &Moment, after: Option<Item>) -> Option<Item>
-        ensures { (now : ℕ) → moment.entry.now ≡ moment_of self.now now → result ≡ next_item self.now now after }
+    fn due_behind(&self, moment: &Moment, after: &Option<Item>) -> Option<Item>
+        ensures { (now : ℕ) → moment.entry.now ≡ moment_of self.now now → result ≡ next_item self.now now after.now }
     {
         match after {
             None => self.next_transaction(moment, None),
-            Some(Item::Transaction(id)) => self.next_transaction(moment, Some(id)),
-            Some(Item::Leaf(id)) => self.next_leaf(moment, Some(id)),
-            Some(Item::Activity(id)) => self.next_activity(moment, Some(id)),
+            Some(Item::Transaction(id)) => self.next_transaction(moment, Some(*id)),
+            Some(Item::Leaf(id)) => self.next_leaf(moment, Some(*id)),
+            Some(Item::Activity(id)) => self.next_activity(moment, Some(*id)),
         }
     }
 
@@ -499,7 +500,7 @@ impl Book {
     {
         self.moment.now = now.max(self.seen);
         self.moment.next = self.next_id();
-        self.due_behind(&self.moment, after)
+        self.due_behind(&self.moment, &after)
     }
 
     /// What going down loses: roots, then subordinates, then leaves, before their vote or decision.
@@ -508,9 +509,8 @@ impl Book {
             (λ effects. effects ≡ transactions_lost self.now.transactions ++ leaves_lost self.now.leaves) }
     {
         let mut effects = self.transactions.lost(alloc)?;
-        for effect in self.leaves.lost(alloc)?.as_slice() {
-            effects.push(*effect)?;
-        }
+        let leaves = self.leaves.lost(alloc)?;
+        append(&mut effects, leaves)?;
         Ok(effects)
     }
 }

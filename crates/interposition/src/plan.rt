@@ -31,7 +31,7 @@ pub struct Plan {
 
 impl Part {
     fn entry(&self) -> Option<&Record>
-        ensures { option_copied result ≡ part_entry self.now }
+        ensures { option_copied result ≡ part_entry self.entry.now }
     {
         match self {
             Part::Still { .. } => None,
@@ -42,7 +42,7 @@ impl Part {
     }
 
     fn outs(&self, landed: bool) -> &Outs
-        ensures { result.now ≡ part_outs self.now landed }
+        ensures { result.now ≡ part_outs self.entry.now landed }
     {
         match self {
             Part::Still { outs, .. } => outs,
@@ -56,21 +56,21 @@ impl Part {
 impl Plan {
     /// The record that is appended before the plan is done.
     pub fn entry(&self) -> Option<&Record>
-        ensures { option_copied result ≡ recorded self.now }
+        ensures { option_copied result ≡ recorded self.entry.now }
     {
         self.part.entry()
     }
 
     /// What is sent and happened, where the record landed, and where it didn't.
     pub fn outs(&self, landed: bool) -> &Outs
-        ensures { result.now ≡ sent self.now landed }
+        ensures { result.now ≡ sent self.entry.now landed }
     {
         self.part.outs(landed)
     }
 }
 
 fn is_change<T>(change: &Alteration<T>) -> bool
-    ensures { result ≡ is_change change.now }
+    ensures { result ≡ is_change change.entry.now }
 {
     match change {
         Alteration::Keep => false,
@@ -79,7 +79,7 @@ fn is_change<T>(change: &Alteration<T>) -> bool
 }
 
 fn is_addition<T>(change: &Alteration<T>) -> bool
-    ensures { result ≡ is_addition change.now }
+    ensures { result ≡ is_addition change.entry.now }
 {
     match change {
         Alteration::Keep | Alteration::Put { .. } => false,
@@ -89,7 +89,7 @@ fn is_addition<T>(change: &Alteration<T>) -> bool
 
 /// Whether a step notes the time: one that is undone doesn't.
 pub fn notes_time<T>(plan: &plan::Plan<T>, landed: bool) -> bool
-    ensures { result ≡ notes_time plan.now landed }
+    ensures { result ≡ notes_time plan.entry.now landed }
 {
     match plan {
         plan::Plan::Plain(_) => true,
@@ -99,7 +99,7 @@ pub fn notes_time<T>(plan: &plan::Plan<T>, landed: bool) -> bool
 
 /// Whether a step makes an item, and so draws an id.
 pub fn draws<T>(plan: &plan::Plan<T>, landed: bool) -> bool
-    ensures { result ≡ draws plan.now landed }
+    ensures { result ≡ draws plan.entry.now landed }
 {
     match plan {
         plan::Plan::Plain(branch) => is_addition(&branch.change),

@@ -16,7 +16,9 @@ use at_base::target::Target;
 use at_posts::answers::accepted;
 use at_posts::names::unknown_transaction;
 use at_posts::posts::{push_fault, push_stranger};
-use at_tables::cells::{Act, Cell, State, completion_cell, coordinator_cell, initiator_cell, participant_cell};
+use at_tables::cells::{
+    Act, Cell, State, completion_cell, coordinator_cell, initiator_cell, participant_cell,
+};
 use std::alloc::{AllocError, Global};
 
 /// No item moves, and this is sent.
@@ -85,7 +87,13 @@ fn push_act_to(
         Act::SendRollback => push_stranger(alloc, outs, base, own, to, Notice::Rollback),
         Act::SendCommitted => push_stranger(alloc, outs, base, own, to, Notice::Committed),
         Act::SendAborted => push_stranger(alloc, outs, base, own, to, Notice::Aborted),
-        Act::FaultUnknownTransaction => push_fault(alloc, outs, to, &arrived.id, unknown_transaction()),
+        Act::FaultUnknownTransaction => push_fault(
+            alloc,
+            outs,
+            to,
+            &arrived.id,
+            unknown_transaction(),
+        ),
         _ => Ok(()),
     }
 }
