@@ -5,5 +5,3 @@
 pub mod book;
 pub mod plan;
 mod strangers;
-#[cfg(test)]
-mod tests;

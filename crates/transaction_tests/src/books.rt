@@ -1,6 +1,5 @@
 //! Books whose posts a loop carries from one to the other.
 
-use crate::book::Book;
 use at_base::epr::{Epr, Reply};
 use at_base::event::{Arrived, Event, Local};
 use at_base::id::Id;
@@ -10,6 +9,7 @@ use at_base::outs::{Effect, Ending, Out, Outs, Post, Told};
 use at_base::record::Record;
 use at_base::target::{Seat, Target};
 use at_base::text::Text;
+use interposition::book::Book;
 use std::alloc::{AllocError, Global};
 use std::test::Fail;
 
@@ -25,7 +25,7 @@ fn base(alloc: Global, node: &str) -> Result<Text, AllocError> {
     Ok(Text::from_string(format!(in alloc; "http://n{node}.example")?))
 }
 
-fn net(alloc: Global) -> Result<Net, AllocError> {
+fn five_nodes(alloc: Global) -> Result<Net, AllocError> {
     let mut books = Vec::new(alloc);
     for node in ["1", "2", "3", "4", "5"] {
         let base = base(alloc, node)?;
@@ -342,7 +342,7 @@ fn act(alloc: Global, net: &mut Net, line: &str) -> Result<(), AllocError> {
 
 /// What happens where these lines are done one after another.
 fn run(alloc: Global, script: &str) -> Result<String, AllocError> {
-    let mut net = net(alloc)?;
+    let mut net = five_nodes(alloc)?;
     for line in script.lines() {
         act(alloc, &mut net, line)?;
     }
