@@ -25,7 +25,8 @@ use Rattle.interposition.specs.declared.plan.Part.{Part}
 use Rattle.interposition.specs.declared.plan.Part.TheVariants as parts
 use Rattle.interposition.specs.Doing.{is_addition, is_change, draws, notes_time, drawn, noted, moved, done_part, part_entry, part_outs}
 use Rattle.interposition.specs.Planning.{part_of}
-use Rattle.interposition.specs.Whole.{IsStep, StepsAsTheModel}
+use Rattle.at_model.specs.Sound.{IsSound, RecordsAreWellFormed}
+use Rattle.interposition.specs.Whole.{IsStep, StepsAsTheModel, KeepsBounds}
 use Rattle.interposition.proofs.Modelled.{whole, plans}
 use Rattle.interposition.proofs.Parting.{IsDrawable, part_is_drawable}
 
@@ -157,4 +158,11 @@ steps_as_the_model law leaf_law activity_law refusals b e now =
       book = λ landed. takes now b part landed (part_is_drawable b e now landed) ∙ ap (λ p. (branch p landed).book) same;
       outs = λ landed. (sends now b part landed).0 ∙ ap (λ p. (branch p landed).outs) same;
       effects = λ landed. (sends now b part landed).1 ∙ ap (λ p. (branch p landed).effects) same;
+    }
+
+pub keeps_bounds : StepsAsTheModel → RecordsAreWellFormed → KeepsBounds
+keeps_bounds steps law =
+    record {
+      entry = λ b e now r s h made. law.entry b e now r s h (sym (steps b e now).entry ∙ made);
+      book = λ b e now landed s h. subst IsSound (sym ((steps b e now).book landed)) (law.book b e now landed s h);
     }

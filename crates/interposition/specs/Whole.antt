@@ -1,7 +1,10 @@
 -- The plan of a book is the model's, and doing it is the model's step.
-use Rattle.std.specs.Prelude.{ℕ, Option, Bool, ◌≡◌}
+use Rattle.std.specs.Prelude.{ℕ, Option, Some, Bool, ◌≡◌}
+use Rattle.at_base.specs.WellFormed.{IsWellFormed}
+use Rattle.at_base.specs.declared.record.Record.{Record}
 use Rattle.at_base.specs.declared.event.Event.{Event}
 use Rattle.at_model.specs.Book.{Book}
+use Rattle.at_model.specs.Sound.{IsSound, IsSoundEvent}
 use Rattle.at_model.specs.Step.{plan, step}
 use Rattle.interposition.specs.Planning.{planned}
 use Rattle.interposition.specs.Doing.{done, sent, recorded}
@@ -15,3 +18,9 @@ pub record IsStep (b : Book) (e : Event) (now : ℕ) : Type 0 where
 
 abbrev pub StepsAsTheModel : Type 0
 StepsAsTheModel = (b : Book) (e : Event) (now : ℕ) → IsStep b e now
+
+-- Over events within the bounds that decoding keeps, a plan of a book within its bounds has well-formed records alone,
+-- and the book stays within them.
+pub record KeepsBounds : Type 0 where
+  pub entry : (b : Book) (e : Event) (now : ℕ) (r : Record) → IsSound b → IsSoundEvent e → recorded (planned b e now) ≡ Some r → IsWellFormed r
+  pub book : (b : Book) (e : Event) (now : ℕ) (landed : Bool) → IsSound b → IsSoundEvent e → IsSound (done (planned b e now) landed b)

@@ -15,7 +15,7 @@ ghost use Rattle.interposition.specs.Doing.{done, drawn, noted, sent};
 ghost use Rattle.interposition.specs.Due.{next_item, next_transaction, next_leaf, next_activity};
 ghost use Rattle.interposition.specs.Planning.{arrived_part, at_activation, at_activity, at_leaf, at_participant, at_registration, at_transaction, at_work, due_part, part_of, planned, requested_part};
 ghost use Rattle.interposition.specs.declared.plan.Part.TheVariants as parts;
-ghost use Rattle.interposition.specs.Whole.{StepsAsTheModel};
+ghost use Rattle.interposition.specs.Whole.{KeepsBounds, StepsAsTheModel};
 
 use crate::plan::{Part, Plan, draws, notes_time};
 use crate::strangers::{answered, ignored, nothing, stranger};
@@ -26,6 +26,7 @@ use at_base::notice::Kind;
 use at_base::outs::{Effects, Outs};
 use at_base::target::Target;
 use at_base::text::Text;
+use at_model::rules::records_are_well_formed;
 use completion_at::activities::{
     Activities, plans_as_the_model as activities_as_the_model,
     refuses_as_the_model as requests_as_the_model,
@@ -45,6 +46,14 @@ pub fn steps_as_the_model()
     leaves_as_the_model();
     activities_as_the_model();
     requests_as_the_model();
+}
+
+/// The records that a book within its bounds plans are well-formed, and it stays within them.
+pub fn keeps_bounds()
+    ensures { KeepsBounds }
+{
+    steps_as_the_model();
+    records_are_well_formed();
 }
 
 fn append(effects: &mut Effects, more: Effects) -> Result<(), AllocError>

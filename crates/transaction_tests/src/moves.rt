@@ -531,18 +531,38 @@ fn decision_line(
     }
 }
 
-/// What a message of this name does there, with the answer of the transaction's own request.
+/// What a decision does, with the answer of the transaction's own request.
+fn answer_line(
+    alloc: Global,
+    moment: &Moment,
+    transaction: &Transaction,
+    decision: Decision<Transaction>,
+) -> Result<String, AllocError> {
+    let answered = with_answer(alloc, moment, transaction, decision)?;
+    decision_line(alloc, transaction, &answered)
+}
+
+fn arrival_line(
+    alloc: Global,
+    moment: &Moment,
+    arrived: &Arrived,
+    at: &str,
+    transaction: &Transaction,
+) -> Result<String, AllocError> {
+    let decision = decision_at(alloc, moment, arrived, at, transaction)?;
+    answer_line(alloc, moment, transaction, decision)
+}
+
+/// What a message of this name does there.
 fn step_line(
     alloc: Global,
+    moment: &Moment,
     transaction: &Transaction,
     at: &str,
     name: &str,
 ) -> Result<String, AllocError> {
-    let moment = moment(alloc)?;
     let arrived = arrived(alloc, at, name)?;
-    let decision = decision_at(alloc, &moment, arrived.as_ref(), at, transaction)?;
-    let answered = with_answer(alloc, &moment, transaction, decision)?;
-    decision_line(alloc, transaction, &answered)
+    arrival_line(alloc, moment, arrived.as_ref(), at, transaction)
 }
 
 /// What the step of a row does.
@@ -554,8 +574,9 @@ fn row_line(alloc: Global, words: &str) -> Result<String, AllocError> {
     let completion = words.next().unwrap_or("");
     let at = words.next().unwrap_or("");
     let name = words.next().unwrap_or("");
+    let moment = moment(alloc)?;
     let transaction = transaction_of(alloc, superior, phase, seats, completion)?;
-    step_line(alloc, transaction.as_ref(), at, name)
+    step_line(alloc, &moment, transaction.as_ref(), at, name)
 }
 
 /// The rows that don't stand, and what follows in their place.
