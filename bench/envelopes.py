@@ -1,10 +1,10 @@
 #!/usr/bin/env python3
-"""Times `atx cell` beside xmllint and expat, on the same files, in one run.
+"""Times `atx cell` and `atx check` beside xmllint and expat, on the same files, in one run.
 
-Usage: bench/cell.py [ROUNDS]
+Usage: bench/envelopes.py [ROUNDS]
 
 Each figure is the least of ROUNDS runs (default 15). A process's start is taken out: of atx that of a faulty command
-line, of xmllint that of a tiny file. expat parses in this process. The last two columns compare `atx cell` with its
+line, of xmllint that of a tiny file. expat parses in this process. The last two columns compare a command with its
 run on the plain text: `net` without the start of a process, `whole` with it.
 """
 import os
@@ -96,6 +96,28 @@ def parse(data):
     return call
 
 
+def table(command, lint, lint_start, atx_start, rounds, folder):
+    print(f"atx {' '.join(command)}")
+    print(f"{'input':<22}{'bytes':>7}{'atx ms':>9}{'MB/s':>8}{'xmllint ms':>12}{'expat ms':>10}{'to expat':>10}{'net':>8}{'whole':>8}")
+    plain = None
+    for name, text in inputs():
+        data = text.encode()
+        path = os.path.join(folder, "input.xml")
+        with open(path, "wb") as file:
+            file.write(data)
+        whole = least(rounds, process([PROGRAM] + command, path))
+        atx = max(whole - atx_start, 1e-6)
+        xml = max(least(rounds, process([lint, "--noout", "--huge", "-"], path)) - lint_start, 1e-6) if lint else 0.0
+        sax = least(rounds, parse(data))
+        if name.startswith("plain"):
+            plain = (atx, whole)
+        net = f"{atx / plain[0]:.2f}" if plain else "-"
+        run = f"{whole / plain[1]:.2f}" if plain else "-"
+        print(
+            f"{name:<22}{len(data):>7}{atx * 1e3:>9.2f}{len(data) / atx / 1e6:>8.1f}{xml * 1e3:>12.2f}{sax * 1e3:>10.2f}{atx / sax:>10.2f}{net:>8}{run:>8}"
+        )
+
+
 def main():
     rounds = int(sys.argv[1]) if len(sys.argv) > 1 else 15
     if not os.access(PROGRAM, os.X_OK):
@@ -108,24 +130,8 @@ def main():
         atx_start = least(rounds, process([PROGRAM], tiny))
         lint_start = least(rounds, process([lint, "--noout", "--huge", "-"], tiny)) if lint else 0.0
         print(f"start of a process: atx {atx_start * 1e3:.2f} ms, xmllint {lint_start * 1e3:.2f} ms")
-        print(f"{'input':<22}{'bytes':>7}{'atx ms':>9}{'MB/s':>8}{'xmllint ms':>12}{'expat ms':>10}{'to expat':>10}{'net':>8}{'whole':>8}")
-        plain = None
-        for name, text in inputs():
-            data = text.encode()
-            path = os.path.join(folder, "input.xml")
-            with open(path, "wb") as file:
-                file.write(data)
-            whole = least(rounds, process([PROGRAM, "cell", "--state", "None"], path))
-            atx = max(whole - atx_start, 1e-6)
-            xml = max(least(rounds, process([lint, "--noout", "--huge", "-"], path)) - lint_start, 1e-6) if lint else 0.0
-            sax = least(rounds, parse(data))
-            if name.startswith("plain"):
-                plain = (atx, whole)
-            net = f"{atx / plain[0]:.2f}" if plain else "-"
-            run = f"{whole / plain[1]:.2f}" if plain else "-"
-            print(
-                f"{name:<22}{len(data):>7}{atx * 1e3:>9.2f}{len(data) / atx / 1e6:>8.1f}{xml * 1e3:>12.2f}{sax * 1e3:>10.2f}{atx / sax:>10.2f}{net:>8}{run:>8}"
-            )
+        for command in (["cell", "--state", "None"], ["check"]):
+            table(command, lint, lint_start, atx_start, rounds, folder)
 
 
 if __name__ == "__main__":
