@@ -1,7 +1,7 @@
 //! Books whose posts a loop carries from one to the other.
 
 use at_base::epr::{Epr, Reply};
-use at_base::event::{Arrived, Event, Local};
+use at_base::event::{Arrived, Event, Item, Local};
 use at_base::id::Id;
 use at_base::message::{Message, cloned_option};
 use at_base::notice::{Kind, Notice, Vote};
@@ -174,22 +174,30 @@ fn log_post(alloc: Global, net: &mut Net, node: usize, post: &Post) -> Result<()
     log(alloc, net, line.as_str())
 }
 
-/// What a step sent and brought about: effects, then posts. Answers on the connection are left out.
-fn log_outs(alloc: Global, net: &mut Net, node: usize, outs: Outs) -> Result<(), AllocError> {
-    let Outs { outs, effects } = outs;
-    for effect in effects.as_slice() {
-        let (what, how) = effect_name(*effect);
-        let line = format!(in alloc; "{node} {what} {how}")?;
-        log(alloc, net, line.as_str())?;
-    }
-    for out in outs.into_vec() {
-        match out {
-            Out::Post(post) => {
-                log_post(alloc, net, node, &post)?;
-                net.posts.push(post)?;
-            }
-            Out::Answer { .. } => {}
+fn log_effect(alloc: Global, net: &mut Net, node: usize, effect: Effect) -> Result<(), AllocError> {
+    let (what, how) = effect_name(effect);
+    let line = format!(in alloc; "{node} {what} {how}")?;
+    log(alloc, net, line.as_str())
+}
+
+fn send(alloc: Global, net: &mut Net, node: usize, out: &Out) -> Result<(), AllocError> {
+    match out {
+        Out::Post(post) => {
+            log_post(alloc, net, node, post)?;
+            net.posts.push(post.clone()?)?;
+            Ok(())
         }
+        Out::Answer { .. } => Ok(()),
+    }
+}
+
+/// What a step sent and brought about: effects, then posts. Answers on the connection are left out.
+fn log_outs(alloc: Global, net: &mut Net, node: usize, outs: &Outs) -> Result<(), AllocError> {
+    for effect in outs.effects.as_slice() {
+        log_effect(alloc, net, node, *effect)?;
+    }
+    for out in outs.outs.as_slice() {
+        send(alloc, net, node, out)?;
     }
     Ok(())
 }
@@ -215,6 +223,20 @@ fn done(
     }
 }
 
+fn log_step(
+    alloc: Global,
+    net: &mut Net,
+    node: usize,
+    record: &str,
+    outs: &Outs,
+) -> Result<(), AllocError> {
+    if !record.is_empty() {
+        let line = format!(in alloc; "{node} record {record}")?;
+        log(alloc, net, line.as_str())?;
+    }
+    log_outs(alloc, net, node, outs)
+}
+
 fn step(
     alloc: Global,
     net: &mut Net,
@@ -222,14 +244,9 @@ fn step(
     event: &Event,
     now: u64,
 ) -> Result<(), AllocError> {
-    let (record, outs) = done(alloc, net, node, event, now)?;
-    if !record.is_empty() {
-        let line = format!(in alloc; "{node} record {record}")?;
-        log(alloc, net, line.as_str())?;
-    }
-    match outs {
-        Some(outs) => log_outs(alloc, net, node, outs),
-        None => Ok(()),
+    match done(alloc, net, node, event, now)? {
+        (record, Some(outs)) => log_step(alloc, net, node, record, &outs),
+        (_, None) => Ok(()),
     }
 }
 
@@ -308,19 +325,26 @@ fn local_in(alloc: Global, words: &str) -> Result<Local, AllocError> {
     }
 }
 
+fn next_due(net: &mut Net, node: usize, after: Option<Item>, now: u64) -> Option<Item> {
+    match net.books.get_mut(node.saturating_sub(1)) {
+        Some(book) => book.next_due(after, now),
+        None => None,
+    }
+}
+
+fn due(alloc: Global, net: &mut Net, node: usize, item: &Item, now: u64) -> Result<(), AllocError> {
+    step(alloc, net, node, &Event::Due(*item), now)
+}
+
 /// Every item of a node that is due.
 fn tick(alloc: Global, net: &mut Net, node: usize, now: u64) -> Result<(), AllocError> {
     let mut after = None;
     for _ in 0..20 {
-        let item = match net.books.get_mut(node.saturating_sub(1)) {
-            Some(book) => book.next_due(after, now),
-            None => None,
+        let Some(item) = next_due(net, node, after, now) else {
+            return Ok(());
         };
-        match item {
-            Some(item) => step(alloc, net, node, &Event::Due(item), now)?,
-            None => return Ok(()),
-        }
-        after = item;
+        due(alloc, net, node, &item, now)?;
+        after = Some(item);
     }
     Ok(())
 }
