@@ -1,9 +1,7 @@
-//! Tests of transactions and of whole books: what a message does at the parts of a transaction, what an event does to all
-//! of a node, and books that post to one another. They stand apart, since a crate with tests is proved twice.
+//! Tests of transactions: what a message does at their parts, and what an event does to all of a node. They stand apart,
+//! since a crate with tests is proved twice.
 #![tactic(auto)]
 
-#[cfg(test)]
-mod books;
 #[cfg(test)]
 mod moves;
 #[cfg(test)]

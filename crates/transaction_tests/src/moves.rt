@@ -260,6 +260,46 @@ fn completion_of(alloc: Global, state: &str) -> Result<Option<Completion>, Alloc
     }))
 }
 
+/// A root without seats, in this phase.
+fn bare(alloc: Global, phase: Phase) -> Result<Box<Transaction>, AllocError> {
+    let identifier = text(alloc, "http://n3.example/t/1-1")?;
+    let transaction = Transaction {
+        id: Id::new(1, 1),
+        identifier,
+        superior: None,
+        phase,
+        deadline: None,
+        sent: Some(100000),
+        aborted: None,
+        seats: Seats::new(alloc),
+        completion: None,
+    };
+    Ok(Box::new(alloc, transaction)?)
+}
+
+fn put_superior(
+    alloc: Global,
+    transaction: &mut Transaction,
+    words: &str,
+) -> Result<(), AllocError> {
+    transaction.superior = superior_of(alloc, words, transaction.phase)?;
+    Ok(())
+}
+
+fn put_seats(alloc: Global, transaction: &mut Transaction, words: &str) -> Result<(), AllocError> {
+    transaction.seats = seats_of(alloc, words)?;
+    Ok(())
+}
+
+fn put_completion(
+    alloc: Global,
+    transaction: &mut Transaction,
+    words: &str,
+) -> Result<(), AllocError> {
+    transaction.completion = completion_of(alloc, words)?;
+    Ok(())
+}
+
 /// The transaction of four words, boxed.
 fn transaction_of(
     alloc: Global,
@@ -268,23 +308,11 @@ fn transaction_of(
     seats: &str,
     completion: &str,
 ) -> Result<Box<Transaction>, AllocError> {
-    let phase = phase_of(phase);
-    let identifier = text(alloc, "http://n3.example/t/1-1")?;
-    let superior = superior_of(alloc, superior, phase)?;
-    let seats = seats_of(alloc, seats)?;
-    let completion = completion_of(alloc, completion)?;
-    let transaction = Transaction {
-        id: Id::new(1, 1),
-        identifier,
-        superior,
-        phase,
-        deadline: None,
-        sent: Some(100000),
-        aborted: None,
-        seats,
-        completion,
-    };
-    Ok(Box::new(alloc, transaction)?)
+    let mut transaction = bare(alloc, phase_of(phase))?;
+    put_superior(alloc, &mut transaction, superior)?;
+    put_seats(alloc, &mut transaction, seats)?;
+    put_completion(alloc, &mut transaction, completion)?;
+    Ok(transaction)
 }
 
 fn notice_of(name: &str) -> Option<Notice> {

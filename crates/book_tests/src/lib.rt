@@ -1,0 +1,5 @@
+//! Tests of whole books, which post to one another. They stand apart, since a crate with tests is proved twice.
+#![tactic(auto)]
+
+#[cfg(test)]
+mod books;
