@@ -349,18 +349,32 @@ fn tick(alloc: Global, net: &mut Net, node: usize, now: u64) -> Result<(), Alloc
     Ok(())
 }
 
-/// A line: `TIME NODE tick`, `TIME NODE REQUEST`, or `TIME NODE only REQUEST`, whose posts are lost.
+fn ask(alloc: Global, net: &mut Net, node: usize, now: u64, words: &str) -> Result<(), AllocError> {
+    let event = Event::Local(local_in(alloc, words)?);
+    step(alloc, net, node, &event, now)
+}
+
+fn act_at(
+    alloc: Global,
+    net: &mut Net,
+    node: usize,
+    now: u64,
+    words: &str,
+) -> Result<(), AllocError> {
+    if words == "tick" {
+        tick(alloc, net, node, now)
+    } else {
+        ask(alloc, net, node, now, words)
+    }
+}
+
+/// A line: `TIME NODE tick`, or `TIME NODE REQUEST`.
 fn act(alloc: Global, net: &mut Net, line: &str) -> Result<(), AllocError> {
     let mut words = line.splitn(3, ' ');
     let now = words.next().unwrap_or("").parse().unwrap_or(0);
     let node = words.next().unwrap_or("").parse().unwrap_or(0);
     let rest = words.next().unwrap_or("");
-    if rest == "tick" {
-        tick(alloc, net, node, now)?;
-    } else {
-        let event = Event::Local(local_in(alloc, rest)?);
-        step(alloc, net, node, &event, now)?;
-    }
+    act_at(alloc, net, node, now, rest)?;
     carry(alloc, net, now)
 }
 
