@@ -1,5 +1,0 @@
-//! Tests of whole books, which post to one another. They stand apart, since a crate with tests is proved twice.
-#![tactic(auto)]
-
-#[cfg(test)]
-mod books;
