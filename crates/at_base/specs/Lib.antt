@@ -1,3 +1,4 @@
+pub mod Held
 pub mod Chars
 pub mod IdText
 pub mod MessageId

@@ -9,10 +9,19 @@ use std::alloc::AllocError;
 ///
 /// `params` is empty or the canonical text of one `wsa:ReferenceParameters` element. The two together have at most
 /// 2,048 bytes.
-#[derive(Debug, PartialEq, Eq, Drop)]
+#[derive(Debug, PartialEq, Eq)]
 pub struct Epr {
     pub address: Text,
     pub params: Text,
+}
+
+impl Drop for Epr {
+    fn drop(self) {
+        let Epr {
+            address: _address,
+            params: _params,
+        } = self;
+    }
 }
 
 impl Clone for Epr {
@@ -27,13 +36,23 @@ impl Clone for Epr {
 }
 
 /// Where an answer goes (WS-Addressing 1.0 Core, section 3.4).
-#[derive(Debug, PartialEq, Eq, Drop)]
+#[derive(Debug, PartialEq, Eq)]
 pub enum Reply {
     /// Back on the connection that the request came on.
     Anonymous,
     /// Nowhere.
     Nobody,
     At(Epr),
+}
+
+impl Drop for Reply {
+    fn drop(self) {
+        match self {
+            Reply::Anonymous => {}
+            Reply::Nobody => {}
+            Reply::At(_held) => {}
+        }
+    }
 }
 
 impl Clone for Reply {

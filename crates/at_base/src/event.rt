@@ -13,7 +13,7 @@ use std::alloc::AllocError;
 /// A request of the program that runs an initiator.
 ///
 /// `coordinator` and `service` are base URLs of nodes, at most 1,024 bytes; `key` and `value` have at most 256 bytes.
-#[derive(Debug, PartialEq, Eq, Drop)]
+#[derive(Debug, PartialEq, Eq)]
 pub enum Local {
     /// Makes an activity: asks the coordinator for a context that lasts `ms` milliseconds, or any time where it is 0.
     Begin {
@@ -44,8 +44,37 @@ pub enum Local {
     },
 }
 
+impl Drop for Local {
+    fn drop(self) {
+        match self {
+            Local::Begin {
+                coordinator: _coordinator,
+                ms: _ms,
+            } => {}
+            Local::Interpose {
+                activity: _activity,
+                coordinator: _coordinator,
+            } => {}
+            Local::Work {
+                activity: _activity,
+                service: _service,
+                kind: _kind,
+                vote: _vote,
+                key: _key,
+                value: _value,
+            } => {}
+            Local::Commit {
+                activity: _activity,
+            } => {}
+            Local::Rollback {
+                activity: _activity,
+            } => {}
+        }
+    }
+}
+
 /// A message as it reaches the book.
-#[derive(Debug, PartialEq, Eq, Drop)]
+#[derive(Debug, PartialEq, Eq)]
 pub struct Arrived {
     pub target: Target,
     /// Its MessageID.
@@ -63,6 +92,21 @@ pub struct Arrived {
     pub message: Message,
 }
 
+impl Drop for Arrived {
+    fn drop(self) {
+        let Arrived {
+            target: _target,
+            id: _id,
+            relates: _relates,
+            from: _from,
+            reply: _reply,
+            fault: _fault,
+            postable: _postable,
+            message: _message,
+        } = self;
+    }
+}
+
 /// A transaction, leaf or activity, by its id.
 #[derive(Clone, Copy, Debug, PartialEq, Eq)]
 pub enum Item {
@@ -72,7 +116,7 @@ pub enum Item {
 }
 
 /// What a step is asked for.
-#[derive(Debug, PartialEq, Eq, Drop)]
+#[derive(Debug, PartialEq, Eq)]
 pub enum Event {
     Arrived(Arrived),
     Local(Local),
@@ -80,8 +124,18 @@ pub enum Event {
     Due(Item),
 }
 
+impl Drop for Event {
+    fn drop(self) {
+        match self {
+            Event::Arrived(_held) => {}
+            Event::Local(_held) => {}
+            Event::Due(_held) => {}
+        }
+    }
+}
+
 /// What a core is told beside the event.
-#[derive(Debug, PartialEq, Eq, Drop)]
+#[derive(Debug, PartialEq, Eq)]
 pub struct Moment {
     /// Milliseconds: the greater of the clock and the last time seen.
     pub now: u64,
@@ -89,6 +143,16 @@ pub struct Moment {
     pub next: Option<Id>,
     /// The node's base address, at most 1,024 bytes, each in 33 to 126.
     pub base: Text,
+}
+
+impl Drop for Moment {
+    fn drop(self) {
+        let Moment {
+            now: _now,
+            next: _next,
+            base: _base,
+        } = self;
+    }
 }
 
 impl Clone for Local {

@@ -8,7 +8,7 @@ use crate::text::Text;
 use std::alloc::AllocError;
 
 /// A coordination context (WS-Coordination 1.2, section 2).
-#[derive(Debug, PartialEq, Eq, Drop)]
+#[derive(Debug, PartialEq, Eq)]
 pub struct Context {
     /// The coordination context's Identifier, 1 to 2,048 bytes.
     pub identifier: Text,
@@ -20,8 +20,19 @@ pub struct Context {
     pub registration: Epr,
 }
 
+impl Drop for Context {
+    fn drop(self) {
+        let Context {
+            identifier: _identifier,
+            expires: _expires,
+            coordination: _coordination,
+            registration: _registration,
+        } = self;
+    }
+}
+
 /// The body of CreateCoordinationContext (WS-Coordination 1.2, section 3.1).
-#[derive(Debug, PartialEq, Eq, Drop)]
+#[derive(Debug, PartialEq, Eq)]
 pub struct Create {
     /// Milliseconds that the context may last, or none.
     pub expires: Option<u32>,
@@ -31,8 +42,18 @@ pub struct Create {
     pub coordination: Text,
 }
 
+impl Drop for Create {
+    fn drop(self) {
+        let Create {
+            expires: _expires,
+            current: _current,
+            coordination: _coordination,
+        } = self;
+    }
+}
+
 /// The body of Register (WS-Coordination 1.2, section 3.2).
-#[derive(Debug, PartialEq, Eq, Drop)]
+#[derive(Debug, PartialEq, Eq)]
 pub struct Register {
     /// The protocol identifier, a URI.
     pub protocol: Text,
@@ -40,8 +61,17 @@ pub struct Register {
     pub participant: Epr,
 }
 
+impl Drop for Register {
+    fn drop(self) {
+        let Register {
+            protocol: _protocol,
+            participant: _participant,
+        } = self;
+    }
+}
+
 /// The body of Work, by which an initiator asks a participant for a change under a context (this project's profile).
-#[derive(Debug, PartialEq, Eq, Drop)]
+#[derive(Debug, PartialEq, Eq)]
 pub struct Work {
     pub context: Context,
     /// At most 256 bytes.
@@ -54,8 +84,20 @@ pub struct Work {
     pub vote: Vote,
 }
 
+impl Drop for Work {
+    fn drop(self) {
+        let Work {
+            context: _context,
+            key: _key,
+            value: _value,
+            kind: _kind,
+            vote: _vote,
+        } = self;
+    }
+}
+
 /// A message.
-#[derive(Debug, PartialEq, Eq, Drop)]
+#[derive(Debug, PartialEq, Eq)]
 pub enum Message {
     /// CreateCoordinationContext.
     Create(Create),
@@ -70,6 +112,22 @@ pub enum Message {
     WorkRefused,
     /// A fault, by the local name of its code. It may be empty.
     Fault { name: Text },
+}
+
+impl Drop for Message {
+    fn drop(self) {
+        match self {
+            Message::Create(_held) => {}
+            Message::CreateResponse(_held) => {}
+            Message::Register(_held) => {}
+            Message::RegisterResponse(_held) => {}
+            Message::Notice(_held) => {}
+            Message::Work(_held) => {}
+            Message::WorkDone => {}
+            Message::WorkRefused => {}
+            Message::Fault { name: _name } => {}
+        }
+    }
 }
 
 /// The copy of a value that may be absent.

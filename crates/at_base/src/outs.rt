@@ -13,7 +13,7 @@ use std::alloc::AllocError;
 use std::marker::Model;
 
 /// A message that is sent.
-#[derive(Debug, PartialEq, Eq, Drop)]
+#[derive(Debug, PartialEq, Eq)]
 pub struct Post {
     /// On a notification the seat, leaf, link, completion seat or activity that sends it; none on all else, and on an
     /// answer of a table's None column. It isn't written.
@@ -31,12 +31,38 @@ pub struct Post {
     pub message: Message,
 }
 
+impl Drop for Post {
+    fn drop(self) {
+        let Post {
+            own: _own,
+            to: _to,
+            id: _id,
+            relates: _relates,
+            from: _from,
+            reply: _reply,
+            message: _message,
+        } = self;
+    }
+}
+
 /// One thing that a step sends.
-#[derive(Debug, PartialEq, Eq, Drop)]
+#[derive(Debug, PartialEq, Eq)]
 pub enum Out {
     /// The answer on the connection: the HTTP status, and the envelope in it.
     Answer { status: u16, reply: Option<Post> },
     Post(Post),
+}
+
+impl Drop for Out {
+    fn drop(self) {
+        match self {
+            Out::Answer {
+                status: _status,
+                reply: _reply,
+            } => {}
+            Out::Post(_held) => {}
+        }
+    }
 }
 
 /// How a transaction or leaf ended.

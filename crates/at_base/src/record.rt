@@ -10,10 +10,19 @@ use std::alloc::AllocError;
 use std::marker::Model;
 
 /// A durable seat that voted Prepared: its number, 1 to 65,535, and the participant's endpoint.
-#[derive(Debug, PartialEq, Eq, Drop)]
+#[derive(Debug, PartialEq, Eq)]
 pub struct Seated {
     pub number: u16,
     pub endpoint: Epr,
+}
+
+impl Drop for Seated {
+    fn drop(self) {
+        let Seated {
+            number: _number,
+            endpoint: _endpoint,
+        } = self;
+    }
 }
 
 impl Clone for Seated {
@@ -104,7 +113,7 @@ impl Eq for Seats {
 }
 
 /// A record of a node's journal.
-#[derive(Debug, PartialEq, Eq, Drop)]
+#[derive(Debug, PartialEq, Eq)]
 pub enum Record {
     /// A node started, in this incarnation, at least 1.
     Start {
@@ -144,6 +153,35 @@ pub enum Record {
     Ended {
         id: Id,
     },
+}
+
+impl Drop for Record {
+    fn drop(self) {
+        match self {
+            Record::Start {
+                incarnation: _incarnation,
+            } => {}
+            Record::LeafPrepared {
+                id: _id,
+                coordinator: _coordinator,
+                key: _key,
+                value: _value,
+            } => {}
+            Record::LeafCommitted { id: _id } => {}
+            Record::LeafAborted { id: _id } => {}
+            Record::Voted {
+                id: _id,
+                superior: _superior,
+                seats: _seats,
+            } => {}
+            Record::Decided {
+                id: _id,
+                seats: _seats,
+            } => {}
+            Record::SubCommitted { id: _id } => {}
+            Record::Ended { id: _id } => {}
+        }
+    }
 }
 
 impl Clone for Record {

@@ -7,19 +7,43 @@ ghost use Rattle.std.specs.Cmp.{partial_equiv_from_equiv};
 use std::alloc::{AllocError, Global};
 use std::fmt;
 use std::marker::Model;
+use std::rc::Rc;
 
 /// A text in UTF-8. Its bounds are those of the place where it stands.
-#[derive(Debug, Drop)]
 pub struct Text {
-    inner: String,
+    held: Held,
+}
+
+/// The bytes of a text: its own, or those that copies of it share.
+enum Held {
+    Own(String),
+    Shared(Rc<String>),
 }
 
 impl Model for Text {
-    ghost use Rattle.std.specs.Prelude.{ℕ, List, string_bytes};
+    ghost use Rattle.std.specs.Prelude.{ℕ, List};
+    ghost use Rattle.at_base.specs.Held.{bytes_of};
 
     ghost Value = { List ℕ };
 
-    ghost view = { λ t. string_bytes t.inner };
+    ghost view = { λ t. bytes_of t.held };
+}
+
+impl Held {
+    /// By hand, and not derived, so that a caller's exits see one call and no variants.
+    fn let_go(self) {
+        match self {
+            Held::Own(_string) => {}
+            Held::Shared(_string) => {}
+        }
+    }
+}
+
+impl Drop for Text {
+    fn drop(self) {
+        let Text { held } = self;
+        held.let_go();
+    }
 }
 
 impl Text {
@@ -27,30 +51,47 @@ impl Text {
     pub fn from_string(inner: String) -> Text
         ensures { result ≡ string_bytes inner }
     {
-        Text { inner }
+        Text {
+            held: Held::Own(inner),
+        }
     }
 
-    /// The string of a text, without a copy.
-    pub fn into_string(self) -> String
-        ensures { string_bytes result ≡ self }
+    /// The same text, whose copies share its bytes: making one takes no memory.
+    pub fn into_shared(self, alloc: Global) -> Result<Text, AllocError>
+        ensures { IfOk result (λ t. t ≡ self) }
     {
-        self.inner
+        let Text { held } = self;
+        match held {
+            Held::Own(string) => Ok(Text {
+                held: Held::Shared(Rc::new(alloc, string)?),
+            }),
+            Held::Shared(string) => Ok(Text {
+                held: Held::Shared(string),
+            }),
+        }
     }
 
     /// A text of its own with the same bytes.
     pub fn copied(alloc: Global, text: &str) -> Result<Text, AllocError>
         ensures { IfOk result (λ t. t ≡ text.now) }
     {
-        Ok(Text {
-            inner: String::from_str(alloc, text)?,
-        })
+        Ok(Text::from_string(String::from_str(alloc, text)?))
     }
 
     /// The text as it stands.
     pub fn as_str(&self) -> &str
         ensures { result.now ≡ self.now }
     {
-        self.inner.as_str()
+        self.as_string().as_str()
+    }
+
+    fn as_string(&self) -> &String
+        ensures { string_bytes result.now ≡ self.now }
+    {
+        match &self.held {
+            Held::Own(string) => string,
+            Held::Shared(string) => string.as_ref(),
+        }
     }
 
     /// Adds to the end. After an error the text is as before.
@@ -58,17 +99,41 @@ impl Text {
         ensures ok { OnOk result (self.new ≡ self.old ++ more.now) }
         ensures err { OnErr result (self.new ≡ self.old) }
     {
-        self.inner.push_str(more)
+        if let Held::Own(string) = &mut self.held {
+            return string.push_str(more);
+        }
+        *self = joined(self.as_string(), more)?;
+        Ok(())
     }
+}
+
+/// A text and what follows it, in memory of their own.
+fn joined(text: &String, more: &str) -> Result<Text, AllocError>
+    ensures { IfOk result (λ own. own ≡ string_bytes text.now ++ more.now) }
+{
+    let mut own = text.clone()?;
+    own.push_str(more)?;
+    Ok(Text::from_string(own))
 }
 
 impl Clone for Text {
     ghost is_clone = { λ text copy. copy ≡ text };
 
     fn clone(&self) -> Result<Text, AllocError> {
-        Ok(Text {
-            inner: self.inner.clone()?,
-        })
+        match &self.held {
+            Held::Own(string) => Ok(Text {
+                held: Held::Own(string.clone()?),
+            }),
+            Held::Shared(string) => Ok(Text {
+                held: Held::Shared(string.clone()?),
+            }),
+        }
+    }
+}
+
+impl fmt::Debug for Text {
+    fn fmt<W: fmt::Write>(&self, f: &mut fmt::Formatter<W>) -> fmt::Result {
+        fmt::Debug::fmt(self.as_str(), f)
     }
 }
 
@@ -78,7 +143,7 @@ impl PartialEq for Text {
     ghost laws = { partial_equiv_from_equiv nat_list_eq_equiv };
 
     fn eq(&self, other: &Text) -> bool {
-        self.inner == other.inner
+        self.as_str() == other.as_str()
     }
 }
 
