@@ -8,3 +8,4 @@ pub mod Returned
 pub mod Spelled
 pub mod Understood
 pub mod Utf8
+pub mod Lengths

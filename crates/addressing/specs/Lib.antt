@@ -5,3 +5,4 @@ pub mod Posting
 pub mod Requests
 pub mod Stored
 pub mod Writing
+pub mod Lengths

@@ -1,11 +1,12 @@
 //! Endpoints (WS-Addressing 1.0 Core, section 2).
 
-ghost use Rattle.std.specs.Prelude.{◌≡◌, IfOk, Some};
+ghost use Rattle.std.specs.Prelude.{◌≡◌, ◌<◌, IfOk, IsTrue, Some, length};
 ghost use Rattle.std.specs.Option.{option_copied, option_map};
 ghost use Rattle.soap_profile.specs.Values.{text_value};
 ghost use Rattle.addressing.specs.Endpoints.{bounded, epr_of, fault_of, is_anonymous, is_nobody, joined, params_of, reply_at, reply_of};
 
 use crate::elements::Elements;
+use crate::long::has_long_space;
 use at_base::epr::{Epr, Reply};
 use at_base::text::Text;
 use soap_profile::value::text_value;
@@ -56,12 +57,26 @@ fn joined(
     }
 }
 
+#[tactic(auto, using(crate::proofs::Lengths::no_endpoint))]
 fn spelled(alloc: Global, address: &Tree, params: Option<&Tree>) -> Result<Option<Epr>, AllocError>
     ensures { IfOk result (λ epr. epr ≡ bounded (text_value address.now) (params_of (option_copied params.entry))) }
 {
+    if are_too_long(params) {
+        return Ok(None);
+    }
     let address = text_value(alloc, address)?;
     let params = canonical_params(alloc, params)?;
     bounded(alloc, address, params.as_slice())
+}
+
+/// Whether the parameters have no room in an endpoint, as a namespace in them shows.
+fn are_too_long(params: Option<&Tree>) -> bool
+    ensures { IsTrue result → 2048 < length (params_of (option_copied params.entry)) }
+{
+    match params {
+        Some(tree) => has_long_space(tree),
+        None => false,
+    }
 }
 
 fn canonical_params(alloc: Global, params: Option<&Tree>) -> Result<Vec<u8>, AllocError>

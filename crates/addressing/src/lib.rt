@@ -4,6 +4,7 @@
 mod elements;
 pub mod endpoint;
 pub mod headers;
+mod long;
 pub mod post_to;
 pub mod request;
 pub mod stored;

@@ -217,6 +217,13 @@ pub fn endpoint_tree(alloc: Global, endpoint: Endpoint, name: QName) -> Result<T
     ensures tree { IfOk result (λ t. t ≡ endpoint_tree endpoint name) }
     ensures reads { IfOk result (λ t. IsLegible endpoint → epr_of t ≡ Some (epr_in endpoint)) }
 {
+    let tree = endpoint_element(alloc, endpoint, name)?;
+    Ok(tree)
+}
+
+fn endpoint_element(alloc: Global, endpoint: Endpoint, name: QName) -> Result<Tree, AllocError>
+    ensures { IfOk result (λ t. t ≡ endpoint_tree endpoint name) }
+{
     let Endpoint { address, params } = endpoint;
     let mut parts = vec![in alloc; text_element(alloc, "Address", address.as_str())?]?;
     if let Some(params) = params {

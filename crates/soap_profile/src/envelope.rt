@@ -230,7 +230,8 @@ pub fn envelope_tree(alloc: Global, headers: Trees, body: Tree) -> Result<Tree, 
 {
     let header = soap_element(alloc, "Header", headers.into_vec())?;
     let body = soap_element(alloc, "Body", vec![in alloc; body]?)?;
-    soap_element(alloc, "Envelope", vec![in alloc; header, body]?)
+    let tree = soap_element(alloc, "Envelope", vec![in alloc; header, body]?)?;
+    Ok(tree)
 }
 
 /// An element of SOAP with these elements in it.

@@ -7,9 +7,15 @@ use std::marker::Model;
 use xml_profile::tree::Tree;
 
 /// Elements in order.
-#[derive(Debug, Drop)]
+#[derive(Debug)]
 pub struct Trees {
     items: Vec<Tree>,
+}
+
+impl Drop for Trees {
+    fn drop(self) {
+        let Trees { items: _items } = self;
+    }
 }
 
 impl Model for Trees {
@@ -46,7 +52,8 @@ impl Trees {
     pub fn into_vec(self) -> Vec<Tree>
         ensures { result.items ≡ self }
     {
-        self.items
+        let Trees { items } = self;
+        items
     }
 
     /// The elements as a slice.

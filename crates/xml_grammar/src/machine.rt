@@ -115,17 +115,17 @@ fn shut<'a>(
 }
 
 impl<'a> Machine<'a> {
-    pub fn new(alloc: Global) -> Machine<'a>
-        ensures { reading_of result ≡ reading 0 opening }
+    pub fn new(alloc: Global) -> Result<Machine<'a>, AllocError>
+        ensures { IfOk result (λ m. reading_of m ≡ reading 0 opening) }
     {
-        Machine {
+        Ok(Machine {
             alloc,
-            scope: Scope::new(alloc),
+            scope: Scope::new(alloc)?,
             frames: Vec::new(alloc),
             pending: String::new(alloc),
             ended: None,
             deepest: 0,
-        }
+        })
     }
 
     fn flush(&mut self) -> Result<(), AllocError>

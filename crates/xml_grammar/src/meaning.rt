@@ -51,13 +51,13 @@ fn declared_prefix<'a>(name: Parts<'a>) -> Option<&'a [char]>
 }
 
 impl<'a> Sorted<'a> {
-    fn add(&mut self, name: Parts<'a>, value: Text) -> Result<(), AllocError>
+    fn add(&mut self, alloc: Global, name: Parts<'a>, value: Text) -> Result<(), AllocError>
         ensures { OnOk result (sorted_of self.new ≡ joined (sorted_of self.old) (sort_one (parts_of name.entry) value)) }
     {
         match declared_prefix(name) {
             Some(prefix) => self.declarations.push(Binding {
                 prefix,
-                space: value,
+                space: value.into_shared(alloc)?,
             })?,
             None => self.attributes.push(Spelled { name, value })?,
         }
@@ -77,7 +77,7 @@ fn sort<'a>(alloc: Global, pairs: Vec<Pair<'a>>) -> Result<Option<Sorted<'a>>, A
         let Some(name) = split_name(pair.name) else {
             return Ok(None);
         };
-        sorted.add(name, pair.value)?;
+        sorted.add(alloc, name, pair.value)?;
     }
     Ok(Some(sorted))
 }
@@ -94,15 +94,15 @@ fn prefixed_name(
         return Ok(None);
     };
     let local = utf8(alloc, name.local)?;
-    let space = Some(Text::copied(alloc, space)?);
+    let space = Some(space.clone()?);
     Ok(Some(QName { space, local }))
 }
 
-fn default_space(alloc: Global, scope: &Scope<'_>) -> Result<Option<Text>, AllocError>
+fn default_space(scope: &Scope<'_>) -> Result<Option<Text>, AllocError>
     ensures { IfOk result (λ o. o ≡ defaulted (lookup [] (bindings_of scope.now))) }
 {
     match scope.default_space() {
-        Some(space) => Ok(Some(Text::copied(alloc, space)?)),
+        Some(space) => Ok(Some(space.clone()?)),
         None => Ok(None),
     }
 }
@@ -119,7 +119,7 @@ fn element_name(
         return prefixed_name(alloc, scope, name);
     }
     let local = utf8(alloc, name.local)?;
-    let space = default_space(alloc, scope)?;
+    let space = default_space(scope)?;
     Ok(Some(QName { space, local }))
 }
 

@@ -110,7 +110,7 @@ fn are_xml_chars(cs: &[char]) -> bool
 fn read_document(alloc: Global, cs: &[char]) -> Result<Option<Found>, AllocError>
     ensures { IfOk result (Finds cs.now) }
 {
-    let mut machine = Machine::new(alloc);
+    let mut machine = Machine::new(alloc)?;
     let mut rest = cs;
     while !rest.is_empty() {
         let Some((token, more)) = read_token(alloc, rest)? else {

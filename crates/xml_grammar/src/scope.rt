@@ -1,9 +1,10 @@
 //! Bindings of namespaces in force (Namespaces in XML 1.0, sections 3, 5 and 6).
 
-ghost use Rattle.std.specs.Prelude.{◌≡◌, ℕ, List, ◌&&◌, ◌||◌, not, ◌++◌, ◌∷◌, ◌-◌, [], length, take, map, option_map, IsSome, IfOk, OnOk};
+ghost use Rattle.std.specs.Prelude.{◌≡◌, ℕ, List, ◌&&◌, ◌||◌, not, ◌++◌, ◌∷◌, ◌-◌, [], length, take, map, IsSome, IfOk, OnOk};
+ghost use Rattle.std.specs.Option.{option_copied};
 ghost use Rattle.std.specs.Map.{update};
 ghost use Rattle.std.specs.Str.{bytes_eq};
-ghost use Rattle.xml_grammar.specs.Namespaces.{defaulted, is_empty, lookup, may_bind, may_declare, space_of};
+ghost use Rattle.xml_grammar.specs.Namespaces.{defaulted, is_empty, lookup, may_bind, may_declare, space_of, xml_space};
 ghost use Rattle.xml_grammar.specs.Places.{Finds, HidesEach, binding_of, place_in};
 
 use crate::declaration::is_word;
@@ -13,7 +14,8 @@ use std::alloc::{AllocError, Global};
 use std::collections::{BTreeMap, BTreeSet};
 use xml_profile::names::{XML, XMLNS};
 
-/// A prefix and its namespace. The default namespace has the empty prefix, and none of it the empty text.
+/// A prefix and its namespace, whose copies share its bytes. The default namespace has the empty prefix, and none of it the
+/// empty text.
 #[derive(Drop)]
 pub struct Binding<'a> {
     pub prefix: &'a [char],
@@ -33,8 +35,11 @@ pub struct Scope<'a> {
     held: Vec<Held<'a>>,
     /// The place of the last binding of each prefix.
     latest: BTreeMap<&'a [char], usize>,
+    /// The namespace of the prefix `xml`.
+    xml: Text,
     ghost found: { Finds latest held.items },
     ghost hides: { HidesEach held.items },
+    ghost named: { xml ≡ xml_space },
 }
 
 /// Puts back what a map of places had at a prefix that is there. It takes no memory.
@@ -55,13 +60,14 @@ fn restore<'a>(latest: &mut BTreeMap<&'a [char], usize>, prefix: &'a [char], hid
 impl<'a> Scope<'a> {
     ghost use Rattle.xml_grammar.specs.Open.{bindings_of};
 
-    pub fn new(alloc: Global) -> Scope<'a>
-        ensures { bindings_of result ≡ [] }
+    pub fn new(alloc: Global) -> Result<Scope<'a>, AllocError>
+        ensures { IfOk result (λ s. bindings_of s ≡ []) }
     {
-        Scope {
+        Ok(Scope {
             held: Vec::new(alloc),
             latest: BTreeMap::new(alloc),
-        }
+            xml: Text::copied(alloc, XML)?.into_shared(alloc)?,
+        })
     }
 
     /// The number of bindings.
@@ -109,32 +115,33 @@ impl<'a> Scope<'a> {
         }
     }
 
-    fn lookup(&self, prefix: &[char]) -> Option<&str>
-        ensures { option_map (λ s. s.now) result ≡ lookup prefix.now (bindings_of self.now) }
+    fn lookup(&self, prefix: &[char]) -> Option<&Text>
+        ensures { option_copied result ≡ lookup prefix.now (bindings_of self.now) }
     {
         let place = self.latest.get(prefix)?;
         let held = self.held.get(*place)?;
-        Some(held.binding.space.as_str())
+        Some(&held.binding.space)
     }
 
     /// The namespace that a prefix is bound to (section 3). None where it is unbound.
-    pub fn space_of(&self, prefix: &[char]) -> Option<&str>
-        ensures { option_map (λ s. s.now) result ≡ space_of (bindings_of self.now) prefix.now }
+    pub fn space_of(&self, prefix: &[char]) -> Option<&Text>
+        ensures { option_copied result ≡ space_of (bindings_of self.now) prefix.now }
     {
         if is_word(prefix, b"xml") {
-            return Some(XML);
+            return Some(&self.xml);
         }
         self.lookup(prefix)
     }
 
     /// The default namespace. None where there is none (section 6.2).
-    pub fn default_space(&self) -> Option<&str>
-        ensures { option_map (λ s. s.now) result ≡ defaulted (lookup [] (bindings_of self.now)) }
+    pub fn default_space(&self) -> Option<&Text>
+        ensures { option_copied result ≡ defaulted (lookup [] (bindings_of self.now)) }
     {
-        match self.lookup(&[]) {
-            Some("") => None,
-            found => found,
+        let space = self.lookup(&[])?;
+        if space.as_str().is_empty() {
+            return None;
         }
+        Some(space)
     }
 }
 

@@ -3,6 +3,7 @@ pub mod Children
 pub mod Depth
 pub mod Prefixes
 pub mod Canonical
+pub mod Places
 pub mod Appending
 pub mod Spellable
 pub mod Declaring

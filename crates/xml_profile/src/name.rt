@@ -8,10 +8,19 @@ use std::alloc::AllocError;
 use std::marker::Model;
 
 /// An expanded name: a namespace or none, and a local name.
-#[derive(Debug, PartialEq, Eq, Drop)]
+#[derive(Debug, PartialEq, Eq)]
 pub struct QName {
     pub space: Option<Text>,
     pub local: Text,
+}
+
+impl Drop for QName {
+    fn drop(self) {
+        let QName {
+            space: _space,
+            local: _local,
+        } = self;
+    }
 }
 
 impl Clone for QName {
@@ -25,10 +34,19 @@ impl Clone for QName {
 }
 
 /// An attribute, its value normalised (XML 1.0, section 3.3.3).
-#[derive(Debug, PartialEq, Eq, Drop)]
+#[derive(Debug, PartialEq, Eq)]
 pub struct Attribute {
     pub name: QName,
     pub value: Text,
+}
+
+impl Drop for Attribute {
+    fn drop(self) {
+        let Attribute {
+            name: _name,
+            value: _value,
+        } = self;
+    }
 }
 
 impl Clone for Attribute {
@@ -42,9 +60,15 @@ impl Clone for Attribute {
 }
 
 /// The attributes of an element in order, declarations of namespaces not among them. No two names are equal.
-#[derive(Debug, Drop)]
+#[derive(Debug)]
 pub struct Attributes {
     items: Vec<Attribute>,
+}
+
+impl Drop for Attributes {
+    fn drop(self) {
+        let Attributes { items: _items } = self;
+    }
 }
 
 impl Model for Attributes {
@@ -68,7 +92,8 @@ impl Attributes {
     pub fn into_vec(self) -> Vec<Attribute>
         ensures { result.items ≡ self }
     {
-        self.items
+        let Attributes { items } = self;
+        items
     }
 
     /// The list as a slice.

@@ -4,15 +4,19 @@ ghost use Rattle.std.specs.Prelude.{◌≡◌, ◌<◌, ◌^◌, [], map, OnOk};
 ghost use Rattle.std.specs.List.{position_or_len};
 ghost use Rattle.std.specs.Str.{bytes_eq};
 ghost use Rattle.xml_profile.specs.Canonical.{with_space};
+ghost use Rattle.xml_profile.specs.Places.{Finds};
 
-use indexmap::IndexSet;
 use std::alloc::{AllocError, Global};
+use std::collections::BTreeMap;
 use std::marker::Model;
 
 /// Namespaces in the order in which they were added, each once.
 #[derive(Drop)]
 pub struct Spaces<'a> {
-    set: IndexSet<&'a str>,
+    items: Vec<&'a str>,
+    /// The place of each. Its order, unlike a hash, is nothing that who picks the namespaces can spoil.
+    places: BTreeMap<&'a str, usize>,
+    ghost found: { Finds places items.items },
 }
 
 impl<'a> Model for Spaces<'a> {
@@ -20,7 +24,7 @@ impl<'a> Model for Spaces<'a> {
 
     ghost Value = { List (List ℕ) };
 
-    ghost view = { λ s. map (λ space. space.now) s.set.keys };
+    ghost view = { λ s. map (λ space. space.now) s.items.items };
 }
 
 impl<'a> Spaces<'a> {
@@ -29,7 +33,8 @@ impl<'a> Spaces<'a> {
         ensures { result ≡ [] }
     {
         Spaces {
-            set: IndexSet::new(alloc),
+            items: Vec::new(alloc),
+            places: BTreeMap::new(alloc),
         }
     }
 
@@ -37,7 +42,13 @@ impl<'a> Spaces<'a> {
     pub fn add(&mut self, space: &'a str) -> Result<(), AllocError>
         ensures { OnOk result (self.new ≡ with_space self.old space.now) }
     {
-        self.set.insert(space)?;
+        if self.places.contains_key(space) {
+            return Ok(());
+        }
+        let place = self.items.len();
+        self.items.reserve(1)?;
+        self.places.insert(space, place)?;
+        self.items.push_reserved(space);
         Ok(())
     }
 
@@ -46,13 +57,17 @@ impl<'a> Spaces<'a> {
         ensures place { result ≡ position_or_len (bytes_eq space.now) self.now }
         ensures small { result < 2 ^ 63 }
     {
-        self.set.get_index_of(&space).unwrap_or(self.set.len())
+        let all = self.items.len();
+        match self.places.get(space) {
+            Some(place) => *place,
+            None => all,
+        }
     }
 
     /// All of them, in order.
     pub fn as_slice(&self) -> &[&'a str]
         ensures { map (λ space. space.now) result.now ≡ self.now }
     {
-        self.set.as_slice()
+        self.items.as_slice()
     }
 }

@@ -26,10 +26,17 @@ pub enum Child {
 }
 
 /// The children of an element, in order. No text is empty, and no two texts are adjacent.
-#[derive(Debug, Drop)]
+#[derive(Debug)]
 #[cycle(tree)]
 pub struct Children {
     items: Vec<Child>,
+}
+
+impl Drop for Children {
+    #[cycle(tree)]
+    fn drop(self) {
+        let Children { items: _items } = self;
+    }
 }
 
 impl Model for Children {
@@ -72,7 +79,8 @@ impl Children {
     pub fn into_vec(self) -> Vec<Child>
         ensures { forest_of result.items ≡ self }
     {
-        self.items
+        let Children { items } = self;
+        items
     }
 
     /// The children as a slice.

@@ -8,7 +8,7 @@ use Rattle.xml_grammar.proofs.Turns.{no_items, some_items}
 use Rattle.xml_grammar.proofs.reader.read_document.Goals as goal
 
 pub loop-rest-init : goal.loop-rest-init
-loop-rest-init c = reaches_first c.args.cs.now (reading_of c.new-machine.result) c.new-machine.ensures
+loop-rest-init c = reaches_first c.args.cs.now (reading_of c.in_ok-machine.machine) c.in_ok-machine.ensures
 
 pub returns-in_default : goal.returns-in_default
 returns-in_default c =

@@ -19,4 +19,5 @@ invariant_of-self-2 c =
     record {
       found = subst (Finds n) (sym grown) (held_found m n hs h c.args.self.now.found u);
       hides = subst HidesEach (sym grown) (held_hides hs h c.args.self.now.hides (c.in_ok-hidden.ensures.old ∙ c.args.self.now.found h.binding.prefix.now));
+      named = c.args.self.now.named;
     }

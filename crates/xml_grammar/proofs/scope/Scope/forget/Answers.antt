@@ -14,4 +14,5 @@ invariant_of-self c =
     record {
       found = popped_found s.latest c.restore.new.latest s.held.items hs c.in-Some.last e s.found s.hides c.restore.ensures;
       hides = popped_hides s.held.items hs c.in-Some.last e s.hides;
+      named = s.named;
     }
