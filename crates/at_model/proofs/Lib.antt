@@ -17,4 +17,6 @@ pub mod OneByOne
 pub mod Recording
 pub mod Making
 pub mod Linking
+pub mod Ordering
+pub mod Running
 pub mod Following

@@ -176,7 +176,7 @@ all_live P (r ∷ rest) commits (h, k) = all_join P (kept r rest) (live rest) (k
     kept_one P (records.SubCommitted id) rest commits h = tt
     kept_one P (records.Ended id) rest commits h = tt
 
-all_insert : {A : Type 0} (P : A → Type 0) (key : A → Numbers) (x : A) (xs : List A) → P x → AllByRecursion P xs → AllByRecursion P (insert_by key x xs)
+pub all_insert : {A : Type 0} (P : A → Type 0) (key : A → Numbers) (x : A) (xs : List A) → P x → AllByRecursion P xs → AllByRecursion P (insert_by key x xs)
 all_insert P key x [] h k = (h, tt)
 all_insert P key x (y ∷ ys) h (i, j) = all_if P (is_before (key y) (key x)) (y ∷ insert_by key x ys) (x ∷ (y ∷ ys)) (i, all_insert P key x ys h j) (h, (i, j))
 

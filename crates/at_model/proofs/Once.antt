@@ -54,7 +54,7 @@ all_among key ids (x ∷ xs) f = (
   all_among key ids xs (λ i h. f i (or_right (is_id i (key x)) (is_among (map key xs) i) h)),
 )
 
-held_all : (b : Book) → Holds (λ i. is_among (ids_of b) i ≡ true) (λ i. Unit {0}) b
+pub held_all : (b : Book) → Holds (λ i. is_among (ids_of b) i ≡ true) (λ i. Unit {0}) b
 held_all b = record {
   transactions = all_among transaction_id (ids_of b) b.transactions (in_front (map transaction_id b.transactions) (map leaf_id b.leaves ++ map activity_id b.activities));
   leaves = all_among leaf_id (ids_of b) b.leaves (λ i h.
@@ -136,7 +136,7 @@ one_behind b key id x [] same h =
 one_behind b key id x (y ∷ ys) same (h, k) =
     passes id (key y) (fresh (ids_of b) (map key (ys ++ x ∷ []))) (is_among (ids_of b) (key y)) h (one_behind b key id x ys same k)
 
-all_none : (b c : Book) → Holds (λ i. is_among (ids_of b) i ≡ true) (λ i. Unit {0}) c → new_ids b c ≡ []
+pub all_none : (b c : Book) → Holds (λ i. is_among (ids_of b) i ≡ true) (λ i. Unit {0}) c → new_ids b c ≡ []
 all_none b c h =
     parted b c ∙ nothing (fresh (ids_of b) (map transaction_id c.transactions)) (fresh (ids_of b) (map leaf_id c.leaves)) (fresh (ids_of b) (map activity_id c.activities))
     (none_of b transaction_id c.transactions h.transactions) (none_of b leaf_id c.leaves h.leaves) (none_of b activity_id c.activities h.activities)
@@ -212,7 +212,7 @@ record Grows (l m : Life) (made : List Numbers) : Type 0 where
 still : (l : Life) → IsGoodIn l.journal l.book → Grows l l []
 still l h = record { good = h; spent = λ id k. k; new = tt; now_spent = tt; apart = tt }
 
-journal_rises : (rs : List Record) (r : Record) → last_incarnation rs ≤ last_incarnation (rs ++ r ∷ [])
+pub journal_rises : (rs : List Record) (r : Record) → last_incarnation rs ≤ last_incarnation (rs ++ r ∷ [])
 journal_rises [] r = omega arith
 journal_rises (x ∷ xs) r = omega (arith, journal_rises xs r)
 

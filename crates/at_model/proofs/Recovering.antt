@@ -47,7 +47,7 @@ incarnations_rise rs = (last_of rs (last_incarnation rs) (le_self (last_incarnat
 pick_true : {A : Type 0} (b : Bool) (x y : A) → b ≡ true → (if b then x else y) ≡ x
 pick_true b x y e = ap (λ c. if c then x else y) e
 
-or_false : (a b : Bool) → (a || b) ≡ false → (a ≡ false) × (b ≡ false)
+pub or_false : (a b : Bool) → (a || b) ≡ false → (a ≡ false) × (b ≡ false)
 or_false true b e = absurd cc
 or_false false b e = (refl, e)
 
@@ -124,7 +124,7 @@ none_kept p (records.LeafAborted i) rest e none = refl
 none_kept p (records.SubCommitted i) rest e none = refl
 none_kept p (records.Ended i) rest e none = refl
 
-none_live : (p : Record → Bool) (rs : List Record) → list_any p rs ≡ false → list_any p (live rs) ≡ false
+pub none_live : (p : Record → Bool) (rs : List Record) → list_any p rs ≡ false → list_any p (live rs) ≡ false
 none_live p [] e = refl
 none_live p (r ∷ rest) e =
     let (here, behind) = or_false (p r) (list_any p rest) e in

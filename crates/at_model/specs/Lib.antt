@@ -21,6 +21,8 @@ pub mod Settle
 pub mod Laws
 pub mod Shapes
 pub mod Drawn
+pub mod Order
+pub mod Made
 pub mod Behind
 pub mod Sound
 pub mod Links

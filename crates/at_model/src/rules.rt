@@ -4,6 +4,8 @@ ghost use Rattle.at_model.specs.Laws.{StepsAnswerFirst, StepsKeepPlace, Recovers
 ghost use Rattle.at_model.specs.Behind.{DecidesBehindEveryAnswer};
 ghost use Rattle.at_model.specs.Drawn.{IdsStayDrawn, NoIdMadeTwice};
 ghost use Rattle.at_model.specs.Links.{LinksFollowPhases};
+ghost use Rattle.at_model.specs.Order.{IdsRise};
+ghost use Rattle.at_model.specs.Made.{MakesNoIdTwice};
 ghost use Rattle.at_model.specs.Sound.{RecordsAreWellFormed};
 ghost use Rattle.at_model.specs.Rules.{DecidesBehindAnswers, EndsAreUndone, VotesAreRecorded};
 ghost use Rattle.at_model.specs.Shapes.{StepsTouchOne};
@@ -86,4 +88,16 @@ pub fn records_are_well_formed()
 #[tactic(auto, using(crate::proofs::Following::links_follow_phases))]
 pub fn links_follow_phases()
     ensures { LinksFollowPhases }
+{}
+
+/// The lists of a book are in the order of making, over steps and over starts.
+#[tactic(auto, using(crate::proofs::Ordering::ids_rise))]
+pub fn ids_rise()
+    ensures { IdsRise }
+{}
+
+/// In every run of a world each node lives a life, in which no id is made twice.
+#[tactic(auto, using(crate::proofs::Running::makes_no_id_twice))]
+pub fn makes_no_id_twice()
+    ensures { MakesNoIdTwice }
 {}
