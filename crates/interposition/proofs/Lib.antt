@@ -2,3 +2,5 @@ pub mod Modelled
 pub mod Parting
 pub mod Taking
 pub mod Undrawn
+pub mod Finding
+pub mod Walking

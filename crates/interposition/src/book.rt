@@ -12,7 +12,7 @@ ghost use Rattle.completion_at.specs.Planning.{activities_plan, refused_at};
 ghost use Rattle.coordinator_at.specs.Planning.{transactions_lost, transactions_plan};
 ghost use Rattle.participant_at.specs.Planning.{leaves_lost, leaves_plan};
 ghost use Rattle.interposition.specs.Doing.{done, drawn, noted, sent};
-ghost use Rattle.interposition.specs.Due.{next_item, next_transaction, next_leaf, next_activity};
+ghost use Rattle.interposition.specs.Due.{FindsTheDue, WalksTheDue, next_item, next_transaction, next_leaf, next_activity};
 ghost use Rattle.interposition.specs.Planning.{arrived_part, at_activation, at_activity, at_leaf, at_participant, at_registration, at_transaction, at_work, due_part, part_of, planned, requested_part};
 ghost use Rattle.interposition.specs.declared.plan.Part.TheVariants as parts;
 ghost use Rattle.interposition.specs.Whole.{KeepsBounds, StepsAsTheModel};
@@ -26,7 +26,7 @@ use at_base::notice::Kind;
 use at_base::outs::{Effects, Outs};
 use at_base::target::Target;
 use at_base::text::Text;
-use at_model::rules::records_are_well_formed;
+use at_model::rules::{ids_rise, records_are_well_formed};
 use completion_at::activities::{
     Activities, plans_as_the_model as activities_as_the_model,
     refuses_as_the_model as requests_as_the_model,
@@ -54,6 +54,20 @@ pub fn keeps_bounds()
 {
     steps_as_the_model();
     records_are_well_formed();
+}
+
+/// The item that is asked next is the first that is due of those that come behind.
+#[tactic(auto, using(crate::proofs::Finding::finds_the_due))]
+pub fn finds_the_due()
+    ensures { FindsTheDue }
+{}
+
+/// Asking the items that a book holds at the beginning, each when its place comes, is finding the next one that is due in
+/// the book as it then is, again and again.
+pub fn walks_the_due()
+    ensures { WalksTheDue }
+{
+    ids_rise();
 }
 
 fn append(effects: &mut Effects, more: Effects) -> Result<(), AllocError>
@@ -464,6 +478,13 @@ impl Book {
         ensures { option_map refusal_of result ≡ refused_at (next_id self.now) self.now.activities local.now }
     {
         self.activities.refuses(self.next_id(), local)
+    }
+
+    /// The incarnation in which it began.
+    pub fn incarnation(&self) -> u32
+        ensures { result ≡ self.now.incarnation }
+    {
+        self.incarnation
     }
 
     fn next_activity(&self, moment: &Moment, after: Option<Id>) -> Option<Item>
