@@ -76,10 +76,10 @@ fn epr(alloc: Global, address: &str) -> Result<Epr, AllocError> {
     })
 }
 
-fn moment_at(alloc: Global, now: u64) -> Result<Moment, AllocError> {
+fn moment_at(alloc: Global, now: u64, next: Option<Id>) -> Result<Moment, AllocError> {
     Ok(Moment {
         now,
-        next: Some(Id::new(1, 2)),
+        next,
         base: text(alloc, "http://n3.example")?,
     })
 }
@@ -258,9 +258,10 @@ fn step(
     leaves: &mut Leaves,
     event: Box<Event>,
     now: u64,
+    next: Option<Id>,
     landed: bool,
 ) -> Result<(&'static str, String), AllocError> {
-    let moment = moment_at(alloc, now)?;
+    let moment = moment_at(alloc, now, next)?;
     let plan = leaves.plan(alloc, event.as_ref(), &moment)?;
     let record = record_name(plan.entry());
     let outs = leaves.apply(plan, landed);
@@ -284,7 +285,7 @@ fn row_of(alloc: Global, words: &str, landed: bool) -> Result<(&'static str, Str
     let mut leaves = leaves_in(alloc, kind, vote, words.next().unwrap_or(""))?;
     let name = words.next().unwrap_or("");
     let event = event_of(alloc, kind, name)?;
-    let (record, outs) = step(alloc, &mut leaves, event, time_of(name), landed)?;
+    let (record, outs) = step(alloc, &mut leaves, event, time_of(name), None, landed)?;
     let line = format!(in alloc; "{}{outs}", state_name(&leaves))?;
     Ok((record, line))
 }
@@ -379,7 +380,7 @@ fn is_made(leaves: &Leaves) -> bool {
 /// What a Work at 7 is answered, whose answer goes there.
 fn answer_of(alloc: Global, leaves: &mut Leaves, reply: Reply) -> Result<String, AllocError> {
     let event = asked(alloc, reply)?;
-    let (_, line) = step(alloc, leaves, event, 7, true)?;
+    let (_, line) = step(alloc, leaves, event, 7, Some(Id::new(1, 2)), true)?;
     Ok(line)
 }
 
@@ -404,10 +405,58 @@ fn work_is_refused(rt: HostRuntime) -> Result<(), Fail> {
     Ok(())
 }
 
+/// The leaf of this number, which is prepared.
+fn numbered(alloc: Global, number: u32) -> Result<Leaf, AllocError> {
+    let mut leaf = leaf_in(alloc, Kind::Durable, Vote::Prepared, State::PreparedSuccess)?;
+    leaf.id = Id::new(1, number.max(1));
+    Ok(leaf)
+}
+
+/// So many leaves.
+fn many(alloc: Global, count: u32) -> Result<Leaves, AllocError> {
+    let mut items = Vec::new(alloc);
+    for number in 1..=count {
+        let leaf = numbered(alloc, number)?;
+        items.push(leaf)?;
+    }
+    Leaves::from_vec(items)
+}
+
+/// What a Work is answered where so many leaves live and the next one gets this id, and how many live then.
+fn work_at(alloc: Global, count: u32, next: Option<Id>) -> Result<String, AllocError> {
+    let mut leaves = many(alloc, count)?;
+    let reply = Reply::At(epr(alloc, "asker")?);
+    let event = asked(alloc, reply)?;
+    let (_, line) = step(alloc, &mut leaves, event, 7, next, true)?;
+    let live = leaves.len();
+    format!(in alloc; "{live}{line}")
+}
+
+#[test]
+fn room_for_one_more(rt: HostRuntime) -> Result<(), Fail> {
+    let line = work_at(rt.alloc(), 1023, Some(Id::new(1, 1100)))?;
+    assert_eq!(rt; line.as_str(), "1024 202 Register@registration");
+    Ok(())
+}
+
+#[test]
+fn no_room_for_1025(rt: HostRuntime) -> Result<(), Fail> {
+    let line = work_at(rt.alloc(), 1024, Some(Id::new(1, 1100)))?;
+    assert_eq!(rt; line.as_str(), "1024 202 WorkRefused@asker");
+    Ok(())
+}
+
+#[test]
+fn no_id_is_left(rt: HostRuntime) -> Result<(), Fail> {
+    let line = work_at(rt.alloc(), 0, None)?;
+    assert_eq!(rt; line.as_str(), "0 202 WorkRefused@asker");
+    Ok(())
+}
+
 /// Whether the one leaf is due at this time, behind this id or at all.
 fn is_next(alloc: Global, now: u64, after: Option<Id>) -> Result<bool, AllocError> {
     let leaves = leaves_in(alloc, Kind::Durable, Vote::Prepared, "PreparedSuccess")?;
-    let moment = moment_at(alloc, now)?;
+    let moment = moment_at(alloc, now, None)?;
     Ok(leaves.next_due(after, &moment) == Some(Id::new(1, 1)))
 }
 

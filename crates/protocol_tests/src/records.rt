@@ -35,6 +35,21 @@ fn message_ids(rt: HostRuntime) -> Result<(), Fail> {
     Ok(())
 }
 
+/// A shared text, a copy of it that is made longer, and the text behind that.
+fn shared_texts(alloc: Global) -> Result<bool, AllocError> {
+    let text = Text::copied(alloc, "ab")?.into_shared(alloc)?;
+    let mut copy = text.clone()?;
+    copy.push_str("c")?;
+    Ok(text.as_str() == "ab" && copy.as_str() == "abc" && text.into_shared(alloc)?.as_str() == "ab")
+}
+
+#[test]
+fn texts_that_share(rt: HostRuntime) -> Result<(), Fail> {
+    let holds = shared_texts(rt.alloc())?;
+    assert!(rt; holds);
+    Ok(())
+}
+
 #[test]
 fn ids_at_their_bounds(rt: HostRuntime) -> Result<(), Fail> {
     for text in ["1-1", "1-4294967295", "4294967295-1", "10-20"] {

@@ -46,6 +46,9 @@ Active root 1 Durable new no| 202 InvalidParameters@fault|1 Active -\n\
 Active root 1 Unknown new yes| 202 InvalidProtocol@fault|1 Active -\n\
 Active root 1 Unknown new no| 202 InvalidProtocol@fault|1 Active -\n\
 Active root 0 Completion new yes| 202 http://n1/completion/1-1@reply|0 - Active\n\
+Active root 63 Completion new yes| 202 http://n1/completion/1-1@reply|63 Active Active\n\
+Active root 64 Completion new yes| 202 CannotRegisterParticipant@fault|64 Active -\n\
+Active begun 64 Completion initiator yes| 202 http://n1/completion/1-1@reply|64 Active Completing\n\
 Active begun 0 Completion initiator yes| 202 http://n1/completion/1-1@reply|0 - Completing\n\
 Committing begun 0 Completion initiator yes| 202 http://n1/completion/1-1@reply|0 - Completing\n\
 Active begun 0 Completion new yes| 202 CannotRegisterParticipant@fault|0 - Completing\n\
