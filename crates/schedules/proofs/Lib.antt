@@ -1,0 +1,7 @@
+mod Decimals
+mod Ids
+mod Lines
+mod Rest
+mod Bounds
+mod Wholes
+mod Back

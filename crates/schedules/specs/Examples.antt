@@ -1,0 +1,59 @@
+-- Worked schedules: what is read of them, and the first bad line.
+use Rattle.std.specs.Prelude.{ℕ, List, [], ◌∷◌, ◌++◌, ◌≡◌, Ok, Err, codes, refl}
+use Rattle.std.specs.Fmt.{digits}
+use Rattle.at_base.specs.declared.notice.Kind.TheVariants as kinds
+use Rattle.at_base.specs.declared.notice.Vote.TheVariants as votes
+use Rattle.schedules.specs.declared.line.Cause.TheVariants as causes
+use Rattle.schedules.specs.declared.line.Line.TheVariants as lines
+use Rattle.schedules.specs.Schedules.{schedule_of}
+
+abbrev pub one_activity : List ℕ
+one_activity =
+    codes "nodes 3\nbegin 1 2 60000\nflush 99\nwork 1 1-1 3 d prepared\nflush 99\ncommit 1 1-1\ntick 2 0"
+
+pub activity_read : schedule_of one_activity ≡ Ok (
+    lines.Nodes 3
+    ∷ lines.Begin 1 2 60000
+    ∷ lines.Flush 99
+    ∷ lines.Work 1 (record { incarnation = 1; counter = 1 }) 3 kinds.Durable votes.Prepared
+    ∷ lines.Flush 99
+    ∷ lines.Commit 1 (record { incarnation = 1; counter = 1 })
+    ∷ lines.Tick 2 0
+    ∷ [])
+unfolding digits
+activity_read = refl
+
+-- the last line may have its line feed
+pub ends_in_line_feed : schedule_of (one_activity ++ 10 ∷ []) ≡ schedule_of one_activity
+unfolding digits
+ends_in_line_feed = refl
+
+pub one_node : schedule_of (codes "nodes 1") ≡ Ok (lines.Nodes 1 ∷ [])
+unfolding digits
+one_node = refl
+
+pub empty_text : schedule_of [] ≡ Err (record { line = 1; cause = causes.Nodes })
+unfolding digits
+empty_text = refl
+
+pub unknown_word : schedule_of (codes "nodes 1\nflush 1\nfoo") ≡ Err (record { line = 3; cause = causes.UnknownWord })
+unfolding digits
+unknown_word = refl
+
+-- a number out of its bounds goes before a bad id and a bad keyword
+pub number_first : schedule_of (codes "nodes 3\nwork 1 1 4 x y") ≡ Err (record { line = 2; cause = causes.Number })
+unfolding digits
+number_first = refl
+
+pub id_next : schedule_of (codes "nodes 3\nwork 1 1-0 3 x y") ≡ Err (record { line = 2; cause = causes.Identifier })
+unfolding digits
+id_next = refl
+
+pub leading_zero : schedule_of (codes "nodes 3\nflush 07") ≡ Err (record { line = 2; cause = causes.Number })
+unfolding digits
+leading_zero = refl
+
+-- two spaces have an empty word between them
+pub empty_word : schedule_of (codes "nodes 3\nflush  7") ≡ Err (record { line = 2; cause = causes.WordCount })
+unfolding digits
+empty_word = refl

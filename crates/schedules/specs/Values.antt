@@ -1,0 +1,61 @@
+-- What one word says: a number, an id, a kind or a vote.
+use Rattle.std.specs.Prelude.{ℕ, List, Bool, ◌&&◌, ◌==◌, ◌-◌, ◌^◌, nat_le, Option, Some, None, Result, Ok, Err, if◌then◌else◌, bytes_eq, codes, decimal}
+use Rattle.std.specs.List.{before_first, after_first}
+use Rattle.std.specs.Str.Parse.{digits_value}
+use Rattle.at_base.specs.IdText.{hyphen, id_text}
+use Rattle.at_base.specs.Numbers.{Numbers}
+use Rattle.at_base.specs.declared.notice.Kind.{Kind}
+use Rattle.at_base.specs.declared.notice.Kind.TheVariants as kinds
+use Rattle.at_base.specs.declared.notice.Vote.{Vote}
+use Rattle.at_base.specs.declared.notice.Vote.TheVariants as votes
+use Rattle.schedules.specs.declared.line.Cause.{Cause}
+use Rattle.schedules.specs.declared.line.Cause.TheVariants.{Number, Identifier, Keyword}
+
+-- the number whose decimal text the word is: digits alone, without sign or leading zeros
+abbrev pub decimal_of : List ℕ → Option ℕ
+decimal_of word = if bytes_eq (decimal (digits_value 10 word)) word then Some (digits_value 10 word) else None
+
+abbrev pub within : ℕ → ℕ → Option ℕ → Result ℕ Cause
+within least most None = Err Number
+within least most (Some n) = if nat_le least n && nat_le n most then Ok n else Err Number
+
+abbrev pub number_in : ℕ → ℕ → List ℕ → Result ℕ Cause
+number_in least most word = within least most (decimal_of word)
+
+-- nodes are numbered from 1
+abbrev pub node_in : ℕ → List ℕ → Result ℕ Cause
+node_in nodes word = number_in 1 nodes word
+
+abbrev pub largest : ℕ
+largest = 2 ^ 32 - 1
+
+abbrev pub is_part : ℕ → Bool
+is_part n = nat_le 1 n && nat_le n largest
+
+-- the two numbers that a word would be the id of
+abbrev pub numbers_of : List ℕ → Numbers
+numbers_of word = record {
+  incarnation = digits_value 10 (before_first (λ b. b == hyphen) word);
+  counter = digits_value 10 (after_first (λ b. b == hyphen) word);
+}
+
+-- the id whose text the word is
+abbrev pub spelled_id : Numbers → List ℕ → Result Numbers Cause
+spelled_id id word =
+    if is_part id.incarnation && is_part id.counter && bytes_eq (id_text id) word then Ok id else Err Identifier
+
+abbrev pub id_in : List ℕ → Result Numbers Cause
+id_in word = spelled_id (numbers_of word) word
+
+abbrev pub kind_in : List ℕ → Result Kind Cause
+kind_in word =
+    if bytes_eq word (codes "d") then Ok kinds.Durable
+    else if bytes_eq word (codes "v") then Ok kinds.Volatile
+    else Err Keyword
+
+abbrev pub vote_in : List ℕ → Result Vote Cause
+vote_in word =
+    if bytes_eq word (codes "prepared") then Ok votes.Prepared
+    else if bytes_eq word (codes "readonly") then Ok votes.ReadOnly
+    else if bytes_eq word (codes "aborted") then Ok votes.Aborted
+    else Err Keyword

@@ -1,0 +1,63 @@
+-- How lines are written, and which lists of lines are schedules.
+use Rattle.std.specs.Prelude.{ℕ, List, [], ◌∷◌, ◌++◌, ◌≤◌, codes, decimal, flat_map, length}
+use Rattle.std.specs.List.{AllByRecursion, join_with_byte}
+use Rattle.at_base.specs.IdText.{IsId, id_text}
+use Rattle.at_base.specs.declared.notice.Kind.{Kind}
+use Rattle.at_base.specs.declared.notice.Kind.TheVariants as kinds
+use Rattle.at_base.specs.declared.notice.Vote.{Vote}
+use Rattle.at_base.specs.declared.notice.Vote.TheVariants as votes
+use Rattle.schedules.specs.declared.line.Line.{Line}
+use Rattle.schedules.specs.declared.line.Line.TheVariants as lines
+use Rattle.schedules.specs.Values.{largest}
+
+abbrev pub kind_word : Kind → List ℕ
+kind_word kinds.Durable = codes "d"
+kind_word kinds.Volatile = codes "v"
+
+abbrev pub vote_word : Vote → List ℕ
+vote_word votes.Prepared = codes "prepared"
+vote_word votes.ReadOnly = codes "readonly"
+vote_word votes.Aborted = codes "aborted"
+
+abbrev pub words_in : Line → List (List ℕ)
+words_in (lines.Nodes count) = codes "nodes" ∷ decimal count ∷ []
+words_in (lines.Begin node coordinator ms) = codes "begin" ∷ decimal node ∷ decimal coordinator ∷ decimal ms ∷ []
+words_in (lines.Interpose node activity coordinator) =
+    codes "interpose" ∷ decimal node ∷ id_text activity ∷ decimal coordinator ∷ []
+words_in (lines.Work node activity service kind vote) =
+    codes "work" ∷ decimal node ∷ id_text activity ∷ decimal service ∷ kind_word kind ∷ vote_word vote ∷ []
+words_in (lines.Commit node activity) = codes "commit" ∷ decimal node ∷ id_text activity ∷ []
+words_in (lines.Rollback node activity) = codes "rollback" ∷ decimal node ∷ id_text activity ∷ []
+words_in (lines.Deliver message) = codes "deliver" ∷ decimal message ∷ []
+words_in (lines.Flush most) = codes "flush" ∷ decimal most ∷ []
+words_in (lines.Tick node ms) = codes "tick" ∷ decimal node ∷ decimal ms ∷ []
+
+-- the words, separated by one space
+abbrev pub line_text : Line → List ℕ
+line_text line = join_with_byte 32 (words_in line)
+
+-- each line ends in LF
+abbrev pub written : List Line → List ℕ
+written all = flat_map (λ line. line_text line ++ 10 ∷ []) all
+
+abbrev pub IsNode : ℕ → ℕ → Type 0
+IsNode nodes n = (1 ≤ n) × (n ≤ nodes)
+
+-- a line behind the first, where there are so many nodes
+abbrev pub IsNext : ℕ → Line → Type 0
+IsNext nodes (lines.Nodes count) = ⊥
+IsNext nodes (lines.Begin node coordinator ms) = IsNode nodes node × IsNode nodes coordinator × (ms ≤ largest)
+IsNext nodes (lines.Interpose node activity coordinator) = IsNode nodes node × IsId activity × IsNode nodes coordinator
+IsNext nodes (lines.Work node activity service kind vote) = IsNode nodes node × IsId activity × IsNode nodes service
+IsNext nodes (lines.Commit node activity) = IsNode nodes node × IsId activity
+IsNext nodes (lines.Rollback node activity) = IsNode nodes node × IsId activity
+IsNext nodes (lines.Deliver message) = (1 ≤ message) × (message ≤ 1000000)
+IsNext nodes (lines.Flush most) = most ≤ 10000
+IsNext nodes (lines.Tick node ms) = IsNode nodes node × (ms ≤ largest)
+
+-- `nodes` stands first and once, all numbers are within their bounds, and there are at most 10,000 lines
+abbrev pub IsSchedule : List Line → Type 0
+IsSchedule [] = ⊥
+IsSchedule (lines.Nodes count ∷ rest) =
+    IsNode 8 count × AllByRecursion (IsNext count) rest × (length rest ≤ 9999)
+IsSchedule (line ∷ rest) = ⊥

@@ -1,0 +1,152 @@
+//! The meaning of a line's words, given the number of nodes.
+
+ghost use Rattle.std.specs.Prelude.{◌≡◌, map};
+ghost use Rattle.schedules.specs.Meanings.{count_of, begin_line, interpose_line, work_line, task, commit_line, rollback_line, deliver_line, flush_line, tick_line, meaning};
+
+use crate::line::{Cause, Line};
+use crate::values::{read_id, read_kind, read_node, read_number, read_small, read_vote};
+
+/// The greatest message that a line may name.
+const MOST_MESSAGES: u32 = 1_000_000;
+/// The greatest number of deliveries that one line may ask for.
+const MOST_DELIVERIES: u16 = 10_000;
+
+const MOST_NODES: u8 = 8;
+
+/// How many nodes there are.
+pub fn read_count(words: &[&str]) -> Result<u8, Cause>
+    ensures { result ≡ count_of (map (λ w. w.now) words.now) }
+{
+    let [count] = words else {
+        return Err(Cause::WordCount);
+    };
+    read_node(MOST_NODES, count)
+}
+
+fn read_begin(nodes: u8, words: &[&str]) -> Result<Line, Cause>
+    ensures { result ≡ begin_line nodes (map (λ w. w.now) words.now) }
+{
+    let [node, coordinator, ms] = words else {
+        return Err(Cause::WordCount);
+    };
+    let node = read_node(nodes, node)?;
+    let coordinator = read_node(nodes, coordinator)?;
+    let ms = read_number(ms, 0, u32::MAX)?;
+    Ok(Line::Begin {
+        node,
+        coordinator,
+        ms,
+    })
+}
+
+fn read_interpose(nodes: u8, words: &[&str]) -> Result<Line, Cause>
+    ensures { result ≡ interpose_line nodes (map (λ w. w.now) words.now) }
+{
+    let [node, activity, coordinator] = words else {
+        return Err(Cause::WordCount);
+    };
+    let node = read_node(nodes, node)?;
+    let coordinator = read_node(nodes, coordinator)?;
+    let activity = read_id(activity)?;
+    Ok(Line::Interpose {
+        node,
+        activity,
+        coordinator,
+    })
+}
+
+fn read_task(node: u8, service: u8, activity: &str, kind: &str, vote: &str) -> Result<Line, Cause>
+    ensures { result ≡ task node service activity.now kind.now vote.now }
+{
+    let activity = read_id(activity)?;
+    let kind = read_kind(kind)?;
+    let vote = read_vote(vote)?;
+    Ok(Line::Work {
+        node,
+        activity,
+        service,
+        kind,
+        vote,
+    })
+}
+
+fn read_work(nodes: u8, words: &[&str]) -> Result<Line, Cause>
+    ensures { result ≡ work_line nodes (map (λ w. w.now) words.now) }
+{
+    let [node, activity, service, kind, vote] = words else {
+        return Err(Cause::WordCount);
+    };
+    let node = read_node(nodes, node)?;
+    let service = read_node(nodes, service)?;
+    read_task(node, service, activity, kind, vote)
+}
+
+fn read_commit(nodes: u8, words: &[&str]) -> Result<Line, Cause>
+    ensures { result ≡ commit_line nodes (map (λ w. w.now) words.now) }
+{
+    let [node, activity] = words else {
+        return Err(Cause::WordCount);
+    };
+    let node = read_node(nodes, node)?;
+    let activity = read_id(activity)?;
+    Ok(Line::Commit { node, activity })
+}
+
+fn read_rollback(nodes: u8, words: &[&str]) -> Result<Line, Cause>
+    ensures { result ≡ rollback_line nodes (map (λ w. w.now) words.now) }
+{
+    let [node, activity] = words else {
+        return Err(Cause::WordCount);
+    };
+    let node = read_node(nodes, node)?;
+    let activity = read_id(activity)?;
+    Ok(Line::Rollback { node, activity })
+}
+
+fn read_deliver(words: &[&str]) -> Result<Line, Cause>
+    ensures { result ≡ deliver_line (map (λ w. w.now) words.now) }
+{
+    let [message] = words else {
+        return Err(Cause::WordCount);
+    };
+    let message = read_number(message, 1, MOST_MESSAGES)?;
+    Ok(Line::Deliver { message })
+}
+
+fn read_flush(words: &[&str]) -> Result<Line, Cause>
+    ensures { result ≡ flush_line (map (λ w. w.now) words.now) }
+{
+    let [most] = words else {
+        return Err(Cause::WordCount);
+    };
+    let most = read_small(most, 0, MOST_DELIVERIES)?;
+    Ok(Line::Flush { most })
+}
+
+fn read_tick(nodes: u8, words: &[&str]) -> Result<Line, Cause>
+    ensures { result ≡ tick_line nodes (map (λ w. w.now) words.now) }
+{
+    let [node, ms] = words else {
+        return Err(Cause::WordCount);
+    };
+    let node = read_node(nodes, node)?;
+    let ms = read_number(ms, 0, u32::MAX)?;
+    Ok(Line::Tick { node, ms })
+}
+
+/// The line of this first word, which isn't `nodes`, and the words behind it.
+pub fn read_meaning(nodes: u8, word: &str, words: &[&str]) -> Result<Line, Cause>
+    ensures { result ≡ meaning nodes word.now (map (λ w. w.now) words.now) }
+{
+    match word {
+        "begin" => read_begin(nodes, words),
+        "interpose" => read_interpose(nodes, words),
+        "work" => read_work(nodes, words),
+        "commit" => read_commit(nodes, words),
+        "rollback" => read_rollback(nodes, words),
+        "deliver" => read_deliver(words),
+        "flush" => read_flush(words),
+        "tick" => read_tick(nodes, words),
+        _ => Err(Cause::UnknownWord),
+    }
+}

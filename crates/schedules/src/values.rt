@@ -1,0 +1,79 @@
+//! What one word says: a number, an id, a kind or a vote.
+
+ghost use Rattle.std.specs.Prelude.{ℕ, ◌≡◌, ◌<◌, ◌^◌, IfSome, Some};
+ghost use Rattle.schedules.specs.Values.{decimal_of, number_in, node_in, id_in, kind_in, vote_in};
+
+use crate::line::Cause;
+use at_base::id::Id;
+use at_base::notice::{Kind, Vote};
+
+/// The number that the word spells in decimal, without sign or leading zeros.
+fn read_decimal(word: &str) -> Option<u32>
+    ensures spelled { IfSome result (λ n. decimal_of word.now ≡ Some n) }
+    ensures every { (n : ℕ) → n < 2 ^ 32 → decimal_of word.now ≡ Some n → result ≡ Some n }
+{
+    let first = *word.as_bytes().first()?;
+    if first == b'+' {
+        return None;
+    }
+    if first == b'0' && word.len() > 1 {
+        return None;
+    }
+    word.parse().ok()
+}
+
+/// A number within these bounds.
+pub fn read_number(word: &str, least: u32, most: u32) -> Result<u32, Cause>
+    ensures { result ≡ number_in least most word.now }
+{
+    match read_decimal(word) {
+        Some(number) if least <= number && number <= most => Ok(number),
+        _ => Err(Cause::Number),
+    }
+}
+
+/// A number within these bounds.
+pub fn read_small(word: &str, least: u16, most: u16) -> Result<u16, Cause>
+    ensures { result ≡ number_in least most word.now }
+{
+    let number = read_number(word, u32::from(least), u32::from(most))?;
+    Ok(number as u16)
+}
+
+/// A number of a node.
+pub fn read_node(nodes: u8, word: &str) -> Result<u8, Cause>
+    ensures { result ≡ node_in nodes word.now }
+{
+    let number = read_number(word, 1, u32::from(nodes))?;
+    Ok(number as u8)
+}
+
+pub fn read_id(word: &str) -> Result<Id, Cause>
+    ensures { result ≡ id_in word.now }
+{
+    match Id::read(word.as_bytes()) {
+        Some(id) => Ok(id),
+        None => Err(Cause::Identifier),
+    }
+}
+
+pub fn read_kind(word: &str) -> Result<Kind, Cause>
+    ensures { result ≡ kind_in word.now }
+{
+    match word {
+        "d" => Ok(Kind::Durable),
+        "v" => Ok(Kind::Volatile),
+        _ => Err(Cause::Keyword),
+    }
+}
+
+pub fn read_vote(word: &str) -> Result<Vote, Cause>
+    ensures { result ≡ vote_in word.now }
+{
+    match word {
+        "prepared" => Ok(Vote::Prepared),
+        "readonly" => Ok(Vote::ReadOnly),
+        "aborted" => Ok(Vote::Aborted),
+        _ => Err(Cause::Keyword),
+    }
+}
