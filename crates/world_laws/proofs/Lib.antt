@@ -1,0 +1,9 @@
+mod Asking
+mod Changing
+mod Fitting
+mod Found
+mod Named
+mod Nodes
+mod Running
+mod Taking
+mod Walking

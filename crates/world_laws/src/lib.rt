@@ -1,0 +1,13 @@
+//! Several nodes, the messages between them, and what happens to them: runs of the protocol's model.
+#![tactic(auto)]
+
+mod arrivals;
+pub mod event;
+pub mod laws;
+mod node;
+mod places;
+pub mod posted;
+mod posting;
+mod scene;
+mod turn;
+pub mod world;
