@@ -1,0 +1,4 @@
+pub mod Loops
+pub mod Marks
+pub mod Reading
+pub mod Running

@@ -1,0 +1,29 @@
+-- The loops of a replay, one time after another.
+use Rattle.std.proofs.Common.{ℕ, zero, suc, ◌+◌, ◌-◌, ◌<◌, ◌≡◌, refl, [], length, ap, ◌∙◌, sym, arith}
+use Rattle.std.specs.Prelude.{Some, None}
+use Rattle.at_model.specs.Views.{up}
+use Rattle.at_model.specs.World.{opening}
+use Rattle.world_laws.specs.Runs.{Run, world_of}
+use Rattle.replay_cmd.specs.Delivered.{lowest}
+use Rattle.replay_cmd.specs.ReportOf.{Course, all_up, delivers, delivers_where, flushes, happens}
+
+pub opened : (r : Run) (count : ℕ) → r ≡ record { count = count; events = [] } → world_of r ≡ opening count
+unfolding world_of
+opened r count h = ap world_of h
+
+pub flush_more :
+    (m t k : ℕ) (c : Course) → t < m → Some k ≡ lowest (length c.world.posted) 1 c.delivered
+    → flushes (m - t) c ≡ flushes (m - (t + 1)) (delivers k c)
+flush_more m t k c h e =
+    let d : m - t ≡ suc (m - (t + 1)) = omega arith in
+    rw d (ap (λ o. flushes (m - (t + 1)) (delivers_where o c)) (sym e))
+
+pub flush_none :
+    (m : ℕ) (c : Course) → None ≡ lowest (length c.world.posted) 1 c.delivered → flushes m c ≡ c
+flush_none zero c e = refl
+flush_none (suc m) c e = ap (λ o. flushes m (delivers_where o c)) (sym e) ∙ flush_none m c e
+
+pub up_more :
+    (m p : ℕ) (c : Course) → p < m
+    → all_up (m - p) (p + 1) c ≡ all_up (m - (p + 1)) (p + 1 + 1) (happens (up (p + 1)) c)
+up_more m p c h = let d : m - p ≡ suc (m - (p + 1)) = omega arith in rw d refl

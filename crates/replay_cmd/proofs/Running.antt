@@ -1,0 +1,73 @@
+-- The world of a replay is that of a run, line by line.
+use Rattle.std.proofs.Common.{ℕ, zero, suc, ◌+◌, ◌≡◌, refl, List, [], ◌∷◌, ◌++◌, length, ap, ◌∙◌, sym}
+use Rattle.std.specs.Prelude.{Option, Some, None, option_map}
+use Rattle.std.specs.List.{AllByRecursion}
+use Rattle.at_base.specs.declared.event.Local.TheVariants as locals
+use Rattle.at_model.specs.Views.{up, deliver_to, tick_at, request, begin_at, interpose_at, work_at, commit_at}
+use Rattle.at_model.specs.World.{World, WorldEvent, nth, opening, run_on, world_step}
+use Rattle.schedules.specs.declared.line.Line.{Line}
+use Rattle.schedules.specs.declared.line.Line.TheVariants as lines
+use Rattle.world_laws.specs.Steps.{IsCalm}
+use Rattle.replay_cmd.specs.Delivered.{lowest}
+use Rattle.replay_cmd.specs.ReportOf.{Course, all_taken, all_up, begun, delivered_to, delivers_lowest, delivers_where, flushes, happens, nodes_of, receiver_in, taken}
+use Rattle.replay_cmd.specs.Laws.{IsOfRun, ReportsRuns}
+
+run_append : (w : World) (es : List WorldEvent) (e : WorldEvent) → run_on w (es ++ e ∷ []) ≡ world_step (run_on w es) e
+run_append w [] e = refl
+run_append w (x ∷ es) e = run_append (world_step w x) es e
+
+calm_append : (es : List WorldEvent) (e : WorldEvent) → AllByRecursion IsCalm es → IsCalm e → AllByRecursion IsCalm (es ++ e ∷ [])
+calm_append [] e h k = (k, tt)
+calm_append (x ∷ es) e h k = (h.0, calm_append es e h.1 k)
+
+step_on : (count : ℕ) (w : World) (e : WorldEvent) → IsOfRun count w → IsCalm e → IsOfRun count (world_step w e)
+step_on count w e r calm = record {
+  events = r.events ++ e ∷ [];
+  calm = calm_append r.events e r.calm calm;
+  run = ap (λ v. world_step v e) r.run ∙ sym (run_append (opening count) r.events e);
+}
+
+deliver_on :
+    (count k : ℕ) (receiver : Option (Option ℕ)) (c : Course) → IsOfRun count c.world
+    → IsOfRun count (delivered_to k receiver c).world
+deliver_on count k None c r = r
+deliver_on count k (Some None) c r = r
+deliver_on count k (Some (Some n)) c r = step_on count c.world (deliver_to n k) r refl
+
+where_on :
+    (count : ℕ) (number : Option ℕ) (c : Course) → IsOfRun count c.world → IsOfRun count (delivers_where number c).world
+where_on count None c r = r
+where_on count (Some k) c r = deliver_on count k (option_map receiver_in (nth k c.world.posted)) c r
+
+flush_on : (count most : ℕ) (c : Course) → IsOfRun count c.world → IsOfRun count (flushes most c).world
+flush_on count zero c r = r
+flush_on count (suc most) c r =
+    flush_on count most (delivers_lowest c)
+    (where_on count (lowest (length c.world.posted) 1 c.delivered) c r)
+
+take_on : (count : ℕ) (line : Line) (c : Course) → IsOfRun count c.world → IsOfRun count (taken line c).world
+take_on count (lines.Nodes n) c r = r
+take_on count (lines.Begin n coordinator ms) c r = step_on count c.world (begin_at n coordinator ms) r refl
+take_on count (lines.Interpose n activity coordinator) c r =
+    step_on count c.world (interpose_at n activity coordinator) r refl
+take_on count (lines.Work n activity service kind vote) c r =
+    step_on count c.world (work_at n activity service kind vote) r refl
+take_on count (lines.Commit n activity) c r = step_on count c.world (commit_at n activity) r refl
+take_on count (lines.Rollback n activity) c r = step_on count c.world (request n (locals.Rollback activity)) r refl
+take_on count (lines.Deliver k) c r = deliver_on count k (option_map receiver_in (nth k c.world.posted)) c r
+take_on count (lines.Flush most) c r = flush_on count most c r
+take_on count (lines.Tick n ms) c r = step_on count c.world (tick_at n ms) r refl
+
+all_on : (count : ℕ) (all : List Line) (c : Course) → IsOfRun count c.world → IsOfRun count (all_taken all c).world
+all_on count [] c r = r
+all_on count (line ∷ rest) c r = all_on count rest (taken line c) (take_on count line c r)
+
+up_on : (count left n : ℕ) (c : Course) → IsOfRun count c.world → IsOfRun count (all_up left n c).world
+up_on count zero n c r = r
+up_on count (suc left) n c r = up_on count left (n + 1) (happens (up n) c) (step_on count c.world (up n) r refl)
+
+pub reports_runs : ReportsRuns
+reports_runs all =
+    all_on (nodes_of all) all (begun (nodes_of all))
+    (up_on (nodes_of all) (nodes_of all) 1 (record { world = opening (nodes_of all); delivered = []; text = [] })
+    (record { events = []; calm = tt; run = refl }))

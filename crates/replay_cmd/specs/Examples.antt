@@ -1,0 +1,80 @@
+-- Worked reports.
+use Rattle.std.specs.Prelude.{[], ◌∷◌, ◌++◌, ◌≡◌, codes, refl}
+use Rattle.std.specs.Fmt.{digits}
+use Rattle.at_model.specs.Abort.{abort}
+use Rattle.at_model.specs.Phases.{decided, root_answered, voted, sub_answered, go_durable, volatile_answered, all_committed, advance_in, go_volatile}
+use Rattle.at_model.specs.Arrivals.{seat_act, seat_notice, commit_voted, link_act, link_notice, completion_act, completion_notice, link_registered, link_fault, on_link, on_seat, on_completion}
+use Rattle.at_model.specs.Register.{accept, register_new, register_again, on_register, register_unknown}
+use Rattle.at_model.specs.Create.{create_under, create_in, on_create}
+use Rattle.at_model.specs.Leaves.{leaf_votes, leaf_commit, leaf_roll_back, leaf_act, leaf_notice, leaf_registered, leaf_fault, on_leaf, on_work}
+use Rattle.at_model.specs.Activities.{activity_act, activity_notice, activity_created, activity_registered, activity_fault, on_activity, on_begin, on_interpose, on_ask, on_complete}
+use Rattle.at_model.specs.Due.{transaction_reached, leaf_reached, activity_reached}
+use Rattle.at_model.specs.Step.{activation_plan, registration_plan, completion_plan, coordinator_plan, participant_plan, initiator_plan, work_plan, arrived_plan, request_plan, due_plan}
+use Rattle.sha1.specs.Sha1.{sha1, first_words, schedule, rounds, compress, hash_after, digest_bytes}
+use Rattle.uuid.specs.Text.{by_index}
+use Rattle.at_base.specs.declared.notice.Kind.TheVariants as kinds
+use Rattle.at_base.specs.declared.notice.Vote.TheVariants as votes
+use Rattle.at_model.specs.World.{world_step}
+use Rattle.world_laws.specs.Steps.{outcomes_in}
+use Rattle.schedules.specs.declared.line.Line.TheVariants as lines
+use Rattle.replay_cmd.specs.Lines.{up_line, deliver_line, no_message_line, refused_line, item_line, leaf_words, message_start, end_line}
+use Rattle.replay_cmd.specs.ReportOf.{steps_of, report_of}
+
+-- A node comes up, and nothing happens.
+pub one_node :
+    report_of (lines.Nodes 1 ∷ []) ≡ codes "up 1 1\nend messages 0 committed 0 aborted 0 lost 0\n"
+unfolding digits world_step outcomes_in steps_of up_line end_line
+one_node = refl
+
+-- There is no such activity, and no such message.
+pub nothing_there :
+    report_of (lines.Nodes 1 ∷ lines.Commit 1 (record { incarnation = 1; counter = 1 }) ∷ lines.Deliver 1 ∷ [])
+    ≡ codes "up 1 1\nrefused state\ndeliver 1 none\nend messages 0 committed 0 aborted 0 lost 0\n"
+unfolding digits world_step outcomes_in steps_of up_line refused_line no_message_line end_line
+nothing_there = refl
+
+-- No participant: the root commits at once.
+pub no_participant :
+    report_of
+    (lines.Nodes 2
+    ∷ lines.Begin 1 2 0
+    ∷ lines.Flush 9
+    ∷ lines.Commit 1 (record { incarnation = 1; counter = 1 })
+    ∷ lines.Flush 9
+    ∷ [])
+    ≡ codes "up 1 1\nup 2 1\n"
+    ++ (codes "msg 1 1>2 CreateCoordinationContext /activation\n"
+    ++ (codes "deliver 1 2 202\nmsg 2 2>1 CreateCoordinationContextResponse /i/1-1\n"
+    ++ (codes "deliver 2 1 202\nmsg 3 1>2 Register /registration/1-1\n"
+    ++ (codes "deliver 3 2 202\nmsg 4 2>1 RegisterResponse /i/1-1\n"
+    ++ (codes "deliver 4 1 202\nmsg 5 1>2 Commit /completion/1-1\n"
+    ++ (codes "deliver 5 2 202\nroot 2 1-1 committed\nmsg 6 2>1 Committed /i/1-1\n"
+    ++ codes "deliver 6 1 202\ntold 1 1-1 committed\nend messages 6 committed 0 aborted 0 lost 0\n"))))))
+unfolding abort decided root_answered voted sub_answered go_durable volatile_answered all_committed advance_in go_volatile seat_act seat_notice commit_voted link_act link_notice completion_act completion_notice link_registered link_fault on_link on_seat on_completion accept register_new register_again on_register register_unknown create_under create_in on_create leaf_votes leaf_commit leaf_roll_back leaf_act leaf_notice leaf_registered leaf_fault on_leaf on_work activity_act activity_notice activity_created activity_registered activity_fault on_activity on_begin on_interpose on_ask on_complete transaction_reached leaf_reached activity_reached activation_plan registration_plan completion_plan coordinator_plan participant_plan initiator_plan work_plan arrived_plan request_plan due_plan world_step sha1 first_words schedule rounds compress hash_after digest_bytes by_index digits outcomes_in steps_of up_line deliver_line item_line message_start end_line
+no_participant = refl
+
+-- The plain path: a durable participant votes Prepared, and both sides commit.
+pub plain_path :
+    report_of
+    (lines.Nodes 3
+    ∷ lines.Begin 1 2 60000
+    ∷ lines.Flush 99
+    ∷ lines.Work 1 (record { incarnation = 1; counter = 1 }) 3 kinds.Durable votes.Prepared
+    ∷ lines.Flush 99
+    ∷ lines.Commit 1 (record { incarnation = 1; counter = 1 })
+    ∷ lines.Flush 99
+    ∷ [])
+    ≡ codes "up 1 1\nup 2 1\nup 3 1\nmsg 1 1>2 CreateCoordinationContext /activation\n"
+    ++ (codes "deliver 1 2 202\nmsg 2 2>1 CreateCoordinationContextResponse /i/1-1\n"
+    ++ (codes "deliver 2 1 202\nmsg 3 1>2 Register /registration/1-1\ndeliver 3 2 202\n"
+    ++ (codes "msg 4 2>1 RegisterResponse /i/1-1\ndeliver 4 1 202\nmsg 5 1>3 Work /work\n"
+    ++ (codes "deliver 5 3 202\nmsg 6 3>2 Register /registration/1-1\ndeliver 6 2 202\n"
+    ++ (codes "msg 7 2>3 RegisterResponse /p/d/1-1\ndeliver 7 3 202\nmsg 8 3>1 WorkDone /i/1-1\n"
+    ++ (codes "deliver 8 1 202\nmsg 9 1>2 Commit /completion/1-1\ndeliver 9 2 202\n"
+    ++ (codes "msg 10 2>3 Prepare /p/d/1-1\ndeliver 10 3 202\nmsg 11 3>2 Prepared /c/d/1-1/1\n"
+    ++ (codes "deliver 11 2 202\nroot 2 1-1 committed\nmsg 12 2>3 Commit /p/d/1-1\n"
+    ++ (codes "msg 13 2>1 Committed /i/1-1\ndeliver 12 3 202\nleaf 3 1-1 d committed\n"
+    ++ (codes "msg 14 3>2 Committed /c/d/1-1/1\ndeliver 13 1 202\ntold 1 1-1 committed\n"
+    ++ codes "deliver 14 2 202\nend messages 14 committed 1 aborted 0 lost 0\n"))))))))))
+unfolding abort decided root_answered voted sub_answered go_durable volatile_answered all_committed advance_in go_volatile seat_act seat_notice commit_voted link_act link_notice completion_act completion_notice link_registered link_fault on_link on_seat on_completion accept register_new register_again on_register register_unknown create_under create_in on_create leaf_votes leaf_commit leaf_roll_back leaf_act leaf_notice leaf_registered leaf_fault on_leaf on_work activity_act activity_notice activity_created activity_registered activity_fault on_activity on_begin on_interpose on_ask on_complete transaction_reached leaf_reached activity_reached activation_plan registration_plan completion_plan coordinator_plan participant_plan initiator_plan work_plan arrived_plan request_plan due_plan world_step sha1 first_words schedule rounds compress hash_after digest_bytes by_index digits outcomes_in steps_of up_line deliver_line item_line leaf_words message_start end_line
+plain_path = refl

@@ -1,0 +1,27 @@
+-- What a schedule that was read says of its nodes, and what world a report is of.
+use Rattle.std.specs.Prelude.{ℕ, List, ◌≡◌, ◌≤◌, Ok}
+use Rattle.std.specs.List.{AllByRecursion}
+use Rattle.at_model.specs.World.{World, WorldEvent, run_of}
+use Rattle.schedules.specs.declared.line.Line.{Line}
+use Rattle.schedules.specs.Schedules.{schedule_of}
+use Rattle.world_laws.specs.Steps.{IsCalm}
+use Rattle.replay_cmd.specs.ReportOf.{all_taken, begun, nodes_of}
+
+-- There are 1 to 8 nodes.
+pub record IsReplayable (lines : List Line) : Type 0 where
+  pub least : 1 ≤ nodes_of lines
+  pub most : nodes_of lines ≤ 8
+
+-- What is read as a schedule may be replayed.
+abbrev pub ReadIsReplayable : Type 0
+ReadIsReplayable = (text : List ℕ) (lines : List Line) → schedule_of text ≡ Ok lines → IsReplayable lines
+
+-- The world of a run of so many nodes in which nothing fails.
+pub record IsOfRun (count : ℕ) (w : World) : Type 0 where
+  pub events : List WorldEvent
+  pub calm : AllByRecursion IsCalm events
+  pub run : w ≡ run_of count events
+
+-- A report is that of a run.
+abbrev pub ReportsRuns : Type 0
+ReportsRuns = (all : List Line) → IsOfRun (nodes_of all) (all_taken all (begun (nodes_of all))).world

@@ -1,0 +1,98 @@
+-- The lines of a report. Each ends in LF.
+use Rattle.std.specs.Prelude.{ℕ, List, ◌++◌, Option, Some, None, codes, decimal}
+use Rattle.at_base.specs.IdText.{id_text}
+use Rattle.at_base.specs.Numbers.{Numbers}
+use Rattle.at_base.specs.declared.notice.Kind.{Kind}
+use Rattle.at_base.specs.declared.outs.Effect.{Effect}
+use Rattle.at_base.specs.declared.outs.Effect.TheVariants as effects
+use Rattle.at_base.specs.declared.outs.Ending.{Ending}
+use Rattle.at_base.specs.declared.outs.Ending.TheVariants as endings
+use Rattle.at_base.specs.declared.outs.Told.{Told}
+use Rattle.at_base.specs.declared.outs.Told.TheVariants as tellings
+use Rattle.at_model.specs.Activities.{Refusal, Full, Stale, Spent}
+use Rattle.at_model.specs.Addresses.{kind_letter}
+use Rattle.at_model.specs.Views.{Line}
+
+-- how a transaction or leaf ended
+abbrev pub ending_word : Ending → List ℕ
+ending_word endings.Committed = codes "committed"
+ending_word endings.Aborted = codes "aborted"
+ending_word endings.Lost = codes "lost"
+
+-- what an initiator was told of its activity
+abbrev pub told_word : Told → List ℕ
+told_word tellings.Committed = codes "committed"
+told_word tellings.Aborted = codes "aborted"
+told_word tellings.Unknown = codes "unknown"
+told_word tellings.Refused = codes "refused"
+
+-- why a local request is refused
+abbrev pub refusal_word : Refusal → List ℕ
+refusal_word Full = codes "full"
+refusal_word Stale = codes "state"
+refusal_word Spent = codes "spent"
+
+-- a node came up in this incarnation, or not at all
+abbrev pub start_word : Option ℕ → List ℕ
+start_word None = codes "failed"
+start_word (Some incarnation) = decimal incarnation
+
+-- the HTTP status that a turn answered; a node that is down takes no turn
+abbrev pub answer_word : Option ℕ → List ℕ
+answer_word None = codes "down"
+answer_word (Some status) = decimal status
+
+unfoldable pub up_line : ℕ → Option ℕ → List ℕ
+up_line node incarnation = codes "up " ++ (decimal node ++ (codes " " ++ (start_word incarnation ++ codes "\n")))
+
+unfoldable pub deliver_line : ℕ → ℕ → Option ℕ → List ℕ
+deliver_line number node answer =
+    codes "deliver "
+    ++ (decimal number ++ (codes " " ++ (decimal node ++ (codes " " ++ (answer_word answer ++ codes "\n")))))
+
+-- there is no such message, or no node has its address
+unfoldable pub no_message_line : ℕ → List ℕ
+no_message_line number = codes "deliver " ++ (decimal number ++ codes " none\n")
+
+unfoldable pub tick_line : ℕ → ℕ → Option ℕ → List ℕ
+tick_line node clock answer =
+    codes "tick "
+    ++ (decimal node ++ (codes " " ++ (decimal clock ++ (codes " " ++ (answer_word answer ++ codes "\n")))))
+
+unfoldable pub refused_line : List ℕ → List ℕ
+refused_line word = codes "refused " ++ (word ++ codes "\n")
+
+-- an item of a node, by its id, and what became of it
+unfoldable pub item_line : List ℕ → ℕ → Numbers → List ℕ → List ℕ
+item_line item node id word =
+    item ++ (codes " " ++ (decimal node ++ (codes " " ++ (id_text id ++ (codes " " ++ (word ++ codes "\n"))))))
+
+-- a leaf's kind stands before how it ended
+unfoldable pub leaf_words : Kind → Ending → List ℕ
+leaf_words kind what = kind_letter kind ++ (codes " " ++ ending_word what)
+
+abbrev pub effect_line : ℕ → Effect → List ℕ
+effect_line node (effects.Root id what) = item_line (codes "root") node id (ending_word what)
+effect_line node (effects.Sub id what) = item_line (codes "sub") node id (ending_word what)
+effect_line node (effects.Leaf id kind what) =
+    item_line (codes "leaf") node id (leaf_words kind what)
+effect_line node (effects.Told id what) = item_line (codes "told") node id (told_word what)
+
+-- a message by its number; the receiver is 0 where no node has its address
+unfoldable pub message_start : ℕ → ℕ → ℕ → List ℕ → List ℕ
+message_start number sender receiver name =
+    codes "msg "
+    ++ (decimal number
+    ++ (codes " " ++ (decimal sender ++ (codes ">" ++ (decimal receiver ++ (codes " " ++ (name ++ codes " ")))))))
+
+abbrev pub message_line : ℕ → Line → List ℕ
+message_line number m = message_start number m.sender m.receiver m.name ++ (m.path ++ codes "\n")
+
+-- how many messages there are, and how many subordinates and durable leaves ended in each way
+unfoldable pub end_line : ℕ → ℕ → ℕ → ℕ → List ℕ
+end_line messages committed aborted lost =
+    codes "end messages "
+    ++ (decimal messages
+    ++ (codes " committed "
+    ++ (decimal committed
+    ++ (codes " aborted " ++ (decimal aborted ++ (codes " lost " ++ (decimal lost ++ codes "\n")))))))

@@ -1,0 +1,193 @@
+-- The report of a schedule: what its lines do to a world, and what is printed of that.
+use Rattle.std.specs.Prelude.{ℕ, List, [], ◌∷◌, ◌++◌, Option, Some, None, Bool, true, false, ◌&&◌, ◌+◌, ◌-◌, zero, suc, length, map, min, take, drop, filter, option_map, codes}
+use Rattle.at_base.specs.declared.event.Local.{Local}
+use Rattle.at_base.specs.declared.event.Local.TheVariants as locals
+use Rattle.at_base.specs.declared.notice.Kind.TheVariants as kinds
+use Rattle.at_base.specs.declared.outs.Effect.{Effect}
+use Rattle.at_base.specs.declared.outs.Effect.TheVariants as effects
+use Rattle.at_base.specs.declared.outs.Ending.{Ending}
+use Rattle.at_base.specs.declared.outs.Ending.TheVariants as endings
+use Rattle.at_base.specs.declared.outs.Outs.{Outs}
+use Rattle.at_base.specs.declared.outs.Out.{Out}
+use Rattle.at_base.specs.declared.outs.Out.TheVariants as outs
+use Rattle.at_tables.specs.Names.{is_kind}
+use Rattle.at_model.specs.Activities.{Refusal}
+use Rattle.at_model.specs.Book.{Book}
+use Rattle.at_model.specs.Step.{refuses}
+use Rattle.at_model.specs.Views.{line_of, up, deliver_to, tick_at, request, begin_at, interpose_at, work_at, commit_at}
+use Rattle.at_model.specs.World.{World, WorldEvent, Posted, Happened, Turn, Ask, Up, Deliver, Tick, nth, node_of, opening, world_step}
+use Rattle.schedules.specs.declared.line.Line.{Line}
+use Rattle.schedules.specs.declared.line.Line.TheVariants as lines
+use Rattle.world_laws.specs.Runs.{clock_at, book_at, incarnation_at}
+use Rattle.world_laws.specs.Steps.{outcomes, outs_of}
+use Rattle.replay_cmd.specs.Delivered.{yes_at, lowest}
+use Rattle.replay_cmd.specs.Lines.{up_line, deliver_line, no_message_line, tick_line, refused_line, refusal_word, effect_line, message_line, end_line}
+
+-- The HTTP status of the first answer among these, 0 where there is none.
+abbrev pub status_in : List Out → ℕ
+status_in [] = 0
+status_in (outs.Answer status reply ∷ rest) = status
+status_in (outs.Post p ∷ rest) = status_in rest
+
+-- What a turn of these steps answers; a node that is down takes no step.
+abbrev pub answer_of : List Outs → Option ℕ
+answer_of [] = None
+answer_of (first ∷ rest) = Some (status_in first.outs)
+
+abbrev pub or_zero : Option ℕ → ℕ
+or_zero None = 0
+or_zero (Some n) = n
+
+-- Nothing is printed of a request that is taken, beside its effects and posts.
+abbrev pub unless_taken : Option Refusal → List ℕ
+unless_taken None = []
+unless_taken (Some refusal) = refused_line (refusal_word refusal)
+
+abbrev pub request_result : Local → Option Book → List ℕ
+request_result l None = refused_line (codes "down")
+request_result l (Some b) = unless_taken (refuses b l)
+
+-- The line of an event's result, from the world before it and the one behind it.
+abbrev pub result_line : WorldEvent → World → World → List Outs → List ℕ
+result_line (Up n landed stop) before behind steps = up_line n (incarnation_at behind n)
+result_line (Turn n (Deliver k) fates until) before behind steps = deliver_line k n (answer_of steps)
+result_line (Turn n (Tick ms) fates until) before behind steps = tick_line n (or_zero (clock_at behind n)) (answer_of steps)
+result_line (Ask n l fates until) before behind steps = request_result l (book_at before n)
+result_line other before behind steps = []
+
+-- The lines of a step's effects.
+abbrev pub effect_lines : ℕ → List Effect → List ℕ
+effect_lines n [] = []
+effect_lines n (e ∷ es) = effect_line n e ++ effect_lines n es
+
+-- The lines of these messages, numbered from this one on.
+abbrev pub message_lines : ℕ → List Posted → List ℕ
+message_lines k [] = []
+message_lines k (p ∷ rest) = message_line k (line_of p) ++ message_lines (k + 1) rest
+
+abbrev pub post_count : List Out → ℕ
+post_count [] = 0
+post_count (outs.Answer status reply ∷ rest) = post_count rest
+post_count (outs.Post p ∷ rest) = suc (post_count rest)
+
+-- how many of these messages a step posted
+abbrev pub own_count : Outs → List Posted → ℕ
+own_count o messages = min (post_count o.outs) (length messages)
+
+-- Of each step its effects, and then its posts, which are the next of these messages.
+abbrev pub step_lines : ℕ → ℕ → List Posted → List Outs → List ℕ
+step_lines n k messages [] = []
+step_lines n k messages (o ∷ rest) =
+    effect_lines n o.effects
+    ++ (message_lines k (take (own_count o messages) messages)
+    ++ step_lines n (k + own_count o messages) (drop (own_count o messages) messages) rest)
+
+-- What the steps of an event send and bring about.
+unfoldable pub steps_of : World → WorldEvent → List Outs
+steps_of w e = map outs_of (outcomes w e)
+
+-- What is printed of an event in a world: its result, then its steps.
+abbrev pub event_lines : World → WorldEvent → List ℕ
+event_lines w e =
+    result_line e w (world_step w e) (steps_of w e)
+    ++ step_lines (node_of e) (length w.posted + 1) (drop (length w.posted) (world_step w e).posted) (steps_of w e)
+
+-- How far a replay has come: the world, for each message from the first on whether it was delivered (those behind the
+-- list weren't), and what was printed.
+pub record Course : Type 0 where
+  pub world : World
+  pub delivered : List Bool
+  pub text : List ℕ
+
+abbrev pub happens : WorldEvent → Course → Course
+happens e c = record c { world = world_step c.world e; text = c.text ++ event_lines c.world e }
+
+abbrev pub printed : List ℕ → Course → Course
+printed line c = record c { text = c.text ++ line }
+
+-- A message goes to its node, whether it did before or not.
+abbrev pub goes_to : ℕ → Option ℕ → Course → Course
+goes_to k None c = printed (no_message_line k) c
+goes_to k (Some n) c = happens (deliver_to n k) c
+
+abbrev pub receiver_in : Posted → Option ℕ
+receiver_in p = p.receiver
+
+abbrev pub delivered_to : ℕ → Option (Option ℕ) → Course → Course
+delivered_to k None c = printed (no_message_line k) c
+delivered_to k (Some receiver) c = goes_to k receiver (record c { delivered = yes_at (k - 1) c.delivered })
+
+abbrev pub delivers : ℕ → Course → Course
+delivers k c = delivered_to k (option_map receiver_in (nth k c.world.posted)) c
+
+abbrev pub delivers_where : Option ℕ → Course → Course
+delivers_where None c = c
+delivers_where (Some k) c = delivers k c
+
+-- The lowest message that was never delivered goes to its node, where there is one.
+abbrev pub delivers_lowest : Course → Course
+delivers_lowest c = delivers_where (lowest (length c.world.posted) 1 c.delivered) c
+
+abbrev pub flushes : ℕ → Course → Course
+flushes zero c = c
+flushes (suc most) c = flushes most (delivers_lowest c)
+
+-- What a line does. How many nodes there are is known from the start.
+abbrev pub taken : Line → Course → Course
+taken (lines.Nodes count) c = c
+taken (lines.Begin n coordinator ms) c = happens (begin_at n coordinator ms) c
+taken (lines.Interpose n activity coordinator) c = happens (interpose_at n activity coordinator) c
+taken (lines.Work n activity service kind vote) c = happens (work_at n activity service kind vote) c
+taken (lines.Commit n activity) c = happens (commit_at n activity) c
+taken (lines.Rollback n activity) c = happens (request n (locals.Rollback activity)) c
+taken (lines.Deliver k) c = delivers k c
+taken (lines.Flush most) c = flushes most c
+taken (lines.Tick n ms) c = happens (tick_at n ms) c
+
+abbrev pub all_taken : List Line → Course → Course
+all_taken [] c = c
+all_taken (line ∷ rest) c = all_taken rest (taken line c)
+
+-- so many nodes come up, numbered from this one on
+abbrev pub all_up : ℕ → ℕ → Course → Course
+all_up zero n c = c
+all_up (suc count) n c = all_up count (n + 1) (happens (up n) c)
+
+-- Every node comes up, in a world where nothing happened before.
+abbrev pub begun : ℕ → Course
+begun count = all_up count 1 (record { world = opening count; delivered = []; text = [] })
+
+abbrev pub is_ending : Ending → Ending → Bool
+is_ending endings.Committed endings.Committed = true
+is_ending endings.Aborted endings.Aborted = true
+is_ending endings.Lost endings.Lost = true
+is_ending a b = false
+
+-- a subordinate or a durable leaf ended so
+abbrev pub ends_so : Ending → Effect → Bool
+ends_so how (effects.Sub id what) = is_ending how what
+ends_so how (effects.Leaf id kind what) = is_kind kind kinds.Durable && is_ending how what
+ends_so how other = false
+
+abbrev pub ended_so : Ending → List Happened → ℕ
+ended_so how all = length (filter (λ h. ends_so how h.what) all)
+
+abbrev pub ended : World → List ℕ
+ended w =
+    end_line (length w.posted)
+    (ended_so endings.Committed w.happened)
+    (ended_so endings.Aborted w.happened)
+    (ended_so endings.Lost w.happened)
+
+-- how many nodes the first line names
+abbrev pub nodes_of : List Line → ℕ
+nodes_of [] = 0
+nodes_of (lines.Nodes count ∷ rest) = count
+nodes_of (line ∷ rest) = 0
+
+abbrev pub whole : Course → List ℕ
+whole c = c.text ++ ended c.world
+
+-- The report of a schedule.
+abbrev pub report_of : List Line → List ℕ
+report_of all = whole (all_taken all (begun (nodes_of all)))

@@ -1,0 +1,327 @@
+//! A replay on its way.
+
+ghost use Rattle.std.specs.Prelude.{◌≡◌, ◌≤◌, ◌<◌, ◌+◌, ◌-◌, ◌^◌, ◌++◌, [], IfOk, OnOk, None, length, drop, option_map, option_copied};
+ghost use Rattle.at_model.specs.Views.{deliver_to, request, tick_at, up};
+ghost use Rattle.at_model.specs.World.{Turn, Ask, nth, opening, world_step};
+ghost use Rattle.world_laws.specs.Events.{event_of, input_of};
+ghost use Rattle.world_laws.specs.Runs.{book_at, world_of};
+ghost use Rattle.world_laws.specs.Steps.{IsCalm};
+ghost use Rattle.replay_cmd.specs.Delivered.{lowest, yes_at};
+ghost use Rattle.replay_cmd.specs.Lines.{no_message_line};
+ghost use Rattle.replay_cmd.specs.ReportOf.{all_up, delivers, flushes, goes_to, happens, printed, receiver_in, request_result, step_lines, steps_of, whole, begun};
+
+use crate::delivered::Delivered;
+use crate::endings::push_ended;
+use crate::lines::{Lines, refusal_word};
+use crate::steps::{answer_of, push_steps};
+use at_base::event::Local;
+use std::alloc::{AllocError, Global};
+use std::marker::Model;
+use world_laws::event::{Fates, Input, WorldEvent};
+use world_laws::posted::Steps;
+use world_laws::world::{Stepped, World};
+
+/// A world takes no more events; the lines of a schedule give fewer.
+const MOST: usize = 4_294_967_295;
+
+/// How far a replay has come.
+#[derive(Drop)]
+pub struct Course {
+    world: World,
+    delivered: Delivered,
+    lines: Lines,
+}
+
+impl Model for Course {
+    ghost use Rattle.world_laws.specs.Runs.{world_of};
+    ghost use Rattle.replay_cmd.specs.ReportOf.{Course as Known};
+
+    ghost Value = { Known };
+
+    ghost view = { λ c. record { world = world_of c.world; delivered = c.delivered; text = c.lines } };
+}
+
+#[tactic(auto, unfolding(crate::specs::ReportOf::steps_of))]
+fn stepped(world: World, alloc: Global, event: WorldEvent) -> Result<Stepped, AllocError>
+    requires { IsCalm (event_of event) }
+    ensures world { IfOk result (λ s. world_of s.world ≡ world_step (world_of world) (event_of event)) }
+    ensures steps { IfOk result (λ s. s.steps ≡ steps_of (world_of world) (event_of event)) }
+{
+    if world.events().len() >= MOST {
+        return Err(AllocError);
+    }
+    world.step(alloc, event)
+}
+
+#[tactic(auto, using(crate::proofs::Loops::opened))]
+fn opened(alloc: Global, count: u8) -> Result<World, AllocError>
+    requires { (1 ≤ count) × (count ≤ 8) }
+    ensures { IfOk result (λ world. world_of world ≡ opening count) }
+{
+    let world = World::new(alloc, count)?;
+    Ok(world)
+}
+
+fn turn(alloc: Global, node: u8, input: Input) -> WorldEvent
+    ensures { event_of result ≡ Turn node (input_of input) [] None }
+{
+    WorldEvent::Turn {
+        node,
+        input,
+        fates: Fates::from_vec(Vec::new(alloc)),
+        until: None,
+    }
+}
+
+fn asking(alloc: Global, node: u8, local: Local) -> WorldEvent
+    ensures { event_of result ≡ Ask node local [] None }
+{
+    WorldEvent::Ask {
+        node,
+        local,
+        fates: Fates::from_vec(Vec::new(alloc)),
+        until: None,
+    }
+}
+
+/// Adds the lines of an event's steps, before which the world had so many messages.
+fn push_behind(
+    alloc: Global,
+    lines: &mut Lines,
+    node: u8,
+    before: usize,
+    world: &World,
+    steps: &Steps,
+) -> Result<(), AllocError>
+    requires { before < 2 ^ 63 }
+    ensures { OnOk result
+        (lines.new ≡ lines.old ++ step_lines node (before + 1) (drop before (world_of world.now).posted) steps.now) }
+{
+    let messages = match world.all_posted().get(before..) {
+        Some(messages) => messages,
+        None => &[],
+    };
+    push_steps(alloc, lines, node, before + 1, messages, steps.as_slice())
+}
+
+/// Why a node doesn't take a request, on a line.
+fn push_refusal(
+    alloc: Global,
+    lines: &mut Lines,
+    world: &World,
+    node: u8,
+    local: &Local,
+) -> Result<(), AllocError>
+    ensures { OnOk result (lines.new ≡ lines.old ++ request_result local.now (book_at (world_of world.now) node)) }
+{
+    if world.incarnation(node).is_none() {
+        return lines.push_refused(alloc, "down");
+    }
+    match world.refuses(node, local) {
+        Some(refusal) => lines.push_refused(alloc, refusal_word(refusal)),
+        None => Ok(()),
+    }
+}
+
+impl Course {
+    /// A world of so many nodes, each of which is down.
+    fn opening(alloc: Global, count: u8) -> Result<Course, AllocError>
+        requires { (1 ≤ count) × (count ≤ 8) }
+        ensures { IfOk result (λ c. c ≡ record { world = opening count; delivered = []; text = [] }) }
+    {
+        Ok(Course {
+            world: opened(alloc, count)?,
+            delivered: Delivered::new(alloc),
+            lines: Lines::new(alloc),
+        })
+    }
+
+    fn up(self, alloc: Global, node: u8) -> Result<Course, AllocError>
+        ensures { IfOk result (λ c. c ≡ happens (up node) self) }
+    {
+        let Course {
+            world,
+            delivered,
+            mut lines,
+        } = self;
+        let before = world.all_posted().len();
+        let event = WorldEvent::Up {
+            node,
+            landed: true,
+            stop: false,
+        };
+        let Stepped { world, steps } = stepped(world, alloc, event)?;
+        lines.push_up(alloc, node, world.incarnation(node))?;
+        push_behind(alloc, &mut lines, node, before, &world, &steps)?;
+        Ok(Course {
+            world,
+            delivered,
+            lines,
+        })
+    }
+
+    /// So many nodes come up.
+    #[tactic(auto, using(crate::proofs::Loops::up_more))]
+    fn all_up(self, alloc: Global, count: u8) -> Result<Course, AllocError>
+        ensures { IfOk result (λ c. c ≡ all_up count 1 self) }
+    {
+        let mut course = self;
+        for place in 0..count {
+            course = course.up(alloc, place + 1)?;
+        }
+        Ok(course)
+    }
+
+    /// A node is asked by its own program.
+    pub fn ask(self, alloc: Global, node: u8, local: Local) -> Result<Course, AllocError>
+        ensures { IfOk result (λ c. c ≡ happens (request node local) self) }
+    {
+        let Course {
+            world,
+            delivered,
+            mut lines,
+        } = self;
+        let before = world.all_posted().len();
+        push_refusal(alloc, &mut lines, &world, node, &local)?;
+        let Stepped { world, steps } = stepped(world, alloc, asking(alloc, node, local))?;
+        push_behind(alloc, &mut lines, node, before, &world, &steps)?;
+        Ok(Course {
+            world,
+            delivered,
+            lines,
+        })
+    }
+
+    /// So many milliseconds go by at a node.
+    pub fn tick(self, alloc: Global, node: u8, ms: u32) -> Result<Course, AllocError>
+        ensures { IfOk result (λ c. c ≡ happens (tick_at node ms) self) }
+    {
+        let Course {
+            world,
+            delivered,
+            mut lines,
+        } = self;
+        let before = world.all_posted().len();
+        let event = turn(alloc, node, Input::Tick(ms));
+        let Stepped { world, steps } = stepped(world, alloc, event)?;
+        let clock = world.clock(node).unwrap_or(0);
+        lines.push_tick(alloc, node, clock, answer_of(steps.as_slice()))?;
+        push_behind(alloc, &mut lines, node, before, &world, &steps)?;
+        Ok(Course {
+            world,
+            delivered,
+            lines,
+        })
+    }
+
+    fn deliver_to(self, alloc: Global, number: u64, node: u8) -> Result<Course, AllocError>
+        ensures { IfOk result (λ c. c ≡ happens (deliver_to node number) self) }
+    {
+        let Course {
+            world,
+            delivered,
+            mut lines,
+        } = self;
+        let before = world.all_posted().len();
+        let event = turn(alloc, node, Input::Deliver(number));
+        let Stepped { world, steps } = stepped(world, alloc, event)?;
+        lines.push_deliver(alloc, number, node, answer_of(steps.as_slice()))?;
+        push_behind(alloc, &mut lines, node, before, &world, &steps)?;
+        Ok(Course {
+            world,
+            delivered,
+            lines,
+        })
+    }
+
+    fn no_message(self, alloc: Global, number: u64) -> Result<Course, AllocError>
+        ensures { IfOk result (λ c. c ≡ printed (no_message_line number) self) }
+    {
+        let mut course = self;
+        course.lines.push_no_message(alloc, number)?;
+        Ok(course)
+    }
+
+    fn mark(self, number: u64) -> Result<Course, AllocError>
+        ensures { IfOk result (λ c. c ≡ record self { delivered = yes_at (number - 1) self.delivered }) }
+    {
+        let mut course = self;
+        course.delivered.mark(number.saturating_sub(1) as usize)?;
+        Ok(course)
+    }
+
+    fn goes_to(self, alloc: Global, number: u64, receiver: Option<u8>) -> Result<Course, AllocError>
+        ensures { IfOk result (λ c. c ≡ goes_to number receiver self) }
+    {
+        match receiver {
+            Some(node) => self.deliver_to(alloc, number, node),
+            None => self.no_message(alloc, number),
+        }
+    }
+
+    /// The receiver of a message, where it is there.
+    fn receiver(&self, number: u64) -> Option<Option<u8>>
+        ensures { result ≡ option_map receiver_in (nth number self.now.world.posted) }
+    {
+        Some(self.world.posted(number)?.receiver)
+    }
+
+    /// A message goes to its node, whether it did before or not.
+    pub fn deliver(self, alloc: Global, number: u64) -> Result<Course, AllocError>
+        ensures { IfOk result (λ c. c ≡ delivers number self) }
+    {
+        match self.receiver(number) {
+            Some(receiver) => {
+                let marked = self.mark(number)?;
+                marked.goes_to(alloc, number, receiver)
+            }
+            None => self.no_message(alloc, number),
+        }
+    }
+
+    /// The lowest message that was never delivered.
+    fn lowest(&mut self) -> Option<u64>
+        ensures lowest { result ≡ lowest (length self.old.world.posted) 1 self.old.delivered }
+        ensures kept { self.new ≡ self.old }
+    {
+        let count = self.world.all_posted().len();
+        Some(self.delivered.lowest(count)? as u64)
+    }
+
+    /// Up to so many times, the lowest message that was never delivered goes to its node.
+    #[tactic(auto, using(crate::proofs::Loops::flush_more, crate::proofs::Loops::flush_none))]
+    pub fn flush(self, alloc: Global, most: u16) -> Result<Course, AllocError>
+        ensures { IfOk result (λ c. c ≡ flushes most self) }
+    {
+        let mut course = self;
+        for _time in 0..most {
+            let Some(number) = course.lowest() else {
+                return Ok(course);
+            };
+            course = course.deliver(alloc, number)?;
+        }
+        Ok(course)
+    }
+
+    /// A world of so many nodes, each of which comes up.
+    pub fn begin(alloc: Global, count: u8) -> Result<Course, AllocError>
+        requires { (1 ≤ count) × (count ≤ 8) }
+        ensures { IfOk result (λ c. c ≡ begun count) }
+    {
+        let course = Course::opening(alloc, count)?;
+        course.all_up(alloc, count)
+    }
+
+    /// What was printed, with the last line.
+    pub fn whole(self, alloc: Global) -> Result<Lines, AllocError>
+        ensures { IfOk result (λ lines. lines ≡ whole self) }
+    {
+        let Course {
+            world,
+            delivered: _delivered,
+            mut lines,
+        } = self;
+        push_ended(alloc, &mut lines, &world)?;
+        Ok(lines)
+    }
+}

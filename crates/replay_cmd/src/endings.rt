@@ -1,0 +1,61 @@
+//! The last line of a report.
+
+ghost use Rattle.std.specs.Prelude.{◌≡◌, ◌++◌, OnOk};
+ghost use Rattle.world_laws.specs.Runs.{world_of};
+ghost use Rattle.replay_cmd.specs.ReportOf.{ended, ended_so, ends_so, is_ending};
+
+use crate::lines::Lines;
+use at_base::notice::Kind;
+use at_base::outs::{Effect, Ending};
+use std::alloc::{AllocError, Global};
+use world_laws::posted::NodeEffect;
+use world_laws::world::World;
+
+fn is_ending(a: Ending, b: Ending) -> bool
+    ensures { result ≡ is_ending a b }
+{
+    match (a, b) {
+        (Ending::Committed, Ending::Committed) => true,
+        (Ending::Aborted, Ending::Aborted) => true,
+        (Ending::Lost, Ending::Lost) => true,
+        _ => false,
+    }
+}
+
+/// Whether a subordinate or a durable leaf ended so.
+fn ends_so(how: Ending, effect: &Effect) -> bool
+    ensures { result ≡ ends_so how effect.now }
+{
+    match effect {
+        Effect::Sub { what, .. } => is_ending(how, *what),
+        Effect::Leaf {
+            kind: Kind::Durable,
+            what,
+            ..
+        } => is_ending(how, *what),
+        Effect::Leaf { .. } | Effect::Root { .. } | Effect::Told { .. } => false,
+    }
+}
+
+/// How many subordinates and durable leaves ended so.
+fn ended_so(how: Ending, effects: &[NodeEffect]) -> usize
+    ensures { result ≡ ended_so how effects.now }
+{
+    let mut count = 0;
+    for effect in effects {
+        if ends_so(how, &effect.what) {
+            count += 1;
+        }
+    }
+    count
+}
+
+/// Adds the last line of a report.
+pub fn push_ended(alloc: Global, lines: &mut Lines, world: &World) -> Result<(), AllocError>
+    ensures { OnOk result (lines.new ≡ lines.old ++ ended (world_of world.now)) }
+{
+    let committed = ended_so(Ending::Committed, world.effects());
+    let aborted = ended_so(Ending::Aborted, world.effects());
+    let lost = ended_so(Ending::Lost, world.effects());
+    lines.push_end(alloc, world.all_posted().len(), committed, aborted, lost)
+}

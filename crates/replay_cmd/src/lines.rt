@@ -1,0 +1,352 @@
+//! The lines of a report.
+
+ghost use Rattle.std.specs.Prelude.{ℕ, ◌≡◌, ◌++◌, [], OnOk, codes};
+ghost use Rattle.at_base.specs.declared.outs.Effect.TheVariants as effects;
+ghost use Rattle.at_model.specs.Addresses.{kind_letter};
+ghost use Rattle.at_model.specs.Views.{behind_slash, line_of, message_name, notice_name, path_in, receiver_number};
+ghost use Rattle.completion_at.specs.Names.{refusal_of};
+ghost use Rattle.replay_cmd.specs.Lines.{deliver_line, effect_line, end_line, ending_word, item_line, leaf_words, message_line, message_start, no_message_line, refusal_word, refused_line, tick_line, told_word, up_line};
+
+use at_base::epr::Epr;
+use at_base::id::Id;
+use at_base::message::Message;
+use at_base::notice::{Kind, Notice};
+use at_base::outs::{Effect, Ending, Told};
+use completion_at::requests::Refusal;
+use std::alloc::{AllocError, Global};
+use std::marker::Model;
+use world_laws::posted::Posted;
+
+/// What was printed, byte by byte.
+#[derive(Debug, Drop)]
+pub struct Lines {
+    bytes: Vec<u8>,
+}
+
+impl Model for Lines {
+    ghost use Rattle.std.specs.Prelude.{ℕ, List};
+
+    ghost Value = { List ℕ };
+
+    ghost view = { λ l. l.bytes.items };
+}
+
+/// How a transaction or leaf ended.
+pub fn ending_word(ending: Ending) -> &'static str
+    ensures { result.now ≡ ending_word ending }
+{
+    match ending {
+        Ending::Committed => "committed",
+        Ending::Aborted => "aborted",
+        Ending::Lost => "lost",
+    }
+}
+
+/// What an initiator was told of its activity.
+pub fn told_word(told: Told) -> &'static str
+    ensures { result.now ≡ told_word told }
+{
+    match told {
+        Told::Committed => "committed",
+        Told::Aborted => "aborted",
+        Told::Unknown => "unknown",
+        Told::Refused => "refused",
+    }
+}
+
+/// Why a local request is refused.
+pub fn refusal_word(refusal: Refusal) -> &'static str
+    ensures { result.now ≡ refusal_word (refusal_of refusal) }
+{
+    match refusal {
+        Refusal::Full => "full",
+        Refusal::Stale => "state",
+        Refusal::Spent => "spent",
+    }
+}
+
+fn kind_letter(kind: Kind) -> &'static str
+    ensures { result.now ≡ kind_letter kind }
+{
+    match kind {
+        Kind::Durable => "d",
+        Kind::Volatile => "v",
+    }
+}
+
+fn notice_name(notice: Notice) -> &'static str
+    ensures { result.now ≡ notice_name notice }
+{
+    match notice {
+        Notice::Prepare => "Prepare",
+        Notice::Commit => "Commit",
+        Notice::Rollback => "Rollback",
+        Notice::Prepared => "Prepared",
+        Notice::ReadOnly => "ReadOnly",
+        Notice::Aborted => "Aborted",
+        Notice::Committed => "Committed",
+    }
+}
+
+/// The local name of a message's body; of a fault, that of its code.
+fn message_name(message: &Message) -> &str
+    ensures { result.now ≡ message_name message.entry.now }
+{
+    match message {
+        Message::Create(_) => "CreateCoordinationContext",
+        Message::CreateResponse(_) => "CreateCoordinationContextResponse",
+        Message::Register(_) => "Register",
+        Message::RegisterResponse(_) => "RegisterResponse",
+        Message::Notice(notice) => notice_name(*notice),
+        Message::Work(_) => "Work",
+        Message::WorkDone => "WorkDone",
+        Message::WorkRefused => "WorkRefused",
+        Message::Fault { name } => name.as_str(),
+    }
+}
+
+/// The number of a message's receiver; 0 where it has none.
+fn receiver_number(receiver: Option<u8>) -> u8
+    ensures { result ≡ receiver_number receiver }
+{
+    match receiver {
+        Some(receiver) => receiver,
+        None => 0,
+    }
+}
+
+/// What stands from the first slash on.
+fn behind_slash(bytes: &[u8]) -> &[u8]
+    ensures { result.now ≡ behind_slash bytes.entry.now }
+{
+    for place in 0..bytes.len() {
+        if bytes[place] == b'/' {
+            return &bytes[place..];
+        }
+    }
+    &[]
+}
+
+/// What stands behind the host of an http address.
+fn path_in(to: &Option<Epr>) -> &[u8]
+    ensures { result.now ≡ path_in to.entry.now }
+{
+    match to {
+        Some(epr) => match epr.address.as_str().as_bytes().get(7..) {
+            Some(bytes) => behind_slash(bytes),
+            None => &[],
+        },
+        None => &[],
+    }
+}
+
+impl Lines {
+    /// Nothing yet.
+    pub fn new(alloc: Global) -> Lines
+        ensures { result ≡ [] }
+    {
+        Lines {
+            bytes: Vec::new(alloc),
+        }
+    }
+
+    /// The bytes as a slice.
+    pub fn as_slice(&self) -> &[u8]
+        ensures { result.now ≡ self.now }
+    {
+        self.bytes.as_slice()
+    }
+
+    fn push(&mut self, text: &str) -> Result<(), AllocError>
+        ensures { OnOk result (self.new ≡ self.old ++ text.now) }
+    {
+        self.bytes.extend_from_slice(text.as_bytes())
+    }
+
+    fn push_bytes(&mut self, bytes: &[u8]) -> Result<(), AllocError>
+        ensures { OnOk result (self.new ≡ self.old ++ bytes.now) }
+    {
+        self.bytes.extend_from_slice(bytes)
+    }
+
+    /// A node came up in this incarnation, or not at all.
+    #[tactic(auto, unfolding(crate::specs::Lines::up_line))]
+    pub fn push_up(
+        &mut self,
+        alloc: Global,
+        node: u8,
+        incarnation: Option<u32>,
+    ) -> Result<(), AllocError>
+        ensures { OnOk result (self.new ≡ self.old ++ up_line node incarnation) }
+    {
+        let line = match incarnation {
+            Some(incarnation) => format!(in alloc; "up {} {}\n", node, incarnation)?,
+            None => format!(in alloc; "up {} failed\n", node)?,
+        };
+        self.push(line.as_str())
+    }
+
+    /// A message went to a node, which answered so; none where it is down.
+    #[tactic(auto, unfolding(crate::specs::Lines::deliver_line))]
+    pub fn push_deliver(
+        &mut self,
+        alloc: Global,
+        number: u64,
+        node: u8,
+        answer: Option<u16>,
+    ) -> Result<(), AllocError>
+        ensures { OnOk result (self.new ≡ self.old ++ deliver_line number node answer) }
+    {
+        let line = match answer {
+            Some(status) => format!(in alloc; "deliver {} {} {}\n", number, node, status)?,
+            None => format!(in alloc; "deliver {} {} down\n", number, node)?,
+        };
+        self.push(line.as_str())
+    }
+
+    /// There is no message of this number, or no node has its address.
+    #[tactic(auto, unfolding(crate::specs::Lines::no_message_line))]
+    pub fn push_no_message(&mut self, alloc: Global, number: u64) -> Result<(), AllocError>
+        ensures { OnOk result (self.new ≡ self.old ++ no_message_line number) }
+    {
+        let line = format!(in alloc; "deliver {} none\n", number)?;
+        self.push(line.as_str())
+    }
+
+    /// The clock of a node came to this, in milliseconds, and the node answered so; none where it is down.
+    #[tactic(auto, unfolding(crate::specs::Lines::tick_line))]
+    pub fn push_tick(
+        &mut self,
+        alloc: Global,
+        node: u8,
+        clock: u64,
+        answer: Option<u16>,
+    ) -> Result<(), AllocError>
+        ensures { OnOk result (self.new ≡ self.old ++ tick_line node clock answer) }
+    {
+        let line = match answer {
+            Some(status) => format!(in alloc; "tick {} {} {}\n", node, clock, status)?,
+            None => format!(in alloc; "tick {} {} down\n", node, clock)?,
+        };
+        self.push(line.as_str())
+    }
+
+    /// A local request is refused.
+    #[tactic(auto, unfolding(crate::specs::Lines::refused_line))]
+    pub fn push_refused(&mut self, alloc: Global, word: &str) -> Result<(), AllocError>
+        ensures { OnOk result (self.new ≡ self.old ++ refused_line word.now) }
+    {
+        let line = format!(in alloc; "refused {}\n", word)?;
+        self.push(line.as_str())
+    }
+
+    #[tactic(auto, unfolding(crate::specs::Lines::item_line))]
+    fn push_item(
+        &mut self,
+        alloc: Global,
+        item: &str,
+        node: u8,
+        id: Id,
+        words: &str,
+    ) -> Result<(), AllocError>
+        ensures { OnOk result (self.new ≡ self.old ++ item_line item.now node id words.now) }
+    {
+        let line = format!(in alloc; "{} {} {} {}\n", item, node, id, words)?;
+        self.push(line.as_str())
+    }
+
+    #[tactic(auto, unfolding(crate::specs::Lines::leaf_words))]
+    fn push_leaf(
+        &mut self,
+        alloc: Global,
+        node: u8,
+        id: Id,
+        kind: Kind,
+        what: Ending,
+    ) -> Result<(), AllocError>
+        ensures { OnOk result (self.new ≡ self.old ++ effect_line node (effects.Leaf id kind what)) }
+    {
+        let words = format!(in alloc; "{} {}", kind_letter(kind), ending_word(what))?;
+        self.push_item(alloc, "leaf", node, id, words.as_str())
+    }
+
+    /// What happened for good on a node.
+    pub fn push_effect(
+        &mut self,
+        alloc: Global,
+        node: u8,
+        effect: &Effect,
+    ) -> Result<(), AllocError>
+        ensures { OnOk result (self.new ≡ self.old ++ effect_line node effect.now) }
+    {
+        match effect {
+            Effect::Root { id, what } => self.push_item(
+                alloc,
+                "root",
+                node,
+                *id,
+                ending_word(*what),
+            ),
+            Effect::Sub { id, what } => self.push_item(alloc, "sub", node, *id, ending_word(*what)),
+            Effect::Leaf { id, kind, what } => self.push_leaf(alloc, node, *id, *kind, *what),
+            Effect::Told { id, what } => self.push_item(alloc, "told", node, *id, told_word(*what)),
+        }
+    }
+
+    #[tactic(auto, unfolding(crate::specs::Lines::message_start))]
+    fn push_start(
+        &mut self,
+        alloc: Global,
+        number: usize,
+        sender: u8,
+        receiver: u8,
+        name: &str,
+    ) -> Result<(), AllocError>
+        ensures { OnOk result (self.new ≡ self.old ++ message_start number sender receiver name.now) }
+    {
+        let start = format!(in alloc; "msg {} {}>{} {} ", number, sender, receiver, name)?;
+        self.push(start.as_str())
+    }
+
+    fn push_path(&mut self, path: &[u8]) -> Result<(), AllocError>
+        ensures { OnOk result (self.new ≡ self.old ++ (path.now ++ codes "\n")) }
+    {
+        self.push_bytes(path)?;
+        self.push("\n")
+    }
+
+    /// A message that was posted, by its number.
+    pub fn push_message(
+        &mut self,
+        alloc: Global,
+        number: usize,
+        posted: &Posted,
+    ) -> Result<(), AllocError>
+        ensures { OnOk result (self.new ≡ self.old ++ message_line number (line_of posted.now)) }
+    {
+        let receiver = receiver_number(posted.receiver);
+        let name = message_name(&posted.content.message);
+        let path = path_in(&posted.content.to);
+        self.push_start(alloc, number, posted.sender, receiver, name)?;
+        self.push_path(path)
+    }
+
+    /// How many messages were posted, and how many subordinates and durable leaves ended in each way.
+    #[tactic(auto, unfolding(crate::specs::Lines::end_line))]
+    pub fn push_end(
+        &mut self,
+        alloc: Global,
+        messages: usize,
+        committed: usize,
+        aborted: usize,
+        lost: usize,
+    ) -> Result<(), AllocError>
+        ensures { OnOk result (self.new ≡ self.old ++ end_line messages committed aborted lost) }
+    {
+        let line = format!(in alloc;
+            "end messages {} committed {} aborted {} lost {}\n",
+            messages, committed, aborted, lost
+        )?;
+        self.push(line.as_str())
+    }
+}

@@ -1,0 +1,134 @@
+//! `replay`: the report of a schedule.
+
+ghost use Rattle.std.specs.Prelude.{◌≡◌, [], IfOk, replicate};
+ghost use Rattle.at_base.specs.declared.event.Local.TheVariants as locals;
+ghost use Rattle.replay_cmd.specs.Laws.{IsReplayable};
+ghost use Rattle.replay_cmd.specs.ReportOf.{all_taken, nodes_of, report_of, taken};
+
+use crate::course::Course;
+use crate::lines::Lines;
+use crate::requests::{begin, interpose, work};
+use at_base::event::Local;
+use schedules::line::{Line, Schedule};
+use std::alloc::{AllocError, Global};
+use std::marker::Model;
+
+/// The bytes of each node's file, in the order of the nodes.
+#[derive(Debug, Drop)]
+pub struct Files {
+    items: Vec<Vec<u8>>,
+}
+
+impl Model for Files {
+    ghost use Rattle.std.specs.Prelude.{ℕ, List, map};
+    ghost use Rattle.std.specs.declared.vec.Vec.{Vec};
+
+    ghost Value = { List (List ℕ) };
+
+    ghost view = { λ f. map (λ v. v.items) f.items.items };
+}
+
+/// What a replay gives.
+#[derive(Debug, Drop)]
+pub struct Report {
+    /// What is printed.
+    pub text: Lines,
+    /// The nodes of a replay keep no journal yet, and so each file is empty.
+    pub files: Files,
+}
+
+fn take_line(course: Course, alloc: Global, line: &Line) -> Result<Course, AllocError>
+    ensures { IfOk result (λ c. c ≡ taken line.now course) }
+{
+    match line {
+        Line::Nodes { .. } => Ok(course),
+        Line::Begin {
+            node,
+            coordinator,
+            ms,
+        } => {
+            let local = begin(alloc, *coordinator, *ms)?;
+            course.ask(alloc, *node, local)
+        }
+        Line::Interpose {
+            node,
+            activity,
+            coordinator,
+        } => {
+            let local = interpose(alloc, *activity, *coordinator)?;
+            course.ask(alloc, *node, local)
+        }
+        Line::Work {
+            node,
+            activity,
+            service,
+            kind,
+            vote,
+        } => {
+            let local = work(alloc, *activity, *service, *kind, *vote)?;
+            course.ask(alloc, *node, local)
+        }
+        Line::Commit { node, activity } => course.ask(
+            alloc,
+            *node,
+            Local::Commit {
+                activity: *activity,
+            },
+        ),
+        Line::Rollback { node, activity } => course.ask(
+            alloc,
+            *node,
+            Local::Rollback {
+                activity: *activity,
+            },
+        ),
+        Line::Deliver { message } => course.deliver(alloc, *message as u64),
+        Line::Flush { most } => course.flush(alloc, *most),
+        Line::Tick { node, ms } => course.tick(alloc, *node, *ms),
+    }
+}
+
+fn take_lines(course: Course, alloc: Global, lines: &[Line]) -> Result<Course, AllocError>
+    ensures { IfOk result (λ c. c ≡ all_taken lines.now course) }
+{
+    let mut course = course;
+    for line in lines {
+        course = take_line(course, alloc, line)?;
+    }
+    Ok(course)
+}
+
+/// How many nodes the first line names.
+fn nodes_of(lines: &[Line]) -> u8
+    ensures { result ≡ nodes_of lines.now }
+{
+    match lines.first() {
+        Some(Line::Nodes { count }) => *count,
+        _ => 0,
+    }
+}
+
+fn empty_files(alloc: Global, count: u8) -> Result<Files, AllocError>
+    ensures { IfOk result (λ files. files ≡ replicate count []) }
+{
+    let mut items = Vec::new(alloc);
+    for _node in 0..count {
+        items.push(Vec::new(alloc))?;
+    }
+    Ok(Files { items })
+}
+
+/// The report of a schedule.
+pub fn replay(alloc: Global, schedule: &Schedule) -> Result<Report, AllocError>
+    requires { IsReplayable schedule.now }
+    ensures text { IfOk result (λ report. report.text ≡ report_of schedule.now) }
+    ensures files { IfOk result (λ report. report.files ≡ replicate (nodes_of schedule.now) []) }
+{
+    let lines = schedule.as_slice();
+    let count = nodes_of(lines);
+    let files = empty_files(alloc, count)?;
+    let course = Course::begin(alloc, count)?;
+    let course = take_lines(course, alloc, lines)?;
+    let text = course.whole(alloc)?;
+    Ok(Report { text, files })
+}
