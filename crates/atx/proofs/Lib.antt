@@ -1,1 +1,6 @@
+mod Examples
+mod Parsing
 mod Printing
+mod Purity
+mod Rows
+mod Words

@@ -1,5 +1,5 @@
 -- What was read and printed, as the clauses of the top call say it.
-use Rattle.std.proofs.Common.{◌≡◌, ℕ, List, [], ◌∷◌, Bool, true, false, Option, Some, None, IsTrue, IfSome, length, take, nat_eq, ◌≤◌, ◌||◌, refl, sym, ap, subst, ◌∙◌}
+use Rattle.std.proofs.Common.{◌≡◌, ℕ, List, [], ◌∷◌, Bool, true, false, Option, Some, None, IsTrue, IfSome, length, take, nat_eq, ◌≤◌, ◌||◌, refl, subst, ◌∙◌}
 use Rattle.std.proofs.lemmas.Bool.{eqb-true}
 use Rattle.std.specs.List.{list_any}
 use Rattle.std.specs.Io.KnownBytes.{Appends}
@@ -27,24 +27,21 @@ settled_by status s true b p q h k = eqb-true status s p
 settled_by status s false true p q h k = absurd (not_five status (eqb-true status 5 q) k)
 settled_by status s false false p q h k = let no_more : IsTrue false = h in absurd cc
 
-same_job : (named job : Job) → ◌≡◌ {A = Option Job} (Some named) (Some job) → named ≡ job
-same_job named job e = cc
+reported : (job : Job) (bytes told input : List ℕ) (output : Output) → told ≡ bytes → bytes ≡ input → Reports job told output → Reports job input output
+reported job bytes told input output f g h = subst (λ x. Reports job x output) (f ∙ g) h
 
-reported : (named job : Job) (bytes told input : List ℕ) (output : Output) → named ≡ job → told ≡ bytes → bytes ≡ input → Reports named told output → Reports job input output
-reported named job bytes told input output e f g h = subst (λ j. Reports j input output) e (subst (λ x. Reports named x output) (f ∙ g) h)
-
-pub all_printed : (left : Option (List ℕ)) (before now : ℕ) (bytes told : List ℕ) (named job : Job) (old new : Option (List ℕ)) (status : ℕ) (output : Output)
-    → IsWhole left before now bytes → told ≡ bytes → Reports named told output → ◌≡◌ {A = Option Job} (Some named) (Some job)
+pub all_printed : (left : Option (List ℕ)) (before now : ℕ) (bytes told : List ℕ) (job : Job) (old new : Option (List ℕ)) (status : ℕ) (output : Output)
+    → IsWhole left before now bytes → told ≡ bytes → Reports job told output
     → IsTrue (list_any (nat_eq status) (status_of output ∷ 5 ∷ [])) → (status ≡ status_of output → Appends old new output.text)
     → IsTrue (list_any (nat_eq status) (0 ∷ 3 ∷ [])) → IfSome left (λ input. IsDone job input old new status)
-all_printed left before now bytes told named job old new status output whole t reports same statuses all done =
+all_printed left before now bytes told job old new status output whole t reports statuses all done =
     let e : status ≡ status_of output = settled_by status (status_of output) (nat_eq status (status_of output)) (nat_eq status 5) refl refl statuses done in
     on_some {P = λ input. bytes ≡ input} {Q = λ input. IsDone job input old new status} left
-    (λ input f. record { output = output; reports = reported named job bytes told input output (same_job named job same) t f reports; printed = all e; ended = e }) whole.all
+    (λ input f. record { output = output; reports = reported job bytes told input output t f reports; printed = all e; ended = e }) whole.all
 
-pub part_printed : (left : Option (List ℕ)) (before now : ℕ) (bytes told : List ℕ) (named job : Job) (old new : Option (List ℕ)) (output : Output)
-    → IsWhole left before now bytes → told ≡ bytes → Reports named told output → ◌≡◌ {A = Option Job} (Some named) (Some job)
+pub part_printed : (left : Option (List ℕ)) (before now : ℕ) (bytes told : List ℕ) (job : Job) (old new : Option (List ℕ)) (output : Output)
+    → IsWhole left before now bytes → told ≡ bytes → Reports job told output
     → (n : ℕ) × ((n ≤ length output.text) × Appends old new (take n output.text)) → IfSome left (λ input. IsCut job input old new)
-part_printed left before now bytes told named job old new output whole t reports same (n, (within, part)) =
+part_printed left before now bytes told job old new output whole t reports (n, (within, part)) =
     on_some {P = λ input. bytes ≡ input} {Q = λ input. IsCut job input old new} left
-    (λ input f. record { output = output; reports = reported named job bytes told input output (same_job named job same) t f reports; count = n; within = within; printed = part }) whole.all
+    (λ input f. record { output = output; reports = reported job bytes told input output t f reports; count = n; within = within; printed = part }) whole.all

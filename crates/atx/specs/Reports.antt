@@ -1,16 +1,31 @@
 -- What a job prints of its input, and the status that it ends with.
-use Rattle.std.specs.Prelude.{ℕ, List, [], Option, length, take, if◌then◌else◌, ◌≡◌, ◌≤◌, ◌⊎◌}
+use Rattle.std.specs.Prelude.{ℕ, List, [], ◌++◌, codes, decimal, Result, Ok, Err, Option, length, take, if◌then◌else◌, ◌≡◌, ◌≤◌, ◌⊎◌}
 use Rattle.std.specs.Io.KnownBytes.{Appends}
-use Rattle.envelope_cmd.specs.Output.{Output}
+use Rattle.envelope_cmd.specs.Output.{Output, accepted, refused}
 use Rattle.envelope_cmd.specs.Cells.{IsCellOf}
 use Rattle.envelope_cmd.specs.Checks.{IsCheckOf}
+use Rattle.replay_cmd.specs.ReportOf.{report_of}
+use Rattle.schedules.specs.Causes.{number_of_cause}
+use Rattle.schedules.specs.Schedules.{schedule_of}
+use Rattle.schedules.specs.declared.line.BadLine.{BadLine}
+use Rattle.schedules.specs.declared.line.Line.{Line}
 use Rattle.atx.specs.Jobs.{Job}
-use Rattle.atx.specs.Jobs.Job.{Cell, Check}
+use Rattle.atx.specs.Jobs.Job.{Cell, Check, Replay}
+
+-- the line of the first bad line of a schedule
+unfoldable pub bad_line : BadLine → List ℕ
+bad_line bad = codes "line " ++ (decimal bad.line ++ (codes " cause " ++ (decimal (number_of_cause bad.cause) ++ codes "\n")))
+
+-- the report of a schedule, or of its first bad line
+abbrev pub replayed : Result (List Line) BadLine → Output
+replayed (Ok lines) = accepted (report_of lines)
+replayed (Err bad) = refused (bad_line bad)
 
 -- a job prints this of its input
 abbrev pub Reports : Job → List ℕ → Output → Type 0
 Reports (Cell state) input output = IsCellOf input state output
 Reports (Check path) input output = IsCheckOf input path output
+Reports Replay input output = output ≡ replayed (schedule_of input)
 
 -- 0 where the job ended, 3 where it refused its input
 abbrev pub status_of : Output → ℕ

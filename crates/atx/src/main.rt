@@ -1,8 +1,10 @@
 //! atx: atomic transactions between web services (WS-Coordination 1.2, WS-AtomicTransaction 1.2).
 #![tactic(auto)]
 
+mod commands;
 mod job;
 mod outside;
+mod replay;
 pub mod run;
 #[cfg(test)]
 mod tests;

@@ -1,15 +1,17 @@
 //! The top call.
 
-ghost use Rattle.std.specs.Prelude.{ℕ, List, ◌≡◌, ◌↔◌, ◌+◌, ◌<◌, ◌≤◌, IsTrue, IfOk, IfSome, Some, nat_eq, map, string_bytes, length, take, ◌∷◌, []};
+ghost use Rattle.std.specs.Prelude.{ℕ, List, ◌≡◌, ◌≢◌, ◌+◌, ◌<◌, ◌≤◌, IsTrue, IfOk, IfSome, Some, nat_eq, map, string_bytes, length, take, ◌∷◌, []};
 ghost use Rattle.std.specs.List.{list_any};
 ghost use Rattle.std.specs.Io.KnownBytes.{Appends};
 ghost use Rattle.site_model.specs.Counts.{capped, RisesBy, Rose};
-ghost use Rattle.envelope_cmd.specs.Output.{Output};
-ghost use Rattle.atx.specs.Jobs.{IsJob, IsJobOf, Job as Meant};
+ghost use Rattle.clap.specs.Faults.{fault_of};
+ghost use Rattle.atx.specs.Commands.{whole};
+ghost use Rattle.atx.specs.Jobs.{IsFaulty, IsJob, IsJobOf, IsQuestion, Job as Meant};
 ghost use Rattle.atx.specs.Reports.{IsCut, IsDone, IsReport, Reports, status_of};
-ghost use Rattle.atx.specs.Views.{meant};
+ghost use Rattle.atx.specs.Views.{meant, statuses_of, Leaves};
 
-use crate::job::{Job, job_of};
+use crate::job::{Job, NoJob, job_of};
+use crate::replay::replayed;
 use envelope_cmd::cell::cell;
 use envelope_cmd::check::check;
 use envelope_cmd::printed::Printed;
@@ -18,7 +20,7 @@ use site_model::site::Site;
 use site_model::source::{ReadFault, Source, read_all};
 use std::alloc::{AllocError, Global};
 
-/// The job ended: all input was read and all output written.
+/// The job ended: all input was read and all output written. Or the help or the version was printed.
 pub const DONE: u8 = 0;
 
 /// The words are no job.
@@ -46,6 +48,7 @@ fn report(alloc: Global, job: &Job<'_>, input: &[u8]) -> Result<Printed, AllocEr
     match job {
         Job::Cell(state) => cell(alloc, input, *state),
         Job::Check(path) => check(alloc, input, path),
+        Job::Replay => replayed(alloc, input),
     }
 }
 
@@ -62,12 +65,67 @@ fn print<K: Sink>(sink: &mut K, printed: &Printed) -> u8
     }
 }
 
+/// Writes what clap says of the words.
+fn say<K: Sink>(sink: &mut K, text: &str, status: u8) -> u8
+    ensures statuses { IsTrue (list_any (nat_eq result) (status ∷ 5 ∷ [])) }
+    ensures cause { result ≡ 5 → status ≢ 5 → Rose (K.faults sink.old) (K.faults sink.new) }
+    ensures said { (said : List ℕ) × Appends (K.contents sink.old) (K.contents sink.new) said }
+{
+    match write_all(sink, text.as_bytes()) {
+        Ok(()) => status,
+        Err(_) => SINK_FAILED,
+    }
+}
+
+/// Says why the words are no job, and gives the status.
+fn tell<K: Sink>(sink: &mut K, reason: &NoJob) -> u8
+    ensures statuses { IsTrue (list_any (nat_eq result) (statuses_of reason.now)) }
+    ensures cause { result ≡ 5 → Rose (K.faults sink.old) (K.faults sink.new) }
+    ensures said { (said : List ℕ) × Appends (K.contents sink.old) (K.contents sink.new) said }
+    ensures silent { Leaves reason.now (Appends (K.contents sink.old) (K.contents sink.new) []) }
+{
+    match reason {
+        NoJob::NoMemory => NO_MEMORY,
+        NoJob::Question(text) => say(sink, text.as_str(), DONE),
+        NoJob::Refused(text) => say(sink, text.as_str(), NO_JOB),
+        NoJob::Unread => NO_JOB,
+    }
+}
+
+/// Reads the source, and does the job.
+fn work<S: Source, K: Sink>(alloc: Global, job: &Job<'_>, source: &mut S, sink: &mut K) -> u8
+    ensures statuses { IsTrue (list_any (nat_eq result) (0 ∷ 3 ∷ 4 ∷ 5 ∷ 9 ∷ 10 ∷ [])) }
+    ensures source_failed { result ≡ 4 → Rose (S.faults source.old) (S.faults source.new) }
+    ensures sink_failed { result ≡ 5 → Rose (K.faults sink.old) (K.faults sink.new) }
+    ensures too_long { result ≡ 10 → capped (S.given source.old + 1048577) ≤ S.given source.new }
+    ensures not_longer { S.given source.old + 1048576 < S.given source.new → result ≡ 10 }
+    ensures longer { result ≡ 10 → IfSome (S.left source.old) (λ input. 1048576 < length input) }
+    ensures whole { IsTrue (list_any (nat_eq result) (0 ∷ 3 ∷ 5 ∷ [])) → IfSome (S.left source.old) (λ input. RisesBy (length input) (S.given source.old) (S.given source.new)) }
+    ensures quiet { IsTrue (list_any (nat_eq result) (4 ∷ 9 ∷ 10 ∷ [])) → Appends (K.contents sink.old) (K.contents sink.new) [] }
+    ensures ended { IsTrue (list_any (nat_eq result) (0 ∷ 3 ∷ [])) → IfSome (S.left source.old) (λ input. IsDone (meant job.now) input (K.contents sink.old) (K.contents sink.new) result) }
+    ensures cut { result ≡ 5 → IfSome (S.left source.old) (λ input. IsCut (meant job.now) input (K.contents sink.old) (K.contents sink.new)) }
+    ensures report { (input : List ℕ) → S.left source.old ≡ Some input → length input ≤ 1048576 → ¬ (Rose (S.faults source.old) (S.faults source.new)) → ¬ (Rose (K.faults sink.old) (K.faults sink.new)) → IsReport (meant job.now) input (K.contents sink.old) (K.contents sink.new) result }
+{
+    let bytes = match read_all(alloc, source) {
+        Ok(bytes) => bytes,
+        Err(ReadFault::NoMemory) => return NO_MEMORY,
+        Err(ReadFault::Failed) => return SOURCE_FAILED,
+        Err(ReadFault::TooLong) => return TOO_LONG,
+    };
+    match report(alloc, job, bytes.as_slice()) {
+        Ok(printed) => print(sink, &printed),
+        Err(_) => NO_MEMORY,
+    }
+}
+
 /// Does the job that the words name, and gives the status that the process ends with. The words stand after the
-/// program's name.
+/// program's name; clap reads them.
 ///
 /// `cell --state S` reads one envelope from the source, and prints the cell of state S that it meets and the envelope
-/// that the cell posts. `check [--path P]` prints what the envelope says, line by line. All that is printed is made in
-/// memory before the first write.
+/// that the cell posts. `check [--path P]` prints what the envelope says, line by line. `replay` reads a schedule, and
+/// prints its report. All that is printed is made in
+/// memory before the first write. `--help` and `--version` are answered without a look at the source, and so are words
+/// that clap refuses: it says why.
 pub fn run<S: Source, K: Sink, H: Site>(
     alloc: Global,
     words: &[String],
@@ -76,29 +134,25 @@ pub fn run<S: Source, K: Sink, H: Site>(
     _site: &mut H,
 ) -> u8
     ensures statuses { IsTrue (list_any (nat_eq result) (0 ∷ 2 ∷ 3 ∷ 4 ∷ 5 ∷ 9 ∷ 10 ∷ [])) }
-    ensures words { (result ≡ 2) ↔ (¬ (IsJob (map string_bytes words.now))) }
+    ensures words { result ≡ 2 → IsFaulty (map string_bytes words.now) }
+    ensures faulty { IsFaulty (map string_bytes words.now) → IsTrue (list_any (nat_eq result) (2 ∷ 5 ∷ 9 ∷ [])) }
+    ensures question { IsQuestion (map string_bytes words.now) → IsTrue (list_any (nat_eq result) (0 ∷ 5 ∷ 9 ∷ [])) }
+    ensures unread { ¬ (IsJob (map string_bytes words.now)) → source.new ≡ source.old }
+    ensures said { ¬ (IsJob (map string_bytes words.now)) → (said : List ℕ) × Appends (K.contents sink.old) (K.contents sink.new) said }
+    ensures silent { result ≡ 2 → fault_of whole (map string_bytes words.now) ≡ [] → Appends (K.contents sink.old) (K.contents sink.new) [] }
     ensures source_failed { result ≡ 4 → Rose (S.faults source.old) (S.faults source.new) }
     ensures sink_failed { result ≡ 5 → Rose (K.faults sink.old) (K.faults sink.new) }
     ensures too_long { result ≡ 10 → capped (S.given source.old + 1048577) ≤ S.given source.new }
     ensures not_longer { S.given source.old + 1048576 < S.given source.new → result ≡ 10 }
     ensures longer { result ≡ 10 → IfSome (S.left source.old) (λ input. 1048576 < length input) }
-    ensures whole { IsTrue (list_any (nat_eq result) (0 ∷ 3 ∷ 5 ∷ [])) → IfSome (S.left source.old) (λ input. RisesBy (length input) (S.given source.old) (S.given source.new)) }
-    ensures quiet { IsTrue (list_any (nat_eq result) (2 ∷ 4 ∷ 9 ∷ 10 ∷ [])) → Appends (K.contents sink.old) (K.contents sink.new) [] }
+    ensures whole { IsJob (map string_bytes words.now) → IsTrue (list_any (nat_eq result) (0 ∷ 3 ∷ 5 ∷ [])) → IfSome (S.left source.old) (λ input. RisesBy (length input) (S.given source.old) (S.given source.new)) }
+    ensures quiet { IsTrue (list_any (nat_eq result) (4 ∷ 9 ∷ 10 ∷ [])) → Appends (K.contents sink.old) (K.contents sink.new) [] }
     ensures ended { (job : Meant) → IsJobOf (map string_bytes words.now) job → IsTrue (list_any (nat_eq result) (0 ∷ 3 ∷ [])) → IfSome (S.left source.old) (λ input. IsDone job input (K.contents sink.old) (K.contents sink.new) result) }
     ensures cut { (job : Meant) → IsJobOf (map string_bytes words.now) job → result ≡ 5 → IfSome (S.left source.old) (λ input. IsCut job input (K.contents sink.old) (K.contents sink.new)) }
     ensures report { (job : Meant) → (input : List ℕ) → IsJobOf (map string_bytes words.now) job → S.left source.old ≡ Some input → length input ≤ 1048576 → ¬ (Rose (S.faults source.old) (S.faults source.new)) → ¬ (Rose (K.faults sink.old) (K.faults sink.new)) → IsReport job input (K.contents sink.old) (K.contents sink.new) result }
 {
-    let Some(job) = job_of(words) else {
-        return NO_JOB;
-    };
-    let bytes = match read_all(alloc, source) {
-        Ok(bytes) => bytes,
-        Err(ReadFault::NoMemory) => return NO_MEMORY,
-        Err(ReadFault::Failed) => return SOURCE_FAILED,
-        Err(ReadFault::TooLong) => return TOO_LONG,
-    };
-    match report(alloc, &job, bytes.as_slice()) {
-        Ok(printed) => print(sink, &printed),
-        Err(_) => NO_MEMORY,
+    match job_of(alloc, words) {
+        Ok(job) => work(alloc, &job, source, sink),
+        Err(reason) => tell(sink, &reason),
     }
 }

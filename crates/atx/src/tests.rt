@@ -122,21 +122,82 @@ fn worked_cells(rt: HostRuntime) -> Result<(), Fail> {
     Ok(())
 }
 
+/// Words that are no job, and what clap says of them.
+const FAULTY: &[(&str, &str)] = &[
+    (
+        "",
+        "error: unrecognized subcommand ''\n\nUsage: atx <COMMAND>\n",
+    ),
+    (
+        "help",
+        "error: unrecognized subcommand 'help'\n\nUsage: atx <COMMAND>\n",
+    ),
+    (
+        "cell",
+        "error: the following required arguments were not provided:\n  --state <STATE>\n\nUsage: atx cell --state <STATE>\n",
+    ),
+    (
+        "cell --state",
+        "error: a value is required for '--state <STATE>' but none was supplied\n",
+    ),
+    (
+        "cell --path /",
+        "error: unexpected argument '--path' found\n\nUsage: atx cell --state <STATE>\n",
+    ),
+    (
+        "check /",
+        "error: unexpected argument '/' found\n\nUsage: atx check [OPTIONS]\n",
+    ),
+    (
+        "check --path / --path /",
+        "error: the argument '--path <PATH>' cannot be used multiple times\n\nUsage: atx check [OPTIONS]\n",
+    ),
+    (
+        "check --version",
+        "error: unexpected argument '--version' found\n\nUsage: atx check [OPTIONS]\n",
+    ),
+];
+
+/// Where the answer to a fault ends.
+const TRY: &str = "\nFor more information, try '--help'.\n";
+
+const HELP: &str =
+    "Atomic transactions between web services (WS-AtomicTransaction 1.2)\n\nUsage: atx <COMMAND>\n\nCommands:\n  \
+cell    Print the cell that an envelope meets in a state, and the envelope that it posts\n  \
+check   Print what an envelope says, line by line\n  \
+replay  Print what the lines of a schedule bring about, line by line\n\nOptions:\n  \
+-h, --help     Print help\n  -V, --version  Print version\n";
+
+const CHECK_HELP: &str =
+    "Print what an envelope says, line by line\n\nUsage: atx check [OPTIONS]\n\nOptions:\n      \
+--path <PATH>  The path of the request that brought the envelope [default: /]\n  \
+-h, --help         Print help\n";
+
 #[test]
 fn words_that_are_no_job(rt: HostRuntime) -> Result<(), Fail> {
-    let input = prepared(rt.alloc(), "d", "")?;
-    for line in [
-        "",
-        "cell",
-        "cell --state",
-        "cell --state none",
-        "cell --path /",
-        "check --path",
-        "check --state None",
-        "check --path / /",
-        "check /",
-    ] {
-        assert!(rt; prints(rt, line, input.as_bytes(), "")? == (2, true));
+    for (line, said) in FAULTY {
+        let text = format!(in rt.alloc(); "{said}{TRY}")?;
+        let outcome = prints(rt, line, b"", text.as_str())?;
+        assert!(rt; outcome == (2, true));
+    }
+    let outcome = prints(rt, "cell --state none", b"", "")?;
+    assert!(rt; outcome == (2, true));
+    Ok(())
+}
+
+/// Questions, and the answers.
+const QUESTIONS: &[(&str, &str)] = &[
+    ("--version", "atx 0.1.0\n"),
+    ("--help", HELP),
+    ("-h cell", HELP),
+    ("check --help", CHECK_HELP),
+];
+
+#[test]
+fn questions(rt: HostRuntime) -> Result<(), Fail> {
+    for (line, printed) in QUESTIONS {
+        let outcome = prints(rt, line, b"", printed)?;
+        assert!(rt; outcome == (0, true));
     }
     Ok(())
 }
@@ -580,16 +641,103 @@ fn a_sink_that_stops_in_a_line(rt: HostRuntime) -> Result<(), Fail> {
     Ok(())
 }
 
-/// The status of `cell --state None` over a source that fails at its k-th read and a sink that fails or idles at its.
+const PLAIN: &str = "\
+nodes 3\n\
+begin 1 2 60000\n\
+flush 99\n\
+work 1 1-1 3 d prepared\n\
+flush 99\n\
+commit 1 1-1\n\
+flush 99\n\
+";
+
+const PLAIN_REPORT: &str = "\
+up 1 1\n\
+up 2 1\n\
+up 3 1\n\
+msg 1 1>2 CreateCoordinationContext /activation\n\
+deliver 1 2 202\n\
+msg 2 2>1 CreateCoordinationContextResponse /i/1-1\n\
+deliver 2 1 202\n\
+msg 3 1>2 Register /registration/1-1\n\
+deliver 3 2 202\n\
+msg 4 2>1 RegisterResponse /i/1-1\n\
+deliver 4 1 202\n\
+msg 5 1>3 Work /work\n\
+deliver 5 3 202\n\
+msg 6 3>2 Register /registration/1-1\n\
+deliver 6 2 202\n\
+msg 7 2>3 RegisterResponse /p/d/1-1\n\
+deliver 7 3 202\n\
+msg 8 3>1 WorkDone /i/1-1\n\
+deliver 8 1 202\n\
+msg 9 1>2 Commit /completion/1-1\n\
+deliver 9 2 202\n\
+msg 10 2>3 Prepare /p/d/1-1\n\
+deliver 10 3 202\n\
+msg 11 3>2 Prepared /c/d/1-1/1\n\
+deliver 11 2 202\n\
+root 2 1-1 committed\n\
+msg 12 2>3 Commit /p/d/1-1\n\
+msg 13 2>1 Committed /i/1-1\n\
+deliver 12 3 202\n\
+leaf 3 1-1 d committed\n\
+msg 14 3>2 Committed /c/d/1-1/1\n\
+deliver 13 1 202\n\
+told 1 1-1 committed\n\
+deliver 14 2 202\n\
+end messages 14 committed 1 aborted 0 lost 0\n\
+";
+
+/// Schedules, the status of their replay, and what it prints.
+const SCHEDULES: &[(&str, u8, &str)] = &[
+    (PLAIN, 0, PLAIN_REPORT),
+    (
+        "nodes 1",
+        0,
+        "up 1 1\nend messages 0 committed 0 aborted 0 lost 0\n",
+    ),
+    ("", 3, "line 1 cause 7\n"),
+    ("nodes 1\nflush 1\nfoo\n", 3, "line 3 cause 1\n"),
+];
+
+#[test]
+fn replays(rt: HostRuntime) -> Result<(), Fail> {
+    for (schedule, status, printed) in SCHEDULES {
+        let outcome = prints(rt, "replay", schedule.as_bytes(), printed)?;
+        assert!(rt; outcome == (*status, true));
+    }
+    Ok(())
+}
+
+/// A command, the read at which its source fails, the writes at which its sink fails and idles, and the status.
+const FAULTS: &[(&str, u32, u32, u32, u8)] = &[
+    ("replay", 0, 0, 0, 0),
+    ("replay", 1, 0, 0, 4),
+    ("replay", 2, 0, 0, 4),
+    ("replay", 0, 1, 0, 5),
+    ("replay", 0, 0, 1, 5),
+    ("check", 0, 0, 0, 3),
+    ("check", 2, 0, 0, 4),
+    ("check", 0, 1, 0, 5),
+    ("cell --state None", 1, 0, 0, 4),
+    ("cell --state None", 0, 0, 1, 5),
+    ("--help", 1, 0, 0, 0),
+    ("--help", 0, 1, 0, 5),
+    ("help", 1, 0, 0, 2),
+    ("help", 0, 0, 1, 5),
+];
+
+/// The status of a command over the plain schedule, with these faults.
 fn faulty(
     rt: HostRuntime,
+    line: &str,
     source_fails: u32,
     sink_fails: u32,
     sink_idles: u32,
 ) -> Result<u8, Fail> {
-    let words = words_of(rt.alloc(), "cell --state None")?;
-    let input = prepared(rt.alloc(), "d", "")?;
-    let mut source = MemSource::new(rt.alloc(), input.as_bytes())?;
+    let words = words_of(rt.alloc(), line)?;
+    let mut source = MemSource::new(rt.alloc(), PLAIN.as_bytes())?;
     source.fail(source_fails);
     let mut sink = MemSink::new(rt.alloc());
     sink.fail(sink_fails);
@@ -605,14 +753,9 @@ fn faulty(
 
 #[test]
 fn faults(rt: HostRuntime) -> Result<(), Fail> {
-    for (source_fails, sink_fails, sink_idles, status) in [
-        (0, 0, 0, 0),
-        (1, 0, 0, 4),
-        (2, 0, 0, 4),
-        (0, 1, 0, 5),
-        (0, 0, 1, 5),
-    ] {
-        assert!(rt; faulty(rt, source_fails, sink_fails, sink_idles)? == status);
+    for (line, source_fails, sink_fails, sink_idles, status) in FAULTS {
+        let ended = faulty(rt, line, *source_fails, *sink_fails, *sink_idles)?;
+        assert!(rt; ended == *status);
     }
     Ok(())
 }

@@ -1,0 +1,44 @@
+-- The command line, as clap reads it.
+use Rattle.std.specs.Prelude.{◌≡◌, [], ◌∷◌, Some, true, false, codes}
+use Rattle.clap.specs.Simple.{App, app_of, new_app, new_rule, on_top, with_rule, with_subcommand}
+use Rattle.clap.specs.Walk.{Rule, Text}
+use Rattle.clap.specs.declared.builder.action.ArgAction.TheVariants.{Set}
+use Rattle.clap.specs.declared.builder.command.Command.{Command}
+use Rattle.clap.specs.declared.builder.command.Command.TheViews.{out-Command}
+
+-- an option that takes one value
+abbrev pub valued : Text → Rule
+valued name = record (new_rule name) { long = Some name; action = Some Set; value_names = 1 }
+
+-- one that must be given
+abbrev pub wanted : Text → Rule
+wanted name = record (valued name) { required = true }
+
+-- one that has this value where it isn't given
+abbrev pub preset : Text → Text → Rule
+preset name value = record (valued name) { defaults = value ∷ [] }
+
+-- `cell --state S`
+abbrev pub cell : App
+cell = with_rule (new_app (codes "cell")) (wanted (codes "state"))
+
+-- `check [--path P]`; the path is `/` where none is given
+abbrev pub check : App
+check = with_rule (new_app (codes "check")) (preset (codes "path") (codes "/"))
+
+-- `replay`
+abbrev pub replay : App
+replay = new_app (codes "replay")
+
+-- the words begin behind the program's name, a command is wanted, and `--version` answers; `help` is no command
+abbrev pub top : App
+top = on_top (λ s. record s { no_binary_name = true; disable_help_subcommand = true; has_version = true; subcommand_required = true })
+    (new_app (codes "atx"))
+
+abbrev pub whole : App
+whole = with_subcommand (with_subcommand (with_subcommand top cell.top) check.top) replay.top
+
+-- clap's command is this one
+pub record IsCommand (app : App) (command : Command) : Type 0 where
+  pub is : app_of command ≡ app
+  pub local : (out-Command command).has_globals ≡ false
