@@ -33,6 +33,15 @@ def envelope(inside, attributes=""):
     )
 
 
+def parameters(inside, attributes=""):
+    """A durable Prepared whose reply endpoint has these reference parameters."""
+    return envelope("").replace(
+        "</s:Header>",
+        f"<a:ReplyTo><a:Address>http://n3.example/p/d/1-1</a:Address><a:ReferenceParameters{attributes}>{inside}"
+        "</a:ReferenceParameters></a:ReplyTo></s:Header>",
+    )
+
+
 def repeated(item, end=""):
     number = 0
     parts = []
@@ -57,7 +66,12 @@ def inputs():
         "".join(f"<p{n}:x/>" for n in range(1500)), "".join(f' xmlns:p{n}="u"' for n in range(1500))
     )
     space = "u" * 32_000
-    yield "long namespace, used", envelope("<p:x/>" * 4_500, f' xmlns:p="{space}"')
+    yield "long namespace, used", envelope("<p:x/>" * 4_000, f' xmlns:p="{space}"')
+    yield "long default, used", envelope("<x/>" * 4_000, f' xmlns="{space}"')
+    yield "long, in parameters", parameters("<p:x/>" * 4_000, f' xmlns:p="{space}"')
+    yield "2 KB, in parameters", parameters("<p:x/>" * 4_000, f' xmlns:p="{space[:2_000]}"')
+    pair = f' xmlns:p="{space[:8_000]}p" xmlns:q="{space[:8_000]}q"'
+    yield "long, almost equal", envelope('<x p:a="" q:a=""/>' * 2_500, pair)
     yield "32 levels", envelope("<x>" * 29 + "deep " * 100 + "</x>" * 29)
     yield "too deep", envelope("<x>" * 8000 + "</x>" * 8000)
     yield "open levels", envelope("<x>" * 19_000)
