@@ -2,7 +2,6 @@ pub mod Ahead
 pub mod Colons
 pub mod Decoded
 pub mod Forms
-pub mod Numbers
 pub mod Refused
 pub mod Splitting
 pub mod Taken

@@ -1,14 +1,13 @@
 -- What a message is for: the path of its To, or else of the request, names a service or an item.
 use Rattle.std.specs.Prelude.{ℕ, List, [], ◌∷◌, Option, Some, None, Ok, Err, nat_eq, if◌then◌else◌, codes, ◌≡◌, refl}
-use Rattle.std.specs.Option.{option_map, option_and_then}
+use Rattle.std.specs.Option.{option_and_then}
 use Rattle.std.specs.Fmt.{digits}
 use Rattle.url.specs.Parts.{Parts}
 use Rattle.url.specs.Parser.{parse_url, Parsed}
-use Rattle.at_base.specs.Numbers.{Numbers}
 use Rattle.at_base.specs.declared.notice.Kind.TheVariants as kinds
 use Rattle.at_base.specs.declared.target.Target.{Target}
 use Rattle.at_base.specs.declared.target.Target.TheVariants as targets
-use Rattle.at_model.specs.Addresses.{after_prefix, behind, id_of, or_else, seat_of, target_of}
+use Rattle.at_model.specs.Addresses.{target_of}
 
 -- a path without its query (RFC 3986, section 3.4), which begins with `?`
 abbrev pub without_query : List ℕ → List ℕ
@@ -28,29 +27,6 @@ place_of (Some to) path = path_in (parse_url None to)
 -- what the place names
 abbrev pub target_at : Option (List ℕ) → List ℕ → Option Target
 target_at to path = option_and_then target_of (place_of to path)
-
--- the id that follows the prefix
-abbrev pub id_behind : List ℕ → List ℕ → Option Numbers
-id_behind prefix path = option_and_then id_of (after_prefix prefix path)
-
--- a leaf or a subordinate
-abbrev pub participant_of : List ℕ → Option Target
-participant_of path =
-    or_else (behind (codes "/p/d/") (λ r. option_map (λ id. targets.Participant id kinds.Durable) (id_of r)) path)
-    (behind (codes "/p/v/") (λ r. option_map (λ id. targets.Participant id kinds.Volatile) (id_of r)) path)
-
--- one of these, or a coordinator's seat
-abbrev pub party_of : List ℕ → Option Target
-party_of path =
-    or_else (behind (codes "/c/d/") (seat_of kinds.Durable) path)
-    (or_else (behind (codes "/c/v/") (seat_of kinds.Volatile) path) (participant_of path))
-
--- one of these, or a service or an activity with an id
-abbrev pub item_of : List ℕ → Option Target
-item_of path =
-    or_else (behind (codes "/registration/") (λ r. option_map targets.Registration (id_of r)) path)
-    (or_else (behind (codes "/completion/") (λ r. option_map targets.Completion (id_of r)) path)
-    (or_else (behind (codes "/i/") (λ r. option_map targets.Initiator (id_of r)) path) (party_of path)))
 
 -- without a To the request's path counts, and its query doesn't
 pub of_the_request : target_at None (codes "/work?a=/activation") ≡ Some targets.Work
