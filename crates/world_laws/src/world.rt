@@ -1,8 +1,11 @@
 //! A world of nodes, and its runs.
 
-ghost use Rattle.std.specs.Prelude.{◌≡◌, ◌<◌, ◌≤◌, ◌++◌, ◌∷◌, [], IfOk, map, length, option_map, option_copied};
+ghost use Rattle.std.specs.Prelude.{ℕ, ◌≡◌, ◌<◌, ◌≤◌, ◌++◌, ◌∷◌, [], IfOk, map, length, option_map, option_copied};
 ghost use Rattle.std.specs.List.{AllByRecursion};
-ghost use Rattle.at_model.specs.World.{nth, run_of, world_step};
+ghost use Rattle.at_model.specs.Agreement.{HasOneSuperior};
+ghost use Rattle.at_model.specs.Drawn.{AreApart};
+ghost use Rattle.at_model.specs.Made.{made_on};
+ghost use Rattle.at_model.specs.World.{nth, opening, run_of, world_step};
 ghost use Rattle.completion_at.specs.Names.{refusal_of};
 ghost use Rattle.world_laws.specs.Events.{event_of};
 ghost use Rattle.world_laws.specs.Runs.{book_at, clock_at, incarnation_at, refused_at, world_of};
@@ -13,8 +16,9 @@ use crate::laws::changes_by_outcomes;
 use crate::posted::{NodeEffect, Posted, Steps};
 use crate::scene::Scene;
 use at_base::event::Local;
-use at_model::rules::ids_rise;
+use at_model::rules::{ids_rise, makes_no_id_twice};
 use completion_at::requests::Refusal;
+use run_rules::enlists_under_one;
 use std::alloc::{AllocError, Global};
 use std::marker::Model;
 
@@ -149,8 +153,7 @@ impl World {
     }
 }
 
-/// The world of a run of events at which nothing fails.
-pub fn run_world(alloc: Global, nodes: u8, events: &[WorldEvent]) -> Result<World, AllocError>
+fn ran(alloc: Global, nodes: u8, events: &[WorldEvent]) -> Result<World, AllocError>
     requires nodes { (1 ≤ nodes) × (nodes ≤ 8) }
     requires few { length events.now ≤ 4294967295 }
     requires calm { AllByRecursion (λ e. IsCalm (event_of e)) events.now }
@@ -165,5 +168,24 @@ pub fn run_world(alloc: Global, nodes: u8, events: &[WorldEvent]) -> Result<Worl
         } = world.step(alloc, event.clone()?)?;
         world = next;
     }
+    Ok(world)
+}
+
+/// The world of a run of events at which nothing fails.
+///
+/// No node of it made an id twice, and all registrations of one item that were accepted were accepted by one transaction
+/// (WS-AtomicTransaction 1.2, section 3).
+pub fn run_world(alloc: Global, nodes: u8, events: &[WorldEvent]) -> Result<World, AllocError>
+    requires nodes { (1 ≤ nodes) × (nodes ≤ 8) }
+    requires few { length events.now ≤ 4294967295 }
+    requires calm { AllByRecursion (λ e. IsCalm (event_of e)) events.now }
+    ensures run { IfOk result (λ world. world ≡ record { count = nodes; events = events.now }) }
+    ensures world { IfOk result (λ world. world_of world ≡ run_of nodes (map event_of events.now)) }
+    ensures ids { (n : ℕ) → AreApart (made_on n (opening nodes) (map event_of events.now)) }
+    ensures superior { IfOk result (λ world. HasOneSuperior (world_of world)) }
+{
+    makes_no_id_twice();
+    enlists_under_one();
+    let world = ran(alloc, nodes, events)?;
     Ok(world)
 }

@@ -1,7 +1,10 @@
-use Rattle.world_laws.proofs.Running.{whole_run}
+use Rattle.std.specs.Prelude.{map}
+use Rattle.std.proofs.Common.{arith, subst, sym}
+use Rattle.at_model.specs.Agreement.{HasOneSuperior}
+use Rattle.world_laws.specs.Events.{event_of}
 use Rattle.world_laws.proofs.world.run_world.Goals as goal
 
-pub returns-clause-world : goal.returns-clause-world
-returns-clause-world c =
-    whole_run c.loop-event.world c.args.nodes c.loop-event.event-index c.args.events.now c.loop-event.invariant.0
-    c.loop-event.invariant.1 c.loop-event-test.false
+pub returns-clause-superior : goal.returns-clause-superior
+returns-clause-superior c =
+    subst HasOneSuperior (sym c.in_ok-world.ensures.world)
+    (c.enlists_under_one.ensures c.args.nodes (map event_of c.args.events.now) (omega (arith, c.requires.nodes.1)))

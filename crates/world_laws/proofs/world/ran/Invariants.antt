@@ -2,7 +2,7 @@ use Rattle.std.proofs.Common.{◌≡◌, ◌++◌, drop}
 use Rattle.std.specs.List.{AllByRecursion}
 use Rattle.world_laws.specs.Events.{event_of}
 use Rattle.world_laws.specs.Steps.{IsCalm}
-use Rattle.world_laws.proofs.world.run_world.Given as goal
+use Rattle.world_laws.proofs.world.ran.Given as goal
 
 abbrev pub invariant-loop-event : goal.invariant-loop-event
 invariant-loop-event l =
