@@ -111,7 +111,10 @@ fn report(rt: &impl Print, alloc: Global, input: &[u8], rounds: Rounds) -> anyho
     let post = post_of(alloc, &arrival)?;
     decode_again(alloc, input, rounds.decoded)?;
     let bytes = encode_again(alloc, &post, rounds.encoded)?;
-    println!(rt; "decoded {} encoded {} bytes {bytes}", rounds.decoded, rounds.encoded)?;
+    println!(rt;
+        "decoded {} encoded {} bytes {bytes}",
+        rounds.decoded, rounds.encoded
+    )?;
     Ok(())
 }
 
