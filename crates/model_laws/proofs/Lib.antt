@@ -25,3 +25,5 @@ pub mod Naming
 pub mod Enlisting
 pub mod Accepting
 pub mod Enrolled
+pub mod Nodes
+pub mod Reaching

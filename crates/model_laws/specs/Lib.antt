@@ -12,3 +12,4 @@ pub mod Links
 pub mod Singles
 pub mod Rules
 pub mod Enlisted
+pub mod Reached

@@ -8,6 +8,7 @@ ghost use Rattle.model_laws.specs.Links.{LinksFollowPhases};
 ghost use Rattle.model_laws.specs.Order.{IdsRise};
 ghost use Rattle.model_laws.specs.Made.{MakesNoIdTwice};
 ghost use Rattle.model_laws.specs.Sound.{RecordsAreWellFormed};
+ghost use Rattle.model_laws.specs.Reached.{RunsAreReached};
 ghost use Rattle.model_laws.specs.Rules.{DecidesBehindAnswers, EndsAreUndone, VotesAreRecorded};
 ghost use Rattle.model_laws.specs.Shapes.{StepsTouchOne};
 
@@ -107,4 +108,9 @@ pub fn makes_no_id_twice()
 #[tactic(auto, using(crate::proofs::Enrolled::enlists_under_one))]
 pub fn enlists_under_one()
     ensures { EnlistsUnderOne }
+{}
+
+/// Every run leads to a world that is reached step by step, with each node's newest book.
+pub fn runs_are_reached()
+    ensures { RunsAreReached }
 {}
