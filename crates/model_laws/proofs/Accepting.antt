@@ -54,7 +54,7 @@ use Rattle.model_laws.specs.Shapes.{IsAnswer}
 use Rattle.model_laws.proofs.Deciding.{Both, plain_both, DecisionSays, all_find, all_put, all_join, all_more, all_both, in_branch}
 use Rattle.model_laws.proofs.Keeping.{HasBoth, Names, NamesLeaf, NoRecord, Kept, LeafKept, ActivityKept, with_answer_kept, seat_kept, link_kept, completion_kept, due_kept, register_kept, leaf_kept, leaf_due_kept, activity_kept, activity_due_kept, asks_kept, completes_kept}
 use Rattle.model_laws.proofs.Making.{makes_under_the_next_id, next_numbers}
-use Rattle.model_laws.proofs.Naming.{IsSmall}
+use Rattle.at_base.specs.IdText.{IsId}
 use Rattle.model_laws.proofs.Enlisting.{by_request, transaction_standing, by_work, leaf_standing, Meets, choose, Says, Registers, OutSays, AreOuts, AcceptedBy, Gives, NoRegister, still_gives, time_gives, transaction_gives, leaf_gives, activity_gives, ids_alone, replied_says, faulted_says, outs_more, posts_say, accepted_all, nothing_new, no_completion, dropped, unchanged, none_accepted, others_choose, choose_this, choose_other, choose_keeps, choose_never, choose_small, choose_at, by_request_never, by_work_never, found_id, meets_at}
 use Rattle.model_laws.proofs.Living.{made_drawn, drawn_on}
 use Rattle.model_laws.proofs.Ordering.{ids_rise}
@@ -63,10 +63,15 @@ use Rattle.model_laws.proofs.Posting.{to_each_fine, IsLike, AreFine, IsOwn, seat
 use Rattle.model_laws.proofs.Recovering.{same_id}
 
 -- the next id
-next_small : (b : Book) (id : Numbers) → b.incarnation ≤ last_counter → next_id b ≡ Some id → IsSmall id
-next_small b id h e =
+next_small : (b : Book) (id : Numbers) → 1 ≤ b.incarnation → b.incarnation ≤ last_counter → next_id b ≡ Some id → IsId id
+next_small b id l h e =
     let (i, c) = next_numbers b id e in
-    record { incarnation = omega (arith, i, h); counter = omega (arith, c, by_test (nat_lt b.counter last_counter) refl e) }
+    record {
+      incarnation_least = omega (arith, i, l);
+      incarnation_most = omega (arith, i, h);
+      counter_least = omega (arith, c);
+      counter_most = omega (arith, c, by_test (nat_lt b.counter last_counter) refl e);
+    }
   where
     by_test : (t : Bool) → nat_lt b.counter last_counter ≡ t → (if t then Some (record { incarnation = b.incarnation; counter = b.counter + 1 }) else None) ≡ Some id
         → b.counter < last_counter
@@ -80,10 +85,10 @@ not_next : (b : Book) (id i : Numbers) → next_id b ≡ Some id → IsDrawn b i
 not_next b id i e h f = makes_under_the_next_id.next b id e (subst (IsDrawn b) f h)
 
 activities_choose : (s : Numbers → Standing) (b : Book) (id : Numbers) (S : Standing) → IsInOrder b → next_id b ≡ Some id → s id ≡ Never
-    → AllByRecursion (λ a. Meets (s a.id) (activity_standing a) × IsSmall a.id) b.activities
-    → AllByRecursion (λ a. Meets (choose s id S a.id) (activity_standing a) × IsSmall a.id) b.activities
+    → AllByRecursion (λ a. Meets (s a.id) (activity_standing a) × IsId a.id) b.activities
+    → AllByRecursion (λ a. Meets (choose s id S a.id) (activity_standing a) × IsId a.id) b.activities
 activities_choose s b id S o e n h =
-    all_both (AreDrawn b) (λ a. Meets (s a.id) (activity_standing a) × IsSmall a.id) (λ a. Meets (choose s id S a.id) (activity_standing a) × IsSmall a.id) b.activities
+    all_both (AreDrawn b) (λ a. Meets (s a.id) (activity_standing a) × IsId a.id) (λ a. Meets (choose s id S a.id) (activity_standing a) × IsId a.id) b.activities
     (λ a d m. (choose_other s id a.id S (activity_standing a) n (λ never same. not_next b id a.id e d.own same) m.0, m.1)) o.drawn.activities h
 
 none_found : {A : Type 0} (key : A → Numbers) (id : Numbers) (xs : List A) → AllByRecursion (λ x. key x ≡ id → ⊥) xs → find_by key id xs ≡ None
@@ -116,7 +121,7 @@ made_gives base e s b now id t os h next same k =
         activities = activities_choose s b id S h.order next n h.fits.activities;
       };
       undrawn = λ i f g. choose_never s id i S (λ j. g (made_drawn b c refl refl id i next j)) f;
-      small = choose_small s id S (next_small b id h.most next) h.small;
+      small = choose_small s id S (next_small b id h.least h.most next) h.small;
       outs = outs_more (OwnsNew b.base t) (Registers base (choose s id S)) (λ participant to f. registers n participant to f) os k;
       accepted = λ m nodes.
           accepted_all (AcceptedBy e m nodes) m nodes b (b.transactions ++ t ∷ [])
@@ -163,7 +168,7 @@ leaf_made_gives base e s b now id l os h next same k =
         activities = activities_choose s b id S h.order next n h.fits.activities;
       };
       undrawn = λ i f g. choose_never s id i S (λ j. g (made_drawn b c refl refl id i next j)) f;
-      small = choose_small s id S (next_small b id h.most next) h.small;
+      small = choose_small s id S (next_small b id h.least h.most next) h.small;
       outs = outs_more (OwnsNewLeaf b.base l) (Registers base (choose s id S)) (λ participant to f. registers n participant to f) os k;
       accepted = λ m nodes. none_accepted e m nodes b h.order;
     }
@@ -188,8 +193,8 @@ activity_made_gives base e s b now id a os h next same never k = record {
   fits = record {
     transactions = h.fits.transactions;
     leaves = h.fits.leaves;
-    activities = all_join (λ y. Meets (s y.id) (activity_standing y) × IsSmall y.id) b.activities (a ∷ []) h.fits.activities
-        ((subst (Meets (s a.id)) (sym never) (ap s same ∙ next_never base s b id h next), subst IsSmall (sym same) (next_small b id h.most next)), tt);
+    activities = all_join (λ y. Meets (s y.id) (activity_standing y) × IsId y.id) b.activities (a ∷ []) h.fits.activities
+        ((subst (Meets (s a.id)) (sym never) (ap s same ∙ next_never base s b id h next), subst IsId (sym same) (next_small b id h.least h.most next)), tt);
   };
   undrawn = λ i j g. j;
   small = h.small;
@@ -677,5 +682,6 @@ says_on base s b e now landed h g =
       fits = g.fits;
       undrawn = λ id f. g.undrawn id (h.undrawn id (λ d. f (drawn_on b (step b e now landed).book place id d))) f;
       small = g.small;
+      least = omega (arith, place.incarnation, h.least);
       most = omega (arith, place.incarnation, h.most);
     }

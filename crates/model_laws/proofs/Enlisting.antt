@@ -34,7 +34,7 @@ use Rattle.at_model.specs.Recover.{is_before}
 use Rattle.model_laws.specs.Shapes.{IsAnswer}
 use Rattle.model_laws.proofs.Deciding.{Both, IfThere, DecisionSays, decided_says, all_find, all_put, all_filter, all_join, all_more}
 use Rattle.model_laws.proofs.Keeping.{HasBoth}
-use Rattle.model_laws.proofs.Naming.{IsSmall}
+use Rattle.at_base.specs.IdText.{IsId}
 use Rattle.model_laws.proofs.Ordering.{other_id, unmapped}
 use Rattle.model_laws.proofs.Posting.{Fine, IsFine, AreFine, AreLike, LeftSays, IsLeft, with_answer_left, LeafLike, IsLeafLike, AreLeafLike, Standing, Never, At, Silent, activity_standing, OwnsActivity, ActivityLike, AreActivityLike}
 use Rattle.model_laws.proofs.Recovering.{same_id, self_id}
@@ -134,24 +134,25 @@ choose_never s id i Never f h = h
 choose_never s id i Silent f h = h
 choose_never s id i (At e) f h = set_other s id i e (λ U. U ≡ Never) (λ g. absurd (f g)) h
 
-pub choose_small : (s : Numbers → Standing) (id : Numbers) (S : Standing) → IsSmall id → ((i : Numbers) (e : Epr) → s i ≡ At e → IsSmall i)
-    → (i : Numbers) (e : Epr) → choose s id S i ≡ At e → IsSmall i
+pub choose_small : (s : Numbers → Standing) (id : Numbers) (S : Standing) → IsId id → ((i : Numbers) (e : Epr) → s i ≡ At e → IsId i)
+    → (i : Numbers) (e : Epr) → choose s id S i ≡ At e → IsId i
 choose_small s id Never k h i e f = h i e f
 choose_small s id Silent k h i e f = h i e f
-choose_small s id (At d) k h i e f = set_other s id i d (λ U. U ≡ At e → IsSmall i) (λ g x. subst IsSmall (sym g) k) (h i e) f
+choose_small s id (At d) k h i e f = set_other s id i d (λ U. U ≡ At e → IsId i) (λ g x. subst IsId (sym g) k) (h i e) f
 
 -- a book, and where each item that its node ever made registers
 pub record Fits (s : Numbers → Standing) (b : Book) : Type 0 where
   pub transactions : AllByRecursion (λ t. Meets (s t.id) (transaction_standing t)) b.transactions
   pub leaves : AllByRecursion (λ l. Meets (s l.id) (leaf_standing l)) b.leaves
-  pub activities : AllByRecursion (λ a. Meets (s a.id) (activity_standing a) × IsSmall a.id) b.activities
+  pub activities : AllByRecursion (λ a. Meets (s a.id) (activity_standing a) × IsId a.id) b.activities
 
 pub record Says (base : List ℕ) (s : Numbers → Standing) (b : Book) : Type 0 where
   pub base_is : b.base ≡ base
   pub order : IsInOrder b
   pub fits : Fits s b
   pub undrawn : (id : Numbers) → (IsDrawn b id → ⊥) → s id ≡ Never
-  pub small : (id : Numbers) (e : Epr) → s id ≡ At e → IsSmall id
+  pub small : (id : Numbers) (e : Epr) → s id ≡ At e → IsId id
+  pub least : 1 ≤ b.incarnation
   pub most : b.incarnation ≤ last_counter
 
 -- a Register of an item of a node, to where that item registers
@@ -187,12 +188,12 @@ pub record Gives (base : List ℕ) (e : Event) (s : Numbers → Standing) (b : B
   pub keeps : (id : Numbers) (p : Epr) → s id ≡ At p → after id ≡ At p
   pub fits : Fits after o.book
   pub undrawn : (id : Numbers) → s id ≡ Never → (IsDrawn o.book id → ⊥) → after id ≡ Never
-  pub small : (id : Numbers) (p : Epr) → after id ≡ At p → IsSmall id
+  pub small : (id : Numbers) (p : Epr) → after id ≡ At p → IsId id
   pub outs : AreOuts (Registers base after) o.outs
   pub accepted : (n : ℕ) (nodes : List Node) → AllByRecursion (AcceptedBy e n nodes) (accepted_in n nodes b o.book.transactions)
 
 -- lists of outs
-fine_more : (Q R : Epr → Option Epr → Type 0) → ((participant : Epr) (to : Option Epr) → Q participant to → R participant to) → (to : Option Epr) (x : Message) → Fine Q to x → Fine R to x
+pub fine_more : (Q R : Epr → Option Epr → Type 0) → ((participant : Epr) (to : Option Epr) → Q participant to → R participant to) → (to : Option Epr) (x : Message) → Fine Q to x → Fine R to x
 fine_more Q R f to (messages.Register r) h = f r.participant to h
 fine_more Q R f to (messages.Create c) h = tt
 fine_more Q R f to (messages.CreateResponse c) h = tt
@@ -409,23 +410,23 @@ leaf_gives base e s b now answer id l d h stands a kept like =
 
 -- an activity moves, and may choose
 put_choosing : (s : Numbers → Standing) (id : Numbers) (S : Standing) (x : Activity) (list : List Activity) → s id ≡ Never → AreRising (map activity_id list)
-    → Meets (choose s id S x.id) (activity_standing x) × IsSmall x.id
-    → AllByRecursion (λ a. Meets (s a.id) (activity_standing a) × IsSmall a.id) list
-    → AllByRecursion (λ a. Meets (choose s id S a.id) (activity_standing a) × IsSmall a.id) (put_by activity_id id (Some x) list)
+    → Meets (choose s id S x.id) (activity_standing x) × IsId x.id
+    → AllByRecursion (λ a. Meets (s a.id) (activity_standing a) × IsId a.id) list
+    → AllByRecursion (λ a. Meets (choose s id S a.id) (activity_standing a) × IsId a.id) (put_by activity_id id (Some x) list)
 put_choosing s id S x [] n r h k = tt
 put_choosing s id S x (a ∷ rest) n (r, rs) h ((m, z), k) = by_id (put_choosing s id S x rest n rs h k) (is_id a.id id) refl
   where
     others : a.id ≡ id → AllByRecursion (λ i. is_before a.id i ≡ true) (map activity_id rest) → (list : List Activity)
-        → AllByRecursion (λ y. is_before a.id y.id ≡ true) list → AllByRecursion (λ y. Meets (s y.id) (activity_standing y) × IsSmall y.id) list
-        → AllByRecursion (λ y. Meets (choose s id S y.id) (activity_standing y) × IsSmall y.id) list
+        → AllByRecursion (λ y. is_before a.id y.id ≡ true) list → AllByRecursion (λ y. Meets (s y.id) (activity_standing y) × IsId y.id) list
+        → AllByRecursion (λ y. Meets (choose s id S y.id) (activity_standing y) × IsId y.id) list
     others e f [] g k = tt
     others e f (y ∷ ys) (g, gs) ((m, z), k) = (
       (choose_other s id y.id S (activity_standing y) n (λ never same. true≢false (sym (subst (λ i. is_id i y.id ≡ true) (sym (e ∙ sym same)) (self_id y.id)) ∙ other_id a.id y.id g)) m, z),
       others e f ys gs k,
     )
 
-    by_id : AllByRecursion (λ y. Meets (choose s id S y.id) (activity_standing y) × IsSmall y.id) (put_by activity_id id (Some x) rest) → (b : Bool) → is_id a.id id ≡ b
-        → AllByRecursion (λ y. Meets (choose s id S y.id) (activity_standing y) × IsSmall y.id) (if b then x ∷ rest else a ∷ put_by activity_id id (Some x) rest)
+    by_id : AllByRecursion (λ y. Meets (choose s id S y.id) (activity_standing y) × IsId y.id) (put_by activity_id id (Some x) rest) → (b : Bool) → is_id a.id id ≡ b
+        → AllByRecursion (λ y. Meets (choose s id S y.id) (activity_standing y) × IsId y.id) (if b then x ∷ rest else a ∷ put_by activity_id id (Some x) rest)
     by_id more true e =
         (h, others (same_id a.id id e) r rest (unmapped (λ i. is_before a.id i ≡ true) activity_id rest r) k)
     by_id more false e =
@@ -455,15 +456,15 @@ owns_registers base s b a x e m participant to (is, (endpoint, stands, goes)) = 
 activity_stays_gives : (base : List ℕ) (e : Event) (s t : Numbers → Standing) (b : Book) (now : ℕ) (answer : List Out) (a x : Activity) (c : Change Activity) → Says base s b
     → IsAnswer answer → c.item ≡ Some x → AreFine (OwnsActivity b.base a x) c.posts → ((id : Numbers) (p : Epr) → s id ≡ At p → t id ≡ At p)
     → AllByRecursion (λ y. Meets (t y.id) (transaction_standing y)) b.transactions → AllByRecursion (λ y. Meets (t y.id) (leaf_standing y)) b.leaves
-    → AllByRecursion (λ y. Meets (t y.id) (activity_standing y) × IsSmall y.id) (put_by activity_id a.id (Some x) b.activities) → ((id : Numbers) → s id ≡ Never → (IsDrawn b id → ⊥) → t id ≡ Never)
-    → ((id : Numbers) (p : Epr) → t id ≡ At p → IsSmall id) → Meets (t a.id) (activity_standing x) → Gives base e s b (outcome_of (put_activity a.id (at_time now b)) answer c)
+    → AllByRecursion (λ y. Meets (t y.id) (activity_standing y) × IsId y.id) (put_by activity_id a.id (Some x) b.activities) → ((id : Numbers) → s id ≡ Never → (IsDrawn b id → ⊥) → t id ≡ Never)
+    → ((id : Numbers) (p : Epr) → t id ≡ At p → IsId id) → Meets (t a.id) (activity_standing x) → Gives base e s b (outcome_of (put_activity a.id (at_time now b)) answer c)
 activity_stays_gives base e s t b now answer a x c h i is ps keeps ts ls acts undrawn small m = record {
   after = t;
   keeps = keeps;
   fits = record {
     transactions = ts;
     leaves = ls;
-    activities = subst (λ o. AllByRecursion (λ y. Meets (t y.id) (activity_standing y) × IsSmall y.id) (put_activities a.id o b.activities)) (sym is) acts;
+    activities = subst (λ o. AllByRecursion (λ y. Meets (t y.id) (activity_standing y) × IsId y.id) (put_activities a.id o b.activities)) (sym is) acts;
   };
   undrawn = undrawn;
   small = small;
@@ -481,9 +482,9 @@ activity_moved_gives base e s b now answer id a c h stands i None is kept ps = r
   fits = record {
     transactions = h.fits.transactions;
     leaves = h.fits.leaves;
-    activities = subst (λ o. AllByRecursion (λ y. Meets (s y.id) (activity_standing y) × IsSmall y.id) (put_activities a.id o b.activities)) (sym is)
-        (all_filter (λ y. Meets (s y.id) (activity_standing y) × IsSmall y.id) (λ y. not (is_under a.id y)) (put_by activity_id a.id None b.activities)
-        (all_put (λ y. Meets (s y.id) (activity_standing y) × IsSmall y.id) activity_id a.id None b.activities tt h.fits.activities));
+    activities = subst (λ o. AllByRecursion (λ y. Meets (s y.id) (activity_standing y) × IsId y.id) (put_activities a.id o b.activities)) (sym is)
+        (all_filter (λ y. Meets (s y.id) (activity_standing y) × IsId y.id) (λ y. not (is_under a.id y)) (put_by activity_id a.id None b.activities)
+        (all_put (λ y. Meets (s y.id) (activity_standing y) × IsId y.id) activity_id a.id None b.activities tt h.fits.activities));
   };
   undrawn = λ id j k. j;
   small = h.small;
@@ -492,15 +493,15 @@ activity_moved_gives base e s b now answer id a c h stands i None is kept ps = r
   accepted = λ n nodes. none_accepted e n nodes b h.order;
 }
 activity_moved_gives base e s b now answer id a c h stands i (Some x) is kept (ps, inr same) =
-    let found : Meets (s a.id) (activity_standing a) × IsSmall a.id =
-    all_find (λ y. Meets (s y.id) (activity_standing y) × IsSmall y.id) activity_id id b.activities a h.fits.activities stands in
+    let found : Meets (s a.id) (activity_standing a) × IsId a.id =
+    all_find (λ y. Meets (s y.id) (activity_standing y) × IsId y.id) activity_id id b.activities a h.fits.activities stands in
     let m : Meets (s a.id) (activity_standing x) = subst (Meets (s a.id)) (sym same) found.0 in
     activity_stays_gives base e s s b now answer a x c h i is ps (λ id p j. j) h.fits.transactions h.fits.leaves
-    (all_put (λ y. Meets (s y.id) (activity_standing y) × IsSmall y.id) activity_id a.id (Some x) b.activities
-    (same_ids a x (activity_standing x) s kept.own m, subst IsSmall (sym kept.own) found.1) h.fits.activities) (λ id j k. j) h.small m
+    (all_put (λ y. Meets (s y.id) (activity_standing y) × IsId y.id) activity_id a.id (Some x) b.activities
+    (same_ids a x (activity_standing x) s kept.own m, subst IsId (sym kept.own) found.1) h.fits.activities) (λ id j k. j) h.small m
 activity_moved_gives base e s b now answer id a c h stands i (Some x) is kept (ps, inl never) =
-    let found : Meets (s a.id) (activity_standing a) × IsSmall a.id =
-    all_find (λ y. Meets (s y.id) (activity_standing y) × IsSmall y.id) activity_id id b.activities a h.fits.activities stands in
+    let found : Meets (s a.id) (activity_standing a) × IsId a.id =
+    all_find (λ y. Meets (s y.id) (activity_standing y) × IsId y.id) activity_id id b.activities a h.fits.activities stands in
     let n : s a.id ≡ Never = meets_never (s a.id) (activity_standing a) found.0 never in
     let drawn : IsDrawn b a.id = (all_find (AreDrawn b) activity_id id b.activities a h.order.drawn.activities stands).own in
     let t : Numbers → Standing = choose s a.id (activity_standing x) in
@@ -508,7 +509,7 @@ activity_moved_gives base e s b now answer id a c h stands i (Some x) is kept (p
     activity_stays_gives base e s t b now answer a x c h i is ps (choose_keeps s a.id (activity_standing x) n)
     (others_choose s a.id (activity_standing x) transaction_id transaction_standing b.transactions n (λ y. by_request_never (request_of y.superior)) h.fits.transactions)
     (others_choose s a.id (activity_standing x) leaf_id leaf_standing b.leaves n (λ y. by_work_never y.request) h.fits.leaves)
-    (put_choosing s a.id (activity_standing x) x b.activities n h.order.rising.activities (same_ids a x (activity_standing x) t kept.own m, subst IsSmall (sym kept.own) found.1) h.fits.activities)
+    (put_choosing s a.id (activity_standing x) x b.activities n h.order.rising.activities (same_ids a x (activity_standing x) t kept.own m, subst IsId (sym kept.own) found.1) h.fits.activities)
     (λ id j k. choose_never s a.id id (activity_standing x) (λ same. k (subst (IsDrawn b) (sym same) drawn)) j) (choose_small s a.id (activity_standing x) found.1 h.small) m
 
 pub activity_gives : (base : List ℕ) (e : Event) (s : Numbers → Standing) (b : Book) (now : ℕ) (answer : List Out) (id : Numbers) (a : Activity) (d : Decision Activity) → Says base s b

@@ -27,3 +27,4 @@ pub mod Accepting
 pub mod Enrolled
 pub mod Nodes
 pub mod Reaching
+pub mod Holding

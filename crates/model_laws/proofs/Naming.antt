@@ -1,139 +1,139 @@
--- What an address names: an endpoint that a node wrote names that node and that item.
-use Rattle.std.proofs.Common.{ℕ, List, [], ◌∷◌, ◌++◌, ◌≡◌, ◌<◌, ◌≤◌, ◌+◌, ◌^◌, length, get_or, take, drop, Bool, true, false, ◌&&◌, Option, Some, None, cond, sym, ap, subst, ◌∙◌, arith, refl, suc, zero}
-use Rattle.std.specs.Prelude.{nat_lt, ◌≢◌, bytes_eq, codes, decimal, option_map, option_and_then}
-use Rattle.std.specs.Str.Parse.{digits_value_after}
-use Rattle.std.proofs.lemmas.Bool.{eq-eqb, ne_eqb, ltb-true}
-use Rattle.std.proofs.lemmas.Option.{option_and_then_some}
+-- Where an address leads: an endpoint that a node wrote leads to that node and that target.
+use Rattle.std.proofs.Common.{ℕ, List, [], ◌∷◌, ◌++◌, ◌≡◌, ◌<◌, ◌≤◌, ◌+◌, ◌*◌, ◌-◌, ◌^◌, length, take, drop, Bool, true, false, Option, Some, None, cond, sym, ap, subst, ◌∙◌, arith, refl, suc, zero}
+use Rattle.std.specs.Prelude.{nat_eq, nat_lt, ◌≢◌, bytes_eq, codes, decimal, option_map, option_and_then}
+use Rattle.std.specs.Char.{digit_value}
+use Rattle.std.specs.Str.Parse.{AllDigits, digits_value_after}
+use Rattle.std.proofs.lemmas.Bool.{eqb-true, eqb-false, eq-eqb, ne_eqb, lt-ltb, le-leb}
 use Rattle.std.proofs.lemmas.List.{append_assoc, take-append-drop}
 use Rattle.std.proofs.lemmas.Slice.Eq.{bytes_eq-Decides}
-use Rattle.std.proofs.lemmas.Str.Parse.{digit_at}
+use Rattle.std.proofs.lemmas.Str.{digit_value_digit}
+use Rattle.std.proofs.lemmas.Str.Parse.{digit_from_value}
 use Rattle.std.proofs.lemmas.Fmt.{decimal_is_IsNumeral}
+use Rattle.std.proofs.Math.Seq.{take-append_seam}
 use Rattle.at_base.specs.Numbers.{Numbers}
-use Rattle.at_base.specs.IdText.{id_text, hyphen}
+use Rattle.at_base.specs.IdText.{IsId, id_text, hyphen}
+use Rattle.at_base.specs.declared.notice.Kind.{Kind}
 use Rattle.at_base.specs.declared.notice.Kind.TheVariants as kinds
 use Rattle.at_base.specs.declared.target.Target.{Target}
 use Rattle.at_base.specs.declared.target.Target.TheVariants as targets
-use Rattle.at_model.specs.Addresses.{path_of, endpoint_of, after_prefix, split_at, digits_value, number_of, id_of, or_else, target_of}
-use Rattle.at_model.specs.World.{Node, Who, base_of, new_nodes, target_at, place_or, place_of, item_at, who_at, who_of}
+use Rattle.at_model.specs.Addresses.{path_of, endpoint_of, after_prefix, slash, split_at, digits_value, number_of, id_of, seat_of, or_else, target_of}
+use Rattle.at_model.specs.World.{Node, base_of, new_nodes, target_at, place_or, place_of}
 
 -- no byte of the list is this one
 abbrev Lacks : ℕ → List ℕ → Type 0
-Lacks c bytes = (i : ℕ) → i < length bytes → get_or bytes i 0 ≢ c
+Lacks c [] = Unit {0}
+Lacks c (b ∷ bytes) = (b ≢ c) × Lacks c bytes
+
+lacks_join : (c : ℕ) (xs ys : List ℕ) → Lacks c xs → Lacks c ys → Lacks c (xs ++ ys)
+lacks_join c [] ys h k = k
+lacks_join c (x ∷ xs) ys (h, i) k = (h, lacks_join c xs ys i k)
+
+lacks_digits : (c : ℕ) (ds : List ℕ) → c < 48 → AllDigits 10 ds → Lacks c ds
+lacks_digits c [] low all = tt
+lacks_digits c (d ∷ ds) low (first, rest) = (other (digit_from_value d first).0, lacks_digits c ds low rest)
+  where
+    other : 48 ≤ d → d ≢ c
+    other h e = absurd (omega (arith, h, low, e))
+
+lacks_decimal : (c n : ℕ) → c < 48 → n < 2 ^ 64 → Lacks c (decimal n)
+lacks_decimal c n low small = lacks_digits c (decimal n) low (decimal_is_IsNumeral n small).0.1
 
 split_first : (c : ℕ) (front back : List ℕ) → Lacks c front → split_at c (front ++ c ∷ back) ≡ Some (front, back)
 split_first c [] back h = rw (eq-eqb c c refl) refl
-split_first c (b ∷ front) back h = rw (ne_eqb b c (h 0 (omega arith)), split_first c front back (λ i l. h (suc i) (omega arith))) refl
+split_first c (b ∷ front) back (h, k) = rw (ne_eqb b c h, split_first c front back k) refl
 
--- a number in decimal
-lacks_other : (c n : ℕ) → c < 48 → n < 2 ^ 64 → Lacks c (decimal n)
-lacks_other c n low small = λ i within e.
-    let here = digit_at (decimal n) i (decimal_is_IsNumeral n small).0.1 within in absurd (omega (arith, low))
-
+-- numbers in decimal
 same_decimal : (m n : ℕ) → m < 2 ^ 64 → n < 2 ^ 64 → decimal m ≡ decimal n → m ≡ n
 same_decimal m n h k e = sym (decimal_is_IsNumeral m h).1 ∙ ap (digits_value_after 10 0) e ∙ (decimal_is_IsNumeral n k).1
 
--- the first byte of two lists, and the rest
-split_same : (c : ℕ) (a b x y : List ℕ) → Lacks c a → Lacks c b → a ++ c ∷ x ≡ b ++ c ∷ y → (a ≡ b) × (x ≡ y)
-split_same c a b x y h k e = parts (sym (split_first c a x h) ∙ ap (split_at c) e ∙ split_first c b y k)
+value_from : (n : ℕ) (ds : List ℕ) → AllDigits 10 ds → digits_value n ds ≡ Some (digits_value_after 10 n ds)
+value_from n [] all = refl
+value_from n (d ∷ ds) (first, rest) =
+    let within = digit_from_value d first in
+    let same : n * 10 + (d - 48) ≡ n * 10 + digit_value d = omega (arith, digit_value_digit d within) in
+    rw (le-leb 48 d within.0, le-leb d 57 within.1) (ap (λ m. digits_value m ds) same ∙ value_from (n * 10 + digit_value d) ds rest)
+
+number_here : (bound n : ℕ) (bytes : List ℕ) → digits_value 0 bytes ≡ Some n → nat_lt 0 n ≡ true → nat_lt n bound ≡ true
+    → bytes_eq (decimal n) bytes ≡ true → number_of bound bytes ≡ Some n
+number_here bound n bytes e f g h = rw (e, f, g, h) refl
+
+number_back : (bound n : ℕ) → 1 ≤ n → n < bound → n < 2 ^ 64 → number_of bound (decimal n) ≡ Some n
+number_back bound n least most small =
+    let (numeral, value) = decimal_is_IsNumeral n small in
+    number_here bound n (decimal n) (value_from 0 (decimal n) numeral.1 ∙ ap Some value) (lt-ltb 0 n least) (lt-ltb n bound most)
+    ((bytes_eq-Decides (decimal n) (decimal n)).1 refl)
+
+id_parts : (text front back : List ℕ) (i c : ℕ) → split_at hyphen text ≡ Some (front, back) → number_of (2 ^ 32) front ≡ Some i
+    → number_of (2 ^ 32) back ≡ Some c → id_of text ≡ Some (record { incarnation = i; counter = c })
+id_parts text front back i c e f g = rw (e, f, g) refl
+
+id_back : (id : Numbers) → IsId id → id_of (id_text id) ≡ Some id
+id_back id h =
+    id_parts (id_text id) (decimal id.incarnation) (decimal id.counter) id.incarnation id.counter
+    (split_first hyphen (decimal id.incarnation) (decimal id.counter) (lacks_decimal hyphen id.incarnation (omega arith) (omega (arith, h.incarnation_most))))
+    (number_back (2 ^ 32) id.incarnation h.incarnation_least h.incarnation_most (omega (arith, h.incarnation_most)))
+    (number_back (2 ^ 32) id.counter h.counter_least h.counter_most (omega (arith, h.counter_most)))
+
+-- Its numbers are those that a path can name.
+abbrev pub IsWritten : Target → Type 0
+IsWritten targets.Activation = Unit {0}
+IsWritten targets.Work = Unit {0}
+IsWritten (targets.Registration id) = IsId id
+IsWritten (targets.Completion id) = IsId id
+IsWritten (targets.Coordinator id seat) = IsId id × (1 ≤ seat.number) × (seat.number < 2 ^ 16)
+IsWritten (targets.Participant id kind) = IsId id
+IsWritten (targets.Initiator id) = IsId id
+
+seat_parts : (text front back : List ℕ) (id : Numbers) (n : ℕ) (kind : Kind) → split_at slash text ≡ Some (front, back) → id_of front ≡ Some id
+    → number_of (2 ^ 16) back ≡ Some n → seat_of kind text ≡ Some (targets.Coordinator id (record { number = n; kind = kind }))
+seat_parts text front back id n kind e f g = rw (e, f, g) refl
+
+id_lacks : (id : Numbers) → IsId id → Lacks slash (id_text id)
+id_lacks id h =
+    lacks_join slash (decimal id.incarnation) (hyphen ∷ decimal id.counter) (lacks_decimal slash id.incarnation (omega arith) (omega (arith, h.incarnation_most)))
+    (other, lacks_decimal slash id.counter (omega arith) (omega (arith, h.counter_most)))
+  where
+    other : hyphen ≢ slash
+    other e = absurd (omega (arith, e))
+
+-- what stands before the first of a byte
+split_same : (c : ℕ) (a b x y : List ℕ) → Lacks c a → Lacks c b → a ++ c ∷ x ≡ b ++ c ∷ y → a ≡ b
+split_same c a b x y h k e = front_same (sym (split_first c a x h) ∙ ap (split_at c) e ∙ split_first c b y k)
   where
     front : Option (List ℕ × List ℕ) → List ℕ
     front None = []
     front (Some p) = p.0
 
-    back : Option (List ℕ × List ℕ) → List ℕ
-    back None = []
-    back (Some p) = p.1
+    front_same : ◌≡◌ {A = Option (List ℕ × List ℕ)} (Some (a, x)) (Some (b, y)) → a ≡ b
+    front_same e = ap front e
 
-    parts : ◌≡◌ {A = Option (List ℕ × List ℕ)} (Some (a, x)) (Some (b, y)) → (a ≡ b) × (x ≡ y)
-    parts e = (ap front e, ap back e)
+-- a path names what it was written for
+pub target_back : (T : Target) → IsWritten T → target_of (path_of T) ≡ Some T
+target_back targets.Activation h = refl
+target_back targets.Work h = refl
+target_back (targets.Registration id) h = ap (λ o. or_else (option_map targets.Registration o) None) (id_back id h)
+target_back (targets.Completion id) h = ap (λ o. or_else (option_map targets.Completion o) None) (id_back id h)
+target_back (targets.Initiator id) h = ap (λ o. or_else (option_map targets.Initiator o) None) (id_back id h)
+target_back (targets.Participant id kinds.Durable) h = ap (λ o. or_else (option_map (λ i. targets.Participant i kinds.Durable) o) None) (id_back id h)
+target_back (targets.Participant id kinds.Volatile) h = ap (option_map (λ i. targets.Participant i kinds.Volatile)) (id_back id h)
+target_back (targets.Coordinator id seat) (h, least, most) = by_kind seat.kind refl
+  where
+    at : (kind : Kind) → seat_of kind (id_text id ++ slash ∷ decimal seat.number) ≡ Some (targets.Coordinator id (record { number = seat.number; kind = kind }))
+    at kind =
+        seat_parts (id_text id ++ slash ∷ decimal seat.number) (id_text id) (decimal seat.number) id seat.number kind
+        (split_first slash (id_text id) (decimal seat.number) (id_lacks id h)) (id_back id h) (number_back (2 ^ 16) seat.number least most (omega (arith, most)))
 
--- A number of ids that stands in decimal as one number alone.
-pub record IsSmall (id : Numbers) : Type 0 where
-  pub incarnation : id.incarnation < 2 ^ 64
-  pub counter : id.counter < 2 ^ 64
+    by_kind : (kind : Kind) → kind ≡ seat.kind → target_of (path_of (targets.Coordinator id (record { number = seat.number; kind = kind }))) ≡ Some (targets.Coordinator id (record { number = seat.number; kind = kind }))
+    by_kind kinds.Durable e = ap (λ o. or_else o None) (at kinds.Durable)
+    by_kind kinds.Volatile e = ap (λ o. or_else o None) (at kinds.Volatile)
 
 -- bases
-base_parts : (m n : ℕ) (rest path : List ℕ) → m < 2 ^ 64 → n < 2 ^ 64 → base_of m ++ rest ≡ base_of n ++ path → (m ≡ n) × (rest ≡ path)
+base_parts : (m n : ℕ) (rest path : List ℕ) → m < 2 ^ 64 → n < 2 ^ 64 → base_of m ++ rest ≡ base_of n ++ path → m ≡ n
 base_parts m n rest path h k e =
     let cut : decimal m ++ (codes ".example" ++ rest) ≡ decimal n ++ (codes ".example" ++ path) =
     sym (append_assoc (decimal m) (codes ".example") rest) ∙ ap (drop 8) e ∙ append_assoc (decimal n) (codes ".example") path in
-    let (first, second) = split_same 46 (decimal m) (decimal n) (codes "example" ++ rest) (codes "example" ++ path)
-    (lacks_other 46 m (omega arith) h) (lacks_other 46 n (omega arith) k) cut in
-    (same_decimal m n h k first, ap (drop 7) second)
-
--- ids
-tests : (a b c : Bool) (n m : ℕ) → cond (a && b && c) (Some n) None ≡ Some m → (b ≡ true) × (c ≡ true) × (n ≡ m)
-tests true true true n m e = (refl, refl, cc)
-tests true true false n m e = absurd cc
-tests true false c n m e = absurd cc
-tests false b c n m e = absurd cc
-
-number_is : (bound n : ℕ) (bytes : List ℕ) → number_of bound bytes ≡ Some n → (n < bound) × (bytes ≡ decimal n)
-number_is bound n bytes e =
-    option_and_then_some _ (digits_value 0 bytes) n e (λ m found value.
-    let (most, text, same) = tests (nat_lt 0 m) (nat_lt m bound) (bytes_eq (decimal m) bytes) m n value in
-    subst (λ i. (i < bound) × (bytes ≡ decimal i)) same (ltb-true m bound most, sym ((bytes_eq-Decides (decimal m) bytes).0 text)))
-
-same_number : (m n : ℕ) → m < 2 ^ 64 → number_of (2 ^ 32) (decimal m) ≡ Some n → m ≡ n
-same_number m n h e = let (most, text) = number_is (2 ^ 32) n (decimal m) e in same_decimal m n h (omega (arith, most)) text
-
-counted : (i : ℕ) (o : Option ℕ) (id : Numbers) → option_map (λ c. record { incarnation = i; counter = c }) o ≡ Some id → (i ≡ id.incarnation) × (o ≡ Some id.counter)
-counted i None id e = absurd cc
-counted i (Some c) id e =
-    let n : Numbers = record { incarnation = i; counter = c } in
-    let same : n ≡ id = cc in
-    (ap (λ (m : Numbers). m.incarnation) same, ap (λ (m : Numbers). Some m.counter) same)
-
-same_text : (id i : Numbers) → IsSmall id → id_of (id_text id) ≡ Some i → i ≡ id
-same_text id i h e =
-    let split : split_at hyphen (id_text id) ≡ Some (decimal id.incarnation, decimal id.counter) =
-    split_first hyphen (decimal id.incarnation) (decimal id.counter) (lacks_other hyphen id.incarnation (omega arith) h.incarnation) in
-    option_and_then_some _ (number_of (2 ^ 32) (decimal id.incarnation)) i (inner split) (λ k first last.
-    let (same, second) = counted k (number_of (2 ^ 32) (decimal id.counter)) i last in
-    numbers (same_number id.incarnation k h.incarnation first ∙ same) (same_number id.counter i.counter h.counter second))
-  where
-    of_parts : List ℕ × List ℕ → Option Numbers
-    of_parts p =
-        option_and_then (λ i. option_map (λ c. record { incarnation = i; counter = c }) (number_of (2 ^ 32) p.1)) (number_of (2 ^ 32) p.0)
-
-    inner : split_at hyphen (id_text id) ≡ Some (decimal id.incarnation, decimal id.counter) → of_parts (decimal id.incarnation, decimal id.counter) ≡ Some i
-    inner split = sym (ap (option_and_then of_parts) split) ∙ e
-
-    numbers : id.incarnation ≡ i.incarnation → id.counter ≡ i.counter → i ≡ id
-    numbers e f = λ j. record { incarnation = sym e j; counter = sym f j }
-
--- what a participant's path, and an initiator's, names
-first_of : (id : Numbers) (f : Numbers → Target) (o : Option Numbers) (T : Target) → o ≡ id_of (id_text id) → ((i : Numbers) → item_at (f i) ≡ Some i) → IsSmall id
-    → or_else (option_map f o) None ≡ Some T → item_at T ≡ Some id
-first_of id f None T g names h e = absurd cc
-first_of id f (Some i) T g names h e =
-    let same : f i ≡ T = cc in
-    ap item_at (sym same) ∙ names i ∙ ap Some (same_text id i h (sym g))
-
-last_of : (id : Numbers) (f : Numbers → Target) (o : Option Numbers) (T : Target) → o ≡ id_of (id_text id) → ((i : Numbers) → item_at (f i) ≡ Some i) → IsSmall id
-    → option_map f o ≡ Some T → item_at T ≡ Some id
-last_of id f None T g names h e = absurd cc
-last_of id f (Some i) T g names h e =
-    let same : f i ≡ T = cc in
-    ap item_at (sym same) ∙ names i ∙ ap Some (same_text id i h (sym g))
-
-is_named : (own : Target) (id : Numbers) (T : Target) → item_at own ≡ Some id → IsSmall id → target_of (path_of own) ≡ Some T → item_at T ≡ Some id
-is_named targets.Activation id T e h f = absurd cc
-is_named (targets.Registration i) id T e h f = absurd cc
-is_named (targets.Completion i) id T e h f = absurd cc
-is_named (targets.Coordinator i seat) id T e h f = absurd cc
-is_named (targets.Participant i kinds.Durable) id T e h f =
-    let same : i ≡ id = cc in
-    first_of id (λ j. targets.Participant j kinds.Durable) (id_of (id_text id)) T refl (λ j. refl) h
-    (subst (λ j. target_of (path_of (targets.Participant j kinds.Durable)) ≡ Some T) same f)
-is_named (targets.Participant i kinds.Volatile) id T e h f =
-    let same : i ≡ id = cc in
-    last_of id (λ j. targets.Participant j kinds.Volatile) (id_of (id_text id)) T refl (λ j. refl) h
-    (subst (λ j. target_of (path_of (targets.Participant j kinds.Volatile)) ≡ Some T) same f)
-is_named (targets.Initiator i) id T e h f =
-    let same : i ≡ id = cc in
-    first_of id targets.Initiator (id_of (id_text id)) T refl (λ j. refl) h (subst (λ j. target_of (path_of (targets.Initiator j)) ≡ Some T) same f)
-is_named targets.Work id T e h f = absurd cc
+    same_decimal m n h k (split_same 46 (decimal m) (decimal n) (codes "example" ++ rest) (codes "example" ++ path)
+    (lacks_decimal 46 m (omega arith) h) (lacks_decimal 46 n (omega arith) k) cut)
 
 -- addresses on the nodes of a world
 pub record IsPlace (first count : ℕ) (address : List ℕ) (p : ℕ × Target) : Type 0 where
@@ -170,35 +170,45 @@ behind_prefix prefix bytes rest e = by_case (bytes_eq (take (length prefix) byte
         sym (take-append-drop (length prefix) bytes) ∙ joined ((bytes_eq-Decides (take (length prefix) bytes) prefix).0 f) same
     by_case false f e = absurd cc
 
--- an endpoint that a node wrote for one of its items, where it names an item, names that one
-pub names_itself : (count n : ℕ) (own : Target) (id : Numbers) (x : Who) → count < 2 ^ 64 → n < 2 ^ 64 → item_at own ≡ Some id → IsSmall id
-    → who_of (new_nodes count 1) (endpoint_of (base_of n) own) ≡ Some x → (x.node ≡ n) × (x.id ≡ id)
-names_itself count n own id x small within e h f = by_place (place_of 1 (new_nodes count 1) (endpoint_of (base_of n) own).address) refl f
+prefix_back : (prefix rest : List ℕ) → after_prefix prefix (prefix ++ rest) ≡ Some rest
+prefix_back prefix rest =
+    ap (λ b. cond b (Some (drop (length prefix) (prefix ++ rest))) None) ((bytes_eq-Decides (take (length prefix) (prefix ++ rest)) prefix).1 (take-append_seam prefix rest))
+    ∙ ap Some (behind_all prefix rest)
   where
-    at_path : (p : ℕ × Target) (rest : List ℕ) → p.0 < 2 ^ 64 → (endpoint_of (base_of n) own).address ≡ base_of p.0 ++ rest → target_of rest ≡ Some p.1
-        → (p.0 ≡ n) × (item_at p.1 ≡ Some id)
-    at_path p rest i j k =
-        let (same, path) = base_parts p.0 n rest (path_of own) i within (sym j) in
-        (same, is_named own id p.1 e h (ap target_of (sym path) ∙ k))
+    behind_all : (xs ys : List ℕ) → drop (length xs) (xs ++ ys) ≡ ys
+    behind_all [] ys = refl
+    behind_all (x ∷ xs) ys = behind_all xs ys
 
-    found : (p : ℕ × Target) → IsPlace 1 count (endpoint_of (base_of n) own).address p → (p.0 ≡ n) × (item_at p.1 ≡ Some id)
-    found p i =
-        option_and_then_some target_of (after_prefix (base_of p.0) (endpoint_of (base_of n) own).address) p.1 i.target (λ rest j k.
-        at_path p rest (omega (arith, i.most, small)) (behind_prefix (base_of p.0) (endpoint_of (base_of n) own).address rest j) k)
+other_base : (m n : ℕ) (path : List ℕ) → m < 2 ^ 64 → n < 2 ^ 64 → (m ≡ n → ⊥) → target_at (base_of m) (base_of n ++ path) ≡ None
+other_base m n path h k differ = by_prefix (after_prefix (base_of m) (base_of n ++ path)) refl
+  where
+    by_prefix : (o : Option (List ℕ)) → after_prefix (base_of m) (base_of n ++ path) ≡ o → option_and_then target_of o ≡ None
+    by_prefix None e = refl
+    by_prefix (Some rest) e = absurd (differ (base_parts m n rest path h k (sym (behind_prefix (base_of m) (base_of n ++ path) rest e))))
 
-    who : (m : ℕ) (o : Option Numbers) → o ≡ Some id → m ≡ n → option_map (λ i. record { node = m; id = i }) o ≡ Some x → (x.node ≡ n) × (x.id ≡ id)
-    who m None e g k = absurd cc
-    who m (Some i) e g k =
-        let w : Who = record { node = m; id = i } in
-        let same : w ≡ x = cc in
-        let that : i ≡ id = cc in
-        (ap (λ (y : Who). y.node) (sym same) ∙ g, ap (λ (y : Who). y.id) (sym same) ∙ that)
+place_back : (count first n : ℕ) (T : Target) → first ≤ n → n < first + count → n < 2 ^ 64 → IsWritten T → place_of first (new_nodes count first) (base_of n ++ path_of T) ≡ Some (n, T)
+place_back zero first n T least most small h = absurd (omega (arith, least, most))
+place_back (suc count) first n T least most small h = by_number (λ i. place_back count (first + 1) n T i (omega (arith, most)) small h) (nat_eq first n) refl
+  where
+    here : target_at (base_of n) (base_of n ++ path_of T) ≡ Some T
+    here = ap (option_and_then target_of) (prefix_back (base_of n) (path_of T)) ∙ target_back T h
 
-    by_place : (o : Option (ℕ × Target)) → place_of 1 (new_nodes count 1) (endpoint_of (base_of n) own).address ≡ o → who_at o ≡ Some x → (x.node ≡ n) × (x.id ≡ id)
-    by_place None g k = absurd cc
-    by_place (Some p) g k =
-        let (same, item) = found p (place_is count 1 (endpoint_of (base_of n) own).address p g) in
-        who p.0 (item_at p.1) item same k
+    by_number : (first + 1 ≤ n → place_of (first + 1) (new_nodes count (first + 1)) (base_of n ++ path_of T) ≡ Some (n, T)) → (c : Bool) → nat_eq first n ≡ c
+        → place_or first (target_at (base_of first) (base_of n ++ path_of T)) (place_of (first + 1) (new_nodes count (first + 1)) (base_of n ++ path_of T)) ≡ Some (n, T)
+    by_number rest true c =
+        let same : first ≡ n = eqb-true first n c in
+        subst (λ k. place_or k (target_at (base_of k) (base_of n ++ path_of T)) (place_of (first + 1) (new_nodes count (first + 1)) (base_of n ++ path_of T)) ≡ Some (n, T)) (sym same)
+        (ap (λ o. place_or n o (place_of (first + 1) (new_nodes count (first + 1)) (base_of n ++ path_of T))) here)
+    by_number rest false c =
+        let other : first ≡ n → ⊥ = eqb-false first n c in
+        ap (λ o. place_or first o (place_of (first + 1) (new_nodes count (first + 1)) (base_of n ++ path_of T)))
+        (other_base first n (path_of T) (omega (arith, least, small)) small other)
+        ∙ rest (omega (arith, least, other))
+
+-- An endpoint that a node wrote leads to that node and that target.
+pub leads_home : (count n : ℕ) (T : Target) → count < 2 ^ 64 → 1 ≤ n → n ≤ count → IsWritten T
+    → place_of 1 (new_nodes count 1) (endpoint_of (base_of n) T).address ≡ Some (n, T)
+leads_home count n T small least most h = place_back count 1 n T least (omega (arith, most)) (omega (arith, most, small)) h
 
 -- where an address leads depends on the bases of the nodes alone
 abbrev pub HaveBases : List Node → List Node → Type 0

@@ -6,7 +6,7 @@ use Rattle.at_base.specs.Numbers.{Numbers}
 use Rattle.at_base.specs.declared.epr.Epr.{Epr}
 use Rattle.at_model.specs.Book.{Book, Transaction, Enlistment, Completion}
 use Rattle.at_model.specs.Step.{transaction_at}
-use Rattle.at_model.specs.World.{Node, Accepted, nth, put_nth, receiver_of, who_at, who_of, accepted_seat, accepted_completion, accepted_by, accepted_in}
+use Rattle.at_model.specs.World.{Node, nth, put_nth, receiver_of, who_at, who_of, accepted_seat, accepted_completion, accepted_by, accepted_in}
 use Rattle.model_laws.proofs.Naming.{HaveBases, same_place}
 use Rattle.model_laws.proofs.Running.{put_this, put_other}
 
@@ -28,8 +28,8 @@ put_same n x (y ∷ xs) e = by_number (put_same (n - 1) x xs) (nat_eq n 1) e
     by_number rest true e = let same : y ≡ x = cc in ap (λ z. z ∷ xs) (sym same)
     by_number rest false e = ap (λ ys. y ∷ ys) (rest e)
 
--- what holds of each node holds where one is put
-pub each_put : (P : ℕ → Node → Type 0) (xs : List Node) (n : ℕ) (x z : Node) → nth n xs ≡ Some x → P n z → ((m : ℕ) (y : Node) → nth m xs ≡ Some y → P m y)
+-- what holds of each other node holds where one is put
+pub each_put : (P : ℕ → Node → Type 0) (xs : List Node) (n : ℕ) (x z : Node) → nth n xs ≡ Some x → P n z → ((m : ℕ) (y : Node) → (m ≡ n → ⊥) → nth m xs ≡ Some y → P m y)
     → (m : ℕ) (y : Node) → nth m (put_nth n z xs) ≡ Some y → P m y
 each_put P xs n x z found h others m y f = by_number (nat_eq m n) refl
   where
@@ -40,7 +40,7 @@ each_put P xs n x z found h others m y f = by_number (nat_eq m n) refl
     by_number true c =
         subst (P m) (same_node (nth m (put_nth n z xs)) (ap (λ k. nth k (put_nth n z xs)) (eqb-true m n c) ∙ put_this xs n x z found) f)
         (subst (λ k. P k z) (sym (eqb-true m n c)) h)
-    by_number false c = others m y (sym (put_other xs m n z (eqb-false m n c)) ∙ f)
+    by_number false c = others m y (eqb-false m n c) (sym (put_other xs m n z (eqb-false m n c)) ∙ f)
 
 -- bases
 pub same_bases : (xs : List Node) → HaveBases xs xs

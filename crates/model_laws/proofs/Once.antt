@@ -216,7 +216,7 @@ pub journal_rises : (rs : List Record) (r : Record) → last_incarnation rs ≤ 
 journal_rises [] r = omega arith
 journal_rises (x ∷ xs) r = omega (arith, journal_rises xs r)
 
-entry_rises : (entry : Option Record) (landed : Bool) (rs : List Record) → last_incarnation rs ≤ last_incarnation (with_entry entry landed rs)
+pub entry_rises : (entry : Option Record) (landed : Bool) (rs : List Record) → last_incarnation rs ≤ last_incarnation (with_entry entry landed rs)
 entry_rises None landed rs = omega arith
 entry_rises (Some r) true rs = journal_rises rs r
 entry_rises (Some r) false rs = omega arith

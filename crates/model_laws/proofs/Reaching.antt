@@ -1,10 +1,9 @@
 -- Every run leads to a world that is reached step by step.
-use Rattle.std.specs.Prelude.{ℕ, List, [], ◌∷◌, ◌++◌, Option, Some, None, Bool, true, false, nat_eq, nat_lt, ◌&&◌, ◌+◌, ◌-◌, if◌then◌else◌, map, ◌≡◌, ◌<◌, refl}
+use Rattle.std.specs.Prelude.{ℕ, List, [], ◌∷◌, ◌++◌, Option, Some, None, Bool, true, false, nat_eq, nat_lt, ◌&&◌, ◌+◌, ◌-◌, if◌then◌else◌, map, ◌≡◌, refl}
 use Rattle.std.specs.List.{AllByRecursion}
 use Rattle.std.proofs.Common.{inl, inr, sym, subst, ap, ◌∙◌}
 use Rattle.std.proofs.lemmas.Bool.{eqb-true, ltb-true}
 use Rattle.std.proofs.lemmas.List.{append-nil}
-use Rattle.at_base.specs.declared.epr.Epr.{Epr}
 use Rattle.at_base.specs.declared.record.Record.{Record}
 use Rattle.at_base.specs.declared.event.Arrived.{Arrived}
 use Rattle.at_base.specs.declared.event.Item.{Item}
@@ -17,7 +16,7 @@ use Rattle.at_base.specs.declared.outs.Out.TheVariants as outs
 use Rattle.at_model.specs.Book.{Book, last_counter}
 use Rattle.at_model.specs.Recover.{last_incarnation}
 use Rattle.at_model.specs.Step.{Outcome, Plan, still, items_of, plan, is_due, step}
-use Rattle.at_model.specs.World.{Node, Posted, World, WorldEvent, Turn, Ask, Crash, Up, Input, Deliver, Tick, Raw, Turning, nth, put_nth, opening, with_post, decoded, is_stopped, fate, fates_left, one_nearer, after_fate, sent, send_all, accepted_in, happened_at, counted, journaled, with_record, landed_step, absent_step, step_by, take_step, due_step, due_steps, put_book, goes_down, lost_in, turned, turn_from, take_turn, ticked, later, answer_plan, arrival_plan, is_receiver, deliver, turn, ask, started, up_after, start, on_book, down_only, at_node, at_some_node, node_of, new_node, world_step, run_on, run_of}
+use Rattle.at_model.specs.World.{Node, Posted, World, WorldEvent, Turn, Ask, Crash, Up, Input, Deliver, Tick, Raw, Turning, nth, put_nth, opening, with_post, decoded, is_stopped, fate, fates_left, one_nearer, after_fate, sent, send_all, accepted_in, happened_at, counted, with_record, landed_step, absent_step, step_by, take_step, due_step, due_steps, put_book, goes_down, lost_in, turned, turn_from, take_turn, ticked, later, answer_plan, arrival_plan, is_receiver, deliver, turn, ask, started, up_after, start, on_book, down_only, at_node, at_some_node, node_of, world_step, run_on}
 use Rattle.model_laws.specs.Agreement.{IsIn}
 use Rattle.model_laws.specs.Drawn.{with_entry}
 use Rattle.model_laws.specs.Order.{IsInOrder, IsInOrderWhileUp}
@@ -41,20 +40,20 @@ in_order count w (opened is) n x found =
 in_order count w (stepped u n x b e now landed ps reached found up heard posts is) m y f =
     each_put (λ k z. IsInOrderWhileUp z.book) u.nodes n x
     (record x { book = Some (step b e now landed).book; journal = with_entry (plan b e now).entry landed x.journal }) found
-    (ids_rise.stays b e now landed (subst IsInOrderWhileUp up (in_order count u reached n x found))) (in_order count u reached) m y
+    (ids_rise.stays b e now landed (subst IsInOrderWhileUp up (in_order count u reached n x found))) (λ k z i r. in_order count u reached k z r) m y
     (sym (ap (nth m) (ap (λ (v : World). v.nodes) is ∙ posted_nodes n ps (counts u n x b e now landed))) ∙ f)
 in_order count w (fell u n x b reached found up is) m y f =
-    each_put (λ k z. IsInOrderWhileUp z.book) u.nodes n x (record x { book = None }) found tt (in_order count u reached) m y
+    each_put (λ k z. IsInOrderWhileUp z.book) u.nodes n x (record x { book = None }) found tt (λ k z i r. in_order count u reached k z r) m y
     (sym (ap (λ (v : World). nth m v.nodes) (is ∙ ap (put_book n None (record u { happened = u.happened ++ lost_in n b })) found)) ∙ f)
 in_order count w (rose u n x stop reached found down small is) m y f =
-    each_put (λ k z. IsInOrderWhileUp z.book) u.nodes n x (up_after (started (last_incarnation x.journal + 1) x) stop) found (by_stop stop) (in_order count u reached) m y
+    each_put (λ k z. IsInOrderWhileUp z.book) u.nodes n x (up_after (started (last_incarnation x.journal + 1) x) stop) found (by_stop stop) (λ k z i r. in_order count u reached k z r) m y
     (sym (ap (λ (v : World). nth m v.nodes) is) ∙ f)
   where
     by_stop : (s : Bool) → IsInOrderWhileUp (up_after (started (last_incarnation x.journal + 1) x) s).book
     by_stop true = tt
     by_stop false = ids_rise.started x.base x.journal
 in_order count w (waited u n x clock reached found is) m y f =
-    each_put (λ k z. IsInOrderWhileUp z.book) u.nodes n x (record x { clock = clock }) found (in_order count u reached n x found) (in_order count u reached) m y
+    each_put (λ k z. IsInOrderWhileUp z.book) u.nodes n x (record x { clock = clock }) found (in_order count u reached n x found) (λ k z i r. in_order count u reached k z r) m y
     (sym (ap (λ (v : World). nth m v.nodes) is) ∙ f)
 
 -- the world of a turn, in which the node holds the book of the turn

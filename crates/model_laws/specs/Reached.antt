@@ -2,7 +2,6 @@
 -- its posts are sent. A node always holds its newest book.
 use Rattle.std.specs.Prelude.{ℕ, List, [], ◌∷◌, ◌++◌, Some, None, Bool, ◌+◌, map, ◌≡◌, ◌<◌}
 use Rattle.std.specs.List.{AllByRecursion}
-use Rattle.at_base.specs.declared.event.Arrived.{Arrived}
 use Rattle.at_base.specs.declared.event.Event.{Event}
 use Rattle.at_base.specs.declared.event.Event.TheVariants as events
 use Rattle.at_base.specs.declared.outs.Post.{Post}

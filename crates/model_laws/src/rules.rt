@@ -3,7 +3,7 @@
 ghost use Rattle.model_laws.specs.Laws.{StepsAnswerFirst, StepsKeepPlace, RecoversTheLive, IncarnationsRise, MakesUnderTheNextId};
 ghost use Rattle.model_laws.specs.Behind.{DecidesBehindEveryAnswer};
 ghost use Rattle.model_laws.specs.Drawn.{IdsStayDrawn, NoIdMadeTwice};
-ghost use Rattle.model_laws.specs.Enlisted.{EnlistsUnderOne};
+ghost use Rattle.model_laws.specs.Enlisted.{EnlistsTheKnown, EnlistsUnderOne};
 ghost use Rattle.model_laws.specs.Links.{LinksFollowPhases};
 ghost use Rattle.model_laws.specs.Order.{IdsRise};
 ghost use Rattle.model_laws.specs.Made.{MakesNoIdTwice};
@@ -108,6 +108,12 @@ pub fn makes_no_id_twice()
 #[tactic(auto, using(crate::proofs::Enrolled::enlists_under_one))]
 pub fn enlists_under_one()
     ensures { EnlistsUnderOne }
+{}
+
+/// In every run of a world each registration that is accepted is of an item of a node.
+#[tactic(auto, using(crate::proofs::Enrolled::enlists_the_known))]
+pub fn enlists_the_known()
+    ensures { EnlistsTheKnown }
 {}
 
 /// Every run leads to a world that is reached step by step, with each node's newest book.
