@@ -1,8 +1,9 @@
 -- What a step makes of an arrival, of a request and of a due item.
-use Rattle.std.specs.Prelude.{ℕ, List, [], ◌∷◌, ◌++◌, Option, Some, None, Bool, true, false, not, nat_lt, ◌&&◌, ◌+◌, if◌then◌else◌, bytes_eq, is_none, length, map, drop, ◌≡◌, ◌≤◌, ◌<◌, refl}
+use Rattle.std.specs.Prelude.{ℕ, List, [], ◌∷◌, ◌++◌, Option, Some, None, Bool, true, false, not, nat_lt, ◌&&◌, ◌+◌, if◌then◌else◌, bytes_eq, is_none, length, map, option_map, drop, ◌≡◌, ◌≤◌, ◌<◌, refl}
 use Rattle.std.specs.List.{AllByRecursion}
 use Rattle.std.proofs.Common.{inl, inr, sym, subst, ap, arith, ◌∙◌}
 use Rattle.std.proofs.lemmas.Bool.{ltb-true}
+use Rattle.std.proofs.Math.Seq.{take-append_seam}
 use Rattle.at_base.specs.Numbers.{Numbers}
 use Rattle.at_base.specs.declared.epr.Epr.{Epr}
 use Rattle.at_base.specs.declared.epr.Reply.{Reply}
@@ -40,13 +41,14 @@ use Rattle.at_model.specs.Addresses.{endpoint_of, atomic}
 use Rattle.at_model.specs.Posts.{accepted, replied, stranger_post, fault_post, unknown_transaction, invalid_protocol, invalid_parameters, cannot_create, cannot_register}
 use Rattle.at_model.specs.Moves.{Change, Decision, Goes}
 use Rattle.at_model.specs.Arrivals.{on_link, on_seat, on_completion, request_of, with_answer, context_of}
-use Rattle.at_model.specs.Register.{protocol_named, Registration, seat_endpoint, completion_endpoint, may_register, is_late, new_seat, late_prepare, accept, refuse_register, register_new, register_again, held_seat, on_register, register_unknown}
+use Rattle.at_model.specs.Register.{accepts, protocol_named, Registration, seat_endpoint, completion_endpoint, may_register, is_late, new_seat, late_prepare, accept, refuse_register, register_new, register_again, held_seat, on_register, register_unknown}
 use Rattle.at_model.specs.Create.{new_root, Creation, refuse_create, create_under, create_in, on_create}
 use Rattle.at_model.specs.Leaves.{leaf_target, on_leaf, Employment, refuse_work, work_for, on_work}
 use Rattle.at_model.specs.Activities.{on_activity, Refusal, Beginning, on_begin, on_interpose, on_ask, on_complete}
 use Rattle.at_model.specs.Due.{transaction_due, transaction_reached, leaf_due, leaf_reached, activity_due, activity_reached}
 use Rattle.at_model.specs.Step.{plain, still, at_time, moment_of, make_transaction, make_leaf, make_activity, leaf_plan, stranger_act, stranger_cell, nothing, stranger_plan, created_plan, activation_plan, registration_plan, registration_outcome, completion_seat_plan, completion_plan, find_seat, seat_plan, coordinator_plan, leaf_or_stranger_plan, link_plan, participant_plan, initiator_plan, employed_plan, work_plan, transaction_at, leaf_at, activity_at, arrived_plan, refuses, begun_plan, begin_plan, interpose_plan, asking_plan, request_plan, local_plan, transaction_due_plan, leaf_due_plan, activity_due_plan, due_plan, plan, step}
 use Rattle.at_model.specs.World.{Node, Accepted, who_of, accepted_seat, accepted_completion, accepted_by}
+use Rattle.model_laws.specs.Behind.{accepted_as}
 use Rattle.model_laws.specs.Drawn.{AreDrawn}
 use Rattle.model_laws.specs.Laws.{IsDrawn, HasId, HasLeafId, KeepsPlace}
 use Rattle.model_laws.specs.Order.{IsInOrder}
@@ -55,11 +57,11 @@ use Rattle.model_laws.proofs.Deciding.{Both, plain_both, DecisionSays, all_find,
 use Rattle.model_laws.proofs.Keeping.{HasBoth, Names, NamesLeaf, NoRecord, Kept, LeafKept, ActivityKept, with_answer_kept, seat_kept, link_kept, completion_kept, due_kept, register_kept, leaf_kept, leaf_due_kept, activity_kept, activity_due_kept, asks_kept, completes_kept}
 use Rattle.model_laws.proofs.Making.{makes_under_the_next_id, next_numbers}
 use Rattle.at_base.specs.IdText.{IsId}
-use Rattle.model_laws.proofs.Enlisting.{by_request, transaction_standing, by_work, leaf_standing, Meets, choose, Says, Registers, OutSays, AreOuts, AcceptedBy, Gives, NoRegister, still_gives, time_gives, transaction_gives, leaf_gives, activity_gives, ids_alone, replied_says, faulted_says, outs_more, posts_say, accepted_all, nothing_new, no_completion, dropped, unchanged, none_accepted, others_choose, choose_this, choose_other, choose_keeps, choose_never, choose_small, choose_at, by_request_never, by_work_never, found_id, meets_at}
+use Rattle.model_laws.proofs.Enlisting.{HasInitiator, Grown, grown_like, none_grown, by_request, transaction_standing, by_work, leaf_standing, Meets, choose, Says, Registers, OutSays, AreOuts, AcceptedBy, Gives, NoRegister, still_gives, time_gives, transaction_gives, leaf_gives, activity_gives, ids_alone, replied_says, faulted_says, outs_more, posts_say, accepted_all, nothing_new, no_completion, dropped, unchanged, none_accepted, others_choose, choose_this, choose_other, choose_keeps, choose_never, choose_small, choose_at, by_request_never, by_work_never, found_id, meets_at}
 use Rattle.model_laws.proofs.Living.{made_drawn, drawn_on}
 use Rattle.model_laws.proofs.Ordering.{ids_rise}
 use Rattle.model_laws.proofs.Shaping.{steps_keep_place}
-use Rattle.model_laws.proofs.Posting.{to_each_fine, IsLike, AreFine, IsOwn, seat_like, link_like, completion_like, due_like, IsOwnLeaf, leaf_like, leaf_due_like, Standing, Never, At, activity_standing, AreActivityLike, activity_like, activity_due_like, asks_like, completes_like}
+use Rattle.model_laws.proofs.Posting.{initiator_endpoint, to_each_fine, IsLike, AreFine, IsOwn, seat_like, link_like, completion_like, due_like, IsOwnLeaf, leaf_like, leaf_due_like, Standing, Never, At, activity_standing, AreActivityLike, activity_like, activity_due_like, asks_like, completes_like}
 use Rattle.model_laws.proofs.Recovering.{same_id}
 
 -- the next id
@@ -105,8 +107,8 @@ OwnsNew base t participant to =
     (kind : Kind) × (participant ≡ endpoint_of base (targets.Participant t.id kind)) × ((endpoint : Epr) × (transaction_standing t ≡ At endpoint) × (to ≡ Some endpoint))
 
 made_gives : (base : List ℕ) (e : Event) (s : Numbers → Standing) (b : Book) (now : ℕ) (id : Numbers) (t : Transaction) (os : List Out) → Says base s b → next_id b ≡ Some id
-    → t.id ≡ id → AreOuts (OwnsNew b.base t) os → Gives base e s b (still (make_transaction (at_time now b) t) os)
-made_gives base e s b now id t os h next same k =
+    → t.id ≡ id → Grown None t → AreOuts (OwnsNew b.base t) os → Gives base e s b (still (make_transaction (at_time now b) t) os)
+made_gives base e s b now id t os h next same empty k =
     let n : s id ≡ Never = next_never base s b id h next in
     let S : Standing = transaction_standing t in
     let c : Book = make_transaction (at_time now b) t in
@@ -128,6 +130,7 @@ made_gives base e s b now id t os h next same k =
           (all_join (λ y. AllByRecursion (AcceptedBy e m nodes) (accepted_by m nodes (transaction_at b y.id) y)) b.transactions (t ∷ [])
           (unchanged (AcceptedBy e m nodes) m nodes b h.order)
           (subst (λ o. AllByRecursion (AcceptedBy e m nodes) (accepted_by m nodes o t)) (sym (not_there h)) tt, tt));
+      grown = all_join (λ y. Grown (transaction_at b y.id) y) b.transactions (t ∷ []) (none_grown b h.order) (subst (λ o. Grown o t) (sym (not_there h)) empty, tt);
     }
   where
     registers : s id ≡ Never → (participant : Epr) (to : Option Epr) → OwnsNew b.base t participant to → Registers base (choose s id (transaction_standing t)) participant to
@@ -171,6 +174,7 @@ leaf_made_gives base e s b now id l os h next same k =
       small = choose_small s id S (next_small b id h.least h.most next) h.small;
       outs = outs_more (OwnsNewLeaf b.base l) (Registers base (choose s id S)) (λ participant to f. registers n participant to f) os k;
       accepted = λ m nodes. none_accepted e m nodes b h.order;
+      grown = none_grown b h.order;
     }
   where
     registers : s id ≡ Never → (participant : Epr) (to : Option Epr) → OwnsNewLeaf b.base l participant to → Registers base (choose s id (leaf_standing l)) participant to
@@ -200,12 +204,13 @@ activity_made_gives base e s b now id a os h next same never k = record {
   small = h.small;
   outs = outs_more NoRegister (Registers base s) (λ participant to f. absurd f) os k;
   accepted = λ m nodes. none_accepted e m nodes b h.order;
+  grown = none_grown b h.order;
 }
 
 -- what a Create gives
 abbrev CreationOf : List ℕ → Numbers → Option Transaction → List Out → Type 0
 CreationOf base id None os = AreOuts NoRegister os
-CreationOf base id (Some t) os = (t.id ≡ id) × AreOuts (OwnsNew base t) os
+CreationOf base id (Some t) os = (t.id ≡ id) × Grown None t × AreOuts (OwnsNew base t) os
 
 abbrev CreationSays : List ℕ → Numbers → Creation → Type 0
 CreationSays base id c = CreationOf base id c.transaction c.outs
@@ -216,14 +221,14 @@ refused_says base id a = faulted_says NoRegister a.fault a.id cannot_create
 under_says : (m : Moment) (id : Numbers) (a : Arrived) (c : Create) (current : Context) (r : Reply) → CreationSays m.base id (create_under m id a c current r)
 unfolding create_under
 under_says m id a c current (replies.At reply) =
-    (refl, (tt, ((kinds.Volatile, refl, (current.registration, refl, refl)), ((kinds.Durable, refl, (current.registration, refl, refl)), tt))))
+    (refl, (refl, refl), (tt, ((kinds.Volatile, refl, (current.registration, refl, refl)), ((kinds.Durable, refl, (current.registration, refl, refl)), tt))))
 under_says m id a c current replies.Anonymous = refused_says m.base id a
 under_says m id a c current replies.Nobody = refused_says m.base id a
 
 in_says : (m : Moment) (id : Numbers) (a : Arrived) (c : Create) (current : Option Context) → CreationSays m.base id (create_in m id a c current)
 unfolding create_in
 in_says m id a c None =
-    (refl, replied_says (OwnsNew m.base (new_root m id c)) a.reply a.id (messages.CreateResponse (context_of m.base (new_root m id c) c.expires)) tt (λ to. tt))
+    (refl, (refl, refl), replied_says (OwnsNew m.base (new_root m id c)) a.reply a.id (messages.CreateResponse (context_of m.base (new_root m id c) c.expires)) tt (λ to. tt))
 in_says m id a c (Some current) = under_says m id a c current a.reply
 
 create_says : (m : Moment) (live : ℕ) (a : Arrived) (c : Create) (id : Numbers) → CreationSays m.base id (on_create m live a c (Some id))
@@ -237,8 +242,8 @@ create_says m live a c id = by_test (bytes_eq c.coordination atomic && nat_lt li
 created_gives : (base : List ℕ) (e : Event) (s : Numbers → Standing) (b : Book) (now : ℕ) (id : Numbers) (t : Option Transaction) (os : List Out) → Says base s b → next_id b ≡ Some id
     → CreationOf b.base id t os → Both (Gives base e s b) (created_plan b now t os)
 created_gives base e s b now id None os h next k = plain_both (Gives base e s b) (still (at_time now b) os) (time_gives base e s b now os h k)
-created_gives base e s b now id (Some t) os h next (same, k) =
-    plain_both (Gives base e s b) (still (make_transaction (at_time now b) t) os) (made_gives base e s b now id t os h next same k)
+created_gives base e s b now id (Some t) os h next (same, empty, k) =
+    plain_both (Gives base e s b) (still (make_transaction (at_time now b) t) os) (made_gives base e s b now id t os h next same empty k)
 
 nothing_gives : (base : List ℕ) (e : Event) (s : Numbers → Standing) (b : Book) (now : ℕ) → Says base s b → Both (Gives base e s b) (nothing b now)
 nothing_gives base e s b now h = plain_both (Gives base e s b) (still (at_time now b) accepted) (time_gives base e s b now accepted h (tt, tt))
@@ -317,6 +322,7 @@ record RegistrationSays (participant : Epr) (t : Transaction) (x : Registration)
   superior : x.transaction.superior ≡ t.superior
   outs : AreOuts NoRegister x.outs
   accepts : (n : ℕ) (nodes : List Node) → AllByRecursion (IsNew n nodes x.transaction.id participant) (accepted_by n nodes (Some t) x.transaction)
+  grown : Grown (Some t) x.transaction
 
 behind_all : {A : Type 0} (xs ys : List A) → drop (length xs) (xs ++ ys) ≡ ys
 behind_all [] ys = refl
@@ -331,9 +337,9 @@ initiator_new : (n : ℕ) (nodes : List Node) (id : Numbers) (before : Option Co
 initiator_new n nodes id None c = ((refl, refl), tt)
 initiator_new n nodes id (Some d) c = tt
 
-accept_says : (m : Moment) (a : Arrived) (t : Transaction) (participant : Epr) (kind : Option Kind) → RegistrationSays participant t (accept m a t participant kind)
+accept_says : (m : Moment) (a : Arrived) (t : Transaction) (participant : Epr) (kind : Option Kind) → may_register t kind ≡ true → RegistrationSays participant t (accept m a t participant kind)
 unfolding accept
-accept_says m a t participant (Some kind) = record {
+accept_says m a t participant (Some kind) may = record {
   superior = refl;
   outs = all_join (OutSays NoRegister) (replied a.reply a.id (messages.RegisterResponse (seat_endpoint m.base t.id (new_seat t participant kind)))) _
       (replied_says NoRegister a.reply a.id (messages.RegisterResponse (seat_endpoint m.base t.id (new_seat t participant kind))) tt (λ to. tt))
@@ -341,33 +347,46 @@ accept_says m a t participant (Some kind) = record {
   accepts = λ n nodes.
       subst (AllByRecursion (IsNew n nodes t.id participant))
       (sym (λ i. map (accepted_seat n nodes t.id) (behind_all t.seats (new_seat t participant kind ∷ []) i) ++ no_completion n nodes t.id t.completion t.completion refl i)) ((refl, refl), tt);
+  grown = (ap (map accepted_as) (take-append_seam t.seats (new_seat t participant kind ∷ [])), (grown_like t t refl refl).1);
 }
-accept_says m a t participant None = record {
+accept_says m a t participant None may = record {
   superior = refl;
   outs = replied_says NoRegister a.reply a.id (messages.RegisterResponse (completion_endpoint m.base t.id)) tt (λ to. tt);
   accepts = λ n nodes.
       subst (λ (ss : List Enlistment). AllByRecursion (IsNew n nodes t.id participant)
       (map (accepted_seat n nodes t.id) ss ++ accepted_completion n nodes t.id t.completion (Some (record { initiator = participant; state = states.Active }))))
       (sym (dropped t.seats (length t.seats) refl)) (initiator_new n nodes t.id t.completion (record { initiator = participant; state = states.Active }));
+  grown = ((grown_like t t refl refl).0, free t.completion (has_none (accepts t.phase) (nat_lt (length t.seats) 64) (is_none t.superior) (is_none t.completion) may));
 }
+  where
+    has_none : (a b c d : Bool) → (a && b && (c && d)) ≡ true → d ≡ true
+    has_none true true true d e = e
+    has_none true true false d e = absurd cc
+    has_none true false c d e = absurd cc
+    has_none false b c d e = absurd cc
+
+    free : (c : Option Completion) → is_none c ≡ true → HasInitiator c (Some (record { initiator = participant; state = states.Active }))
+    free None e = tt
+    free (Some c) e = absurd cc
 
 refuses_says : (participant : Epr) (a : Arrived) (t : Transaction) (name : List ℕ) → RegistrationSays participant t (refuse_register a t name)
 refuses_says participant a t name = record {
   superior = refl;
   outs = faulted_says NoRegister a.fault a.id name;
   accepts = λ n nodes. nothing_new (IsNew n nodes t.id participant) n nodes t t refl refl;
+  grown = grown_like t t refl refl;
 }
 
 register_new_says : (m : Moment) (a : Arrived) (r : Register) (t : Transaction) (kind : Option (Option Kind)) → RegistrationSays r.participant t (register_new m a r t kind)
 unfolding register_new
 register_new_says m a r t None = refuses_says r.participant a t invalid_protocol
-register_new_says m a r t (Some kind) = by_tests (not a.postable) (may_register t kind)
+register_new_says m a r t (Some kind) = by_tests (not a.postable) (may_register t kind) refl
   where
-    by_tests : (b c : Bool) → RegistrationSays r.participant t
+    by_tests : (b c : Bool) → may_register t kind ≡ c → RegistrationSays r.participant t
         (if b then refuse_register a t invalid_parameters else if c then accept m a t r.participant kind else refuse_register a t cannot_register)
-    by_tests true c = refuses_says r.participant a t invalid_parameters
-    by_tests false true = accept_says m a t r.participant kind
-    by_tests false false = refuses_says r.participant a t cannot_register
+    by_tests true c e = refuses_says r.participant a t invalid_parameters
+    by_tests false true e = accept_says m a t r.participant kind e
+    by_tests false false e = refuses_says r.participant a t cannot_register
 
 register_again_says : (m : Moment) (a : Arrived) (r : Register) (t : Transaction) (kind : Option (Option Kind)) (held : Option Epr)
     → RegistrationSays r.participant t (register_again m a r t kind held)
@@ -376,6 +395,7 @@ register_again_says m a r t kind (Some coordinator) = record {
   superior = refl;
   outs = replied_says NoRegister a.reply a.id (messages.RegisterResponse coordinator) tt (λ to. tt);
   accepts = λ n nodes. nothing_new (IsNew n nodes t.id r.participant) n nodes t t refl refl;
+  grown = grown_like t t refl refl;
 }
 register_again_says m a r t kind None = register_new_says m a r t kind
 
@@ -418,6 +438,8 @@ registers_gives base s b now a r id t h says target stands x same k =
             transaction = f.0;
             participant = f.1;
           }) (k.accepts n nodes))) (unchanged (AcceptedBy e n nodes) n nodes b h.order));
+      grown = all_put (λ y. Grown (transaction_at b y.id) y) transaction_id x.transaction.id (Some x.transaction) b.transactions
+          (subst (λ o. Grown o x.transaction) (sym (ap (transaction_at b) (same ∙ there) ∙ stands)) k.grown) (none_grown b h.order);
     }
 
 unknown_says : (a : Arrived) (r : Register) (kind : Option (Option Kind)) → AreOuts NoRegister (register_unknown a r kind)
@@ -457,7 +479,7 @@ stranger_gives base e s b now a table (messages.Notice n) h =
 stranger_gives base e s b now a table other h = nothing_gives base e s b now h
 
 -- what is like itself
-as_it_is : (t : Transaction) → IsLike (request_of t.superior) (length t.seats) (is_none t.completion) t
+as_it_is : (t : Transaction) → IsLike (request_of t.superior) (map accepted_as t.seats) (option_map initiator_endpoint t.completion) t
 as_it_is t = (refl, refl, refl)
 
 is_accepted : IsAnswer accepted
@@ -483,7 +505,7 @@ completion_seat_gives base s b now a id t (Some c) h f g =
     let m : Moment = moment_of b now in
     transaction_gives base (events.Arrived a) s b now accepted id t (on_completion m a t c a.message) h f is_accepted
     (keeps_id t m (on_completion m a t c a.message) (completion_kept t.id m a t c a.message refl))
-    (completion_like (Registers base s) (request_of t.superior) (length t.seats) (is_none t.completion) m a t c a.message (sym (ap is_none g)) (as_it_is t))
+    (completion_like (Registers base s) (request_of t.superior) (map accepted_as t.seats) (option_map initiator_endpoint t.completion) m a t c a.message (sym (ap (option_map initiator_endpoint) g)) (as_it_is t))
 
 completion_gives : (base : List ℕ) (s : Numbers → Standing) (b : Book) (now : ℕ) (a : Arrived) (id : Numbers) (t : Option Transaction) → Says base s b → transaction_at b id ≡ t
     → Both (Gives base (events.Arrived a) s b) (completion_plan b now a t)
@@ -498,7 +520,7 @@ seat_gives base s b now a kind id t (Some x) h f =
     let m : Moment = moment_of b now in
     transaction_gives base (events.Arrived a) s b now accepted id t (on_seat m a t x a.message) h f is_accepted
     (keeps_id t m (on_seat m a t x a.message) (seat_kept t.id m a t x a.message refl))
-    (seat_like (Registers base s) (request_of t.superior) (length t.seats) (is_none t.completion) m a t x a.message (as_it_is t))
+    (seat_like (Registers base s) (request_of t.superior) (map accepted_as t.seats) (option_map initiator_endpoint t.completion) m a t x a.message (as_it_is t))
 
 coordinator_gives : (base : List ℕ) (s : Numbers → Standing) (b : Book) (now : ℕ) (a : Arrived) (number : ℕ) (kind : Kind) (id : Numbers) (t : Option Transaction) → Says base s b
     → transaction_at b id ≡ t → Both (Gives base (events.Arrived a) s b) (coordinator_plan b now a number kind t)
@@ -513,7 +535,7 @@ link_gives base s b now a kind id t (Some x) h f g =
     let m : Moment = moment_of b now in
     transaction_gives base (events.Arrived a) s b now accepted id t (on_link m a kind t x a.message) h f is_accepted
     (keeps_id t m (on_link m a kind t x a.message) (link_kept t.id m a kind t x a.message refl))
-    (link_like (Registers base s) (request_of t.superior) (length t.seats) (is_none t.completion) m a kind t x a.message (sym (ap request_of g)) (as_it_is t))
+    (link_like (Registers base s) (request_of t.superior) (map accepted_as t.seats) (option_map initiator_endpoint t.completion) m a kind t x a.message (sym (ap request_of g)) (as_it_is t))
 
 leaf_or_stranger_gives : (base : List ℕ) (s : Numbers → Standing) (b : Book) (now : ℕ) (a : Arrived) (kind : Kind) (id : Numbers) (l : Option Leaf) → Says base s b → leaf_at b id ≡ l
     → Both (Gives base (events.Arrived a) s b) (leaf_or_stranger_plan b now a kind l)
@@ -639,7 +661,7 @@ transaction_due_gives base e s b now id (Some t) h f =
     let m : Moment = moment_of b now in
     transaction_gives base e s b now [] id t (transaction_reached m t (transaction_due m t)) h f no_answer
     (keeps_id t m (transaction_reached m t (transaction_due m t)) (due_kept t.id m t (transaction_due m t) refl))
-    (due_like (Registers base s) (request_of t.superior) (length t.seats) (is_none t.completion) m t (transaction_due m t) (own_transaction base s b id t h f) (as_it_is t))
+    (due_like (Registers base s) (request_of t.superior) (map accepted_as t.seats) (option_map initiator_endpoint t.completion) m t (transaction_due m t) (own_transaction base s b id t h f) (as_it_is t))
 
 leaf_due_gives : (base : List ℕ) (e : Event) (s : Numbers → Standing) (b : Book) (now : ℕ) (id : Numbers) (l : Option Leaf) → Says base s b → leaf_at b id ≡ l
     → Both (Gives base e s b) (leaf_due_plan b now l)

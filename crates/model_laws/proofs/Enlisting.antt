@@ -1,8 +1,10 @@
 -- What a step does to where items register, and what it accepts.
-use Rattle.std.specs.Prelude.{ℕ, List, [], ◌∷◌, ◌++◌, Option, Some, None, Bool, true, false, not, if◌then◌else◌, is_none, length, map, drop, ◌≡◌, ◌≤◌, refl}
+use Rattle.std.specs.Prelude.{ℕ, List, [], ◌∷◌, ◌++◌, Option, Some, None, Bool, true, false, not, if◌then◌else◌, is_none, length, map, option_map, drop, take, ◌≡◌, ◌≤◌, refl}
 use Rattle.std.specs.List.{AllByRecursion}
 use Rattle.std.proofs.Common.{inl, inr, sym, subst, ap, ◌∙◌}
 use Rattle.std.proofs.lemmas.Bool.{true≢false}
+use Rattle.std.proofs.lemmas.List.{length-map}
+use Rattle.std.proofs.Math.Seq.{take-length}
 use Rattle.at_base.specs.Numbers.{Numbers}
 use Rattle.at_base.specs.declared.epr.Epr.{Epr}
 use Rattle.at_base.specs.declared.epr.Reply.{Reply}
@@ -19,7 +21,7 @@ use Rattle.at_base.specs.declared.event.Event.TheVariants as events
 use Rattle.at_base.specs.declared.outs.Post.{Post}
 use Rattle.at_base.specs.declared.outs.Out.{Out}
 use Rattle.at_base.specs.declared.outs.Out.TheVariants as outs
-use Rattle.at_model.specs.Book.{Book, Transaction, Leaf, Activity, Completion, Request, WorkRequest, is_id, find_by, put_by, transaction_id, leaf_id, activity_id, last_counter}
+use Rattle.at_model.specs.Book.{Book, Transaction, Leaf, Activity, Completion, Enlistment, Request, WorkRequest, is_id, find_by, put_by, transaction_id, leaf_id, activity_id, last_counter}
 use Rattle.at_model.specs.Addresses.{endpoint_of}
 use Rattle.at_model.specs.Posts.{replied, faulted}
 use Rattle.at_model.specs.Moves.{Change, Decision, Goes, Records}
@@ -27,6 +29,7 @@ use Rattle.at_model.specs.Arrivals.{request_of, with_answer}
 use Rattle.at_model.specs.Activities.{activity_target}
 use Rattle.at_model.specs.Step.{Outcome, still, at_time, moment_of, is_under, put_transaction, put_leaf, put_activity, put_activities, outcome_of, transaction_plan, leaf_plan, activity_plan, transaction_at, leaf_at, activity_at}
 use Rattle.at_model.specs.World.{Node, Accepted, who_of, item_at, accepted_seat, accepted_completion, accepted_by, accepted_in}
+use Rattle.model_laws.specs.Behind.{Accepted as Seating, accepted_as}
 use Rattle.model_laws.specs.Drawn.{AreDrawn}
 use Rattle.model_laws.specs.Laws.{IsDrawn, HasId, HasLeafId}
 use Rattle.model_laws.specs.Order.{AreRising, IsInOrder}
@@ -36,7 +39,7 @@ use Rattle.model_laws.proofs.Deciding.{Both, IfThere, DecisionSays, decided_says
 use Rattle.model_laws.proofs.Keeping.{HasBoth}
 use Rattle.at_base.specs.IdText.{IsId}
 use Rattle.model_laws.proofs.Ordering.{other_id, unmapped}
-use Rattle.model_laws.proofs.Posting.{Fine, IsFine, AreFine, AreLike, LeftSays, IsLeft, with_answer_left, LeafLike, IsLeafLike, AreLeafLike, Standing, Never, At, Silent, activity_standing, OwnsActivity, ActivityLike, AreActivityLike}
+use Rattle.model_laws.proofs.Posting.{initiator_endpoint, Fine, IsFine, AreFine, AreLike, LeftSays, IsLeft, with_answer_left, LeafLike, IsLeafLike, AreLeafLike, Standing, Never, At, Silent, activity_standing, OwnsActivity, ActivityLike, AreActivityLike}
 use Rattle.model_laws.proofs.Recovering.{same_id, self_id}
 use Rattle.model_laws.proofs.Telling.{Anything}
 
@@ -183,6 +186,37 @@ pub record AcceptedBy (e : Event) (n : ℕ) (nodes : List Node) (acc : Accepted)
   pub transaction : acc.transaction ≡ record { node = n; id = id }
   pub participant : acc.participant ≡ who_of nodes register.participant
 
+-- the same seats but for their states, and the same initiator or none
+as_many : (xs ys : List Enlistment) → map accepted_as xs ≡ map accepted_as ys → length xs ≡ length ys
+as_many xs ys e = sym (length-map xs accepted_as) ∙ ap length e ∙ length-map ys accepted_as
+
+as_none : (c d : Option Completion) → option_map initiator_endpoint c ≡ option_map initiator_endpoint d → is_none c ≡ is_none d
+as_none None None e = refl
+as_none None (Some d) e = absurd cc
+as_none (Some c) None e = absurd cc
+as_none (Some c) (Some d) e = refl
+
+-- A transaction that stood in the book keeps its participants, in front of new ones, and its initiator; one that is made
+-- has none.
+abbrev pub HasInitiator : Option Completion → Option Completion → Type 0
+HasInitiator None c = Unit {0}
+HasInitiator (Some old) c = option_map initiator_endpoint c ≡ Some old.initiator
+
+abbrev pub Grown : Option Transaction → Transaction → Type 0
+Grown None t = (t.seats ≡ []) × (t.completion ≡ None)
+Grown (Some old) t = (map accepted_as (take (length old.seats) t.seats) ≡ map accepted_as old.seats) × HasInitiator old.completion t.completion
+
+same_initiator : (c d : Option Completion) → option_map initiator_endpoint d ≡ option_map initiator_endpoint c → HasInitiator c d
+same_initiator None d e = tt
+same_initiator (Some c) d e = e
+
+pub grown_like : (old t : Transaction) → map accepted_as t.seats ≡ map accepted_as old.seats → option_map initiator_endpoint t.completion ≡ option_map initiator_endpoint old.completion → Grown (Some old) t
+grown_like old t e f =
+    (ap (λ k. map accepted_as (take k t.seats)) (sym (as_many t.seats old.seats e)) ∙ ap (map accepted_as) (take-length t.seats) ∙ e, same_initiator old.completion t.completion f)
+
+abbrev pub AreGrown : Book → List Transaction → Type 0
+AreGrown b ts = AllByRecursion (λ t. Grown (transaction_at b t.id) t) ts
+
 pub record Gives (base : List ℕ) (e : Event) (s : Numbers → Standing) (b : Book) (o : Outcome) : Type 0 where
   pub after : Numbers → Standing
   pub keeps : (id : Numbers) (p : Epr) → s id ≡ At p → after id ≡ At p
@@ -191,6 +225,7 @@ pub record Gives (base : List ℕ) (e : Event) (s : Numbers → Standing) (b : B
   pub small : (id : Numbers) (p : Epr) → after id ≡ At p → IsId id
   pub outs : AreOuts (Registers base after) o.outs
   pub accepted : (n : ℕ) (nodes : List Node) → AllByRecursion (AcceptedBy e n nodes) (accepted_in n nodes b o.book.transactions)
+  pub grown : AreGrown b o.book.transactions
 
 -- lists of outs
 pub fine_more : (Q R : Epr → Option Epr → Type 0) → ((participant : Epr) (to : Option Epr) → Q participant to → R participant to) → (to : Option Epr) (x : Message) → Fine Q to x → Fine R to x
@@ -275,6 +310,12 @@ unchanged R n nodes b h =
     (λ t e. subst (λ o. AllByRecursion R (accepted_by n nodes o t)) (sym e) (nothing_new R n nodes t t refl refl))
     (finds_each transaction_id b.transactions h.rising.transactions)
 
+pub none_grown : (b : Book) → IsInOrder b → AreGrown b b.transactions
+none_grown b h =
+    all_more (λ t. transaction_at b t.id ≡ Some t) (λ t. Grown (transaction_at b t.id) t) b.transactions
+    (λ t e. subst (λ o. Grown o t) (sym e) (grown_like t t refl refl))
+    (finds_each transaction_id b.transactions h.rising.transactions)
+
 pub none_accepted : (e : Event) (n : ℕ) (nodes : List Node) (b : Book) → IsInOrder b → AllByRecursion (AcceptedBy e n nodes) (accepted_in n nodes b b.transactions)
 none_accepted e n nodes b h = accepted_all (AcceptedBy e n nodes) n nodes b b.transactions (unchanged (AcceptedBy e n nodes) n nodes b h)
 
@@ -288,6 +329,7 @@ still_gives base e s b os h k = record {
   small = h.small;
   outs = outs_more NoRegister (Registers base s) (λ participant to f. absurd f) os k;
   accepted = λ n nodes. none_accepted e n nodes b h.order;
+  grown = none_grown b h.order;
 }
 
 pub time_gives : (base : List ℕ) (e : Event) (s : Numbers → Standing) (b : Book) (now : ℕ) (os : List Out) → Says base s b → AreOuts NoRegister os
@@ -300,6 +342,7 @@ time_gives base e s b now os h k = record {
   small = h.small;
   outs = outs_more NoRegister (Registers base s) (λ participant to f. absurd f) os k;
   accepted = λ n nodes. none_accepted e n nodes b h.order;
+  grown = none_grown b h.order;
 }
 
 -- two properties of a decision
@@ -318,27 +361,32 @@ found_id key id (y ∷ ys) x e = by_id (λ f. found_id key id ys x f) (is_id (ke
     by_id rest false f e = rest e
 
 -- a transaction moves
-left_meets : (s : Numbers → Standing) (t : Transaction) (x : Option Transaction) (k : ℕ) (z : Bool) → Meets (s t.id) (transaction_standing t) → HasId t.id x
+left_meets : (s : Numbers → Standing) (t : Transaction) (x : Option Transaction) (k : List Seating) (z : Option Epr) → Meets (s t.id) (transaction_standing t) → HasId t.id x
     → IsLeft (request_of t.superior) k z x → IfThere (λ y. Meets (s y.id) (transaction_standing y)) x
 left_meets s t None k z h i j = tt
 left_meets s t (Some x) k z h i (inl e, l, n) = subst (λ id. Meets (s id) (transaction_standing x)) (sym i) (subst (λ r. Meets (s t.id) (by_request r)) (sym e) h)
 left_meets s t (Some x) k z h i (inr e, l, n) = subst (λ r. Meets (s x.id) (by_request r)) (sym e) tt
 
+left_grown : (b : Book) (t : Transaction) (x : Option Transaction) → transaction_at b t.id ≡ Some t → HasId t.id x
+    → IsLeft (request_of t.superior) (map accepted_as t.seats) (option_map initiator_endpoint t.completion) x → IfThere (λ y. Grown (transaction_at b y.id) y) x
+left_grown b t None e i j = tt
+left_grown b t (Some x) e i (r, l, c) = subst (λ o. Grown o x) (sym (ap (transaction_at b) i ∙ e)) (grown_like t x l c)
+
 left_accepts : (R : Accepted → Type 0) (n : ℕ) (nodes : List Node) (b : Book) (t : Transaction) (x : Option Transaction) → transaction_at b t.id ≡ Some t → HasId t.id x
-    → IsLeft (request_of t.superior) (length t.seats) (is_none t.completion) x → IfThere (λ y. AllByRecursion R (accepted_by n nodes (transaction_at b y.id) y)) x
+    → IsLeft (request_of t.superior) (map accepted_as t.seats) (option_map initiator_endpoint t.completion) x → IfThere (λ y. AllByRecursion R (accepted_by n nodes (transaction_at b y.id) y)) x
 left_accepts R n nodes b t None e i j = tt
 left_accepts R n nodes b t (Some x) e i (r, l, c) =
-    subst (λ o. AllByRecursion R (accepted_by n nodes o x)) (sym (ap (transaction_at b) i ∙ e)) (nothing_new R n nodes t x l c)
+    subst (λ o. AllByRecursion R (accepted_by n nodes o x)) (sym (ap (transaction_at b) i ∙ e)) (nothing_new R n nodes t x (as_many x.seats t.seats l) (as_none x.completion t.completion c))
 
 moved_gives : (base : List ℕ) (e : Event) (s : Numbers → Standing) (b : Book) (now : ℕ) (answer : List Out) (t : Transaction) (c : Change Transaction) → Says base s b
-    → transaction_at b t.id ≡ Some t → IsAnswer answer → HasId t.id c.item → LeftSays (Registers base s) (request_of t.superior) (length t.seats) (is_none t.completion) c
+    → transaction_at b t.id ≡ Some t → IsAnswer answer → HasId t.id c.item → LeftSays (Registers base s) (request_of t.superior) (map accepted_as t.seats) (option_map initiator_endpoint t.completion) c
     → Gives base e s b (outcome_of (put_transaction t.id (at_time now b)) answer c)
 moved_gives base e s b now answer t c h stands a i (ps, l) = record {
   after = s;
   keeps = λ id p j. j;
   fits = record {
     transactions = all_put (λ y. Meets (s y.id) (transaction_standing y)) transaction_id t.id c.item b.transactions
-        (left_meets s t c.item (length t.seats) (is_none t.completion)
+        (left_meets s t c.item (map accepted_as t.seats) (option_map initiator_endpoint t.completion)
         (all_find (λ y. Meets (s y.id) (transaction_standing y)) transaction_id t.id b.transactions t h.fits.transactions stands) i l) h.fits.transactions;
     leaves = h.fits.leaves;
     activities = h.fits.activities;
@@ -351,6 +399,7 @@ moved_gives base e s b now answer t c h stands a i (ps, l) = record {
       accepted_all (AcceptedBy e n nodes) n nodes b (put_by transaction_id t.id c.item b.transactions)
       (all_put (λ y. AllByRecursion (AcceptedBy e n nodes) (accepted_by n nodes (transaction_at b y.id) y)) transaction_id t.id c.item b.transactions
       (left_accepts (AcceptedBy e n nodes) n nodes b t c.item stands i l) (unchanged (AcceptedBy e n nodes) n nodes b h.order));
+  grown = all_put (λ y. Grown (transaction_at b y.id) y) transaction_id t.id c.item b.transactions (left_grown b t c.item stands i l) (none_grown b h.order);
 }
 
 standing_found : (b : Book) (id : Numbers) (t : Transaction) → transaction_at b id ≡ Some t → transaction_at b t.id ≡ Some t
@@ -358,13 +407,13 @@ standing_found b id t e = ap (transaction_at b) (found_id transaction_id id b.tr
 
 pub transaction_gives : (base : List ℕ) (e : Event) (s : Numbers → Standing) (b : Book) (now : ℕ) (answer : List Out) (id : Numbers) (t : Transaction) (d : Decision Transaction)
     → Says base s b → transaction_at b id ≡ Some t → IsAnswer answer → DecisionSays (λ c. HasId t.id c.item) (λ r c. Unit {0}) (with_answer (moment_of b now) t d)
-    → AreLike (Registers base s) (request_of t.superior) (length t.seats) (is_none t.completion) d → Both (Gives base e s b) (transaction_plan b now answer t d)
+    → AreLike (Registers base s) (request_of t.superior) (map accepted_as t.seats) (option_map initiator_endpoint t.completion) d → Both (Gives base e s b) (transaction_plan b now answer t d)
 transaction_gives base e s b now answer id t d h stands a kept like =
-    decided_says (λ c. HasId t.id c.item × LeftSays (Registers base s) (request_of t.superior) (length t.seats) (is_none t.completion) c) (λ r c. Unit {0}) (Gives base e s b) b
+    decided_says (λ c. HasId t.id c.item × LeftSays (Registers base s) (request_of t.superior) (map accepted_as t.seats) (option_map initiator_endpoint t.completion) c) (λ r c. Unit {0}) (Gives base e s b) b
     (put_transaction t.id (at_time now b)) answer (with_answer (moment_of b now) t d)
-    (says_both (λ c. HasId t.id c.item) (LeftSays (Registers base s) (request_of t.superior) (length t.seats) (is_none t.completion)) (λ r c. Unit {0}) Anything
+    (says_both (λ c. HasId t.id c.item) (LeftSays (Registers base s) (request_of t.superior) (map accepted_as t.seats) (option_map initiator_endpoint t.completion)) (λ r c. Unit {0}) Anything
     (with_answer (moment_of b now) t d) kept
-    (with_answer_left (Registers base s) (request_of t.superior) (length t.seats) (is_none t.completion) (moment_of b now) t d like))
+    (with_answer_left (Registers base s) (request_of t.superior) (map accepted_as t.seats) (option_map initiator_endpoint t.completion) (moment_of b now) t d like))
     (λ c k. moved_gives base e s b now answer t c h (standing_found b id t stands) a k.0 k.1) (still_gives base e s b answer h (answer_says NoRegister answer a))
 
 -- what is kept of ids, without what is recorded
@@ -398,6 +447,7 @@ leaf_moved_gives base e s b now answer id l c h stands a i (ps, j) = record {
   outs = all_join (OutSays (Registers base s)) answer (map outs.Post c.posts) (answer_says (Registers base s) answer a)
       (posts_say (Registers base s) (Registers base s) (λ participant to f. f) c.posts ps);
   accepted = λ n nodes. none_accepted e n nodes b h.order;
+  grown = none_grown b h.order;
 }
 
 pub leaf_gives : (base : List ℕ) (e : Event) (s : Numbers → Standing) (b : Book) (now : ℕ) (answer : List Out) (id : Numbers) (l : Leaf) (d : Decision Leaf) → Says base s b
@@ -471,6 +521,7 @@ activity_stays_gives base e s t b now answer a x c h i is ps keeps ts ls acts un
   outs = all_join (OutSays (Registers base t)) answer (map outs.Post c.posts) (answer_says (Registers base t) answer i)
       (posts_say (OwnsActivity b.base a x) (Registers base t) (owns_registers base t b a x h.base_is m) c.posts ps);
   accepted = λ n nodes. none_accepted e n nodes b h.order;
+  grown = none_grown b h.order;
 }
 
 activity_moved_gives : (base : List ℕ) (e : Event) (s : Numbers → Standing) (b : Book) (now : ℕ) (answer : List Out) (id : Numbers) (a : Activity) (c : Change Activity)
@@ -491,6 +542,7 @@ activity_moved_gives base e s b now answer id a c h stands i None is kept ps = r
   outs = all_join (OutSays (Registers base s)) answer (map outs.Post c.posts) (answer_says (Registers base s) answer i)
       (posts_say NoRegister (Registers base s) (λ participant to f. absurd f) c.posts ps);
   accepted = λ n nodes. none_accepted e n nodes b h.order;
+  grown = none_grown b h.order;
 }
 activity_moved_gives base e s b now answer id a c h stands i (Some x) is kept (ps, inr same) =
     let found : Meets (s a.id) (activity_standing a) × IsId a.id =

@@ -47,7 +47,7 @@ use Rattle.model_laws.proofs.Running.{opening_node}
 use Rattle.model_laws.proofs.Shaping.{steps_keep_place}
 
 -- where each item of each node registers
-abbrev Choices : Type 0
+abbrev pub Choices : Type 0
 Choices = ℕ → Numbers → Standing
 
 -- a Register that was posted by an item, to where that item registers
@@ -58,7 +58,7 @@ record IsOurs (count : ℕ) (choices : Choices) (participant : Epr) (to : Option
   registers : Registers (base_of node) (choices node) participant to
   small : IsId registers.id
 
-abbrev nodes_of : ℕ → List Node
+abbrev pub nodes_of : ℕ → List Node
 nodes_of count = new_nodes count 1
 
 record PostSays (count : ℕ) (choices : Choices) (p : Posted) : Type 0 where
@@ -73,27 +73,27 @@ record IsChosen (count : ℕ) (choices : Choices) (acc : Accepted) : Type 0 wher
   chosen : choices item.node item.id ≡ At endpoint
   place : place_of 1 (nodes_of count) endpoint.address ≡ Some (acc.transaction.node, targets.Registration acc.transaction.id)
 
-record WorldSays (count : ℕ) (choices : Choices) (w : World) : Type 0 where
-  bases : HaveBases w.nodes (nodes_of count)
+pub record WorldSays (count : ℕ) (choices : Choices) (w : World) : Type 0 where
+  pub bases : HaveBases w.nodes (nodes_of count)
   posted : AllByRecursion (PostSays count choices) w.posted
   accepted : AllByRecursion (IsChosen count choices) w.accepted
 
-record IsDown (s : Numbers → Standing) (rs : List Record) : Type 0 where
+pub record IsDown (s : Numbers → Standing) (rs : List Record) : Type 0 where
   undrawn : (id : Numbers) → last_incarnation rs < id.incarnation → s id ≡ Never
   small : (id : Numbers) (e : Epr) → s id ≡ At e → IsId id
 
-record IsUp (base : List ℕ) (s : Numbers → Standing) (rs : List Record) (b : Book) : Type 0 where
-  says : Says base s b
+pub record IsUp (base : List ℕ) (s : Numbers → Standing) (rs : List Record) (b : Book) : Type 0 where
+  pub says : Says base s b
   known : b.incarnation ≤ last_incarnation rs
 
-abbrev IsKnown : List ℕ → (Numbers → Standing) → List Record → Option Book → Type 0
+abbrev pub IsKnown : List ℕ → (Numbers → Standing) → List Record → Option Book → Type 0
 IsKnown base s rs None = IsDown s rs
 IsKnown base s rs (Some b) = IsUp base s rs b
 
-record WorldGood (count : ℕ) (w : World) : Type 0 where
-  choices : Choices
-  world : WorldSays count choices w
-  nodes : (m : ℕ) (x : Node) → nth m w.nodes ≡ Some x → IsKnown (base_of m) (choices m) x.journal x.book
+pub record WorldGood (count : ℕ) (w : World) : Type 0 where
+  pub choices : Choices
+  pub world : WorldSays count choices w
+  pub nodes : (m : ℕ) (x : Node) → nth m w.nodes ≡ Some x → IsKnown (base_of m) (choices m) x.journal x.book
 
 -- a Register that arrives was posted by its item, and this is where it registers
 record ArrivalSays (count : ℕ) (choices : Choices) (n : ℕ) (participant : Epr) (id : Numbers) : Type 0 where
@@ -492,7 +492,7 @@ enrolled count small = record {
       put_good count g.choices n u (record u { nodes = put_nth n (record x { clock = clock }) u.nodes }) x (record x { clock = clock }) g.world found refl refl refl refl (g.nodes n x found) g.nodes;
 }
 
-world_good : (count : ℕ) (w : World) → count < 2 ^ 64 → Reached count w → WorldGood count w
+pub world_good : (count : ℕ) (w : World) → count < 2 ^ 64 → Reached count w → WorldGood count w
 unfolding enrolled
 world_good count w small reached = holds count (enrolled count small) w reached
 

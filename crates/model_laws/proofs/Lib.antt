@@ -28,3 +28,4 @@ pub mod Enrolled
 pub mod Nodes
 pub mod Reaching
 pub mod Holding
+pub mod Seating

@@ -70,7 +70,7 @@ receiver_same xs ys (Some to) h = ap (option_map (λ p. p.0)) (same_place 1 xs y
 pub who_same : (xs ys : List Node) (e : Epr) → HaveBases xs ys → who_of xs e ≡ who_of ys e
 who_same xs ys e h = ap who_at (same_place 1 xs ys e.address h)
 
-seats_same : (n : ℕ) (xs ys : List Node) (id : Numbers) (seats : List Enlistment) → HaveBases xs ys → map (accepted_seat n xs id) seats ≡ map (accepted_seat n ys id) seats
+pub seats_same : (n : ℕ) (xs ys : List Node) (id : Numbers) (seats : List Enlistment) → HaveBases xs ys → map (accepted_seat n xs id) seats ≡ map (accepted_seat n ys id) seats
 seats_same n xs ys id [] h = refl
 seats_same n xs ys id (s ∷ seats) h = λ i.
     record {
@@ -79,7 +79,7 @@ seats_same n xs ys id (s ∷ seats) h = λ i.
       participant = who_same xs ys s.participant h i;
     } ∷ seats_same n xs ys id seats h i
 
-completion_same : (n : ℕ) (xs ys : List Node) (id : Numbers) (before after : Option Completion) → HaveBases xs ys
+pub completion_same : (n : ℕ) (xs ys : List Node) (id : Numbers) (before after : Option Completion) → HaveBases xs ys
     → accepted_completion n xs id before after ≡ accepted_completion n ys id before after
 completion_same n xs ys id None None h = refl
 completion_same n xs ys id None (Some c) h = λ i. record { transaction = record { node = n; id = id }; seat = None; participant = who_same xs ys c.initiator h i } ∷ []

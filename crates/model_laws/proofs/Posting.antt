@@ -1,6 +1,6 @@
 -- What a move posts: a Register goes from the item itself to where it registers, which stays as it is; and a transaction
 -- keeps its seats and its initiator.
-use Rattle.std.specs.Prelude.{ℕ, List, [], ◌∷◌, ◌++◌, Option, Some, None, Bool, false, suc, if◌then◌else◌, is_none, length, map, filter, ◌≡◌, ◌⊎◌, refl}
+use Rattle.std.specs.Prelude.{ℕ, List, [], ◌∷◌, ◌++◌, Option, Some, None, Bool, if◌then◌else◌, map, filter, option_map, ◌≡◌, ◌⊎◌, refl}
 use Rattle.std.specs.List.{list_any, AllByRecursion}
 use Rattle.std.proofs.Common.{inl, inr, sym, ap, ◌∙◌}
 use Rattle.at_base.specs.Numbers.{Numbers}
@@ -41,6 +41,7 @@ use Rattle.at_model.specs.Arrivals.{answer_seat, answer_left_seat, seat_act, sea
 use Rattle.at_model.specs.Leaves.{leaf_target, leaf_says, leaf_faults, work_answer, leaf_aborts, leaf_commits, leaf_prepares, leaf_votes, leaf_records_vote, leaf_commit, leaf_roll_back, leaf_act, leaf_notice, answers_leaf, leaf_registered, leaf_refused, drops_leaf, leaf_fault, on_leaf}
 use Rattle.at_model.specs.Activities.{activity_target, is_begun, told, activity_act, activity_notice, with_context, activity_created, activity_registered, activity_fault, on_activity, activity_state, on_ask, on_complete}
 use Rattle.at_model.specs.Due.{Reached, Expired, Over, Unanswered, Nothing, register_again_at, link_again, links_again, seat_again, seats_again, unanswered_seat, transaction_reached, leaf_register_again, leaf_reached, completion_register_again, activity_again, activity_reached}
+use Rattle.model_laws.specs.Behind.{Accepted as Seating, accepted_as}
 use Rattle.model_laws.proofs.Deciding.{DecisionSays, either_says, either_left, all_join, all_if}
 use Rattle.model_laws.proofs.Telling.{Anything}
 
@@ -87,34 +88,37 @@ links_aborted_fine Q base id reason (Some s) =
     all_join (IsFine Q) (link_aborted base id reason kinds.Volatile s.volatile) (link_aborted base id reason kinds.Durable s.durable)
     (link_aborted_fine Q base id reason kinds.Volatile s.volatile) (link_aborted_fine Q base id reason kinds.Durable s.durable)
 
--- A transaction with this request, so many seats, and an initiator or none.
-abbrev pub IsLike : Option Request → ℕ → Bool → Transaction → Type 0
-IsLike q k z t = (request_of t.superior ≡ q) × (length t.seats ≡ k) × (is_none t.completion ≡ z)
+abbrev pub initiator_endpoint : Completion → Epr
+initiator_endpoint c = c.initiator
 
-abbrev pub IsLikeItem : Option Request → ℕ → Bool → Option Transaction → Type 0
+-- A transaction with this request, these seats but for their states, and this initiator or none.
+abbrev pub IsLike : Option Request → List Seating → Option Epr → Transaction → Type 0
+IsLike q k z t = (request_of t.superior ≡ q) × (map accepted_as t.seats ≡ k) × (option_map initiator_endpoint t.completion ≡ z)
+
+abbrev pub IsLikeItem : Option Request → List Seating → Option Epr → Option Transaction → Type 0
 IsLikeItem q k z None = Unit {0}
 IsLikeItem q k z (Some t) = IsLike q k z t
 
-abbrev pub Like : (Epr → Option Epr → Type 0) → Option Request → ℕ → Bool → Change Transaction → Type 0
+abbrev pub Like : (Epr → Option Epr → Type 0) → Option Request → List Seating → Option Epr → Change Transaction → Type 0
 Like Q q k z c = AreFine Q c.posts × IsLikeItem q k z c.item
 
-abbrev LikeMoving : (Epr → Option Epr → Type 0) → Option Request → ℕ → Bool → Moving Transaction → Type 0
+abbrev LikeMoving : (Epr → Option Epr → Type 0) → Option Request → List Seating → Option Epr → Moving Transaction → Type 0
 LikeMoving Q q k z g = AreFine Q g.posts × IsLike q k z g.item
 
-abbrev pub AreLike : (Epr → Option Epr → Type 0) → Option Request → ℕ → Bool → Decision Transaction → Type 0
+abbrev pub AreLike : (Epr → Option Epr → Type 0) → Option Request → List Seating → Option Epr → Decision Transaction → Type 0
 AreLike Q q k z d = DecisionSays (Like Q q k z) Anything d
 
-either : (Q : Epr → Option Epr → Type 0) (q : Option Request) (k : ℕ) (z : Bool) (b : Bool) (d e : Decision Transaction) → AreLike Q q k z d → AreLike Q q k z e
+either : (Q : Epr → Option Epr → Type 0) (q : Option Request) (k : List Seating) (z : Option Epr) (b : Bool) (d e : Decision Transaction) → AreLike Q q k z d → AreLike Q q k z e
     → AreLike Q q k z (if b then d else e)
 either Q q k z b d e h i = either_says (Like Q q k z) Anything b d e (λ x. h) (λ x. i)
 
-moved_length : (test : Enlistment → Bool) (state : State) (seats : List Enlistment) → length (moved test state seats) ≡ length seats
-moved_length test state [] = refl
-moved_length test state (s ∷ seats) = ap suc (moved_length test state seats)
+moved_accepted : (test : Enlistment → Bool) (state : State) (seats : List Enlistment) → map accepted_as (moved test state seats) ≡ map accepted_as seats
+moved_accepted test state [] = refl
+moved_accepted test state (s ∷ seats) = ap (λ ss. accepted_as s ∷ ss) (moved_accepted test state seats)
 
-completed_none : (c : Option Completion) → is_none (completed c) ≡ is_none c
-completed_none None = refl
-completed_none (Some c) = refl
+completed_initiator : (c : Option Completion) → option_map initiator_endpoint (completed c) ≡ option_map initiator_endpoint c
+completed_initiator None = refl
+completed_initiator (Some c) = refl
 
 unlinked : (s : Option Superior) → request_of (without_links s) ≡ request_of s
 unlinked None = refl
@@ -128,21 +132,21 @@ asked_request : (kind : Kind) (s : Superior) → (asked kind s).request ≡ s.re
 asked_request kinds.Volatile s = refl
 asked_request kinds.Durable s = refl
 
-posts_like : (Q : Epr → Option Epr → Type 0) (q : Option Request) (k : ℕ) (z : Bool) (ps : List Post) (g : Moving Transaction) → LikeMoving Q q k z g → AreFine Q ps
+posts_like : (Q : Epr → Option Epr → Type 0) (q : Option Request) (k : List Seating) (z : Option Epr) (ps : List Post) (g : Moving Transaction) → LikeMoving Q q k z g → AreFine Q ps
     → LikeMoving Q q k z (posts ps g)
 posts_like Q q k z ps g (h, i) j = (all_join (IsFine Q) g.posts ps h j, i)
 
-send_like : (Q : Epr → Option Epr → Type 0) (q : Option Request) (k : ℕ) (z : Bool) (m : Moment) (n : Notice) (state : State) (test : Enlistment → Bool) (g : Moving Transaction)
+send_like : (Q : Epr → Option Epr → Type 0) (q : Option Request) (k : List Seating) (z : Option Epr) (m : Moment) (n : Notice) (state : State) (test : Enlistment → Bool) (g : Moving Transaction)
     → LikeMoving Q q k z g → LikeMoving Q q k z (send_each m n state test g)
 send_like Q q k z m n state test g (h, (r, l, c)) = (
   all_join (IsFine Q) g.posts (notices_to m.base g.item.id n g.item.seats test) h (notices_fine Q m.base g.item.id n g.item.seats test),
-  (r, moved_length test state g.item.seats ∙ l, c),
+  (r, moved_accepted test state g.item.seats ∙ l, c),
 )
 
-rolled_back : (Q : Epr → Option Epr → Type 0) (q : Option Request) (k : ℕ) (z : Bool) (g : Moving Transaction) → LikeMoving Q q k z g → Like Q q k z (until_rolled_back g)
+rolled_back : (Q : Epr → Option Epr → Type 0) (q : Option Request) (k : List Seating) (z : Option Epr) (g : Moving Transaction) → LikeMoving Q q k z g → Like Q q k z (until_rolled_back g)
 rolled_back Q q k z g h = either_left (Like Q q k z) (list_any (in_state states.Aborting) g.item.seats) (stays g) (forgotten g) h (h.0, tt)
 
-abort_like : (Q : Epr → Option Epr → Type 0) (q : Option Request) (k : ℕ) (z : Bool) (m : Moment) (reason : Reason) (g : Moving Transaction) → LikeMoving Q q k z g
+abort_like : (Q : Epr → Option Epr → Type 0) (q : Option Request) (k : List Seating) (z : Option Epr) (m : Moment) (reason : Reason) (g : Moving Transaction) → LikeMoving Q q k z g
     → Like Q q k z (abort m reason g)
 unfolding abort
 abort_like Q q k z m reason g (h, (r, l, c)) =
@@ -159,37 +163,37 @@ abort_like Q q k z m reason g (h, (r, l, c)) =
     (posts_like Q q k z (initiator_posts m.base g.item.id notices.Aborted g.item.completion) g4
     (send_like Q q k z m notices.Rollback states.Aborting is_open g3 (
       all_join (IsFine Q) g.posts (links_aborted m.base g.item.id reason g.item.superior) h (links_aborted_fine Q m.base g.item.id reason g.item.superior),
-      (unlinked g.item.superior ∙ r, l, completed_none g.item.completion ∙ c),
+      (unlinked g.item.superior ∙ r, l, completed_initiator g.item.completion ∙ c),
     ))
     (initiator_fine Q m.base g.item.id notices.Aborted g.item.completion))
 
-commit_like : (Q : Epr → Option Epr → Type 0) (q : Option Request) (k : ℕ) (z : Bool) (m : Moment) (g : Moving Transaction) → LikeMoving Q q k z g
+commit_like : (Q : Epr → Option Epr → Type 0) (q : Option Request) (k : List Seating) (z : Option Epr) (m : Moment) (g : Moving Transaction) → LikeMoving Q q k z g
     → LikeMoving Q q k z (commit_seats m g)
 commit_like Q q k z m g h = send_like Q q k z m notices.Commit states.Committing (in_state states.Prepared) g h
 
-decided_like : (Q : Epr → Option Epr → Type 0) (q : Option Request) (k : ℕ) (z : Bool) (m : Moment) (g : Moving Transaction) → LikeMoving Q q k z g → LikeMoving Q q k z (decided m g)
+decided_like : (Q : Epr → Option Epr → Type 0) (q : Option Request) (k : List Seating) (z : Option Epr) (m : Moment) (g : Moving Transaction) → LikeMoving Q q k z g → LikeMoving Q q k z (decided m g)
 unfolding decided
 decided_like Q q k z m g (h, i) =
     let (ps, (r, l, c)) = commit_like Q q k z m g (h, i) in
     let g2 : Moving Transaction = commit_seats m (effect (ending g.item endings.Committed) g) in (
       all_join (IsFine Q) g2.posts (initiator_posts m.base g.item.id notices.Committed g.item.completion) ps (initiator_fine Q m.base g.item.id notices.Committed g.item.completion),
-      (r, l, completed_none g.item.completion ∙ c),
+      (r, l, completed_initiator g.item.completion ∙ c),
     )
 
-root_like : (Q : Epr → Option Epr → Type 0) (q : Option Request) (k : ℕ) (z : Bool) (m : Moment) (g : Moving Transaction) → LikeMoving Q q k z g → AreLike Q q k z (root_answered m g)
+root_like : (Q : Epr → Option Epr → Type 0) (q : Option Request) (k : List Seating) (z : Option Epr) (m : Moment) (g : Moving Transaction) → LikeMoving Q q k z g → AreLike Q q k z (root_answered m g)
 unfolding root_answered
 root_like Q q k z m g h =
     either Q q k z (list_any is_prepared_durable g.item.seats)
     (Records (records.Decided g.item.id (prepared g.item.seats)) (stays (decided m g)) (Some (abort m Alone g))) (Goes (forgotten (decided m g)))
     (record { entry = tt; landed = decided_like Q q k z m g h; otherwise = abort_like Q q k z m Alone g h }) ((decided_like Q q k z m g h).0, tt)
 
-voted_like : (Q : Epr → Option Epr → Type 0) (q : Option Request) (k : ℕ) (z : Bool) (m : Moment) (s : Superior) (g : Moving Transaction) → s.request ≡ q → LikeMoving Q q k z g
+voted_like : (Q : Epr → Option Epr → Type 0) (q : Option Request) (k : List Seating) (z : Option Epr) (m : Moment) (s : Superior) (g : Moving Transaction) → s.request ≡ q → LikeMoving Q q k z g
     → LikeMoving Q q k z (voted m s g)
 unfolding voted
 voted_like Q q k z m s g e (h, (r, l, c)) =
     (all_join (IsFine Q) g.posts (upwards m.base g.item.id kinds.Durable notices.Prepared s.durable) h (upwards_fine Q m.base g.item.id kinds.Durable notices.Prepared s.durable), (e, l, c))
 
-sub_like : (Q : Epr → Option Epr → Type 0) (q : Option Request) (k : ℕ) (z : Bool) (m : Moment) (s : Superior) (superior : Option Epr) (g : Moving Transaction) → s.request ≡ q
+sub_like : (Q : Epr → Option Epr → Type 0) (q : Option Request) (k : List Seating) (z : Option Epr) (m : Moment) (s : Superior) (superior : Option Epr) (g : Moving Transaction) → s.request ≡ q
     → LikeMoving Q q k z g → AreLike Q q k z (sub_answered m s superior g)
 unfolding sub_answered
 sub_like Q q k z m s None g e h = abort_like Q q k z m Alone g h
@@ -200,24 +204,24 @@ sub_like Q q k z m s (Some superior) g e h =
     (record { entry = tt; landed = voted_like Q q k z m s g e h; otherwise = abort_like Q q k z m Alone g h })
     (all_join (IsFine Q) g.posts (upwards m.base g.item.id kinds.Durable notices.ReadOnly s.durable) h.0 (upwards_fine Q m.base g.item.id kinds.Durable notices.ReadOnly s.durable), tt)
 
-durable_like : (Q : Epr → Option Epr → Type 0) (q : Option Request) (k : ℕ) (z : Bool) (m : Moment) (s : Option Superior) (g : Moving Transaction) → request_of s ≡ q
+durable_like : (Q : Epr → Option Epr → Type 0) (q : Option Request) (k : List Seating) (z : Option Epr) (m : Moment) (s : Option Superior) (g : Moving Transaction) → request_of s ≡ q
     → LikeMoving Q q k z g → AreLike Q q k z (durable_answered m s g)
 durable_like Q q k z m None g e h = root_like Q q k z m g h
 durable_like Q q k z m (Some s) g e h = sub_like Q q k z m s s.durable.coordinator g e h
 
-if_durable_like : (Q : Epr → Option Epr → Type 0) (q : Option Request) (k : ℕ) (z : Bool) (m : Moment) (g : Moving Transaction) → LikeMoving Q q k z g
+if_durable_like : (Q : Epr → Option Epr → Type 0) (q : Option Request) (k : List Seating) (z : Option Epr) (m : Moment) (g : Moving Transaction) → LikeMoving Q q k z g
     → AreLike Q q k z (if_durable_answered m g)
 if_durable_like Q q k z m g h =
     either Q q k z (answered kinds.Durable g.item.seats) (durable_answered m g.item.superior g) (Goes (stays g)) (durable_like Q q k z m g.item.superior g h.1.0 h) h
 
-go_durable_like : (Q : Epr → Option Epr → Type 0) (q : Option Request) (k : ℕ) (z : Bool) (m : Moment) (g : Moving Transaction) → LikeMoving Q q k z g
+go_durable_like : (Q : Epr → Option Epr → Type 0) (q : Option Request) (k : List Seating) (z : Option Epr) (m : Moment) (g : Moving Transaction) → LikeMoving Q q k z g
     → AreLike Q q k z (go_durable m g)
 unfolding go_durable
 go_durable_like Q q k z m g h =
     if_durable_like Q q k z m (prepare_seats m kinds.Durable (become (in_phase Phase.Durable g.item) g))
     (send_like Q q k z m notices.Prepare states.Preparing (is_of kinds.Durable states.Active) (become (in_phase Phase.Durable g.item) g) h)
 
-volatile_like : (Q : Epr → Option Epr → Type 0) (q : Option Request) (k : ℕ) (z : Bool) (m : Moment) (s : Option Superior) (g : Moving Transaction) → request_of s ≡ q
+volatile_like : (Q : Epr → Option Epr → Type 0) (q : Option Request) (k : List Seating) (z : Option Epr) (m : Moment) (s : Option Superior) (g : Moving Transaction) → request_of s ≡ q
     → LikeMoving Q q k z g → AreLike Q q k z (volatile_answered m s g)
 unfolding volatile_answered
 volatile_like Q q k z m None g e h = go_durable_like Q q k z m g h
@@ -234,7 +238,7 @@ ended_fine : (Q : Epr → Option Epr → Type 0) (base : List ℕ) (id : Numbers
 ended_fine Q base id None = tt
 ended_fine Q base id (Some s) = upwards_fine Q base id kinds.Durable notices.Committed s.durable
 
-all_committed_like : (Q : Epr → Option Epr → Type 0) (q : Option Request) (k : ℕ) (z : Bool) (m : Moment) (g : Moving Transaction) → LikeMoving Q q k z g
+all_committed_like : (Q : Epr → Option Epr → Type 0) (q : Option Request) (k : List Seating) (z : Option Epr) (m : Moment) (g : Moving Transaction) → LikeMoving Q q k z g
     → AreLike Q q k z (all_committed m g)
 unfolding all_committed
 all_committed_like Q q k z m g h = record {
@@ -243,7 +247,7 @@ all_committed_like Q q k z m g h = record {
   otherwise = tt;
 }
 
-advance_like : (Q : Epr → Option Epr → Type 0) (q : Option Request) (k : ℕ) (z : Bool) (m : Moment) (phase : Phase) (g : Moving Transaction) → LikeMoving Q q k z g
+advance_like : (Q : Epr → Option Epr → Type 0) (q : Option Request) (k : List Seating) (z : Option Epr) (m : Moment) (phase : Phase) (g : Moving Transaction) → LikeMoving Q q k z g
     → AreLike Q q k z (advance_in m phase g)
 unfolding advance_in
 advance_like Q q k z m Phase.Registering g h = h
@@ -256,14 +260,14 @@ advance_like Q q k z m Phase.Committing g h =
     either Q q k z (all_left g.item.seats) (all_committed m g) (Goes (stays g)) (all_committed_like Q q k z m g h) h
 advance_like Q q k z m Phase.Aborting g h = rolled_back Q q k z g h
 
-go_volatile_like : (Q : Epr → Option Epr → Type 0) (q : Option Request) (k : ℕ) (z : Bool) (m : Moment) (g : Moving Transaction) → LikeMoving Q q k z g
+go_volatile_like : (Q : Epr → Option Epr → Type 0) (q : Option Request) (k : List Seating) (z : Option Epr) (m : Moment) (g : Moving Transaction) → LikeMoving Q q k z g
     → AreLike Q q k z (go_volatile m g)
 unfolding go_volatile
 go_volatile_like Q q k z m g h =
     advance_like Q q k z m Phase.Volatile (prepare_seats m kinds.Volatile (become (in_phase Phase.Volatile g.item) g))
     (send_like Q q k z m notices.Prepare states.Preparing (is_of kinds.Volatile states.Active) (become (in_phase Phase.Volatile g.item) g) h)
 
-commit_voted_like : (Q : Epr → Option Epr → Type 0) (q : Option Request) (k : ℕ) (z : Bool) (m : Moment) (s : Superior) (t : Transaction) → s.request ≡ q → IsLike q k z t
+commit_voted_like : (Q : Epr → Option Epr → Type 0) (q : Option Request) (k : List Seating) (z : Option Epr) (m : Moment) (s : Superior) (t : Transaction) → s.request ≡ q → IsLike q k z t
     → AreLike Q q k z (commit_voted m s t)
 unfolding commit_voted
 commit_voted_like Q q k z m s t e (r, l, c) = record {
@@ -273,10 +277,10 @@ commit_voted_like Q q k z m s t e (r, l, c) = record {
   otherwise = tt;
 }
 
-seat_in_like : (q : Option Request) (k : ℕ) (z : Bool) (number : ℕ) (state : State) (t : Transaction) → IsLike q k z t → IsLike q k z (seat_in number state t)
-seat_in_like q k z number state t (r, l, c) = (r, moved_length _ state t.seats ∙ l, c)
+seat_in_like : (q : Option Request) (k : List Seating) (z : Option Epr) (number : ℕ) (state : State) (t : Transaction) → IsLike q k z t → IsLike q k z (seat_in number state t)
+seat_in_like q k z number state t (r, l, c) = (r, moved_accepted _ state t.seats ∙ l, c)
 
-seat_act_like : (Q : Epr → Option Epr → Type 0) (q : Option Request) (k : ℕ) (z : Bool) (m : Moment) (i : Option (List ℕ)) (t : Transaction) (s : Enlistment) (act : Act)
+seat_act_like : (Q : Epr → Option Epr → Type 0) (q : Option Request) (k : List Seating) (z : Option Epr) (m : Moment) (i : Option (List ℕ)) (t : Transaction) (s : Enlistment) (act : Act)
     → IsLike q k z t → AreLike Q q k z (seat_act m i t s act)
 unfolding seat_act
 seat_act_like Q q k z m i t s acts.Ignore h = (tt, h)
@@ -304,19 +308,19 @@ seat_act_like Q q k z m i t s acts.Complete h = (tt, h)
 seat_act_like Q q k z m i t s acts.TellCommitted h = (tt, h)
 seat_act_like Q q k z m i t s acts.TellAborted h = (tt, h)
 
-seat_notice_like : (Q : Epr → Option Epr → Type 0) (q : Option Request) (k : ℕ) (z : Bool) (m : Moment) (i : Option (List ℕ)) (t : Transaction) (s : Enlistment) (c : Option Cell)
+seat_notice_like : (Q : Epr → Option Epr → Type 0) (q : Option Request) (k : List Seating) (z : Option Epr) (m : Moment) (i : Option (List ℕ)) (t : Transaction) (s : Enlistment) (c : Option Cell)
     → IsLike q k z t → AreLike Q q k z (seat_notice m i t s c)
 unfolding seat_notice
 seat_notice_like Q q k z m i t s None h = (tt, h)
 seat_notice_like Q q k z m i t s (Some c) h = seat_act_like Q q k z m i t s c.act h
 
-pub seat_like : (Q : Epr → Option Epr → Type 0) (q : Option Request) (k : ℕ) (z : Bool) (m : Moment) (a : Arrived) (t : Transaction) (s : Enlistment) (x : Message)
+pub seat_like : (Q : Epr → Option Epr → Type 0) (q : Option Request) (k : List Seating) (z : Option Epr) (m : Moment) (a : Arrived) (t : Transaction) (s : Enlistment) (x : Message)
     → IsLike q k z t → AreLike Q q k z (on_seat m a t s x)
 unfolding on_seat
 seat_like Q q k z m a t s (messages.Notice n) h = seat_notice_like Q q k z m a.id t s (coordinator_of s.kind s.state n) h
 seat_like Q q k z m a t s other h = (tt, h)
 
-link_act_like : (Q : Epr → Option Epr → Type 0) (q : Option Request) (k : ℕ) (z : Bool) (m : Moment) (from : Option Epr) (i : Option (List ℕ)) (kind : Kind) (s : Superior)
+link_act_like : (Q : Epr → Option Epr → Type 0) (q : Option Request) (k : List Seating) (z : Option Epr) (m : Moment) (from : Option Epr) (i : Option (List ℕ)) (kind : Kind) (s : Superior)
     (t : Transaction) (act : Act) → s.request ≡ q → IsLike q k z t → AreLike Q q k z (link_act m from i kind s t act)
 unfolding link_act
 link_act_like Q q k z m from i kind s t acts.Ignore e h = (tt, h)
@@ -346,13 +350,13 @@ link_act_like Q q k z m from i kind s t acts.Complete e h = (tt, h)
 link_act_like Q q k z m from i kind s t acts.TellCommitted e h = (tt, h)
 link_act_like Q q k z m from i kind s t acts.TellAborted e h = (tt, h)
 
-link_notice_like : (Q : Epr → Option Epr → Type 0) (q : Option Request) (k : ℕ) (z : Bool) (m : Moment) (from : Option Epr) (i : Option (List ℕ)) (kind : Kind) (s : Superior)
+link_notice_like : (Q : Epr → Option Epr → Type 0) (q : Option Request) (k : List Seating) (z : Option Epr) (m : Moment) (from : Option Epr) (i : Option (List ℕ)) (kind : Kind) (s : Superior)
     (t : Transaction) (c : Option Cell) → s.request ≡ q → IsLike q k z t → AreLike Q q k z (link_notice m from i kind s t c)
 unfolding link_notice
 link_notice_like Q q k z m from i kind s t None e h = (tt, h)
 link_notice_like Q q k z m from i kind s t (Some c) e h = link_act_like Q q k z m from i kind s t c.act e h
 
-link_registered_like : (Q : Epr → Option Epr → Type 0) (q : Option Request) (k : ℕ) (z : Bool) (m : Moment) (relates : Option (List ℕ)) (coordinator : Epr) (kind : Kind)
+link_registered_like : (Q : Epr → Option Epr → Type 0) (q : Option Request) (k : List Seating) (z : Option Epr) (m : Moment) (relates : Option (List ℕ)) (coordinator : Epr) (kind : Kind)
     (s : Superior) (t : Transaction) → s.request ≡ q → IsLike q k z t → AreLike Q q k z (link_registered m relates coordinator kind s t)
 unfolding link_registered
 link_registered_like Q q k z m relates coordinator kind s t e (r, l, c) =
@@ -360,13 +364,13 @@ link_registered_like Q q k z m relates coordinator kind s t e (r, l, c) =
     either Q q k z _ (Goes (stays (begin (record t { superior = Some after; phase = registered after t.phase })))) (ignored t)
     (tt, (set_link_request kind (record { state = states.Active; coordinator = Some coordinator }) s ∙ e, l, c)) (tt, (r, l, c))
 
-link_fault_like : (Q : Epr → Option Epr → Type 0) (q : Option Request) (k : ℕ) (z : Bool) (m : Moment) (relates : Option (List ℕ)) (kind : Kind) (s : Superior) (t : Transaction)
+link_fault_like : (Q : Epr → Option Epr → Type 0) (q : Option Request) (k : List Seating) (z : Option Epr) (m : Moment) (relates : Option (List ℕ)) (kind : Kind) (s : Superior) (t : Transaction)
     → IsLike q k z t → AreLike Q q k z (link_fault m relates kind s t)
 unfolding link_fault
 link_fault_like Q q k z m relates kind s t h =
     either Q q k z _ (Goes (abort m Alone (begin t))) (ignored t) (abort_like Q q k z m Alone (begin t) (tt, h)) (tt, h)
 
-pub link_like : (Q : Epr → Option Epr → Type 0) (q : Option Request) (k : ℕ) (z : Bool) (m : Moment) (a : Arrived) (kind : Kind) (t : Transaction) (s : Superior) (x : Message)
+pub link_like : (Q : Epr → Option Epr → Type 0) (q : Option Request) (k : List Seating) (z : Option Epr) (m : Moment) (a : Arrived) (kind : Kind) (t : Transaction) (s : Superior) (x : Message)
     → s.request ≡ q → IsLike q k z t → AreLike Q q k z (on_link m a kind t s x)
 unfolding on_link
 link_like Q q k z m a kind t s (messages.Notice n) e h = link_notice_like Q q k z m a.from a.id kind s t (participant_of kind (link_of kind s).state n) e h
@@ -374,8 +378,8 @@ link_like Q q k z m a kind t s (messages.RegisterResponse coordinator) e h = lin
 link_like Q q k z m a kind t s (messages.Fault name) e h = link_fault_like Q q k z m a.relates kind s t h
 link_like Q q k z m a kind t s other e h = (tt, h)
 
-completion_act_like : (Q : Epr → Option Epr → Type 0) (q : Option Request) (k : ℕ) (z : Bool) (m : Moment) (i : Option (List ℕ)) (c : Completion) (t : Transaction) (act : Act)
-    → false ≡ z → IsLike q k z t → AreLike Q q k z (completion_act m i c t act)
+completion_act_like : (Q : Epr → Option Epr → Type 0) (q : Option Request) (k : List Seating) (z : Option Epr) (m : Moment) (i : Option (List ℕ)) (c : Completion) (t : Transaction) (act : Act)
+    → Some c.initiator ≡ z → IsLike q k z t → AreLike Q q k z (completion_act m i c t act)
 unfolding completion_act
 completion_act_like Q q k z m i c t acts.FaultUnknownTransaction e h = ((tt, tt), h)
 completion_act_like Q q k z m i c t acts.FaultInvalidState e h = ((tt, tt), h)
@@ -384,14 +388,14 @@ completion_act_like Q q k z m i c t acts.Complete e (r, l, n) =
 completion_act_like Q q k z m i c t acts.AbortAndSendAborted e h = abort_like Q q k z m Alone (begin t) (tt, h)
 completion_act_like Q q k z m i c t other e h = (tt, h)
 
-completion_notice_like : (Q : Epr → Option Epr → Type 0) (q : Option Request) (k : ℕ) (z : Bool) (m : Moment) (i : Option (List ℕ)) (c : Completion) (t : Transaction)
-    (cell : Option Cell) → false ≡ z → IsLike q k z t → AreLike Q q k z (completion_notice m i c t cell)
+completion_notice_like : (Q : Epr → Option Epr → Type 0) (q : Option Request) (k : List Seating) (z : Option Epr) (m : Moment) (i : Option (List ℕ)) (c : Completion) (t : Transaction)
+    (cell : Option Cell) → Some c.initiator ≡ z → IsLike q k z t → AreLike Q q k z (completion_notice m i c t cell)
 unfolding completion_notice
 completion_notice_like Q q k z m i c t None e h = (tt, h)
 completion_notice_like Q q k z m i c t (Some cell) e h = completion_act_like Q q k z m i c t cell.act e h
 
-pub completion_like : (Q : Epr → Option Epr → Type 0) (q : Option Request) (k : ℕ) (z : Bool) (m : Moment) (a : Arrived) (t : Transaction) (c : Completion) (x : Message)
-    → false ≡ z → IsLike q k z t → AreLike Q q k z (on_completion m a t c x)
+pub completion_like : (Q : Epr → Option Epr → Type 0) (q : Option Request) (k : List Seating) (z : Option Epr) (m : Moment) (a : Arrived) (t : Transaction) (c : Completion) (x : Message)
+    → Some c.initiator ≡ z → IsLike q k z t → AreLike Q q k z (on_completion m a t c x)
 unfolding on_completion
 completion_like Q q k z m a t c (messages.Notice n) e h = completion_notice_like Q q k z m a.id c t (completion_of c.state n) e h
 completion_like Q q k z m a t c other e h = (tt, h)
@@ -428,7 +432,7 @@ seats_again_fine Q base id [] = tt
 seats_again_fine Q base id (s ∷ ss) =
     all_join (IsFine Q) (seat_again base id s (unanswered_seat s.state)) (seats_again base id ss) (seat_again_fine Q base id s (unanswered_seat s.state)) (seats_again_fine Q base id ss)
 
-pub due_like : (Q : Epr → Option Epr → Type 0) (q : Option Request) (k : ℕ) (z : Bool) (m : Moment) (t : Transaction) (reached : Reached) → IsOwn Q m.base t.id q → IsLike q k z t
+pub due_like : (Q : Epr → Option Epr → Type 0) (q : Option Request) (k : List Seating) (z : Option Epr) (m : Moment) (t : Transaction) (reached : Reached) → IsOwn Q m.base t.id q → IsLike q k z t
     → AreLike Q q k z (transaction_reached m t reached)
 unfolding transaction_reached
 due_like Q q k z m t Expired own h = abort_like Q q k z m Alone (begin t) (tt, h)
@@ -441,14 +445,14 @@ due_like Q q k z m t Unanswered own h = (
 due_like Q q k z m t Nothing own h = (tt, h)
 
 -- with its answer a transaction keeps its request, or has none any more
-abbrev pub IsLeft : Option Request → ℕ → Bool → Option Transaction → Type 0
+abbrev pub IsLeft : Option Request → List Seating → Option Epr → Option Transaction → Type 0
 IsLeft q k z None = Unit {0}
-IsLeft q k z (Some t) = ((request_of t.superior ≡ q) ⊎ (request_of t.superior ≡ None)) × (length t.seats ≡ k) × (is_none t.completion ≡ z)
+IsLeft q k z (Some t) = ((request_of t.superior ≡ q) ⊎ (request_of t.superior ≡ None)) × (map accepted_as t.seats ≡ k) × (option_map initiator_endpoint t.completion ≡ z)
 
-abbrev pub LeftSays : (Epr → Option Epr → Type 0) → Option Request → ℕ → Bool → Change Transaction → Type 0
+abbrev pub LeftSays : (Epr → Option Epr → Type 0) → Option Request → List Seating → Option Epr → Change Transaction → Type 0
 LeftSays Q q k z c = AreFine Q c.posts × IsLeft q k z c.item
 
-like_left : (q : Option Request) (k : ℕ) (z : Bool) (t : Option Transaction) → IsLikeItem q k z t → IsLeft q k z t
+like_left : (q : Option Request) (k : List Seating) (z : Option Epr) (t : Option Transaction) → IsLikeItem q k z t → IsLeft q k z t
 like_left q k z None h = tt
 like_left q k z (Some t) (r, l, c) = (inl r, l, c)
 
@@ -457,7 +461,7 @@ refused_fine Q replies.Anonymous id = tt
 refused_fine Q replies.Nobody id = tt
 refused_fine Q (replies.At to) id = (tt, tt)
 
-stands_left : (Q : Epr → Option Epr → Type 0) (q : Option Request) (k : ℕ) (z : Bool) (m : Moment) (r : Request) (t : Transaction) (s : Superior) (phase : Phase) (c : Change Transaction)
+stands_left : (Q : Epr → Option Epr → Type 0) (q : Option Request) (k : List Seating) (z : Option Epr) (m : Moment) (r : Request) (t : Transaction) (s : Superior) (phase : Phase) (c : Change Transaction)
     → IsLike q k z t → AreFine Q c.posts → IsLikeItem q k z c.item → LeftSays Q q k z (request_stands m r t s phase c)
 stands_left Q q k z m r t s Phase.Aborting c (rq, l, n) ps h = (all_join (IsFine Q) c.posts (refused_request r) ps (refused_fine Q r.fault r.id), (inr refl, l, n))
 stands_left Q q k z m r t s other c (rq, l, n) ps h =
@@ -468,22 +472,22 @@ stands_left Q q k z m r t s other c (rq, l, n) ps h =
       effects = c.effects;
     }) (ps, like_left q k z c.item h) (all_join (IsFine Q) c.posts _ ps (tt, tt), (inr refl, l, n))
 
-under_left : (Q : Epr → Option Epr → Type 0) (q : Option Request) (k : ℕ) (z : Bool) (m : Moment) (r : Request) (t : Transaction) (s : Option Superior) (c : Change Transaction)
+under_left : (Q : Epr → Option Epr → Type 0) (q : Option Request) (k : List Seating) (z : Option Epr) (m : Moment) (r : Request) (t : Transaction) (s : Option Superior) (c : Change Transaction)
     → IsLike q k z t → AreFine Q c.posts → IsLikeItem q k z c.item → LeftSays Q q k z (request_under m r t s c)
 under_left Q q k z m r t None c l ps h = (ps, like_left q k z c.item h)
 under_left Q q k z m r t (Some s) c l ps h = stands_left Q q k z m r t s t.phase c l ps h
 
-request_left_says : (Q : Epr → Option Epr → Type 0) (q : Option Request) (k : ℕ) (z : Bool) (m : Moment) (r : Request) (t : Option Transaction) (c : Change Transaction)
+request_left_says : (Q : Epr → Option Epr → Type 0) (q : Option Request) (k : List Seating) (z : Option Epr) (m : Moment) (r : Request) (t : Option Transaction) (c : Change Transaction)
     → IsLikeItem q k z t → AreFine Q c.posts → IsLikeItem q k z c.item → LeftSays Q q k z (request_left m r t c)
 request_left_says Q q k z m r None c l ps h = (all_join (IsFine Q) c.posts (refused_request r) ps (refused_fine Q r.fault r.id), tt)
 request_left_says Q q k z m r (Some t) c l ps h = under_left Q q k z m r t t.superior c l ps h
 
-answer_left : (Q : Epr → Option Epr → Type 0) (q : Option Request) (k : ℕ) (z : Bool) (m : Moment) (r : Option Request) (c : Change Transaction) → Like Q q k z c
+answer_left : (Q : Epr → Option Epr → Type 0) (q : Option Request) (k : List Seating) (z : Option Epr) (m : Moment) (r : Option Request) (c : Change Transaction) → Like Q q k z c
     → LeftSays Q q k z (answer_request m r c)
 answer_left Q q k z m None c (ps, h) = (ps, like_left q k z c.item h)
 answer_left Q q k z m (Some r) c (ps, h) = request_left_says Q q k z m r c.item c h ps h
 
-pub with_answer_left : (Q : Epr → Option Epr → Type 0) (q : Option Request) (k : ℕ) (z : Bool) (m : Moment) (t : Transaction) (d : Decision Transaction) → AreLike Q q k z d
+pub with_answer_left : (Q : Epr → Option Epr → Type 0) (q : Option Request) (k : List Seating) (z : Option Epr) (m : Moment) (t : Transaction) (d : Decision Transaction) → AreLike Q q k z d
     → DecisionSays (LeftSays Q q k z) Anything (with_answer m t d)
 with_answer_left Q q k z m t (Goes c) h = answer_left Q q k z m (request_of t.superior) c h
 with_answer_left Q q k z m t (Records r c None) h = record { entry = tt; landed = answer_left Q q k z m (request_of t.superior) c h.landed; otherwise = tt }

@@ -14,47 +14,62 @@ use Rattle.at_base.specs.declared.outs.Post.{Post}
 use Rattle.at_base.specs.declared.outs.Out.{Out}
 use Rattle.at_base.specs.declared.outs.Out.TheVariants as outs
 use Rattle.at_model.specs.Book.{Book, last_counter}
-use Rattle.at_model.specs.Recover.{last_incarnation}
+use Rattle.at_model.specs.Recover.{recover, last_incarnation}
 use Rattle.at_model.specs.Step.{Outcome, Plan, still, items_of, plan, is_due, step}
 use Rattle.at_model.specs.World.{Node, Posted, World, WorldEvent, Turn, Ask, Crash, Up, Input, Deliver, Tick, Raw, Turning, nth, put_nth, opening, with_post, decoded, is_stopped, fate, fates_left, one_nearer, after_fate, sent, send_all, accepted_in, happened_at, counted, with_record, landed_step, absent_step, step_by, take_step, due_step, due_steps, put_book, goes_down, lost_in, turned, turn_from, take_turn, ticked, later, answer_plan, arrival_plan, is_receiver, deliver, turn, ask, started, up_after, start, on_book, down_only, at_node, at_some_node, node_of, world_step, run_on}
 use Rattle.model_laws.specs.Agreement.{IsIn}
-use Rattle.model_laws.specs.Drawn.{with_entry}
-use Rattle.model_laws.specs.Order.{IsInOrder, IsInOrderWhileUp}
+use Rattle.model_laws.specs.Behind.{IsInPhase}
+use Rattle.model_laws.specs.Drawn.{restarted, with_entry}
+use Rattle.model_laws.specs.Order.{IsInOrder}
 use Rattle.model_laws.specs.Reached.{Heard, post_all, counts, Reached, opened, stepped, fell, rose, waited, RunsAreReached}
+use Rattle.model_laws.proofs.Deciding.{IfThere}
 use Rattle.model_laws.proofs.Enlisting.{none_new}
 use Rattle.model_laws.proofs.Nodes.{put_put, put_same, each_put, same_bases, bases_back, bases_put, receiver_same, accepted_same}
 use Rattle.model_laws.proofs.Ordering.{ids_rise}
 use Rattle.model_laws.proofs.Running.{put_this, opening_node}
-
--- the lists of each book are in order
-abbrev AreInOrder : World → Type 0
-AreInOrder w = (n : ℕ) (x : Node) → nth n w.nodes ≡ Some x → IsInOrderWhileUp x.book
+use Rattle.model_laws.proofs.Standing.{decides_behind_every_answer}
 
 posted_nodes : (n : ℕ) (ps : List Post) (w : World) → (post_all n ps w).nodes ≡ w.nodes
 posted_nodes n [] w = refl
 posted_nodes n (p ∷ ps) w = posted_nodes n ps (with_post n p w)
 
-in_order : (count : ℕ) (w : World) → Reached count w → AreInOrder w
-in_order count w (opened is) n x found =
-    subst (λ (y : Node). IsInOrderWhileUp y.book) (sym (opening_node count n x (ap (λ (v : World). nth n v.nodes) (sym is) ∙ found))) tt
-in_order count w (stepped u n x b e now landed ps reached found up heard posts is) m y f =
-    each_put (λ k z. IsInOrderWhileUp z.book) u.nodes n x
+-- what a start gives and each step keeps holds of each book
+abbrev pub HoldOfBooks : (Book → Type 0) → World → Type 0
+HoldOfBooks P w = (n : ℕ) (x : Node) → nth n w.nodes ≡ Some x → IfThere P x.book
+
+pub books_hold : (P : Book → Type 0) → ((base : List ℕ) (rs : List Record) → P (recover base (restarted rs))) → ((b : Book) (e : Event) (now : ℕ) (landed : Bool) → P b → P (step b e now landed).book)
+    → (count : ℕ) (w : World) → Reached count w → HoldOfBooks P w
+books_hold P starts stays count w (opened is) n x found =
+    subst (λ (y : Node). IfThere P y.book) (sym (opening_node count n x (ap (λ (v : World). nth n v.nodes) (sym is) ∙ found))) tt
+books_hold P starts stays count w (stepped u n x b e now landed ps reached found up heard posts is) m y f =
+    each_put (λ k z. IfThere P z.book) u.nodes n x
     (record x { book = Some (step b e now landed).book; journal = with_entry (plan b e now).entry landed x.journal }) found
-    (ids_rise.stays b e now landed (subst IsInOrderWhileUp up (in_order count u reached n x found))) (λ k z i r. in_order count u reached k z r) m y
+    (stays b e now landed (subst (IfThere P) up (books_hold P starts stays count u reached n x found))) (λ k z i r. books_hold P starts stays count u reached k z r) m y
     (sym (ap (nth m) (ap (λ (v : World). v.nodes) is ∙ posted_nodes n ps (counts u n x b e now landed))) ∙ f)
-in_order count w (fell u n x b reached found up is) m y f =
-    each_put (λ k z. IsInOrderWhileUp z.book) u.nodes n x (record x { book = None }) found tt (λ k z i r. in_order count u reached k z r) m y
+books_hold P starts stays count w (fell u n x b reached found up is) m y f =
+    each_put (λ k z. IfThere P z.book) u.nodes n x (record x { book = None }) found tt (λ k z i r. books_hold P starts stays count u reached k z r) m y
     (sym (ap (λ (v : World). nth m v.nodes) (is ∙ ap (put_book n None (record u { happened = u.happened ++ lost_in n b })) found)) ∙ f)
-in_order count w (rose u n x stop reached found down small is) m y f =
-    each_put (λ k z. IsInOrderWhileUp z.book) u.nodes n x (up_after (started (last_incarnation x.journal + 1) x) stop) found (by_stop stop) (λ k z i r. in_order count u reached k z r) m y
+books_hold P starts stays count w (rose u n x stop reached found down small is) m y f =
+    each_put (λ k z. IfThere P z.book) u.nodes n x (up_after (started (last_incarnation x.journal + 1) x) stop) found (by_stop stop)
+    (λ k z i r. books_hold P starts stays count u reached k z r) m y
     (sym (ap (λ (v : World). nth m v.nodes) is) ∙ f)
   where
-    by_stop : (s : Bool) → IsInOrderWhileUp (up_after (started (last_incarnation x.journal + 1) x) s).book
+    by_stop : (s : Bool) → IfThere P (up_after (started (last_incarnation x.journal + 1) x) s).book
     by_stop true = tt
-    by_stop false = ids_rise.started x.base x.journal
-in_order count w (waited u n x clock reached found is) m y f =
-    each_put (λ k z. IsInOrderWhileUp z.book) u.nodes n x (record x { clock = clock }) found (in_order count u reached n x found) (λ k z i r. in_order count u reached k z r) m y
+    by_stop false = starts x.base x.journal
+books_hold P starts stays count w (waited u n x clock reached found is) m y f =
+    each_put (λ k z. IfThere P z.book) u.nodes n x (record x { clock = clock }) found (books_hold P starts stays count u reached n x found)
+    (λ k z i r. books_hold P starts stays count u reached k z r) m y
     (sym (ap (λ (v : World). nth m v.nodes) is) ∙ f)
+
+-- the lists of each book are in order
+pub in_order : (count : ℕ) (w : World) → Reached count w → HoldOfBooks IsInOrder w
+in_order count w reached = books_hold IsInOrder ids_rise.started ids_rise.stays count w reached
+
+-- each book stands behind the answers of its phases
+pub in_phase : (count : ℕ) (w : World) → Reached count w → HoldOfBooks IsInPhase w
+in_phase count w reached =
+    books_hold IsInPhase (λ base rs. decides_behind_every_answer.recovered base (restarted rs)) decides_behind_every_answer.book count w reached
 
 -- the world of a turn, in which the node holds the book of the turn
 abbrev newest : ℕ → Node → Turning → World

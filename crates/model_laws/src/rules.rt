@@ -3,7 +3,7 @@
 ghost use Rattle.model_laws.specs.Laws.{StepsAnswerFirst, StepsKeepPlace, RecoversTheLive, IncarnationsRise, MakesUnderTheNextId};
 ghost use Rattle.model_laws.specs.Behind.{DecidesBehindEveryAnswer};
 ghost use Rattle.model_laws.specs.Drawn.{IdsStayDrawn, NoIdMadeTwice};
-ghost use Rattle.model_laws.specs.Enlisted.{EnlistsTheKnown, EnlistsUnderOne};
+ghost use Rattle.model_laws.specs.Enlisted.{EnlistsTheKnown, EnlistsUnderOne, HoldsTheEnlisted};
 ghost use Rattle.model_laws.specs.Links.{LinksFollowPhases};
 ghost use Rattle.model_laws.specs.Order.{IdsRise};
 ghost use Rattle.model_laws.specs.Made.{MakesNoIdTwice};
@@ -114,6 +114,12 @@ pub fn enlists_under_one()
 #[tactic(auto, using(crate::proofs::Enrolled::enlists_the_known))]
 pub fn enlists_the_known()
     ensures { EnlistsTheKnown }
+{}
+
+/// In every run of a world each seat and each completion seat of a book is a registration that was accepted.
+#[tactic(auto, using(crate::proofs::Seating::holds_the_enlisted))]
+pub fn holds_the_enlisted()
+    ensures { HoldsTheEnlisted }
 {}
 
 /// Every run leads to a world that is reached step by step, with each node's newest book.
