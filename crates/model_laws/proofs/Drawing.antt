@@ -36,19 +36,19 @@ activity_moved_kept b now a d (activity_when_due is) = subst (ActivityKept a) (s
 activity_moved_kept b now a d (works url kind vote key value is) = subst (ActivityKept a) (sym is) (asks_kept (moment_of b now) url kind vote key value a a.context)
 activity_moved_kept b now a d (completes n is) = subst (ActivityKept a) (sym is) (completes_kept (moment_of b now) n a)
 
--- a book of which each item's id has one property, and each activity's root another
-pub record Holds (P R : Numbers → Type 0) (b : Book) : Type 0 where
-  pub transactions : AllByRecursion (λ t. P t.id) b.transactions
-  pub leaves : AllByRecursion (λ l. P l.id) b.leaves
-  pub activities : AllByRecursion (λ a. P a.id) b.activities
+-- a book of which the ids of each list have a property, and each activity's root has one
+pub record Holds (T L A R : Numbers → Type 0) (b : Book) : Type 0 where
+  pub transactions : AllByRecursion (λ t. T t.id) b.transactions
+  pub leaves : AllByRecursion (λ l. L l.id) b.leaves
+  pub activities : AllByRecursion (λ a. A a.id) b.activities
   pub roots : AllByRecursion (λ a. R a.root) b.activities
 
 -- What a step leaves: ids that were there, or one item more, under the next id.
-pub data Leaves (P R : Numbers → Type 0) (b : Book) (now : ℕ) (o : Outcome) : Type 0 where
-  as_before : Holds P R o.book → Leaves P R b now o
-  one_transaction : (id : Numbers) (t : Transaction) → next_id b ≡ Some id → t.id ≡ id → o.book ≡ make_transaction (at_time now b) t → Leaves P R b now o
-  one_leaf : (id : Numbers) (l : Leaf) → next_id b ≡ Some id → l.id ≡ id → o.book ≡ make_leaf (at_time now b) l → Leaves P R b now o
-  one_activity : (id : Numbers) (a : Activity) → next_id b ≡ Some id → a.id ≡ id → (a.root ≡ id) ⊎ R a.root → o.book ≡ make_activity (at_time now b) a → Leaves P R b now o
+pub data Leaves (T L A R : Numbers → Type 0) (b : Book) (now : ℕ) (o : Outcome) : Type 0 where
+  as_before : Holds T L A R o.book → Leaves T L A R b now o
+  one_transaction : (id : Numbers) (t : Transaction) → next_id b ≡ Some id → t.id ≡ id → o.book ≡ make_transaction (at_time now b) t → Leaves T L A R b now o
+  one_leaf : (id : Numbers) (l : Leaf) → next_id b ≡ Some id → l.id ≡ id → o.book ≡ make_leaf (at_time now b) l → Leaves T L A R b now o
+  one_activity : (id : Numbers) (a : Activity) → next_id b ≡ Some id → a.id ≡ id → (a.root ≡ id) ⊎ R a.root → o.book ≡ make_activity (at_time now b) a → Leaves T L A R b now o
 
 -- the item that is left has a property of the id that it had
 id_there : (P : Numbers → Type 0) (id : Numbers) (t : Option Transaction) → HasId id t → P id → IfThere (λ x. P x.id) t
@@ -72,30 +72,30 @@ all_put_activities : (P : Activity → Type 0) (id : Numbers) (x : Option Activi
 all_put_activities P id None list h k = all_filter P (λ a. not (is_under id a)) (put_by activity_id id None list) (all_put P activity_id id None list h k)
 all_put_activities P id (Some a) list h k = all_put P activity_id id (Some a) list h k
 
-put_holds : (P R : Numbers → Type 0) (b : Book) (now : ℕ) (id : Numbers) (t : Option Transaction) → Holds P R b → P id → HasId id t
-    → Holds P R (put_transaction id (at_time now b) t)
-put_holds P R b now id t h p k = record {
-  transactions = all_put (λ x. P x.id) transaction_id id t b.transactions (id_there P id t k p) h.transactions;
+put_holds : (T L A R : Numbers → Type 0) (b : Book) (now : ℕ) (id : Numbers) (t : Option Transaction) → Holds T L A R b → T id → HasId id t
+    → Holds T L A R (put_transaction id (at_time now b) t)
+put_holds T L A R b now id t h p k = record {
+  transactions = all_put (λ x. T x.id) transaction_id id t b.transactions (id_there T id t k p) h.transactions;
   leaves = h.leaves;
   activities = h.activities;
   roots = h.roots;
 }
 
-put_leaf_holds : (P R : Numbers → Type 0) (b : Book) (now : ℕ) (id : Numbers) (l : Option Leaf) → Holds P R b → P id → HasLeafId id l
-    → Holds P R (put_leaf id (at_time now b) l)
-put_leaf_holds P R b now id l h p k = record {
+put_leaf_holds : (T L A R : Numbers → Type 0) (b : Book) (now : ℕ) (id : Numbers) (l : Option Leaf) → Holds T L A R b → L id → HasLeafId id l
+    → Holds T L A R (put_leaf id (at_time now b) l)
+put_leaf_holds T L A R b now id l h p k = record {
   transactions = h.transactions;
-  leaves = all_put (λ x. P x.id) leaf_id id l b.leaves (leaf_there P id l k p) h.leaves;
+  leaves = all_put (λ x. L x.id) leaf_id id l b.leaves (leaf_there L id l k p) h.leaves;
   activities = h.activities;
   roots = h.roots;
 }
 
-put_activity_holds : (P R : Numbers → Type 0) (b : Book) (now : ℕ) (a : Activity) (x : Option Activity) → Holds P R b → P a.id → R a.root → HasBoth a x
-    → Holds P R (put_activity a.id (at_time now b) x)
-put_activity_holds P R b now a x h p r k = record {
+put_activity_holds : (T L A R : Numbers → Type 0) (b : Book) (now : ℕ) (a : Activity) (x : Option Activity) → Holds T L A R b → A a.id → R a.root → HasBoth a x
+    → Holds T L A R (put_activity a.id (at_time now b) x)
+put_activity_holds T L A R b now a x h p r k = record {
   transactions = h.transactions;
   leaves = h.leaves;
-  activities = all_put_activities (λ x. P x.id) a.id x b.activities (activity_there P a x k p) h.activities;
+  activities = all_put_activities (λ x. A x.id) a.id x b.activities (activity_there A a x k p) h.activities;
   roots = all_put_activities (λ x. R x.root) a.id x b.activities (root_there R a x k r) h.roots;
 }
 
@@ -114,56 +114,56 @@ interposed_root : (m : Moment) (id : Numbers) (coordinator : List ℕ) (x : Acti
 unfolding on_interpose
 interposed_root m id coordinator x = refl
 
-activity_made_leaves : (P R : Numbers → Type 0) (b : Book) (now : ℕ) (id : Numbers) (a : Activity) (os : List Out) → Holds P R b → next_id b ≡ Some id
-    → MakesActivity b now id a → Leaves P R b now (still (make_activity (at_time now b) a) os)
-activity_made_leaves P R b now id a os h next (begins coordinator ms is) =
+activity_made_leaves : (T L A R : Numbers → Type 0) (b : Book) (now : ℕ) (id : Numbers) (a : Activity) (os : List Out) → Holds T L A R b → next_id b ≡ Some id
+    → MakesActivity b now id a → Leaves T L A R b now (still (make_activity (at_time now b) a) os)
+activity_made_leaves T L A R b now id a os h next (begins coordinator ms is) =
     one_activity id a next (ap (λ x. x.id) is ∙ makes_under_the_next_id.begun (moment_of b now) id coordinator ms)
     (inl (ap (λ x. x.root) is ∙ begun_root (moment_of b now) id coordinator ms)) refl
-activity_made_leaves P R b now id a os h next (interposes coordinator named x found is) =
+activity_made_leaves T L A R b now id a os h next (interposes coordinator named x found is) =
     one_activity id a next (ap (λ x. x.id) is ∙ makes_under_the_next_id.interposed (moment_of b now) id coordinator x.root x.context)
     (inr (subst R (sym (ap (λ x. x.root) is ∙ interposed_root (moment_of b now) id coordinator x))
     (all_find (λ x. R x.root) activity_id named b.activities x h.roots found))) refl
 
-step_leaves : (P R : Numbers → Type 0) (b : Book) (e : Event) (now : ℕ) (p : Plan) → Holds P R b → Shape b e now p → Both (Leaves P R b now) p
-step_leaves P R b e now p h (nothing_moves os o f) = subst (Both (Leaves P R b now)) (sym f) (plain_both (Leaves P R b now) (still b os) (as_before h))
-step_leaves P R b e now p h (time_moves os o f) =
-    subst (Both (Leaves P R b now)) (sym f) (plain_both (Leaves P R b now) (still (at_time now b) os) (as_before (same_holds h)))
+step_leaves : (T L A R : Numbers → Type 0) (b : Book) (e : Event) (now : ℕ) (p : Plan) → Holds T L A R b → Shape b e now p → Both (Leaves T L A R b now) p
+step_leaves T L A R b e now p h (nothing_moves os o f) = subst (Both (Leaves T L A R b now)) (sym f) (plain_both (Leaves T L A R b now) (still b os) (as_before h))
+step_leaves T L A R b e now p h (time_moves os o f) =
+    subst (Both (Leaves T L A R b now)) (sym f) (plain_both (Leaves T L A R b now) (still (at_time now b) os) (as_before (same_holds h)))
   where
-    same_holds : Holds P R b → Holds P R (at_time now b)
+    same_holds : Holds T L A R b → Holds T L A R (at_time now b)
     same_holds h = record { transactions = h.transactions; leaves = h.leaves; activities = h.activities; roots = h.roots }
-step_leaves P R b e now p h (transaction_moves id t answer d stands how o f) =
-    subst (Both (Leaves P R b now)) (sym f)
-    (decided_both (HasId t.id) (Names t.id) (Leaves P R b now) b (put_transaction t.id (at_time now b)) answer (with_answer (moment_of b now) t d)
+step_leaves T L A R b e now p h (transaction_moves id t answer d stands how o f) =
+    subst (Both (Leaves T L A R b now)) (sym f)
+    (decided_both (HasId t.id) (Names t.id) (Leaves T L A R b now) b (put_transaction t.id (at_time now b)) answer (with_answer (moment_of b now) t d)
     (with_answer_kept t.id (moment_of b now) t d (moved_kept b e now t d how))
-    (λ c k. as_before (put_holds P R b now t.id c.item h (all_find (λ x. P x.id) transaction_id id b.transactions t h.transactions stands) k))
+    (λ c k. as_before (put_holds T L A R b now t.id c.item h (all_find (λ x. T x.id) transaction_id id b.transactions t h.transactions stands) k))
     (as_before h))
-step_leaves P R b e now p h (leaf_moves id l answer d stands how o f) =
-    subst (Both (Leaves P R b now)) (sym f)
-    (decided_both (HasLeafId l.id) (NamesLeaf l.id) (Leaves P R b now) b (put_leaf l.id (at_time now b)) answer d (leaf_moved_kept b e now l d how)
-    (λ c k. as_before (put_leaf_holds P R b now l.id c.item h (all_find (λ x. P x.id) leaf_id id b.leaves l h.leaves stands) k))
+step_leaves T L A R b e now p h (leaf_moves id l answer d stands how o f) =
+    subst (Both (Leaves T L A R b now)) (sym f)
+    (decided_both (HasLeafId l.id) (NamesLeaf l.id) (Leaves T L A R b now) b (put_leaf l.id (at_time now b)) answer d (leaf_moved_kept b e now l d how)
+    (λ c k. as_before (put_leaf_holds T L A R b now l.id c.item h (all_find (λ x. L x.id) leaf_id id b.leaves l h.leaves stands) k))
     (as_before h))
-step_leaves P R b e now p h (activity_moves id a answer d stands how o f) =
-    subst (Both (Leaves P R b now)) (sym f)
-    (decided_both (HasBoth a) NoRecord (Leaves P R b now) b (put_activity a.id (at_time now b)) answer d (activity_moved_kept b now a d how)
-    (λ c k. as_before (put_activity_holds P R b now a c.item h
-    (all_find (λ x. P x.id) activity_id id b.activities a h.activities stands) (all_find (λ x. R x.root) activity_id id b.activities a h.roots stands) k))
+step_leaves T L A R b e now p h (activity_moves id a answer d stands how o f) =
+    subst (Both (Leaves T L A R b now)) (sym f)
+    (decided_both (HasBoth a) NoRecord (Leaves T L A R b now) b (put_activity a.id (at_time now b)) answer d (activity_moved_kept b now a d how)
+    (λ c k. as_before (put_activity_holds T L A R b now a c.item h
+    (all_find (λ x. A x.id) activity_id id b.activities a h.activities stands) (all_find (λ x. R x.root) activity_id id b.activities a h.roots stands) k))
     (as_before h))
-step_leaves P R b e now p h (transaction_registers id a r t stands came says o f) =
-    subst (Both (Leaves P R b now)) (sym f)
-    (plain_both (Leaves P R b now) (registration_outcome b now (on_register (moment_of b now) a r t))
-    (as_before (put_holds P R b now (on_register (moment_of b now) a r t).transaction.id (Some (on_register (moment_of b now) a r t).transaction) h
-    (subst P (sym (register_kept t.id (moment_of b now) a r t refl)) (all_find (λ x. P x.id) transaction_id id b.transactions t h.transactions stands)) refl)))
-step_leaves P R b e now p h (transaction_made a c id t os next made o f) =
-    subst (Both (Leaves P R b now)) (sym f)
-    (plain_both (Leaves P R b now) (still (make_transaction (at_time now b) t) os)
+step_leaves T L A R b e now p h (transaction_registers id a r t stands came says o f) =
+    subst (Both (Leaves T L A R b now)) (sym f)
+    (plain_both (Leaves T L A R b now) (registration_outcome b now (on_register (moment_of b now) a r t))
+    (as_before (put_holds T L A R b now (on_register (moment_of b now) a r t).transaction.id (Some (on_register (moment_of b now) a r t).transaction) h
+    (subst T (sym (register_kept t.id (moment_of b now) a r t refl)) (all_find (λ x. T x.id) transaction_id id b.transactions t h.transactions stands)) refl)))
+step_leaves T L A R b e now p h (transaction_made a c id t os next made o f) =
+    subst (Both (Leaves T L A R b now)) (sym f)
+    (plain_both (Leaves T L A R b now) (still (make_transaction (at_time now b) t) os)
     (one_transaction id t next (made_id id _ t (makes_under_the_next_id.transaction (moment_of b now) (length b.transactions) a c id) made) refl))
-step_leaves P R b e now p h (leaf_made a w id l os came says next made o f) =
-    subst (Both (Leaves P R b now)) (sym f)
-    (plain_both (Leaves P R b now) (still (make_leaf (at_time now b) l) os)
+step_leaves T L A R b e now p h (leaf_made a w id l os came says next made o f) =
+    subst (Both (Leaves T L A R b now)) (sym f)
+    (plain_both (Leaves T L A R b now) (still (make_leaf (at_time now b) l) os)
     (one_leaf id l next (made_leaf_id id _ l (makes_under_the_next_id.leaf (moment_of b now) (length b.leaves) a w id) made) refl))
-step_leaves P R b e now p h (activity_made id a os next made o f) =
-    subst (Both (Leaves P R b now)) (sym f)
-    (plain_both (Leaves P R b now) (still (make_activity (at_time now b) a) os) (activity_made_leaves P R b now id a os h next made))
+step_leaves T L A R b e now p h (activity_made id a os next made o f) =
+    subst (Both (Leaves T L A R b now)) (sym f)
+    (plain_both (Leaves T L A R b now) (still (make_activity (at_time now b) a) os) (activity_made_leaves T L A R b now id a os h next made))
 
-pub leaves : (P R : Numbers → Type 0) (b : Book) (e : Event) (now : ℕ) (landed : Bool) → Holds P R b → Leaves P R b now (step b e now landed)
-leaves P R b e now landed h = in_branch (Leaves P R b now) (plan b e now) landed (step_leaves P R b e now (plan b e now) h (steps_touch_one b e now))
+pub leaves : (T L A R : Numbers → Type 0) (b : Book) (e : Event) (now : ℕ) (landed : Bool) → Holds T L A R b → Leaves T L A R b now (step b e now landed)
+leaves T L A R b e now landed h = in_branch (Leaves T L A R b now) (plan b e now) landed (step_leaves T L A R b e now (plan b e now) h (steps_touch_one b e now))

@@ -29,3 +29,4 @@ pub mod Nodes
 pub mod Reaching
 pub mod Holding
 pub mod Seating
+pub mod Sorting

@@ -30,7 +30,7 @@ drawn_on b c k id (inr (e, f)) = inr (omega (arith, e, k.incarnation), omega (ar
 both_drawn : (b : Book) (a : Activity) → IsDrawn b a.id → IsDrawn b a.root → AreDrawn b a
 both_drawn b a h k = record { own = h; root = k }
 
-holds : (b : Book) → HoldsDrawn b → Holds (IsDrawn b) (IsDrawn b) b
+holds : (b : Book) → HoldsDrawn b → Holds (IsDrawn b) (IsDrawn b) (IsDrawn b) (IsDrawn b) b
 holds b h = record {
   transactions = h.transactions;
   leaves = h.leaves;
@@ -38,7 +38,7 @@ holds b h = record {
   roots = all_more (AreDrawn b) (λ a. IsDrawn b a.root) b.activities (λ a k. k.root) h.activities;
 }
 
-held_on : (b c : Book) → KeepsPlace b c → Holds (IsDrawn b) (IsDrawn b) c → HoldsDrawn c
+held_on : (b c : Book) → KeepsPlace b c → Holds (IsDrawn b) (IsDrawn b) (IsDrawn b) (IsDrawn b) c → HoldsDrawn c
 held_on b c k h = record {
   transactions = all_more (λ t. IsDrawn b t.id) (λ t. IsDrawn c t.id) c.transactions (λ t. drawn_on b c k t.id) h.transactions;
   leaves = all_more (λ l. IsDrawn b l.id) (λ l. IsDrawn c l.id) c.leaves (λ l. drawn_on b c k l.id) h.leaves;
@@ -101,7 +101,7 @@ one_activity_drawn b now id a h next same root =
           (both_drawn c a (made_drawn b c refl refl id a.id next same) (root_drawn b c refl refl id a.root next root), tt);
     }
 
-left_drawn : (b : Book) (now : ℕ) (o : Outcome) → KeepsPlace b o.book → HoldsDrawn b → Leaves (IsDrawn b) (IsDrawn b) b now o → HoldsDrawn o.book
+left_drawn : (b : Book) (now : ℕ) (o : Outcome) → KeepsPlace b o.book → HoldsDrawn b → Leaves (IsDrawn b) (IsDrawn b) (IsDrawn b) (IsDrawn b) b now o → HoldsDrawn o.book
 left_drawn b now o k h (as_before i) = held_on b o.book k i
 left_drawn b now o k h (one_transaction id t next same is) = subst HoldsDrawn (sym is) (one_transaction_drawn b now id t h next same)
 left_drawn b now o k h (one_leaf id l next same is) = subst HoldsDrawn (sym is) (one_leaf_drawn b now id l h next same)
@@ -109,7 +109,7 @@ left_drawn b now o k h (one_activity id a next same root is) = subst HoldsDrawn 
 
 pub step_drawn : (b : Book) (e : Event) (now : ℕ) (landed : Bool) → HoldsDrawn b → HoldsDrawn (step b e now landed).book
 step_drawn b e now landed h =
-    left_drawn b now (step b e now landed) (steps_keep_place b e now landed) h (leaves (IsDrawn b) (IsDrawn b) b e now landed (holds b h))
+    left_drawn b now (step b e now landed) (steps_keep_place b e now landed) h (leaves (IsDrawn b) (IsDrawn b) (IsDrawn b) (IsDrawn b) b e now landed (holds b h))
 
 -- what is recorded is about a drawn id
 about_drawn : (b : Book) (id : Numbers) (r : Record) → IsDrawn b id → IsOfTransaction id r → IsDrawnRecord b r
@@ -128,25 +128,39 @@ about_leaf_drawn b id other h k = absurd k
 pub no_entry : (p : Plan) (o : Outcome) (r : Record) → p ≡ plain o → p.entry ≡ Some r → ⊥
 no_entry p o r e f = let g : p.entry ≡ None = ap (λ x. x.entry) e in cc
 
-entry_drawn : (b : Book) (e : Event) (now : ℕ) (p : Plan) (r : Record) → HoldsDrawn b → Shape b e now p → p.entry ≡ Some r → IsDrawnRecord b r
-entry_drawn b e now p r h (nothing_moves os o f) k = absurd (no_entry p _ r f k)
-entry_drawn b e now p r h (time_moves os o f) k = absurd (no_entry p _ r f k)
-entry_drawn b e now p r h (transaction_moves id t answer d stands how o f) k =
-    decided_entry (HasId t.id) (Names t.id) (λ s o. IsDrawnRecord b s) b (put_transaction t.id (at_time now b)) answer (with_answer (moment_of b now) t d) r
+-- what a record is about: a transaction, or a leaf, of the book
+pub data IsAbout (T L : Numbers → Type 0) (r : Record) : Type 0 where
+  about_transaction : (id : Numbers) → T id → IsOfTransaction id r → IsAbout T L r
+  about_leaf : (id : Numbers) → L id → IsOfLeaf id r → IsAbout T L r
+
+shape_about : (T L : Numbers → Type 0) (b : Book) (e : Event) (now : ℕ) (p : Plan) (r : Record) → AllByRecursion (λ t. T t.id) b.transactions → AllByRecursion (λ l. L l.id) b.leaves
+    → Shape b e now p → p.entry ≡ Some r → IsAbout T L r
+shape_about T L b e now p r h i (nothing_moves os o f) k = absurd (no_entry p _ r f k)
+shape_about T L b e now p r h i (time_moves os o f) k = absurd (no_entry p _ r f k)
+shape_about T L b e now p r h i (transaction_moves id t answer d stands how o f) k =
+    decided_entry (HasId t.id) (Names t.id) (λ s o. IsAbout T L s) b (put_transaction t.id (at_time now b)) answer (with_answer (moment_of b now) t d) r
     (with_answer_kept t.id (moment_of b now) t d (moved_kept b e now t d how))
-    (λ s c i j. about_drawn b t.id s (all_find (λ x. IsDrawn b x.id) transaction_id id b.transactions t h.transactions stands) j)
+    (λ s c j m. about_transaction t.id (all_find (λ x. T x.id) transaction_id id b.transactions t h stands) m)
     (sym (ap (λ x. x.entry) f) ∙ k)
-entry_drawn b e now p r h (leaf_moves id l answer d stands how o f) k =
-    decided_entry (HasLeafId l.id) (NamesLeaf l.id) (λ s o. IsDrawnRecord b s) b (put_leaf l.id (at_time now b)) answer d r (leaf_moved_kept b e now l d how)
-    (λ s c i j. about_leaf_drawn b l.id s (all_find (λ x. IsDrawn b x.id) leaf_id id b.leaves l h.leaves stands) j)
+shape_about T L b e now p r h i (leaf_moves id l answer d stands how o f) k =
+    decided_entry (HasLeafId l.id) (NamesLeaf l.id) (λ s o. IsAbout T L s) b (put_leaf l.id (at_time now b)) answer d r (leaf_moved_kept b e now l d how)
+    (λ s c j m. about_leaf l.id (all_find (λ x. L x.id) leaf_id id b.leaves l i stands) m)
     (sym (ap (λ x. x.entry) f) ∙ k)
-entry_drawn b e now p r h (activity_moves id a answer d stands how o f) k =
-    decided_entry (HasBoth a) NoRecord (λ s o. IsDrawnRecord b s) b (put_activity a.id (at_time now b)) answer d r (activity_moved_kept b now a d how)
-    (λ s c i j. absurd j) (sym (ap (λ x. x.entry) f) ∙ k)
-entry_drawn b e now p r h (transaction_registers id a c t stands came says o f) k = absurd (no_entry p _ r f k)
-entry_drawn b e now p r h (transaction_made a c id t os next made o f) k = absurd (no_entry p _ r f k)
-entry_drawn b e now p r h (leaf_made a w id l os came says next made o f) k = absurd (no_entry p _ r f k)
-entry_drawn b e now p r h (activity_made id a os next made o f) k = absurd (no_entry p _ r f k)
+shape_about T L b e now p r h i (activity_moves id a answer d stands how o f) k =
+    decided_entry (HasBoth a) NoRecord (λ s o. IsAbout T L s) b (put_activity a.id (at_time now b)) answer d r (activity_moved_kept b now a d how)
+    (λ s c j m. absurd m) (sym (ap (λ x. x.entry) f) ∙ k)
+shape_about T L b e now p r h i (transaction_registers id a c t stands came says o f) k = absurd (no_entry p _ r f k)
+shape_about T L b e now p r h i (transaction_made a c id t os next made o f) k = absurd (no_entry p _ r f k)
+shape_about T L b e now p r h i (leaf_made a w id l os came says next made o f) k = absurd (no_entry p _ r f k)
+shape_about T L b e now p r h i (activity_made id a os next made o f) k = absurd (no_entry p _ r f k)
+
+pub entry_about : (T L : Numbers → Type 0) (b : Book) (e : Event) (now : ℕ) (r : Record) → AllByRecursion (λ t. T t.id) b.transactions → AllByRecursion (λ l. L l.id) b.leaves
+    → (plan b e now).entry ≡ Some r → IsAbout T L r
+entry_about T L b e now r h i k = shape_about T L b e now (plan b e now) r h i (steps_touch_one b e now) k
+
+about_is_drawn : (b : Book) (r : Record) → IsAbout (IsDrawn b) (IsDrawn b) r → IsDrawnRecord b r
+about_is_drawn b r (about_transaction id h k) = about_drawn b id r h k
+about_is_drawn b r (about_leaf id h k) = about_leaf_drawn b id r h k
 
 -- recovery: what a list keeps while its records are chosen and put in order
 pub all_live : (P : Record → Type 0) (rs : List Record) → ((id : Numbers) (superior : Epr) (seats : List Seated) → P (records.Voted id superior seats) → P (records.SubCommitted id))
@@ -281,7 +295,7 @@ journal_drawn base rs =
 pub ids_stay_drawn : IdsStayDrawn
 ids_stay_drawn = record {
   book = step_drawn;
-  entry = λ b e now r h k. entry_drawn b e now (plan b e now) r h (steps_touch_one b e now) k;
+  entry = λ b e now r h k. about_is_drawn b r (entry_about (IsDrawn b) (IsDrawn b) b e now r h.transactions h.leaves k);
   stays = λ b e now landed id h. drawn_on b (step b e now landed).book (steps_keep_place b e now landed) id h;
   recovered = recovered_drawn;
   journal = journal_drawn;

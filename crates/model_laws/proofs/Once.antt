@@ -54,7 +54,10 @@ all_among key ids (x ∷ xs) f = (
   all_among key ids xs (λ i h. f i (or_right (is_id i (key x)) (is_among (map key xs) i) h)),
 )
 
-pub held_all : (b : Book) → Holds (λ i. is_among (ids_of b) i ≡ true) (λ i. Unit {0}) b
+abbrev pub IsHeld : Book → Numbers → Type 0
+IsHeld b i = is_among (ids_of b) i ≡ true
+
+pub held_all : (b : Book) → Holds (IsHeld b) (IsHeld b) (IsHeld b) (λ i. Unit {0}) b
 held_all b = record {
   transactions = all_among transaction_id (ids_of b) b.transactions (in_front (map transaction_id b.transactions) (map leaf_id b.leaves ++ map activity_id b.activities));
   leaves = all_among leaf_id (ids_of b) b.leaves (λ i h.
@@ -136,7 +139,7 @@ one_behind b key id x [] same h =
 one_behind b key id x (y ∷ ys) same (h, k) =
     passes id (key y) (fresh (ids_of b) (map key (ys ++ x ∷ []))) (is_among (ids_of b) (key y)) h (one_behind b key id x ys same k)
 
-pub all_none : (b c : Book) → Holds (λ i. is_among (ids_of b) i ≡ true) (λ i. Unit {0}) c → new_ids b c ≡ []
+pub all_none : (b c : Book) → Holds (IsHeld b) (IsHeld b) (IsHeld b) (λ i. Unit {0}) c → new_ids b c ≡ []
 all_none b c h =
     parted b c ∙ nothing (fresh (ids_of b) (map transaction_id c.transactions)) (fresh (ids_of b) (map leaf_id c.leaves)) (fresh (ids_of b) (map activity_id c.activities))
     (none_of b transaction_id c.transactions h.transactions) (none_of b leaf_id c.leaves h.leaves) (none_of b activity_id c.activities h.activities)
@@ -152,10 +155,10 @@ one_last : (id : Numbers) (xs ys zs : List Numbers) → xs ≡ [] → ys ≡ [] 
 one_last id xs ys zs e f (nothing_made g) = nothing_made (rw (e, f, g) refl)
 one_last id xs ys zs e f (one_made g) = one_made (rw (e, f, g) refl)
 
-left_makes : (b : Book) (now : ℕ) (o : Outcome) → Leaves (λ i. is_among (ids_of b) i ≡ true) (λ i. Unit {0}) b now o → Makes b o.book
+left_makes : (b : Book) (now : ℕ) (o : Outcome) → Leaves (IsHeld b) (IsHeld b) (IsHeld b) (λ i. Unit {0}) b now o → Makes b o.book
 left_makes b now o (as_before h) = makes_none (all_none b o.book h)
 left_makes b now o (one_transaction id t next same is) =
-    let h : Holds (λ i. is_among (ids_of b) i ≡ true) (λ i. Unit {0}) b = held_all b in
+    let h : Holds (IsHeld b) (IsHeld b) (IsHeld b) (λ i. Unit {0}) b = held_all b in
     let c : Book = make_transaction (at_time now b) t in
     subst (Makes b) (sym is)
     (makes_at_most b c id next (made_drawn b c refl refl id id next refl)
@@ -163,7 +166,7 @@ left_makes b now o (one_transaction id t next same is) =
     (one_first id _ _ _ (one_behind b transaction_id id t b.transactions same h.transactions)
     (none_of b leaf_id b.leaves h.leaves) (none_of b activity_id b.activities h.activities))))
 left_makes b now o (one_leaf id l next same is) =
-    let h : Holds (λ i. is_among (ids_of b) i ≡ true) (λ i. Unit {0}) b = held_all b in
+    let h : Holds (IsHeld b) (IsHeld b) (IsHeld b) (λ i. Unit {0}) b = held_all b in
     let c : Book = make_leaf (at_time now b) l in
     subst (Makes b) (sym is)
     (makes_at_most b c id next (made_drawn b c refl refl id id next refl)
@@ -171,7 +174,7 @@ left_makes b now o (one_leaf id l next same is) =
     (one_between id _ _ _ (none_of b transaction_id b.transactions h.transactions)
     (one_behind b leaf_id id l b.leaves same h.leaves) (none_of b activity_id b.activities h.activities))))
 left_makes b now o (one_activity id a next same root is) =
-    let h : Holds (λ i. is_among (ids_of b) i ≡ true) (λ i. Unit {0}) b = held_all b in
+    let h : Holds (IsHeld b) (IsHeld b) (IsHeld b) (λ i. Unit {0}) b = held_all b in
     let c : Book = make_activity (at_time now b) a in
     subst (Makes b) (sym is)
     (makes_at_most b c id next (made_drawn b c refl refl id id next refl)
@@ -181,7 +184,7 @@ left_makes b now o (one_activity id a next same root is) =
 
 step_makes : (b : Book) (e : Event) (now : ℕ) (landed : Bool) → Makes b (step b e now landed).book
 step_makes b e now landed =
-    left_makes b now (step b e now landed) (leaves (λ i. is_among (ids_of b) i ≡ true) (λ i. Unit {0}) b e now landed (held_all b))
+    left_makes b now (step b e now landed) (leaves (IsHeld b) (IsHeld b) (IsHeld b) (λ i. Unit {0}) b e now landed (held_all b))
 
 -- Lives. What was made is spent: no id that is made later is one of them.
 abbrev life : List Record → Option Book → Life

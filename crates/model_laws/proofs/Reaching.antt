@@ -1,5 +1,5 @@
 -- Every run leads to a world that is reached step by step.
-use Rattle.std.specs.Prelude.{ℕ, List, [], ◌∷◌, ◌++◌, Option, Some, None, Bool, true, false, nat_eq, nat_lt, ◌&&◌, ◌+◌, ◌-◌, if◌then◌else◌, map, ◌≡◌, refl}
+use Rattle.std.specs.Prelude.{ℕ, List, [], ◌∷◌, ◌++◌, Option, Some, None, Bool, true, false, nat_eq, nat_lt, ◌&&◌, ◌+◌, ◌-◌, if◌then◌else◌, map, ◌≡◌, ◌<◌, refl}
 use Rattle.std.specs.List.{AllByRecursion}
 use Rattle.std.proofs.Common.{inl, inr, sym, subst, ap, ◌∙◌}
 use Rattle.std.proofs.lemmas.Bool.{eqb-true, ltb-true}
@@ -33,43 +33,63 @@ posted_nodes : (n : ℕ) (ps : List Post) (w : World) → (post_all n ps w).node
 posted_nodes n [] w = refl
 posted_nodes n (p ∷ ps) w = posted_nodes n ps (with_post n p w)
 
--- what a start gives and each step keeps holds of each book
-abbrev pub HoldOfBooks : (Book → Type 0) → World → Type 0
-HoldOfBooks P w = (n : ℕ) (x : Node) → nth n w.nodes ≡ Some x → IfThere P x.book
+-- what holds of a node's records and its book, while it is up: an empty journal, a step, a fall, and a start
+pub record NodeLaw : Type 1 where
+  pub Good : List Record → Option Book → Type 0
+  pub opens : Good [] None
+  pub steps : (rs : List Record) (b : Book) (e : Event) (now : ℕ) (landed : Bool) → Good rs (Some b) → Good (with_entry (plan b e now).entry landed rs) (Some (step b e now landed).book)
+  pub falls : (rs : List Record) (b : Book) → Good rs (Some b) → Good rs None
+  pub rises : (base : List ℕ) (rs : List Record) → last_incarnation rs < last_counter → Good rs None → Good (restarted rs) (Some (recover base (restarted rs)))
 
-pub books_hold : (P : Book → Type 0) → ((base : List ℕ) (rs : List Record) → P (recover base (restarted rs))) → ((b : Book) (e : Event) (now : ℕ) (landed : Bool) → P b → P (step b e now landed).book)
-    → (count : ℕ) (w : World) → Reached count w → HoldOfBooks P w
-books_hold P starts stays count w (opened is) n x found =
-    subst (λ (y : Node). IfThere P y.book) (sym (opening_node count n x (ap (λ (v : World). nth n v.nodes) (sym is) ∙ found))) tt
-books_hold P starts stays count w (stepped u n x b e now landed ps reached found up heard posts is) m y f =
-    each_put (λ k z. IfThere P z.book) u.nodes n x
+pub nodes_hold : (l : NodeLaw) (count : ℕ) (w : World) → Reached count w → (n : ℕ) (x : Node) → nth n w.nodes ≡ Some x → l.Good x.journal x.book
+nodes_hold l count w (opened is) n x found =
+    subst (λ (y : Node). l.Good y.journal y.book) (sym (opening_node count n x (ap (λ (v : World). nth n v.nodes) (sym is) ∙ found))) l.opens
+nodes_hold l count w (stepped u n x b e now landed ps reached found up heard posts is) m y f =
+    each_put (λ k z. l.Good z.journal z.book) u.nodes n x
     (record x { book = Some (step b e now landed).book; journal = with_entry (plan b e now).entry landed x.journal }) found
-    (stays b e now landed (subst (IfThere P) up (books_hold P starts stays count u reached n x found))) (λ k z i r. books_hold P starts stays count u reached k z r) m y
+    (l.steps x.journal b e now landed (subst (l.Good x.journal) up (nodes_hold l count u reached n x found))) (λ k z i r. nodes_hold l count u reached k z r) m y
     (sym (ap (nth m) (ap (λ (v : World). v.nodes) is ∙ posted_nodes n ps (counts u n x b e now landed))) ∙ f)
-books_hold P starts stays count w (fell u n x b reached found up is) m y f =
-    each_put (λ k z. IfThere P z.book) u.nodes n x (record x { book = None }) found tt (λ k z i r. books_hold P starts stays count u reached k z r) m y
+nodes_hold l count w (fell u n x b reached found up is) m y f =
+    each_put (λ k z. l.Good z.journal z.book) u.nodes n x (record x { book = None }) found
+    (l.falls x.journal b (subst (l.Good x.journal) up (nodes_hold l count u reached n x found))) (λ k z i r. nodes_hold l count u reached k z r) m y
     (sym (ap (λ (v : World). nth m v.nodes) (is ∙ ap (put_book n None (record u { happened = u.happened ++ lost_in n b })) found)) ∙ f)
-books_hold P starts stays count w (rose u n x stop reached found down small is) m y f =
-    each_put (λ k z. IfThere P z.book) u.nodes n x (up_after (started (last_incarnation x.journal + 1) x) stop) found (by_stop stop)
-    (λ k z i r. books_hold P starts stays count u reached k z r) m y
+nodes_hold l count w (rose u n x stop reached found down small is) m y f =
+    each_put (λ k z. l.Good z.journal z.book) u.nodes n x (up_after (started (last_incarnation x.journal + 1) x) stop) found
+    (by_stop stop (risen x.book refl down (nodes_hold l count u reached n x found))) (λ k z i r. nodes_hold l count u reached k z r) m y
     (sym (ap (λ (v : World). nth m v.nodes) is) ∙ f)
   where
-    by_stop : (s : Bool) → IfThere P (up_after (started (last_incarnation x.journal + 1) x) s).book
-    by_stop true = tt
-    by_stop false = starts x.base x.journal
-books_hold P starts stays count w (waited u n x clock reached found is) m y f =
-    each_put (λ k z. IfThere P z.book) u.nodes n x (record x { clock = clock }) found (books_hold P starts stays count u reached n x found)
-    (λ k z i r. books_hold P starts stays count u reached k z r) m y
+    risen : (o : Option Book) → x.book ≡ o → o ≡ None → l.Good x.journal o → l.Good (restarted x.journal) (Some (recover x.base (restarted x.journal)))
+    risen o e d h = l.rises x.base x.journal small (subst (l.Good x.journal) d h)
+
+    by_stop : (s : Bool) → l.Good (restarted x.journal) (Some (recover x.base (restarted x.journal))) → l.Good (restarted x.journal) (up_after (started (last_incarnation x.journal + 1) x) s).book
+    by_stop true h = l.falls (restarted x.journal) (recover x.base (restarted x.journal)) h
+    by_stop false h = h
+nodes_hold l count w (waited u n x clock reached found is) m y f =
+    each_put (λ k z. l.Good z.journal z.book) u.nodes n x (record x { clock = clock }) found (nodes_hold l count u reached n x found)
+    (λ k z i r. nodes_hold l count u reached k z r) m y
     (sym (ap (λ (v : World). nth m v.nodes) is) ∙ f)
 
+-- what a start gives and each step keeps holds of each book
+book_law : (P : Book → Type 0) → ((base : List ℕ) (rs : List Record) → P (recover base (restarted rs))) → ((b : Book) (e : Event) (now : ℕ) (landed : Bool) → P b → P (step b e now landed).book)
+    → NodeLaw
+book_law P starts stays = record {
+  Good = λ rs o. IfThere P o;
+  opens = tt;
+  steps = λ rs b e now landed h. stays b e now landed h;
+  falls = λ rs b h. tt;
+  rises = λ base rs small h. starts base rs;
+}
+
 -- the lists of each book are in order
-pub in_order : (count : ℕ) (w : World) → Reached count w → HoldOfBooks IsInOrder w
-in_order count w reached = books_hold IsInOrder ids_rise.started ids_rise.stays count w reached
+pub in_order : (count : ℕ) (w : World) → Reached count w → (n : ℕ) (x : Node) → nth n w.nodes ≡ Some x → IfThere IsInOrder x.book
+unfolding book_law
+in_order count w reached n x found = nodes_hold (book_law IsInOrder ids_rise.started ids_rise.stays) count w reached n x found
 
 -- each book stands behind the answers of its phases
-pub in_phase : (count : ℕ) (w : World) → Reached count w → HoldOfBooks IsInPhase w
-in_phase count w reached =
-    books_hold IsInPhase (λ base rs. decides_behind_every_answer.recovered base (restarted rs)) decides_behind_every_answer.book count w reached
+pub in_phase : (count : ℕ) (w : World) → Reached count w → (n : ℕ) (x : Node) → nth n w.nodes ≡ Some x → IfThere IsInPhase x.book
+unfolding book_law
+in_phase count w reached n x found =
+    nodes_hold (book_law IsInPhase (λ base rs. decides_behind_every_answer.recovered base (restarted rs)) decides_behind_every_answer.book) count w reached n x found
 
 -- the world of a turn, in which the node holds the book of the turn
 abbrev newest : ℕ → Node → Turning → World

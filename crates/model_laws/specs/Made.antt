@@ -7,7 +7,7 @@ use Rattle.at_base.specs.declared.event.Local.TheVariants as locals
 use Rattle.at_base.specs.declared.event.Event.TheVariants as events
 use Rattle.at_model.specs.Book.{Book}
 use Rattle.at_model.specs.Activities.{on_begin}
-use Rattle.model_laws.specs.Drawn.{LifeEvent, newborn, life_of, made_through, new_ids, AreApart}
+use Rattle.model_laws.specs.Drawn.{LifeEvent, newborn, life_of, made_through, new_ids, AreApart, ids_of}
 use Rattle.model_laws.specs.Order.{IsInOrderWhileUp}
 use Rattle.at_model.specs.Step.{Plan, items_of, plan, request_plan}
 use Rattle.at_model.specs.World.{Node, Posted, World, WorldEvent, Turn, Ask, Crash, Up, Input, Deliver, Tick, Raw, Turning, nth, base_of, opening, take_step, due_step, turn_from, ticked, later, answer_plan, arrival_plan, is_receiver, decoded, node_of, world_step, run_of}
@@ -74,6 +74,10 @@ pub record MakesNoIdTwice : Type 0 where
   pub apart : (count n : ℕ) (es : List WorldEvent) → AreApart (made_on n (opening count) es)
   pub lived : (count n : ℕ) (es : List WorldEvent) (x : Node) → nth n (run_of count es).nodes ≡ Some x → HasLived (base_of n) x (made_on n (opening count) es)
   pub order : (count n : ℕ) (es : List WorldEvent) (x : Node) → nth n (run_of count es).nodes ≡ Some x → IsInOrderWhileUp x.book
+
+-- In every run the ids of one book differ, over all three of its lists.
+abbrev pub HoldsNoIdTwice : Type 0
+HoldsNoIdTwice = (count n : ℕ) (es : List WorldEvent) (x : Node) (b : Book) → nth n (run_of count es).nodes ≡ Some x → x.book ≡ Some b → AreApart (ids_of b)
 
 -- A begun activity on each side of a crash: two ids.
 abbrev pub begins_twice : List WorldEvent

@@ -6,7 +6,7 @@ ghost use Rattle.model_laws.specs.Drawn.{IdsStayDrawn, NoIdMadeTwice};
 ghost use Rattle.model_laws.specs.Enlisted.{EnlistsTheKnown, EnlistsUnderOne, HoldsTheEnlisted};
 ghost use Rattle.model_laws.specs.Links.{LinksFollowPhases};
 ghost use Rattle.model_laws.specs.Order.{IdsRise};
-ghost use Rattle.model_laws.specs.Made.{MakesNoIdTwice};
+ghost use Rattle.model_laws.specs.Made.{HoldsNoIdTwice, MakesNoIdTwice};
 ghost use Rattle.model_laws.specs.Sound.{RecordsAreWellFormed};
 ghost use Rattle.model_laws.specs.Reached.{RunsAreReached};
 ghost use Rattle.model_laws.specs.Rules.{DecidesBehindAnswers, EndsAreUndone, VotesAreRecorded};
@@ -102,6 +102,12 @@ pub fn ids_rise()
 #[tactic(auto, using(crate::proofs::Running::makes_no_id_twice))]
 pub fn makes_no_id_twice()
     ensures { MakesNoIdTwice }
+{}
+
+/// In every run of a world the ids of one book differ, over all three of its lists.
+#[tactic(auto, using(crate::proofs::Sorting::holds_no_id_twice))]
+pub fn holds_no_id_twice()
+    ensures { HoldsNoIdTwice }
 {}
 
 /// In every run of a world an item's registrations are accepted by one transaction.
