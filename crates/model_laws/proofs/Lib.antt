@@ -30,3 +30,4 @@ pub mod Reaching
 pub mod Holding
 pub mod Seating
 pub mod Sorting
+pub mod Compacting

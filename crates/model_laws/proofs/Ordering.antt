@@ -173,14 +173,14 @@ further a b c (inl h) (inr (e, k)) = before_first a c (omega (arith, h, e))
 further a b c (inr (e, h)) (inl k) = before_first a c (omega (arith, e, k))
 further a b c (inr (e, h)) (inr (f, k)) = before_then a c (e ∙ f) (omega (arith, h, k))
 
-before_further : (a b c : Numbers) → is_before a b ≡ true → is_before b c ≡ true → is_before a c ≡ true
+pub before_further : (a b c : Numbers) → is_before a b ≡ true → is_before b c ≡ true → is_before a c ≡ true
 before_further a b c h k = further a b c (before_means a b h) (before_means b c k)
 
 both_at_most : (m n : ℕ) → m ≤ n → n ≤ m → m ≡ n
 both_at_most m n h k = omega (arith, h, k)
 
 -- of two different ids one is before the other
-one_before : (a b : Numbers) → (b ≡ a → ⊥) → is_before b a ≡ false → is_before a b ≡ true
+pub one_before : (a b : Numbers) → (b ≡ a → ⊥) → is_before b a ≡ false → is_before a b ≡ true
 one_before a b differ no_less = by_case (nat_lt b.incarnation a.incarnation) (nat_lt a.incarnation b.incarnation) (nat_lt b.counter a.counter) (nat_lt a.counter b.counter) refl refl refl refl
   where
     both : is_before b a ≡ true → is_before b a ≡ false → ⊥
@@ -383,11 +383,11 @@ due_unrecorded b now (items.Activity id) = activity_case (activity_at b id)
     activity_case (Some a) = activity_unrecorded b now a (activity_due (moment_of b now) a)
 
 -- recovery: each id has one live record at most, and insertion puts different ids in order
-abbrev AreDifferent : {A : Type 0} → (A → Numbers) → List A → Type 0
+abbrev pub AreDifferent : {A : Type 0} → (A → Numbers) → List A → Type 0
 AreDifferent key [] = Unit {0}
 AreDifferent key (x ∷ xs) = AllByRecursion (λ y. key y ≡ key x → ⊥) xs × AreDifferent key xs
 
-insert_rising : {A : Type 0} (key : A → Numbers) (x : A) (ys : List A) → AllByRecursion (λ y. key y ≡ key x → ⊥) ys → AreRising (map key ys) → AreRising (map key (insert_by key x ys))
+pub insert_rising : {A : Type 0} (key : A → Numbers) (x : A) (ys : List A) → AllByRecursion (λ y. key y ≡ key x → ⊥) ys → AreRising (map key ys) → AreRising (map key (insert_by key x ys))
 insert_rising key x [] n h = (tt, tt)
 insert_rising key x (y ∷ ys) (n, ns) (h, k) = by_case (insert_rising key x ys ns k) (is_before (key y) (key x)) refl
   where
@@ -406,7 +406,7 @@ insert_rising key x (y ∷ ys) (n, ns) (h, k) = by_case (insert_rising key x ys 
       (h, k),
     )
 
-in_order_rising : {A : Type 0} (key : A → Numbers) (xs : List A) → AreDifferent key xs → AreRising (map key (in_order key xs))
+pub in_order_rising : {A : Type 0} (key : A → Numbers) (xs : List A) → AreDifferent key xs → AreRising (map key (in_order key xs))
 in_order_rising key [] h = tt
 in_order_rising key (x ∷ xs) (h, k) =
     insert_rising key x (in_order key xs) (all_in_order (λ y. key y ≡ key x → ⊥) key xs h) (in_order_rising key xs k)
@@ -462,7 +462,7 @@ with_commit_passes : (P : List Transaction → Type 0) (base : List ℕ) (id : N
 with_commit_passes P base id rest true h = h
 with_commit_passes P base id rest false h = h
 
-transactions_different : (base : List ℕ) (rs : List Record) → AreDifferent transaction_id (transactions_of base (live rs))
+pub transactions_different : (base : List ℕ) (rs : List Record) → AreDifferent transaction_id (transactions_of base (live rs))
 transactions_different base [] = tt
 transactions_different base (records.Voted i s seats ∷ rest) = by_case (transactions_different base rest) (list_any (ends_transaction i) rest) refl
   where
@@ -498,7 +498,7 @@ leaf_commit_passes : (P : List Leaf → Type 0) (id : Numbers) (rest : List Reco
 leaf_commit_passes P id rest true h = h
 leaf_commit_passes P id rest false h = h
 
-leaves_different : (rs : List Record) → AreDifferent leaf_id (leaves_of (live rs))
+pub leaves_different : (rs : List Record) → AreDifferent leaf_id (leaves_of (live rs))
 leaves_different [] = tt
 leaves_different (records.LeafPrepared i c k v ∷ rest) = by_case (leaves_different rest) (list_any (ends_leaf i) rest) refl
   where

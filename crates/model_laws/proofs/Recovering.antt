@@ -55,7 +55,7 @@ none_both : (a b : Bool) → a ≡ false → b ≡ false → (a || b) ≡ false
 none_both true b e f = absurd cc
 none_both false b e f = f
 
-none_append : (p : Record → Bool) (xs ys : List Record) → list_any p xs ≡ false → list_any p ys ≡ false → list_any p (xs ++ ys) ≡ false
+pub none_append : (p : Record → Bool) (xs ys : List Record) → list_any p xs ≡ false → list_any p ys ≡ false → list_any p (xs ++ ys) ≡ false
 none_append p [] ys e f = f
 none_append p (x ∷ xs) ys e f =
     let (here, rest) = or_false (p x) (list_any p xs) e in

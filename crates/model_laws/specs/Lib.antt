@@ -13,3 +13,4 @@ pub mod Singles
 pub mod Rules
 pub mod Enlisted
 pub mod Reached
+pub mod Compacted

@@ -2,6 +2,7 @@
 
 ghost use Rattle.model_laws.specs.Laws.{StepsAnswerFirst, StepsKeepPlace, RecoversTheLive, IncarnationsRise, MakesUnderTheNextId};
 ghost use Rattle.model_laws.specs.Behind.{DecidesBehindEveryAnswer};
+ghost use Rattle.model_laws.specs.Compacted.{RecoversTheCompacted};
 ghost use Rattle.model_laws.specs.Drawn.{IdsStayDrawn, NoIdMadeTwice};
 ghost use Rattle.model_laws.specs.Enlisted.{EnlistsTheKnown, EnlistsUnderOne, HoldsTheEnlisted};
 ghost use Rattle.model_laws.specs.Links.{LinksFollowPhases};
@@ -34,6 +35,12 @@ pub fn steps_keep_place()
 #[tactic(auto, using(crate::proofs::Recovering::recovers_the_live))]
 pub fn recovers_the_live()
     ensures { RecoversTheLive }
+{}
+
+/// A Start of the last incarnation and the live records by rising id stand for the same book as all records.
+#[tactic(auto, using(crate::proofs::Compacting::recovers_the_compacted))]
+pub fn recovers_the_compacted()
+    ensures { RecoversTheCompacted }
 {}
 
 /// A node's next incarnation is greater than each in its records.
