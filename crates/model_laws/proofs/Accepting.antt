@@ -53,11 +53,11 @@ use Rattle.model_laws.specs.Drawn.{AreDrawn}
 use Rattle.model_laws.specs.Laws.{IsDrawn, HasId, HasLeafId, KeepsPlace}
 use Rattle.model_laws.specs.Order.{IsInOrder}
 use Rattle.model_laws.specs.Shapes.{IsAnswer}
-use Rattle.model_laws.proofs.Deciding.{Both, plain_both, DecisionSays, all_find, all_put, all_join, all_more, all_both, in_branch}
+use Rattle.model_laws.proofs.Deciding.{found_id, Both, plain_both, DecisionSays, all_find, all_put, all_join, all_more, all_both, in_branch}
 use Rattle.model_laws.proofs.Keeping.{HasBoth, Names, NamesLeaf, NoRecord, Kept, LeafKept, ActivityKept, with_answer_kept, seat_kept, link_kept, completion_kept, due_kept, register_kept, leaf_kept, leaf_due_kept, activity_kept, activity_due_kept, asks_kept, completes_kept}
 use Rattle.model_laws.proofs.Making.{makes_under_the_next_id, next_numbers}
 use Rattle.at_base.specs.IdText.{IsId}
-use Rattle.model_laws.proofs.Enlisting.{HasInitiator, Grown, grown_like, none_grown, by_request, transaction_standing, by_work, leaf_standing, Meets, choose, Says, Registers, OutSays, AreOuts, AcceptedBy, Gives, NoRegister, still_gives, time_gives, transaction_gives, leaf_gives, activity_gives, ids_alone, replied_says, faulted_says, outs_more, posts_say, accepted_all, nothing_new, no_completion, dropped, unchanged, none_accepted, others_choose, choose_this, choose_other, choose_keeps, choose_never, choose_small, choose_at, by_request_never, by_work_never, found_id, meets_at}
+use Rattle.model_laws.proofs.Enlisting.{HasInitiator, Grown, grown_like, none_grown, by_request, transaction_standing, by_work, leaf_standing, Meets, choose, Says, Registers, OutSays, AreOuts, AcceptedBy, Gives, NoRegister, still_gives, time_gives, transaction_gives, leaf_gives, activity_gives, ids_alone, replied_says, faulted_says, outs_more, posts_say, accepted_all, nothing_new, no_completion, dropped, unchanged, none_accepted, others_choose, choose_this, choose_other, choose_keeps, choose_never, choose_small, choose_at, by_request_never, by_work_never, meets_at}
 use Rattle.model_laws.proofs.Living.{made_drawn, drawn_on}
 use Rattle.model_laws.proofs.Ordering.{ids_rise}
 use Rattle.model_laws.proofs.Shaping.{steps_keep_place}

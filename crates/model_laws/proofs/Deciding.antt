@@ -3,15 +3,19 @@ use Rattle.std.specs.Prelude.{List, [], ◌∷◌, ◌++◌, Option, Some, None,
 use Rattle.std.specs.List.{AllByRecursion}
 use Rattle.std.proofs.Common.{refl, subst}
 use Rattle.at_base.specs.Numbers.{Numbers}
+use Rattle.at_base.specs.declared.notice.Kind.{Kind}
+use Rattle.at_base.specs.declared.notice.Kind.TheVariants as kinds
 use Rattle.at_base.specs.declared.record.Record.{Record}
 use Rattle.at_base.specs.declared.event.Moment.{Moment}
 use Rattle.at_base.specs.declared.outs.Out.{Out}
 use Rattle.at_base.specs.declared.message.Message.TheVariants as messages
+use Rattle.at_tables.specs.Names.{is_kind}
 use Rattle.at_model.specs.Book.{Book, Transaction, Superior, Request, Phase, find_by, put_by, is_id}
 use Rattle.at_model.specs.Posts.{reply_post}
 use Rattle.at_model.specs.Seats.{under}
 use Rattle.at_model.specs.Arrivals.{is_registering, request_answered, context_of, request_stands, request_under, request_left, answer_request, request_of, with_answer}
 use Rattle.at_model.specs.Moves.{Change, Decision, Goes, Records, in_both}
+use Rattle.model_laws.proofs.Recovering.{same_id}
 use Rattle.at_model.specs.Step.{Outcome, Plan, plain, still, outcome_of, plan_of, branch}
 
 -- one property of both branches of a plan
@@ -214,3 +218,18 @@ left_effects m r (Some t) c = under_effects m r t t.superior c
 pub answer_effects : (m : Moment) (r : Option Request) (c : Change Transaction) → (answer_request m r c).effects ≡ c.effects
 answer_effects m None c = refl
 answer_effects m (Some r) c = left_effects m r c.item c
+
+-- what is found by an id has it
+pub found_id : {A : Type 0} (key : A → Numbers) (id : Numbers) (xs : List A) (x : A) → find_by key id xs ≡ Some x → key x ≡ id
+found_id key id [] x e = absurd cc
+found_id key id (y ∷ ys) x e = by_id (λ f. found_id key id ys x f) (is_id (key y) id) refl e
+  where
+    by_id : (find_by key id ys ≡ Some x → key x ≡ id) → (b : Bool) → is_id (key y) id ≡ b → (if b then Some y else find_by key id ys) ≡ Some x → key x ≡ id
+    by_id rest true f e = let same : y ≡ x = cc in subst (λ z. key z ≡ id) same (same_id (key y) id f)
+    by_id rest false f e = rest e
+
+pub same_kind : (k l : Kind) → is_kind k l ≡ true → k ≡ l
+same_kind kinds.Durable kinds.Durable e = refl
+same_kind kinds.Durable kinds.Volatile e = absurd cc
+same_kind kinds.Volatile kinds.Durable e = absurd cc
+same_kind kinds.Volatile kinds.Volatile e = refl

@@ -1,5 +1,5 @@
 -- Each id that a book holds stays drawn, and a step makes one new id at most.
-use Rattle.std.specs.Prelude.{ℕ, List, Option, Some, None, Bool, not, length, ◌≡◌, ◌⊎◌, refl}
+use Rattle.std.specs.Prelude.{ℕ, List, [], Option, Some, None, Bool, not, length, ◌≡◌, ◌⊎◌, refl}
 use Rattle.std.specs.List.{AllByRecursion}
 use Rattle.std.proofs.Common.{inl, inr, sym, subst, ap, ◌∙◌}
 use Rattle.at_base.specs.Numbers.{Numbers}
@@ -21,20 +21,20 @@ use Rattle.model_laws.proofs.Shaping.{steps_touch_one}
 
 -- each way to move keeps the id
 pub moved_kept : (b : Book) (e : Event) (now : ℕ) (t : Transaction) (d : Decision Transaction) → MovesTransaction b e now t d → Kept t.id d
-moved_kept b e now t d (at_seat a s came is) = subst (Kept t.id) (sym is) (seat_kept t.id (moment_of b now) a t s a.message refl)
-moved_kept b e now t d (at_link a kind s came under is) = subst (Kept t.id) (sym is) (link_kept t.id (moment_of b now) a kind t s a.message refl)
-moved_kept b e now t d (at_completion a c came there is) = subst (Kept t.id) (sym is) (completion_kept t.id (moment_of b now) a t c a.message refl)
-moved_kept b e now t d (when_due is) = subst (Kept t.id) (sym is) (due_kept t.id (moment_of b now) t _ refl)
+moved_kept b e now t d (at_seat a s came why is) = subst (Kept t.id) (sym is) (seat_kept t.id (moment_of b now) a t s a.message refl)
+moved_kept b e now t d (at_link a kind s came why under is) = subst (Kept t.id) (sym is) (link_kept t.id (moment_of b now) a kind t s a.message refl)
+moved_kept b e now t d (at_completion a c came why there is) = subst (Kept t.id) (sym is) (completion_kept t.id (moment_of b now) a t c a.message refl)
+moved_kept b e now t d (when_due came is) = subst (Kept t.id) (sym is) (due_kept t.id (moment_of b now) t _ refl)
 
 pub leaf_moved_kept : (b : Book) (e : Event) (now : ℕ) (l : Leaf) (d : Decision Leaf) → MovesLeaf b e now l d → LeafKept l.id d
-leaf_moved_kept b e now l d (at_leaf a came is) = subst (LeafKept l.id) (sym is) (leaf_kept l.id (moment_of b now) a l a.message refl)
-leaf_moved_kept b e now l d (leaf_when_due is) = subst (LeafKept l.id) (sym is) (leaf_due_kept l.id (moment_of b now) l _ refl)
+leaf_moved_kept b e now l d (at_leaf a came why is) = subst (LeafKept l.id) (sym is) (leaf_kept l.id (moment_of b now) a l a.message refl)
+leaf_moved_kept b e now l d (leaf_when_due came is) = subst (LeafKept l.id) (sym is) (leaf_due_kept l.id (moment_of b now) l _ refl)
 
-pub activity_moved_kept : (b : Book) (now : ℕ) (a : Activity) (d : Decision Activity) → MovesActivity b now a d → ActivityKept a d
-activity_moved_kept b now a d (at_activity r is) = subst (ActivityKept a) (sym is) (activity_kept (moment_of b now) r a r.message)
-activity_moved_kept b now a d (activity_when_due is) = subst (ActivityKept a) (sym is) (activity_due_kept (moment_of b now) a _)
-activity_moved_kept b now a d (works url kind vote key value is) = subst (ActivityKept a) (sym is) (asks_kept (moment_of b now) url kind vote key value a a.context)
-activity_moved_kept b now a d (completes n is) = subst (ActivityKept a) (sym is) (completes_kept (moment_of b now) n a)
+pub activity_moved_kept : (b : Book) (e : Event) (now : ℕ) (a : Activity) (d : Decision Activity) → MovesActivity b e now a d → ActivityKept a d
+activity_moved_kept b e now a d (at_activity r came why is) = subst (ActivityKept a) (sym is) (activity_kept (moment_of b now) r a r.message)
+activity_moved_kept b e now a d (activity_when_due came is) = subst (ActivityKept a) (sym is) (activity_due_kept (moment_of b now) a _)
+activity_moved_kept b e now a d (works url kind vote key value came is) = subst (ActivityKept a) (sym is) (asks_kept (moment_of b now) url kind vote key value a a.context)
+activity_moved_kept b e now a d (completes n l came why is) = subst (ActivityKept a) (sym is) (completes_kept (moment_of b now) n a)
 
 -- a book of which the ids of each list have a property, and each activity's root has one
 pub record Holds (T L A R : Numbers → Type 0) (b : Book) : Type 0 where
@@ -114,19 +114,19 @@ interposed_root : (m : Moment) (id : Numbers) (coordinator : List ℕ) (x : Acti
 unfolding on_interpose
 interposed_root m id coordinator x = refl
 
-activity_made_leaves : (T L A R : Numbers → Type 0) (b : Book) (now : ℕ) (id : Numbers) (a : Activity) (os : List Out) → Holds T L A R b → next_id b ≡ Some id
-    → MakesActivity b now id a → Leaves T L A R b now (still (make_activity (at_time now b) a) os)
-activity_made_leaves T L A R b now id a os h next (begins coordinator ms is) =
+activity_made_leaves : (T L A R : Numbers → Type 0) (b : Book) (e : Event) (now : ℕ) (id : Numbers) (a : Activity) (os : List Out) → Holds T L A R b → next_id b ≡ Some id
+    → MakesActivity b e now id a os → Leaves T L A R b now (still (make_activity (at_time now b) a) os)
+activity_made_leaves T L A R b e now id a os h next (begins coordinator ms came is sent) =
     one_activity id a next (ap (λ x. x.id) is ∙ makes_under_the_next_id.begun (moment_of b now) id coordinator ms)
     (inl (ap (λ x. x.root) is ∙ begun_root (moment_of b now) id coordinator ms)) refl
-activity_made_leaves T L A R b now id a os h next (interposes coordinator named x found is) =
+activity_made_leaves T L A R b e now id a os h next (interposes coordinator named x came found is sent) =
     one_activity id a next (ap (λ x. x.id) is ∙ makes_under_the_next_id.interposed (moment_of b now) id coordinator x.root x.context)
     (inr (subst R (sym (ap (λ x. x.root) is ∙ interposed_root (moment_of b now) id coordinator x))
     (all_find (λ x. R x.root) activity_id named b.activities x h.roots found))) refl
 
 step_leaves : (T L A R : Numbers → Type 0) (b : Book) (e : Event) (now : ℕ) (p : Plan) → Holds T L A R b → Shape b e now p → Both (Leaves T L A R b now) p
-step_leaves T L A R b e now p h (nothing_moves os o f) = subst (Both (Leaves T L A R b now)) (sym f) (plain_both (Leaves T L A R b now) (still b os) (as_before h))
-step_leaves T L A R b e now p h (time_moves os o f) =
+step_leaves T L A R b e now p h (nothing_moves f) = subst (Both (Leaves T L A R b now)) (sym f) (plain_both (Leaves T L A R b now) (still b []) (as_before h))
+step_leaves T L A R b e now p h (time_moves a os came why o f) =
     subst (Both (Leaves T L A R b now)) (sym f) (plain_both (Leaves T L A R b now) (still (at_time now b) os) (as_before (same_holds h)))
   where
     same_holds : Holds T L A R b → Holds T L A R (at_time now b)
@@ -144,26 +144,26 @@ step_leaves T L A R b e now p h (leaf_moves id l answer d stands how o f) =
     (as_before h))
 step_leaves T L A R b e now p h (activity_moves id a answer d stands how o f) =
     subst (Both (Leaves T L A R b now)) (sym f)
-    (decided_both (HasBoth a) NoRecord (Leaves T L A R b now) b (put_activity a.id (at_time now b)) answer d (activity_moved_kept b now a d how)
+    (decided_both (HasBoth a) NoRecord (Leaves T L A R b now) b (put_activity a.id (at_time now b)) answer d (activity_moved_kept b e now a d how)
     (λ c k. as_before (put_activity_holds T L A R b now a c.item h
     (all_find (λ x. A x.id) activity_id id b.activities a h.activities stands) (all_find (λ x. R x.root) activity_id id b.activities a h.roots stands) k))
     (as_before h))
-step_leaves T L A R b e now p h (transaction_registers id a r t stands came says o f) =
+step_leaves T L A R b e now p h (transaction_registers id a r t stands came at says o f) =
     subst (Both (Leaves T L A R b now)) (sym f)
     (plain_both (Leaves T L A R b now) (registration_outcome b now (on_register (moment_of b now) a r t))
     (as_before (put_holds T L A R b now (on_register (moment_of b now) a r t).transaction.id (Some (on_register (moment_of b now) a r t).transaction) h
     (subst T (sym (register_kept t.id (moment_of b now) a r t refl)) (all_find (λ x. T x.id) transaction_id id b.transactions t h.transactions stands)) refl)))
-step_leaves T L A R b e now p h (transaction_made a c id t os next made o f) =
+step_leaves T L A R b e now p h (transaction_made a c id t os came at says next made sent o f) =
     subst (Both (Leaves T L A R b now)) (sym f)
     (plain_both (Leaves T L A R b now) (still (make_transaction (at_time now b) t) os)
     (one_transaction id t next (made_id id _ t (makes_under_the_next_id.transaction (moment_of b now) (length b.transactions) a c id) made) refl))
-step_leaves T L A R b e now p h (leaf_made a w id l os came says next made o f) =
+step_leaves T L A R b e now p h (leaf_made a w id l os came at says next made sent o f) =
     subst (Both (Leaves T L A R b now)) (sym f)
     (plain_both (Leaves T L A R b now) (still (make_leaf (at_time now b) l) os)
     (one_leaf id l next (made_leaf_id id _ l (makes_under_the_next_id.leaf (moment_of b now) (length b.leaves) a w id) made) refl))
 step_leaves T L A R b e now p h (activity_made id a os next made o f) =
     subst (Both (Leaves T L A R b now)) (sym f)
-    (plain_both (Leaves T L A R b now) (still (make_activity (at_time now b) a) os) (activity_made_leaves T L A R b now id a os h next made))
+    (plain_both (Leaves T L A R b now) (still (make_activity (at_time now b) a) os) (activity_made_leaves T L A R b e now id a os h next made))
 
 pub leaves : (T L A R : Numbers → Type 0) (b : Book) (e : Event) (now : ℕ) (landed : Bool) → Holds T L A R b → Leaves T L A R b now (step b e now landed)
 leaves T L A R b e now landed h = in_branch (Leaves T L A R b now) (plan b e now) landed (step_leaves T L A R b e now (plan b e now) h (steps_touch_one b e now))

@@ -35,7 +35,7 @@ use Rattle.model_laws.specs.Laws.{IsDrawn, HasId, HasLeafId}
 use Rattle.model_laws.specs.Order.{AreRising, IsInOrder}
 use Rattle.at_model.specs.Recover.{is_before}
 use Rattle.model_laws.specs.Shapes.{IsAnswer}
-use Rattle.model_laws.proofs.Deciding.{Both, IfThere, DecisionSays, decided_says, all_find, all_put, all_filter, all_join, all_more}
+use Rattle.model_laws.proofs.Deciding.{found_id, Both, IfThere, DecisionSays, decided_says, all_find, all_put, all_filter, all_join, all_more}
 use Rattle.model_laws.proofs.Keeping.{HasBoth}
 use Rattle.at_base.specs.IdText.{IsId}
 use Rattle.model_laws.proofs.Ordering.{other_id, unmapped}
@@ -351,14 +351,6 @@ says_both : {A : Type 0} (P Q : Change A → Type 0) (S T : Record → Change A 
 says_both P Q S T (Goes c) h k = (h, k)
 says_both P Q S T (Records r c None) h k = record { entry = tt; landed = (h.landed, k.landed); otherwise = tt }
 says_both P Q S T (Records r c (Some d)) h k = record { entry = tt; landed = (h.landed, k.landed); otherwise = (h.otherwise, k.otherwise) }
-
-pub found_id : {A : Type 0} (key : A → Numbers) (id : Numbers) (xs : List A) (x : A) → find_by key id xs ≡ Some x → key x ≡ id
-found_id key id [] x e = absurd cc
-found_id key id (y ∷ ys) x e = by_id (λ f. found_id key id ys x f) (is_id (key y) id) refl e
-  where
-    by_id : (find_by key id ys ≡ Some x → key x ≡ id) → (b : Bool) → is_id (key y) id ≡ b → (if b then Some y else find_by key id ys) ≡ Some x → key x ≡ id
-    by_id rest true f e = let same : y ≡ x = cc in subst (λ z. key z ≡ id) same (same_id (key y) id f)
-    by_id rest false f e = rest e
 
 -- a transaction moves
 left_meets : (s : Numbers → Standing) (t : Transaction) (x : Option Transaction) (k : List Seating) (z : Option Epr) → Meets (s t.id) (transaction_standing t) → HasId t.id x

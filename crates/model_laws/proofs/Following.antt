@@ -35,13 +35,13 @@ use Rattle.model_laws.proofs.Deciding.{either_of, first_true, second_true, Both,
 use Rattle.model_laws.proofs.Linking.{Linked, AnyRecord, Links, seat_links, link_links, completion_links, due_links, with_answer_links}
 
 moved_links : (b : Book) (e : Event) (now : ℕ) (t : Transaction) (d : Decision Transaction) → Linked t → MovesTransaction b e now t d → Links (with_answer (moment_of b now) t d)
-moved_links b e now t d h (at_seat a s came is) =
+moved_links b e now t d h (at_seat a s came why is) =
     with_answer_links (moment_of b now) t d (subst Links (sym is) (seat_links (moment_of b now) a t s a.message h))
-moved_links b e now t d h (at_link a kind s came under is) =
+moved_links b e now t d h (at_link a kind s came why under is) =
     with_answer_links (moment_of b now) t d (subst Links (sym is) (link_links (moment_of b now) a kind t s a.message under h))
-moved_links b e now t d h (at_completion a c came there is) =
+moved_links b e now t d h (at_completion a c came why there is) =
     with_answer_links (moment_of b now) t d (subst Links (sym is) (completion_links (moment_of b now) a t c a.message there h))
-moved_links b e now t d h (when_due is) =
+moved_links b e now t d h (when_due came is) =
     with_answer_links (moment_of b now) t d (subst Links (sym is) (due_links (moment_of b now) t _ h))
 
 -- a registration: only a root takes one for Completion
@@ -103,8 +103,8 @@ LinkedAfter o = IsLinked o.book
 
 linked_both : (b : Book) (e : Event) (now : ℕ) (p : Plan) → IsLinked b → Shape b e now p → Both LinkedAfter p
 unfolding LinkedAfter
-linked_both b e now p h (nothing_moves os o f) = subst (Both LinkedAfter) (sym f) (plain_both LinkedAfter (still b os) h)
-linked_both b e now p h (time_moves os o f) = subst (Both LinkedAfter) (sym f) (plain_both LinkedAfter (still (at_time now b) os) h)
+linked_both b e now p h (nothing_moves f) = subst (Both LinkedAfter) (sym f) (plain_both LinkedAfter (still b []) h)
+linked_both b e now p h (time_moves a os came why o f) = subst (Both LinkedAfter) (sym f) (plain_both LinkedAfter (still (at_time now b) os) h)
 linked_both b e now p h (transaction_moves id t answer d stands how o f) =
     subst (Both LinkedAfter) (sym f)
     (decided_both (IfThere Linked) AnyRecord LinkedAfter b (put_transaction t.id (at_time now b)) answer (with_answer (moment_of b now) t d)
@@ -114,16 +114,16 @@ linked_both b e now p h (leaf_moves id l answer d stands how o f) =
     subst (Both LinkedAfter) (sym f) (decision_both LinkedAfter b (put_leaf l.id (at_time now b)) answer d (λ c. h) h)
 linked_both b e now p h (activity_moves id a answer d stands how o f) =
     subst (Both LinkedAfter) (sym f) (decision_both LinkedAfter b (put_activity a.id (at_time now b)) answer d (λ c. h) h)
-linked_both b e now p h (transaction_registers id a r t stands came says o f) =
+linked_both b e now p h (transaction_registers id a r t stands came at says o f) =
     subst (Both LinkedAfter) (sym f)
     (plain_both LinkedAfter (registration_outcome b now (on_register (moment_of b now) a r t))
     (all_put Linked transaction_id (on_register (moment_of b now) a r t).transaction.id (Some (on_register (moment_of b now) a r t).transaction) b.transactions
     (register_linked (moment_of b now) a r t (all_find Linked transaction_id id b.transactions t h stands)) h))
-linked_both b e now p h (transaction_made a c id t os next made o f) =
+linked_both b e now p h (transaction_made a c id t os came at says next made sent o f) =
     subst (Both LinkedAfter) (sym f)
     (plain_both LinkedAfter (still (make_transaction (at_time now b) t) os)
     (all_join Linked b.transactions (t ∷ []) h (created_linked (moment_of b now) (length b.transactions) a c id t made, tt)))
-linked_both b e now p h (leaf_made a w id l os came says next made o f) =
+linked_both b e now p h (leaf_made a w id l os came at says next made sent o f) =
     subst (Both LinkedAfter) (sym f) (plain_both LinkedAfter (still (make_leaf (at_time now b) l) os) h)
 linked_both b e now p h (activity_made id a os next made o f) =
     subst (Both LinkedAfter) (sym f) (plain_both LinkedAfter (still (make_activity (at_time now b) a) os) h)

@@ -135,8 +135,8 @@ pub data IsAbout (T L : Numbers → Type 0) (r : Record) : Type 0 where
 
 shape_about : (T L : Numbers → Type 0) (b : Book) (e : Event) (now : ℕ) (p : Plan) (r : Record) → AllByRecursion (λ t. T t.id) b.transactions → AllByRecursion (λ l. L l.id) b.leaves
     → Shape b e now p → p.entry ≡ Some r → IsAbout T L r
-shape_about T L b e now p r h i (nothing_moves os o f) k = absurd (no_entry p _ r f k)
-shape_about T L b e now p r h i (time_moves os o f) k = absurd (no_entry p _ r f k)
+shape_about T L b e now p r h i (nothing_moves f) k = absurd (no_entry p _ r f k)
+shape_about T L b e now p r h i (time_moves a os came why o f) k = absurd (no_entry p _ r f k)
 shape_about T L b e now p r h i (transaction_moves id t answer d stands how o f) k =
     decided_entry (HasId t.id) (Names t.id) (λ s o. IsAbout T L s) b (put_transaction t.id (at_time now b)) answer (with_answer (moment_of b now) t d) r
     (with_answer_kept t.id (moment_of b now) t d (moved_kept b e now t d how))
@@ -147,11 +147,11 @@ shape_about T L b e now p r h i (leaf_moves id l answer d stands how o f) k =
     (λ s c j m. about_leaf l.id (all_find (λ x. L x.id) leaf_id id b.leaves l i stands) m)
     (sym (ap (λ x. x.entry) f) ∙ k)
 shape_about T L b e now p r h i (activity_moves id a answer d stands how o f) k =
-    decided_entry (HasBoth a) NoRecord (λ s o. IsAbout T L s) b (put_activity a.id (at_time now b)) answer d r (activity_moved_kept b now a d how)
+    decided_entry (HasBoth a) NoRecord (λ s o. IsAbout T L s) b (put_activity a.id (at_time now b)) answer d r (activity_moved_kept b e now a d how)
     (λ s c j m. absurd m) (sym (ap (λ x. x.entry) f) ∙ k)
-shape_about T L b e now p r h i (transaction_registers id a c t stands came says o f) k = absurd (no_entry p _ r f k)
-shape_about T L b e now p r h i (transaction_made a c id t os next made o f) k = absurd (no_entry p _ r f k)
-shape_about T L b e now p r h i (leaf_made a w id l os came says next made o f) k = absurd (no_entry p _ r f k)
+shape_about T L b e now p r h i (transaction_registers id a c t stands came at says o f) k = absurd (no_entry p _ r f k)
+shape_about T L b e now p r h i (transaction_made a c id t os came at says next made sent o f) k = absurd (no_entry p _ r f k)
+shape_about T L b e now p r h i (leaf_made a w id l os came at says next made sent o f) k = absurd (no_entry p _ r f k)
 shape_about T L b e now p r h i (activity_made id a os next made o f) k = absurd (no_entry p _ r f k)
 
 pub entry_about : (T L : Numbers → Type 0) (b : Book) (e : Event) (now : ℕ) (r : Record) → AllByRecursion (λ t. T t.id) b.transactions → AllByRecursion (λ l. L l.id) b.leaves

@@ -8,6 +8,7 @@ use Rattle.at_base.specs.declared.epr.Epr.{Epr}
 use Rattle.at_base.specs.declared.record.Seated.{Seated}
 use Rattle.at_base.specs.declared.record.Record.{Record}
 use Rattle.at_base.specs.declared.record.Record.TheVariants as records
+use Rattle.at_base.specs.declared.outs.Out.{Out}
 use Rattle.at_base.specs.declared.event.Event.{Event}
 use Rattle.at_base.specs.declared.event.Event.TheVariants as events
 use Rattle.at_base.specs.declared.event.Item.{Item}
@@ -243,14 +244,14 @@ made_id id o t h e = subst (HasId id) e h
 made_leaf_id : (id : Numbers) (o : Option Leaf) (l : Leaf) → HasLeafId id o → o ≡ Some l → l.id ≡ id
 made_leaf_id id o l h e = subst (HasLeafId id) e h
 
-made_activity_id : (b : Book) (now : ℕ) (id : Numbers) (a : Activity) → MakesActivity b now id a → a.id ≡ id
-made_activity_id b now id a (begins coordinator ms is) = ap (λ x. x.id) is ∙ makes_under_the_next_id.begun (moment_of b now) id coordinator ms
-made_activity_id b now id a (interposes coordinator named x found is) =
+made_activity_id : (b : Book) (e : Event) (now : ℕ) (id : Numbers) (a : Activity) (os : List Out) → MakesActivity b e now id a os → a.id ≡ id
+made_activity_id b e now id a os (begins coordinator ms came is sent) = ap (λ x. x.id) is ∙ makes_under_the_next_id.begun (moment_of b now) id coordinator ms
+made_activity_id b e now id a os (interposes coordinator named x came found is sent) =
     ap (λ x. x.id) is ∙ makes_under_the_next_id.interposed (moment_of b now) id coordinator x.root x.context
 
 step_leaves : (b : Book) (e : Event) (now : ℕ) (p : Plan) → Shape b e now p → Both (Leaves b now) p
-step_leaves b e now p (nothing_moves os o f) = subst (Both (Leaves b now)) (sym f) (plain_both (Leaves b now) (still b os) (as_before (no_more b)))
-step_leaves b e now p (time_moves os o f) =
+step_leaves b e now p (nothing_moves f) = subst (Both (Leaves b now)) (sym f) (plain_both (Leaves b now) (still b []) (as_before (no_more b)))
+step_leaves b e now p (time_moves a os came why o f) =
     subst (Both (Leaves b now)) (sym f) (plain_both (Leaves b now) (still (at_time now b) os) (as_before same_book))
   where
     same_book : HoldsNoMore b (at_time now b)
@@ -265,23 +266,23 @@ step_leaves b e now p (leaf_moves id l answer d stands how o f) =
     (λ c k. as_before (put_leaf_no_more b now l.id c.item k)) (as_before (no_more b)))
 step_leaves b e now p (activity_moves id a answer d stands how o f) =
     subst (Both (Leaves b now)) (sym f)
-    (decided_both (HasBoth a) NoRecord (Leaves b now) b (put_activity a.id (at_time now b)) answer d (activity_moved_kept b now a d how)
+    (decided_both (HasBoth a) NoRecord (Leaves b now) b (put_activity a.id (at_time now b)) answer d (activity_moved_kept b e now a d how)
     (λ c k. as_before (put_activity_no_more b now a c.item k)) (as_before (no_more b)))
-step_leaves b e now p (transaction_registers id a r t stands came says o f) =
+step_leaves b e now p (transaction_registers id a r t stands came at says o f) =
     subst (Both (Leaves b now)) (sym f)
     (plain_both (Leaves b now) (registration_outcome b now (on_register (moment_of b now) a r t))
     (as_before (put_no_more b now (on_register (moment_of b now) a r t).transaction.id (Some (on_register (moment_of b now) a r t).transaction) refl)))
-step_leaves b e now p (transaction_made a c id t os next made o f) =
+step_leaves b e now p (transaction_made a c id t os came at says next made sent o f) =
     subst (Both (Leaves b now)) (sym f)
     (plain_both (Leaves b now) (still (make_transaction (at_time now b) t) os)
     (one_transaction id t next (made_id id _ t (makes_under_the_next_id.transaction (moment_of b now) (length b.transactions) a c id) made) refl))
-step_leaves b e now p (leaf_made a w id l os came says next made o f) =
+step_leaves b e now p (leaf_made a w id l os came at says next made sent o f) =
     subst (Both (Leaves b now)) (sym f)
     (plain_both (Leaves b now) (still (make_leaf (at_time now b) l) os)
     (one_leaf id l next (made_leaf_id id _ l (makes_under_the_next_id.leaf (moment_of b now) (length b.leaves) a w id) made) refl))
 step_leaves b e now p (activity_made id a os next made o f) =
     subst (Both (Leaves b now)) (sym f)
-    (plain_both (Leaves b now) (still (make_activity (at_time now b) a) os) (one_activity id a next (made_activity_id b now id a made) refl))
+    (plain_both (Leaves b now) (still (make_activity (at_time now b) a) os) (one_activity id a next (made_activity_id b e now id a os made) refl))
 
 all_before : {A : Type 0} (b : Book) (key : A → Numbers) (id i : Numbers) (xs : List A) → next_id b ≡ Some id → i ≡ id → AllByRecursion (λ x. IsDrawn b (key x)) xs
     → AllByRecursion (λ x. is_before (key x) i ≡ true) xs

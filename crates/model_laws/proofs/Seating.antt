@@ -27,8 +27,8 @@ use Rattle.model_laws.specs.Drawn.{restarted, with_entry}
 use Rattle.model_laws.specs.Enlisted.{IsEnlisted, HoldsTheEnlisted}
 use Rattle.model_laws.specs.Reached.{counts, Reached}
 use Rattle.model_laws.proofs.Accepting.{step_gives}
-use Rattle.model_laws.proofs.Deciding.{IfThere, all_both, all_find, all_join, all_map, all_more}
-use Rattle.model_laws.proofs.Enlisting.{Gives, Grown, HasInitiator, found_id}
+use Rattle.model_laws.proofs.Deciding.{found_id, IfThere, all_both, all_find, all_join, all_map, all_more}
+use Rattle.model_laws.proofs.Enlisting.{Gives, Grown, HasInitiator}
 use Rattle.model_laws.proofs.Enrolled.{WorldGood, IsUp, IsKnown, nodes_of, world_good}
 use Rattle.model_laws.proofs.Holding.{Law, OutFine, holds}
 use Rattle.model_laws.proofs.Living.{all_in_order, all_live}

@@ -68,18 +68,18 @@ next_sound b id h e =
 -- each way to move
 moved_sound : (b : Book) (e : Event) (now : ℕ) (t : Transaction) (d : Decision Transaction) → IsSoundEvent e → IsSoundTransaction t → MovesTransaction b e now t d
     → Sound (with_answer (moment_of b now) t d)
-moved_sound b e now t d w h (at_seat a s came is) =
+moved_sound b e now t d w h (at_seat a s came why is) =
     with_answer_sound (moment_of b now) t d (subst Sound (sym is) (seat_sound (moment_of b now) a t s a.message h))
-moved_sound b e now t d w h (at_link a kind s came under is) =
+moved_sound b e now t d w h (at_link a kind s came why under is) =
     with_answer_sound (moment_of b now) t d (subst Sound (sym is) (link_sound (moment_of b now) a kind t s a.message (arrived_sound e a w came) under h))
-moved_sound b e now t d w h (at_completion a c came there is) =
+moved_sound b e now t d w h (at_completion a c came why there is) =
     with_answer_sound (moment_of b now) t d (subst Sound (sym is) (completion_sound (moment_of b now) a t c a.message there h))
-moved_sound b e now t d w h (when_due is) =
+moved_sound b e now t d w h (when_due came is) =
     with_answer_sound (moment_of b now) t d (subst Sound (sym is) (due_sound (moment_of b now) t _ h))
 
 leaf_moved_sound : (b : Book) (e : Event) (now : ℕ) (l : Leaf) (d : Decision Leaf) → IsSoundEvent e → IsSoundLeaf l → MovesLeaf b e now l d → SoundLeaf d
-leaf_moved_sound b e now l d w h (at_leaf a came is) = subst SoundLeaf (sym is) (leaf_sound (moment_of b now) a l a.message (arrived_sound e a w came) h)
-leaf_moved_sound b e now l d w h (leaf_when_due is) = subst SoundLeaf (sym is) (leaf_due_sound (moment_of b now) l _ h)
+leaf_moved_sound b e now l d w h (at_leaf a came why is) = subst SoundLeaf (sym is) (leaf_sound (moment_of b now) a l a.message (arrived_sound e a w came) h)
+leaf_moved_sound b e now l d w h (leaf_when_due came is) = subst SoundLeaf (sym is) (leaf_due_sound (moment_of b now) l _ h)
 
 -- a step
 with_transactions : (b c : Book) → IsSound b → c.incarnation ≡ b.incarnation → AllByRecursion IsSoundTransaction c.transactions → AllByRecursion IsSoundLeaf c.leaves → IsSound c
@@ -95,8 +95,8 @@ IsSoundAfter o = IsSound o.book
 
 sound_both : (b : Book) (e : Event) (now : ℕ) (p : Plan) → IsSound b → IsSoundEvent e → Shape b e now p → Both IsSoundAfter p
 unfolding IsSoundAfter
-sound_both b e now p h w (nothing_moves os o f) = subst (Both IsSoundAfter) (sym f) (plain_both IsSoundAfter (still b os) h)
-sound_both b e now p h w (time_moves os o f) =
+sound_both b e now p h w (nothing_moves f) = subst (Both IsSoundAfter) (sym f) (plain_both IsSoundAfter (still b []) h)
+sound_both b e now p h w (time_moves a os came why o f) =
     subst (Both IsSoundAfter) (sym f) (plain_both IsSoundAfter (still (at_time now b) os) (with_transactions b (at_time now b) h refl h.transactions h.leaves))
 sound_both b e now p h w (transaction_moves id t answer d stands how o f) =
     subst (Both IsSoundAfter) (sym f)
@@ -112,19 +112,19 @@ sound_both b e now p h w (activity_moves id a answer d stands how o f) =
     subst (Both IsSoundAfter) (sym f)
     (decision_both IsSoundAfter b (put_activity a.id (at_time now b)) answer d
     (λ c. with_transactions b (put_activity a.id (at_time now b) c.item) h refl h.transactions h.leaves) h)
-sound_both b e now p h w (transaction_registers id a r t stands came says o f) =
+sound_both b e now p h w (transaction_registers id a r t stands came at says o f) =
     subst (Both IsSoundAfter) (sym f)
     (plain_both IsSoundAfter (registration_outcome b now (on_register (moment_of b now) a r t))
     (with_transactions b (registration_outcome b now (on_register (moment_of b now) a r t)).book h refl
     (all_put IsSoundTransaction transaction_id (on_register (moment_of b now) a r t).transaction.id (Some (on_register (moment_of b now) a r t).transaction) b.transactions
     (register_sound (moment_of b now) a r t (register_bounds e a r w came says) (all_find IsSoundTransaction transaction_id id b.transactions t h.transactions stands)) h.transactions)
     h.leaves))
-sound_both b e now p h w (transaction_made a c id t os next made o f) =
+sound_both b e now p h w (transaction_made a c id t os came at says next made sent o f) =
     subst (Both IsSoundAfter) (sym f)
     (plain_both IsSoundAfter (still (make_transaction (at_time now b) t) os)
     (with_transactions b (make_transaction (at_time now b) t) h refl
     (all_join IsSoundTransaction b.transactions (t ∷ []) h.transactions (created_sound (moment_of b now) (length b.transactions) a c id t (next_sound b id h next) made, tt)) h.leaves))
-sound_both b e now p h w (leaf_made a x id l os came says next made o f) =
+sound_both b e now p h w (leaf_made a x id l os came at says next made sent o f) =
     let (k, v) = work_bounds e a x w came says in
     subst (Both IsSoundAfter) (sym f)
     (plain_both IsSoundAfter (still (make_leaf (at_time now b) l) os)
@@ -139,8 +139,8 @@ unfolding IsSoundAfter
 step_sound b e now landed h w = in_branch IsSoundAfter (plan b e now) landed (sound_both b e now (plan b e now) h w (steps_touch_one b e now))
 
 entry_well : (b : Book) (e : Event) (now : ℕ) (p : Plan) (r : Record) → IsSound b → IsSoundEvent e → Shape b e now p → p.entry ≡ Some r → IsWellFormed r
-entry_well b e now p r h w (nothing_moves os o f) k = absurd (no_entry p _ r f k)
-entry_well b e now p r h w (time_moves os o f) k = absurd (no_entry p _ r f k)
+entry_well b e now p r h w (nothing_moves f) k = absurd (no_entry p _ r f k)
+entry_well b e now p r h w (time_moves a os came why o f) k = absurd (no_entry p _ r f k)
 entry_well b e now p r h w (transaction_moves id t answer d stands how o f) k =
     decided_entry (IfThere IsSoundTransaction) WellFormed (λ s x. IsWellFormed s) b (put_transaction t.id (at_time now b)) answer (with_answer (moment_of b now) t d) r
     (moved_sound b e now t d w (all_find IsSoundTransaction transaction_id id b.transactions t h.transactions stands) how) (λ s c i j. j) (sym (ap (λ x. x.entry) f) ∙ k)
@@ -148,11 +148,11 @@ entry_well b e now p r h w (leaf_moves id l answer d stands how o f) k =
     decided_entry (IfThere IsSoundLeaf) LeafWell (λ s x. IsWellFormed s) b (put_leaf l.id (at_time now b)) answer d r
     (leaf_moved_sound b e now l d w (all_find IsSoundLeaf leaf_id id b.leaves l h.leaves stands) how) (λ s c i j. j) (sym (ap (λ x. x.entry) f) ∙ k)
 entry_well b e now p r h w (activity_moves id a answer d stands how o f) k =
-    decided_entry (HasBoth a) NoRecord (λ s x. IsWellFormed s) b (put_activity a.id (at_time now b)) answer d r (activity_moved_kept b now a d how)
+    decided_entry (HasBoth a) NoRecord (λ s x. IsWellFormed s) b (put_activity a.id (at_time now b)) answer d r (activity_moved_kept b e now a d how)
     (λ s c i j. absurd j) (sym (ap (λ x. x.entry) f) ∙ k)
-entry_well b e now p r h w (transaction_registers id a c t stands came says o f) k = absurd (no_entry p _ r f k)
-entry_well b e now p r h w (transaction_made a c id t os next made o f) k = absurd (no_entry p _ r f k)
-entry_well b e now p r h w (leaf_made a x id l os came says next made o f) k = absurd (no_entry p _ r f k)
+entry_well b e now p r h w (transaction_registers id a c t stands came at says o f) k = absurd (no_entry p _ r f k)
+entry_well b e now p r h w (transaction_made a c id t os came at says next made sent o f) k = absurd (no_entry p _ r f k)
+entry_well b e now p r h w (leaf_made a x id l os came at says next made sent o f) k = absurd (no_entry p _ r f k)
 entry_well b e now p r h w (activity_made id a os next made o f) k = absurd (no_entry p _ r f k)
 
 step_entry : (b : Book) (e : Event) (now : ℕ) (r : Record) → IsSound b → IsSoundEvent e → (plan b e now).entry ≡ Some r → IsWellFormed r

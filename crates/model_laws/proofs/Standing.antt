@@ -51,13 +51,13 @@ use Rattle.model_laws.specs.Laws.{HasLeafId}
 
 moved_fine : (b : Book) (e : Event) (now : ℕ) (t : Transaction) (d : Decision Transaction) → Linked t → StandsBehind t.phase t.seats → MovesTransaction b e now t d
     → Fine t (with_answer (moment_of b now) t d)
-moved_fine b e now t d l h (at_seat a s came is) =
+moved_fine b e now t d l h (at_seat a s came why is) =
     with_answer_fine t (moment_of b now) t d (subst (Fine t) (sym is) (seat_fine (moment_of b now) a t s a.message h))
-moved_fine b e now t d l h (at_link a kind s came under is) =
+moved_fine b e now t d l h (at_link a kind s came why under is) =
     with_answer_fine t (moment_of b now) t d (subst (Fine t) (sym is) (link_fine (moment_of b now) a kind t s a.message under l h))
-moved_fine b e now t d l h (at_completion a c came there is) =
+moved_fine b e now t d l h (at_completion a c came why there is) =
     with_answer_fine t (moment_of b now) t d (subst (Fine t) (sym is) (completion_fine (moment_of b now) a t c a.message h))
-moved_fine b e now t d l h (when_due is) =
+moved_fine b e now t d l h (when_due came is) =
     with_answer_fine t (moment_of b now) t d (subst (Fine t) (sym is) (due_fine (moment_of b now) t _ h))
 
 -- a registration
@@ -131,8 +131,8 @@ KeepsPhase o = AllByRecursion InPhase o.book.transactions
 
 phase_both : (b : Book) (e : Event) (now : ℕ) (p : Plan) → IsInPhase b → Shape b e now p → Both KeepsPhase p
 unfolding KeepsPhase
-phase_both b e now p h (nothing_moves os o f) = subst (Both KeepsPhase) (sym f) (plain_both KeepsPhase (still b os) h.answers)
-phase_both b e now p h (time_moves os o f) = subst (Both KeepsPhase) (sym f) (plain_both KeepsPhase (still (at_time now b) os) h.answers)
+phase_both b e now p h (nothing_moves f) = subst (Both KeepsPhase) (sym f) (plain_both KeepsPhase (still b []) h.answers)
+phase_both b e now p h (time_moves a os came why o f) = subst (Both KeepsPhase) (sym f) (plain_both KeepsPhase (still (at_time now b) os) h.answers)
 phase_both b e now p h (transaction_moves id t answer d stands how o f) =
     subst (Both KeepsPhase) (sym f)
     (decided_says (Left t) (λ r c. IsBehind t r c.item) KeepsPhase b (put_transaction t.id (at_time now b)) answer (with_answer (moment_of b now) t d)
@@ -142,16 +142,16 @@ phase_both b e now p h (leaf_moves id l answer d stands how o f) =
     subst (Both KeepsPhase) (sym f) (decision_both KeepsPhase b (put_leaf l.id (at_time now b)) answer d (λ c. h.answers) h.answers)
 phase_both b e now p h (activity_moves id a answer d stands how o f) =
     subst (Both KeepsPhase) (sym f) (decision_both KeepsPhase b (put_activity a.id (at_time now b)) answer d (λ c. h.answers) h.answers)
-phase_both b e now p h (transaction_registers id a r t stands came says o f) =
+phase_both b e now p h (transaction_registers id a r t stands came at says o f) =
     subst (Both KeepsPhase) (sym f)
     (plain_both KeepsPhase (registration_outcome b now (on_register (moment_of b now) a r t))
     (all_put InPhase transaction_id (on_register (moment_of b now) a r t).transaction.id (Some (on_register (moment_of b now) a r t).transaction) b.transactions
     (register_stands (moment_of b now) a r t (all_find InPhase transaction_id id b.transactions t h.answers stands)) h.answers))
-phase_both b e now p h (transaction_made a c id t os next made o f) =
+phase_both b e now p h (transaction_made a c id t os came at says next made sent o f) =
     subst (Both KeepsPhase) (sym f)
     (plain_both KeepsPhase (still (make_transaction (at_time now b) t) os)
     (all_join InPhase b.transactions (t ∷ []) h.answers (created_stands (moment_of b now) (length b.transactions) a c id t made, tt)))
-phase_both b e now p h (leaf_made a w id l os came says next made o f) =
+phase_both b e now p h (leaf_made a w id l os came at says next made sent o f) =
     subst (Both KeepsPhase) (sym f) (plain_both KeepsPhase (still (make_leaf (at_time now b) l) os) h.answers)
 phase_both b e now p h (activity_made id a os next made o f) =
     subst (Both KeepsPhase) (sym f) (plain_both KeepsPhase (still (make_activity (at_time now b) a) os) h.answers)
@@ -258,8 +258,8 @@ leaf_passes b id (records.Voted i superior named) o h = absurd h
 leaf_passes b id other o h = tt
 
 shape_passes : (b : Book) (e : Event) (now : ℕ) (p : Plan) (r : Record) → IsInPhase b → Shape b e now p → p.entry ≡ Some r → IsPassed b r p.landed
-shape_passes b e now p r h (nothing_moves os o f) k = absurd (no_entry p _ r f k)
-shape_passes b e now p r h (time_moves os o f) k = absurd (no_entry p _ r f k)
+shape_passes b e now p r h (nothing_moves f) k = absurd (no_entry p _ r f k)
+shape_passes b e now p r h (time_moves a os came why o f) k = absurd (no_entry p _ r f k)
 shape_passes b e now p r h (transaction_moves id t answer d stands how o f) k =
     subst (λ x. IsPassed b r x.landed) (sym f)
     (says_entry (Left t) (λ s c. IsBehind t s c.item) (IsPassed b) b (put_transaction t.id (at_time now b)) answer (with_answer (moment_of b now) t d) r
@@ -271,11 +271,11 @@ shape_passes b e now p r h (leaf_moves id l answer d stands how o f) k =
     (λ s c i j. leaf_passes b l.id s (outcome_of (put_leaf l.id (at_time now b)) answer c) j) (sym (ap (λ x. x.entry) f) ∙ k))
 shape_passes b e now p r h (activity_moves id a answer d stands how o f) k =
     subst (λ x. IsPassed b r x.landed) (sym f)
-    (decided_entry (HasBoth a) NoRecord (IsPassed b) b (put_activity a.id (at_time now b)) answer d r (activity_moved_kept b now a d how)
+    (decided_entry (HasBoth a) NoRecord (IsPassed b) b (put_activity a.id (at_time now b)) answer d r (activity_moved_kept b e now a d how)
     (λ s c i j. absurd j) (sym (ap (λ x. x.entry) f) ∙ k))
-shape_passes b e now p r h (transaction_registers id a c t stands came says o f) k = absurd (no_entry p _ r f k)
-shape_passes b e now p r h (transaction_made a c id t os next made o f) k = absurd (no_entry p _ r f k)
-shape_passes b e now p r h (leaf_made a w id l os came says next made o f) k = absurd (no_entry p _ r f k)
+shape_passes b e now p r h (transaction_registers id a c t stands came at says o f) k = absurd (no_entry p _ r f k)
+shape_passes b e now p r h (transaction_made a c id t os came at says next made sent o f) k = absurd (no_entry p _ r f k)
+shape_passes b e now p r h (leaf_made a w id l os came at says next made sent o f) k = absurd (no_entry p _ r f k)
 shape_passes b e now p r h (activity_made id a os next made o f) k = absurd (no_entry p _ r f k)
 
 -- what a step tells
@@ -304,8 +304,8 @@ other_behind b (x ∷ xs) (h, k) id (inr i) = other_behind b xs k id i
 
 tells_both : (b : Book) (e : Event) (now : ℕ) (p : Plan) → IsInPhase b → Shape b e now p → Both (TellsBehind b) p
 unfolding TellsBehind
-tells_both b e now p h (nothing_moves os o f) = subst (Both (TellsBehind b)) (sym f) (plain_both (TellsBehind b) (still b os) (nothing_told b (still b os) refl))
-tells_both b e now p h (time_moves os o f) =
+tells_both b e now p h (nothing_moves f) = subst (Both (TellsBehind b)) (sym f) (plain_both (TellsBehind b) (still b []) (nothing_told b (still b []) refl))
+tells_both b e now p h (time_moves a os came why o f) =
     subst (Both (TellsBehind b)) (sym f) (plain_both (TellsBehind b) (still (at_time now b) os) (nothing_told b (still (at_time now b) os) refl))
 tells_both b e now p h (transaction_moves id t answer d stands how o f) =
     subst (Both (TellsBehind b)) (sym f)
@@ -318,15 +318,15 @@ tells_both b e now p h (leaf_moves id l answer d stands how o f) =
     (λ c k. other_behind b c.effects k) (nothing_told b (still b answer) refl))
 tells_both b e now p h (activity_moves id a answer d stands how o f) =
     subst (Both (TellsBehind b)) (sym f)
-    (decided_says Tells Anything (TellsBehind b) b (put_activity a.id (at_time now b)) answer d (activity_moved_other b now a d how)
+    (decided_says Tells Anything (TellsBehind b) b (put_activity a.id (at_time now b)) answer d (activity_moved_other b e now a d how)
     (λ c k. other_behind b c.effects k) (nothing_told b (still b answer) refl))
-tells_both b e now p h (transaction_registers id a r t stands came says o f) =
+tells_both b e now p h (transaction_registers id a r t stands came at says o f) =
     subst (Both (TellsBehind b)) (sym f)
     (plain_both (TellsBehind b) (registration_outcome b now (on_register (moment_of b now) a r t)) (nothing_told b (registration_outcome b now (on_register (moment_of b now) a r t)) refl))
-tells_both b e now p h (transaction_made a c id t os next made o f) =
+tells_both b e now p h (transaction_made a c id t os came at says next made sent o f) =
     subst (Both (TellsBehind b)) (sym f)
     (plain_both (TellsBehind b) (still (make_transaction (at_time now b) t) os) (nothing_told b (still (make_transaction (at_time now b) t) os) refl))
-tells_both b e now p h (leaf_made a w id l os came says next made o f) =
+tells_both b e now p h (leaf_made a w id l os came at says next made sent o f) =
     subst (Both (TellsBehind b)) (sym f) (plain_both (TellsBehind b) (still (make_leaf (at_time now b) l) os) (nothing_told b (still (make_leaf (at_time now b) l) os) refl))
 tells_both b e now p h (activity_made id a os next made o f) =
     subst (Both (TellsBehind b)) (sym f)

@@ -116,8 +116,8 @@ leaf_due_other m l Unanswered = tt
 leaf_due_other m l Nothing = tt
 
 pub leaf_moved_other : (b : Book) (e : Event) (now : ℕ) (l : Leaf) (d : Decision Leaf) → MovesLeaf b e now l d → Other d
-leaf_moved_other b e now l d (at_leaf a came is) = subst Other (sym is) (leaf_other (moment_of b now) a l a.message)
-leaf_moved_other b e now l d (leaf_when_due is) = subst Other (sym is) (leaf_due_other (moment_of b now) l _)
+leaf_moved_other b e now l d (at_leaf a came why is) = subst Other (sym is) (leaf_other (moment_of b now) a l a.message)
+leaf_moved_other b e now l d (leaf_when_due came is) = subst Other (sym is) (leaf_due_other (moment_of b now) l _)
 
 -- activities
 or_ignored : (a : Activity) (b : Bool) (d : Decision Activity) → Other d → Other (if b then d else ignored a)
@@ -182,8 +182,8 @@ completes_other : (m : Moment) (n : Notice) (a : Activity) → Other (Goes (on_c
 unfolding on_complete
 completes_other m n a = tt
 
-pub activity_moved_other : (b : Book) (now : ℕ) (a : Activity) (d : Decision Activity) → MovesActivity b now a d → Other d
-activity_moved_other b now a d (at_activity r is) = subst Other (sym is) (activity_other (moment_of b now) r a r.message)
-activity_moved_other b now a d (activity_when_due is) = subst Other (sym is) (activity_due_other (moment_of b now) a _)
-activity_moved_other b now a d (works url kind vote key value is) = subst Other (sym is) (asks_other (moment_of b now) url kind vote key value a a.context)
-activity_moved_other b now a d (completes n is) = subst Other (sym is) (completes_other (moment_of b now) n a)
+pub activity_moved_other : (b : Book) (e : Event) (now : ℕ) (a : Activity) (d : Decision Activity) → MovesActivity b e now a d → Other d
+activity_moved_other b e now a d (at_activity r came why is) = subst Other (sym is) (activity_other (moment_of b now) r a r.message)
+activity_moved_other b e now a d (activity_when_due came is) = subst Other (sym is) (activity_due_other (moment_of b now) a _)
+activity_moved_other b e now a d (works url kind vote key value came is) = subst Other (sym is) (asks_other (moment_of b now) url kind vote key value a a.context)
+activity_moved_other b e now a d (completes n l came why is) = subst Other (sym is) (completes_other (moment_of b now) n a)
