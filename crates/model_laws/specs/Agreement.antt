@@ -1,5 +1,5 @@
 -- Agreement: what holds of every world, whatever is delivered, lost, repeated, reordered, timed out or crashed.
-use Rattle.std.specs.Prelude.{ℕ, List, [], ◌∷◌, Option, Some, None, Bool, false, nat_eq, ◌&&◌, length, filter, ◌≡◌, ◌⊎◌, ◌≤◌}
+use Rattle.std.specs.Prelude.{ℕ, List, [], ◌∷◌, Option, Some, None, Bool, false, nat_eq, ◌&&◌, length, filter, ◌≡◌, ◌⊎◌, ◌≤◌, ◌<◌, ◌^◌}
 use Rattle.at_base.specs.Numbers.{Numbers}
 use Rattle.at_base.specs.declared.epr.Epr.{Epr}
 use Rattle.at_base.specs.declared.notice.Kind.{Kind}
@@ -18,7 +18,7 @@ use Rattle.at_base.specs.declared.outs.Told.TheVariants as tellings
 use Rattle.at_base.specs.declared.outs.Effect.{Effect}
 use Rattle.at_base.specs.declared.outs.Effect.TheVariants as effects
 use Rattle.at_model.specs.Book.{is_id}
-use Rattle.at_model.specs.World.{Node, Who, Posted, Happened, World, nth, happened_at}
+use Rattle.at_model.specs.World.{Node, Who, Posted, Happened, World, WorldEvent, nth, happened_at, run_of}
 
 abbrev pub IsIn : {A : Type 0} → A → List A → Type 0
 IsIn x [] = ⊥
@@ -110,3 +110,10 @@ pub record IsToldTruly (w : World) : Type 0 where
 abbrev pub HasOneSuperior : World → Type 0
 HasOneSuperior w =
     (x s t : Who) (one other : Option Seat) → IsAccepted w s one x → IsAccepted w t other x → s ≡ t
+
+-- Agreement, stated of every run of fewer than 2^64 nodes, whatever is delivered, lost, repeated, reordered, stopped or
+-- crashed.
+pub record Agrees : Type 0 where
+  pub agreed : (count : ℕ) (es : List WorldEvent) → count < 2 ^ 64 → IsAgreed (run_of count es)
+  pub behind : (count : ℕ) (es : List WorldEvent) → count < 2 ^ 64 → IsBehindAnswers (run_of count es)
+  pub told : (count : ℕ) (es : List WorldEvent) → count < 2 ^ 64 → IsToldTruly (run_of count es)

@@ -1,5 +1,5 @@
 -- Worked examples: whole runs, with their messages and effects.
-use Rattle.std.specs.Prelude.{ℕ, List, [], ◌∷◌, ◌++◌, Option, Some, None, true, false, not, ◌&&◌, codes, ◌≡◌}
+use Rattle.std.specs.Prelude.{ℕ, List, [], ◌∷◌, ◌++◌, Option, Some, None, Bool, true, false, not, ◌&&◌, codes, ◌≡◌}
 use Rattle.at_base.specs.Numbers.{Numbers}
 use Rattle.at_base.specs.declared.notice.Kind.TheVariants as kinds
 use Rattle.at_base.specs.declared.notice.Vote.{Vote}
@@ -13,7 +13,7 @@ use Rattle.at_base.specs.declared.outs.Told.TheVariants as tellings
 use Rattle.at_base.specs.declared.outs.Effect.TheVariants as effects
 use Rattle.at_model.specs.Addresses.{endpoint_of}
 use Rattle.at_model.specs.World.{Node, World, base_of, nth, WorldEvent, run_on, run_of, Deliver, Turn, Crash}
-use Rattle.model_laws.specs.Settle.{settle, is_settled}
+use Rattle.model_laws.specs.Settle.{settle, is_settled, settle_rounds, most_deliveries, waiting, all_up}
 use Rattle.at_model.specs.Views.{line, lines_from, at, id_at, up, deliver_to, tick_at, begin_at, work_at, interpose_at, commit_at}
 
 abbrev pub first : Numbers
@@ -450,6 +450,19 @@ half_told =
 abbrev pub HalfToldSettles : Type 0
 HalfToldSettles =
     is_settled (run_on (run_of 3 half_told) (settle (run_of 3 half_told))) && not (is_settled (run_of 3 half_told)) ≡ true
+
+-- A leaf that is still Registering ignores the first Prepare: doubt stands after one round, and ends with the second.
+abbrev pub still_registering : List WorldEvent
+still_registering =
+    one_participant votes.Prepared
+    ++ (work_at 1 first 3 kinds.Durable votes.Prepared ∷ deliver_to 3 9 ∷ deliver_to 2 10 ∷ commit_at 1 first ∷ deliver_to 2 12 ∷ deliver_to 3 13 ∷ [])
+
+abbrev pub is_settled_behind : ℕ → World → Bool
+is_settled_behind n w = is_settled (settle_rounds n (most_deliveries (waiting w)) (all_up w)).world
+
+abbrev pub StillRegisteringSettles : Type 0
+StillRegisteringSettles =
+    (is_settled_behind 1 (run_of 3 still_registering) ≡ false) × (is_settled_behind 2 (run_of 3 still_registering) ≡ true)
 
 -- A root waits for every durable participant: the one that hasn't answered is told again.
 abbrev pub waits_for_all : List WorldEvent

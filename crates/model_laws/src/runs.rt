@@ -1,6 +1,6 @@
 //! Worked examples: whole runs of a world, with the messages and the effects that they give.
 
-ghost use Rattle.model_laws.specs.Examples.{WaitsForAllMessages, PlainPathMessages, PlainPathEffects, NoParticipantMessages, NoParticipantEffects, VolatileFirstMessages, VolatileFirstEffects, ReadOnlyMessages, ReadOnlyEffects, OneAbortsMessages, OneAbortsEffects, LateRegisterMessages, LateRegisterEffects, RegisterTwiceMessages, RegisterTwiceEffects, NewIncarnationMessages, NewIncarnationEffects, PrepareAgainMessages, PrepareAgainEffects, StopBeforeVoteMessages, StopBeforeVoteEffects, StopBehindVoteMessages, StopBehindVoteEffects, DecisionRefusedMessages, DecisionRefusedEffects, HaltBehindDecisionMessages, HaltBehindDecisionEffects, ExpiryMessages, ExpiryEffects, NoExpiryBehindDecisionMessages, NoExpiryBehindDecisionEffects, EndStandsMessages, EndStandsEffects, RollbackOnVolatileLinkMessages, RollbackOnVolatileLinkEffects, InterpositionMessages, InterpositionEffects, SubordinateCrashesMessages, SubordinateCrashesEffects, RegisterTwiceSeats, PlainPathJournals, NoDecisionRecorded, HalfToldSettles};
+ghost use Rattle.model_laws.specs.Examples.{WaitsForAllMessages, PlainPathMessages, PlainPathEffects, NoParticipantMessages, NoParticipantEffects, VolatileFirstMessages, VolatileFirstEffects, ReadOnlyMessages, ReadOnlyEffects, OneAbortsMessages, OneAbortsEffects, LateRegisterMessages, LateRegisterEffects, RegisterTwiceMessages, RegisterTwiceEffects, NewIncarnationMessages, NewIncarnationEffects, PrepareAgainMessages, PrepareAgainEffects, StopBeforeVoteMessages, StopBeforeVoteEffects, StopBehindVoteMessages, StopBehindVoteEffects, DecisionRefusedMessages, DecisionRefusedEffects, HaltBehindDecisionMessages, HaltBehindDecisionEffects, ExpiryMessages, ExpiryEffects, NoExpiryBehindDecisionMessages, NoExpiryBehindDecisionEffects, EndStandsMessages, EndStandsEffects, RollbackOnVolatileLinkMessages, RollbackOnVolatileLinkEffects, InterpositionMessages, InterpositionEffects, SubordinateCrashesMessages, SubordinateCrashesEffects, RegisterTwiceSeats, PlainPathJournals, NoDecisionRecorded, HalfToldSettles, StillRegisteringSettles};
 
 /// The plain path: the participant votes Prepared, and both sides commit.
 #[tactic(auto, using(crate::proofs::Examples::plain_path_messages, crate::proofs::Examples::plain_path_effects))]
@@ -157,6 +157,12 @@ pub fn no_decision_recorded()
 #[tactic(auto, using(crate::proofs::Examples::half_told_settles))]
 pub fn half_told_settles()
     ensures { HalfToldSettles }
+{}
+
+/// A leaf that is still Registering ignores its first Prepare: the world is at rest after the second round of settling.
+#[tactic(auto, using(crate::proofs::Examples::still_registering_settles))]
+pub fn still_registering_settles()
+    ensures { StillRegisteringSettles }
 {}
 
 /// A root waits for every durable participant: the one that hasn't answered is told again.
