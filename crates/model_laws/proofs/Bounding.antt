@@ -178,10 +178,6 @@ either b d e h k = either_has (IfThere IsSoundTransaction) WellFormed b d e h k
 sound : (t : Transaction) → Numbered t → IsSoundTransaction t
 sound t h = record { bounds = h.bounds; numbers = inl h.order }
 
-rise_of : (t : Transaction) → AreNumbered 0 t.seats ⊎ IsSealed t.phase t.superior t.completion t.seats → SeatsRise 0 t.seats
-rise_of t (inl h) = rise_from 0 t.seats h
-rise_of t (inr h) = h.rise
-
 rolled_back : (g : Moving Transaction) → IsSoundTransaction g.item → IfThere IsSoundTransaction (until_rolled_back g).item
 rolled_back g h = either_change (IfThere IsSoundTransaction) (list_any (in_state states.Aborting) g.item.seats) (stays g) (forgotten g) h tt
 

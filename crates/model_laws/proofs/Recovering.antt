@@ -44,9 +44,6 @@ incarnations_rise rs = (last_of rs (last_incarnation rs) (le_self (last_incarnat
 
 -- Dead records may be left out.
 
-pick_true : {A : Type 0} (b : Bool) (x y : A) → b ≡ true → (if b then x else y) ≡ x
-pick_true b x y e = ap (λ c. if c then x else y) e
-
 pub or_false : (a b : Bool) → (a || b) ≡ false → (a ≡ false) × (b ≡ false)
 or_false true b e = absurd cc
 or_false false b e = (refl, e)

@@ -393,9 +393,6 @@ steps_touch_one b (events.Due item) now = due_shape b now item
 le_self : (n : ℕ) → n ≤ n
 le_self n = omega arith
 
-one_up : (n : ℕ) → n ≤ n + 1
-one_up n = omega arith
-
 stays_put : (b c : Book) → c.base ≡ b.base → c.incarnation ≡ b.incarnation → c.counter ≡ b.counter → KeepsPlace b c
 stays_put b c e f g = record { base = e; incarnation = f; counter = omega (arith, g); one = omega (arith, g) }
 
