@@ -1,0 +1,4 @@
+pub mod Disk
+pub mod Arms
+pub mod Tells
+pub mod Helds
