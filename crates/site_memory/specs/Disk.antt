@@ -1,8 +1,10 @@
 -- The disk of a machine in memory, file by file, and what a crash may leave of it.
 use Rattle.std.specs.Prelude.{ℕ, List, Bool, true, false, [], ◌∷◌, refl, ◌≡◌, ◌+◌, ◌++◌, max, length, zero, suc, cond, replicate}
-use Rattle.site_model.specs.Told.{Call, Made, Files, Torn, file_of, written, done, failed}
+use Rattle.site_model.specs.Told.{Call, Made, Files, Torn, written, done, failed}
 use Rattle.site_model.specs.Told.Call.{Write, Sync, Send, Post}
 use Rattle.site_memory.specs.declared.range.Range.{Range}
+use Rattle.site_memory.specs.declared.range.Which.{Which}
+use Rattle.site_memory.specs.declared.range.Which.TheVariants.{First, Second}
 use Rattle.site_memory.specs.declared.arm.Choice.{Choice}
 use Rattle.site_memory.specs.declared.arm.Choice.TheVariants.{Keep, Drop, Fill}
 
@@ -25,25 +27,33 @@ abbrev pub after_sync : Bool → Disk → Disk
 after_sync true d = opened d.seen
 after_sync false d = d
 
--- file 0 is the one, any other number the other
-abbrev pub is_file : ℕ → ℕ → Bool
-is_file zero zero = true
-is_file zero (suc m) = false
-is_file (suc n) zero = false
-is_file (suc n) (suc m) = true
+-- file 0 is the first, any other number the second
+abbrev pub which_of : ℕ → Which
+which_of zero = First
+which_of (suc n) = Second
 
-abbrev pub after_call : ℕ → Disk → Call → Bool → Disk
-after_call file d (Write g at bytes) done = cond (is_file file g) (after_write at bytes done d) d
-after_call file d (Sync g) done = cond (is_file file g) (after_sync done d) d
-after_call file d (Send bytes) done = d
-after_call file d (Post host port bytes) done = d
+abbrev pub same : Which → Which → Bool
+same First First = true
+same First Second = false
+same Second First = false
+same Second Second = true
 
-abbrev pub run : ℕ → Disk → List Made → Disk
-run file d [] = d
-run file d (made ∷ rest) = run file (after_call file d made.call made.done) rest
+abbrev pub after_call : Which → Disk → Call → Bool → Disk
+after_call which d (Write g at bytes) done = cond (same which (which_of g)) (after_write at bytes done d) d
+after_call which d (Sync g) done = cond (same which (which_of g)) (after_sync done d) d
+after_call which d (Send bytes) done = d
+after_call which d (Post host port bytes) done = d
 
-abbrev pub disk : ℕ → Files → List Made → Disk
-disk file opening log = run file (opened (file_of file opening)) log
+abbrev pub run : Which → Disk → List Made → Disk
+run which d [] = d
+run which d (made ∷ rest) = run which (after_call which d made.call made.done) rest
+
+abbrev pub file_in : Which → Files → List ℕ
+file_in First files = files.first
+file_in Second files = files.second
+
+abbrev pub disk : Which → Files → List Made → Disk
+disk which opening log = run which (opened (file_in which opening)) log
 
 abbrev pub TornAt : ℕ → ℕ → (List ℕ → Type 0) → List ℕ → Type 0
 TornAt at n from c = (d : List ℕ) × from d × Torn at n d c
@@ -63,7 +73,7 @@ end_of (r ∷ rs) = max (r.at + r.len) (end_of rs)
 
 -- a crash leaves one image of the pair
 abbrev pub Image : Files → List Made → Files → Type 0
-Image opening log c = MayBe (disk 0 opening log) c.first × MayBe (disk 1 opening log) c.second
+Image opening log c = MayBe (disk First opening log) c.first × MayBe (disk Second opening log) c.second
 
 -- each pending byte is that one
 abbrev pub filled : ℕ → List ℕ → List Range → List ℕ
@@ -76,5 +86,5 @@ chosen Keep d = d.seen
 chosen Drop d = d.stable
 chosen (Fill b) d = filled b d.stable d.pending
 
-pub a_failed_write_is_filled : chosen (Fill 7) (disk 0 (record { first = 1 ∷ []; second = [] }) (failed (Write 0 1 (5 ∷ 6 ∷ [])) ∷ done (Write 1 0 (9 ∷ [])) ∷ [])) ≡ 1 ∷ 7 ∷ 7 ∷ []
+pub a_failed_write_is_filled : chosen (Fill 7) (disk First (record { first = 1 ∷ []; second = [] }) (failed (Write 0 1 (5 ∷ 6 ∷ [])) ∷ done (Write 1 0 (9 ∷ [])) ∷ [])) ≡ 1 ∷ 7 ∷ 7 ∷ []
 a_failed_write_is_filled = refl

@@ -1,4 +1,5 @@
-pub mod Disk
 pub mod Arms
-pub mod Tells
+pub mod Disk
+pub mod Entries
 pub mod Helds
+pub mod Tells

@@ -2,7 +2,8 @@
 #![tactic(auto)]
 
 pub mod arm;
-pub mod buffer;
+mod buffer;
+pub mod entry;
 mod file;
 pub mod held;
 pub mod range;
