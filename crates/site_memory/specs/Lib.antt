@@ -3,3 +3,4 @@ pub mod Disk
 pub mod Entries
 pub mod Helds
 pub mod Tells
+pub mod Devices

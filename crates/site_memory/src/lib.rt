@@ -3,6 +3,8 @@
 
 pub mod arm;
 mod buffer;
+mod calls;
+pub mod device;
 pub mod entry;
 mod file;
 pub mod held;
