@@ -1,2 +1,4 @@
 pub mod Written
 pub mod Ran
+pub mod Images
+pub mod Answered

@@ -4,3 +4,4 @@ pub mod Entries
 pub mod Helds
 pub mod Tells
 pub mod Devices
+pub mod Answers
