@@ -1,5 +1,5 @@
 -- What calls and crashes do to the disk of a machine in memory.
-use Rattle.std.specs.Prelude.{List, [], ◌≡◌}
+use Rattle.std.specs.Prelude.{List, [], ◌≡◌, true}
 use Rattle.site_model.specs.Told.{Call, Made, Files}
 use Rattle.site_memory.specs.declared.arm.Arm.TheVariants.{Idle}
 use Rattle.site_memory.specs.declared.arm.Choice.{Choice}
@@ -27,3 +27,10 @@ pub record Leaves (choice : Choice) (old new : Device) : Type 0 where
   pub second : (opening_in new).second ≡ chosen choice (disk Second (opening_in old) (calls_in old))
   pub arm : new.arm ≡ Idle
   pub wanted : new.wanted ≡ old.wanted
+
+-- nothing changes but that memory is known to have been wanted
+pub record Wants (old new : Device) : Type 0 where
+  pub calls : calls_in new ≡ calls_in old
+  pub opening : opening_in new ≡ opening_in old
+  pub arm : new.arm ≡ old.arm
+  pub wanted : new.wanted ≡ true

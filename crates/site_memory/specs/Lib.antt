@@ -5,3 +5,4 @@ pub mod Helds
 pub mod Tells
 pub mod Devices
 pub mod Answers
+pub mod Sites

@@ -1,11 +1,14 @@
 //! The calls on the disk of a machine in memory.
 
 ghost use Rattle.std.specs.Prelude.{◌≡◌, ◌≤◌, ◌+◌, ◌++◌, ◌∷◌, [], true, false, cond, length, IfOk, OnOk};
+ghost use Rattle.site_model.specs.Told.{file_of};
+ghost use Rattle.site_memory.specs.Tells.{reads};
+ghost use Rattle.site_memory.specs.declared.entry.Noted.TheVariants.{Not};
 ghost use Rattle.site_model.specs.Told.Call.{Write, Sync, Send, Post};
 ghost use Rattle.site_memory.specs.declared.arm.Arm.TheVariants.{Idle};
 ghost use Rattle.site_memory.specs.declared.range.Which.TheVariants.{First, Second};
 ghost use Rattle.site_memory.specs.Disk.{after_write, after_sync, chosen, same, which_of};
-ghost use Rattle.site_memory.specs.Devices.{opening_in, calls_in, Runs, Leaves};
+ghost use Rattle.site_memory.specs.Devices.{opening_in, calls_in, Runs, Leaves, Wants};
 ghost use Rattle.site_memory.specs.Helds.{disk_of, opening_of, HasRoomIn};
 
 use crate::arm::{Arm, Choice};
@@ -73,6 +76,25 @@ impl Device {
             second: Held::new(alloc),
             arm: Arm::Idle,
             wanted: false,
+        }
+    }
+
+    /// A call for which there is no memory.
+    pub fn want(&mut self) -> Noted
+        ensures not { result ≡ Not }
+        ensures wants { Wants self.old self.new }
+    {
+        self.wanted = true;
+        Noted::Not
+    }
+
+    /// What reads give of a file.
+    pub fn file(&self, file: u8) -> &[u8]
+        ensures { result.now ≡ file_of file (reads (opening_in self.now) (calls_in self.now)) }
+    {
+        match file {
+            0 => self.first.seen.as_slice(),
+            _ => self.second.seen.as_slice(),
         }
     }
 

@@ -3,9 +3,13 @@
 
 pub mod arm;
 mod buffer;
+pub mod bytes;
 mod calls;
 pub mod device;
 pub mod entry;
 mod file;
 pub mod held;
+pub mod line;
+pub mod machine;
 pub mod range;
+pub mod tally;

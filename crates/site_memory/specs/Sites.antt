@@ -1,0 +1,70 @@
+-- What a whole machine in memory tells, and how its calls go.
+use Rattle.std.proofs.Common.{refl, sym, ◌∙◌, ap, subst}
+use Rattle.std.proofs.lemmas.List.{append-nil, length-append}
+use Rattle.std.proofs.Common.{arith}
+use Rattle.std.specs.Prelude.{ℕ, List, Option, Some, None, Result, [], ◌∷◌, ◌≡◌, ◌≤◌, ◌++◌, length, drop, map}
+use Rattle.site_model.specs.Told.{Told, Call, Made, Files, Link, IsPrefix}
+use Rattle.site_model.specs.Told.Call.{Write, Sync}
+use Rattle.site_model.specs.Site.{Counts}
+use Rattle.site_memory.specs.declared.bytes.Bytes.{Bytes}
+use Rattle.site_memory.specs.declared.bytes.Posted.{Posted}
+use Rattle.site_memory.specs.declared.device.Device.{Device}
+use Rattle.site_memory.specs.declared.entry.Noted.{Noted}
+use Rattle.site_memory.specs.declared.entry.Noted.TheVariants.{Done, Failed, Not}
+use Rattle.site_memory.specs.declared.machine.MemSite.{MemSite}
+use Rattle.site_memory.specs.declared.line.Line.{Line}
+use Rattle.site_memory.specs.declared.tally.Tally.{Tally}
+use Rattle.site_memory.specs.Answers.{Says}
+use Rattle.site_memory.specs.Devices.{Runs, calls_in, opening_in}
+use Rattle.site_memory.specs.Disk.{Image}
+use Rattle.site_memory.specs.Tells.{reads, tells}
+
+abbrev pub contents : Bytes → List ℕ
+contents b = b.bytes.items
+
+abbrev pub link_of : Line → Link
+link_of line = record { open_bytes = drop line.at line.coming.items; waiting = map contents line.waiting.items }
+
+abbrev pub counts_of : Tally → Counts
+counts_of t = record { disk = t.disk; gate = t.gate; accept = t.accept; receive = t.receive; link = t.link; taken = t.taken; closings = t.closings }
+
+abbrev pub told_of : MemSite → Told
+told_of s = tells (opening_in s.device) (calls_in s.device) (link_of s.line) s.clock (counts_of s.tally)
+
+pub now_counts : (s : MemSite) (l : List Made) (c : Files) → (told_of s).calls ≡ Some l → (told_of s).images c → (told_of s).past l c
+now_counts s l c is now = (([], append-nil l ∙ sym (same is)), subst (λ z. Image (opening_in s.device) z c) (same is) now) where
+  inside : Option (List Made) → List Made
+  inside None = []
+  inside (Some x) = x
+  same : Some (calls_in s.device) ≡ Some l → calls_in s.device ≡ l
+  same e = ap inside e
+
+pub now_only : (s : MemSite) (l m : List Made) (c : Files) → (told_of s).calls ≡ Some m → length m ≤ length l → (told_of s).past l c → (l ≡ m) × (told_of s).images c
+now_only s l m c is le (([], e), h) = ((sym (append-nil l) ∙ e) ∙ ap inside is, subst (λ z. Image (opening_in s.device) z c) (sym (append-nil l) ∙ e) h) where
+  inside : Option (List Made) → List Made
+  inside None = []
+  inside (Some x) = x
+now_only s l m c is le ((x ∷ rest, e), h) = absurd (omega (arith, le, sym (length-append l (x ∷ rest)) ∙ ap length e ∙ ap (λ o. length (inside o)) is)) where
+  inside : Option (List Made) → List Made
+  inside None = []
+  inside (Some x) = x
+
+-- a call with its answer: it went as it was armed, or it wanted memory
+pub record Goes {T E : Type 0} (call : Call) (result : Result T E) (old new : MemSite) : Type 0 where
+  pub noted : Noted
+  pub says : Says noted result
+  pub runs : Runs call noted old.device new.device
+
+-- the gate's two calls; the second is left out where the first wasn't done
+abbrev pub Second : Noted → ℕ → Noted → Device → Device → Type 0
+Second Done file noted mid new = Runs (Sync file) noted mid new
+Second Failed file noted mid new = (noted ≡ Failed) × (new ≡ mid)
+Second Not file noted mid new = (noted ≡ Not) × (new ≡ mid)
+
+pub record GoesTwice {T E : Type 0} (file at : ℕ) (result : Result T E) (old new : MemSite) : Type 0 where
+  pub mid : Device
+  pub first : Noted
+  pub noted : Noted
+  pub says : Says noted result
+  pub wrote : Runs (Write file at (1 ∷ [])) first old.device mid
+  pub synced : Second first file noted mid new.device
