@@ -45,6 +45,7 @@ seen_next which d (Write g at bytes) b h = by_case (same which (which_of g)) b w
   wrote : (b : Bool) → MayBe (after_write at bytes b d) (after_write at bytes b d).seen
   wrote true = push_torn _ d.pending (record { at = at; len = length bytes }) _ (d.seen, h, torn_written at bytes d.seen)
   wrote false = push_torn _ d.pending (record { at = at; len = length bytes }) _ (d.seen, h, torn_same at (length bytes) d.seen)
+
   by_case : (t b : Bool) → MayBe (cond t (after_write at bytes b d) d) (cond t (after_write at bytes b d) d).seen
   by_case true b = wrote b
   by_case false b = h

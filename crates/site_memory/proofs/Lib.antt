@@ -2,3 +2,4 @@ pub mod Written
 pub mod Ran
 pub mod Images
 pub mod Answered
+pub mod OnDevices

@@ -22,9 +22,11 @@ take_written k at bytes old h l =
 pub still_same : (fresh least : ℕ) (seen later stable : List ℕ) (at : ℕ) (bytes : List ℕ) → least ≡ min fresh at → later ≡ written at bytes seen → (fresh ≤ length stable) × (fresh ≤ length seen) × (take fresh seen ≡ take fresh stable) → (least ≤ length stable) × (least ≤ length later) × (take least later ≡ take least stable)
 still_same fresh least seen later stable at bytes e w h =
     let short : length later ≡ max (length seen) (at + length bytes) = ap length w ∙ length_written at bytes seen in
-    let low : least ≤ fresh = omega (arith, e) in
-    (omega (arith, low, h.0), omega (arith, low, h.1, short),
-      ap (take least) w ∙ take_written least at bytes seen (omega (arith, e)) (omega (arith, low, h.1)) ∙ sym (take-take least fresh seen low) ∙ ap (take least) h.2 ∙ take-take least fresh stable low)
+    let low : least ≤ fresh = omega (arith, e) in (
+      omega (arith, low, h.0),
+      omega (arith, low, h.1, short),
+      ap (take least) w ∙ take_written least at bytes seen (omega (arith, e)) (omega (arith, low, h.1)) ∙ sym (take-take least fresh seen low) ∙ ap (take least) h.2 ∙ take-take least fresh stable low,
+    )
 
 pub length_filled : (n b : ℕ) (f : List ℕ) (rs : List Range) → length f ≤ n → end_of rs ≤ n → length (filled b f rs) ≤ n
 length_filled n b f [] h e = h

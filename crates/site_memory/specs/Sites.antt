@@ -2,10 +2,11 @@
 use Rattle.std.proofs.Common.{refl, sym, ◌∙◌, ap, subst}
 use Rattle.std.proofs.lemmas.List.{append-nil, length-append}
 use Rattle.std.proofs.Common.{arith}
-use Rattle.std.specs.Prelude.{ℕ, List, Option, Some, None, Result, [], ◌∷◌, ◌≡◌, ◌≤◌, ◌++◌, length, drop, map}
+use Rattle.std.specs.Prelude.{ℕ, List, Option, Some, None, false, Result, [], ◌∷◌, ◌≡◌, ◌≤◌, ◌++◌, length, drop, map}
 use Rattle.site_model.specs.Told.{Told, Call, Made, Files, Link, IsPrefix}
 use Rattle.site_model.specs.Told.Call.{Write, Sync}
 use Rattle.site_model.specs.Site.{Counts}
+use Rattle.site_memory.specs.declared.arm.Arm.TheVariants.{Idle}
 use Rattle.site_memory.specs.declared.bytes.Bytes.{Bytes}
 use Rattle.site_memory.specs.declared.bytes.Posted.{Posted}
 use Rattle.site_memory.specs.declared.device.Device.{Device}
@@ -36,6 +37,7 @@ now_counts s l c is now = (([], append-nil l ∙ sym (same is)), subst (λ z. Im
   inside : Option (List Made) → List Made
   inside None = []
   inside (Some x) = x
+
   same : Some (calls_in s.device) ≡ Some l → calls_in s.device ≡ l
   same e = ap inside e
 
@@ -56,15 +58,36 @@ pub record Goes {T E : Type 0} (call : Call) (result : Result T E) (old new : Me
   pub runs : Runs call noted old.device new.device
 
 -- the gate's two calls; the second is left out where the first wasn't done
-abbrev pub Second : Noted → ℕ → Noted → Device → Device → Type 0
-Second Done file noted mid new = Runs (Sync file) noted mid new
-Second Failed file noted mid new = (noted ≡ Failed) × (new ≡ mid)
-Second Not file noted mid new = (noted ≡ Not) × (new ≡ mid)
+abbrev pub Then : Noted → ℕ → Noted → Device → Device → Type 0
+Then Done file noted mid new = Runs (Sync file) noted mid new
+Then Failed file noted mid new = (noted ≡ Failed) × (new ≡ mid)
+Then Not file noted mid new = (noted ≡ Not) × (new ≡ mid)
 
-pub record GoesTwice {T E : Type 0} (file at : ℕ) (result : Result T E) (old new : MemSite) : Type 0 where
+pub record RunsTwice (file at : ℕ) (noted : Noted) (old new : Device) : Type 0 where
   pub mid : Device
   pub first : Noted
+  pub wrote : Runs (Write file at (1 ∷ [])) first old mid
+  pub synced : Then first file noted mid new
+
+pub record GoesTwice {T E : Type 0} (file at : ℕ) (result : Result T E) (old new : MemSite) : Type 0 where
   pub noted : Noted
   pub says : Says noted result
-  pub wrote : Runs (Write file at (1 ∷ [])) first old.device mid
-  pub synced : Second first file noted mid new.device
+  pub runs : RunsTwice file at noted old.device new.device
+
+-- a machine as it is made
+pub record IsNew (s : MemSite) : Type 0 where
+  pub opening : opening_in s.device ≡ record { first = []; second = [] }
+  pub calls : calls_in s.device ≡ []
+  pub link : link_of s.line ≡ record { open_bytes = []; waiting = [] }
+  pub sent : (s.answers.items ≡ []) × (s.posts.items ≡ [])
+  pub names : s.names ≡ None
+  pub clock : s.clock ≡ 0
+  pub counts : counts_of s.tally ≡ record { disk = 0; gate = 0; accept = 0; receive = 0; link = 0; taken = 0; closings = 0 }
+  pub armed : (s.device.arm ≡ Idle) × (s.device.wanted ≡ false) × (s.fail_read ≡ 0) × (s.fail_link ≡ 0)
+
+-- nothing but its arm changes
+pub record Same (old new : MemSite) : Type 0 where
+  pub opening : opening_in new.device ≡ opening_in old.device
+  pub calls : calls_in new.device ≡ calls_in old.device
+  pub wanted : new.device.wanted ≡ old.device.wanted
+  pub others : record new { device = old.device } ≡ old

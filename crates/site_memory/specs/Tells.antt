@@ -19,4 +19,3 @@ tells opening log link clock counts =
       clock = Some clock;
       counts = counts;
     }
-

@@ -20,8 +20,7 @@ fn pad(buf: &mut Vec<u8>, size: usize, byte: u8)
     ensures items { buf.new.items ≡ buf.old.items ++ replicate (size - length buf.old.items) byte }
     ensures capacity { vec_capacity buf.old ≤ vec_capacity buf.new }
 {
-    if buf.len() < size && buf.resize(size, byte).is_err() {
-    }
+    if buf.len() < size && buf.resize(size, byte).is_err() {}
 }
 
 /// Bytes over others, from a place on that is there. There is room.
@@ -33,8 +32,7 @@ fn put_over(buf: &mut Vec<u8>, at: usize, bytes: &[u8])
 {
     let inside = bytes.len().min(buf.len() - at);
     buf[at..at + inside].copy_from_slice(&bytes[..inside]);
-    if buf.extend_from_slice(&bytes[inside..]).is_err() {
-    }
+    if buf.extend_from_slice(&bytes[inside..]).is_err() {}
 }
 
 /// Writes bytes. There is room.
@@ -75,6 +73,5 @@ pub fn copy(from: &[u8], to: &mut Vec<u8>)
     ensures capacity { vec_capacity to.old ≤ vec_capacity to.new }
 {
     to.clear();
-    if to.extend_from_slice(from).is_err() {
-    }
+    if to.extend_from_slice(from).is_err() {}
 }

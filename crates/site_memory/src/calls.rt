@@ -7,6 +7,7 @@ ghost use Rattle.site_memory.specs.declared.entry.Noted.TheVariants.{Not};
 ghost use Rattle.site_model.specs.Told.Call.{Write, Sync, Send, Post};
 ghost use Rattle.site_memory.specs.declared.arm.Arm.TheVariants.{Idle};
 ghost use Rattle.site_memory.specs.declared.range.Which.TheVariants.{First, Second};
+ghost use Rattle.site_memory.specs.Arms.{armed};
 ghost use Rattle.site_memory.specs.Disk.{after_write, after_sync, chosen, same, which_of};
 ghost use Rattle.site_memory.specs.Devices.{opening_in, calls_in, Runs, Leaves, Wants};
 ghost use Rattle.site_memory.specs.Helds.{disk_of, opening_of, HasRoomIn};
@@ -19,7 +20,13 @@ use crate::range::Which;
 use std::alloc::{AllocError, Global};
 
 /// Makes room for a write in one of the files, and says its place.
-fn room_in(first: &mut Held, second: &mut Held, which: Which, at: u64, size: usize) -> Result<usize, AllocError>
+fn room_in(
+    first: &mut Held,
+    second: &mut Held,
+    which: Which,
+    at: u64,
+    size: usize,
+) -> Result<usize, AllocError>
     ensures same { (disk_of first.new ≡ disk_of first.old) × (disk_of second.new ≡ disk_of second.old) }
     ensures opening { opening_of first.new second.new ≡ opening_of first.old second.old }
     ensures ok { IfOk result (λ place. (place ≡ at) × HasRoomIn which first.new second.new (at + size)) }
@@ -79,6 +86,14 @@ impl Device {
         }
     }
 
+    /// Arms it, unless it has stopped.
+    pub fn set(&mut self, arm: Arm)
+        ensures arm { self.new.arm ≡ armed arm self.old.arm }
+        ensures others { (opening_in self.new ≡ opening_in self.old) × (calls_in self.new ≡ calls_in self.old) × (self.new.wanted ≡ self.old.wanted) }
+    {
+        self.arm.set(arm);
+    }
+
     /// A call for which there is no memory.
     pub fn want(&mut self) -> Noted
         ensures not { result ≡ Not }
@@ -114,7 +129,14 @@ impl Device {
         let noted = note(&mut self.log, &mut self.arm, &mut self.wanted, deed);
         match noted {
             Noted::Done => write_in(&mut self.first, &mut self.second, which, place, bytes, true),
-            Noted::Failed => write_in(&mut self.first, &mut self.second, which, place, bytes, false),
+            Noted::Failed => write_in(
+                &mut self.first,
+                &mut self.second,
+                which,
+                place,
+                bytes,
+                false,
+            ),
             Noted::Not => {}
         }
         noted
@@ -124,7 +146,12 @@ impl Device {
     pub fn sync(&mut self, file: u8) -> Noted
         ensures { Runs (Sync file) result self.old self.new }
     {
-        let noted = note(&mut self.log, &mut self.arm, &mut self.wanted, Deed::Sync { file });
+        let noted = note(
+            &mut self.log,
+            &mut self.arm,
+            &mut self.wanted,
+            Deed::Sync { file },
+        );
         match noted {
             Noted::Done => sync_in(&mut self.first, &mut self.second, Which::of(file)),
             Noted::Failed => {}

@@ -10,19 +10,39 @@ use std::alloc::{AllocError, Global};
 /// A call of the disk or of the network.
 #[derive(Debug)]
 pub enum Deed {
-    Write { file: u8, at: u64, bytes: Vec<u8> },
-    Sync { file: u8 },
-    Send { bytes: Vec<u8> },
-    Post { host: Vec<u8>, port: u16, bytes: Vec<u8> },
+    Write {
+        file: u8,
+        at: u64,
+        bytes: Vec<u8>,
+    },
+    Sync {
+        file: u8,
+    },
+    Send {
+        bytes: Vec<u8>,
+    },
+    Post {
+        host: Vec<u8>,
+        port: u16,
+        bytes: Vec<u8>,
+    },
 }
 
 impl Drop for Deed {
     fn drop(self) {
         match self {
-            Deed::Write { file: _, at: _, bytes: _bytes } => {}
+            Deed::Write {
+                file: _,
+                at: _,
+                bytes: _bytes,
+            } => {}
             Deed::Sync { file: _ } => {}
             Deed::Send { bytes: _bytes } => {}
-            Deed::Post { host: _host, port: _, bytes: _bytes } => {}
+            Deed::Post {
+                host: _host,
+                port: _,
+                bytes: _bytes,
+            } => {}
         }
     }
 }

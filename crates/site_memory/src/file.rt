@@ -50,7 +50,14 @@ impl Held {
         ensures is { disk_of self.new ≡ after_write at bytes.now done (disk_of self.old) }
         ensures opening { self.new.opening.items ≡ self.old.opening.items }
     {
-        if self.pending.push(Range { at, len: bytes.len() }).is_err() {
+        if self
+            .pending
+            .push(Range {
+                at,
+                len: bytes.len(),
+            })
+            .is_err()
+        {
             return;
         }
         if done {
@@ -65,8 +72,11 @@ impl Held {
         ensures opening { self.new.opening.items ≡ self.old.opening.items }
     {
         self.stable.truncate(self.fresh);
-        if self.stable.extend_from_slice(&self.seen[self.fresh..]).is_err() {
-        }
+        if self
+            .stable
+            .extend_from_slice(&self.seen[self.fresh..])
+            .is_err()
+        {}
         self.fresh = self.seen.len();
         self.pending.clear();
     }

@@ -12,4 +12,5 @@ pub mod held;
 pub mod line;
 pub mod machine;
 pub mod range;
+pub mod site;
 pub mod tally;

@@ -1,12 +1,11 @@
 //! Connections.
 
-ghost use Rattle.std.specs.Prelude.{◌≡◌, ◌≤◌, ◌++◌, ◌∷◌, [], length, map, OnOk, OnErr, IfOk};
-ghost use Rattle.site_model.specs.Calls.{Opens, Gives, shut};
+ghost use Rattle.std.specs.Prelude.{◌≡◌, ◌≤◌, ◌++◌, ◌∷◌, [], length, map, OnOk, OnErr};
+ghost use Rattle.site_model.specs.Calls.{OpensAs, GivesFirst, shut};
 ghost use Rattle.site_memory.specs.Sites.{contents, link_of};
 
 use crate::bytes::Bytes;
 use site_model::site::Taken;
-use site_model::source::Failed;
 use std::alloc::{AllocError, Global};
 use std::collections::VecDeque;
 
@@ -43,35 +42,35 @@ impl Line {
     }
 
     /// Opens the next.
-    pub fn next(&mut self) -> Result<Taken, Failed>
-        ensures { Opens result (link_of self.old) (link_of self.new) }
+    pub fn next(&mut self) -> Taken
+        ensures { OpensAs result (link_of self.old) (link_of self.new) }
     {
         self.at = 0;
         match self.waiting.pop_front() {
             Some(next) => {
                 self.coming = next.bytes;
-                Ok(Taken::Opened)
+                Taken::Opened
             }
             None => {
                 self.coming.clear();
-                Ok(Taken::Closed)
+                Taken::Closed
             }
         }
     }
 
     /// Gives of the open one.
-    pub fn give(&mut self, buf: &mut [u8]) -> Result<usize, Failed>
+    pub fn give(&mut self, buf: &mut [u8]) -> usize
         ensures same_length { length buf.new ≡ length buf.old }
-        ensures bound { IfOk result (λ n. n ≤ length buf.new) }
-        ensures gives { Gives result buf.new (link_of self.old) (link_of self.new) }
+        ensures bound { result ≤ length buf.new }
+        ensures gives { GivesFirst result buf.new (link_of self.old) (link_of self.new) }
     {
         if self.at >= self.coming.len() {
-            return Ok(0);
+            return 0;
         }
         let n = buf.len().min(self.coming.len() - self.at);
         buf[..n].copy_from_slice(&self.coming[self.at..self.at + n]);
         self.at += n;
-        Ok(n)
+        n
     }
 
     /// The open one brings nothing more.
