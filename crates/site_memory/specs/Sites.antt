@@ -2,9 +2,9 @@
 use Rattle.std.proofs.Common.{refl, sym, ◌∙◌, ap, subst}
 use Rattle.std.proofs.lemmas.List.{append-nil, length-append}
 use Rattle.std.proofs.Common.{arith}
-use Rattle.std.specs.Prelude.{ℕ, List, Option, Some, None, false, Result, [], ◌∷◌, ◌≡◌, ◌≤◌, ◌++◌, length, drop, map}
+use Rattle.std.specs.Prelude.{ℕ, List, Bool, true, Option, Some, None, false, Result, Ok, Err, [], ◌∷◌, ◌≡◌, ◌≢◌, ◌⊎◌, ◌≤◌, ◌++◌, length, drop, map}
 use Rattle.site_model.specs.Told.{Told, Call, Made, Files, Link, IsPrefix}
-use Rattle.site_model.specs.Told.Call.{Write, Sync}
+use Rattle.site_model.specs.Told.Call.{Write, Sync, Post}
 use Rattle.site_model.specs.Site.{Counts}
 use Rattle.site_memory.specs.declared.arm.Arm.TheVariants.{Idle}
 use Rattle.site_memory.specs.declared.bytes.Bytes.{Bytes}
@@ -13,6 +13,9 @@ use Rattle.site_memory.specs.declared.device.Device.{Device}
 use Rattle.site_memory.specs.declared.entry.Noted.{Noted}
 use Rattle.site_memory.specs.declared.entry.Noted.TheVariants.{Done, Failed, Not}
 use Rattle.site_memory.specs.declared.machine.MemSite.{MemSite}
+use Rattle.site_memory.specs.declared.machine.Names.{Names}
+use Rattle.site_model.specs.declared.site.AttachFailed.{AttachFailed}
+use Rattle.site_model.specs.declared.site.AttachFailed.TheVariants.{Disk, Link as NoLink}
 use Rattle.site_memory.specs.declared.line.Line.{Line}
 use Rattle.site_memory.specs.declared.tally.Tally.{Tally}
 use Rattle.site_memory.specs.Answers.{Says}
@@ -91,3 +94,24 @@ pub record Same (old new : MemSite) : Type 0 where
   pub calls : calls_in new.device ≡ calls_in old.device
   pub wanted : new.device.wanted ≡ old.device.wanted
   pub others : record new { device = old.device } ≡ old
+
+-- what was sent is kept
+abbrev pub kept_where : {A : Type 0} → Noted → A → List A → List A
+kept_where Done x xs = xs ++ x ∷ []
+kept_where Failed x xs = xs
+kept_where Not x xs = xs
+
+abbrev pub post_of : Posted → Call
+post_of posted = Post (contents posted.host) posted.port (contents posted.bytes)
+
+-- a machine with names is attached by them alone, the journal's tried first; else where no fault falls
+abbrev pub NamedSo : Names → Bool → List ℕ → List ℕ → Result (Unit {0}) AttachFailed → Type 0
+NamedSo names falls journal listen (Ok x) = (journal ≡ contents names.journal) × (listen ≡ contents names.listen) × (falls ≡ false)
+NamedSo names falls journal listen (Err Disk) = journal ≢ contents names.journal
+NamedSo names falls journal listen (Err NoLink) = (journal ≡ contents names.journal) × ((listen ≢ contents names.listen) ⊎ (falls ≡ true))
+
+abbrev pub Attached : Option Names → Bool → List ℕ → List ℕ → Result (Unit {0}) AttachFailed → Type 0
+Attached (Some names) falls journal listen result = NamedSo names falls journal listen result
+Attached None falls journal listen (Ok x) = falls ≡ false
+Attached None falls journal listen (Err Disk) = ⊥
+Attached None falls journal listen (Err NoLink) = falls ≡ true

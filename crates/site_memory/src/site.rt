@@ -1,13 +1,14 @@
 //! What can be set at a machine in memory, and its calls.
 
-ghost use Rattle.std.specs.Prelude.{◌≡◌, ◌≤◌, ◌<◌, ◌-◌, ◌++◌, ◌∷◌, [], true, nat_eq, map, length, take, drop, IfOk, IsErr, OnOk, OnErr, IfSome, IsSome, Some, None, ◌↔◌, ◌⊎◌, ◌≢◌};
+ghost use Rattle.std.specs.Prelude.{◌≡◌, ◌≤◌, ◌<◌, ◌+◌, ◌-◌, ◌++◌, ◌∷◌, [], true, nat_eq, map, length, take, drop, IfOk, IsErr, OnOk, OnErr, IfSome, IsSome, Some, None, ◌↔◌, ◌⊎◌, ◌≢◌};
 ghost use Rattle.site_model.specs.Told.{Files, Is, file_of};
 ghost use Rattle.site_model.specs.Told.Call.{Send, Post, Write, Sync};
+ghost use Rattle.site_model.specs.Counts.{capped};
 ghost use Rattle.site_model.specs.Calls.{Looked, Wrote, Synced, Raised, Gave, Attaches, Takes, Received, Closes, Reads};
 ghost use Rattle.site_memory.specs.declared.arm.Arm.TheVariants.{Idle, Fail, Stop, Stopped};
 ghost use Rattle.site_memory.specs.Arms.{armed};
 ghost use Rattle.site_memory.specs.Devices.{Leaves, Runs};
-ghost use Rattle.site_memory.specs.Sites.{contents, told_of, link_of, now_counts, now_only, Goes, GoesTwice, IsNew, RunsTwice, Same};
+ghost use Rattle.site_memory.specs.Sites.{contents, told_of, link_of, now_counts, now_only, Goes, GoesTwice, IsNew, RunsTwice, Same, Attached, kept_where, post_of};
 ghost use Rattle.site_memory.specs.Tells.{reads};
 ghost use Rattle.site_memory.specs.Devices.{opening_in, calls_in};
 
@@ -25,6 +26,7 @@ use std::alloc::{AllocError, Global};
 /// An answer, which is kept where it is sent.
 fn send_kept(alloc: Global, device: &mut Device, answers: &mut Vec<Bytes>, bytes: &[u8]) -> Noted
     ensures runs { Runs (Send bytes.now) result device.old device.new }
+    ensures kept { map contents answers.new.items ≡ kept_where result bytes.now (map contents answers.old.items) }
 {
     let Ok(copy) = Bytes::from_slice(alloc, bytes) else {
         return device.want();
@@ -47,6 +49,7 @@ fn post_kept(
     bytes: &[u8],
 ) -> Noted
     ensures runs { Runs (Post host.now port bytes.now) result device.old device.new }
+    ensures kept { map post_of posts.new.items ≡ kept_where result (Post host.now port bytes.now) (map post_of posts.old.items) }
 {
     let Ok(name) = Bytes::from_slice(alloc, host.as_bytes()) else {
         return device.want();
@@ -218,29 +221,30 @@ impl Site for MemSite {
 
     ghost only_now = { now_only };
 
-    fn attach(&mut self, journal: &str, listen: &str) -> Result<(), AttachFailed> {
+    fn attach(&mut self, journal: &str, listen: &str) -> Result<(), AttachFailed>
+        ensures call { Attaches result (told_of self.old) (told_of self.new) }
+        ensures is { Attached self.old.names (nat_eq self.old.fail_link 1) journal.now listen.now result }
+        ensures next { self.new.fail_link ≡ self.old.fail_link - 1 }
+        ensures others { self.new ≡ record self.old { fail_link = self.new.fail_link; tally = self.new.tally } }
+    {
         let falls = falls(&mut self.fail_link);
-        match &self.names {
-            None => {}
-            Some(names) => {
-                if journal.as_bytes() != names.journal.as_slice() {
-                    self.tally.disk = one_more(self.tally.disk);
-                    return Err(AttachFailed::Disk);
-                }
-                if listen.as_bytes() != names.listen.as_slice() {
-                    self.tally.accept = one_more(self.tally.accept);
-                    return Err(AttachFailed::Link);
-                }
-            }
+        let answer = attached(&self.names, falls, journal, listen);
+        match answer {
+            Ok(()) => {}
+            Err(AttachFailed::Disk) => self.tally.disk = one_more(self.tally.disk),
+            Err(AttachFailed::Link) => self.tally.accept = one_more(self.tally.accept),
         }
-        if falls {
-            self.tally.accept = one_more(self.tally.accept);
-            return Err(AttachFailed::Link);
-        }
-        Ok(())
+        answer
     }
 
-    fn size(&mut self, file: u8) -> Result<u64, Failed> {
+    fn size(&mut self, file: u8) -> Result<u64, Failed>
+        ensures is { IfOk result (λ n. (f : Files) → Is (told_of self.old).files f → n ≡ length (file_of file f)) }
+        ensures call { Looked result (told_of self.old) (told_of self.new) }
+        ensures fails { IsErr result ↔ (self.old.fail_read ≡ 1) }
+        ensures next { self.new.fail_read ≡ self.old.fail_read - 1 }
+        ensures others { self.new ≡ record self.old { fail_read = self.new.fail_read; tally = record self.old.tally { disk = self.new.tally.disk } } }
+        ensures counted { OnErr result (self.new.tally.disk ≡ capped (self.old.tally.disk + 1)) }
+    {
         if falls(&mut self.fail_read) {
             self.tally.disk = one_more(self.tally.disk);
             return Err(Failed);
@@ -248,7 +252,17 @@ impl Site for MemSite {
         Ok(self.device.file(file).len() as u64)
     }
 
-    fn read(&mut self, file: u8, at: u64, buf: &mut [u8]) -> Result<usize, Failed> {
+    fn read(&mut self, file: u8, at: u64, buf: &mut [u8]) -> Result<usize, Failed>
+        ensures bound { IfOk result (λ n. n ≤ length buf.new) }
+        ensures same_length { length buf.new ≡ length buf.old }
+        ensures is { IfOk result (λ n. (f : Files) → Is (told_of self.old).files f → take n buf.new ≡ take n (drop at (file_of file f))) }
+        ensures end { IfOk result (λ n. (f : Files) → Is (told_of self.old).files f → n ≡ 0 → 0 < length buf.old → length (file_of file f) ≤ at) }
+        ensures call { Looked result (told_of self.old) (told_of self.new) }
+        ensures fails { IsErr result ↔ (self.old.fail_read ≡ 1) }
+        ensures next { self.new.fail_read ≡ self.old.fail_read - 1 }
+        ensures others { self.new ≡ record self.old { fail_read = self.new.fail_read; tally = record self.old.tally { disk = self.new.tally.disk } } }
+        ensures counted { OnErr result (self.new.tally.disk ≡ capped (self.old.tally.disk + 1)) }
+    {
         if falls(&mut self.fail_read) {
             self.tally.disk = one_more(self.tally.disk);
             return Err(Failed);
@@ -259,6 +273,9 @@ impl Site for MemSite {
     fn write_at(&mut self, file: u8, at: u64, bytes: &[u8]) -> Result<(), Failed>
         ensures call { Wrote file at bytes.now result (told_of self.old) (told_of self.new) }
         ensures goes { Goes (Write file at bytes.now) result self.old self.new }
+        ensures others { self.new ≡ record self.old { device = self.new.device; tally = record self.old.tally { disk = self.new.tally.disk } } }
+        ensures uncounted { OnOk result (self.new.tally.disk ≡ self.old.tally.disk) }
+        ensures counted { OnErr result (self.new.tally.disk ≡ capped (self.old.tally.disk + 1)) }
     {
         let noted = self.device.write(file, at, bytes);
         answer(&mut self.tally.disk, noted)
@@ -267,6 +284,9 @@ impl Site for MemSite {
     fn sync(&mut self, file: u8) -> Result<(), Failed>
         ensures call { Synced file result (told_of self.old) (told_of self.new) }
         ensures goes { Goes (Sync file) result self.old self.new }
+        ensures others { self.new ≡ record self.old { device = self.new.device; tally = record self.old.tally { disk = self.new.tally.disk } } }
+        ensures uncounted { OnOk result (self.new.tally.disk ≡ self.old.tally.disk) }
+        ensures counted { OnErr result (self.new.tally.disk ≡ capped (self.old.tally.disk + 1)) }
     {
         let noted = self.device.sync(file);
         answer(&mut self.tally.disk, noted)
@@ -275,12 +295,21 @@ impl Site for MemSite {
     fn raise_gate(&mut self, file: u8, at: u64) -> Result<(), Failed>
         ensures call { Raised file at result (told_of self.old) (told_of self.new) }
         ensures goes { GoesTwice file at result self.old self.new }
+        ensures others { self.new ≡ record self.old { device = self.new.device; tally = record self.old.tally { gate = self.new.tally.gate } } }
+        ensures uncounted { OnOk result (self.new.tally.gate ≡ self.old.tally.gate) }
+        ensures counted { OnErr result (self.new.tally.gate ≡ capped (self.old.tally.gate + 1)) }
     {
         let noted = raise(&mut self.device, file, at);
         answer(&mut self.tally.gate, noted)
     }
 
-    fn take(&mut self) -> Result<Taken, Failed> {
+    fn take(&mut self) -> Result<Taken, Failed>
+        ensures call { Takes result (told_of self.old) (told_of self.new) }
+        ensures fails { IsErr result ↔ (self.old.fail_link ≡ 1) }
+        ensures next { self.new.fail_link ≡ self.old.fail_link - 1 }
+        ensures others { self.new ≡ record self.old { fail_link = self.new.fail_link; line = self.new.line; tally = self.new.tally } }
+        ensures counted { OnErr result (self.new.tally.accept ≡ capped (self.old.tally.accept + 1)) }
+    {
         if falls(&mut self.fail_link) {
             self.line.shut();
             self.tally.accept = one_more(self.tally.accept);
@@ -294,7 +323,14 @@ impl Site for MemSite {
         Ok(taken)
     }
 
-    fn receive(&mut self, buf: &mut [u8]) -> Result<usize, Failed> {
+    fn receive(&mut self, buf: &mut [u8]) -> Result<usize, Failed>
+        ensures same_length { length buf.new ≡ length buf.old }
+        ensures call { Received result buf.new (told_of self.old) (told_of self.new) }
+        ensures fails { IsErr result ↔ (self.old.fail_link ≡ 1) }
+        ensures next { self.new.fail_link ≡ self.old.fail_link - 1 }
+        ensures others { self.new ≡ record self.old { fail_link = self.new.fail_link; line = self.new.line; tally = record self.old.tally { receive = self.new.tally.receive } } }
+        ensures counted { OnErr result (self.new.tally.receive ≡ capped (self.old.tally.receive + 1)) }
+    {
         if falls(&mut self.fail_link) {
             self.tally.receive = one_more(self.tally.receive);
             return Err(Failed);
@@ -305,18 +341,31 @@ impl Site for MemSite {
     fn send(&mut self, bytes: &[u8]) -> Result<(), Failed>
         ensures call { Gave (Send bytes.now) result (told_of self.old) (told_of self.new) }
         ensures goes { Goes (Send bytes.now) result self.old self.new }
+        ensures others { self.new ≡ record self.old { device = self.new.device; tally = record self.old.tally { link = self.new.tally.link }; answers = self.new.answers } }
+        ensures uncounted { OnOk result (self.new.tally.link ≡ self.old.tally.link) }
+        ensures counted { OnErr result (self.new.tally.link ≡ capped (self.old.tally.link + 1)) }
+        ensures sent { OnOk result (map contents self.new.answers.items ≡ map contents self.old.answers.items ++ bytes.now ∷ []) }
+        ensures unsent { OnErr result (map contents self.new.answers.items ≡ map contents self.old.answers.items) }
     {
         let noted = send_kept(self.alloc, &mut self.device, &mut self.answers, bytes);
         answer(&mut self.tally.link, noted)
     }
 
-    fn close(&mut self) {
+    fn close(&mut self)
+        ensures call { Closes (told_of self.old) (told_of self.new) }
+        ensures others { self.new ≡ record self.old { line = self.new.line } }
+    {
         self.line.shut();
     }
 
     fn post(&mut self, host: &str, port: u16, bytes: &[u8]) -> Result<(), Failed>
         ensures call { Gave (Post host.now port bytes.now) result (told_of self.old) (told_of self.new) }
         ensures goes { Goes (Post host.now port bytes.now) result self.old self.new }
+        ensures others { self.new ≡ record self.old { device = self.new.device; tally = record self.old.tally { link = self.new.tally.link }; posts = self.new.posts } }
+        ensures uncounted { OnOk result (self.new.tally.link ≡ self.old.tally.link) }
+        ensures counted { OnErr result (self.new.tally.link ≡ capped (self.old.tally.link + 1)) }
+        ensures sent { OnOk result (map post_of self.new.posts.items ≡ map post_of self.old.posts.items ++ Post host.now port bytes.now ∷ []) }
+        ensures unsent { OnErr result (map post_of self.new.posts.items ≡ map post_of self.old.posts.items) }
     {
         let noted = post_kept(
             self.alloc,
@@ -329,8 +378,35 @@ impl Site for MemSite {
         answer(&mut self.tally.link, noted)
     }
 
-    fn now(&mut self) -> u64 {
+    fn now(&mut self) -> u64
+        ensures call { Reads result (told_of self.old) (told_of self.new) }
+        ensures others { (result ≡ self.old.clock) × (self.new ≡ self.old) }
+    {
         self.clock
+    }
+}
+
+/// Whether these are the names that it was given, and no fault falls here.
+fn attached(
+    names: &Option<Names>,
+    falls: bool,
+    journal: &str,
+    listen: &str,
+) -> Result<(), AttachFailed>
+    ensures { Attached names.now falls journal.now listen.now result }
+{
+    if let Some(names) = names {
+        if journal.as_bytes() != names.journal.as_slice() {
+            return Err(AttachFailed::Disk);
+        }
+        if listen.as_bytes() != names.listen.as_slice() {
+            return Err(AttachFailed::Link);
+        }
+    }
+    if falls {
+        Err(AttachFailed::Link)
+    } else {
+        Ok(())
     }
 }
 
