@@ -1,20 +1,20 @@
 -- Each call of a machine in memory is one of the trait's.
-use Rattle.std.proofs.Common.{ℕ, List, Bool, true, false, zero, suc, Some, None, Result, Ok, Err, [], ◌∷◌, length, ◌≡◌, ◌++◌, ◌+◌, ◌≤◌, ◌<◌, ◌⊎◌, inl, inr, refl, sym, ◌∙◌, ap, subst, take, drop, arith, Option, option_map, OnOk, OnErr, map}
+use Rattle.std.proofs.Common.{ℕ, List, Bool, zero, suc, Some, None, Result, Ok, Err, [], ◌∷◌, length, ◌≡◌, ◌++◌, ◌+◌, ◌≤◌, ◌⊎◌, inl, inr, refl, sym, ◌∙◌, ap, subst, take, drop, arith, Option, option_map, OnOk, OnErr}
 use Rattle.std.proofs.lemmas.List.{append-nil, append_assoc, length-append, take_at, take-append-le, take-append-drop}
-use Rattle.site_model.specs.Told.{Told, Call, Made, Files, Link, TornIn, TornFrom, Tears, Torn, Within, Settled, Is, IsPrefix, BreaksOff, Between, Elapses, Now, file_of, done, failed, written, with_file}
+use Rattle.site_model.specs.Told.{Told, Call, Made, Files, Link, TornIn, Tears, Within, Settled, Is, IsPrefix, Between, Elapses, Now, file_of, done, failed, written, with_file}
 use Rattle.site_model.specs.Told.Call.{Write, Sync, Send, Post}
 use Rattle.site_model.specs.Site.{Counts, OnDisk, OnGate, OnLink}
-use Rattle.site_model.specs.Calls.{Runs, Wrote, Synced, Raised, Gave, Outcome}
+use Rattle.site_model.specs.Calls.{Runs, Wrote, Synced, Raised, Gave}
 use Rattle.site_memory.specs.declared.arm.Arm.{Arm}
 use Rattle.site_memory.specs.declared.entry.Noted.{Noted}
 use Rattle.site_memory.specs.declared.entry.Noted.TheVariants.{Done, Failed, Not}
 use Rattle.site_memory.specs.declared.range.Which.TheVariants.{First, Second}
 use Rattle.site_memory.specs.Answers.{Says}
-use Rattle.site_memory.specs.Disk.{Disk, MayBe, Image, disk, after_call}
+use Rattle.site_memory.specs.Disk.{Disk, MayBe, Image, disk}
 use Rattle.site_memory.specs.Entries.{Notes}
 use Rattle.site_memory.specs.Tells.{reads, tells}
 use Rattle.site_memory.proofs.Ran.{effect, after_notes}
-use Rattle.site_memory.proofs.Images.{tears, synced, seen_image, torn_same, torn_written}
+use Rattle.site_memory.proofs.Images.{tears, seen_image, torn_same, torn_written}
 use Rattle.site_model.proofs.Past.{and_then, weaker}
 
 abbrev pub inside : {A : Type 0} → A → Option A → A

@@ -1,5 +1,5 @@
 -- What a call does to the crash images of a file, and of the pair.
-use Rattle.std.proofs.Common.{ℕ, List, Bool, true, false, zero, suc, [], ◌∷◌, length, ◌≡◌, ◌++◌, ◌+◌, ◌≤◌, ◌-◌, refl, sym, ◌∙◌, ap, subst, take, drop, replicate, arith}
+use Rattle.std.proofs.Common.{ℕ, List, Bool, true, false, zero, suc, [], ◌∷◌, length, ◌≡◌, ◌++◌, ◌+◌, ◌-◌, refl, sym, ◌∙◌, ap, subst, take, drop, replicate, arith}
 use Rattle.std.specs.Prelude.{max, cond}
 use Rattle.std.proofs.lemmas.List.{append_assoc, length-append, length-replicate, length-take}
 use Rattle.std.proofs.Math.Seq.{drop-append-add, drop-append_seam}
@@ -10,7 +10,7 @@ use Rattle.site_memory.specs.declared.entry.Noted.TheVariants.{Done, Failed, Not
 use Rattle.site_memory.specs.declared.range.Range.{Range}
 use Rattle.site_memory.specs.declared.range.Which.{Which}
 use Rattle.site_memory.specs.declared.range.Which.TheVariants.{First, Second}
-use Rattle.site_memory.specs.Disk.{Disk, MayBe, TornAt, torn_by, after_call, after_write, after_sync, disk, opened, run, same, which_of}
+use Rattle.site_memory.specs.Disk.{Disk, MayBe, TornAt, torn_by, after_call, after_write, after_sync, disk, run, same, which_of}
 use Rattle.site_memory.proofs.Ran.{effect}
 use Rattle.site_memory.proofs.Written.{length_written, take_written}
 

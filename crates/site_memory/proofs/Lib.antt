@@ -3,3 +3,4 @@ pub mod Ran
 pub mod Images
 pub mod Answered
 pub mod OnDevices
+pub mod ByByte

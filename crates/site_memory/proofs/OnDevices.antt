@@ -1,6 +1,6 @@
 -- The calls of a whole machine.
 use Rattle.std.proofs.Common.{ℕ, List, [], ◌∷◌, Result, ◌≡◌, sym, ◌∙◌, subst}
-use Rattle.site_model.specs.Told.{Told, Call, Made, Files, Link}
+use Rattle.site_model.specs.Told.{Told, Link}
 use Rattle.site_model.specs.Told.Call.{Write, Sync, Send, Post}
 use Rattle.site_model.specs.Site.{Counts, OnDisk, OnGate, OnLink}
 use Rattle.site_model.specs.Calls.{Wrote, Synced, Raised, Gave}

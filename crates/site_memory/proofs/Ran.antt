@@ -1,5 +1,5 @@
 -- One call more.
-use Rattle.std.proofs.Common.{ℕ, List, Bool, true, false, [], ◌∷◌, ◌≡◌, ◌++◌, refl, sym, ap, ◌∙◌, map}
+use Rattle.std.proofs.Common.{ℕ, List, Bool, true, false, [], ◌∷◌, ◌≡◌, ◌++◌, refl, sym, ap, ◌∙◌}
 use Rattle.std.specs.Prelude.{cond}
 use Rattle.site_model.specs.Told.{Call, Made, Files}
 use Rattle.site_model.specs.Told.Call.{Write, Sync, Send, Post}

@@ -1,5 +1,5 @@
 -- Bytes written over others, and ranges behind others.
-use Rattle.std.proofs.Common.{ℕ, List, [], ◌∷◌, length, ◌≡◌, ◌++◌, ◌+◌, ◌≤◌, ◌<◌, ◌-◌, refl, sym, ◌∙◌, ap, take, drop, replicate, arith}
+use Rattle.std.proofs.Common.{ℕ, List, [], ◌∷◌, length, ◌≡◌, ◌++◌, ◌+◌, ◌≤◌, ◌-◌, sym, ◌∙◌, ap, take, replicate, arith}
 use Rattle.std.proofs.lemmas.List.{length-append, length-replicate, length-take, length-drop, take-append-le, take-take}
 use Rattle.std.specs.Prelude.{max, min}
 use Rattle.site_model.specs.Told.{written}

@@ -1,5 +1,5 @@
 -- Which call of an armed machine fails.
-use Rattle.std.specs.Prelude.{ℕ, zero, suc}
+use Rattle.std.specs.Prelude.{zero, suc}
 use Rattle.site_memory.specs.declared.arm.Choice.{Choice}
 use Rattle.site_memory.specs.declared.arm.Choice.TheVariants.{Keep, Drop, Fill}
 use Rattle.site_memory.specs.declared.arm.Arm.{Arm}

@@ -6,3 +6,4 @@ pub mod Tells
 pub mod Devices
 pub mod Answers
 pub mod Sites
+pub mod Bytewise

@@ -1,9 +1,9 @@
 -- What a whole machine in memory tells, and how its calls go.
-use Rattle.std.proofs.Common.{refl, sym, ◌∙◌, ap, subst}
+use Rattle.std.proofs.Common.{sym, ◌∙◌, ap, subst}
 use Rattle.std.proofs.lemmas.List.{append-nil, length-append}
 use Rattle.std.proofs.Common.{arith}
 use Rattle.std.specs.Prelude.{ℕ, List, Bool, true, Option, Some, None, false, Result, Ok, Err, [], ◌∷◌, ◌≡◌, ◌≢◌, ◌⊎◌, ◌≤◌, ◌++◌, length, drop, map}
-use Rattle.site_model.specs.Told.{Told, Call, Made, Files, Link, IsPrefix}
+use Rattle.site_model.specs.Told.{Told, Call, Made, Files, Link}
 use Rattle.site_model.specs.Told.Call.{Write, Sync, Post}
 use Rattle.site_model.specs.Site.{Counts}
 use Rattle.site_memory.specs.declared.arm.Arm.TheVariants.{Idle}
@@ -21,7 +21,7 @@ use Rattle.site_memory.specs.declared.tally.Tally.{Tally}
 use Rattle.site_memory.specs.Answers.{Says}
 use Rattle.site_memory.specs.Devices.{Runs, calls_in, opening_in}
 use Rattle.site_memory.specs.Disk.{Image}
-use Rattle.site_memory.specs.Tells.{reads, tells}
+use Rattle.site_memory.specs.Tells.{tells}
 
 abbrev pub contents : Bytes → List ℕ
 contents b = b.bytes.items

@@ -9,6 +9,7 @@ pub mod device;
 pub mod entry;
 mod file;
 pub mod held;
+pub mod laws;
 pub mod line;
 pub mod machine;
 pub mod range;

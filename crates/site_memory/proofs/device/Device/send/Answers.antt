@@ -1,6 +1,6 @@
-use Rattle.std.proofs.Common.{refl, sym, ◌∙◌, true, false}
+use Rattle.std.proofs.Common.{refl}
 use Rattle.site_memory.specs.declared.range.Which.TheVariants.{First, Second}
-use Rattle.site_memory.specs.Helds.{disk_of, opening_of}
+use Rattle.site_memory.specs.Helds.{opening_of}
 use Rattle.site_memory.proofs.Ran.{goes_along, sent_nothing}
 use Rattle.site_memory.proofs.device.Device.send.Goals as goal
 

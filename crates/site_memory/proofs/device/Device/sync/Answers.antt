@@ -1,4 +1,4 @@
-use Rattle.std.proofs.Common.{refl, sym, ◌∙◌, true, false}
+use Rattle.std.proofs.Common.{refl, sym, ◌∙◌}
 use Rattle.site_memory.specs.declared.range.Which.TheVariants.{First, Second}
 use Rattle.site_model.specs.Told.Call.{Sync}
 use Rattle.site_memory.specs.Helds.{disk_of, opening_of}

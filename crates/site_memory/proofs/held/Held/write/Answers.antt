@@ -1,5 +1,3 @@
-use Rattle.std.proofs.Common.{arith, ap, ◌∙◌, sym, take, length, ◌≡◌, ◌≤◌, ◌+◌, ℕ, List}
-use Rattle.std.proofs.lemmas.List.{take-take}
 use Rattle.site_memory.proofs.Written.{still_same}
 use Rattle.site_memory.proofs.held.Held.write.Goals as goal
 
