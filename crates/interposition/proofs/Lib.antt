@@ -4,3 +4,4 @@ pub mod Taking
 pub mod Undrawn
 pub mod Finding
 pub mod Walking
+pub mod Losing

@@ -1,11 +1,14 @@
 -- The plan of a book is the model's, and doing it is the model's step.
-use Rattle.std.specs.Prelude.{ℕ, Option, Some, Bool, ◌≡◌}
+use Rattle.std.specs.Prelude.{ℕ, Some, Bool, map, ◌++◌, ◌≡◌}
 use Rattle.at_base.specs.WellFormed.{IsWellFormed}
 use Rattle.at_base.specs.declared.record.Record.{Record}
 use Rattle.at_base.specs.declared.event.Event.{Event}
 use Rattle.at_model.specs.Book.{Book}
 use Rattle.model_laws.specs.Sound.{IsSound, IsSoundEvent}
 use Rattle.at_model.specs.Step.{plan, step}
+use Rattle.at_model.specs.World.{happened_at, lost_in}
+use Rattle.coordinator_at.specs.Planning.{transactions_lost}
+use Rattle.participant_at.specs.Planning.{leaves_lost}
 use Rattle.interposition.specs.Planning.{planned}
 use Rattle.interposition.specs.Doing.{done, sent, recorded}
 
@@ -24,3 +27,7 @@ StepsAsTheModel = (b : Book) (e : Event) (now : ℕ) → IsStep b e now
 pub record KeepsBounds : Type 0 where
   pub entry : (b : Book) (e : Event) (now : ℕ) (r : Record) → IsSound b → IsSoundEvent e → recorded (planned b e now) ≡ Some r → IsWellFormed r
   pub book : (b : Book) (e : Event) (now : ℕ) (landed : Bool) → IsSound b → IsSoundEvent e → IsSound (done (planned b e now) landed b)
+
+-- What a book loses where its node goes down is what the model says that the node loses.
+abbrev pub LosesAsTheModel : Type 0
+LosesAsTheModel = (n : ℕ) (b : Book) → map (happened_at n) (transactions_lost b.transactions ++ leaves_lost b.leaves) ≡ lost_in n b

@@ -15,7 +15,7 @@ ghost use Rattle.interposition.specs.Doing.{done, drawn, noted, sent};
 ghost use Rattle.interposition.specs.Due.{FindsTheDue, WalksTheDue, next_item, next_transaction, next_leaf, next_activity};
 ghost use Rattle.interposition.specs.Planning.{arrived_part, at_activation, at_activity, at_leaf, at_participant, at_registration, at_transaction, at_work, due_part, part_of, planned, requested_part};
 ghost use Rattle.interposition.specs.declared.plan.Part.TheVariants as parts;
-ghost use Rattle.interposition.specs.Whole.{KeepsBounds, StepsAsTheModel};
+ghost use Rattle.interposition.specs.Whole.{KeepsBounds, LosesAsTheModel, StepsAsTheModel};
 
 use crate::plan::{Part, Plan, draws, notes_time};
 use crate::strangers::{answered, ignored, nothing, stranger};
@@ -37,6 +37,12 @@ use model_laws::rules::{ids_rise, records_are_well_formed};
 use participant_at::leaves::{Leaves, plans_as_the_model as leaves_as_the_model};
 use std::alloc::{AllocError, Global};
 use std::marker::Model;
+
+/// What a book loses where its node goes down is what the model says that the node loses.
+#[tactic(auto, using(crate::proofs::Losing::loses_as_the_model))]
+pub fn loses_as_the_model()
+    ensures { LosesAsTheModel }
+{}
 
 /// The plan of an event is the model's plan of it, and doing the plan is the model's step.
 pub fn steps_as_the_model()

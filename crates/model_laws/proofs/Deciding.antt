@@ -1,7 +1,7 @@
 -- What holds of a decision: a property of what is left of the item, and one of what is recorded, with what is then left.
 use Rattle.std.specs.Prelude.{List, [], ◌∷◌, ◌++◌, Option, Some, None, Bool, true, false, ◌&&◌, if◌then◌else◌, filter, map, ◌≡◌}
 use Rattle.std.specs.List.{AllByRecursion}
-use Rattle.std.proofs.Common.{refl, subst}
+use Rattle.std.proofs.Common.{refl, subst, inl, inr}
 use Rattle.at_base.specs.Numbers.{Numbers}
 use Rattle.at_base.specs.declared.notice.Kind.{Kind}
 use Rattle.at_base.specs.declared.notice.Kind.TheVariants as kinds
@@ -15,6 +15,7 @@ use Rattle.at_model.specs.Posts.{reply_post}
 use Rattle.at_model.specs.Seats.{under}
 use Rattle.at_model.specs.Arrivals.{is_registering, request_answered, context_of, request_stands, request_under, request_left, answer_request, request_of, with_answer}
 use Rattle.at_model.specs.Moves.{Change, Decision, Goes, Records, in_both}
+use Rattle.model_laws.specs.Agreement.{IsIn}
 use Rattle.model_laws.proofs.Recovering.{same_id}
 use Rattle.at_model.specs.Step.{Outcome, Plan, plain, still, outcome_of, plan_of, branch}
 
@@ -233,3 +234,8 @@ same_kind kinds.Durable kinds.Durable e = refl
 same_kind kinds.Durable kinds.Volatile e = absurd cc
 same_kind kinds.Volatile kinds.Durable e = absurd cc
 same_kind kinds.Volatile kinds.Volatile e = refl
+
+pub in_front : {A : Type 0} (x : A) (xs ys : List A) → IsIn x xs → IsIn x (xs ++ ys)
+in_front x [] ys h = absurd h
+in_front x (y ∷ xs) ys (inl e) = inl e
+in_front x (y ∷ xs) ys (inr h) = inr (in_front x xs ys h)

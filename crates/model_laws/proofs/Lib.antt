@@ -27,6 +27,7 @@ pub mod Accepting
 pub mod Enrolled
 pub mod Nodes
 pub mod Reaching
+pub mod Lasting
 pub mod Holding
 pub mod Seating
 pub mod Sorting

@@ -91,14 +91,26 @@ unfolding book_law
 in_phase count w reached n x found =
     nodes_hold (book_law IsInPhase (λ base rs. decides_behind_every_answer.recovered base (restarted rs)) decides_behind_every_answer.book) count w reached n x found
 
+-- what holds of reached worlds and is kept by each way in which they go on
+pub record Closed : Type 1 where
+  pub count : ℕ
+  pub Holds : World → Type 0
+  pub reached : (w : World) → Holds w → Reached count w
+  pub steps : (u : World) (n : ℕ) (x : Node) (b : Book) (e : Event) (now : ℕ) (landed : Bool) (ps : List Post) → Holds u → nth n u.nodes ≡ Some x → x.book ≡ Some b → Heard u n x e
+      → AllByRecursion (λ p. IsIn (outs.Post p) (step b e now landed).outs) ps → Holds (post_all n ps (counts u n x b e now landed))
+  pub falls : (u : World) (n : ℕ) (x : Node) (b : Book) → Holds u → nth n u.nodes ≡ Some x → x.book ≡ Some b → Holds (goes_down n b u)
+  pub rises : (u : World) (n : ℕ) (x : Node) (stop : Bool) → Holds u → nth n u.nodes ≡ Some x → x.book ≡ None → last_incarnation x.journal < last_counter
+      → Holds (record u { nodes = put_nth n (up_after (started (last_incarnation x.journal + 1) x) stop) u.nodes })
+  pub waits : (u : World) (n : ℕ) (x : Node) (clock : ℕ) → Holds u → nth n u.nodes ≡ Some x → Holds (record u { nodes = put_nth n (record x { clock = clock }) u.nodes })
+
 -- the world of a turn, in which the node holds the book of the turn
 abbrev newest : ℕ → Node → Turning → World
 newest n x r = record r.world { nodes = put_nth n (record x { book = Some r.book }) r.world.nodes }
 
-record TurnReached (count n : ℕ) (r : Turning) : Type 0 where
+record TurnReached (c : Closed) (n : ℕ) (r : Turning) : Type 0 where
   node : Node
   found : nth n r.world.nodes ≡ Some node
-  reached : Reached count (newest n node r)
+  reached : c.Holds (newest n node r)
 
 -- what is sent
 record Sends (n : ℕ) (os : List Out) (x : Node) (r t : Turning) : Type 0 where
@@ -150,21 +162,21 @@ sends n (o ∷ os) x r found = by_stop (λ t f. sends n os x t f) (is_stopped r)
     by_stop rest false false a = sends_none n a os x r (send_all n os (after_fate r)) (rest (after_fate r) found)
 
 -- A step that counts; its record, if any, stands in the journal.
-counted_reached : (count n : ℕ) (r : Turning) (x : Node) (e : Event) (now : ℕ) (landed : Bool) (entry : Option Record) (o : Outcome) (fates : List Bool) (until : Option ℕ)
-    → nth n r.world.nodes ≡ Some x → Reached count (newest n x r) → Heard (newest n x r) n x e → (plan r.book e now).entry ≡ entry → step r.book e now landed ≡ o
-    → TurnReached count n (counted n o (record {
+counted_reached : (c : Closed) (n : ℕ) (r : Turning) (x : Node) (e : Event) (now : ℕ) (landed : Bool) (entry : Option Record) (o : Outcome) (fates : List Bool) (until : Option ℕ)
+    → nth n r.world.nodes ≡ Some x → c.Holds (newest n x r) → Heard (newest n x r) n x e → (plan r.book e now).entry ≡ entry → step r.book e now landed ≡ o
+    → TurnReached c n (counted n o (record {
       world = record r.world { nodes = put_nth n (record x { journal = with_entry entry landed x.journal }) r.world.nodes };
       book = r.book;
       fates = fates;
       until = until;
     }))
-counted_reached count n r x e now landed entry o fates until found reached heard entry_is is = record {
+counted_reached c n r x e now landed entry o fates until found reached heard entry_is is = record {
   node = y;
   found = ap (nth n) sent.nodes ∙ stands;
-  reached = stepped (newest n x r) n (record x { book = Some r.book }) r.book e now landed sent.ps reached
+  reached = subst c.Holds (sym (sent.is ∙ ap (post_all n sent.ps) (before ∙ ap (λ q. now_counts q) (sym is) ∙ ap entered (sym entry_is))))
+      (c.steps (newest n x r) n (record x { book = Some r.book }) r.book e now landed sent.ps reached
       (put_this r.world.nodes n x (record x { book = Some r.book }) found) refl heard
-      (subst (λ (q : Outcome). AllByRecursion (λ p. IsIn (outs.Post p) q.outs) sent.ps) (sym is) sent.of)
-      (sent.is ∙ ap (post_all n sent.ps) (before ∙ ap (λ q. now_counts q) (sym is) ∙ ap entered (sym entry_is)));
+      (subst (λ (q : Outcome). AllByRecursion (λ p. IsIn (outs.Post p) q.outs) sent.ps) (sym is) sent.of));
 }
   where
     y : Node
@@ -213,64 +225,64 @@ counted_reached count n r x e now landed entry o fates until found reached heard
     }
 
 -- nothing moved but the fates
-same_reached : (count n : ℕ) (r t : Turning) → t.book ≡ r.book → t.world ≡ r.world → TurnReached count n r → TurnReached count n t
-same_reached count n r t e f h = record {
+same_reached : (c : Closed) (n : ℕ) (r t : Turning) → t.book ≡ r.book → t.world ≡ r.world → TurnReached c n r → TurnReached c n t
+same_reached c n r t e f h = record {
   node = h.node;
   found = ap (λ (w : World). nth n w.nodes) f ∙ h.found;
-  reached = subst (Reached count) (λ i. record (sym f i) { nodes = put_nth n (record h.node { book = Some (sym e i) }) (sym f i).nodes }) h.reached;
+  reached = subst (c.Holds) (λ i. record (sym f i) { nodes = put_nth n (record h.node { book = Some (sym e i) }) (sym f i).nodes }) h.reached;
 }
 
 -- a step of a turn, of an event that came
-record TurnHears (count n : ℕ) (r : Turning) (e : Event) : Type 0 where
-  at : TurnReached count n r
+record TurnHears (c : Closed) (n : ℕ) (r : Turning) (e : Event) : Type 0 where
+  at : TurnReached c n r
   heard : Heard (newest n at.node r) n at.node e
 
-still_there : (count n : ℕ) (r t : Turning) (x : Node) (o : Outcome) → nth n r.world.nodes ≡ Some x
-    → TurnReached count n (counted n o (record t { world = record r.world { nodes = put_nth n x r.world.nodes } })) → TurnReached count n (counted n o (record t { world = r.world }))
-still_there count n r t x o found h =
-    subst (λ xs. TurnReached count n (counted n o (record t { world = record r.world { nodes = xs } }))) (put_same n x r.world.nodes found) h
+still_there : (c : Closed) (n : ℕ) (r t : Turning) (x : Node) (o : Outcome) → nth n r.world.nodes ≡ Some x
+    → TurnReached c n (counted n o (record t { world = record r.world { nodes = put_nth n x r.world.nodes } })) → TurnReached c n (counted n o (record t { world = r.world }))
+still_there c n r t x o found h =
+    subst (λ xs. TurnReached c n (counted n o (record t { world = record r.world { nodes = xs } }))) (put_same n x r.world.nodes found) h
 
-absent_reached : (count n : ℕ) (r : Turning) (e : Event) (now : ℕ) (entry : Record) → TurnHears count n r e → (plan r.book e now).entry ≡ Some entry
-    → TurnReached count n (absent_step n (plan r.book e now) r)
-absent_reached count n r e now entry h f = by_stop (is_stopped (after_fate r))
+absent_reached : (c : Closed) (n : ℕ) (r : Turning) (e : Event) (now : ℕ) (entry : Record) → TurnHears c n r e → (plan r.book e now).entry ≡ Some entry
+    → TurnReached c n (absent_step n (plan r.book e now) r)
+absent_reached c n r e now entry h f = by_stop (is_stopped (after_fate r))
   where
-    by_stop : (b : Bool) → TurnReached count n (if b then after_fate r else counted n (plan r.book e now).absent (after_fate r))
-    by_stop true = same_reached count n r (after_fate r) refl refl h.at
+    by_stop : (b : Bool) → TurnReached c n (if b then after_fate r else counted n (plan r.book e now).absent (after_fate r))
+    by_stop true = same_reached c n r (after_fate r) refl refl h.at
     by_stop false =
-        still_there count n r (after_fate r) h.at.node (plan r.book e now).absent h.at.found
-        (counted_reached count n r h.at.node e now false (Some entry) (plan r.book e now).absent (fates_left r.fates) (one_nearer r.until) h.at.found h.at.reached h.heard f refl)
+        still_there c n r (after_fate r) h.at.node (plan r.book e now).absent h.at.found
+        (counted_reached c n r h.at.node e now false (Some entry) (plan r.book e now).absent (fates_left r.fates) (one_nearer r.until) h.at.found h.at.reached h.heard f refl)
 
-landed_reached : (count n : ℕ) (r : Turning) (e : Event) (now : ℕ) (entry : Record) → TurnHears count n r e → (plan r.book e now).entry ≡ Some entry
-    → TurnReached count n (landed_step n entry (plan r.book e now) r)
-landed_reached count n r e now entry h f =
-    subst (λ w. TurnReached count n (counted n (plan r.book e now).landed (record (after_fate r) { world = w })))
+landed_reached : (c : Closed) (n : ℕ) (r : Turning) (e : Event) (now : ℕ) (entry : Record) → TurnHears c n r e → (plan r.book e now).entry ≡ Some entry
+    → TurnReached c n (landed_step n entry (plan r.book e now) r)
+landed_reached c n r e now entry h f =
+    subst (λ w. TurnReached c n (counted n (plan r.book e now).landed (record (after_fate r) { world = w })))
     (sym (ap (with_record n entry r.world) h.at.found))
-    (counted_reached count n r h.at.node e now true (Some entry) (plan r.book e now).landed (fates_left r.fates) (one_nearer r.until) h.at.found h.at.reached h.heard f refl)
+    (counted_reached c n r h.at.node e now true (Some entry) (plan r.book e now).landed (fates_left r.fates) (one_nearer r.until) h.at.found h.at.reached h.heard f refl)
 
-entry_reached : (count n : ℕ) (r : Turning) (e : Event) (now : ℕ) (entry : Option Record) → TurnHears count n r e → (plan r.book e now).entry ≡ entry
-    → TurnReached count n (step_by n entry (plan r.book e now) r)
-entry_reached count n r e now None h f =
-    still_there count n r r h.at.node (plan r.book e now).landed h.at.found
-    (counted_reached count n r h.at.node e now true None (plan r.book e now).landed r.fates r.until h.at.found h.at.reached h.heard f refl)
-entry_reached count n r e now (Some entry) h f = by_fate (fate r.fates)
+entry_reached : (c : Closed) (n : ℕ) (r : Turning) (e : Event) (now : ℕ) (entry : Option Record) → TurnHears c n r e → (plan r.book e now).entry ≡ entry
+    → TurnReached c n (step_by n entry (plan r.book e now) r)
+entry_reached c n r e now None h f =
+    still_there c n r r h.at.node (plan r.book e now).landed h.at.found
+    (counted_reached c n r h.at.node e now true None (plan r.book e now).landed r.fates r.until h.at.found h.at.reached h.heard f refl)
+entry_reached c n r e now (Some entry) h f = by_fate (fate r.fates)
   where
-    by_fate : (b : Bool) → TurnReached count n (if b then landed_step n entry (plan r.book e now) r else absent_step n (plan r.book e now) r)
-    by_fate true = landed_reached count n r e now entry h f
-    by_fate false = absent_reached count n r e now entry h f
+    by_fate : (b : Bool) → TurnReached c n (if b then landed_step n entry (plan r.book e now) r else absent_step n (plan r.book e now) r)
+    by_fate true = landed_reached c n r e now entry h f
+    by_fate false = absent_reached c n r e now entry h f
 
-take_reached : (count n : ℕ) (r : Turning) (e : Event) (now : ℕ) → TurnHears count n r e → TurnReached count n (take_step n (plan r.book e now) r)
-take_reached count n r e now h = by_stop (is_stopped r)
+take_reached : (c : Closed) (n : ℕ) (r : Turning) (e : Event) (now : ℕ) → TurnHears c n r e → TurnReached c n (take_step n (plan r.book e now) r)
+take_reached c n r e now h = by_stop (is_stopped r)
   where
-    by_stop : (b : Bool) → TurnReached count n (if b then r else step_by n (plan r.book e now).entry (plan r.book e now) r)
+    by_stop : (b : Bool) → TurnReached c n (if b then r else step_by n (plan r.book e now).entry (plan r.book e now) r)
     by_stop true = h.at
-    by_stop false = entry_reached count n r e now (plan r.book e now).entry h refl
+    by_stop false = entry_reached c n r e now (plan r.book e now).entry h refl
 
 -- an answer alone
-answer_reached : (count n : ℕ) (r : Turning) (status : ℕ) → TurnReached count n r → TurnReached count n (take_step n (answer_plan r.book status) r)
-answer_reached count n r status h = by_stop (is_stopped r)
+answer_reached : (c : Closed) (n : ℕ) (r : Turning) (status : ℕ) → TurnReached c n r → TurnReached c n (take_step n (answer_plan r.book status) r)
+answer_reached c n r status h = by_stop (is_stopped r)
   where
     order : IsInOrder r.book
-    order = in_order count (newest n h.node r) h.reached n (record h.node { book = Some r.book }) (put_this r.world.nodes n h.node (record h.node { book = Some r.book }) h.found)
+    order = in_order c.count (newest n h.node r) (c.reached (newest n h.node r) h.reached) n (record h.node { book = Some r.book }) (put_this r.world.nodes n h.node (record h.node { book = Some r.book }) h.found)
 
     same : record r.world {
       accepted = r.world.accepted ++ accepted_in n r.world.nodes r.book r.book.transactions;
@@ -289,38 +301,38 @@ answer_reached count n r status h = by_stop (is_stopped r)
       };
     }
 
-    by_fate : (s : Bool) → TurnReached count n (if s then begun else record (after_fate begun) { world = sent n (fate begun.fates) (outs.Answer status None) begun.world })
-    by_fate true = same_reached count n r begun refl same h
+    by_fate : (s : Bool) → TurnReached c n (if s then begun else record (after_fate begun) { world = sent n (fate begun.fates) (outs.Answer status None) begun.world })
+    by_fate true = same_reached c n r begun refl same h
     by_fate false = answered (fate begun.fates)
       where
-        answered : (f : Bool) → TurnReached count n (record (after_fate begun) { world = sent n f (outs.Answer status None) begun.world })
-        answered true = same_reached count n r (after_fate begun) refl same h
-        answered false = same_reached count n r (after_fate begun) refl same h
+        answered : (f : Bool) → TurnReached c n (record (after_fate begun) { world = sent n f (outs.Answer status None) begun.world })
+        answered true = same_reached c n r (after_fate begun) refl same h
+        answered false = same_reached c n r (after_fate begun) refl same h
 
-    by_stop : (b : Bool) → TurnReached count n (if b then r else counted n (still r.book (outs.Answer status None ∷ [])) r)
+    by_stop : (b : Bool) → TurnReached c n (if b then r else counted n (still r.book (outs.Answer status None ∷ [])) r)
     by_stop true = h
     by_stop false = by_fate (is_stopped begun)
 
-arrival_reached : (count n : ℕ) (r : Turning) (now : ℕ) (a : Option Arrived) → (h : TurnReached count n r)
-    → ((y : Arrived) → a ≡ Some y → Heard (newest n h.node r) n h.node (events.Arrived y)) → TurnReached count n (take_step n (arrival_plan r.book now a) r)
-arrival_reached count n r now None h heard = answer_reached count n r 500 h
-arrival_reached count n r now (Some a) h heard = take_reached count n r (events.Arrived a) now (record { at = h; heard = heard a refl })
+arrival_reached : (c : Closed) (n : ℕ) (r : Turning) (now : ℕ) (a : Option Arrived) → (h : TurnReached c n r)
+    → ((y : Arrived) → a ≡ Some y → Heard (newest n h.node r) n h.node (events.Arrived y)) → TurnReached c n (take_step n (arrival_plan r.book now a) r)
+arrival_reached c n r now None h heard = answer_reached c n r 500 h
+arrival_reached c n r now (Some a) h heard = take_reached c n r (events.Arrived a) now (record { at = h; heard = heard a refl })
 
 -- the due steps
-due_reached : (count n now : ℕ) (item : Item) (r : Turning) → TurnReached count n r → TurnReached count n (due_step n now item r)
-due_reached count n now item r h = by_due (is_due r.book now item)
+due_reached : (c : Closed) (n now : ℕ) (item : Item) (r : Turning) → TurnReached c n r → TurnReached c n (due_step n now item r)
+due_reached c n now item r h = by_due (is_due r.book now item)
   where
-    by_due : (b : Bool) → TurnReached count n (if b then take_step n (plan r.book (events.Due item) now) r else r)
-    by_due true = take_reached count n r (events.Due item) now (record { at = h; heard = tt })
+    by_due : (b : Bool) → TurnReached c n (if b then take_step n (plan r.book (events.Due item) now) r else r)
+    by_due true = take_reached c n r (events.Due item) now (record { at = h; heard = tt })
     by_due false = h
 
-dues_reached : (count n now : ℕ) (items : List Item) (r : Turning) → TurnReached count n r → TurnReached count n (due_steps n now items r)
-dues_reached count n now [] r h = h
-dues_reached count n now (item ∷ rest) r h = dues_reached count n now rest (due_step n now item r) (due_reached count n now item r h)
+dues_reached : (c : Closed) (n now : ℕ) (items : List Item) (r : Turning) → TurnReached c n r → TurnReached c n (due_steps n now items r)
+dues_reached c n now [] r h = h
+dues_reached c n now (item ∷ rest) r h = dues_reached c n now rest (due_step n now item r) (due_reached c n now item r h)
 
 -- a turn is over
-turned_reached : (count n : ℕ) (t : Turning) → TurnReached count n t → Reached count (turned n t)
-turned_reached count n t h = by_stop (is_stopped t)
+turned_reached : (c : Closed) (n : ℕ) (t : Turning) → TurnReached c n t → c.Holds (turned n t)
+turned_reached c n t h = by_stop (is_stopped t)
   where
     up : Node
     up = record h.node { book = Some t.book }
@@ -328,31 +340,32 @@ turned_reached count n t h = by_stop (is_stopped t)
     lost : World
     lost = record (newest n h.node t) { happened = t.world.happened ++ lost_in n t.book }
 
-    by_stop : (b : Bool) → Reached count (if b then goes_down n t.book t.world else put_book n (Some t.book) t.world (nth n t.world.nodes))
+    by_stop : (b : Bool) → c.Holds (if b then goes_down n t.book t.world else put_book n (Some t.book) t.world (nth n t.world.nodes))
     by_stop true =
-        fell (newest n h.node t) n up t.book h.reached (put_this t.world.nodes n h.node up h.found) refl
-        (ap (put_book n None (record t.world { happened = t.world.happened ++ lost_in n t.book })) h.found
+        subst c.Holds
+        (sym (ap (put_book n None (record t.world { happened = t.world.happened ++ lost_in n t.book })) h.found
         ∙ (λ i. record t.world {
           nodes = sym (put_put n up (record up { book = None }) t.world.nodes) i;
           happened = t.world.happened ++ lost_in n t.book;
         })
-        ∙ sym (ap (put_book n None lost) (put_this t.world.nodes n h.node up h.found)))
-    by_stop false = subst (Reached count) (sym (ap (put_book n (Some t.book) t.world) h.found)) h.reached
+        ∙ sym (ap (put_book n None lost) (put_this t.world.nodes n h.node up h.found))))
+        (c.falls (newest n h.node t) n up t.book h.reached (put_this t.world.nodes n h.node up h.found) refl)
+    by_stop false = subst (c.Holds) (sym (ap (put_book n (Some t.book) t.world) h.found)) h.reached
 
-turn_reached : (count n now : ℕ) (p : Plan) (r : Turning) → TurnReached count n (take_step n p r) → Reached count (take_turn n now p r)
-turn_reached count n now p r h =
-    turned_reached count n (due_steps n now (items_of (take_step n p r).book) (take_step n p r)) (dues_reached count n now (items_of (take_step n p r).book) (take_step n p r) h)
+turn_reached : (c : Closed) (n now : ℕ) (p : Plan) (r : Turning) → TurnReached c n (take_step n p r) → c.Holds (take_turn n now p r)
+turn_reached c n now p r h =
+    turned_reached c n (due_steps n now (items_of (take_step n p r).book) (take_step n p r)) (dues_reached c n now (items_of (take_step n p r).book) (take_step n p r) h)
 
 -- a turn begins with the world as it is
-begins : (count : ℕ) (w : World) (n : ℕ) (x : Node) (b : Book) → nth n w.nodes ≡ Some x → x.book ≡ Some b
+begins : (c : Closed) (w : World) (n : ℕ) (x : Node) (b : Book) → nth n w.nodes ≡ Some x → x.book ≡ Some b
     → w ≡ record w { nodes = put_nth n (record x { book = Some b }) w.nodes }
-begins count w n x b found up = λ i. record w {
+begins c w n x b found up = λ i. record w {
   nodes = (sym (put_same n x w.nodes found) ∙ ap (λ o. put_nth n (record x { book = o }) w.nodes) up) i;
 }
 
-turn_begins : (count : ℕ) (w : World) (n : ℕ) (x : Node) (b : Book) (fates : List Bool) (until : Option ℕ) → Reached count w → nth n w.nodes ≡ Some x → x.book ≡ Some b
-    → TurnReached count n (turn_from w b fates until)
-turn_begins count w n x b fates until h found up = record { node = x; found = found; reached = subst (Reached count) (begins count w n x b found up) h }
+turn_begins : (c : Closed) (w : World) (n : ℕ) (x : Node) (b : Book) (fates : List Bool) (until : Option ℕ) → c.Holds w → nth n w.nodes ≡ Some x → x.book ≡ Some b
+    → TurnReached c n (turn_from w b fates until)
+turn_begins c w n x b fates until h found up = record { node = x; found = found; reached = subst (c.Holds) (begins c w n x b found up) h }
 
 is_in_list : {A : Type 0} (k : ℕ) (x : A) (xs : List A) → nth k xs ≡ Some x → IsIn x xs
 is_in_list k x [] e = absurd cc
@@ -366,83 +379,95 @@ receives : (n : ℕ) (o : Option ℕ) → is_receiver n o ≡ true → o ≡ Som
 receives n None e = absurd cc
 receives n (Some m) e = ap Some (eqb-true m n e)
 
-delivered_reached : (count : ℕ) (w : World) (n : ℕ) (x : Node) (b : Book) (fates : List Bool) (until : Option ℕ) (k : ℕ) → Reached count w → nth n w.nodes ≡ Some x → x.book ≡ Some b
-    → (o : Option Posted) → nth k w.posted ≡ o → Reached count (deliver n x b fates until o w)
+delivered_reached : (c : Closed) (w : World) (n : ℕ) (x : Node) (b : Book) (fates : List Bool) (until : Option ℕ) (k : ℕ) → c.Holds w → nth n w.nodes ≡ Some x → x.book ≡ Some b
+    → (o : Option Posted) → nth k w.posted ≡ o → c.Holds (deliver n x b fates until o w)
 unfolding turn_begins
-delivered_reached count w n x b fates until k h found up None e = h
-delivered_reached count w n x b fates until k h found up (Some p) e = by_receiver (is_receiver n p.receiver) refl
+delivered_reached c w n x b fates until k h found up None e = h
+delivered_reached c w n x b fates until k h found up (Some p) e = by_receiver (is_receiver n p.receiver) refl
   where
-    by_receiver : (c : Bool) → is_receiver n p.receiver ≡ c
-        → Reached count (if c then take_turn n x.clock (arrival_plan b x.clock (decoded x.base p.content)) (turn_from w b fates until) else w)
+    by_receiver : (t : Bool) → is_receiver n p.receiver ≡ t
+        → c.Holds (if t then take_turn n x.clock (arrival_plan b x.clock (decoded x.base p.content)) (turn_from w b fates until) else w)
     by_receiver true f =
-        turn_reached count n x.clock (arrival_plan b x.clock (decoded x.base p.content)) (turn_from w b fates until)
-        (arrival_reached count n (turn_from w b fates until) x.clock (decoded x.base p.content) (turn_begins count w n x b fates until h found up)
+        turn_reached c n x.clock (arrival_plan b x.clock (decoded x.base p.content)) (turn_from w b fates until)
+        (arrival_reached c n (turn_from w b fates until) x.clock (decoded x.base p.content) (turn_begins c w n x b fates until h found up)
         (λ a g. (p, is_in_list k p w.posted e, receives n p.receiver f, g)))
     by_receiver false f = h
 
-ticked_reached : (count : ℕ) (w : World) (n : ℕ) (x : Node) (ms : ℕ) → Reached count w → nth n w.nodes ≡ Some x → Reached count (ticked n (later ms x) w)
-ticked_reached count w n x ms h found = waited w n x (x.clock + ms) h found refl
+ticked_reached : (c : Closed) (w : World) (n : ℕ) (x : Node) (ms : ℕ) → c.Holds w → nth n w.nodes ≡ Some x → c.Holds (ticked n (later ms x) w)
+ticked_reached c w n x ms h found = c.waits w n x (x.clock + ms) h found
 
-input_reached : (count : ℕ) (w : World) (n : ℕ) (x : Node) (b : Book) (input : Input) (fates : List Bool) (until : Option ℕ) → Reached count w → nth n w.nodes ≡ Some x
-    → x.book ≡ Some b → Reached count (turn n input fates until x b w)
-input_reached count w n x b (Deliver k) fates until h found up = delivered_reached count w n x b fates until k h found up (nth k w.posted) refl
-input_reached count w n x b (Tick ms) fates until h found up =
-    turn_reached count n (x.clock + ms) (answer_plan b 202) (turn_from (ticked n (later ms x) w) b fates until)
-    (answer_reached count n (turn_from (ticked n (later ms x) w) b fates until) 202
-    (turn_begins count (ticked n (later ms x) w) n (later ms x) b fates until (ticked_reached count w n x ms h found) (put_this w.nodes n x (later ms x) found) up))
-input_reached count w n x b Raw fates until h found up =
-    turn_reached count n x.clock (answer_plan b 400) (turn_from w b fates until)
-    (answer_reached count n (turn_from w b fates until) 400 (turn_begins count w n x b fates until h found up))
+input_reached : (c : Closed) (w : World) (n : ℕ) (x : Node) (b : Book) (input : Input) (fates : List Bool) (until : Option ℕ) → c.Holds w → nth n w.nodes ≡ Some x
+    → x.book ≡ Some b → c.Holds (turn n input fates until x b w)
+input_reached c w n x b (Deliver k) fates until h found up = delivered_reached c w n x b fates until k h found up (nth k w.posted) refl
+input_reached c w n x b (Tick ms) fates until h found up =
+    turn_reached c n (x.clock + ms) (answer_plan b 202) (turn_from (ticked n (later ms x) w) b fates until)
+    (answer_reached c n (turn_from (ticked n (later ms x) w) b fates until) 202
+    (turn_begins c (ticked n (later ms x) w) n (later ms x) b fates until (ticked_reached c w n x ms h found) (put_this w.nodes n x (later ms x) found) up))
+input_reached c w n x b Raw fates until h found up =
+    turn_reached c n x.clock (answer_plan b 400) (turn_from w b fates until)
+    (answer_reached c n (turn_from w b fates until) 400 (turn_begins c w n x b fates until h found up))
 
-asked_reached : (count : ℕ) (w : World) (n : ℕ) (x : Node) (b : Book) (l : Local) (fates : List Bool) (until : Option ℕ) → Reached count w → nth n w.nodes ≡ Some x → x.book ≡ Some b
-    → Reached count (ask n l fates until x b w)
-asked_reached count w n x b l fates until h found up =
-    turned_reached count n (take_step n (plan b (events.Local l) x.clock) (turn_from w b fates until))
-    (take_reached count n (turn_from w b fates until) (events.Local l) x.clock (record { at = turn_begins count w n x b fates until h found up; heard = tt }))
+asked_reached : (c : Closed) (w : World) (n : ℕ) (x : Node) (b : Book) (l : Local) (fates : List Bool) (until : Option ℕ) → c.Holds w → nth n w.nodes ≡ Some x → x.book ≡ Some b
+    → c.Holds (ask n l fates until x b w)
+asked_reached c w n x b l fates until h found up =
+    turned_reached c n (take_step n (plan b (events.Local l) x.clock) (turn_from w b fates until))
+    (take_reached c n (turn_from w b fates until) (events.Local l) x.clock (record { at = turn_begins c w n x b fates until h found up; heard = tt }))
 
-started_reached : (count : ℕ) (w : World) (n : ℕ) (x : Node) (landed stop : Bool) → Reached count w → nth n w.nodes ≡ Some x → x.book ≡ None → Reached count (start n landed stop x w)
-started_reached count w n x landed stop h found down = by_landed landed (nat_lt (last_incarnation x.journal) last_counter) refl
+started_reached : (c : Closed) (w : World) (n : ℕ) (x : Node) (landed stop : Bool) → c.Holds w → nth n w.nodes ≡ Some x → x.book ≡ None → c.Holds (start n landed stop x w)
+started_reached c w n x landed stop h found down = by_landed landed (nat_lt (last_incarnation x.journal) last_counter) refl
   where
     by_landed : (a b : Bool) → nat_lt (last_incarnation x.journal) last_counter ≡ b
-        → Reached count (if a && b then record w { nodes = put_nth n (up_after (started (last_incarnation x.journal + 1) x) stop) w.nodes } else w)
-    by_landed true true e = rose w n x stop h found down (ltb-true (last_incarnation x.journal) last_counter e) refl
+        → c.Holds (if a && b then record w { nodes = put_nth n (up_after (started (last_incarnation x.journal + 1) x) stop) w.nodes } else w)
+    by_landed true true e = c.rises w n x stop h found down (ltb-true (last_incarnation x.journal) last_counter e)
     by_landed true false e = h
     by_landed false b e = h
 
 -- each event
-event_reached : (count : ℕ) (e : WorldEvent) (x : Node) (w : World) → Reached count w → nth (node_of e) w.nodes ≡ Some x → Reached count (at_node e x w)
-event_reached count (Turn n input fates until) x w h found = by_book x.book refl
+event_reached : (c : Closed) (e : WorldEvent) (x : Node) (w : World) → c.Holds w → nth (node_of e) w.nodes ≡ Some x → c.Holds (at_node e x w)
+event_reached c (Turn n input fates until) x w h found = by_book x.book refl
   where
-    by_book : (o : Option Book) → x.book ≡ o → Reached count (on_book o (λ b. turn n input fates until x b w) w)
+    by_book : (o : Option Book) → x.book ≡ o → c.Holds (on_book o (λ b. turn n input fates until x b w) w)
     by_book None up = h
-    by_book (Some b) up = input_reached count w n x b input fates until h found up
-event_reached count (Ask n l fates until) x w h found = by_book x.book refl
+    by_book (Some b) up = input_reached c w n x b input fates until h found up
+event_reached c (Ask n l fates until) x w h found = by_book x.book refl
   where
-    by_book : (o : Option Book) → x.book ≡ o → Reached count (on_book o (λ b. ask n l fates until x b w) w)
+    by_book : (o : Option Book) → x.book ≡ o → c.Holds (on_book o (λ b. ask n l fates until x b w) w)
     by_book None up = h
-    by_book (Some b) up = asked_reached count w n x b l fates until h found up
-event_reached count (Crash n) x w h found = by_book x.book refl
+    by_book (Some b) up = asked_reached c w n x b l fates until h found up
+event_reached c (Crash n) x w h found = by_book x.book refl
   where
-    by_book : (o : Option Book) → x.book ≡ o → Reached count (on_book o (λ b. goes_down n b w) w)
+    by_book : (o : Option Book) → x.book ≡ o → c.Holds (on_book o (λ b. goes_down n b w) w)
     by_book None up = h
-    by_book (Some b) up = fell w n x b h found up refl
-event_reached count (Up n landed stop) x w h found = by_book x.book refl
+    by_book (Some b) up = c.falls w n x b h found up
+event_reached c (Up n landed stop) x w h found = by_book x.book refl
   where
-    by_book : (o : Option Book) → x.book ≡ o → Reached count (down_only o (start n landed stop x w) w)
-    by_book None up = started_reached count w n x landed stop h found up
+    by_book : (o : Option Book) → x.book ≡ o → c.Holds (down_only o (start n landed stop x w) w)
+    by_book None up = started_reached c w n x landed stop h found up
     by_book (Some b) up = h
 
-step_reached : (count : ℕ) (w : World) (e : WorldEvent) → Reached count w → Reached count (world_step w e)
+step_reached : (c : Closed) (w : World) (e : WorldEvent) → c.Holds w → c.Holds (world_step w e)
 unfolding world_step
-step_reached count w e h = by_node (nth (node_of e) w.nodes) refl
+step_reached c w e h = by_node (nth (node_of e) w.nodes) refl
   where
-    by_node : (o : Option Node) → nth (node_of e) w.nodes ≡ o → Reached count (at_some_node e o w)
+    by_node : (o : Option Node) → nth (node_of e) w.nodes ≡ o → c.Holds (at_some_node e o w)
     by_node None f = h
-    by_node (Some x) f = event_reached count e x w h f
+    by_node (Some x) f = event_reached c e x w h f
 
-all_reached : (count : ℕ) (es : List WorldEvent) (w : World) → Reached count w → Reached count (run_on w es)
-all_reached count [] w h = h
-all_reached count (e ∷ es) w h = all_reached count es (world_step w e) (step_reached count w e h)
+pub all_reached : (c : Closed) (es : List WorldEvent) (w : World) → c.Holds w → c.Holds (run_on w es)
+all_reached c [] w h = h
+all_reached c (e ∷ es) w h = all_reached c es (world_step w e) (step_reached c w e h)
+
+-- the worlds that are reached themselves
+abbrev reached_worlds : ℕ → Closed
+reached_worlds count = record {
+  count = count;
+  Holds = Reached count;
+  reached = λ w h. h;
+  steps = λ u n x b e now landed ps h found up heard those. stepped u n x b e now landed ps h found up heard those refl;
+  falls = λ u n x b h found up. fell u n x b h found up refl;
+  rises = λ u n x stop h found down small. rose u n x stop h found down small refl;
+  waits = λ u n x clock h found. waited u n x clock h found refl;
+}
 
 pub run_reached : RunsAreReached
-run_reached count es = all_reached count es (opening count) (opened refl)
+run_reached count es = all_reached (reached_worlds count) es (opening count) (opened refl)

@@ -27,7 +27,7 @@ use Rattle.model_laws.specs.Drawn.{restarted, with_entry}
 use Rattle.model_laws.specs.Enlisted.{IsEnlisted, HoldsTheEnlisted}
 use Rattle.model_laws.specs.Reached.{counts, Reached}
 use Rattle.model_laws.proofs.Accepting.{step_gives}
-use Rattle.model_laws.proofs.Deciding.{found_id, IfThere, all_both, all_find, all_join, all_map, all_more}
+use Rattle.model_laws.proofs.Deciding.{found_id, in_front, IfThere, all_both, all_find, all_join, all_map, all_more}
 use Rattle.model_laws.proofs.Enlisting.{Gives, Grown, HasInitiator}
 use Rattle.model_laws.proofs.Enrolled.{WorldGood, IsUp, IsKnown, nodes_of, world_good}
 use Rattle.model_laws.proofs.Holding.{Law, OutFine, holds}
@@ -39,11 +39,6 @@ use Rattle.model_laws.proofs.Running.{opening_node}
 use Rattle.model_laws.proofs.Standing.{decides_behind_every_answer}
 
 -- lists
-pub in_front : {A : Type 0} (x : A) (xs ys : List A) → IsIn x xs → IsIn x (xs ++ ys)
-in_front x [] ys h = absurd h
-in_front x (y ∷ xs) ys (inl e) = inl e
-in_front x (y ∷ xs) ys (inr h) = inr (in_front x xs ys h)
-
 pub in_back : {A : Type 0} (x : A) (xs ys : List A) → IsIn x ys → IsIn x (xs ++ ys)
 in_back x [] ys h = h
 in_back x (y ∷ xs) ys h = inr (in_back x xs ys h)

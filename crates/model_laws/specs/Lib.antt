@@ -14,3 +14,4 @@ pub mod Rules
 pub mod Enlisted
 pub mod Reached
 pub mod Compacted
+pub mod Grows

@@ -5,6 +5,7 @@ ghost use Rattle.model_laws.specs.Behind.{DecidesBehindEveryAnswer};
 ghost use Rattle.model_laws.specs.Compacted.{RecoversTheCompacted};
 ghost use Rattle.model_laws.specs.Drawn.{IdsStayDrawn, NoIdMadeTwice};
 ghost use Rattle.model_laws.specs.Enlisted.{EnlistsTheKnown, EnlistsUnderOne, HoldsTheEnlisted};
+ghost use Rattle.model_laws.specs.Grows.{TakesNothingBack};
 ghost use Rattle.model_laws.specs.Links.{LinksFollowPhases};
 ghost use Rattle.model_laws.specs.Order.{IdsRise};
 ghost use Rattle.model_laws.specs.Made.{HoldsNoIdTwice, MakesNoIdTwice};
@@ -138,4 +139,10 @@ pub fn holds_the_enlisted()
 /// Every run leads to a world that is reached step by step, with each node's newest book.
 pub fn runs_are_reached()
     ensures { RunsAreReached }
+{}
+
+/// In every run of a world nothing is taken back: what was posted, accepted and recorded, and what happened, stays.
+#[tactic(auto, using(crate::proofs::Lasting::takes_nothing_back))]
+pub fn takes_nothing_back()
+    ensures { TakesNothingBack }
 {}
