@@ -1,0 +1,5 @@
+pub mod Heads
+pub mod Chunks
+pub mod Requests
+pub mod Known
+pub mod Reading
