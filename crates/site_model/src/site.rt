@@ -1,9 +1,9 @@
 //! A node's machine: its two files, its listener and connection, its posts and its clock, one object.
 
 ghost use Rattle.std.specs.Prelude.{ℕ, List, ◌≡◌, ◌≤◌, ◌<◌, length, take, drop, IfOk, Some};
-ghost use Rattle.site_model.specs.Told.{Told, Sent, Files, Is, file_of};
-ghost use Rattle.site_model.specs.Told.Sent.{Answer, Post};
-ghost use Rattle.site_model.specs.Calls.{Looked, Wrote, Synced, Raised, Gave, Attaches, Takes, Received, Unmoved};
+ghost use Rattle.site_model.specs.Told.{Told, Made, Files, Is, file_of};
+ghost use Rattle.site_model.specs.Told.Call.{Send, Post};
+ghost use Rattle.site_model.specs.Calls.{Looked, Wrote, Synced, Raised, Gave, Attaches, Takes, Received, Closes, Reads};
 
 use crate::source::Failed;
 
@@ -27,10 +27,12 @@ pub enum Taken {
 
 /// A node's machine.
 ///
-/// It may tell its files, what a crash might leave of them, and what was sent, now and at each moment since an earlier one.
-/// Whoever tells nothing has no crash images. After a successful sync a crash leaves of the file what a read gives. Between
-/// two syncs each written range, and the part past the old end, may hold any bytes after a crash; other bytes stay. A failed
-/// write leaves its range as if written, and reads may give any bytes of it; a failed sync settles nothing.
+/// It may tell its files, what a crash might leave of them, its calls of disk and network so far with their outcomes, what a
+/// crash might have left at each earlier one, the bytes that its connections bring, and its clock. Whoever tells nothing has
+/// no crash images. After a successful sync a crash leaves of the file what a read gives. Between two syncs each written
+/// range, and the part past the old end, may hold any bytes after a crash; other bytes stay. A failed write leaves its range
+/// as if written, and reads may give any bytes of it; a failed sync settles nothing. A call that fails is among the calls as
+/// failed, or, where it wanted memory, not at all.
 ///
 /// A failure of a call has its cause in the count of its kind, which rose: `disk` for the files, `gate` for raising a
 /// gate, `accept` for the listener, `receive` and `link` for the connection and the posts. `taken` and `closings` count
@@ -38,10 +40,10 @@ pub enum Taken {
 pub trait Site {
     ghost told: { Self → Told };
 
-    // What stands now is of each moment's past, and the past of this moment is what stands now.
-    ghost counts_now: { (s : Self) (t : ℕ) (l : List Sent) (c : Files) → t ≤ (told s).moment → (told s).sent ≡ Some l → (told s).images c → (told s).left t l c };
+    // What stands now is part of the past, and of the calls so far, or more, the past knows only what stands now.
+    ghost counts_now: { (s : Self) (l : List Made) (c : Files) → (told s).calls ≡ Some l → (told s).images c → (told s).past l c };
 
-    ghost only_now: { (s : Self) (l : List Sent) (c : Files) → (told s).left (told s).moment l c → ((told s).sent ≡ Some l) × (told s).images c };
+    ghost only_now: { (s : Self) (l m : List Made) (c : Files) → (told s).calls ≡ Some m → length m ≤ length l → (told s).past l c → (l ≡ m) × (told s).images c };
 
     /// Opens the journal's files and the listener.
     fn attach(&mut self, journal: &str, listen: &str) -> Result<(), AttachFailed>
@@ -68,33 +70,32 @@ pub trait Site {
     fn sync(&mut self, file: u8) -> Result<(), Failed>
         ensures { Synced file result (told self.old) (told self.new) };
 
-    /// Writes the byte 1 at a place, then syncs.
+    /// Writes the byte 1 at a place, then syncs. These are two calls; the second is left out where the first failed.
     fn raise_gate(&mut self, file: u8, at: u64) -> Result<(), Failed>
         ensures { Raised file at result (told self.old) (told self.new) };
 
-    /// Waits for a connection.
+    /// Waits for a connection. One that is still open is closed.
     fn take(&mut self) -> Result<Taken, Failed>
         ensures { Takes result (told self.old) (told self.new) };
 
     /// Reads from the connection, and says how many bytes. Zero into a nonempty buffer ends the input.
     fn receive(&mut self, buf: &mut [u8]) -> Result<usize, Failed>
-        ensures bound { IfOk result (λ n. n ≤ length buf.new) }
         ensures same_length { length buf.new ≡ length buf.old }
-        ensures call { Received result (told self.old) (told self.new) };
+        ensures call { Received result buf.new (told self.old) (told self.new) };
 
     /// Sends bytes on the connection.
     fn send(&mut self, bytes: &[u8]) -> Result<(), Failed>
-        ensures { Gave (Answer bytes.now) result (told self.old) (told self.new) };
+        ensures { Gave (Send bytes.now) result (told self.old) (told self.new) };
 
-    /// Closes the connection.
+    /// Closes the connection. What it would still have brought is lost.
     fn close(&mut self)
-        ensures { Unmoved (told self.old) (told self.new) };
+        ensures { Closes (told self.old) (told self.new) };
 
     /// Posts bytes to a host.
     fn post(&mut self, host: &str, port: u16, bytes: &[u8]) -> Result<(), Failed>
         ensures { Gave (Post host.now port bytes.now) result (told self.old) (told self.new) };
 
-    /// Milliseconds.
+    /// The clock, in milliseconds.
     fn now(&mut self) -> u64
-        ensures { Unmoved (told self.old) (told self.new) };
+        ensures { Reads result (told self.old) (told self.new) };
 }

@@ -24,9 +24,9 @@ impl SureSite {
 impl Site for SureSite {
     ghost told = { λ s. silent (record { disk = 0; gate = 0; accept = 0; receive = 0; link = 0; taken = 0; closings = s.closings }) };
 
-    ghost counts_now = { λ s t l c le is now. now };
+    ghost counts_now = { λ s l c is now. now };
 
-    ghost only_now = { λ s l c left. absurd left };
+    ghost only_now = { λ s l m c is le past. absurd past };
 
     fn attach(&mut self, _journal: &str, _listen: &str) -> Result<(), AttachFailed> {
         Ok(())
