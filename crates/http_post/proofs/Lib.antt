@@ -1,2 +1,4 @@
-mod Fields
+mod Overflow
 mod Growing
+mod Keeping
+mod Fitting

@@ -3,3 +3,4 @@ pub mod Chunks
 pub mod Requests
 pub mod Known
 pub mod Reading
+pub mod Kept

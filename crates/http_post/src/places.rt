@@ -61,7 +61,7 @@ impl Places {
     }
 }
 
-#[tactic(auto, using(crate::proofs::Fields::too_long))]
+#[tactic(auto, using(crate::proofs::Overflow::too_long))]
 fn try_bytes(bytes: &[u8], places: &mut [HeaderSpan]) -> Step
     requires { length places.old ≡ 2731 }
     ensures step { IsStep bytes.now places.new result }

@@ -1,6 +1,6 @@
 use Rattle.std.proofs.Common.{subst}
 use Rattle.httparse.specs.Spans.{RequestOverflows}
-use Rattle.http_post.proofs.Fields.{too_long}
+use Rattle.http_post.proofs.Overflow.{too_long}
 use Rattle.http_post.proofs.places.try_bytes.Goals as goal
 
 -- src/places.rt:64:1

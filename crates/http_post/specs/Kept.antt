@@ -1,0 +1,24 @@
+-- The fields of a head in a map by their names.
+use Rattle.std.specs.Prelude.{ℕ, List, [], ◌∷◌, ◌≡◌, All, bytes_eq, if◌then◌else◌, map, length, take}
+use Rattle.httparse.specs.Spans.{IsHeaderWithin, IsRequestAt, header_bytes, span_bytes}
+use Rattle.httparse.specs.Grammar.{RequestHead}
+use Rattle.httparse.specs.declared.spans.HeaderSpan.{HeaderSpan}
+use Rattle.httparse.specs.declared.spans.RequestSpans.{RequestSpans}
+use Rattle.http_header.specs.FieldName.{IsFieldName}
+use Rattle.http_header.specs.FieldValue.{FieldValue, IsFieldValue, plain_value}
+use Rattle.http_header.specs.HeaderMap.{Entries, get_all}
+use Rattle.http_header.specs.Token.{lowercase}
+use Rattle.http_post.specs.Heads.{values_in}
+
+-- a name and a value that a map can keep
+abbrev pub CanBeKept : List ℕ → HeaderSpan → Type 0
+CanBeKept bytes place = IsHeaderWithin (length bytes) place × (IsFieldName (span_bytes bytes place.name) × IsFieldValue (span_bytes bytes place.value))
+
+-- the values under a name
+abbrev pub named : List ℕ → List (List ℕ × List ℕ) → List FieldValue
+named name [] = []
+named name (p ∷ ps) = if bytes_eq (lowercase p.0) name then plain_value p.1 ∷ named name ps else named name ps
+
+abbrev pub HasFields : List ℕ → List HeaderSpan → RequestSpans → Entries FieldValue → Type 0
+HasFields bytes places spans m =
+    (h : RequestHead) → IsRequestAt bytes places spans h → (name : List ℕ) → map (λ v. v.bytes) (get_all m name) ≡ values_in name h.fields
