@@ -1,10 +1,13 @@
 -- What the head of a request says of the request's body (RFC 9110, sections 7.2, 8.4, 8.6 and 10.1.1; RFC 9112, section 6).
-use Rattle.std.specs.Prelude.{ℕ, List, [], ◌∷◌, Bool, true, false, not, ◌&&◌, ◌||◌, Result, Ok, Err, codes, map, filter, length, nat_eq, nat_le, bytes_eq, if◌then◌else◌}
+use Rattle.std.specs.Prelude.{ℕ, List, [], ◌∷◌, Bool, true, false, not, ◌&&◌, Result, Ok, Err, codes, map, filter, length, nat_eq, nat_le, bytes_eq, if◌then◌else◌}
 use Rattle.std.specs.List.{list_all, list_any}
 use Rattle.std.specs.Char.{is_ascii_digit}
+use Rattle.std.specs.Str.{str_eq_ignore_ascii_case}
 use Rattle.std.specs.Str.Parse.{digits_value}
 use Rattle.httparse.specs.Grammar.{Field, RequestHead, field_value}
 use Rattle.http_header.specs.Token.{lowercase}
+use Rattle.http_post.specs.declared.framing.Framing.{Framing}
+use Rattle.http_post.specs.declared.framing.Framing.TheVariants.{Sized, Chunked}
 use Rattle.http_post.specs.declared.refusal.HttpRefusal.{HttpRefusal}
 use Rattle.http_post.specs.declared.refusal.HttpRefusal.TheVariants as refusals
 
@@ -14,46 +17,20 @@ values_in name fields = map field_value (filter (λ f. bytes_eq (lowercase f.nam
 
 -- the value is that word, in any case
 abbrev pub is_word : List ℕ → List ℕ → Bool
-is_word word value = bytes_eq (lowercase value) word
+is_word word value = str_eq_ignore_ascii_case value word
+
+-- the value is a number: one digit or more
+abbrev pub is_decimal : List ℕ → Bool
+is_decimal [] = false
+is_decimal (d ∷ ds) = list_all is_ascii_digit (d ∷ ds)
 
 -- a 1.1 request has exactly one Host
-abbrev pub lacks_host : RequestHead → Bool
-lacks_host h = nat_eq h.minor 1 && not (nat_eq (length (values_in (codes "host") h.fields)) 1)
+abbrev pub lacks_host : ℕ → List (List ℕ) → Bool
+lacks_host minor hosts = nat_eq minor 1 && not (nat_eq (length hosts) 1)
 
--- the content is coded
-abbrev pub is_coded : RequestHead → Bool
-is_coded h = list_any (λ v. not (is_word (codes "identity") v)) (values_in (codes "content-encoding") h.fields)
-
-abbrev pub transfers : RequestHead → List (List ℕ)
-transfers h = values_in (codes "transfer-encoding") h.fields
-
-abbrev pub lengths : RequestHead → List (List ℕ)
-lengths h = values_in (codes "content-length") h.fields
-
-abbrev pub is_none : {A : Type 0} → List A → Bool
-is_none [] = true
-is_none (x ∷ xs) = false
-
--- a number: one digit or more
-abbrev pub is_decimal : List ℕ → Bool
-is_decimal value = not (is_none value) && list_all is_ascii_digit value
-
--- all are the first
-abbrev pub are_equal : List ℕ → Bool
-are_equal [] = true
-are_equal (n ∷ ns) = list_all (nat_eq n) ns
-
--- a transfer coding other than chunked, a length beside one, a length that is no number, two different lengths
-abbrev pub is_misframed : RequestHead → Bool
-is_misframed h =
-    list_any (λ v. not (is_word (codes "chunked") v)) (transfers h)
-    || ((not (is_none (transfers h)) && not (is_none (lengths h)))
-    || (not (list_all is_decimal (lengths h)) || not (are_equal (map (digits_value 10) (lengths h)))))
-
--- where the body ends
-pub data Framing : Type 0 where
-  Sized : (count : ℕ) → Framing
-  Chunked : Framing
+-- a number that is the first's
+abbrev pub agrees : List ℕ → List ℕ → Bool
+agrees first value = is_decimal value && nat_eq (digits_value 10 first) (digits_value 10 value)
 
 abbrev pub most_content : ℕ
 most_content = 65536
@@ -61,19 +38,31 @@ most_content = 65536
 abbrev pub sized : ℕ → Result Framing HttpRefusal
 sized n = if nat_le n most_content then Ok (Sized n) else Err refusals.ContentTooLarge
 
-abbrev pub framed : List (List ℕ) → List (List ℕ) → Result Framing HttpRefusal
-framed [] [] = Err refusals.LengthRequired
-framed [] (v ∷ vs) = sized (digits_value 10 v)
-framed (t ∷ ts) vs = Ok Chunked
+-- by the lengths alone, all of them the same number
+abbrev pub framed_by : List (List ℕ) → Result Framing HttpRefusal
+framed_by [] = Err refusals.LengthRequired
+framed_by (v ∷ vs) = if list_all (agrees v) (v ∷ vs) then sized (digits_value 10 v) else Err refusals.BadRequest
 
--- how the body is framed, or the first refusal that the head draws
+-- by the transfer codings, all chunked and without a length beside them, or else by the lengths
+abbrev pub framed : List (List ℕ) → List (List ℕ) → Result Framing HttpRefusal
+framed [] lengths = framed_by lengths
+framed (t ∷ ts) [] = if list_all (is_word (codes "chunked")) (t ∷ ts) then Ok Chunked else Err refusals.BadRequest
+framed (t ∷ ts) (v ∷ vs) = Err refusals.BadRequest
+
+-- how the body is framed, or the first refusal that a head with these fields draws
+abbrev pub framing_in : ℕ → List ℕ → (List ℕ → List (List ℕ)) → Result Framing HttpRefusal
+framing_in minor method values =
+    if lacks_host minor (values (codes "host")) then Err refusals.BadRequest else
+    if not (bytes_eq method (codes "POST")) then Err refusals.MethodNotAllowed else
+    if not (list_all (is_word (codes "identity")) (values (codes "content-encoding"))) then Err refusals.UnsupportedMediaType else
+    framed (values (codes "transfer-encoding")) (values (codes "content-length"))
+
 abbrev pub framing_of : RequestHead → Result Framing HttpRefusal
-framing_of h =
-    if lacks_host h then Err refusals.BadRequest else
-    if not (bytes_eq h.method (codes "POST")) then Err refusals.MethodNotAllowed else
-    if is_coded h then Err refusals.UnsupportedMediaType else
-    if is_misframed h then Err refusals.BadRequest else framed (transfers h) (lengths h)
+framing_of h = framing_in h.minor h.method (λ name. values_in name h.fields)
 
 -- the client waits for an interim answer before it sends the body; an expectation in a 1.0 request is ignored
+abbrev pub expects_in : ℕ → (List ℕ → List (List ℕ)) → Bool
+expects_in minor values = nat_eq minor 1 && list_any (is_word (codes "100-continue")) (values (codes "expect"))
+
 abbrev pub expects : RequestHead → Bool
-expects h = nat_eq h.minor 1 && list_any (is_word (codes "100-continue")) (values_in (codes "expect") h.fields)
+expects h = expects_in h.minor (λ name. values_in name h.fields)

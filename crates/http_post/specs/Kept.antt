@@ -19,6 +19,10 @@ abbrev pub named : List ℕ → List (List ℕ × List ℕ) → List FieldValue
 named name [] = []
 named name (p ∷ ps) = if bytes_eq (lowercase p.0) name then plain_value p.1 ∷ named name ps else named name ps
 
+-- the bytes of the values under a name
+abbrev pub values_under : Entries FieldValue → List ℕ → List (List ℕ)
+values_under m name = map (λ v. v.bytes) (get_all m name)
+
 abbrev pub HasFields : List ℕ → List HeaderSpan → RequestSpans → Entries FieldValue → Type 0
 HasFields bytes places spans m =
-    (h : RequestHead) → IsRequestAt bytes places spans h → (name : List ℕ) → map (λ v. v.bytes) (get_all m name) ≡ values_in name h.fields
+    (h : RequestHead) → IsRequestAt bytes places spans h → (name : List ℕ) → values_under m name ≡ values_in name h.fields

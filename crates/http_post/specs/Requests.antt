@@ -5,7 +5,9 @@ use Rattle.url.specs.Parts.{Parts}
 use Rattle.url.specs.Parser.{parse_url, Parsed}
 use Rattle.http_post.specs.declared.refusal.HttpRefusal.{HttpRefusal}
 use Rattle.http_post.specs.declared.refusal.HttpRefusal.TheVariants as refusals
-use Rattle.http_post.specs.Heads.{Framing, Sized, Chunked, framing_of}
+use Rattle.http_post.specs.declared.framing.Framing.{Framing}
+use Rattle.http_post.specs.declared.framing.Framing.TheVariants.{Sized, Chunked}
+use Rattle.http_post.specs.Heads.{framing_of}
 use Rattle.http_post.specs.Chunks.{Chunks, cut_at_end, most_raw}
 
 abbrev pub most_head : ℕ

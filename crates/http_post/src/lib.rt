@@ -2,6 +2,8 @@
 #![tactic(auto)]
 
 mod fields;
+pub mod framing;
 mod head;
+mod lengths;
 mod places;
 pub mod refusal;
