@@ -2,3 +2,5 @@ mod Overflow
 mod Growing
 mod Keeping
 mod Fitting
+mod Firsts
+mod Counts

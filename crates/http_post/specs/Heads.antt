@@ -38,6 +38,10 @@ most_content = 65536
 abbrev pub sized : ℕ → Result Framing HttpRefusal
 sized n = if nat_le n most_content then Ok (Sized n) else Err refusals.ContentTooLarge
 
+abbrev pub is_none : List (List ℕ) → Bool
+is_none [] = true
+is_none (v ∷ vs) = false
+
 -- by the lengths alone, all of them the same number
 abbrev pub framed_by : List (List ℕ) → Result Framing HttpRefusal
 framed_by [] = Err refusals.LengthRequired
@@ -45,9 +49,9 @@ framed_by (v ∷ vs) = if list_all (agrees v) (v ∷ vs) then sized (digits_valu
 
 -- by the transfer codings, all chunked and without a length beside them, or else by the lengths
 abbrev pub framed : List (List ℕ) → List (List ℕ) → Result Framing HttpRefusal
-framed [] lengths = framed_by lengths
-framed (t ∷ ts) [] = if list_all (is_word (codes "chunked")) (t ∷ ts) then Ok Chunked else Err refusals.BadRequest
-framed (t ∷ ts) (v ∷ vs) = Err refusals.BadRequest
+framed transfers lengths =
+    if is_none transfers then framed_by lengths else
+    if is_none lengths && list_all (is_word (codes "chunked")) transfers then Ok Chunked else Err refusals.BadRequest
 
 -- how the body is framed, or the first refusal that a head with these fields draws
 abbrev pub framing_in : ℕ → List ℕ → (List ℕ → List (List ℕ)) → Result Framing HttpRefusal

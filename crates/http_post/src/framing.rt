@@ -1,8 +1,9 @@
 //! What the fields of a head say of the body (RFC 9110, sections 7.2, 8.4, 8.6 and 10.1.1; RFC 9112, section 6).
 
-ghost use Rattle.std.specs.Prelude.{ℕ, List, [], ◌∷◌, ◌≡◌, codes, length, nat_eq, true};
+ghost use Rattle.std.specs.Prelude.{ℕ, List, [], ◌∷◌, ◌≡◌, codes, length, nat_eq, true, ◌↔◌, IsTrue};
+ghost use Rattle.http_header.specs.HeaderMap.{get_all};
 ghost use Rattle.std.specs.List.{list_all, list_any};
-ghost use Rattle.http_post.specs.Heads.{agrees, expects_in, framed, framed_by, framing_in, is_decimal, is_word, lacks_host, sized};
+ghost use Rattle.http_post.specs.Heads.{agrees, expects_in, framed, framed_by, framing_in, is_decimal, is_none, is_word, lacks_host, sized};
 ghost use Rattle.http_post.specs.Kept.{values_under};
 
 use crate::lengths::{agrees, is_decimal, number};
@@ -22,7 +23,7 @@ pub enum Framing {
 }
 
 /// How the body of a request is framed, or the first refusal that its head draws.
-pub fn framing(version: u8, method: &[u8], fields: &HeaderMap) -> Result<Framing, HttpRefusal>
+pub fn read_framing(version: u8, method: &[u8], fields: &HeaderMap) -> Result<Framing, HttpRefusal>
     ensures { result ≡ framing_in version method.now (values_under fields.now) }
 {
     if lacks_host(version, fields) {
@@ -53,6 +54,12 @@ fn lacks_host(version: u8, fields: &HeaderMap) -> bool
 fn has_one_host(fields: &HeaderMap) -> bool
     ensures { result ≡ nat_eq (length (values_under fields.now (codes "host"))) 1 }
 {
+    one_host(fields)
+}
+
+fn one_host(fields: &HeaderMap) -> bool
+    ensures { IsTrue result ↔ (length (get_all fields.now (codes "host")) ≡ 1) }
+{
     fields.get_all("host").into_iter().count() == 1
 }
 
@@ -60,13 +67,27 @@ fn has_one_host(fields: &HeaderMap) -> bool
 fn framed(fields: &HeaderMap) -> Result<Framing, HttpRefusal>
     ensures { result ≡ framed (values_under fields.now (codes "transfer-encoding")) (values_under fields.now (codes "content-length")) }
 {
-    if !fields.contains_key("transfer-encoding") {
+    if has_no_transfer(fields) {
         return framed_by(fields);
     }
-    if fields.contains_key("content-length") || !are_chunked(fields) {
-        return Err(HttpRefusal::BadRequest);
+    if has_no_length(fields) && are_chunked(fields) {
+        return Ok(Framing::Chunked);
     }
-    Ok(Framing::Chunked)
+    Err(HttpRefusal::BadRequest)
+}
+
+
+fn has_no_transfer(fields: &HeaderMap) -> bool
+    ensures { result ≡ is_none (values_under fields.now (codes "transfer-encoding")) }
+{
+    fields.get("transfer-encoding").is_none()
+}
+
+
+fn has_no_length(fields: &HeaderMap) -> bool
+    ensures { result ≡ is_none (values_under fields.now (codes "content-length")) }
+{
+    fields.get("content-length").is_none()
 }
 
 /// By the lengths alone.
