@@ -4,3 +4,4 @@ mod Keeping
 mod Fitting
 mod Firsts
 mod Counts
+mod Splitting

@@ -37,3 +37,10 @@ pub record HoldsHead (left : Option (List ℕ)) (bytes : List ℕ) (places : Lis
 
 abbrev pub HasNoHead : Option (List ℕ) → Type 0
 HasNoHead left = IfSome left (λ input. HasNoRequest (take most_head input))
+
+-- a head that was read, whatever came with it
+pub record IsRead (bytes : List ℕ) (places : List HeaderSpan) (spans : RequestSpans) : Type 0 where
+  pub head : RequestHead
+  pub at : IsRequestAt bytes places spans head
+  pub within : IsRequestWithin bytes places spans
+  pub fits : length bytes ≤ most_head

@@ -1,5 +1,5 @@
 -- What the bytes of a connection ask: a path and a body, or the first refusal (RFC 9110; RFC 9112).
-use Rattle.std.specs.Prelude.{ℕ, List, [], ◌∷◌, ◌<◌, ◌≤◌, ◌≡◌, Option, Some, None, Bool, true, false, Result, Ok, Err, length, take, drop, nat_eq, if◌then◌else◌}
+use Rattle.std.specs.Prelude.{ℕ, List, [], ◌∷◌, ◌<◌, ◌≤◌, ◌≡◌, Option, Some, None, Bool, true, false, Result, Ok, Err, length, take, drop, nat_eq, slice_index, if◌then◌else◌}
 use Rattle.httparse.specs.Grammar.{RequestHead, ReadsRequest, HasNoRequest, print_request}
 use Rattle.url.specs.Parts.{Parts}
 use Rattle.url.specs.Parser.{parse_url, Parsed}
@@ -23,8 +23,7 @@ path_in target (Err fault) = without_query target
 
 -- the path of a request target: of an absolute URL its path, else what stands before a `?` (RFC 9112, section 3.2)
 abbrev pub path_of : List ℕ → List ℕ
-path_of [] = []
-path_of (b ∷ target) = if nat_eq b 47 then without_query (b ∷ target) else path_in (b ∷ target) (parse_url None (b ∷ target))
+path_of target = if nat_eq (slice_index target 0) 47 then without_query target else path_in target (parse_url None target)
 
 pub record Asked : Type 0 where
   pub path : List ℕ

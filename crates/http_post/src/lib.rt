@@ -1,6 +1,7 @@
 //! Requests and answers over HTTP/1.1: the bytes that are written, and what the bytes of a connection ask.
 #![tactic(auto)]
 
+mod asking;
 mod fields;
 pub mod framing;
 mod head;
