@@ -5,3 +5,4 @@ mod Fitting
 mod Firsts
 mod Counts
 mod Splitting
+mod Reading

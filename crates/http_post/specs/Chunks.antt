@@ -1,7 +1,7 @@
 -- A body in chunks (RFC 9112, section 7.1), and the first fault in one. `seen` is the raw body as far as it may go, and
 -- `cut` is what is answered where it breaks off there.
-use Rattle.std.specs.Prelude.{ℕ, List, [], ◌∷◌, ◌++◌, ◌+◌, ◌<◌, ◌≤◌, ◌≡◌, ◌≢◌, ◌⊎◌, Result, Ok, Err, length, take, nat_lt, if◌then◌else◌}
-use Rattle.httparse.specs.Grammar.{ChunkLine, ReadsChunkLine, HasNoChunkLine, NeverHasChunkLine, chunk_size, LineEnd, print_end}
+use Rattle.std.specs.Prelude.{ℕ, List, [], ◌∷◌, ◌++◌, ◌+◌, ◌<◌, ◌≤◌, ◌≡◌, ◌≢◌, ◌⊎◌, Result, Ok, Err, length, take, nat_lt, nat_eq, if◌then◌else◌, Bool, true, false, codes, refl}
+use Rattle.httparse.specs.Grammar.{ChunkLine, ReadsChunkLine, HasNoChunkLine, NeverHasChunkLine, chunk_size}
 use Rattle.http_post.specs.declared.refusal.HttpRefusal.{HttpRefusal}
 use Rattle.http_post.specs.declared.refusal.HttpRefusal.TheVariants as refusals
 use Rattle.http_post.specs.Heads.{most_content}
@@ -14,11 +14,29 @@ most_raw = 131072
 abbrev pub cut_at_end : List ℕ → HttpRefusal
 cut_at_end raw = if nat_lt most_raw (length raw) then refusals.ContentTooLarge else refusals.BadRequest
 
--- an empty line stands at the beginning or behind a line feed; trailers aren't looked at
-abbrev pub EndTrailers : List ℕ → Type 0
-EndTrailers rest =
-    (e : LineEnd) × (after : List ℕ)
-    × ((rest ≡ print_end e ++ after) ⊎ ((before : List ℕ) × (rest ≡ before ++ 10 ∷ (print_end e ++ after))))
+-- how far a trailer line came: nothing of it, a CR alone, or more
+pub data Line : Type 0 where
+  fresh returned filled : Line
+
+-- an empty line comes, with a CR or without; what else stands in trailers isn't looked at
+abbrev pub has_empty_line : Line → List ℕ → Bool
+has_empty_line line [] = false
+has_empty_line filled (b ∷ rest) = if nat_eq b 10 then has_empty_line fresh rest else has_empty_line filled rest
+has_empty_line returned (b ∷ rest) = if nat_eq b 10 then true else has_empty_line filled rest
+has_empty_line fresh (b ∷ rest) =
+    if nat_eq b 10 then true else if nat_eq b 13 then has_empty_line returned rest else has_empty_line filled rest
+
+abbrev pub ends_trailers : List ℕ → Bool
+ends_trailers rest = has_empty_line fresh rest
+
+pub no_trailers : ends_trailers (codes "\r\n") ≡ true
+no_trailers = refl
+
+pub one_trailer : ends_trailers (codes "a: b\r\n\n") ≡ true
+one_trailer = refl
+
+pub no_end_of_trailers : ends_trailers (codes "a: b\r\n\r\r\n") ≡ false
+no_end_of_trailers = refl
 
 -- another byte stands where the data of a chunk are to end in CR LF
 pub data IsUnended : List ℕ → Type 0 where
@@ -41,9 +59,9 @@ pub data Chunks (cut : HttpRefusal) : (sum : ℕ) → (seen : List ℕ) → Resu
       → ReadsChunkLine seen l (content ++ 13 ∷ 10 ∷ rest) → length content ≡ chunk_size l → 0 < chunk_size l
       → sum + chunk_size l ≤ most_content → Chunks cut (sum + chunk_size l) rest out → Chunks cut sum seen (prefixed content out)
   last : {sum : ℕ} {seen : List ℕ} (l : ChunkLine) (rest : List ℕ)
-      → ReadsChunkLine seen l rest → chunk_size l ≡ 0 → EndTrailers rest → Chunks cut sum seen (Ok [])
+      → ReadsChunkLine seen l rest → chunk_size l ≡ 0 → ends_trailers rest ≡ true → Chunks cut sum seen (Ok [])
   in_trailers : {sum : ℕ} {seen : List ℕ} (l : ChunkLine) (rest : List ℕ)
-      → ReadsChunkLine seen l rest → chunk_size l ≡ 0 → ¬ (EndTrailers rest) → Chunks cut sum seen (Err cut)
+      → ReadsChunkLine seen l rest → chunk_size l ≡ 0 → ends_trailers rest ≡ false → Chunks cut sum seen (Err cut)
   in_chunk : {sum : ℕ} {seen : List ℕ} (l : ChunkLine) (rest : List ℕ)
       → ReadsChunkLine seen l rest → 0 < chunk_size l → sum + chunk_size l ≤ most_content → IsCutShort (chunk_size l) rest → Chunks cut sum seen (Err cut)
   in_line : {sum : ℕ} {seen : List ℕ} → HasNoChunkLine seen → ¬ (NeverHasChunkLine seen) → Chunks cut sum seen (Err cut)

@@ -7,4 +7,5 @@ pub mod framing;
 mod head;
 mod lengths;
 mod places;
+mod raw;
 pub mod refusal;

@@ -1,0 +1,37 @@
+//! The raw bytes of a body, as they come.
+
+ghost use Rattle.std.specs.Prelude.{ℕ, List, ◌≡◌, ◌+◌, ◌<◌, ◌≤◌, IfErr, IfOk, OnOk, length, min};
+ghost use Rattle.http_post.specs.Raw.{BreaksOff, EndsBefore, IsFault, IsRaw};
+
+use crate::refusal::HttpRefusal;
+use site_model::source::{Failed, Source};
+use std::alloc::AllocError;
+
+/// The most bytes of a body in chunks, from behind the head through the empty line behind the trailers.
+pub const MOST_RAW: usize = 131072;
+
+#[tactic(auto, using(crate::proofs::Reading::raw_grows, crate::proofs::Reading::raw_ends))]
+/// Adds what one read gives, at most so many bytes, and says how many.
+pub fn read_on<S: Source>(
+    source: &mut S,
+    bytes: &mut Vec<u8>,
+    most: usize,
+) -> Result<usize, HttpRefusal>
+    requires { 0 < most }
+    ensures kept { OnOk result ((raw : List ℕ) → IsRaw (S.left source.old) bytes.old.items raw → IsRaw (S.left source.new) bytes.new.items raw) }
+    ensures grown { IfOk result (λ n. length bytes.new.items ≡ length bytes.old.items + n) }
+    ensures most { IfOk result (λ n. n ≤ most) }
+    ensures end { IfOk result (λ n. n ≡ 0 → (raw : List ℕ) → IsRaw (S.left source.old) bytes.old.items raw → raw ≡ bytes.old.items) }
+    ensures fault { IfErr result (λ e. IsFault e (λ r. ⊥)) }
+{
+    let mut buf = [0u8; 4096];
+    let room = most.min(4096);
+    let n = match source.read(&mut buf[..room]) {
+        Ok(n) => n,
+        Err(Failed) => return Err(HttpRefusal::Link),
+    };
+    match bytes.extend_from_slice(&buf[..n]) {
+        Ok(()) => Ok(n),
+        Err(AllocError) => Err(HttpRefusal::NoMemory),
+    }
+}
