@@ -3,6 +3,7 @@
 
 mod asking;
 mod fields;
+mod chunks;
 pub mod framing;
 mod head;
 mod lengths;

@@ -35,3 +35,32 @@ pub fn read_on<S: Source>(
         Err(AllocError) => Err(HttpRefusal::NoMemory),
     }
 }
+
+/// Adds at least one byte that counts. A body breaks off where the source ends or gives more than 131,072 bytes.
+#[tactic(auto, using(crate::proofs::Reading::cut_full, crate::proofs::Reading::cut_short, crate::proofs::Reading::cut_long))]
+pub fn more<S: Source>(source: &mut S, bytes: &mut Vec<u8>) -> Result<(), HttpRefusal>
+    ensures kept { OnOk result ((raw : List ℕ) → IsRaw (S.left source.old) bytes.old.items raw → IsRaw (S.left source.new) bytes.new.items raw) }
+    ensures grown { OnOk result (length bytes.old.items < length bytes.new.items) }
+    ensures counts { OnOk result (length bytes.old.items < 131072) }
+    ensures fault { IfErr result (λ e. IsFault e (λ r. (raw : List ℕ) → IsRaw (S.left source.old) bytes.old.items raw → BreaksOff bytes.old.items raw r)) }
+{
+    if bytes.len() > MOST_RAW {
+        return Err(HttpRefusal::ContentTooLarge);
+    }
+    let counts = bytes.len() < MOST_RAW;
+    let n = read_on(source, bytes, 4096)?;
+    if n == 0 {
+        return Err(HttpRefusal::BadRequest);
+    }
+    if !counts {
+        return Err(HttpRefusal::ContentTooLarge);
+    }
+    Ok(())
+}
+
+/// How many of the bytes count.
+pub fn counting(bytes: &[u8]) -> usize
+    ensures { result ≡ min (length bytes.now) 131072 }
+{
+    bytes.len().min(MOST_RAW)
+}
