@@ -6,3 +6,4 @@ mod Firsts
 mod Counts
 mod Splitting
 mod Reading
+mod Lining

@@ -1,5 +1,5 @@
 -- How the raw bytes of a body are read on.
-use Rattle.std.proofs.Common.{ℕ, List, Option, Some, None, [], ◌∷◌, ◌++◌, ◌≡◌, ◌≤◌, ◌<◌, ◌+◌, ◌-◌, min, length, take, drop, refl, sym, subst, ap, ◌∙◌, arith, append_assoc, append-nil}
+use Rattle.std.proofs.Common.{ℕ, List, Option, Some, None, [], ◌∷◌, ◌++◌, ◌≡◌, ◌≤◌, ◌<◌, ◌+◌, ◌-◌, min, zero, suc, length, take, drop, refl, sym, subst, ap, ◌∙◌, arith, append_assoc, append-nil}
 use Rattle.std.specs.Io.KnownBytes.{Consumes, IsAtEnd}
 use Rattle.std.proofs.lemmas.List.{length-append, length-take, take-append-le}
 use Rattle.std.proofs.lemmas.Bool.{lt-ltb, ltb-false, le-ltb}
@@ -63,3 +63,24 @@ pub fill_fault : (before left : Option (List ℕ)) (old bytes : List ℕ) (place
 fill_fault before left old bytes place e kept lt h =
     fault_on e (λ r. (raw : List ℕ) → IsRaw left bytes raw → BreaksOff bytes raw r) (λ r. (raw : List ℕ) → IsRaw before old raw → EndsBefore place raw r) h
       (λ r b raw k. ends_before bytes raw r place lt (b raw (kept raw k)))
+
+-- as many as there are, and no more than that
+none_taken : (k : ℕ) → take {A = ℕ} k [] ≡ []
+none_taken zero = refl
+none_taken (suc k) = refl
+
+pub take_least : (n : ℕ) (xs : List ℕ) → take (min (length xs) n) xs ≡ take n xs
+take_least n [] = none_taken (min 0 n) ∙ sym (none_taken n)
+take_least zero (x ∷ xs) =
+    let nothing : min (length (x ∷ xs)) 0 ≡ 0 = omega arith in
+    ap (λ k. take k (x ∷ xs)) nothing
+take_least (suc n) (x ∷ xs) =
+    let one : min (length (x ∷ xs)) (suc n) ≡ suc (min (length xs) n) = omega arith in
+    ap (λ k. take k (x ∷ xs)) one ∙ ap (λ z. x ∷ z) (take_least n xs)
+
+pub held_still : (old piece new : List ℕ) (n : ℕ) → new ≡ old ++ piece → length new ≡ length old + n → n ≡ 0 → take 131072 new ≡ take 131072 old
+held_still old [] new n e g z = ap (take 131072) (e ∙ append-nil old)
+held_still old (x ∷ xs) new n e g z = absurd (omega (arith, ap length e, length-append old (x ∷ xs), g, z))
+
+pub held_full : (old piece new : List ℕ) → new ≡ old ++ piece → 131072 ≤ length old → take 131072 new ≡ take 131072 old
+held_full old piece new e le = ap (take 131072) e ∙ take-append-le 131072 old piece le

@@ -1,5 +1,5 @@
 -- The raw bytes of a body while they come: those that are held, and those that the source has left.
-use Rattle.std.specs.Prelude.{ℕ, List, ◌++◌, ◌≡◌, ◌≤◌, ◌<◌, Option, Some, None, length, take, drop, ⊤}
+use Rattle.std.specs.Prelude.{ℕ, List, ◌++◌, ◌≡◌, ◌≤◌, ◌<◌, Option, Some, None, length, take, drop, ⊤, Bool, true, false}
 use Rattle.http_post.specs.declared.refusal.HttpRefusal.{HttpRefusal}
 use Rattle.http_post.specs.declared.refusal.HttpRefusal.TheVariants.{Link, NoMemory}
 use Rattle.http_post.specs.Chunks.{cut_at_end, most_raw}
@@ -28,3 +28,9 @@ pub record BreaksOff (bytes raw : List ℕ) (refusal : HttpRefusal) : Type 0 whe
 pub record EndsBefore (place : ℕ) (raw : List ℕ) (refusal : HttpRefusal) : Type 0 where
   pub is_cut : refusal ≡ cut_at_end raw
   pub short : length (seen raw) < place
+
+-- the body broke off, and no machine failed
+abbrev pub is_cut : HttpRefusal → Bool
+is_cut Link = false
+is_cut NoMemory = false
+is_cut refusal = true

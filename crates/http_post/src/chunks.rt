@@ -1,10 +1,15 @@
 //! A body in chunks (RFC 9112, section 7.1).
 
-ghost use Rattle.std.specs.Prelude.{ℕ, List, ◌≡◌, ◌+◌, ◌<◌, ◌≤◌, IfErr, IfOk, OnOk, length, min, drop};
-ghost use Rattle.http_post.specs.Raw.{EndsBefore, IsFault, IsRaw, seen};
+ghost use Rattle.std.specs.Prelude.{ℕ, List, ◌≡◌, ◌+◌, ◌<◌, ◌≤◌, IfErr, IfOk, OnOk, length, min, drop, take, true};
+ghost use Rattle.http_post.specs.Raw.{EndsBefore, IsFault, IsRaw, is_cut, seen};
+ghost use Rattle.httparse.specs.Grammar.{ChunkLine};
+ghost use Rattle.httparse.specs.Spans.{IsChunkLineAt};
+ghost use Rattle.http_post.specs.Chunks.{cut_at_end};
+ghost use Rattle.http_post.specs.Lines.{IsLast, IsLineStep, IsNoLine};
 
-use crate::raw::{counting, more};
+use crate::raw::{counted, counting, more};
 use crate::refusal::HttpRefusal;
+use httparse::{InvalidChunkSize, Status, parse_chunk_size};
 use site_model::source::Source;
 
 /// Reads on until so many bytes count, or the body breaks off before.
@@ -23,4 +28,99 @@ fn fill<S: Source>(
         }
     }
     Ok(())
+}
+
+/// A chunk line: how many bytes it has, and the size that it writes.
+#[derive(Clone, Copy)]
+struct Sized {
+    len: usize,
+    size: u64,
+}
+
+/// What the bytes from a place on are, as far as they count.
+enum LineStep {
+    Whole(Sized),
+    More,
+    Never,
+}
+
+/// Reads a chunk line at a place of what counts.
+fn try_line(counted: &[u8], at: usize) -> LineStep
+    requires { at ≤ length counted.now }
+    ensures { IsLineStep (drop at counted.now) result }
+{
+    match parse_chunk_size(&counted[at..]) {
+        Ok(Status::Complete((len, size))) => LineStep::Whole(Sized { len, size }),
+        Ok(Status::Partial) => LineStep::More,
+        Err(InvalidChunkSize) => LineStep::Never,
+    }
+}
+
+/// Reads a chunk line at a place of what counts of the bytes.
+fn try_counted(bytes: &[u8], at: usize) -> LineStep
+    requires { at ≤ min (length bytes.now) 131072 }
+    ensures { IsLineStep (drop at (take 131072 bytes.now)) result }
+{
+    try_line(counted(bytes), at)
+}
+
+/// The line where the body breaks off, if it is whole, or what is then answered. Where the machine failed, that.
+fn last_line(bytes: &[u8], at: usize, refusal: HttpRefusal) -> Result<Sized, HttpRefusal>
+    requires { at ≤ min (length bytes.now) 131072 }
+    ensures line { IfOk result (λ line. (is_cut refusal ≡ true) × ((l : ChunkLine) × IsChunkLineAt (drop at (take 131072 bytes.now)) line.len line.size l)) }
+    ensures fault { IfErr result (λ e. IsLast (drop at (take 131072 bytes.now)) refusal e) }
+{
+    if !is_cut(refusal) {
+        return Err(refusal);
+    }
+    match try_counted(bytes, at) {
+        LineStep::Whole(line) => Ok(line),
+        LineStep::Never => Err(HttpRefusal::BadRequest),
+        LineStep::More => Err(refusal),
+    }
+}
+
+/// Whether the body broke off, and no machine failed.
+fn is_cut(refusal: HttpRefusal) -> bool
+    ensures { result ≡ is_cut refusal }
+{
+    !matches!(refusal, HttpRefusal::Link | HttpRefusal::NoMemory)
+}
+
+/// Whether bytes that came since the last try may have ended the line, or have doubled it: so a line that comes byte by
+/// byte is read a few times only.
+fn is_worth(counted: &[u8], at: usize, tried: usize) -> bool
+    requires { at ≤ tried }
+{
+    if tried >= counted.len() {
+        return tried == at;
+    }
+    counted[tried..].contains(&b'\n') || counted.len() - at >= tried - at + (tried - at)
+}
+
+/// Reads a chunk line at a place of what counts, reading on until it is whole.
+fn read_line<S: Source>(
+    source: &mut S,
+    bytes: &mut Vec<u8>,
+    at: usize,
+) -> Result<Sized, HttpRefusal>
+    requires { at ≤ min (length bytes.old.items) 131072 }
+    ensures kept { OnOk result ((raw : List ℕ) → IsRaw (S.left source.old) bytes.old.items raw → IsRaw (S.left source.new) bytes.new.items raw) }
+    ensures line { IfOk result (λ line. (raw : List ℕ) → IsRaw (S.left source.old) bytes.old.items raw → (l : ChunkLine) × IsChunkLineAt (drop at (seen raw)) line.len line.size l) }
+    ensures within { IfOk result (λ line. at + line.len ≤ min (length bytes.new.items) 131072) }
+    ensures fault { IfErr result (λ e. IsFault e (λ r. (raw : List ℕ) → IsRaw (S.left source.old) bytes.old.items raw → IsNoLine (drop at (seen raw)) (cut_at_end raw) r)) }
+{
+    let mut tried = at;
+    loop {
+        if is_worth(counted(bytes.as_slice()), at, tried) {
+            match try_counted(bytes.as_slice(), at) {
+                LineStep::Whole(line) => return Ok(line),
+                LineStep::Never => return Err(HttpRefusal::BadRequest),
+                LineStep::More => tried = counting(bytes.as_slice()),
+            }
+        }
+        if let Err(refusal) = more(source, bytes) {
+            return last_line(bytes.as_slice(), at, refusal);
+        }
+    }
 }

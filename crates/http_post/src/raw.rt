@@ -1,6 +1,6 @@
 //! The raw bytes of a body, as they come.
 
-ghost use Rattle.std.specs.Prelude.{ℕ, List, ◌≡◌, ◌+◌, ◌<◌, ◌≤◌, IfErr, IfOk, OnOk, length, min};
+ghost use Rattle.std.specs.Prelude.{ℕ, List, ◌≡◌, ◌++◌, ◌+◌, ◌<◌, ◌≤◌, IfErr, IfOk, OnErr, OnOk, length, min, take};
 ghost use Rattle.http_post.specs.Raw.{BreaksOff, EndsBefore, IsFault, IsRaw};
 
 use crate::refusal::HttpRefusal;
@@ -23,6 +23,8 @@ pub fn read_on<S: Source>(
     ensures most { IfOk result (λ n. n ≤ most) }
     ensures end { IfOk result (λ n. n ≡ 0 → (raw : List ℕ) → IsRaw (S.left source.old) bytes.old.items raw → raw ≡ bytes.old.items) }
     ensures fault { IfErr result (λ e. IsFault e (λ r. ⊥)) }
+    ensures same { OnErr result (bytes.new.items ≡ bytes.old.items) }
+    ensures front { (piece : List ℕ) × (bytes.new.items ≡ bytes.old.items ++ piece) }
 {
     let mut buf = [0u8; 4096];
     let room = most.min(4096);
@@ -43,12 +45,17 @@ pub fn more<S: Source>(source: &mut S, bytes: &mut Vec<u8>) -> Result<(), HttpRe
     ensures grown { OnOk result (length bytes.old.items < length bytes.new.items) }
     ensures counts { OnOk result (length bytes.old.items < 131072) }
     ensures fault { IfErr result (λ e. IsFault e (λ r. (raw : List ℕ) → IsRaw (S.left source.old) bytes.old.items raw → BreaksOff bytes.old.items raw r)) }
+    ensures kept_at_cut { IfErr result (λ e. IsFault e (λ r. (raw : List ℕ) → IsRaw (S.left source.old) bytes.old.items raw → IsRaw (S.left source.new) bytes.new.items raw)) }
+    ensures held { OnErr result (take 131072 bytes.new.items ≡ take 131072 bytes.old.items) }
 {
     if bytes.len() > MOST_RAW {
         return Err(HttpRefusal::ContentTooLarge);
     }
     let counts = bytes.len() < MOST_RAW;
-    let n = read_on(source, bytes, 4096)?;
+    let n = match read_on(source, bytes, 4096) {
+        Ok(n) => n,
+        Err(refusal) => return Err(refusal),
+    };
     if n == 0 {
         return Err(HttpRefusal::BadRequest);
     }
@@ -63,4 +70,11 @@ pub fn counting(bytes: &[u8]) -> usize
     ensures { result ≡ min (length bytes.now) 131072 }
 {
     bytes.len().min(MOST_RAW)
+}
+
+/// The bytes that count.
+pub fn counted(bytes: &[u8]) -> &[u8]
+    ensures { result.now ≡ take 131072 bytes.now }
+{
+    &bytes[..counting(bytes)]
 }

@@ -1,0 +1,23 @@
+-- What is known of a chunk line while its bytes come.
+use Rattle.std.specs.Prelude.{ℕ, List, ◌≡◌, ◌⊎◌, true, false}
+use Rattle.httparse.specs.Grammar.{ChunkLine, HasNoChunkLine, MayBecomeChunkLine, NeverHasChunkLine}
+use Rattle.httparse.specs.Spans.{IsChunkLineAt}
+use Rattle.http_post.specs.declared.refusal.HttpRefusal.{HttpRefusal}
+use Rattle.http_post.specs.declared.refusal.HttpRefusal.TheVariants.{BadRequest}
+use Rattle.http_post.specs.Raw.{is_cut}
+use Rattle.http_post.specs.declared.chunks.LineStep.{LineStep}
+use Rattle.http_post.specs.declared.chunks.LineStep.TheVariants.{Whole, More, Never}
+
+abbrev pub IsLineStep : List ℕ → LineStep → Type 0
+IsLineStep bytes (Whole line) = (l : ChunkLine) × IsChunkLineAt bytes line.len line.size l
+IsLineStep bytes More = HasNoChunkLine bytes × MayBecomeChunkLine bytes
+IsLineStep bytes Never = NeverHasChunkLine bytes
+
+-- no line stands there: none can, or the bytes break off in one
+abbrev pub IsNoLine : List ℕ → HttpRefusal → HttpRefusal → Type 0
+IsNoLine rest cut refusal =
+    (NeverHasChunkLine rest × (refusal ≡ BadRequest)) ⊎ (HasNoChunkLine rest × ((¬ (NeverHasChunkLine rest)) × (refusal ≡ cut)))
+
+-- the same where the body breaks off; where the machine failed nothing is said
+abbrev pub IsLast : List ℕ → HttpRefusal → HttpRefusal → Type 0
+IsLast rest refusal e = ((is_cut refusal ≡ false) × (e ≡ refusal)) ⊎ ((is_cut refusal ≡ true) × IsNoLine rest refusal e)
