@@ -7,3 +7,4 @@ mod Counts
 mod Splitting
 mod Reading
 mod Lining
+mod Trailing

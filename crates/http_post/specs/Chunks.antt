@@ -4,6 +4,8 @@ use Rattle.std.specs.Prelude.{ℕ, List, [], ◌∷◌, ◌++◌, ◌+◌, ◌<�
 use Rattle.httparse.specs.Grammar.{ChunkLine, ReadsChunkLine, HasNoChunkLine, NeverHasChunkLine, chunk_size}
 use Rattle.http_post.specs.declared.refusal.HttpRefusal.{HttpRefusal}
 use Rattle.http_post.specs.declared.refusal.HttpRefusal.TheVariants as refusals
+use Rattle.http_post.specs.declared.trailers.Line.{Line}
+use Rattle.http_post.specs.declared.trailers.Line.TheVariants.{Fresh, Returned, Filled}
 use Rattle.http_post.specs.Heads.{most_content}
 
 -- the most bytes of a body in chunks, from behind the head through the empty line behind the trailers
@@ -14,20 +16,16 @@ most_raw = 131072
 abbrev pub cut_at_end : List ℕ → HttpRefusal
 cut_at_end raw = if nat_lt most_raw (length raw) then refusals.ContentTooLarge else refusals.BadRequest
 
--- how far a trailer line came: nothing of it, a CR alone, or more
-pub data Line : Type 0 where
-  fresh returned filled : Line
-
 -- an empty line comes, with a CR or without; what else stands in trailers isn't looked at
 abbrev pub has_empty_line : Line → List ℕ → Bool
 has_empty_line line [] = false
-has_empty_line filled (b ∷ rest) = if nat_eq b 10 then has_empty_line fresh rest else has_empty_line filled rest
-has_empty_line returned (b ∷ rest) = if nat_eq b 10 then true else has_empty_line filled rest
-has_empty_line fresh (b ∷ rest) =
-    if nat_eq b 10 then true else if nat_eq b 13 then has_empty_line returned rest else has_empty_line filled rest
+has_empty_line Filled (b ∷ rest) = if nat_eq b 10 then has_empty_line Fresh rest else has_empty_line Filled rest
+has_empty_line Returned (b ∷ rest) = if nat_eq b 10 then true else has_empty_line Filled rest
+has_empty_line Fresh (b ∷ rest) =
+    if nat_eq b 10 then true else if nat_eq b 13 then has_empty_line Returned rest else has_empty_line Filled rest
 
 abbrev pub ends_trailers : List ℕ → Bool
-ends_trailers rest = has_empty_line fresh rest
+ends_trailers rest = has_empty_line Fresh rest
 
 pub no_trailers : ends_trailers (codes "\r\n") ≡ true
 no_trailers = refl

@@ -1,9 +1,11 @@
 -- What is known of a chunk line while its bytes come.
-use Rattle.std.specs.Prelude.{ℕ, List, ◌≡◌, ◌⊎◌, true, false}
+use Rattle.std.specs.Prelude.{ℕ, List, ◌≡◌, ◌∷◌, ◌⊎◌, true, false, Option, Some, None}
 use Rattle.httparse.specs.Grammar.{ChunkLine, HasNoChunkLine, MayBecomeChunkLine, NeverHasChunkLine}
 use Rattle.httparse.specs.Spans.{IsChunkLineAt}
 use Rattle.http_post.specs.declared.refusal.HttpRefusal.{HttpRefusal}
 use Rattle.http_post.specs.declared.refusal.HttpRefusal.TheVariants.{BadRequest}
+use Rattle.http_post.specs.declared.trailers.Line.{Line}
+use Rattle.http_post.specs.Chunks.{has_empty_line}
 use Rattle.http_post.specs.Raw.{is_cut}
 use Rattle.http_post.specs.declared.chunks.LineStep.{LineStep}
 use Rattle.http_post.specs.declared.chunks.LineStep.TheVariants.{Whole, More, Never}
@@ -21,3 +23,8 @@ IsNoLine rest cut refusal =
 -- the same where the body breaks off; where the machine failed nothing is said
 abbrev pub IsLast : List ℕ → HttpRefusal → HttpRefusal → Type 0
 IsLast rest refusal e = ((is_cut refusal ≡ false) × (e ≡ refusal)) ⊎ ((is_cut refusal ≡ true) × IsNoLine rest refusal e)
+
+-- how far a trailer line is behind one byte more, or the end of the trailers
+abbrev pub IsAfter : Line → ℕ → Option Line → Type 0
+IsAfter line b None = (rest : List ℕ) → has_empty_line line (b ∷ rest) ≡ true
+IsAfter line b (Some next) = (rest : List ℕ) → has_empty_line line (b ∷ rest) ≡ has_empty_line next rest

@@ -13,7 +13,7 @@ use httparse::{InvalidChunkSize, Status, parse_chunk_size};
 use site_model::source::Source;
 
 /// Reads on until so many bytes count, or the body breaks off before.
-fn fill<S: Source>(
+pub fn fill<S: Source>(
     source: &mut S,
     bytes: &mut Vec<u8>,
     upto: usize,

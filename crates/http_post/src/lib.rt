@@ -10,3 +10,4 @@ mod lengths;
 mod places;
 mod raw;
 pub mod refusal;
+mod trailers;
