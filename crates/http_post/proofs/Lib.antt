@@ -8,3 +8,4 @@ mod Splitting
 mod Reading
 mod Lining
 mod Trailing
+mod Contents

@@ -77,7 +77,7 @@ module _ (first left : Option (List ℕ)) (old bytes : List ℕ) (from at : ℕ)
           (same raw k ∙ ap (has_empty_line line) (none_dropped (seen raw) at (omega (arith, ends.short))) ∙ no_more line, ends.is_cut))
 
 -- the byte that an index gives
-byte_at : (xs : List ℕ) (i b : ℕ) → i < length xs → b ≡ get_or xs i b → b ≡ get_or xs i 0
+pub byte_at : (xs : List ℕ) (i b : ℕ) → i < length xs → b ≡ get_or xs i b → b ≡ get_or xs i 0
 byte_at [] i b lt e = absurd (omega (arith, lt))
 byte_at (x ∷ xs) zero b lt e = e
 byte_at (x ∷ xs) (suc i) b lt e = byte_at xs i b (omega (arith, lt)) e

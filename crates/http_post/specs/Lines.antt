@@ -1,11 +1,11 @@
 -- What is known of a chunk line while its bytes come.
-use Rattle.std.specs.Prelude.{ℕ, List, ◌≡◌, ◌∷◌, ◌⊎◌, true, false, Option, Some, None}
+use Rattle.std.specs.Prelude.{ℕ, List, ◌≡◌, ◌∷◌, ◌++◌, length, ◌⊎◌, true, false, Option, Some, None}
 use Rattle.httparse.specs.Grammar.{ChunkLine, HasNoChunkLine, MayBecomeChunkLine, NeverHasChunkLine}
 use Rattle.httparse.specs.Spans.{IsChunkLineAt}
 use Rattle.http_post.specs.declared.refusal.HttpRefusal.{HttpRefusal}
 use Rattle.http_post.specs.declared.refusal.HttpRefusal.TheVariants.{BadRequest}
 use Rattle.http_post.specs.declared.trailers.Line.{Line}
-use Rattle.http_post.specs.Chunks.{has_empty_line}
+use Rattle.http_post.specs.Chunks.{has_empty_line, IsCutShort, IsUnended}
 use Rattle.http_post.specs.Raw.{is_cut}
 use Rattle.http_post.specs.declared.chunks.LineStep.{LineStep}
 use Rattle.http_post.specs.declared.chunks.LineStep.TheVariants.{Whole, More, Never}
@@ -28,3 +28,9 @@ IsLast rest refusal e = ((is_cut refusal ≡ false) × (e ≡ refusal)) ⊎ ((is
 abbrev pub IsAfter : Line → ℕ → Option Line → Type 0
 IsAfter line b None = (rest : List ℕ) → has_empty_line line (b ∷ rest) ≡ true
 IsAfter line b (Some next) = (rest : List ℕ) → has_empty_line line (b ∷ rest) ≡ has_empty_line next rest
+
+-- the data of a chunk aren't there as they should: they break off, or another byte stands behind them
+abbrev pub IsBadContent : ℕ → List ℕ → HttpRefusal → HttpRefusal → Type 0
+IsBadContent size rest cut refusal =
+    (IsCutShort size rest × (refusal ≡ cut))
+    ⊎ ((content : List ℕ) × (after : List ℕ) × ((rest ≡ content ++ after) × ((length content ≡ size) × (IsUnended after × (refusal ≡ BadRequest)))))

@@ -4,6 +4,7 @@
 mod asking;
 mod fields;
 mod chunks;
+mod content;
 pub mod framing;
 mod head;
 mod lengths;
