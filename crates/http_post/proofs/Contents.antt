@@ -22,7 +22,7 @@ none_left [] (suc n) le = refl
 none_left (x ∷ xs) zero le = absurd (omega (arith, le))
 none_left (x ∷ xs) (suc n) le = none_left xs n (omega (arith, le))
 
-dropped : (xs : List ℕ) (m n : ℕ) → drop n (drop m xs) ≡ drop (m + n) xs
+pub dropped : (xs : List ℕ) (m n : ℕ) → drop n (drop m xs) ≡ drop (m + n) xs
 dropped xs zero n = ap (λ k. drop k xs) (plus n)
   where
     plus : (n : ℕ) → n ≡ 0 + n

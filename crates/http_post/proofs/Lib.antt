@@ -9,3 +9,4 @@ mod Reading
 mod Lining
 mod Trailing
 mod Contents
+mod Chunking

@@ -1,11 +1,11 @@
 -- What is known of a chunk line while its bytes come.
-use Rattle.std.specs.Prelude.{ℕ, List, ◌≡◌, ◌∷◌, ◌++◌, length, ◌⊎◌, true, false, Option, Some, None}
+use Rattle.std.specs.Prelude.{ℕ, List, [], drop, Result, Ok, ◌≡◌, ◌∷◌, ◌++◌, length, ◌⊎◌, true, false, Option, Some, None}
 use Rattle.httparse.specs.Grammar.{ChunkLine, HasNoChunkLine, MayBecomeChunkLine, NeverHasChunkLine}
 use Rattle.httparse.specs.Spans.{IsChunkLineAt}
 use Rattle.http_post.specs.declared.refusal.HttpRefusal.{HttpRefusal}
 use Rattle.http_post.specs.declared.refusal.HttpRefusal.TheVariants.{BadRequest}
 use Rattle.http_post.specs.declared.trailers.Line.{Line}
-use Rattle.http_post.specs.Chunks.{has_empty_line, IsCutShort, IsUnended}
+use Rattle.http_post.specs.Chunks.{Chunks, has_empty_line, IsCutShort, IsUnended, prefixed}
 use Rattle.http_post.specs.Raw.{is_cut}
 use Rattle.http_post.specs.declared.chunks.LineStep.{LineStep}
 use Rattle.http_post.specs.declared.chunks.LineStep.TheVariants.{Whole, More, Never}
@@ -34,3 +34,10 @@ abbrev pub IsBadContent : ℕ → List ℕ → HttpRefusal → HttpRefusal → T
 IsBadContent size rest cut refusal =
     (IsCutShort size rest × (refusal ≡ cut))
     ⊎ ((content : List ℕ) × (after : List ℕ) × ((rest ≡ content ++ after) × ((length content ≡ size) × (IsUnended after × (refusal ≡ BadRequest)))))
+
+-- what one chunk gives: its data, and where the next one begins; or the end of the body
+abbrev pub IsChunkStep : HttpRefusal → List ℕ → ℕ → List ℕ → List ℕ → Option ℕ → Type 0
+IsChunkStep cut s at before after None = (after ≡ before) × Chunks cut (length before) (drop at s) (Ok [])
+IsChunkStep cut s at before after (Some next) =
+    (content : List ℕ) × (after ≡ before ++ content)
+    × ((out : Result (List ℕ) HttpRefusal) → Chunks cut (length after) (drop next s) out → Chunks cut (length before) (drop at s) (prefixed content out))

@@ -1,16 +1,19 @@
 //! A body in chunks (RFC 9112, section 7.1).
 
-ghost use Rattle.std.specs.Prelude.{ℕ, List, ◌≡◌, ◌+◌, ◌<◌, ◌≤◌, IfErr, IfOk, OnOk, length, min, drop, take, true};
+ghost use Rattle.std.specs.Prelude.{ℕ, List, ◌≡◌, ◌+◌, ◌<◌, ◌≤◌, Err, IfErr, IfOk, IfSome, OnOk, length, min, drop, take, true};
 ghost use Rattle.http_post.specs.Raw.{EndsBefore, IsFault, IsRaw, is_cut, seen};
 ghost use Rattle.httparse.specs.Grammar.{ChunkLine};
 ghost use Rattle.httparse.specs.Spans.{IsChunkLineAt};
-ghost use Rattle.http_post.specs.Chunks.{cut_at_end};
-ghost use Rattle.http_post.specs.Lines.{IsLast, IsLineStep, IsNoLine};
+ghost use Rattle.http_post.specs.Chunks.{Chunks, cut_at_end};
+ghost use Rattle.http_post.specs.Lines.{IsChunkStep, IsLast, IsLineStep, IsNoLine};
 
+use crate::content::read_content;
 use crate::raw::{counted, counting, more};
 use crate::refusal::HttpRefusal;
+use crate::trailers::read_trailers;
 use httparse::{InvalidChunkSize, Status, parse_chunk_size};
 use site_model::source::Source;
+use std::alloc::{AllocError, Global};
 
 /// Reads on until so many bytes count, or the body breaks off before.
 pub fn fill<S: Source>(
@@ -122,5 +125,49 @@ fn read_line<S: Source>(
         if let Err(refusal) = more(source, bytes) {
             return last_line(bytes.as_slice(), at, refusal);
         }
+    }
+}
+
+/// The most bytes of content.
+const MOST_CONTENT: u64 = 65536;
+
+/// Reads one chunk at a place, and adds its data to the body. Says where the next chunk begins, or none where this was
+/// the last one and the trailers ended.
+fn read_chunk<S: Source>(
+    source: &mut S,
+    bytes: &mut Vec<u8>,
+    at: usize,
+    body: &mut Vec<u8>,
+) -> Result<Option<usize>, HttpRefusal>
+    requires at { at ≤ min (length bytes.old.items) 131072 }
+    requires body { length body.old.items ≤ 65536 }
+    ensures kept { OnOk result ((raw : List ℕ) → IsRaw (S.left source.old) bytes.old.items raw → IsRaw (S.left source.new) bytes.new.items raw) }
+    ensures next { IfOk result (λ o. IfSome o (λ next. (at < next) × (next ≤ min (length bytes.new.items) 131072))) }
+    ensures most { OnOk result (length body.new.items ≤ 65536) }
+    ensures step { IfOk result (λ o. (raw : List ℕ) → IsRaw (S.left source.old) bytes.old.items raw → IsChunkStep (cut_at_end raw) (seen raw) at body.old.items body.new.items o) }
+    ensures fault { IfErr result (λ e. IsFault e (λ r. (raw : List ℕ) → IsRaw (S.left source.old) bytes.old.items raw → Chunks (cut_at_end raw) (length body.old.items) (drop at (seen raw)) (Err r))) }
+{
+    let line = match read_line(source, bytes, at) {
+        Ok(line) => line,
+        Err(refusal) => return Err(refusal),
+    };
+    let from = at + line.len;
+    if line.size == 0 {
+        return match read_trailers(source, bytes, from) {
+            Ok(()) => Ok(None),
+            Err(refusal) => Err(refusal),
+        };
+    }
+    if line.size > MOST_CONTENT - body.len() as u64 {
+        return Err(HttpRefusal::ContentTooLarge);
+    }
+    let size = line.size as usize;
+    match read_content(source, bytes, from, size) {
+        Ok(()) => {}
+        Err(refusal) => return Err(refusal),
+    }
+    match body.extend_from_slice(&bytes[from..from + size]) {
+        Ok(()) => Ok(Some(from + size + 2)),
+        Err(AllocError) => Err(HttpRefusal::NoMemory),
     }
 }

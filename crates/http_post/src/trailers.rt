@@ -39,6 +39,7 @@ pub fn read_trailers<S: Source>(
     from: usize,
 ) -> Result<(), HttpRefusal>
     requires { from ≤ 131072 }
+    ensures kept { OnOk result ((raw : List ℕ) → IsRaw (S.left source.old) bytes.old.items raw → IsRaw (S.left source.new) bytes.new.items raw) }
     ensures ended { OnOk result ((raw : List ℕ) → IsRaw (S.left source.old) bytes.old.items raw → ends_trailers (drop from (seen raw)) ≡ true) }
     ensures fault { IfErr result (λ e. IsFault e (λ r. (raw : List ℕ) → IsRaw (S.left source.old) bytes.old.items raw → (ends_trailers (drop from (seen raw)) ≡ false) × (r ≡ cut_at_end raw))) }
 {

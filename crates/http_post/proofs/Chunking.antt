@@ -1,0 +1,127 @@
+-- One chunk, from what was read of it.
+use Rattle.std.proofs.Common.{ℕ, List, Option, Some, None, Result, Ok, Err, [], ◌∷◌, ◌++◌, ◌≡◌, ◌≤◌, ◌<◌, ◌+◌, ◌-◌, ◌⊎◌, inl, inr, min, zero, suc, true, false, length, take, drop, refl, sym, subst, ap, ◌∙◌, arith}
+use Rattle.std.specs.Prelude.{slice_range}
+use Rattle.std.proofs.lemmas.List.{length-append, length-take, length-drop, length-take-le, take-append-le}
+use Rattle.httparse.specs.Grammar.{ChunkLine, HasNoChunkLine, NeverHasChunkLine, ReadsChunkLine, chunk_size, print_chunk_line}
+use Rattle.httparse.specs.Spans.{IsChunkLineAt}
+use Rattle.http_post.specs.declared.refusal.HttpRefusal.{HttpRefusal}
+use Rattle.http_post.specs.declared.refusal.HttpRefusal.TheVariants.{BadRequest, ContentTooLarge}
+use Rattle.http_post.specs.Chunks.{Chunks, chunk, last, in_trailers, in_chunk, in_line, no_line, unended, too_large, cut_at_end, ends_trailers, IsCutShort, prefixed}
+use Rattle.http_post.specs.Lines.{IsBadContent, IsChunkStep, IsNoLine}
+use Rattle.http_post.specs.Raw.{IsFault, IsRaw, seen}
+use Rattle.http_post.proofs.Lining.{seen_front}
+use Rattle.http_post.proofs.Reading.{fault_on}
+use Rattle.http_post.proofs.Contents.{dropped}
+
+module _ (cut : HttpRefusal) (s : List ℕ) (at sum : ℕ) where
+  pub lacks_line : (r : HttpRefusal) → IsNoLine (drop at s) cut r → Chunks cut sum (drop at s) (Err r)
+  lacks_line r (inl (never, is)) = subst (λ x. Chunks cut sum (drop at s) (Err x)) (sym is) (no_line never)
+  lacks_line r (inr (none, (may, is))) = subst (λ x. Chunks cut sum (drop at s) (Err x)) (sym is) (in_line none may)
+
+  module _ (len size : ℕ) (line : (l : ChunkLine) × IsChunkLineAt (drop at s) len size l) where
+    abbrev l : ChunkLine
+    l = line.0
+
+    reads : ReadsChunkLine (drop at s) l (drop (at + len) s)
+    reads = subst (ReadsChunkLine (drop at s) l) (dropped s at len) line.1.reads
+
+    sized : size ≡ chunk_size l
+    sized = line.1.size_is
+
+    pub is_last : size ≡ 0 → ends_trailers (drop (at + len) s) ≡ true → Chunks cut sum (drop at s) (Ok [])
+    is_last none ends = last l (drop (at + len) s) reads (sym sized ∙ none) ends
+
+    pub breaks_in_trailers : (r : HttpRefusal) → size ≡ 0 → (ends_trailers (drop (at + len) s) ≡ false) × (r ≡ cut) → Chunks cut sum (drop at s) (Err r)
+    breaks_in_trailers r none (ends, is) = subst (λ x. Chunks cut sum (drop at s) (Err x)) (sym is) (in_trailers l (drop (at + len) s) reads (sym sized ∙ none) ends)
+
+    pub is_too_large : 65536 < sum + size → Chunks cut sum (drop at s) (Err ContentTooLarge)
+    is_too_large lt = too_large l (drop (at + len) s) reads (subst (λ k. 65536 < sum + k) sized lt)
+
+    module _ (some : 0 < size) (fits : sum + size ≤ 65536) where
+      pub has_bad_content : (r : HttpRefusal) → IsBadContent size (drop (at + len) s) cut r → Chunks cut sum (drop at s) (Err r)
+      has_bad_content r (inl (short, is)) =
+          subst (λ x. Chunks cut sum (drop at s) (Err x)) (sym is)
+            (in_chunk l (drop (at + len) s) reads (subst (λ k. 0 < k) sized some) (subst (λ k. sum + k ≤ 65536) sized fits) (subst (λ k. IsCutShort k (drop (at + len) s)) sized short))
+      has_bad_content r (inr (content, after, (e, (long, (bad, is))))) =
+          subst (λ x. Chunks cut sum (drop at s) (Err x)) (sym is)
+            (unended l content after (subst (ReadsChunkLine (drop at s) l) e reads) (long ∙ sized) (subst (λ k. 0 < k) sized some) (subst (λ k. sum + k ≤ 65536) sized fits) bad)
+
+      pub has_content : drop (at + len) s ≡ take size (drop (at + len) s) ++ 13 ∷ 10 ∷ drop (at + len + size + 2) s → length (take size (drop (at + len) s)) ≡ size
+          → (out : Result (List ℕ) HttpRefusal) → Chunks cut (sum + size) (drop (at + len + size + 2) s) out → Chunks cut sum (drop at s) (prefixed (take size (drop (at + len) s)) out)
+      has_content e long out h =
+          chunk l (take size (drop (at + len) s)) (drop (at + len + size + 2) s) (subst (ReadsChunkLine (drop at s) l) e reads) (long ∙ sized)
+            (subst (λ k. 0 < k) sized some) (subst (λ k. sum + k ≤ 65536) sized fits) (subst (λ k. Chunks cut (sum + k) (drop (at + len + size + 2) s) out) sized h)
+
+front_part : (size from : ℕ) (xs ys : List ℕ) → from + size ≤ length xs → take size (drop from (xs ++ ys)) ≡ take size (drop from xs)
+front_part size zero xs ys le = take-append-le size xs ys (omega (arith, le))
+front_part size (suc from) [] ys le = absurd (omega (arith, le))
+front_part size (suc from) (x ∷ xs) ys le = front_part size from xs ys (omega (arith, le))
+
+taken_part : (size from n : ℕ) (xs : List ℕ) → from + size ≤ n → take size (drop from (take n xs)) ≡ take size (drop from xs)
+taken_part size zero n xs le = take_take size n xs (omega (arith, le))
+  where
+    take_take : (m n : ℕ) (xs : List ℕ) → m ≤ n → take m (take n xs) ≡ take m xs
+    take_take zero n xs le = refl
+    take_take (suc m) zero xs le = absurd (omega (arith, le))
+    take_take (suc m) (suc n) [] le = refl
+    take_take (suc m) (suc n) (x ∷ xs) le = ap (λ z. x ∷ z) (take_take m n xs (omega (arith, le)))
+taken_part size (suc from) zero xs le = absurd (omega (arith, le))
+taken_part size (suc from) (suc n) [] le = refl
+taken_part size (suc from) (suc n) (x ∷ xs) le = taken_part size from n xs (omega (arith, le))
+
+-- a part of what is held and counts is that part of what is seen
+pub seen_part : (left : Option (List ℕ)) (bytes raw : List ℕ) (from size : ℕ) → IsRaw left bytes raw → from + size ≤ min (length bytes) 131072
+    → (take size (drop from (seen raw)) ≡ slice_range bytes from (from + size)) × (length (take size (drop from (seen raw))) ≡ size)
+seen_part left bytes raw from size k le =
+    let f = seen_front left bytes raw k in
+    let in_taken : from + size ≤ length (take 131072 bytes) = omega (arith, le, length-take 131072 bytes) in
+    let count : (from + size) - from ≡ size = omega arith in
+    let e : take size (drop from (seen raw)) ≡ take size (drop from bytes)
+      = ap (λ z. take size (drop from z)) f.1 ∙ front_part size from (take 131072 bytes) f.0 in_taken ∙ taken_part size from 131072 bytes (omega (arith, le)) in
+    (e ∙ ap (λ n. take n (drop from bytes)) (sym count),
+     ap length e ∙ length-take-le size (drop from bytes) (omega (arith, le, length-drop from bytes)))
+
+-- the same of what a reader holds; `old` is what it held at first
+module _ (first : Option (List ℕ)) (old before : List ℕ) (at : ℕ) where
+  abbrev Faulty : HttpRefusal → Type 0
+  Faulty r = (raw : List ℕ) → IsRaw first old raw → Chunks (cut_at_end raw) (length before) (drop at (seen raw)) (Err r)
+
+  pub fault_no_line : (e : HttpRefusal) → IsFault e (λ r. (raw : List ℕ) → IsRaw first old raw → IsNoLine (drop at (seen raw)) (cut_at_end raw) r)
+      → IsFault e (λ r. (raw : List ℕ) → IsRaw first old raw → Chunks (cut_at_end raw) (length before) (drop at (seen raw)) (Err r))
+  fault_no_line e h = fault_on e (λ r. (raw : List ℕ) → IsRaw first old raw → IsNoLine (drop at (seen raw)) (cut_at_end raw) r) Faulty h
+      (λ r b raw k. lacks_line (cut_at_end raw) (seen raw) at (length before) r (b raw k))
+
+  module _ (one : Option (List ℕ)) (held : List ℕ) (kept : (raw : List ℕ) → IsRaw first old raw → IsRaw one held raw) (len size : ℕ)
+      (line : (raw : List ℕ) → IsRaw first old raw → (l : ChunkLine) × IsChunkLineAt (drop at (seen raw)) len size l) where
+    pub step_last : size ≡ 0 → ((raw : List ℕ) → IsRaw one held raw → ends_trailers (drop (at + len) (seen raw)) ≡ true)
+        → (raw : List ℕ) → IsRaw first old raw → (before ≡ before) × Chunks (cut_at_end raw) (length before) (drop at (seen raw)) (Ok [])
+    step_last none ends raw k = (refl, is_last (cut_at_end raw) (seen raw) at (length before) len size (line raw k) none (ends raw (kept raw k)))
+
+    pub fault_in_trailers : (e : HttpRefusal) → size ≡ 0
+        → IsFault e (λ r. (raw : List ℕ) → IsRaw one held raw → (ends_trailers (drop (at + len) (seen raw)) ≡ false) × (r ≡ cut_at_end raw))
+        → IsFault e (λ r. (raw : List ℕ) → IsRaw first old raw → Chunks (cut_at_end raw) (length before) (drop at (seen raw)) (Err r))
+    fault_in_trailers e none h = fault_on e (λ r. (raw : List ℕ) → IsRaw one held raw → (ends_trailers (drop (at + len) (seen raw)) ≡ false) × (r ≡ cut_at_end raw)) Faulty h
+        (λ r b raw k. breaks_in_trailers (cut_at_end raw) (seen raw) at (length before) len size (line raw k) r none (b raw (kept raw k)))
+
+    pub fault_too_large : 65536 < length before + size → (raw : List ℕ) → IsRaw first old raw → Chunks (cut_at_end raw) (length before) (drop at (seen raw)) (Err ContentTooLarge)
+    fault_too_large lt raw k = is_too_large (cut_at_end raw) (seen raw) at (length before) len size (line raw k) lt
+
+    pub fault_in_content : (e : HttpRefusal) → 0 < size → length before + size ≤ 65536
+        → IsFault e (λ r. (raw : List ℕ) → IsRaw one held raw → IsBadContent size (drop (at + len) (seen raw)) (cut_at_end raw) r)
+        → IsFault e (λ r. (raw : List ℕ) → IsRaw first old raw → Chunks (cut_at_end raw) (length before) (drop at (seen raw)) (Err r))
+    fault_in_content e some fits h = fault_on e (λ r. (raw : List ℕ) → IsRaw one held raw → IsBadContent size (drop (at + len) (seen raw)) (cut_at_end raw) r) Faulty h
+        (λ r b raw k. has_bad_content (cut_at_end raw) (seen raw) at (length before) len size (line raw k) some fits r (b raw (kept raw k)))
+
+    pub step_chunk : (two : Option (List ℕ)) (more after : List ℕ) → ((raw : List ℕ) → IsRaw one held raw → IsRaw two more raw) → 0 < size → length before + size ≤ 65536
+        → at + len + size + 2 ≤ min (length more) 131072
+        → ((raw : List ℕ) → IsRaw one held raw → drop (at + len) (seen raw) ≡ take size (drop (at + len) (seen raw)) ++ 13 ∷ 10 ∷ drop (at + len + size + 2) (seen raw))
+        → after ≡ before ++ slice_range more (at + len) (at + len + size)
+        → (raw : List ℕ) → IsRaw first old raw → IsChunkStep (cut_at_end raw) (seen raw) at before after (Some (at + len + size + 2))
+    step_chunk two more after kept_more some fits full whole e raw k =
+        let part = seen_part two more raw (at + len) size (kept_more raw (kept raw k)) (omega (arith, full)) in
+        let content : List ℕ = take size (drop (at + len) (seen raw)) in
+        let grown : after ≡ before ++ content = e ∙ ap (λ z. before ++ z) (sym part.0) in
+        let long : length after ≡ length before + size = ap length grown ∙ length-append before content ∙ ap (λ n. length before + n) part.1 in
+        (content, grown, λ out h.
+          has_content (cut_at_end raw) (seen raw) at (length before) len size (line raw k) some fits (whole raw (kept raw k)) part.1 out
+            (subst (λ n. Chunks (cut_at_end raw) n (drop (at + len + size + 2) (seen raw)) out) long h))
