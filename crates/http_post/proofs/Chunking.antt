@@ -1,6 +1,8 @@
 -- One chunk, from what was read of it.
-use Rattle.std.proofs.Common.{ℕ, List, Option, Some, None, Result, Ok, Err, [], ◌∷◌, ◌++◌, ◌≡◌, ◌≤◌, ◌<◌, ◌+◌, ◌-◌, ◌⊎◌, inl, inr, min, zero, suc, true, false, length, take, drop, refl, sym, subst, ap, ◌∙◌, arith}
-use Rattle.std.specs.Prelude.{slice_range}
+use Rattle.std.proofs.Common.{ℕ, List, Option, Some, None, Result, Ok, Err, [], ◌∷◌, ◌++◌, ◌≡◌, ◌≤◌, ◌<◌, ◌+◌, ◌-◌, ◌⊎◌, inl, inr, min, zero, suc, true, false, length, take, drop, refl, sym, subst, ap, ◌∙◌, arith, append-nil, append_assoc}
+use Rattle.std.specs.Prelude.{slice_range, IfOk, IfSome}
+use Rattle.http_post.specs.declared.framing.Framing.TheVariants.{Chunked, Sized}
+use Rattle.http_post.specs.Requests.{Body, all_there, chunked, cut_off}
 use Rattle.std.proofs.lemmas.List.{length-append, length-take, length-drop, length-take-le, take-append-le}
 use Rattle.httparse.specs.Grammar.{ChunkLine, HasNoChunkLine, NeverHasChunkLine, ReadsChunkLine, chunk_size, print_chunk_line}
 use Rattle.httparse.specs.Spans.{IsChunkLineAt}
@@ -125,3 +127,60 @@ module _ (first : Option (List ℕ)) (old before : List ℕ) (at : ℕ) where
         (content, grown, λ out h.
           has_content (cut_at_end raw) (seen raw) at (length before) len size (line raw k) some fits (whole raw (kept raw k)) part.1 out
             (subst (λ n. Chunks (cut_at_end raw) n (drop (at + len + size + 2) (seen raw)) out) long h))
+
+-- the chunks, one after another
+module _ (first left : Option (List ℕ)) (old bytes body : List ℕ) (at : ℕ)
+    (kept : (raw : List ℕ) → IsRaw first old raw → IsRaw left bytes raw)
+    (so_far : (raw : List ℕ) → IsRaw first old raw → (out : Result (List ℕ) HttpRefusal)
+      → Chunks (cut_at_end raw) (length body) (drop at (seen raw)) out → Chunks (cut_at_end raw) 0 (seen raw) (prefixed body out)) where
+
+  pub all_fault : (e : HttpRefusal) → IsFault e (λ r. (raw : List ℕ) → IsRaw left bytes raw → Chunks (cut_at_end raw) (length body) (drop at (seen raw)) (Err r))
+      → IsFault e (λ r. (raw : List ℕ) → IsRaw first old raw → Chunks (cut_at_end raw) 0 (seen raw) (Err r))
+  all_fault e h = fault_on e (λ r. (raw : List ℕ) → IsRaw left bytes raw → Chunks (cut_at_end raw) (length body) (drop at (seen raw)) (Err r))
+      (λ r. (raw : List ℕ) → IsRaw first old raw → Chunks (cut_at_end raw) 0 (seen raw) (Err r)) h (λ r b raw k. so_far raw k (Err r) (b raw (kept raw k)))
+
+  pub all_read : (after : List ℕ) → ((raw : List ℕ) → IsRaw left bytes raw → IsChunkStep (cut_at_end raw) (seen raw) at body after None)
+      → (raw : List ℕ) → IsRaw first old raw → Chunks (cut_at_end raw) 0 (seen raw) (Ok after)
+  all_read after h raw k =
+      let end = h raw (kept raw k) in
+      subst (λ z. Chunks (cut_at_end raw) 0 (seen raw) (Ok z)) (append-nil body ∙ sym end.0) (so_far raw k (Ok []) end.1)
+
+  pub one_further : (after : List ℕ) (next : ℕ) → ((raw : List ℕ) → IsRaw left bytes raw → IsChunkStep (cut_at_end raw) (seen raw) at body after (Some next))
+      → (raw : List ℕ) → IsRaw first old raw → (out : Result (List ℕ) HttpRefusal)
+      → Chunks (cut_at_end raw) (length after) (drop next (seen raw)) out → Chunks (cut_at_end raw) 0 (seen raw) (prefixed after out)
+  one_further after next h raw k out c =
+      let step = h raw (kept raw k) in
+      subst (Chunks (cut_at_end raw) 0 (seen raw)) (joined step.0 out ∙ ap (λ z. prefixed z out) (sym step.1)) (so_far raw k (prefixed step.0 out) (step.2 out c))
+    where
+      joined : (content : List ℕ) (o : Result (List ℕ) HttpRefusal) → prefixed body (prefixed content o) ≡ prefixed (body ++ content) o
+      joined content (Ok x) = ap Ok (sym (append_assoc body content x))
+      joined content (Err r) = refl
+
+pub nothing_first : (out : Result (List ℕ) HttpRefusal) → out ≡ prefixed [] out
+nothing_first (Ok x) = refl
+nothing_first (Err r) = refl
+
+pub step_is : (left : Option (List ℕ)) (bytes body after : List ℕ) (at : ℕ) (o p : Option ℕ) → o ≡ p
+    → ((raw : List ℕ) → IsRaw left bytes raw → IsChunkStep (cut_at_end raw) (seen raw) at body after o) → (raw : List ℕ) → IsRaw left bytes raw → IsChunkStep (cut_at_end raw) (seen raw) at body after p
+step_is left bytes body after at o p e h raw k = subst (IsChunkStep (cut_at_end raw) (seen raw) at body after) e (h raw k)
+
+pub place_is : (o : Option ℕ) (place at most : ℕ) → o ≡ Some place → IfSome o (λ next. (at < next) × (next ≤ most)) → (at < place) × (place ≤ most)
+place_is o place at most e h = subst (λ z. IfSome z (λ next. (at < next) × (next ≤ most))) e h
+
+-- a body of a known length
+pub short_body : (left : Option (List ℕ)) (bytes raw : List ℕ) (count : ℕ) → length bytes < count → raw ≡ bytes → Body (Sized count) raw (Err BadRequest)
+short_body left bytes raw count lt e = cut_off count raw (omega (arith, lt, ap length e))
+
+pub whole_body : (left : Option (List ℕ)) (bytes raw body : List ℕ) (count : ℕ) → IsRaw left bytes raw → count ≤ length bytes → body ≡ take count bytes → Body (Sized count) raw (Ok body)
+whole_body None bytes raw body count k le e = absurd k
+whole_body (Some l) bytes raw body count k le e =
+    subst (λ z. Body (Sized count) raw (Ok z)) (ap (take count) k ∙ take-append-le count bytes l le ∙ sym e)
+      (all_there count raw (omega (arith, le, ap length k, length-append bytes l)))
+
+pub in_chunks : (r : Result (List ℕ) HttpRefusal) (raw : List ℕ) → Chunks (cut_at_end raw) 0 (seen raw) r → Body Chunked raw r
+in_chunks r raw h = chunked raw h
+
+pub chunked_fault : (first : Option (List ℕ)) (old : List ℕ) (e : HttpRefusal) → IsFault e (λ r. (raw : List ℕ) → IsRaw first old raw → Chunks (cut_at_end raw) 0 (seen raw) (Err r))
+    → IsFault e (λ r. (raw : List ℕ) → IsRaw first old raw → Body Chunked raw (Err r))
+chunked_fault first old e h = fault_on e (λ r. (raw : List ℕ) → IsRaw first old raw → Chunks (cut_at_end raw) 0 (seen raw) (Err r)) (λ r. (raw : List ℕ) → IsRaw first old raw → Body Chunked raw (Err r)) h
+    (λ r b raw k. chunked raw (b raw k))

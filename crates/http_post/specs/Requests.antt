@@ -35,8 +35,8 @@ asking path (Err refusal) = Err refusal
 
 -- what a framed body of these bytes is
 pub data Body : Framing → List ℕ → Result (List ℕ) HttpRefusal → Type 0 where
-  whole : (count : ℕ) (rest : List ℕ) → count ≤ length rest → Body (Sized count) rest (Ok (take count rest))
-  short : (count : ℕ) (rest : List ℕ) → length rest < count → Body (Sized count) rest (Err refusals.BadRequest)
+  all_there : (count : ℕ) (rest : List ℕ) → count ≤ length rest → Body (Sized count) rest (Ok (take count rest))
+  cut_off : (count : ℕ) (rest : List ℕ) → length rest < count → Body (Sized count) rest (Err refusals.BadRequest)
   chunked : {out : Result (List ℕ) HttpRefusal} (rest : List ℕ) → Chunks (cut_at_end rest) 0 (take most_raw rest) out → Body Chunked rest out
 
 -- what all the bytes of a connection ask

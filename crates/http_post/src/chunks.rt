@@ -1,6 +1,6 @@
 //! A body in chunks (RFC 9112, section 7.1).
 
-ghost use Rattle.std.specs.Prelude.{ℕ, List, ◌≡◌, ◌+◌, ◌<◌, ◌≤◌, Err, IfErr, IfOk, IfSome, OnOk, length, min, drop, take, true};
+ghost use Rattle.std.specs.Prelude.{ℕ, List, ◌≡◌, ◌+◌, ◌<◌, ◌≤◌, Err, Ok, IfErr, IfOk, IfSome, OnOk, length, min, drop, take, true};
 ghost use Rattle.http_post.specs.Raw.{EndsBefore, IsFault, IsRaw, is_cut, seen};
 ghost use Rattle.httparse.specs.Grammar.{ChunkLine};
 ghost use Rattle.httparse.specs.Spans.{IsChunkLineAt};
@@ -169,5 +169,28 @@ fn read_chunk<S: Source>(
     match body.extend_from_slice(&bytes[from..from + size]) {
         Ok(()) => Ok(Some(from + size + 2)),
         Err(AllocError) => Err(HttpRefusal::NoMemory),
+    }
+}
+
+/// The content of a body in chunks, of which these bytes came already.
+pub fn read_chunks<S: Source>(
+    alloc: Global,
+    source: &mut S,
+    bytes: &mut Vec<u8>,
+) -> Result<Vec<u8>, HttpRefusal>
+    ensures content { IfOk result (λ body. (raw : List ℕ) → IsRaw (S.left source.old) bytes.old.items raw → Chunks (cut_at_end raw) 0 (seen raw) (Ok body.items)) }
+    ensures fault { IfErr result (λ e. IsFault e (λ r. (raw : List ℕ) → IsRaw (S.left source.old) bytes.old.items raw → Chunks (cut_at_end raw) 0 (seen raw) (Err r))) }
+{
+    let mut body = Vec::new(alloc);
+    let mut at = 0;
+    loop {
+        let next = match read_chunk(source, bytes, at, &mut body) {
+            Ok(next) => next,
+            Err(refusal) => return Err(refusal),
+        };
+        match next {
+            Some(place) => at = place,
+            None => return Ok(body),
+        }
     }
 }

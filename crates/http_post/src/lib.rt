@@ -3,6 +3,7 @@
 
 mod asking;
 mod fields;
+mod body;
 mod chunks;
 mod content;
 pub mod framing;
