@@ -1,3 +1,4 @@
+pub mod Written
 pub mod Heads
 pub mod Chunks
 pub mod Requests

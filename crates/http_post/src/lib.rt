@@ -13,3 +13,4 @@ mod places;
 mod raw;
 pub mod refusal;
 mod trailers;
+pub mod writer;
