@@ -1,10 +1,10 @@
 -- One chunk, from what was read of it.
-use Rattle.std.proofs.Common.{ℕ, List, Option, Some, None, Result, Ok, Err, [], ◌∷◌, ◌++◌, ◌≡◌, ◌≤◌, ◌<◌, ◌+◌, ◌-◌, ◌⊎◌, inl, inr, min, zero, suc, true, false, length, take, drop, refl, sym, subst, ap, ◌∙◌, arith, append-nil, append_assoc}
-use Rattle.std.specs.Prelude.{slice_range, IfOk, IfSome}
+use Rattle.std.proofs.Common.{ℕ, List, Option, Some, None, Result, Ok, Err, [], ◌∷◌, ◌++◌, ◌≡◌, ◌≤◌, ◌<◌, ◌+◌, ◌-◌, inl, inr, min, zero, suc, true, false, length, take, drop, refl, sym, subst, ap, ◌∙◌, arith, append-nil, append_assoc}
+use Rattle.std.specs.Prelude.{slice_range, IfSome}
 use Rattle.http_post.specs.declared.framing.Framing.TheVariants.{Chunked, Sized}
 use Rattle.http_post.specs.Requests.{Body, all_there, chunked, cut_off}
 use Rattle.std.proofs.lemmas.List.{length-append, length-take, length-drop, length-take-le, take-append-le}
-use Rattle.httparse.specs.Grammar.{ChunkLine, HasNoChunkLine, NeverHasChunkLine, ReadsChunkLine, chunk_size, print_chunk_line}
+use Rattle.httparse.specs.Grammar.{ChunkLine, ReadsChunkLine, chunk_size}
 use Rattle.httparse.specs.Spans.{IsChunkLineAt}
 use Rattle.http_post.specs.declared.refusal.HttpRefusal.{HttpRefusal}
 use Rattle.http_post.specs.declared.refusal.HttpRefusal.TheVariants.{BadRequest, ContentTooLarge}
@@ -43,16 +43,16 @@ module _ (cut : HttpRefusal) (s : List ℕ) (at sum : ℕ) where
       pub has_bad_content : (r : HttpRefusal) → IsBadContent size (drop (at + len) s) cut r → Chunks cut sum (drop at s) (Err r)
       has_bad_content r (inl (short, is)) =
           subst (λ x. Chunks cut sum (drop at s) (Err x)) (sym is)
-            (in_chunk l (drop (at + len) s) reads (subst (λ k. 0 < k) sized some) (subst (λ k. sum + k ≤ 65536) sized fits) (subst (λ k. IsCutShort k (drop (at + len) s)) sized short))
+          (in_chunk l (drop (at + len) s) reads (subst (λ k. 0 < k) sized some) (subst (λ k. sum + k ≤ 65536) sized fits) (subst (λ k. IsCutShort k (drop (at + len) s)) sized short))
       has_bad_content r (inr (content, after, (e, (long, (bad, is))))) =
           subst (λ x. Chunks cut sum (drop at s) (Err x)) (sym is)
-            (unended l content after (subst (ReadsChunkLine (drop at s) l) e reads) (long ∙ sized) (subst (λ k. 0 < k) sized some) (subst (λ k. sum + k ≤ 65536) sized fits) bad)
+          (unended l content after (subst (ReadsChunkLine (drop at s) l) e reads) (long ∙ sized) (subst (λ k. 0 < k) sized some) (subst (λ k. sum + k ≤ 65536) sized fits) bad)
 
       pub has_content : drop (at + len) s ≡ take size (drop (at + len) s) ++ 13 ∷ 10 ∷ drop (at + len + size + 2) s → length (take size (drop (at + len) s)) ≡ size
           → (out : Result (List ℕ) HttpRefusal) → Chunks cut (sum + size) (drop (at + len + size + 2) s) out → Chunks cut sum (drop at s) (prefixed (take size (drop (at + len) s)) out)
       has_content e long out h =
           chunk l (take size (drop (at + len) s)) (drop (at + len + size + 2) s) (subst (ReadsChunkLine (drop at s) l) e reads) (long ∙ sized)
-            (subst (λ k. 0 < k) sized some) (subst (λ k. sum + k ≤ 65536) sized fits) (subst (λ k. Chunks cut (sum + k) (drop (at + len + size + 2) s) out) sized h)
+          (subst (λ k. 0 < k) sized some) (subst (λ k. sum + k ≤ 65536) sized fits) (subst (λ k. Chunks cut (sum + k) (drop (at + len + size + 2) s) out) sized h)
 
 front_part : (size from : ℕ) (xs ys : List ℕ) → from + size ≤ length xs → take size (drop from (xs ++ ys)) ≡ take size (drop from xs)
 front_part size zero xs ys le = take-append-le size xs ys (omega (arith, le))
@@ -79,9 +79,10 @@ seen_part left bytes raw from size k le =
     let in_taken : from + size ≤ length (take 131072 bytes) = omega (arith, le, length-take 131072 bytes) in
     let count : (from + size) - from ≡ size = omega arith in
     let e : take size (drop from (seen raw)) ≡ take size (drop from bytes)
-      = ap (λ z. take size (drop from z)) f.1 ∙ front_part size from (take 131072 bytes) f.0 in_taken ∙ taken_part size from 131072 bytes (omega (arith, le)) in
-    (e ∙ ap (λ n. take n (drop from bytes)) (sym count),
-     ap length e ∙ length-take-le size (drop from bytes) (omega (arith, le, length-drop from bytes)))
+    = ap (λ z. take size (drop from z)) f.1 ∙ front_part size from (take 131072 bytes) f.0 in_taken ∙ taken_part size from 131072 bytes (omega (arith, le)) in (
+      e ∙ ap (λ n. take n (drop from bytes)) (sym count),
+      ap length e ∙ length-take-le size (drop from bytes) (omega (arith, le, length-drop from bytes)),
+    )
 
 -- the same of what a reader holds; `old` is what it held at first
 module _ (first : Option (List ℕ)) (old before : List ℕ) (at : ℕ) where
@@ -123,17 +124,19 @@ module _ (first : Option (List ℕ)) (old before : List ℕ) (at : ℕ) where
         let part = seen_part two more raw (at + len) size (kept_more raw (kept raw k)) (omega (arith, full)) in
         let content : List ℕ = take size (drop (at + len) (seen raw)) in
         let grown : after ≡ before ++ content = e ∙ ap (λ z. before ++ z) (sym part.0) in
-        let long : length after ≡ length before + size = ap length grown ∙ length-append before content ∙ ap (λ n. length before + n) part.1 in
-        (content, grown, λ out h.
-          has_content (cut_at_end raw) (seen raw) at (length before) len size (line raw k) some fits (whole raw (kept raw k)) part.1 out
-            (subst (λ n. Chunks (cut_at_end raw) n (drop (at + len + size + 2) (seen raw)) out) long h))
+        let long : length after ≡ length before + size = ap length grown ∙ length-append before content ∙ ap (λ n. length before + n) part.1 in (
+          content,
+          grown,
+          λ out h.
+              has_content (cut_at_end raw) (seen raw) at (length before) len size (line raw k) some fits (whole raw (kept raw k)) part.1 out
+              (subst (λ n. Chunks (cut_at_end raw) n (drop (at + len + size + 2) (seen raw)) out) long h),
+        )
 
 -- the chunks, one after another
 module _ (first left : Option (List ℕ)) (old bytes body : List ℕ) (at : ℕ)
     (kept : (raw : List ℕ) → IsRaw first old raw → IsRaw left bytes raw)
     (so_far : (raw : List ℕ) → IsRaw first old raw → (out : Result (List ℕ) HttpRefusal)
-      → Chunks (cut_at_end raw) (length body) (drop at (seen raw)) out → Chunks (cut_at_end raw) 0 (seen raw) (prefixed body out)) where
-
+    → Chunks (cut_at_end raw) (length body) (drop at (seen raw)) out → Chunks (cut_at_end raw) 0 (seen raw) (prefixed body out)) where
   pub all_fault : (e : HttpRefusal) → IsFault e (λ r. (raw : List ℕ) → IsRaw left bytes raw → Chunks (cut_at_end raw) (length body) (drop at (seen raw)) (Err r))
       → IsFault e (λ r. (raw : List ℕ) → IsRaw first old raw → Chunks (cut_at_end raw) 0 (seen raw) (Err r))
   all_fault e h = fault_on e (λ r. (raw : List ℕ) → IsRaw left bytes raw → Chunks (cut_at_end raw) (length body) (drop at (seen raw)) (Err r))
@@ -175,7 +178,7 @@ pub whole_body : (left : Option (List ℕ)) (bytes raw body : List ℕ) (count :
 whole_body None bytes raw body count k le e = absurd k
 whole_body (Some l) bytes raw body count k le e =
     subst (λ z. Body (Sized count) raw (Ok z)) (ap (take count) k ∙ take-append-le count bytes l le ∙ sym e)
-      (all_there count raw (omega (arith, le, ap length k, length-append bytes l)))
+    (all_there count raw (omega (arith, le, ap length k, length-append bytes l)))
 
 pub in_chunks : (r : Result (List ℕ) HttpRefusal) (raw : List ℕ) → Chunks (cut_at_end raw) 0 (seen raw) r → Body Chunked raw r
 in_chunks r raw h = chunked raw h

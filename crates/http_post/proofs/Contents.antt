@@ -1,6 +1,6 @@
 -- The data of a chunk, read on step by step.
-use Rattle.std.proofs.Common.{ℕ, List, Option, Some, None, [], ◌∷◌, ◌++◌, ◌≡◌, ◌≢◌, ◌≤◌, ◌<◌, ◌+◌, ◌-◌, ◌⊎◌, inl, inr, min, zero, suc, length, take, drop, refl, sym, subst, ap, ◌∙◌, arith, append-nil}
-use Rattle.std.proofs.lemmas.List.{length-append, length-take, length-drop, length-take-le, take-append-drop, take_all}
+use Rattle.std.proofs.Common.{ℕ, List, Option, [], ◌∷◌, ◌++◌, ◌≡◌, ◌≢◌, ◌≤◌, ◌<◌, ◌+◌, inl, inr, min, zero, suc, length, take, drop, refl, sym, subst, ap, ◌∙◌, arith}
+use Rattle.std.proofs.lemmas.List.{length-append, length-take, length-drop, length-take-le, take-append-drop}
 use Rattle.http_post.specs.declared.refusal.HttpRefusal.{HttpRefusal}
 use Rattle.http_post.specs.declared.refusal.HttpRefusal.TheVariants.{BadRequest}
 use Rattle.http_post.specs.Chunks.{cut_at_end, IsCutShort, in_data, before_return, before_feed, IsUnended, no_return, no_feed}
@@ -53,7 +53,7 @@ module _ (s : List ℕ) (from size : ℕ) (le : from ≤ length s) where
   breaks_in_end in_s short byte =
       let last : drop (from + size + 1) s ≡ [] = none_left s (from + size + 1) (omega (arith, short)) in
       subst (IsCutShort size) (sym (apart ∙ ap (λ z. take size rest ++ z) (byte ∙ ap (λ z. 13 ∷ z) last)))
-        (before_feed (take size rest) (whole_length (omega (arith, in_s))))
+      (before_feed (take size rest) (whole_length (omega (arith, in_s))))
 
   pub other_byte : (b : ℕ) → from + size ≤ length s → drop (from + size) s ≡ b ∷ drop (from + size + 1) s → b ≢ 13
       → (content : List ℕ) × (after : List ℕ) × ((rest ≡ content ++ after) × ((length content ≡ size) × IsUnended after))
@@ -62,9 +62,11 @@ module _ (s : List ℕ) (from size : ℕ) (le : from ≤ length s) where
 
   pub other_feed : (b : ℕ) → from + size ≤ length s → drop (from + size) s ≡ 13 ∷ drop (from + size + 1) s → drop (from + size + 1) s ≡ b ∷ drop (from + size + 1 + 1) s → b ≢ 10
       → (content : List ℕ) × (after : List ℕ) × ((rest ≡ content ++ after) × ((length content ≡ size) × IsUnended after))
-  other_feed b in_s byte next n =
-      (take size rest, 13 ∷ b ∷ drop (from + size + 1 + 1) s,
-       (apart ∙ ap (λ z. take size rest ++ z) (byte ∙ ap (λ z. 13 ∷ z) next), (whole_length in_s, no_feed b (drop (from + size + 1 + 1) s) n)))
+  other_feed b in_s byte next n = (
+    take size rest,
+    13 ∷ b ∷ drop (from + size + 1 + 1) s,
+    (apart ∙ ap (λ z. take size rest ++ z) (byte ∙ ap (λ z. 13 ∷ z) next), (whole_length in_s, no_feed b (drop (from + size + 1 + 1) s) n)),
+  )
 
   pub whole_content : drop (from + size) s ≡ 13 ∷ drop (from + size + 1) s → drop (from + size + 1) s ≡ 10 ∷ drop (from + size + 1 + 1) s
       → rest ≡ take size rest ++ 13 ∷ 10 ∷ drop (from + size + 2) s
@@ -84,7 +86,7 @@ module _ (first : Option (List ℕ)) (old : List ℕ) (from size : ℕ) (le : fr
       → IsFault e (λ r. (raw : List ℕ) → IsRaw first old raw → IsBadContent size (drop from (seen raw)) (cut_at_end raw) r)
   fault_in_data e h =
       fault_on e (λ r. (raw : List ℕ) → IsRaw first old raw → EndsBefore (from + size) raw r) Bad h
-        (λ r b raw k. inl (breaks_in_data (seen raw) from size (in_seen raw k) (b raw k).short, (b raw k).is_cut))
+      (λ r b raw k. inl (breaks_in_data (seen raw) from size (in_seen raw k) (b raw k).short, (b raw k).is_cut))
 
   module _ (one : Option (List ℕ)) (held : List ℕ) (kept : (raw : List ℕ) → IsRaw first old raw → IsRaw one held raw) (full : from + size ≤ min (length held) 131072) where
     filled : (raw : List ℕ) → IsRaw first old raw → from + size ≤ length (seen raw)
@@ -94,7 +96,7 @@ module _ (first : Option (List ℕ)) (old : List ℕ) (from size : ℕ) (le : fr
         → IsFault e (λ r. (raw : List ℕ) → IsRaw first old raw → IsBadContent size (drop from (seen raw)) (cut_at_end raw) r)
     fault_behind e h =
         fault_on e (λ r. (raw : List ℕ) → IsRaw one held raw → EndsBefore (from + size + 1) raw r) Bad h
-          (λ r b raw k. inl (breaks_behind (seen raw) from size (in_seen raw k) (filled raw k) (b raw (kept raw k)).short, (b raw (kept raw k)).is_cut))
+        (λ r b raw k. inl (breaks_behind (seen raw) from size (in_seen raw k) (filled raw k) (b raw (kept raw k)).short, (b raw (kept raw k)).is_cut))
 
     module _ (b : ℕ) (byte : (raw : List ℕ) → IsRaw one held raw → drop (from + size) (seen raw) ≡ b ∷ drop (from + size + 1) (seen raw)) where
       pub bad_return : b ≢ 13 → (raw : List ℕ) → IsRaw first old raw → IsBadContent size (drop from (seen raw)) (cut_at_end raw) BadRequest
@@ -111,7 +113,7 @@ module _ (first : Option (List ℕ)) (old : List ℕ) (from size : ℕ) (le : fr
             → IsFault e (λ r. (raw : List ℕ) → IsRaw first old raw → IsBadContent size (drop from (seen raw)) (cut_at_end raw) r)
         fault_in_end e h =
             fault_on e (λ r. (raw : List ℕ) → IsRaw two more raw → EndsBefore (from + size + 1 + 1) raw r) Bad h
-              (λ r b raw k. inl (breaks_in_end (seen raw) from size (in_seen raw k) (omega (arith, fuller, seen_long two more raw (kept_more raw k))) (omega (arith, (b raw (kept_more raw k)).short)) (returned raw k), (b raw (kept_more raw k)).is_cut))
+            (λ r b raw k. inl (breaks_in_end (seen raw) from size (in_seen raw k) (omega (arith, fuller, seen_long two more raw (kept_more raw k))) (omega (arith, (b raw (kept_more raw k)).short)) (returned raw k), (b raw (kept_more raw k)).is_cut))
 
         module _ (f : ℕ) (feed : (raw : List ℕ) → IsRaw two more raw → drop (from + size + 1) (seen raw) ≡ f ∷ drop (from + size + 1 + 1) (seen raw)) where
           pub bad_feed : f ≢ 10 → (raw : List ℕ) → IsRaw first old raw → IsBadContent size (drop from (seen raw)) (cut_at_end raw) BadRequest

@@ -1,11 +1,11 @@
 -- Numbers in decimal.
-use Rattle.std.proofs.Common.{ℕ, List, [], ◌∷◌, ◌++◌, ◌≡◌, ◌≢◌, ◌≤◌, ◌<◌, ◌+◌, ◌-◌, ◌*◌, ◌⊎◌, inl, inr, Bool, true, false, nat_eq, min, take, drop, get_or, length, refl, sym, ap, subst, ◌∙◌, arith}
+use Rattle.std.proofs.Common.{ℕ, List, [], ◌∷◌, ◌++◌, ◌≡◌, ◌≢◌, ◌<◌, ◌+◌, ◌-◌, ◌*◌, inl, inr, Bool, true, false, nat_eq, min, take, drop, get_or, length, refl, sym, ap, ◌∙◌, arith}
 use Rattle.std.specs.Prelude.{◌&&◌}
 use Rattle.std.specs.Int.{IsInRange}
 use Rattle.std.specs.List.{list_all}
 use Rattle.std.specs.Char.{is_ascii_digit, digit_value}
 use Rattle.std.specs.Str.Parse.{digits_value, digits_value_after}
-use Rattle.std.proofs.lemmas.Bool.{cases_Bool, eqb-true, eq-eqb, ne_eqb, leb-true, and_left, and_from, true≢false}
+use Rattle.std.proofs.lemmas.Bool.{cases_Bool, eqb-true, eq-eqb, ne_eqb, leb-true, and_from, true≢false}
 use Rattle.std.proofs.lemmas.List.{take_more, take-append-drop}
 use Rattle.std.proofs.Common.{zero, suc}
 use Rattle.std.proofs.lemmas.Int.Digits.{digits_value_push}
@@ -45,7 +45,7 @@ pub one_digit_more : (ds : List ℕ) (i v r : ℕ) → is_decimal ds ≡ true �
 one_digit_more ds i v r h lt ev er =
     let d = digit_of (get_or ds i 0) (digit_at ds i (decimal_digits ds h) lt) in
     let e : digits_value 10 (take (i + 1) ds) ≡ digits_value 10 (take i ds) * 10 + digit_value (get_or ds i 0)
-      = ap (digits_value 10) (take_more ds i 0 lt) ∙ digits_value_push 10 (take i ds) (get_or ds i 0) in
+    = ap (digits_value 10) (take_more ds i 0 lt) ∙ digits_value_push 10 (take i ds) (get_or ds i 0) in
     omega (arith, ev, er, e, d.0)
 
 -- digits behind digits
@@ -61,7 +61,7 @@ agree_digits m n [] (y ∷ ys) e h k same = absurd (omega (arith, e))
 agree_digits m n (x ∷ xs) [] e h k same = absurd (omega (arith, e))
 agree_digits m n (x ∷ xs) (y ∷ ys) e h k same =
     let inner : (m * 10 + digit_value x ≡ n * 10 + digit_value y) × (xs ≡ ys)
-      = agree_digits (m * 10 + digit_value x) (n * 10 + digit_value y) xs ys (omega (arith, e)) (both _ _ h).1 (both _ _ k).1 same in
+    = agree_digits (m * 10 + digit_value x) (n * 10 + digit_value y) xs ys (omega (arith, e)) (both _ _ h).1 (both _ _ k).1 same in
     let dx = digit_of x (both _ _ h).0 in
     let dy = digit_of y (both _ _ k).0 in
     let first : x ≡ y = omega (arith, inner.0, dx.0, dx.1, dy.0, dy.1) in

@@ -1,5 +1,5 @@
 -- The first value of a field.
-use Rattle.std.proofs.Common.{ℕ, List, [], ◌∷◌, ◌≡◌, Option, Some, None, Bool, true, false, map, refl, sym, ap, ◌∙◌}
+use Rattle.std.proofs.Common.{ℕ, List, [], ◌∷◌, ◌≡◌, Option, Some, None, Bool, true, false, map, refl, sym, ◌∙◌}
 use Rattle.std.specs.Prelude.{slice_get, IsTrue, ◌↔◌, length, nat_eq}
 use Rattle.std.proofs.lemmas.Bool.{eq-eqb, ne_eqb, true≢false}
 use Rattle.std.proofs.lemmas.List.{length-map}

@@ -1,17 +1,17 @@
 -- The fields of a head can be kept, and are found.
-use Rattle.std.proofs.Common.{ℕ, List, [], ◌∷◌, ◌++◌, ◌≡◌, ◌≤◌, ◌<◌, ◌+◌, ◌-◌, Bool, true, false, bytes_eq, map, filter, take, get_or, length, drop, refl, sym, ap, subst, ◌∙◌, inl, inr, arith}
-use Rattle.std.specs.Prelude.{All, IsTrue, slice_range}
+use Rattle.std.proofs.Common.{ℕ, List, [], ◌∷◌, ◌≡◌, ◌≤◌, bytes_eq, map, take, get_or, length, drop, refl, sym, ap, subst, ◌∙◌, inl, inr, arith}
+use Rattle.std.specs.Prelude.{All, IsTrue}
 use Rattle.std.proofs.lemmas.Bool.{cases_Bool}
 use Rattle.std.proofs.lemmas.List.Elements.{All-nil, All-cons, All-head, All-tail}
-use Rattle.httparse.specs.Grammar.{Field, IsField, RequestHead, field_value, is_value_byte, is_token_byte, trim_ows}
-use Rattle.httparse.specs.Spans.{AreFieldsAt, IsHeaderWithin, IsRequestAt, IsRequestWithin, header_bytes, name_and_value, span_bytes}
+use Rattle.httparse.specs.Grammar.{Field, IsField, RequestHead, field_value, is_value_byte, is_token_byte}
+use Rattle.httparse.specs.Spans.{IsHeaderWithin, IsRequestAt, IsRequestWithin, header_bytes, name_and_value, span_bytes}
 use Rattle.httparse.specs.declared.spans.HeaderSpan.{HeaderSpan}
 use Rattle.httparse.specs.declared.spans.Span.{Span}
 use Rattle.httparse.specs.declared.spans.RequestSpans.{RequestSpans}
 use Rattle.httparse.proofs.RunLemmas.{length-slice_range}
 use Rattle.httparse.proofs.TrimLemmas.{AllPass-trim_ows}
 use Rattle.http_header.specs.FieldName.{IsFieldName}
-use Rattle.http_header.specs.FieldValue.{FieldValue, IsFieldValue, plain_value}
+use Rattle.http_header.specs.FieldValue.{FieldValue, IsFieldValue}
 use Rattle.http_header.specs.HeaderMap.{Entries, get_all}
 use Rattle.http_header.specs.Token.{lowercase, is_token_byte as is_name_byte, is_value_byte as is_kept_byte}
 use Rattle.http_post.specs.Heads.{values_in}
@@ -45,10 +45,13 @@ one_kept : (bytes : List ℕ) (p : HeaderSpan) (f : Field) → length bytes ≤ 
 one_kept bytes p f fits within same field =
     let name : span_bytes bytes p.name ≡ f.name = λ i. (same i).0 in
     let value : span_bytes bytes p.value ≡ field_value f = λ i. (same i).1 in
-    let long : length (span_bytes bytes p.name) ≤ length bytes = span_long bytes p.name within.0.1 within.0.0 in
-    (within,
-     (subst IsFieldName (sym name) ((field.name.0, name_kept f.name field.name.1), omega (arith, long, ap length name, fits)),
-      subst IsFieldValue (sym value) (value_kept (field_value f) (AllPass-trim_ows is_value_byte f.raw field.raw))))
+    let long : length (span_bytes bytes p.name) ≤ length bytes = span_long bytes p.name within.0.1 within.0.0 in (
+      within,
+      (
+        subst IsFieldName (sym name) ((field.name.0, name_kept f.name field.name.1), omega (arith, long, ap length name, fits)),
+        subst IsFieldValue (sym value) (value_kept (field_value f) (AllPass-trim_ows is_value_byte f.raw field.raw)),
+      ),
+    )
 
 all_kept : (bytes : List ℕ) (ps : List HeaderSpan) (fs : List Field) → length bytes ≤ 8192 → All (IsHeaderWithin (length bytes)) ps
     → map (header_bytes bytes) ps ≡ map name_and_value fs → All IsField fs → All (CanBeKept bytes) ps
@@ -56,15 +59,15 @@ all_kept bytes [] fs fits within same fields = All-nil (CanBeKept bytes)
 all_kept bytes (p ∷ ps) [] fits within same fields = absurd (omega (arith, ap length same))
 all_kept bytes (p ∷ ps) (f ∷ fs) fits within same fields =
     All-cons (CanBeKept bytes) p ps
-      (one_kept bytes p f fits (All-head (IsHeaderWithin (length bytes)) p ps within) (ap (λ xs. get_or xs 0 ([], [])) same) (All-head IsField f fs fields))
-      (all_kept bytes ps fs fits (All-tail (IsHeaderWithin (length bytes)) p ps within) (ap (drop 1) same) (All-tail IsField f fs fields))
+    (one_kept bytes p f fits (All-head (IsHeaderWithin (length bytes)) p ps within) (ap (λ xs. get_or xs 0 ([], [])) same) (All-head IsField f fs fields))
+    (all_kept bytes ps fs fits (All-tail (IsHeaderWithin (length bytes)) p ps within) (ap (drop 1) same) (All-tail IsField f fs fields))
 
 pub keepable : (bytes : List ℕ) (places : List HeaderSpan) (spans : RequestSpans) (h : RequestHead) → IsRequestAt bytes places spans h
     → IsRequestWithin bytes places spans → length bytes ≤ 8192 → All (CanBeKept bytes) (take spans.headers places)
 keepable bytes places spans h at within fits =
     all_kept bytes (take spans.headers places) h.fields fits
-      (λ k d lt. within_more spans.len (length bytes) (get_or (take spans.headers places) k d) within.section.len_fits (within.section.headers_fit k d lt))
-      at.fields at.reads.0.fields
+    (λ k d lt. within_more spans.len (length bytes) (get_or (take spans.headers places) k d) within.section.len_fits (within.section.headers_fit k d lt))
+    at.fields at.reads.0.fields
 
 -- the values under a name are those of the fields of that name
 found_values : (name : List ℕ) (fs : List Field) → map (λ v. v.bytes) (named name (map name_and_value fs)) ≡ values_in name fs

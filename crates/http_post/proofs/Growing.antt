@@ -1,11 +1,11 @@
 -- What is known of a head as pieces come.
-use Rattle.std.proofs.Common.{ℕ, List, Option, Some, None, [], ◌∷◌, ◌++◌, ◌≡◌, ◌≤◌, ◌<◌, ◌+◌, ◌-◌, length, take, drop, refl, sym, subst, ap, ◌∙◌, arith, append_assoc, append-nil}
+use Rattle.std.proofs.Common.{ℕ, List, Option, Some, None, [], ◌∷◌, ◌++◌, ◌≡◌, ◌≤◌, ◌-◌, length, take, drop, refl, sym, subst, ap, ◌∙◌, arith, append_assoc, append-nil}
 use Rattle.std.proofs.lemmas.List.{length-append, length-take, take_all}
 use Rattle.std.proofs.Math.Seq.{take-append-add}
 use Rattle.std.specs.Prelude.{IfSome}
 use Rattle.std.specs.Io.KnownBytes.{Consumes, IsAtEnd}
-use Rattle.httparse.specs.Grammar.{HasNoRequest, ReadsRequest, RequestHead}
-use Rattle.httparse.specs.Spans.{IsRequestAt, IsRequestOf, IsRequestWithin}
+use Rattle.httparse.specs.Grammar.{HasNoRequest, ReadsRequest}
+use Rattle.httparse.specs.Spans.{IsRequestOf, IsRequestWithin}
 use Rattle.httparse.specs.declared.spans.HeaderSpan.{HeaderSpan}
 use Rattle.httparse.specs.declared.spans.RequestSpans.{RequestSpans}
 use Rattle.httparse.proofs.GrammarLemmas.{ReadsRequest-append}
@@ -37,10 +37,11 @@ holds left now bytes places spans taken fits (is, within) =
     begins None now h = tt
     begins (Some input) None h = absurd h
     begins (Some input) (Some more) h =
-        let e : take 8192 input ≡ bytes ++ take (8192 - length bytes) more = ap (take 8192) h ∙ front 8192 bytes more fits in
-        (drop spans.len bytes ++ take (8192 - length bytes) more,
-         subst (λ z. ReadsRequest z is.0 (drop spans.len bytes ++ take (8192 - length bytes) more)) (sym e)
-           (ReadsRequest-append bytes is.0 (drop spans.len bytes) (take (8192 - length bytes) more) is.1.reads))
+        let e : take 8192 input ≡ bytes ++ take (8192 - length bytes) more = ap (take 8192) h ∙ front 8192 bytes more fits in (
+          drop spans.len bytes ++ take (8192 - length bytes) more,
+          subst (λ z. ReadsRequest z is.0 (drop spans.len bytes ++ take (8192 - length bytes) more)) (sym e)
+              (ReadsRequest-append bytes is.0 (drop spans.len bytes) (take (8192 - length bytes) more) is.1.reads),
+        )
 
 pub none_at_most : (left now : Option (List ℕ)) (bytes : List ℕ) → Consumes left now bytes → length bytes ≡ 8192 → HasNoRequest bytes → HasNoHead left
 none_at_most None now bytes h full none = tt
@@ -65,7 +66,7 @@ never (Some input) None bytes h fits bad = absurd h
 never (Some input) (Some more) bytes h fits bad =
     let e : take 8192 input ≡ bytes ++ take (8192 - length bytes) more = ap (take 8192) h ∙ front 8192 bytes more fits in
     let short : length (bytes ++ take (8192 - length bytes) more) ≤ 8192 =
-      omega (arith, length-append bytes (take (8192 - length bytes) more), length-take (8192 - length bytes) more, fits) in
+    omega (arith, length-append bytes (take (8192 - length bytes) more), length-take (8192 - length bytes) more, fits) in
     subst HasNoRequest (sym e) (bad (take (8192 - length bytes) more) short)
 
 nothing : (xs : List ℕ) → length xs ≡ 0 → xs ≡ []

@@ -1,5 +1,5 @@
 -- What a map of fields has under each name.
-use Rattle.std.proofs.Common.{ℕ, List, [], ◌∷◌, ◌++◌, ◌≡◌, ◌≢◌, true, false, bytes_eq, map, take, get_or, length, ◌+◌, ◌<◌, refl, sym, ap, ◌∙◌, inl, inr, append-nil}
+use Rattle.std.proofs.Common.{ℕ, List, [], ◌∷◌, ◌++◌, ◌≡◌, true, false, bytes_eq, map, take, get_or, length, ◌+◌, ◌<◌, refl, sym, ap, ◌∙◌, inl, inr, append-nil}
 use Rattle.std.proofs.lemmas.Bool.{cases_Bool, true≢false}
 use Rattle.std.proofs.lemmas.Slice.Eq.{bytes_eq-Decides}
 use Rattle.http_header.specs.FieldValue.{FieldValue, plain_value}
@@ -31,6 +31,7 @@ one_more m ps p h name = elim (cases_Bool (bytes_eq (lowercase p.0) name)) [
     same : lowercase p.0 ≡ name → bytes_eq (lowercase p.0) name ≡ true → get_all (append m (lowercase p.0) (plain_value p.1)) name ≡ named name (ps ++ p ∷ [])
     same e t = ap (λ z. get_all (append m z (plain_value p.1)) name) e ∙ get_all-append_same m name (plain_value p.1) ∙ ap (λ z. z ++ plain_value p.1 ∷ []) (h name)
         ∙ sym (named_append name ps (p ∷ []) ∙ ap (λ z. named name ps ++ z) (rw t refl))
+
     other : bytes_eq (lowercase p.0) name ≡ false → get_all (append m (lowercase p.0) (plain_value p.1)) name ≡ named name (ps ++ p ∷ [])
     other f = get_all-append_other m (lowercase p.0) name (plain_value p.1) differ ∙ h name
         ∙ sym (named_append name ps (p ∷ []) ∙ ap (λ z. named name ps ++ z) (rw f refl) ∙ append-nil (named name ps))
@@ -50,4 +51,4 @@ kept_more bytes places i nowhere before after name value lt h en ev ea n =
     ap (λ m. get_all m n) (ea ∙ ap (λ z. append before (lowercase z) (plain_value value)) en ∙ ap (λ z. append before (lowercase (span_bytes bytes place.name)) (plain_value z)) ev)
     ∙ one_more before (map (header_bytes bytes) (take i places)) (header_bytes bytes place) h n
     ∙ sym (ap (λ z. named n (map (header_bytes bytes) z)) (take_more places i nowhere lt)
-      ∙ ap (named n) (map-append (header_bytes bytes) (take i places) (place ∷ [])))
+    ∙ ap (named n) (map-append (header_bytes bytes) (take i places) (place ∷ [])))

@@ -1,10 +1,9 @@
 -- A chunk line that is found in what came is that of all that counts.
-use Rattle.std.proofs.Common.{ℕ, List, Option, Some, None, [], ◌∷◌, ◌++◌, ◌≡◌, ◌≤◌, ◌<◌, ◌+◌, ◌-◌, ◌⊎◌, inl, inr, min, zero, suc, length, take, drop, refl, sym, subst, ap, ◌∙◌, arith, append_assoc, append-nil}
+use Rattle.std.proofs.Common.{ℕ, List, Option, Some, None, [], ◌∷◌, ◌++◌, ◌≡◌, ◌≤◌, ◌+◌, ◌-◌, inl, inr, min, zero, suc, length, take, drop, refl, sym, subst, ap, ◌∙◌, arith, append_assoc}
 use Rattle.std.proofs.Common.{true, false, Result, Ok, Err}
 use Rattle.std.specs.Prelude.{IfOk, IfErr}
 use Rattle.std.proofs.lemmas.Bool.{true≢false}
-use Rattle.std.proofs.lemmas.List.{length-append, length-take, length-drop, take-append-le, drop-append-le}
-use Rattle.std.proofs.Math.Seq.{take-append-add}
+use Rattle.std.proofs.lemmas.List.{length-append, length-take, length-drop, drop-append-le}
 use Rattle.httparse.specs.Grammar.{ChunkLine, HasNoChunkLine, MayBecomeChunkLine, NeverHasChunkLine, ReadsChunkLine, print_chunk_line}
 use Rattle.httparse.specs.Spans.{IsChunkLineAt}
 use Rattle.httparse.proofs.ChunkLemmas.{ReadsChunkLine-append}
@@ -22,6 +21,7 @@ seen_front (Some l) bytes raw k = (take (131072 - length bytes) l, ap (take 1310
   where
     less : (n : ℕ) (xs : List ℕ) → n - length xs ≡ suc n - suc (length xs)
     less n xs = omega arith
+
     taken : (n : ℕ) (xs ys : List ℕ) → take n (xs ++ ys) ≡ take n xs ++ take (n - length xs) ys
     taken zero xs ys =
         let nothing : 0 ≡ 0 - length xs = omega arith in
@@ -48,12 +48,15 @@ module _ (left : Option (List ℕ)) (bytes raw : List ℕ) (k : IsRaw left bytes
   pub line_seen : (len size : ℕ) → (l : ChunkLine) × IsChunkLineAt (drop at (take 131072 bytes)) len size l → (l : ChunkLine) × IsChunkLineAt (drop at (seen raw)) len size l
   line_seen len size (l, h) =
       let part = drop at (take 131072 bytes) in
-      let within : len ≤ length part = omega (arith, h.len_is, ap length h.reads.1, length-append (print_chunk_line l) (drop len part)) in
-      (l, record {
-        reads = subst (λ z. ReadsChunkLine z l (drop len z)) (sym rest_is)
-          (subst (λ z. ReadsChunkLine (part ++ more) l z) (sym (drop-append-le len part more within)) (ReadsChunkLine-append part l (drop len part) more h.reads));
-        len_is = h.len_is;
-        size_is = h.size_is })
+      let within : len ≤ length part = omega (arith, h.len_is, ap length h.reads.1, length-append (print_chunk_line l) (drop len part)) in (
+        l,
+        record {
+          reads = subst (λ z. ReadsChunkLine z l (drop len z)) (sym rest_is)
+              (subst (λ z. ReadsChunkLine (part ++ more) l z) (sym (drop-append-le len part more within)) (ReadsChunkLine-append part l (drop len part) more h.reads));
+          len_is = h.len_is;
+          size_is = h.size_is;
+        },
+      )
 
   pub never_seen : (cut : HttpRefusal) → NeverHasChunkLine (drop at (take 131072 bytes)) → IsNoLine (drop at (seen raw)) cut BadRequest
   never_seen cut h = inl (never, refl)
@@ -109,7 +112,6 @@ module _ (first left now : Option (List ℕ)) (old bytes new : List ℕ) (at : �
     (fault : IsFault refusal (λ r. (raw : List ℕ) → IsRaw left bytes raw → BreaksOff bytes raw r))
     (cut_kept : IsFault refusal (λ r. (raw : List ℕ) → IsRaw left bytes raw → IsRaw now new raw))
     (held : take 131072 new ≡ take 131072 bytes) where
-
   pub last_kept : is_cut refusal ≡ true → (raw : List ℕ) → IsRaw first old raw → IsRaw now new raw
   last_kept c raw k = fault_real refusal (λ r. (raw : List ℕ) → IsRaw left bytes raw → IsRaw now new raw) c cut_kept raw (kept raw k)
 
@@ -122,14 +124,14 @@ module _ (first left now : Option (List ℕ)) (old bytes new : List ℕ) (at : �
   last_fault e (inl (no_cut, is)) = fault_free e _ (ap is_cut is ∙ no_cut)
   last_fault e (inr (c, inl (never, is))) =
       subst (λ x. IsFault x (λ r. (raw : List ℕ) → IsRaw first old raw → IsNoLine (drop at (seen raw)) (cut_at_end raw) r)) (sym is)
-        (λ raw k. never_seen left bytes raw (kept raw k) at le (cut_at_end raw) (subst (λ z. NeverHasChunkLine (drop at z)) held never))
+      (λ raw k. never_seen left bytes raw (kept raw k) at le (cut_at_end raw) (subst (λ z. NeverHasChunkLine (drop at z)) held never))
   last_fault e (inr (c, inr (none, (may, is)))) =
       subst (λ x. IsFault x (λ r. (raw : List ℕ) → IsRaw first old raw → IsNoLine (drop at (seen raw)) (cut_at_end raw) r)) (sym is)
-        (fault_on refusal (λ r. (raw : List ℕ) → IsRaw left bytes raw → BreaksOff bytes raw r) (λ r. (raw : List ℕ) → IsRaw first old raw → IsNoLine (drop at (seen raw)) (cut_at_end raw) r) fault
-          (λ r b raw k.
-            let off = b raw (kept raw k) in
-            let all : take 131072 new ≡ seen raw = held ∙ sym off.held in
-            inr (subst (λ z. HasNoChunkLine (drop at z)) all none, (subst (λ z. ¬ (NeverHasChunkLine (drop at z))) all may, off.is_cut))))
+      (fault_on refusal (λ r. (raw : List ℕ) → IsRaw left bytes raw → BreaksOff bytes raw r) (λ r. (raw : List ℕ) → IsRaw first old raw → IsNoLine (drop at (seen raw)) (cut_at_end raw) r) fault
+      (λ r b raw k.
+      let off = b raw (kept raw k) in
+      let all : take 131072 new ≡ seen raw = held ∙ sym off.held in
+      inr (subst (λ z. HasNoChunkLine (drop at z)) all none, (subst (λ z. ¬ (NeverHasChunkLine (drop at z))) all may, off.is_cut))))
 
 -- where the bytes that count stay, a place in them stays one
 pub still_within : (old new : List ℕ) (at : ℕ) → take 131072 new ≡ take 131072 old → at ≤ min (length old) 131072 → at ≤ min (length new) 131072

@@ -1,10 +1,10 @@
 -- A head of n fields has 3n bytes at least.
-use Rattle.std.proofs.Common.{ℕ, List, [], ◌∷◌, ◌++◌, ◌≡◌, ◌≤◌, ◌<◌, ◌+◌, ◌*◌, length, ap, ◌∙◌, arith, append_assoc}
+use Rattle.std.proofs.Common.{ℕ, List, [], ◌∷◌, ◌++◌, ◌≡◌, ◌≤◌, ◌+◌, ◌*◌, length, ap, arith}
 use Rattle.std.specs.Prelude.{All}
 use Rattle.std.specs.List.{flat_map}
 use Rattle.std.proofs.lemmas.List.{length-append}
 use Rattle.std.proofs.lemmas.List.Elements.{All-tail, All-head}
-use Rattle.httparse.specs.Grammar.{Field, IsField, LineEnd, crlf, lf, RequestHead, ReadsRequest, print_blank, print_version, print_end, print_field, print_section, print_request}
+use Rattle.httparse.specs.Grammar.{Field, IsField, LineEnd, crlf, lf, RequestHead, print_blank, print_version, print_end, print_field, print_section, print_request}
 use Rattle.httparse.specs.Spans.{RequestOverflows}
 use Rattle.httparse.proofs.GrammarLemmas.{print_request-append}
 use Rattle.http_post.specs.Known.{NeverHasHead}

@@ -1,8 +1,8 @@
 -- How the raw bytes of a body are read on.
-use Rattle.std.proofs.Common.{ℕ, List, Option, Some, None, [], ◌∷◌, ◌++◌, ◌≡◌, ◌≤◌, ◌<◌, ◌+◌, ◌-◌, min, zero, suc, length, take, drop, refl, sym, subst, ap, ◌∙◌, arith, append_assoc, append-nil}
+use Rattle.std.proofs.Common.{ℕ, List, Option, Some, None, [], ◌∷◌, ◌++◌, ◌≡◌, ◌≤◌, ◌<◌, ◌+◌, min, zero, suc, length, take, refl, sym, ap, ◌∙◌, arith, append_assoc, append-nil}
 use Rattle.std.specs.Io.KnownBytes.{Consumes, IsAtEnd}
 use Rattle.std.proofs.lemmas.List.{length-append, length-take, take-append-le}
-use Rattle.std.proofs.lemmas.Bool.{lt-ltb, ltb-false, le-ltb}
+use Rattle.std.proofs.lemmas.Bool.{lt-ltb, le-ltb}
 use Rattle.http_post.specs.declared.refusal.HttpRefusal.TheVariants.{BadRequest, ContentTooLarge, Link, LengthRequired, MethodNotAllowed, NoMemory, UnsupportedMediaType}
 use Rattle.http_post.specs.declared.refusal.HttpRefusal.{HttpRefusal}
 use Rattle.http_post.specs.Raw.{BreaksOff, EndsBefore, IsFault, IsRaw}
@@ -28,13 +28,15 @@ pub cut_long : (left : Option (List ℕ)) (bytes raw : List ℕ) → IsRaw left 
 cut_long None bytes raw k lt = absurd k
 cut_long (Some l) bytes raw k lt = record {
   is_cut = sym (rw (lt-ltb 131072 (length raw) (omega (arith, lt, raw_front (Some l) bytes raw k))) refl);
-  held = ap (take 131072) k ∙ take-append-le 131072 bytes l (omega (arith, lt)) }
+  held = ap (take 131072) k ∙ take-append-le 131072 bytes l (omega (arith, lt));
+}
 
 -- the source ended
 pub cut_short : (left : Option (List ℕ)) (bytes raw : List ℕ) → IsRaw left bytes raw → raw ≡ bytes → length bytes ≤ 131072 → BreaksOff bytes raw BadRequest
 cut_short left bytes raw k same le = record {
   is_cut = sym (rw (le-ltb 131072 (length raw) (omega (arith, le, ap length same))) refl);
-  held = ap (take 131072) same }
+  held = ap (take 131072) same;
+}
 
 -- all that counts was held, and more came
 pub cut_full : (left now : Option (List ℕ)) (bytes after raw : List ℕ) (n : ℕ) → IsRaw left bytes raw → IsRaw now after raw → length after ≡ length bytes + n → 0 < n
@@ -42,7 +44,8 @@ pub cut_full : (left now : Option (List ℕ)) (bytes after raw : List ℕ) (n : 
 cut_full None now bytes after raw n k m e lt full = absurd k
 cut_full (Some l) now bytes after raw n k m e lt full = record {
   is_cut = sym (rw (lt-ltb 131072 (length raw) (omega (arith, e, lt, full, raw_front now after raw m))) refl);
-  held = ap (take 131072) k ∙ take-append-le 131072 bytes l (omega (arith, full)) }
+  held = ap (take 131072) k ∙ take-append-le 131072 bytes l (omega (arith, full));
+}
 
 -- where the body breaks off, too few bytes counted
 pub ends_before : (bytes raw : List ℕ) (r : HttpRefusal) (place : ℕ) → min (length bytes) 131072 < place → BreaksOff bytes raw r → EndsBefore place raw r
@@ -62,7 +65,7 @@ pub fill_fault : (before left : Option (List ℕ)) (old bytes : List ℕ) (place
     → IsFault e (λ r. (raw : List ℕ) → IsRaw left bytes raw → BreaksOff bytes raw r) → IsFault e (λ r. (raw : List ℕ) → IsRaw before old raw → EndsBefore place raw r)
 fill_fault before left old bytes place e kept lt h =
     fault_on e (λ r. (raw : List ℕ) → IsRaw left bytes raw → BreaksOff bytes raw r) (λ r. (raw : List ℕ) → IsRaw before old raw → EndsBefore place raw r) h
-      (λ r b raw k. ends_before bytes raw r place lt (b raw (kept raw k)))
+    (λ r b raw k. ends_before bytes raw r place lt (b raw (kept raw k)))
 
 -- as many as there are, and no more than that
 none_taken : (k : ℕ) → take {A = ℕ} k [] ≡ []

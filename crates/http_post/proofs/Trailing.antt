@@ -1,6 +1,6 @@
 -- Trailers are read byte by byte.
-use Rattle.std.proofs.Common.{ℕ, List, Option, Some, None, [], ◌∷◌, ◌++◌, ◌≡◌, ◌≤◌, ◌<◌, ◌+◌, ◌-◌, min, zero, suc, true, false, length, take, drop, get_or, refl, sym, subst, ap, ◌∙◌, arith}
-use Rattle.std.proofs.lemmas.List.{length-append, length-take, length-drop}
+use Rattle.std.proofs.Common.{ℕ, List, Option, Some, None, [], ◌∷◌, ◌++◌, ◌≡◌, ◌≤◌, ◌<◌, ◌+◌, min, zero, suc, true, false, length, take, drop, get_or, refl, subst, ap, ◌∙◌, arith}
+use Rattle.std.proofs.lemmas.List.{length-append, length-take}
 use Rattle.http_post.specs.declared.refusal.HttpRefusal.{HttpRefusal}
 use Rattle.http_post.specs.declared.trailers.Line.{Line}
 use Rattle.http_post.specs.declared.trailers.Line.TheVariants.{Fresh, Returned, Filled}
@@ -41,7 +41,7 @@ seen_at left bytes raw at k le =
     let in_seen : at < length (seen raw) = omega (arith, le, long, whole) in
     let in_taken : at < length (take 131072 bytes) = omega (arith, le, long) in
     let byte : get_or (seen raw) at 0 ≡ get_or bytes at 0
-      = ap (λ z. get_or z at 0) f.1 ∙ get_front (take 131072 bytes) f.0 at in_taken ∙ get_taken 131072 bytes at (omega (arith, le)) (omega (arith, le)) in
+    = ap (λ z. get_or z at 0) f.1 ∙ get_front (take 131072 bytes) f.0 at in_taken ∙ get_taken 131072 bytes at (omega (arith, le)) (omega (arith, le)) in
     drop_one (seen raw) at in_seen ∙ ap (λ b. b ∷ drop (at + 1) (seen raw)) byte
 
 none_dropped : (xs : List ℕ) (n : ℕ) → length xs ≤ n → drop n xs ≡ []
@@ -53,7 +53,6 @@ none_dropped (x ∷ xs) (suc n) le = none_dropped xs n (omega (arith, le))
 -- from that place on the trailers go on as they began
 module _ (first left : Option (List ℕ)) (old bytes : List ℕ) (from at : ℕ) (line : Line)
     (same : (raw : List ℕ) → IsRaw first old raw → ends_trailers (drop from (seen raw)) ≡ has_empty_line line (drop at (seen raw))) where
-
   pub goes_on : (kept : (raw : List ℕ) → IsRaw first old raw → IsRaw left bytes raw) → at + 1 ≤ min (length bytes) 131072 → (next : Line) → IsAfter line (get_or bytes at 0) (Some next)
       → (raw : List ℕ) → IsRaw first old raw → ends_trailers (drop from (seen raw)) ≡ has_empty_line next (drop (at + 1) (seen raw))
   goes_on kept le next after raw k = same raw k ∙ ap (has_empty_line line) (seen_at left bytes raw at (kept raw k) le) ∙ after (drop (at + 1) (seen raw))
@@ -72,9 +71,9 @@ module _ (first left : Option (List ℕ)) (old bytes : List ℕ) (from at : ℕ)
       → IsFault e (λ r. (raw : List ℕ) → IsRaw first old raw → (ends_trailers (drop from (seen raw)) ≡ false) × (r ≡ cut_at_end raw))
   goes_short mid held kept e h =
       fault_on e (λ r. (raw : List ℕ) → IsRaw mid held raw → EndsBefore (at + 1) raw r) (λ r. (raw : List ℕ) → IsRaw first old raw → (ends_trailers (drop from (seen raw)) ≡ false) × (r ≡ cut_at_end raw)) h
-        (λ r b raw k.
-          let ends = b raw (kept raw k) in
-          (same raw k ∙ ap (has_empty_line line) (none_dropped (seen raw) at (omega (arith, ends.short))) ∙ no_more line, ends.is_cut))
+      (λ r b raw k.
+      let ends = b raw (kept raw k) in
+      (same raw k ∙ ap (has_empty_line line) (none_dropped (seen raw) at (omega (arith, ends.short))) ∙ no_more line, ends.is_cut))
 
 -- the byte that an index gives
 pub byte_at : (xs : List ℕ) (i b : ℕ) → i < length xs → b ≡ get_or xs i b → b ≡ get_or xs i 0

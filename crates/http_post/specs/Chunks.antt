@@ -1,6 +1,6 @@
 -- A body in chunks (RFC 9112, section 7.1), and the first fault in one. `seen` is the raw body as far as it may go, and
 -- `cut` is what is answered where it breaks off there.
-use Rattle.std.specs.Prelude.{ℕ, List, [], ◌∷◌, ◌++◌, ◌+◌, ◌<◌, ◌≤◌, ◌≡◌, ◌≢◌, ◌⊎◌, Result, Ok, Err, length, take, nat_lt, nat_eq, if◌then◌else◌, Bool, true, false, codes, refl}
+use Rattle.std.specs.Prelude.{ℕ, List, [], ◌∷◌, ◌++◌, ◌+◌, ◌<◌, ◌≤◌, ◌≡◌, ◌≢◌, Result, Ok, Err, length, nat_lt, nat_eq, if◌then◌else◌, Bool, true, false, codes, refl}
 use Rattle.httparse.specs.Grammar.{ChunkLine, ReadsChunkLine, HasNoChunkLine, NeverHasChunkLine, chunk_size}
 use Rattle.http_post.specs.declared.refusal.HttpRefusal.{HttpRefusal}
 use Rattle.http_post.specs.declared.refusal.HttpRefusal.TheVariants as refusals

@@ -1,6 +1,6 @@
 -- The fields of a head in a map by their names.
-use Rattle.std.specs.Prelude.{ℕ, List, [], ◌∷◌, ◌≡◌, All, bytes_eq, if◌then◌else◌, map, length, take, Bool, Result, Ok, Err, ⊤}
-use Rattle.httparse.specs.Spans.{IsHeaderWithin, IsRequestAt, header_bytes, span_bytes}
+use Rattle.std.specs.Prelude.{ℕ, List, [], ◌∷◌, ◌≡◌, bytes_eq, if◌then◌else◌, map, length, Bool, Ok, Err, ⊤}
+use Rattle.httparse.specs.Spans.{IsHeaderWithin, IsRequestAt, span_bytes}
 use Rattle.httparse.specs.Grammar.{RequestHead}
 use Rattle.httparse.specs.declared.spans.HeaderSpan.{HeaderSpan}
 use Rattle.httparse.specs.declared.spans.RequestSpans.{RequestSpans}

@@ -1,5 +1,5 @@
 -- The raw bytes of a body while they come: those that are held, and those that the source has left.
-use Rattle.std.specs.Prelude.{ℕ, List, ◌++◌, ◌≡◌, ◌≤◌, ◌<◌, Option, Some, None, length, take, drop, ⊤, Bool, true, false}
+use Rattle.std.specs.Prelude.{ℕ, List, ◌++◌, ◌≡◌, ◌<◌, Option, Some, None, length, take, ⊤, Bool, true, false}
 use Rattle.http_post.specs.declared.refusal.HttpRefusal.{HttpRefusal}
 use Rattle.http_post.specs.declared.refusal.HttpRefusal.TheVariants.{Link, NoMemory}
 use Rattle.http_post.specs.Chunks.{cut_at_end, most_raw}

@@ -1,5 +1,5 @@
 -- What the bytes of a connection ask: a path and a body, or the first refusal (RFC 9110; RFC 9112).
-use Rattle.std.specs.Prelude.{ℕ, List, [], ◌∷◌, ◌<◌, ◌≤◌, ◌≡◌, Option, Some, None, Bool, true, false, Result, Ok, Err, length, take, drop, nat_eq, slice_index, if◌then◌else◌}
+use Rattle.std.specs.Prelude.{ℕ, List, [], ◌∷◌, ◌<◌, ◌≤◌, ◌≡◌, None, Result, Ok, Err, length, take, drop, nat_eq, slice_index, if◌then◌else◌}
 use Rattle.httparse.specs.Grammar.{RequestHead, ReadsRequest, HasNoRequest, print_request}
 use Rattle.url.specs.Parts.{Parts}
 use Rattle.url.specs.Parser.{parse_url, Parsed}

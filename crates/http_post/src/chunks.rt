@@ -16,11 +16,7 @@ use site_model::source::Source;
 use std::alloc::{AllocError, Global};
 
 /// Reads on until so many bytes count, or the body breaks off before.
-pub fn fill<S: Source>(
-    source: &mut S,
-    bytes: &mut Vec<u8>,
-    upto: usize,
-) -> Result<(), HttpRefusal>
+pub fn fill<S: Source>(source: &mut S, bytes: &mut Vec<u8>, upto: usize) -> Result<(), HttpRefusal>
     ensures kept { OnOk result ((raw : List ℕ) → IsRaw (S.left source.old) bytes.old.items raw → IsRaw (S.left source.new) bytes.new.items raw) }
     ensures full { OnOk result (upto ≤ min (length bytes.new.items) 131072) }
     ensures fault { IfErr result (λ e. IsFault e (λ r. (raw : List ℕ) → IsRaw (S.left source.old) bytes.old.items raw → EndsBefore upto raw r)) }

@@ -10,11 +10,7 @@ use crate::refusal::HttpRefusal;
 use site_model::source::Source;
 
 /// The byte at a place, read on to it.
-fn byte_on<S: Source>(
-    source: &mut S,
-    bytes: &mut Vec<u8>,
-    place: usize,
-) -> Result<u8, HttpRefusal>
+fn byte_on<S: Source>(source: &mut S, bytes: &mut Vec<u8>, place: usize) -> Result<u8, HttpRefusal>
     requires { place ≤ 262144 }
     ensures kept { OnOk result ((raw : List ℕ) → IsRaw (S.left source.old) bytes.old.items raw → IsRaw (S.left source.new) bytes.new.items raw) }
     ensures full { OnOk result (place + 1 ≤ min (length bytes.new.items) 131072) }

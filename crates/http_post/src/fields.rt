@@ -19,7 +19,12 @@ pub fn keep_all(alloc: Global, bytes: &[u8], places: &[HeaderSpan]) -> Result<He
 {
     let mut fields = HeaderMap::new(alloc);
     for place in places {
-        keep_field(alloc, place.name.of(bytes), place.value.of(bytes), &mut fields)?;
+        keep_field(
+            alloc,
+            place.name.of(bytes),
+            place.value.of(bytes),
+            &mut fields,
+        )?;
     }
     Ok(fields)
 }

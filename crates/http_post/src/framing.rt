@@ -76,13 +76,11 @@ fn framed(fields: &HeaderMap) -> Result<Framing, HttpRefusal>
     Err(HttpRefusal::BadRequest)
 }
 
-
 fn has_no_transfer(fields: &HeaderMap) -> bool
     ensures { result ≡ is_none (values_under fields.now (codes "transfer-encoding")) }
 {
     fields.get("transfer-encoding").is_none()
 }
-
 
 fn has_no_length(fields: &HeaderMap) -> bool
     ensures { result ≡ is_none (values_under fields.now (codes "content-length")) }

@@ -1,8 +1,8 @@
 //! The head of a request, read piece by piece.
 
-ghost use Rattle.std.specs.Prelude.{◌≡◌, ◌<◌, ◌≤◌, IfErr, IfOk, length};
+ghost use Rattle.std.specs.Prelude.{◌≡◌, ◌<◌, ◌≤◌, IfErr, IfOk, drop, length};
 ghost use Rattle.std.specs.Io.KnownBytes.{Consumes};
-ghost use Rattle.http_post.specs.Known.{HasNoHead, HoldsHead, IsPiece};
+ghost use Rattle.http_post.specs.Known.{HasNoHead, HoldsHead, IsPiece, IsRead};
 ghost use Rattle.http_post.specs.Reading.{IfNoHead};
 
 use crate::places::{Places, Step};
@@ -27,6 +27,16 @@ impl Drop for Head {
             places: _places,
             spans: _spans,
         } = self;
+    }
+}
+
+impl Head {
+    /// What came behind the head.
+    pub fn rest(&self) -> &[u8]
+        requires { IsRead self.now.bytes.items self.now.places self.now.spans }
+        ensures { result.now ≡ drop self.now.spans.len self.now.bytes.items }
+    {
+        &self.bytes[self.spans.len..]
     }
 }
 
@@ -67,6 +77,7 @@ fn read_piece<S: Source>(source: &mut S, bytes: &mut Vec<u8>) -> Result<usize, P
 #[tactic(auto, using(crate::proofs::Growing::nothing_yet, crate::proofs::Growing::grown, crate::proofs::Growing::holds, crate::proofs::Growing::none_at_most, crate::proofs::Growing::none_at_end, crate::proofs::Growing::never))]
 pub fn read_head<S: Source>(alloc: Global, source: &mut S) -> Result<Head, HeadFault>
     ensures head { IfOk result (λ h. HoldsHead (S.left source.old) h.bytes.items h.places h.spans) }
+    ensures read { IfOk result (λ h. IsRead h.bytes.items h.places h.spans) }
     ensures taken { IfOk result (λ h. Consumes (S.left source.old) (S.left source.new) h.bytes.items) }
     ensures none { IfErr result (λ e. IfNoHead e (HasNoHead (S.left source.old))) }
 {

@@ -1,15 +1,16 @@
-//! Requests and answers over HTTP/1.1: the bytes that are written, and what the bytes of a connection ask.
+//! HTTP/1.1 posts (RFC 9110; RFC 9112): the head of a request, read piece by piece; what it asks, or the first refusal
+//! that it draws; its body, of a known length or in chunks; and the bytes of answers and posts.
 #![tactic(auto)]
 
-mod asking;
-mod fields;
-mod body;
+pub mod asking;
+pub mod body;
 mod chunks;
 mod content;
+mod fields;
 pub mod framing;
-mod head;
+pub mod head;
 mod lengths;
-mod places;
+pub mod places;
 mod raw;
 pub mod refusal;
 mod trailers;

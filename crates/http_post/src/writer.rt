@@ -22,7 +22,12 @@ pub fn answer_bytes(alloc: Global, status: u16, body: Option<&[u8]>) -> Result<V
 }
 
 /// A post of an envelope: its SOAPAction is the envelope's wsa:Action (SOAP 1.1, section 6.1.1).
-pub fn post_bytes(alloc: Global, to: &PostTo, action: &str, body: &[u8]) -> Result<Vec<u8>, AllocError>
+pub fn post_bytes(
+    alloc: Global,
+    to: &PostTo,
+    action: &str,
+    body: &[u8],
+) -> Result<Vec<u8>, AllocError>
     ensures { IfOk result (λ bytes. bytes.items ≡ post_of to.now action.now body.now) }
 {
     let mut out = Vec::new(alloc);

@@ -31,4 +31,4 @@ returns-in-Err-read_content-clause-fault g c =
 pub returns-in-Ok-extend_from_slice-clause-step : goal.returns-in-Ok-extend_from_slice-clause-step
 returns-in-Ok-extend_from_slice-clause-step g c =
     step_chunk _ _ _ _ _ _ c.in-Ok.ensures.kept _ _ c.in-Ok.ensures.line _ _ _ c.in-Ok-read_content.ensures.kept (omega (arith, c.if-line-eq0.false)) (omega (arith, c.if-line-len.false, c.requires.body, c.len.ensures))
-      c.in-Ok-read_content.ensures.full c.in-Ok-read_content.ensures.whole (c.in-Ok-extend_from_slice.ensures.items ∙ ap (λ z. c.args.body.now.items ++ slice_range z (c.args.at + c.in-Ok.line.len) (c.args.at + c.in-Ok.line.len + c.in-Ok.line.size)) c.deref.ensures.value)
+    c.in-Ok-read_content.ensures.full c.in-Ok-read_content.ensures.whole (c.in-Ok-extend_from_slice.ensures.items ∙ ap (λ z. c.args.body.now.items ++ slice_range z (c.args.at + c.in-Ok.line.len) (c.args.at + c.in-Ok.line.len + c.in-Ok.line.size)) c.deref.ensures.value)

@@ -11,7 +11,7 @@ invariant-loop-next g l =
     × ((l.at ≤ min (length l.bytes.items) 131072)
     × ((length l.body.items ≤ 65536)
     × ((raw : List ℕ) → IsRaw (g.S.Source.left l.fn.source) l.fn.bytes.items raw → (out : Result (List ℕ) HttpRefusal)
-      → Chunks (cut_at_end raw) (length l.body.items) (drop l.at (seen raw)) out → Chunks (cut_at_end raw) 0 (seen raw) (prefixed l.body.items out))))
+    → Chunks (cut_at_end raw) (length l.body.items) (drop l.at (seen raw)) out → Chunks (cut_at_end raw) 0 (seen raw) (prefixed l.body.items out))))
 
 abbrev pub decreases-loop-next : goal.decreases-loop-next
 decreases-loop-next g l = 131072 - l.at

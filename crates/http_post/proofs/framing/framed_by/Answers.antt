@@ -1,4 +1,4 @@
-use Rattle.std.proofs.Common.{ℕ, List, ◌∷◌, ◌≡◌, sym, ap, ◌∙◌, map, codes}
+use Rattle.std.proofs.Common.{◌∷◌, ◌≡◌, sym, ap, ◌∙◌, codes}
 use Rattle.http_header.specs.HeaderMap.{get_all}
 use Rattle.http_post.specs.Heads.{framed_by}
 use Rattle.http_post.proofs.Firsts.{first_is}

@@ -1,6 +1,5 @@
 use Rattle.std.proofs.Common.{◌≡◌, drop, nat_eq}
 use Rattle.std.specs.List.{list_all}
-use Rattle.std.specs.Char.{is_ascii_digit}
 use Rattle.http_post.proofs.lengths.all_zeros.Given as goal
 
 abbrev pub invariant-loop-digit : goal.invariant-loop-digit

@@ -11,7 +11,7 @@ returns-then-n-eq0-clause-held g c =
 pub returns-then-not-counts-clause-fault : goal.returns-then-not-counts-clause-fault
 returns-then-not-counts-clause-fault g c raw k =
     cut_full (g.S.Source.left c.args.source.now) (g.S.Source.left c.read_on.new.source) c.args.bytes.now.items c.read_on.new.bytes.items raw c.in-Ok.n
-      k (c.in-Ok.ensures.kept raw k) c.in-Ok.ensures.grown (omega (arith, c.if-n-eq0.false)) (omega (arith, c.if-len-gt-MOST_RAW.false, c.if-not-counts.true))
+    k (c.in-Ok.ensures.kept raw k) c.in-Ok.ensures.grown (omega (arith, c.if-n-eq0.false)) (omega (arith, c.if-len-gt-MOST_RAW.false, c.if-not-counts.true))
 
 -- src/raw.rt:58:9
 pub returns-then-not-counts-clause-held : goal.returns-then-not-counts-clause-held
