@@ -2,7 +2,8 @@
 """Runs `rt ci` at the top of the repository and says where its processor time went, crate by crate.
 
     bench/gate.py [LOG] [-- words for rt ci]     runs it; what it says goes to LOG (gate.log), what its processes took to LOG.times
-    bench/gate.py --table LOG.times ..           prints the table of earlier runs, added up
+    bench/gate.py --table LOG.times ..           prints the table of earlier runs; of each crate's proof, tests or edits the
+                                                 last run counts that tried them
 
 Times are processor minutes of the prover and the compilers, read from /proc while they run; a process that
 ends between two looks loses at most the time between them (0.2 seconds). It stands outside the gate.
@@ -52,26 +53,33 @@ def watch(run, session):
     return took
 
 
-def table(rows):
-    """Prints the Markdown table of lines `crate kind seconds`."""
-    took = {}
+def sums(rows):
+    """Adds lines `crate kind seconds` up: {(crate, kind): seconds}."""
+    found = {}
     for crate, kind, seconds in rows:
-        at = took.setdefault(crate, dict.fromkeys(KINDS, 0.0))
-        at[kind] += float(seconds)
+        found[crate, kind] = found.get((crate, kind), 0.0) + float(seconds)
+    return found
+
+
+def table(found):
+    """Prints sums as a Markdown table, in processor minutes, the dearest crate first."""
+    took = {}
+    for (crate, kind), seconds in found.items():
+        took.setdefault(crate, dict.fromkeys(KINDS, 0.0))[kind] += seconds
+    whole = {kind: sum(at[kind] for at in took.values()) for kind in KINDS}
     print("| Crate | Proof | Tests | Edits | All |\n|---|---|---|---|---|")
-    whole = dict.fromkeys(KINDS, 0.0)
-    for crate, at in sorted(took.items(), key=lambda it: -sum(it[1].values())):
-        for kind in KINDS:
-            whole[kind] += at[kind]
+    for crate, at in [*sorted(took.items(), key=lambda it: -sum(it[1].values())), ("all", whole)]:
         cells = [f"{at[kind] / 60:.1f}" for kind in KINDS]
         print(f"| `{crate}` | {' | '.join(cells)} | {sum(at.values()) / 60:.1f} |")
-    cells = [f"{whole[kind] / 60:.1f}" for kind in KINDS]
-    print(f"| all | {' | '.join(cells)} | {sum(whole.values()) / 60:.1f} |")
 
 
 def main(words):
     if words[:1] == ["--table"]:
-        return table(line.split() for name in words[1:] for line in open(name, encoding="utf-8"))
+        found = {}
+        for name in words[1:]:
+            with open(name, encoding="utf-8") as it:
+                found.update(sums(line.split() for line in it))
+        return table(found)
     own, _, more = " ".join(words).partition("--")
     log = own.strip() or "gate.log"
     os.chdir(os.path.join(os.path.dirname(os.path.abspath(__file__)), ".."))
@@ -82,7 +90,7 @@ def main(words):
     with open(f"{log}.times", "w", encoding="utf-8") as out:
         for (_, crate, kind), seconds in took.items():
             out.write(f"{crate} {kind} {seconds:.2f}\n")
-    table((crate, kind, seconds) for (_, crate, kind), seconds in took.items())
+    table(sums((crate, kind, seconds) for (_, crate, kind), seconds in took.items()))
     with open(log, encoding="utf-8") as it:
         print(f"\n{it.read().rstrip().rpartition(chr(10))[2]}, in {(time.time() - begun) / 60:.0f} minutes")
     return run.returncode

@@ -69,9 +69,12 @@ pub record Attaches {T : Type 0} (result : Result T AttachFailed) (old new : Tol
   pub counts : Attached old.counts new.counts result
 
 -- the first of those that wait is open; none is where none came
+abbrev pub OpensAs : Taken → Link → Link → Type 0
+OpensAs Opened old new = old.waiting ≡ new.open_bytes ∷ new.waiting
+OpensAs Closed old new = (old.waiting ≡ []) × (new ≡ record { open_bytes = []; waiting = [] })
+
 abbrev pub Opens : {E : Type 0} → Result Taken E → Link → Link → Type 0
-Opens (Ok Opened) old new = old.waiting ≡ new.open_bytes ∷ new.waiting
-Opens (Ok Closed) old new = (old.waiting ≡ []) × (new ≡ record { open_bytes = []; waiting = [] })
+Opens (Ok taken) old new = OpensAs taken old new
 Opens (Err e) old new = new ≡ record old { open_bytes = [] }
 
 pub record Takes {E : Type 0} (result : Result Taken E) (old new : Told) : Type 0 where
@@ -80,11 +83,16 @@ pub record Takes {E : Type 0} (result : Result Taken E) (old new : Told) : Type 
   pub told : (before : Link) → old.link ≡ Some before → (after : Link) × (new.link ≡ Some after) × Opens result before after
   pub counts : Took old.counts new.counts result
 
--- a beginning of the bytes that are to come was given, into a buffer with room at least one where one is; the rest are to come.
--- A failure loses none.
+-- a beginning of the bytes that are to come was given, at least one where one is there and there is room; the rest are to come
+pub record GivesFirst (n : ℕ) (buf : List ℕ) (old new : Link) : Type 0 where
+  pub bytes : take n buf ≡ take n old.open_bytes
+  pub within : n ≤ length old.open_bytes
+  pub end : n ≡ 0 → 0 < length buf → old.open_bytes ≡ []
+  pub rest : new ≡ record old { open_bytes = drop n old.open_bytes }
+
+-- a failure loses none
 abbrev pub Gives : {E : Type 0} → Result ℕ E → List ℕ → Link → Link → Type 0
-Gives (Ok n) buf old new =
-    (take n buf ≡ take n old.open_bytes) × (n ≤ length old.open_bytes) × (n ≡ 0 → 0 < length buf → old.open_bytes ≡ []) × (new ≡ record old { open_bytes = drop n old.open_bytes })
+Gives (Ok n) buf old new = GivesFirst n buf old new
 Gives (Err e) buf old new = new ≡ old
 
 pub record Received {E : Type 0} (result : Result ℕ E) (buf : List ℕ) (old new : Told) : Type 0 where

@@ -135,6 +135,7 @@ impl Sink for MemSink {
         ensures zero { result ≡ Ok 0 → 0 < length piece.now → Rose self.old.faults self.new.faults }
         ensures fails { self.old.fail_in ≡ 1 → IsErr result }
         ensures idles { self.old.fail_in ≢ 1 → self.old.idle_in ≡ 1 → result ≡ Ok 0 }
+        ensures takes { self.old.fail_in ≢ 1 → self.old.idle_in ≢ 1 → IfOk result (λ n. n ≡ length piece.now) }
         ensures next { (self.new.fail_in ≡ self.old.fail_in - 1) × (self.new.idle_in ≡ self.old.idle_in - 1) }
     {
         let fails = self.fail_in == 1;

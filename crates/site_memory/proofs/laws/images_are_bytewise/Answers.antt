@@ -1,0 +1,5 @@
+use Rattle.site_memory.proofs.ByByte as by_byte
+use Rattle.site_memory.proofs.laws.images_are_bytewise.Goals as goal
+
+pub returns : goal.returns
+returns c = by_byte.images_are_bytewise

@@ -1,0 +1,194 @@
+//! The calls on the disk of a machine in memory.
+
+ghost use Rattle.std.specs.Prelude.{◌≡◌, ◌≤◌, ◌+◌, ◌++◌, ◌∷◌, [], true, false, cond, length, IfOk, OnOk};
+ghost use Rattle.site_model.specs.Told.{file_of};
+ghost use Rattle.site_memory.specs.Tells.{reads};
+ghost use Rattle.site_memory.specs.declared.entry.Noted.TheVariants.{Not};
+ghost use Rattle.site_model.specs.Told.Call.{Write, Sync, Send, Post};
+ghost use Rattle.site_memory.specs.declared.arm.Arm.TheVariants.{Idle};
+ghost use Rattle.site_memory.specs.declared.range.Which.TheVariants.{First, Second};
+ghost use Rattle.site_memory.specs.Arms.{armed};
+ghost use Rattle.site_memory.specs.Disk.{after_write, after_sync, chosen, same, which_of};
+ghost use Rattle.site_memory.specs.Devices.{opening_in, calls_in, Runs, Leaves, Wants};
+ghost use Rattle.site_memory.specs.Helds.{disk_of, opening_of, HasRoomIn};
+
+use crate::arm::{Arm, Choice};
+use crate::device::Device;
+use crate::entry::{Deed, Noted, note};
+use crate::held::Held;
+use crate::range::Which;
+use std::alloc::{AllocError, Global};
+
+/// Makes room for a write in one of the files, and says its place.
+fn room_in(
+    first: &mut Held,
+    second: &mut Held,
+    which: Which,
+    at: u64,
+    size: usize,
+) -> Result<usize, AllocError>
+    ensures same { (disk_of first.new ≡ disk_of first.old) × (disk_of second.new ≡ disk_of second.old) }
+    ensures opening { opening_of first.new second.new ≡ opening_of first.old second.old }
+    ensures ok { IfOk result (λ place. (place ≡ at) × HasRoomIn which first.new second.new (at + size)) }
+{
+    let Ok(place) = usize::try_from(at) else {
+        return Err(AllocError);
+    };
+    let Some(end) = place.checked_add(size) else {
+        return Err(AllocError);
+    };
+    match which {
+        Which::First => first.room(end)?,
+        Which::Second => second.room(end)?,
+    }
+    Ok(place)
+}
+
+/// A write in one of the files. There is room.
+fn write_in(first: &mut Held, second: &mut Held, which: Which, at: usize, bytes: &[u8], done: bool)
+    requires { HasRoomIn which first.old second.old (at + length bytes.now) }
+    ensures first { disk_of first.new ≡ cond (same First which) (after_write at bytes.now done (disk_of first.old)) (disk_of first.old) }
+    ensures second { disk_of second.new ≡ cond (same Second which) (after_write at bytes.now done (disk_of second.old)) (disk_of second.old) }
+    ensures opening { opening_of first.new second.new ≡ opening_of first.old second.old }
+{
+    match which {
+        Which::First => first.write(at, bytes, done),
+        Which::Second => second.write(at, bytes, done),
+    }
+}
+
+/// A sync of one of the files.
+fn sync_in(first: &mut Held, second: &mut Held, which: Which)
+    ensures first { disk_of first.new ≡ cond (same First which) (after_sync true (disk_of first.old)) (disk_of first.old) }
+    ensures second { disk_of second.new ≡ cond (same Second which) (after_sync true (disk_of second.old)) (disk_of second.old) }
+    ensures opening { opening_of first.new second.new ≡ opening_of first.old second.old }
+{
+    match which {
+        Which::First => first.sync(),
+        Which::Second => second.sync(),
+    }
+}
+
+impl Device {
+    /// Empty files, and no calls.
+    pub fn new(alloc: Global) -> Device
+        ensures calls { calls_in result ≡ [] }
+        ensures opening { opening_in result ≡ record { first = []; second = [] } }
+        ensures idle { (result.arm ≡ Idle) × (result.wanted ≡ false) }
+    {
+        Device {
+            alloc,
+            log: Vec::new(alloc),
+            first: Held::new(alloc),
+            second: Held::new(alloc),
+            arm: Arm::Idle,
+            wanted: false,
+        }
+    }
+
+    /// Arms it, unless it has stopped.
+    pub fn set(&mut self, arm: Arm)
+        ensures arm { self.new.arm ≡ armed arm self.old.arm }
+        ensures others { (opening_in self.new ≡ opening_in self.old) × (calls_in self.new ≡ calls_in self.old) × (self.new.wanted ≡ self.old.wanted) }
+    {
+        self.arm.set(arm);
+    }
+
+    /// A call for which there is no memory.
+    pub fn want(&mut self) -> Noted
+        ensures not { result ≡ Not }
+        ensures wants { Wants self.old self.new }
+    {
+        self.wanted = true;
+        Noted::Not
+    }
+
+    /// What reads give of a file.
+    pub fn file(&self, file: u8) -> &[u8]
+        ensures { result.now ≡ file_of file (reads (opening_in self.now) (calls_in self.now)) }
+    {
+        match file {
+            0 => self.first.seen.as_slice(),
+            _ => self.second.seen.as_slice(),
+        }
+    }
+
+    /// Writes, as it is armed.
+    pub fn write(&mut self, file: u8, at: u64, bytes: &[u8]) -> Noted
+        ensures { Runs (Write file at bytes.now) result self.old self.new }
+    {
+        let Ok(deed) = Deed::write(self.alloc, file, at, bytes) else {
+            self.wanted = true;
+            return Noted::Not;
+        };
+        let which = Which::of(file);
+        let Ok(place) = room_in(&mut self.first, &mut self.second, which, at, bytes.len()) else {
+            self.wanted = true;
+            return Noted::Not;
+        };
+        let noted = note(&mut self.log, &mut self.arm, &mut self.wanted, deed);
+        match noted {
+            Noted::Done => write_in(&mut self.first, &mut self.second, which, place, bytes, true),
+            Noted::Failed => write_in(
+                &mut self.first,
+                &mut self.second,
+                which,
+                place,
+                bytes,
+                false,
+            ),
+            Noted::Not => {}
+        }
+        noted
+    }
+
+    /// Syncs, as it is armed.
+    pub fn sync(&mut self, file: u8) -> Noted
+        ensures { Runs (Sync file) result self.old self.new }
+    {
+        let noted = note(
+            &mut self.log,
+            &mut self.arm,
+            &mut self.wanted,
+            Deed::Sync { file },
+        );
+        match noted {
+            Noted::Done => sync_in(&mut self.first, &mut self.second, Which::of(file)),
+            Noted::Failed => {}
+            Noted::Not => {}
+        }
+        noted
+    }
+
+    /// An answer, as it is armed.
+    pub fn send(&mut self, bytes: &[u8]) -> Noted
+        ensures { Runs (Send bytes.now) result self.old self.new }
+    {
+        let Ok(deed) = Deed::send(self.alloc, bytes) else {
+            self.wanted = true;
+            return Noted::Not;
+        };
+        note(&mut self.log, &mut self.arm, &mut self.wanted, deed)
+    }
+
+    /// A post, as it is armed.
+    pub fn post(&mut self, host: &[u8], port: u16, bytes: &[u8]) -> Noted
+        ensures { Runs (Post host.now port bytes.now) result self.old self.new }
+    {
+        let Ok(deed) = Deed::post(self.alloc, host, port, bytes) else {
+            self.wanted = true;
+            return Noted::Not;
+        };
+        note(&mut self.log, &mut self.arm, &mut self.wanted, deed)
+    }
+
+    /// A crash, which leaves what was chosen. The machine is opened anew on that.
+    pub fn crash(&mut self, choice: Choice)
+        ensures { Leaves choice self.old self.new }
+    {
+        self.first.crash(choice);
+        self.second.crash(choice);
+        self.log.clear();
+        self.arm = Arm::Idle;
+    }
+}

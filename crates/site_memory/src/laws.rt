@@ -1,0 +1,8 @@
+//! Laws of the disk in memory.
+
+ghost use Rattle.site_memory.specs.Bytewise.{ImagesAreBytewise};
+
+/// What a crash may leave of the two files is said byte by byte: each byte that isn't pending stays, and nothing more is said.
+pub fn images_are_bytewise()
+    ensures { ImagesAreBytewise }
+{}

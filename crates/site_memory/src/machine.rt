@@ -1,0 +1,32 @@
+//! A whole machine in memory.
+
+use crate::bytes::{Bytes, Posted};
+use crate::device::Device;
+use crate::line::Line;
+use crate::tally::Tally;
+use std::alloc::Global;
+
+/// The names that a machine was given.
+#[derive(Drop)]
+pub struct Names {
+    pub(crate) journal: Bytes,
+    pub(crate) listen: Bytes,
+}
+
+/// A node's machine in memory, without faults until it is armed.
+///
+/// A write, sync, answer or post that gets no memory fails, raises its count and changes nothing else; `wanted` is true from
+/// then on. A failed write isn't seen by reads, but its range is pending.
+#[derive(Drop)]
+pub struct MemSite {
+    pub(crate) alloc: Global,
+    pub(crate) device: Device,
+    pub(crate) line: Line,
+    pub(crate) answers: Vec<Bytes>,
+    pub(crate) posts: Vec<Posted>,
+    pub(crate) names: Option<Names>,
+    pub(crate) clock: u64,
+    pub(crate) tally: Tally,
+    pub(crate) fail_read: u32,
+    pub(crate) fail_link: u32,
+}
