@@ -1,0 +1,12 @@
+mod Overflow
+mod Growing
+mod Keeping
+mod Fitting
+mod Firsts
+mod Counts
+mod Splitting
+mod Reading
+mod Lining
+mod Trailing
+mod Contents
+mod Chunking

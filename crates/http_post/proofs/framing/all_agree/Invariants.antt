@@ -1,0 +1,11 @@
+use Rattle.std.proofs.Common.{◌≡◌, codes, map}
+use Rattle.std.specs.List.{list_all}
+use Rattle.http_post.specs.Heads.{agrees}
+use Rattle.http_post.specs.Kept.{values_under}
+use Rattle.http_post.proofs.framing.all_agree.Given as goal
+
+abbrev pub invariant-loop-value : goal.invariant-loop-value
+invariant-loop-value l =
+    (goal.iterator-loop-value).can_next l.value-iterator
+    × ((goal.iterator-loop-value).is_finite l.value-iterator
+    × (list_all (agrees l.first) (map (λ v. v.bytes) l.value-iterator) ≡ list_all (agrees l.first) (values_under l.fields (codes "content-length"))))

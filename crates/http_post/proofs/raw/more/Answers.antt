@@ -1,0 +1,19 @@
+use Rattle.std.proofs.Common.{arith}
+use Rattle.http_post.proofs.Reading.{cut_full, held_full, held_still}
+use Rattle.http_post.proofs.raw.more.Goals as goal
+
+-- src/raw.rt:55:9
+pub returns-then-n-eq0-clause-held : goal.returns-then-n-eq0-clause-held
+returns-then-n-eq0-clause-held g c =
+    held_still c.args.bytes.now.items c.read_on.ensures.front.0 c.read_on.new.bytes.items c.in-Ok.n c.read_on.ensures.front.1 c.in-Ok.ensures.grown c.if-n-eq0.true
+
+-- src/raw.rt:58:9
+pub returns-then-not-counts-clause-fault : goal.returns-then-not-counts-clause-fault
+returns-then-not-counts-clause-fault g c raw k =
+    cut_full (g.S.Source.left c.args.source.now) (g.S.Source.left c.read_on.new.source) c.args.bytes.now.items c.read_on.new.bytes.items raw c.in-Ok.n
+    k (c.in-Ok.ensures.kept raw k) c.in-Ok.ensures.grown (omega (arith, c.if-n-eq0.false)) (omega (arith, c.if-len-gt-MOST_RAW.false, c.if-not-counts.true))
+
+-- src/raw.rt:58:9
+pub returns-then-not-counts-clause-held : goal.returns-then-not-counts-clause-held
+returns-then-not-counts-clause-held g c =
+    held_full c.args.bytes.now.items c.read_on.ensures.front.0 c.read_on.new.bytes.items c.read_on.ensures.front.1 (omega (arith, c.if-len-gt-MOST_RAW.false, c.if-not-counts.true))

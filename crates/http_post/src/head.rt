@@ -1,0 +1,112 @@
+//! The head of a request, read piece by piece.
+
+ghost use Rattle.std.specs.Prelude.{◌≡◌, ◌<◌, ◌≤◌, IfErr, IfOk, drop, length};
+ghost use Rattle.std.specs.Io.KnownBytes.{Consumes};
+ghost use Rattle.http_post.specs.Known.{HasNoHead, HoldsHead, IsPiece, IsRead};
+ghost use Rattle.http_post.specs.Reading.{IfNoHead};
+
+use crate::places::{Places, Step};
+use httparse::spans::RequestSpans;
+use site_model::source::{Failed, Source};
+use std::alloc::{AllocError, Global};
+
+/// The most bytes of a head.
+const MOST_HEAD: usize = 8192;
+
+/// The bytes that came, which begin with a head, and where its parts stand.
+pub struct Head {
+    pub bytes: Vec<u8>,
+    pub places: Places,
+    pub spans: RequestSpans,
+}
+
+impl Drop for Head {
+    fn drop(self) {
+        let Head {
+            bytes: _bytes,
+            places: _places,
+            spans: _spans,
+        } = self;
+    }
+}
+
+impl Head {
+    /// What came behind the head.
+    pub fn rest(&self) -> &[u8]
+        requires { IsRead self.now.bytes.items self.now.places self.now.spans }
+        ensures { result.now ≡ drop self.now.spans.len self.now.bytes.items }
+    {
+        &self.bytes[self.spans.len..]
+    }
+}
+
+/// Why no head was read.
+#[derive(Debug, PartialEq, Eq, Drop)]
+pub enum HeadFault {
+    /// The first 8,192 bytes don't begin with one.
+    NoHead,
+    Failed,
+    NoMemory,
+}
+
+/// Why no piece was read.
+#[derive(Debug, PartialEq, Eq, Drop)]
+enum PieceFault {
+    Failed,
+    NoMemory,
+}
+
+/// Adds what one read gives, at most to 8,192 bytes in all.
+fn read_piece<S: Source>(source: &mut S, bytes: &mut Vec<u8>) -> Result<usize, PieceFault>
+    requires { length bytes.old.items < 8192 }
+    ensures piece { IfOk result (λ n. IsPiece (S.left source.old) (S.left source.new) bytes.old.items bytes.new.items n) }
+{
+    let mut buf = [0u8; 1024];
+    let room = (MOST_HEAD - bytes.len()).min(1024);
+    let n = match source.read(&mut buf[..room]) {
+        Ok(n) => n,
+        Err(Failed) => return Err(PieceFault::Failed),
+    };
+    match bytes.extend_from_slice(&buf[..n]) {
+        Ok(()) => Ok(n),
+        Err(AllocError) => Err(PieceFault::NoMemory),
+    }
+}
+
+/// The head that the source begins with, and what came with it.
+#[tactic(auto, using(crate::proofs::Growing::nothing_yet, crate::proofs::Growing::grown, crate::proofs::Growing::holds, crate::proofs::Growing::none_at_most, crate::proofs::Growing::none_at_end, crate::proofs::Growing::never))]
+pub fn read_head<S: Source>(alloc: Global, source: &mut S) -> Result<Head, HeadFault>
+    ensures head { IfOk result (λ h. HoldsHead (S.left source.old) h.bytes.items h.places h.spans) }
+    ensures read { IfOk result (λ h. IsRead h.bytes.items h.places h.spans) }
+    ensures taken { IfOk result (λ h. Consumes (S.left source.old) (S.left source.new) h.bytes.items) }
+    ensures none { IfErr result (λ e. IfNoHead e (HasNoHead (S.left source.old))) }
+{
+    let Ok(mut places) = Places::new(alloc) else {
+        return Err(HeadFault::NoMemory);
+    };
+    let mut bytes = Vec::new(alloc);
+    loop {
+        match places.try_head(bytes.as_slice()) {
+            Step::Whole(spans) => {
+                return Ok(Head {
+                    bytes,
+                    places,
+                    spans,
+                });
+            }
+            Step::Never => return Err(HeadFault::NoHead),
+            Step::More => {}
+        }
+        if bytes.len() >= MOST_HEAD {
+            return Err(HeadFault::NoHead);
+        }
+        let n = match read_piece(source, &mut bytes) {
+            Ok(n) => n,
+            Err(PieceFault::NoMemory) => return Err(HeadFault::NoMemory),
+            Err(PieceFault::Failed) => return Err(HeadFault::Failed),
+        };
+        if n == 0 {
+            return Err(HeadFault::NoHead);
+        }
+    }
+}

@@ -1,0 +1,17 @@
+//! HTTP/1.1 posts (RFC 9110; RFC 9112): the head of a request, read piece by piece; what it asks, or the first refusal
+//! that it draws; its body, of a known length or in chunks; and the bytes of answers and posts.
+#![tactic(auto)]
+
+pub mod asking;
+pub mod body;
+mod chunks;
+mod content;
+mod fields;
+pub mod framing;
+pub mod head;
+mod lengths;
+pub mod places;
+mod raw;
+pub mod refusal;
+mod trailers;
+pub mod writer;
