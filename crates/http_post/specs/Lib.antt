@@ -2,6 +2,7 @@ pub mod Written
 pub mod Heads
 pub mod Chunks
 pub mod Requests
+pub mod Causes
 pub mod Raw
 pub mod Lines
 pub mod Known

@@ -2,6 +2,7 @@
 
 ghost use Rattle.std.specs.Prelude.{ℕ, List, ◌≡◌, ◌<◌, ◌≤◌, Err, IfErr, IfOk, Ok, length, take};
 ghost use Rattle.http_post.specs.declared.framing.Framing.TheVariants.{Chunked, Sized};
+ghost use Rattle.http_post.specs.Causes.{HasLinkCause};
 ghost use Rattle.http_post.specs.Raw.{IsFault, IsRaw};
 ghost use Rattle.http_post.specs.Requests.{Body};
 
@@ -21,6 +22,7 @@ pub fn read_body<S: Source>(
 ) -> Result<Vec<u8>, HttpRefusal>
     ensures content { IfOk result (λ body. (raw : List ℕ) → IsRaw (S.left source.old) bytes.old.items raw → Body framing raw (Ok body.items)) }
     ensures fault { IfErr result (λ e. IsFault e (λ r. (raw : List ℕ) → IsRaw (S.left source.old) bytes.old.items raw → Body framing raw (Err r))) }
+    ensures cause { HasLinkCause (S.faults source.old) (S.faults source.new) result }
 {
     match framing {
         Framing::Sized(count) => sized_body(alloc, source, bytes, count),
@@ -35,6 +37,7 @@ fn chunked_body<S: Source>(
 ) -> Result<Vec<u8>, HttpRefusal>
     ensures content { IfOk result (λ body. (raw : List ℕ) → IsRaw (S.left source.old) bytes.old.items raw → Body Chunked raw (Ok body.items)) }
     ensures fault { IfErr result (λ e. IsFault e (λ r. (raw : List ℕ) → IsRaw (S.left source.old) bytes.old.items raw → Body Chunked raw (Err r))) }
+    ensures cause { HasLinkCause (S.faults source.old) (S.faults source.new) result }
 {
     match read_chunks(alloc, source, bytes) {
         Ok(body) => Ok(body),
@@ -50,6 +53,7 @@ fn sized_body<S: Source>(
 ) -> Result<Vec<u8>, HttpRefusal>
     ensures content { IfOk result (λ body. (raw : List ℕ) → IsRaw (S.left source.old) bytes.old.items raw → Body (Sized count) raw (Ok body.items)) }
     ensures fault { IfErr result (λ e. IsFault e (λ r. (raw : List ℕ) → IsRaw (S.left source.old) bytes.old.items raw → Body (Sized count) raw (Err r))) }
+    ensures cause { HasLinkCause (S.faults source.old) (S.faults source.new) result }
 {
     while bytes.len() < count {
         match read_on(source, bytes, count - bytes.len()) {

@@ -1,6 +1,7 @@
 //! A body in chunks (RFC 9112, section 7.1).
 
 ghost use Rattle.std.specs.Prelude.{ℕ, List, ◌≡◌, ◌+◌, ◌<◌, ◌≤◌, Err, Ok, IfErr, IfOk, IfSome, OnOk, length, min, drop, take, true};
+ghost use Rattle.http_post.specs.Causes.{HasLinkCause};
 ghost use Rattle.http_post.specs.Raw.{EndsBefore, IsFault, IsRaw, is_cut, seen};
 ghost use Rattle.httparse.specs.Grammar.{ChunkLine};
 ghost use Rattle.httparse.specs.Spans.{IsChunkLineAt};
@@ -20,6 +21,7 @@ pub fn fill<S: Source>(source: &mut S, bytes: &mut Vec<u8>, upto: usize) -> Resu
     ensures kept { OnOk result ((raw : List ℕ) → IsRaw (S.left source.old) bytes.old.items raw → IsRaw (S.left source.new) bytes.new.items raw) }
     ensures full { OnOk result (upto ≤ min (length bytes.new.items) 131072) }
     ensures fault { IfErr result (λ e. IsFault e (λ r. (raw : List ℕ) → IsRaw (S.left source.old) bytes.old.items raw → EndsBefore upto raw r)) }
+    ensures cause { HasLinkCause (S.faults source.old) (S.faults source.new) result }
 {
     while counting(bytes.as_slice()) < upto {
         if let Err(refusal) = more(source, bytes) {
@@ -108,6 +110,7 @@ fn read_line<S: Source>(
     ensures line { IfOk result (λ line. (raw : List ℕ) → IsRaw (S.left source.old) bytes.old.items raw → (l : ChunkLine) × IsChunkLineAt (drop at (seen raw)) line.len line.size l) }
     ensures within { IfOk result (λ line. at + line.len ≤ min (length bytes.new.items) 131072) }
     ensures fault { IfErr result (λ e. IsFault e (λ r. (raw : List ℕ) → IsRaw (S.left source.old) bytes.old.items raw → IsNoLine (drop at (seen raw)) (cut_at_end raw) r)) }
+    ensures cause { HasLinkCause (S.faults source.old) (S.faults source.new) result }
 {
     let mut tried = at;
     loop {
@@ -142,6 +145,7 @@ fn read_chunk<S: Source>(
     ensures most { OnOk result (length body.new.items ≤ 65536) }
     ensures step { IfOk result (λ o. (raw : List ℕ) → IsRaw (S.left source.old) bytes.old.items raw → IsChunkStep (cut_at_end raw) (seen raw) at body.old.items body.new.items o) }
     ensures fault { IfErr result (λ e. IsFault e (λ r. (raw : List ℕ) → IsRaw (S.left source.old) bytes.old.items raw → Chunks (cut_at_end raw) (length body.old.items) (drop at (seen raw)) (Err r))) }
+    ensures cause { HasLinkCause (S.faults source.old) (S.faults source.new) result }
 {
     let line = match read_line(source, bytes, at) {
         Ok(line) => line,
@@ -176,6 +180,7 @@ pub fn read_chunks<S: Source>(
 ) -> Result<Vec<u8>, HttpRefusal>
     ensures content { IfOk result (λ body. (raw : List ℕ) → IsRaw (S.left source.old) bytes.old.items raw → Chunks (cut_at_end raw) 0 (seen raw) (Ok body.items)) }
     ensures fault { IfErr result (λ e. IsFault e (λ r. (raw : List ℕ) → IsRaw (S.left source.old) bytes.old.items raw → Chunks (cut_at_end raw) 0 (seen raw) (Err r))) }
+    ensures cause { HasLinkCause (S.faults source.old) (S.faults source.new) result }
 {
     let mut body = Vec::new(alloc);
     let mut at = 0;

@@ -3,6 +3,7 @@
 ghost use Rattle.std.specs.Prelude.{ℕ, List, [], ◌∷◌, ◌++◌, ◌≡◌, ◌+◌, ◌≤◌, IfErr, IfOk, OnOk, drop, length, min, take};
 ghost use Rattle.http_post.specs.Chunks.{cut_at_end};
 ghost use Rattle.http_post.specs.Lines.{IsBadContent};
+ghost use Rattle.http_post.specs.Causes.{HasLinkCause};
 ghost use Rattle.http_post.specs.Raw.{EndsBefore, IsFault, IsRaw, seen};
 
 use crate::chunks::fill;
@@ -16,6 +17,7 @@ fn byte_on<S: Source>(source: &mut S, bytes: &mut Vec<u8>, place: usize) -> Resu
     ensures full { OnOk result (place + 1 ≤ min (length bytes.new.items) 131072) }
     ensures byte { IfOk result (λ b. (raw : List ℕ) → IsRaw (S.left source.old) bytes.old.items raw → drop place (seen raw) ≡ b ∷ drop (place + 1) (seen raw)) }
     ensures fault { IfErr result (λ e. IsFault e (λ r. (raw : List ℕ) → IsRaw (S.left source.old) bytes.old.items raw → EndsBefore (place + 1) raw r)) }
+    ensures cause { HasLinkCause (S.faults source.old) (S.faults source.new) result }
 {
     match fill(source, bytes, place + 1) {
         Ok(()) => Ok(bytes[place]),
@@ -36,6 +38,7 @@ pub fn read_content<S: Source>(
     ensures full { OnOk result (from + size + 2 ≤ min (length bytes.new.items) 131072) }
     ensures whole { OnOk result ((raw : List ℕ) → IsRaw (S.left source.old) bytes.old.items raw → drop from (seen raw) ≡ take size (drop from (seen raw)) ++ 13 ∷ 10 ∷ drop (from + size + 2) (seen raw)) }
     ensures fault { IfErr result (λ e. IsFault e (λ r. (raw : List ℕ) → IsRaw (S.left source.old) bytes.old.items raw → IsBadContent size (drop from (seen raw)) (cut_at_end raw) r)) }
+    ensures cause { HasLinkCause (S.faults source.old) (S.faults source.new) result }
 {
     match fill(source, bytes, from + size) {
         Ok(()) => {}

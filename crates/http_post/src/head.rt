@@ -2,6 +2,9 @@
 
 ghost use Rattle.std.specs.Prelude.{◌≡◌, ◌<◌, ◌≤◌, IfErr, IfOk, drop, length};
 ghost use Rattle.std.specs.Io.KnownBytes.{Consumes};
+ghost use Rattle.site_model.specs.Counts.{Rose};
+ghost use Rattle.http_post.specs.declared.head.HeadFault.TheVariants as faults;
+ghost use Rattle.http_post.specs.declared.head.PieceFault.TheVariants as pieces;
 ghost use Rattle.http_post.specs.Known.{HasNoHead, HoldsHead, IsPiece, IsRead};
 ghost use Rattle.http_post.specs.Reading.{IfNoHead};
 
@@ -60,6 +63,8 @@ enum PieceFault {
 fn read_piece<S: Source>(source: &mut S, bytes: &mut Vec<u8>) -> Result<usize, PieceFault>
     requires { length bytes.old.items < 8192 }
     ensures piece { IfOk result (λ n. IsPiece (S.left source.old) (S.left source.new) bytes.old.items bytes.new.items n) }
+    ensures later { S.faults source.old ≤ S.faults source.new }
+    ensures failed { IfErr result (λ e. e ≡ pieces.Failed → Rose (S.faults source.old) (S.faults source.new)) }
 {
     let mut buf = [0u8; 1024];
     let room = (MOST_HEAD - bytes.len()).min(1024);
@@ -79,6 +84,8 @@ pub fn read_head<S: Source>(alloc: Global, source: &mut S) -> Result<Head, HeadF
     ensures head { IfOk result (λ h. HoldsHead (S.left source.old) h.bytes.items h.places h.spans) }
     ensures read { IfOk result (λ h. IsRead h.bytes.items h.places h.spans) }
     ensures taken { IfOk result (λ h. Consumes (S.left source.old) (S.left source.new) h.bytes.items) }
+    ensures later { S.faults source.old ≤ S.faults source.new }
+    ensures failed { IfErr result (λ e. e ≡ faults.Failed → Rose (S.faults source.old) (S.faults source.new)) }
     ensures none { IfErr result (λ e. IfNoHead e (HasNoHead (S.left source.old))) }
 {
     let Ok(mut places) = Places::new(alloc) else {

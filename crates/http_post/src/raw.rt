@@ -1,6 +1,7 @@
 //! The raw bytes of a body, as they come.
 
 ghost use Rattle.std.specs.Prelude.{ℕ, List, ◌≡◌, ◌++◌, ◌+◌, ◌<◌, ◌≤◌, IfErr, IfOk, OnErr, OnOk, length, min, take};
+ghost use Rattle.http_post.specs.Causes.{HasLinkCause};
 ghost use Rattle.http_post.specs.Raw.{BreaksOff, EndsBefore, IsFault, IsRaw};
 
 use crate::refusal::HttpRefusal;
@@ -24,6 +25,7 @@ pub fn read_on<S: Source>(
     ensures end { IfOk result (λ n. n ≡ 0 → (raw : List ℕ) → IsRaw (S.left source.old) bytes.old.items raw → raw ≡ bytes.old.items) }
     ensures fault { IfErr result (λ e. IsFault e (λ r. ⊥)) }
     ensures same { OnErr result (bytes.new.items ≡ bytes.old.items) }
+    ensures cause { HasLinkCause (S.faults source.old) (S.faults source.new) result }
     ensures front { (piece : List ℕ) × (bytes.new.items ≡ bytes.old.items ++ piece) }
 {
     let mut buf = [0u8; 4096];
@@ -46,6 +48,7 @@ pub fn more<S: Source>(source: &mut S, bytes: &mut Vec<u8>) -> Result<(), HttpRe
     ensures counts { OnOk result (length bytes.old.items < 131072) }
     ensures fault { IfErr result (λ e. IsFault e (λ r. (raw : List ℕ) → IsRaw (S.left source.old) bytes.old.items raw → BreaksOff bytes.old.items raw r)) }
     ensures kept_at_cut { IfErr result (λ e. IsFault e (λ r. (raw : List ℕ) → IsRaw (S.left source.old) bytes.old.items raw → IsRaw (S.left source.new) bytes.new.items raw)) }
+    ensures cause { HasLinkCause (S.faults source.old) (S.faults source.new) result }
     ensures held { OnErr result (take 131072 bytes.new.items ≡ take 131072 bytes.old.items) }
 {
     if bytes.len() > MOST_RAW {

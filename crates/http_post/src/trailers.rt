@@ -3,6 +3,7 @@
 ghost use Rattle.std.specs.Prelude.{ℕ, List, ◌≡◌, ◌+◌, ◌≤◌, IfErr, OnOk, drop, length, min, true, false};
 ghost use Rattle.http_post.specs.Chunks.{cut_at_end, ends_trailers};
 ghost use Rattle.http_post.specs.Lines.{IsAfter};
+ghost use Rattle.http_post.specs.Causes.{HasLinkCause};
 ghost use Rattle.http_post.specs.Raw.{IsFault, IsRaw, seen};
 
 use crate::chunks::fill;
@@ -42,6 +43,7 @@ pub fn read_trailers<S: Source>(
     ensures kept { OnOk result ((raw : List ℕ) → IsRaw (S.left source.old) bytes.old.items raw → IsRaw (S.left source.new) bytes.new.items raw) }
     ensures ended { OnOk result ((raw : List ℕ) → IsRaw (S.left source.old) bytes.old.items raw → ends_trailers (drop from (seen raw)) ≡ true) }
     ensures fault { IfErr result (λ e. IsFault e (λ r. (raw : List ℕ) → IsRaw (S.left source.old) bytes.old.items raw → (ends_trailers (drop from (seen raw)) ≡ false) × (r ≡ cut_at_end raw))) }
+    ensures cause { HasLinkCause (S.faults source.old) (S.faults source.new) result }
 {
     let mut line = Line::Fresh;
     let mut at = from;

@@ -6,10 +6,10 @@ use Rattle.http_post.proofs.body.sized_body.Goals as goal
 pub returns-in-Ok-eq0-clause-fault : goal.returns-in-Ok-eq0-clause-fault
 returns-in-Ok-eq0-clause-fault g c raw k =
     short_body (g.S.Source.left c.loop-source.source) c.loop-source.bytes.items raw c.args.count (omega (arith, c.loop-source-test.true, c.len.ensures))
-    (c.in-Ok-eq0.ensures.end c.in-Ok-eq0.field-0-test raw (c.loop-source.invariant raw k))
+    (c.in-Ok-eq0.ensures.end c.in-Ok-eq0.field-0-test raw (c.loop-source.invariant.0 raw k))
 
 -- src/body.rt:42:1
 pub returns-in-Ok-from_slice-clause-content : goal.returns-in-Ok-from_slice-clause-content
 returns-in-Ok-from_slice-clause-content g c raw k =
-    whole_body (g.S.Source.left c.loop-source.source) c.loop-source.bytes.items raw c.in-Ok-from_slice.body.items c.args.count (c.loop-source.invariant raw k)
+    whole_body (g.S.Source.left c.loop-source.source) c.loop-source.bytes.items raw c.in-Ok-from_slice.body.items c.args.count (c.loop-source.invariant.0 raw k)
     (omega (arith, c.loop-source-test.false, c.len.ensures)) (c.in-Ok-from_slice.ensures.items ∙ ap (take c.args.count) c.deref.ensures.value)

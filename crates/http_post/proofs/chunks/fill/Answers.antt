@@ -6,4 +6,4 @@ use Rattle.http_post.proofs.chunks.fill.Goals as goal
 pub returns-in-Err-clause-fault : goal.returns-in-Err-clause-fault
 returns-in-Err-clause-fault g c =
     let few : min (length c.loop-source.bytes.items) 131072 < c.args.upto = omega (arith, c.loop-source-test.true, c.counting.ensures, ap length c.as_slice.ensures.value) in
-    fill_fault _ _ _ _ _ _ c.loop-source.invariant few c.in-Err.ensures.fault
+    fill_fault _ _ _ _ _ _ c.loop-source.invariant.0 few c.in-Err.ensures.fault

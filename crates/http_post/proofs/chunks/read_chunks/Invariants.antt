@@ -7,11 +7,12 @@ use Rattle.http_post.proofs.chunks.read_chunks.Given as goal
 -- what the chunks from here on give is, behind the body so far, what all chunks give
 abbrev pub invariant-loop-next : goal.invariant-loop-next
 invariant-loop-next g l =
-    ((raw : List ℕ) → IsRaw (g.S.Source.left l.fn.source) l.fn.bytes.items raw → IsRaw (g.S.Source.left l.source) l.bytes.items raw)
+    ((((raw : List ℕ) → IsRaw (g.S.Source.left l.fn.source) l.fn.bytes.items raw → IsRaw (g.S.Source.left l.source) l.bytes.items raw)
     × ((l.at ≤ min (length l.bytes.items) 131072)
     × ((length l.body.items ≤ 65536)
     × ((raw : List ℕ) → IsRaw (g.S.Source.left l.fn.source) l.fn.bytes.items raw → (out : Result (List ℕ) HttpRefusal)
-    → Chunks (cut_at_end raw) (length l.body.items) (drop l.at (seen raw)) out → Chunks (cut_at_end raw) 0 (seen raw) (prefixed l.body.items out))))
+    → Chunks (cut_at_end raw) (length l.body.items) (drop l.at (seen raw)) out → Chunks (cut_at_end raw) 0 (seen raw) (prefixed l.body.items out)))))
+    × (g.S.Source.faults l.fn.source ≤ g.S.Source.faults l.source))
 
 abbrev pub decreases-loop-next : goal.decreases-loop-next
 decreases-loop-next g l = 131072 - l.at

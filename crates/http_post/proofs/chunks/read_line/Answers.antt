@@ -10,33 +10,33 @@ use Rattle.http_post.proofs.chunks.read_line.Goals as goal
 -- src/chunks.rt:117:42
 pub returns-in-Whole-clause-line : goal.returns-in-Whole-clause-line
 returns-in-Whole-clause-line g c raw k =
-    line_seen _ _ raw (c.loop-bytes.invariant.0 raw k) _ c.loop-bytes.invariant.1.1 _ _ (line_of _ _ _ _ _ c.as_slice-then-is_worth.ensures.value c.in-Whole.ensures)
+    line_seen _ _ raw (c.loop-bytes.invariant.0.0 raw k) _ c.loop-bytes.invariant.0.1.1 _ _ (line_of _ _ _ _ _ c.as_slice-then-is_worth.ensures.value c.in-Whole.ensures)
 
 -- src/chunks.rt:117:42
 pub returns-in-Whole-clause-within : goal.returns-in-Whole-clause-within
 returns-in-Whole-clause-within g c =
-    line_within _ _ _ _ c.loop-bytes.invariant.1.1 (line_of _ _ _ _ _ c.as_slice-then-is_worth.ensures.value c.in-Whole.ensures)
+    line_within _ _ _ _ c.loop-bytes.invariant.0.1.1 (line_of _ _ _ _ _ c.as_slice-then-is_worth.ensures.value c.in-Whole.ensures)
 
 -- src/chunks.rt:118:36
 pub returns-in-Never-clause-fault : goal.returns-in-Never-clause-fault
 returns-in-Never-clause-fault g c raw k =
-    never_seen _ _ raw (c.loop-bytes.invariant.0 raw k) _ c.loop-bytes.invariant.1.1 _ (never_of _ _ _ c.as_slice-then-is_worth.ensures.value c.in-Never.ensures)
+    never_seen _ _ raw (c.loop-bytes.invariant.0.0 raw k) _ c.loop-bytes.invariant.0.1.1 _ (never_of _ _ _ c.as_slice-then-is_worth.ensures.value c.in-Never.ensures)
 
 -- src/chunks.rt:123:13
 pub last_line-requires : goal.last_line-requires
 last_line-requires g c =
-    let le : c.args.at ≤ min (length c.more.new.bytes.items) 131072 = still_within c.loop-bytes.bytes.items c.more.new.bytes.items c.args.at c.in-Err.ensures.held c.loop-bytes.invariant.1.1 in
+    let le : c.args.at ≤ min (length c.more.new.bytes.items) 131072 = still_within c.loop-bytes.bytes.items c.more.new.bytes.items c.args.at c.in-Err.ensures.held c.loop-bytes.invariant.0.1.1 in
     omega (arith, le, ap length c.as_slice-in-Err.ensures.value)
 
 -- src/chunks.rt:123:13
 pub returns-in-Err-clause-line : goal.returns-in-Err-clause-line
 returns-in-Err-clause-line g c =
-    if_ok _ _ _ c.last_line.ensures.line (λ line h. last_seen _ _ _ _ _ _ _ _ c.loop-bytes.invariant.0 c.loop-bytes.invariant.1.1 c.in-Err.ensures.fault c.in-Err.ensures.kept_at_cut c.in-Err.ensures.held _ _ (line_of _ _ _ _ _ c.as_slice-in-Err.ensures.value h.1))
+    if_ok _ _ _ c.last_line.ensures.line (λ line h. last_seen _ _ _ _ _ _ _ _ c.loop-bytes.invariant.0.0 c.loop-bytes.invariant.0.1.1 c.in-Err.ensures.fault c.in-Err.ensures.kept_at_cut c.in-Err.ensures.held _ _ (line_of _ _ _ _ _ c.as_slice-in-Err.ensures.value h.1))
 
 -- src/chunks.rt:123:13
 pub returns-in-Err-clause-within : goal.returns-in-Err-clause-within
 returns-in-Err-clause-within g c =
-    let le : c.args.at ≤ min (length c.more.new.bytes.items) 131072 = still_within c.loop-bytes.bytes.items c.more.new.bytes.items c.args.at c.in-Err.ensures.held c.loop-bytes.invariant.1.1 in
+    let le : c.args.at ≤ min (length c.more.new.bytes.items) 131072 = still_within c.loop-bytes.bytes.items c.more.new.bytes.items c.args.at c.in-Err.ensures.held c.loop-bytes.invariant.0.1.1 in
     if_ok c.last_line.result (λ line. (is_cut c.in-Err.refusal ≡ true) × ((l : ChunkLine) × IsChunkLineAt (drop c.args.at (take 131072 c.as_slice-in-Err.result.now)) line.len line.size l))
     (λ line. c.args.at + line.len ≤ min (length c.more.new.bytes.items) 131072) c.last_line.ensures.line (λ line h. line_within _ _ _ _ le (line_of _ _ _ _ _ c.as_slice-in-Err.ensures.value h.1))
 
@@ -46,5 +46,5 @@ returns-in-Err-clause-fault g c =
     if_err c.last_line.result (λ e. IsLast (drop c.args.at (take 131072 c.as_slice-in-Err.result.now)) c.in-Err.refusal e)
     (λ e. IsFault e (λ r. (raw : List ℕ) → IsRaw (g.S.Source.left c.args.source.now) c.args.bytes.now.items raw → IsNoLine (drop c.args.at (seen raw)) (cut_at_end raw) r))
     c.last_line.ensures.fault
-    (λ e h. last_fault _ _ _ _ _ _ _ _ c.loop-bytes.invariant.0 c.loop-bytes.invariant.1.1 c.in-Err.ensures.fault c.in-Err.ensures.kept_at_cut c.in-Err.ensures.held e
+    (λ e h. last_fault _ _ _ _ _ _ _ _ c.loop-bytes.invariant.0.0 c.loop-bytes.invariant.0.1.1 c.in-Err.ensures.fault c.in-Err.ensures.kept_at_cut c.in-Err.ensures.held e
     (last_of c.more.new.bytes.items c.as_slice-in-Err.result.now c.args.at c.in-Err.refusal e c.as_slice-in-Err.ensures.value h))

@@ -5,8 +5,9 @@ use Rattle.http_post.proofs.chunks.read_line.Given as goal
 -- the same bytes are held or left, and what was tried counts
 abbrev pub invariant-loop-bytes : goal.invariant-loop-bytes
 invariant-loop-bytes g l =
-    ((raw : List ℕ) → IsRaw (g.S.Source.left l.fn.source) l.fn.bytes.items raw → IsRaw (g.S.Source.left l.source) l.bytes.items raw)
-    × ((l.at ≤ l.tried) × (l.at ≤ min (length l.bytes.items) 131072))
+    ((((raw : List ℕ) → IsRaw (g.S.Source.left l.fn.source) l.fn.bytes.items raw → IsRaw (g.S.Source.left l.source) l.bytes.items raw)
+    × ((l.at ≤ l.tried) × (l.at ≤ min (length l.bytes.items) 131072)))
+    × (g.S.Source.faults l.fn.source ≤ g.S.Source.faults l.source))
 
 abbrev pub decreases-loop-bytes : goal.decreases-loop-bytes
 decreases-loop-bytes g l = 131072 - length l.bytes.items
