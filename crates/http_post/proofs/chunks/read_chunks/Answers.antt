@@ -5,18 +5,19 @@ use Rattle.http_post.proofs.chunks.read_chunks.Goals as goal
 
 -- src/chunks.rt:186:5
 pub loop-next-preserved : goal.loop-next-preserved
-loop-next-preserved g c =
-    ((
-  (λ raw k. c.in-Ok.ensures.kept raw (c.loop-next.invariant.0.0 raw k)),
+loop-next-preserved g c = (
   (
-    (place_is c.in-Ok.next c.in-Some.place _ _ c.in-Some.is c.in-Ok.ensures.next).1,
+    (λ raw k. c.in-Ok.ensures.kept raw (c.loop-next.invariant.0.0 raw k)),
     (
-      c.in-Ok.ensures.most,
-      one_further _ _ _ _ _ _ c.loop-next.invariant.0.0 c.loop-next.invariant.0.1.1.1 _ _ (step_is _ _ _ _ _ c.in-Ok.next (Some c.in-Some.place) c.in-Some.is c.in-Ok.ensures.step),
+      (place_is c.in-Ok.next c.in-Some.place _ _ c.in-Some.is c.in-Ok.ensures.next).1,
+      (
+        c.in-Ok.ensures.most,
+        one_further _ _ _ _ _ _ c.loop-next.invariant.0.0 c.loop-next.invariant.0.1.1.1 _ _ (step_is _ _ _ _ _ c.in-Ok.next (Some c.in-Some.place) c.in-Some.is c.in-Ok.ensures.step),
+      ),
     ),
   ),
-),
-    omega (arith, c.loop-next.invariant.1, c.read_chunk.ensures.cause.later))
+  omega (arith, c.loop-next.invariant.1, c.read_chunk.ensures.cause.later),
+)
 
 -- src/chunks.rt:193:21
 pub returns-in-None-clause-content : goal.returns-in-None-clause-content
