@@ -1,3 +1,4 @@
+pub mod Appending
 pub mod Laying
 pub mod Ran
 pub mod Torn

@@ -20,9 +20,13 @@ pub record FilesOf (c : Files) (version : Version) (records : List (List ℕ)) :
   pub versions : (head_of bodies).version ≡ version
   pub all : records_of bodies ≡ records
 
+-- the other file is older
+pub record Beside (live : ℕ) (bodies : List (List ℕ)) (other : List ℕ) : Type 0 where
+  pub others : List (List ℕ)
+  pub is : FileOf other others
+  pub newer : IsLive live bodies others
+
 -- the file that is live holds these bodies, up to a gate that is there
 pub record Holds (live : ℕ) (bodies : List (List ℕ)) (c : Files) : Type 0 where
   pub closed : Closed bodies (file_of live c)
-  pub others : List (List ℕ)
-  pub other : FileOf (other_than live c) others
-  pub newer : IsLive live bodies others
+  pub beside : Beside live bodies (other_than live c)
