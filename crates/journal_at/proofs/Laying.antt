@@ -37,11 +37,11 @@ laid_done file at bytes r x q old mid new rx w s =
       failed = on_err _ q (λ f is. inl (option_map_is (with_file file (written at bytes)) old.files f (sym now ∙ is)));
       images = λ c im. w.images c (s.images c im);
       time = and_then old mid new _
-        (weaker old mid _ _ w.time (λ l c n. (is_between old mid new w.calls.made s.calls.made l w.calls.grown s.calls.grown n.0, w.images c n.1)))
-        (weaker mid new _ _ s.time (λ l c n. (last l n.0, w.images c (s.images c n.1))));
+          (weaker old mid _ _ w.time (λ l c n. (is_between old mid new w.calls.made s.calls.made l w.calls.grown s.calls.grown n.0, w.images c n.1)))
+          (weaker mid new _ _ s.time (λ l c n. (last l n.0, w.images c (s.images c n.1))));
       apart = record { link = s.apart.link ∙ w.apart.link; clock = s.apart.clock ∙ w.apart.clock };
       cause = record { later = omega (arith, w.counts.cause.later, s.counts.cause.later); failed = map_err _ _ q (rose_later old.counts.disk mid.counts.disk new.counts.disk w.counts.cause.later) s.counts.cause.failed };
       others = s.counts.others ∙ ap (λ (z : Counts). record z { disk = new.counts.disk }) w.counts.others;
     } where
-    last : (l : List Made) → new.calls ≡ Some l → Between old new l
-    last l e = is_last old new (w.calls.made ++ s.calls.made) l (grown_then old.calls mid.calls new.calls w.calls.made s.calls.made w.calls.grown s.calls.grown) e
+      last : (l : List Made) → new.calls ≡ Some l → Between old new l
+      last l e = is_last old new (w.calls.made ++ s.calls.made) l (grown_then old.calls mid.calls new.calls w.calls.made s.calls.made w.calls.grown s.calls.grown) e

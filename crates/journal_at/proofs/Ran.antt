@@ -17,11 +17,12 @@ breaks_then c d m n e b =
       split = ap (λ z. c ++ z) b.split ∙ sym (append_assoc c b.front (b.call ∷ b.rest));
       is = either b.is;
     } where
-    front_done : m ++ map done b.front ≡ map done (c ++ b.front)
-    front_done = ap (λ z. z ++ map done b.front) e ∙ sym (map-append done c b.front)
-    either : (n ≡ map done b.front ++ failed b.call ∷ []) ⊎ (n ≡ map done b.front) → (m ++ n ≡ map done (c ++ b.front) ++ failed b.call ∷ []) ⊎ (m ++ n ≡ map done (c ++ b.front))
-    either (inl h) = inl (ap (λ z. m ++ z) h ∙ sym (append_assoc m (map done b.front) (failed b.call ∷ [])) ∙ ap (λ z. z ++ failed b.call ∷ []) front_done)
-    either (inr h) = inr (ap (λ z. m ++ z) h ∙ front_done)
+      front_done : m ++ map done b.front ≡ map done (c ++ b.front)
+      front_done = ap (λ z. z ++ map done b.front) e ∙ sym (map-append done c b.front)
+
+      either : (n ≡ map done b.front ++ failed b.call ∷ []) ⊎ (n ≡ map done b.front) → (m ++ n ≡ map done (c ++ b.front) ++ failed b.call ∷ []) ⊎ (m ++ n ≡ map done (c ++ b.front))
+      either (inl h) = inl (ap (λ z. m ++ z) h ∙ sym (append_assoc m (map done b.front) (failed b.call ∷ [])) ∙ ap (λ z. z ++ failed b.call ∷ []) front_done)
+      either (inr h) = inr (ap (λ z. m ++ z) h ∙ front_done)
 
 pub breaks_more : (c d : List Call) (m : List Made) → BreaksOff c m → BreaksOff (c ++ d) m
 breaks_more c d m b = record { front = b.front; call = b.call; rest = b.rest ++ d; split = ap (λ z. z ++ d) b.split ∙ append_assoc b.front (b.call ∷ b.rest) d; is = b.is }

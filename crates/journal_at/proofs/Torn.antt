@@ -26,8 +26,12 @@ closed_torn bodies at n d c e h t =
     let p = frames bodies in
     let fits : at ≤ length d = omega (arith, e, ap length h.is, long p h.gate h.rest) in
     let front : take at c ≡ p ++ (h.gate ∷ []) = t.before at (omega arith) fits ∙ ap (take at) h.is ∙ take_front p h.gate h.rest at e in
-    record { gate = h.gate; rest = drop at c; shut = h.shut;
-      is = sym (take-append-drop at c) ∙ ap (λ (l : List ℕ). l ++ drop at c) front ∙ append_assoc p (h.gate ∷ []) (drop at c) }
+    record {
+      gate = h.gate;
+      rest = drop at c;
+      shut = h.shut;
+      is = sym (take-append-drop at c) ∙ ap (λ (l : List ℕ). l ++ drop at c) front ∙ append_assoc p (h.gate ∷ []) (drop at c);
+    }
 
 -- the body stands behind a gate that is still shut
 pub record Staged (bodies : List (List ℕ)) (body f : List ℕ) : Type 0 where
@@ -46,10 +50,14 @@ closed_written bodies body at f e h =
     let fits : at ≤ length f = omega (arith, e, ap length h.is, long p h.gate h.rest) in
     let none : at - length f ≡ 0 = omega (arith, fits) in
     let front : take at f ≡ p ++ (h.gate ∷ []) = ap (take at) h.is ∙ take_front p h.gate h.rest at e in
-    record { gate = h.gate; rest = drop (at + length b) f; shut = h.shut;
+    record {
+      gate = h.gate;
+      rest = drop (at + length b) f;
+      shut = h.shut;
       is = (λ i. front i ++ (replicate (none i) 0 ++ (b ++ drop (at + length b) f)))
-        ∙ append_assoc p (h.gate ∷ []) (b ++ drop (at + length b) f)
-        ∙ ap (λ z. p ++ (h.gate ∷ z)) (append_assoc (behind body) (0 ∷ []) (drop (at + length b) f)) }
+          ∙ append_assoc p (h.gate ∷ []) (b ++ drop (at + length b) f)
+          ∙ ap (λ z. p ++ (h.gate ∷ z)) (append_assoc (behind body) (0 ∷ []) (drop (at + length b) f));
+    }
 
 pub one_longer : (bodies : List (List ℕ)) (body rest f : List ℕ) → f ≡ frames bodies ++ (1 ∷ (behind body ++ (0 ∷ rest))) → Closed (bodies ++ body ∷ []) f
 one_longer bodies body rest f e = record { gate = 0; rest = rest; shut = λ z. absurd (omega (arith, z)); is = e ∙ sym (frames_push bodies body (0 ∷ rest)) }
@@ -64,9 +72,9 @@ staged_torn bodies body at d c e s t =
     let back : drop (at + 1) c ≡ after = t.after ∙ ap (drop (at + 1)) s.is ∙ drop_front p s.gate after (at + 1) (omega (arith, e)) in
     let is : c ≡ p ++ (get_or c at 0 ∷ after) = sym (take-append-drop at c) ∙ (λ i. front i ++ drop at c) ∙ ap (λ z. p ++ z) (drop_more c at 0 fits ∙ ap (λ z. get_or c at 0 ∷ z) back) in
     ⊎_elim
-      (λ one. inr (one_longer bodies body s.rest c (is ∙ ap (λ z. p ++ (z ∷ after)) one)))
-      (λ other. inl (record { gate = get_or c at 0; rest = after; shut = other; is = is }))
-      (cases_eq (get_or c at 0) 1)
+    (λ one. inr (one_longer bodies body s.rest c (is ∙ ap (λ z. p ++ (z ∷ after)) one)))
+    (λ other. inl (record { gate = get_or c at 0; rest = after; shut = other; is = is }))
+    (cases_eq (get_or c at 0) 1)
 
 pub staged_raised : (bodies : List (List ℕ)) (body : List ℕ) (at : ℕ) (f : List ℕ) → at ≡ length (frames bodies) → Staged bodies body f → Closed (bodies ++ body ∷ []) (written at (1 ∷ []) f)
 staged_raised bodies body at f e s =

@@ -82,3 +82,10 @@ HasReason Done journal old new = Unit {0}
 HasReason Refused journal old new = Rose old.counts.disk new.counts.disk
 HasReason Unsure journal old new = (journal.unsure ≡ true) ⊎ Rose old.counts.gate new.counts.gate
 HasReason Full journal old new = Unit {0}
+
+-- the counts of the disk and of gates don't fall, and nothing else is counted, nor are listener, connections and clock touched
+pub record Counted (old new : Told) : Type 0 where
+  pub disk : old.counts.disk ≤ new.counts.disk
+  pub gate : old.counts.gate ≤ new.counts.gate
+  pub others : new.counts ≡ record old.counts { disk = new.counts.disk; gate = new.counts.gate }
+  pub apart : Apart old new

@@ -11,12 +11,14 @@ pub fn frame(room: &mut Vec<u8>, body: &[u8])
     ensures capacity { vec_capacity room.old ≤ vec_capacity room.new }
 {
     room.clear();
-    if room.extend_from_slice(&(body.len() as u32).to_be_bytes()).is_err() {
+    if room
+        .extend_from_slice(&(body.len() as u32).to_be_bytes())
+        .is_err()
+    {
         return;
     }
     if room.extend_from_slice(body).is_err() {
         return;
     }
-    if room.push(0).is_err() {
-    }
+    if room.push(0).is_err() {}
 }
