@@ -2,3 +2,4 @@ pub mod Appending
 pub mod Laying
 pub mod Ran
 pub mod Torn
+pub mod Framing

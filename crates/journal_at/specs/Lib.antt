@@ -1,3 +1,4 @@
 pub mod Format
 pub mod Pairs
 pub mod Standing
+pub mod Reading

@@ -4,4 +4,5 @@
 pub mod append;
 pub mod frame;
 pub mod journal;
+pub mod read;
 pub mod version;
