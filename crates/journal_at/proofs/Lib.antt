@@ -1,3 +1,4 @@
+pub mod Bodies
 pub mod Appending
 pub mod Laying
 pub mod Ran

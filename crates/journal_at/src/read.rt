@@ -1,10 +1,10 @@
 //! Bodies that are read.
 
-ghost use Rattle.std.specs.Prelude.{◌≡◌, length, IfOk, is_some};
+ghost use Rattle.std.specs.Prelude.{◌≡◌, ◌≢◌, ◌⊎◌, ◌++◌, ◌∷◌, [], length, None, IfOk, IfErr, OnOk, is_some};
 ghost use Rattle.journal_at.specs.declared.read.BodiesFault.TheVariants.{NoMemory};
-ghost use Rattle.journal_at.specs.Format.{mark_of};
+ghost use Rattle.journal_at.specs.Format.{FileOf, mark_of};
 ghost use Rattle.std.specs.Int.{from_be_bytes, to_be_bytes, w32};
-ghost use Rattle.journal_at.specs.Reading.{Says};
+ghost use Rattle.journal_at.specs.Reading.{Says, IsMisplaced, IsWhy, bodies_of};
 
 use std::alloc::{AllocError, Global};
 
@@ -96,5 +96,50 @@ fn is_mark(body: &[u8]) -> bool
             *tag == 11 || (*tag == 9 && 0 < generation && generation < 4_294_967_295)
         }
         _ => false,
+    }
+}
+
+/// A body more, unless it is a mark behind others.
+fn take_body(
+    alloc: Global,
+    bodies: &mut Vec<Placed>,
+    body: &[u8],
+    gate: u64,
+) -> Result<(), BodiesFault>
+    ensures done { OnOk result ((bodies_of bodies.new.items ≡ bodies_of bodies.old.items ++ body.now ∷ []) × ((bodies_of bodies.old.items ≡ []) ⊎ (mark_of body.now ≡ None))) }
+    ensures bad { IfErr result (λ e. IsMisplaced e (bodies_of bodies.old.items) body.now) }
+{
+    if !bodies.is_empty() && is_mark(body) {
+        return Err(BodiesFault::Bad(gate));
+    }
+    let next = copy_of(alloc, body, gate)?;
+    if bodies.push(next).is_err() {
+        return Err(BodiesFault::NoMemory);
+    }
+    Ok(())
+}
+
+/// All bodies of a file.
+pub fn read_bodies(alloc: Global, bytes: &[u8]) -> Result<Vec<Placed>, BodiesFault>
+    ensures ok { IfOk result (λ v. FileOf bytes.now (bodies_of v.items)) }
+    ensures why { IfErr result (λ e. IsWhy e bytes.now) }
+{
+    let mut bodies = Vec::new(alloc);
+    if bytes.len() <= 1 {
+        return Ok(bodies);
+    }
+    let mut rest = bytes;
+    loop {
+        let gate = bytes.len().saturating_sub(rest.len()) as u64;
+        match read_frame(rest) {
+            Frame::End => return Ok(bodies),
+            Frame::Bad => return Err(BodiesFault::Bad(gate)),
+            Frame::Body(body, after) => {
+                match take_body(alloc, &mut bodies, body, gate) {
+                    Ok(()) => rest = after,
+                    Err(fault) => return Err(fault),
+                }
+            }
+        }
     }
 }
