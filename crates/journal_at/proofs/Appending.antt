@@ -1,9 +1,9 @@
 -- What stands of a pair of files during an append.
-use Rattle.std.proofs.Common.{ℕ, List, Option, Some, Result, Ok, Err, zero, suc, [], ◌∷◌, length, ◌≡◌, ◌++◌, ◌+◌, ◌≤◌, ◌⊎◌, inl, inr, ⊎_elim, refl, sym, ◌∙◌, ap, subst, option_map, OnOk, OnErr, arith}
+use Rattle.std.proofs.Common.{ℕ, List, Result, Ok, Err, zero, suc, [], ◌∷◌, length, ◌≡◌, ◌++◌, ◌+◌, ◌⊎◌, inl, inr, ⊎_elim, refl, sym, ◌∙◌, ap, subst, option_map, OnOk, OnErr, arith}
 use Rattle.site_model.proofs.Past.{and_then, weaker}
 use Rattle.site_model.specs.Calls.{Outcome, Raised}
-use Rattle.site_model.specs.Told.{Told, Files, Made, Is, Between, Elapses, Settled, Tears, TornFrom, TornIn, file_of, other_than, with_file, written}
-use Rattle.journal_at.specs.Format.{AreListed, Closed, behind, frames, head_of}
+use Rattle.site_model.specs.Told.{Told, Files, Is, Between, Elapses, Settled, TornFrom, TornIn, file_of, other_than, with_file, written}
+use Rattle.journal_at.specs.Format.{Closed, behind, frames, head_of}
 use Rattle.journal_at.specs.Pairs.{Beside, Holds, IsLive}
 use Rattle.journal_at.specs.Standing.{Calls, EitherHolds, Laid, MayFollow, Stands, lay, raise}
 use Rattle.journal_at.specs.declared.journal.Append.TheVariants.{Unsure}

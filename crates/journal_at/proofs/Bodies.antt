@@ -1,9 +1,9 @@
 -- How a file's bodies are read, one after another.
-use Rattle.std.proofs.Common.{ℕ, List, Option, Some, None, [], ◌∷◌, length, ◌≡◌, ◌≢◌, ◌++◌, ◌+◌, ◌<◌, ◌≤◌, ◌⊎◌, inl, inr, refl, sym, ◌∙◌, ap, subst, take, drop, arith}
+use Rattle.std.proofs.Common.{ℕ, List, None, [], ◌∷◌, length, ◌≡◌, ◌≢◌, ◌++◌, ◌<◌, ◌≤◌, ◌⊎◌, inl, inr, refl, sym, ◌∙◌, ap, subst, take, drop, arith}
 use Rattle.std.specs.Int.{from_be_bytes, to_be_bytes, w32}
 use Rattle.std.proofs.lemmas.List.{append_assoc, append-nil, take_at, drop_at}
 use Rattle.std.proofs.lemmas.Nat.{from_be_bytes-to_be_bytes_4}
-use Rattle.journal_at.specs.Format.{AreBodies, AreInPlace, AreListed, AreUnmarked, Closed, FileOf, IsBody, behind, frames, mark_of}
+use Rattle.journal_at.specs.Format.{AreInPlace, AreUnmarked, Closed, FileOf, IsBody, behind, frames, mark_of}
 use Rattle.journal_at.specs.Reading.{Begins, Framed, IsMisplaced, IsRead, IsShut, IsWhy, NotFramed}
 use Rattle.journal_at.specs.declared.read.BodiesFault.{BodiesFault}
 use Rattle.journal_at.specs.declared.read.BodiesFault.TheVariants.{NoMemory, Bad as BadAt}

@@ -1,9 +1,9 @@
 -- What the beginning of a file's bytes says.
-use Rattle.std.proofs.Common.{ℕ, List, [], ◌∷◌, length, ◌≡◌, ◌≢◌, ◌++◌, ◌+◌, ◌<◌, ◌≤◌, ◌-◌, ◌⊎◌, inl, inr, refl, sym, ◌∙◌, ap, subst, take, drop, get_or, arith, rules}
+use Rattle.std.proofs.Common.{ℕ, List, [], ◌∷◌, length, ◌≡◌, ◌++◌, ◌+◌, ◌<◌, ◌≤◌, ◌⊎◌, inl, inr, sym, ◌∙◌, ap, subst, take, drop, get_or, arith, rules}
 use Rattle.std.specs.Int.{from_be_bytes, to_be_bytes, w32}
 use Rattle.std.proofs.lemmas.List.{append_assoc, length-append, take_at, drop_at}
 use Rattle.std.proofs.lemmas.Nat.{from_be_bytes-to_be_bytes_4}
-use Rattle.journal_at.specs.Format.{AreBodies, Closed, IsBody, behind, frames}
+use Rattle.journal_at.specs.Format.{Closed, IsBody, behind, frames}
 use Rattle.journal_at.specs.Reading.{Framed, NotFramed}
 
 pub four : (n : ℕ) → length (to_be_bytes w32 n) ≡ 4

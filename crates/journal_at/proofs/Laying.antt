@@ -1,10 +1,10 @@
 -- A write and its sync.
-use Rattle.std.proofs.Common.{ℕ, List, Option, Some, Result, Ok, Err, [], ◌∷◌, length, ◌≡◌, ◌++◌, ◌+◌, ◌≤◌, ◌⊎◌, inl, inr, refl, sym, ◌∙◌, ap, subst, option_map, OnOk, OnErr, arith}
+use Rattle.std.proofs.Common.{ℕ, List, Some, Result, Ok, Err, [], ◌∷◌, length, ◌≡◌, ◌++◌, ◌≤◌, inl, inr, sym, ◌∙◌, ap, subst, option_map, OnOk, OnErr, arith}
 use Rattle.site_model.proofs.Past.{and_then, weaker}
-use Rattle.site_model.specs.Counts.{HasCause, Rose}
+use Rattle.site_model.specs.Counts.{Rose}
 use Rattle.site_model.specs.Site.{Counts}
-use Rattle.site_model.specs.Calls.{Runs, Synced, Wrote}
-use Rattle.site_model.specs.Told.{Told, Files, Made, Is, Between, Now, Settled, Tears, TornFrom, with_file, written}
+use Rattle.site_model.specs.Calls.{Synced, Wrote}
+use Rattle.site_model.specs.Told.{Told, Made, Is, Between, Settled, Tears, with_file, written}
 use Rattle.site_model.specs.Told.Call.{Write, Sync}
 use Rattle.journal_at.specs.Standing.{Laid}
 use Rattle.journal_at.proofs.Ran.{all_ran, grown_then, runs_then, runs_cut, is_between, is_last, option_map_is, on_ok, map_ok, map_err, on_err}

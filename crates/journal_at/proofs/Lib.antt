@@ -1,6 +1,7 @@
-pub mod Bodies
 pub mod Appending
+pub mod Bodies
+pub mod Fetching
+pub mod Framing
 pub mod Laying
 pub mod Ran
 pub mod Torn
-pub mod Framing

@@ -1,7 +1,7 @@
 -- How device calls compose.
-use Rattle.std.proofs.Common.{ℕ, List, Option, Some, None, Result, Ok, Err, [], ◌∷◌, ◌≡◌, ◌++◌, ◌⊎◌, inl, inr, refl, sym, ◌∙◌, ap, subst, map, option_map, OnOk, OnErr}
+use Rattle.std.proofs.Common.{List, Option, Some, None, Result, Ok, Err, [], ◌∷◌, ◌≡◌, ◌++◌, ◌⊎◌, inl, inr, refl, sym, ◌∙◌, ap, subst, map, option_map, OnOk, OnErr}
 use Rattle.std.proofs.lemmas.List.{append_assoc, append-nil, map-append}
-use Rattle.site_model.specs.Told.{Told, Call, Made, Files, Between, BreaksOff, done, failed}
+use Rattle.site_model.specs.Told.{Told, Call, Made, Between, BreaksOff, done, failed}
 use Rattle.site_model.specs.Calls.{Outcome, Runs}
 
 pub grown_then : (o p q : Option (List Made)) (m n : List Made) → p ≡ option_map (λ l. l ++ m) o → q ≡ option_map (λ l. l ++ n) p → q ≡ option_map (λ l. l ++ (m ++ n)) o

@@ -1,5 +1,5 @@
 -- A journal's file: a gate byte 1, a length of four bytes, a body, repeated, up to a gate other than 1, and then anything.
-use Rattle.std.specs.Prelude.{ℕ, List, Option, Some, None, Bool, true, false, [], ◌∷◌, ◌++◌, ◌+◌, ◌^◌, ◌≡◌, ◌≢◌, ◌≤◌, ◌<◌, ◌⊎◌, length, cond, nat_eq, nat_lt, refl, zero, suc}
+use Rattle.std.specs.Prelude.{ℕ, List, Option, Some, None, [], ◌∷◌, ◌++◌, ◌≡◌, ◌≢◌, ◌≤◌, ◌⊎◌, length, cond, nat_eq, nat_lt, refl}
 use Rattle.std.specs.Int.{to_be_bytes, from_be_bytes, w32}
 use Rattle.journal_at.specs.declared.version.Version.{Version}
 use Rattle.journal_at.specs.declared.version.Version.TheVariants.{One, Two}

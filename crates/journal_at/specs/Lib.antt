@@ -2,3 +2,4 @@ pub mod Format
 pub mod Pairs
 pub mod Standing
 pub mod Reading
+pub mod Loading

@@ -1,8 +1,8 @@
 -- What a pair of files stands for.
-use Rattle.std.specs.Prelude.{ℕ, List, [], ◌∷◌, ◌≡◌, ◌≤◌, ◌<◌, zero, suc}
+use Rattle.std.specs.Prelude.{ℕ, List, ◌≡◌, ◌≤◌, ◌<◌, zero, suc}
 use Rattle.site_model.specs.Told.{Files, file_of, other_than}
 use Rattle.journal_at.specs.declared.version.Version.{Version}
-use Rattle.journal_at.specs.Format.{AreListed, Closed, FileOf, head_of, records_of}
+use Rattle.journal_at.specs.Format.{Closed, FileOf, head_of, records_of}
 
 -- file 1 is live exactly where its generation is the greater one
 abbrev pub IsLive : ℕ → List (List ℕ) → List (List ℕ) → Type 0

@@ -1,5 +1,5 @@
 -- What stands, and what an append leaves.
-use Rattle.std.specs.Prelude.{ℕ, List, Result, Ok, Err, Bool, true, false, [], ◌∷◌, ◌++◌, ◌+◌, ◌≡◌, ◌≤◌, ◌⊎◌, length, map, option_map, OnOk, OnErr}
+use Rattle.std.specs.Prelude.{ℕ, List, Result, true, [], ◌∷◌, ◌++◌, ◌+◌, ◌≡◌, ◌≤◌, ◌⊎◌, length, map, option_map, OnOk, OnErr}
 use Rattle.site_model.specs.Counts.{HasCause, Rose}
 use Rattle.site_model.specs.Calls.{Runs}
 use Rattle.site_model.specs.Told.{Told, Files, Made, Call, Is, Elapses, Between, Apart, BreaksOff, TornFrom, Tears, Settled, done, with_file, written}

@@ -4,5 +4,6 @@
 pub mod append;
 pub mod frame;
 pub mod journal;
+pub mod load;
 pub mod read;
 pub mod version;

@@ -1,4 +1,4 @@
-use Rattle.std.proofs.Common.{refl, ◌∙◌}
+use Rattle.std.proofs.Common.{◌∙◌}
 use Rattle.journal_at.proofs.Appending.{same_bytes, refused, lay_time, raise_time, unsure, raised, makes_unsure, end_more}
 use Rattle.journal_at.proofs.journal.Journal.append.Goals as goal
 
