@@ -15,16 +15,4 @@ pub mod Seats
 pub mod Step
 pub mod World
 pub mod Views
-pub mod Examples
-pub mod Agreement
-pub mod Settle
-pub mod Laws
-pub mod Shapes
-pub mod Drawn
-pub mod Order
-pub mod Made
-pub mod Behind
-pub mod Sound
-pub mod Links
-pub mod Singles
-pub mod Rules
+pub mod Runs

@@ -9,7 +9,7 @@ use Rattle.at_base.specs.declared.event.Item.TheVariants as items
 use Rattle.at_model.specs.Book.{Book, is_id, find_by, transaction_id, leaf_id, activity_id}
 use Rattle.at_model.specs.Addresses.{or_else}
 use Rattle.at_model.specs.Due.{transaction_due, leaf_due, activity_due}
-use Rattle.at_model.specs.Order.{AreRising, IsRising}
+use Rattle.model_laws.specs.Order.{AreRising, IsRising}
 use Rattle.at_model.specs.Recover.{is_before}
 use Rattle.at_model.specs.Step.{moment_of, is_reached, is_due, is_due_at, transaction_item, leaf_item, activity_item, items_of}
 use Rattle.by_id.specs.Lists.{is_behind, next_due}

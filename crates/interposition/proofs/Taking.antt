@@ -25,7 +25,7 @@ use Rattle.interposition.specs.declared.plan.Part.{Part}
 use Rattle.interposition.specs.declared.plan.Part.TheVariants as parts
 use Rattle.interposition.specs.Doing.{is_addition, is_change, draws, notes_time, drawn, noted, moved, done_part, part_entry, part_outs}
 use Rattle.interposition.specs.Planning.{part_of}
-use Rattle.at_model.specs.Sound.{IsSound, RecordsAreWellFormed}
+use Rattle.model_laws.specs.Sound.{IsSound, RecordsAreWellFormed}
 use Rattle.interposition.specs.Whole.{IsStep, StepsAsTheModel, KeepsBounds}
 use Rattle.interposition.proofs.Modelled.{whole, plans}
 use Rattle.interposition.proofs.Parting.{IsDrawable, part_is_drawable}

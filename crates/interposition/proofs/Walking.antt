@@ -9,10 +9,10 @@ use Rattle.at_base.specs.declared.event.Item.{Item}
 use Rattle.at_base.specs.declared.event.Item.TheVariants as items
 use Rattle.at_base.specs.declared.event.Event.TheVariants as events
 use Rattle.at_base.specs.declared.outs.Out.{Out}
-use Rattle.at_model.specs.Agreement.{IsIn}
+use Rattle.model_laws.specs.Agreement.{IsIn}
 use Rattle.at_model.specs.Book.{Book, is_id, find_by, transaction_id, leaf_id, activity_id}
 use Rattle.at_model.specs.Due.{transaction_due, leaf_due, activity_due}
-use Rattle.at_model.specs.Order.{AreRising, IsRising, AreOf, HoldsNoMore, IdsRise}
+use Rattle.model_laws.specs.Order.{AreRising, IsRising, AreOf, HoldsNoMore, IdsRise}
 use Rattle.at_model.specs.Recover.{is_before}
 use Rattle.at_model.specs.Step.{Outcome, Plan, moment_of, is_due, is_due_at, transaction_item, leaf_item, items_of, plan}
 use Rattle.at_model.specs.World.{Turning, is_stopped, after_fate, sent, fate, send_all, step_by, take_step, due_step, due_steps}

@@ -4,7 +4,7 @@ use Rattle.at_base.specs.WellFormed.{IsWellFormed}
 use Rattle.at_base.specs.declared.record.Record.{Record}
 use Rattle.at_base.specs.declared.event.Event.{Event}
 use Rattle.at_model.specs.Book.{Book}
-use Rattle.at_model.specs.Sound.{IsSound, IsSoundEvent}
+use Rattle.model_laws.specs.Sound.{IsSound, IsSoundEvent}
 use Rattle.at_model.specs.Step.{plan, step}
 use Rattle.interposition.specs.Planning.{planned}
 use Rattle.interposition.specs.Doing.{done, sent, recorded}

@@ -26,7 +26,6 @@ use at_base::notice::Kind;
 use at_base::outs::{Effects, Outs};
 use at_base::target::Target;
 use at_base::text::Text;
-use at_model::rules::{ids_rise, records_are_well_formed};
 use completion_at::activities::{
     Activities, plans_as_the_model as activities_as_the_model,
     refuses_as_the_model as requests_as_the_model,
@@ -34,6 +33,7 @@ use completion_at::activities::{
 use completion_at::requests::Refusal;
 use coordinator_at::register::register_unknown;
 use coordinator_at::transactions::{Transactions, plans_as_the_model as transactions_as_the_model};
+use model_laws::rules::{ids_rise, records_are_well_formed};
 use participant_at::leaves::{Leaves, plans_as_the_model as leaves_as_the_model};
 use std::alloc::{AllocError, Global};
 use std::marker::Model;

@@ -32,7 +32,7 @@ pub enum Taken {
 /// no crash images. After a successful sync a crash leaves of the file what a read gives. Between two syncs each written
 /// range, and the part past the old end, may hold any bytes after a crash; other bytes stay. A failed write leaves its range
 /// as if written, and reads may give any bytes of it; a failed sync settles nothing. A call that fails is among the calls as
-/// failed, or, where it wanted memory, not at all.
+/// failed, or, where it wasn't tried (for want of memory, or by a machine that has stopped), not at all.
 ///
 /// A failure of a call has its cause in the count of its kind, which rose: `disk` for the files, `gate` for raising a
 /// gate, `accept` for the listener, `receive` and `link` for the connection and the posts. `taken` and `closings` count

@@ -5,7 +5,7 @@ use Rattle.std.proofs.lemmas.List.{append-nil, append_assoc}
 use Rattle.at_base.specs.declared.event.Item.{Item}
 use Rattle.at_base.specs.declared.outs.Outs.{Outs}
 use Rattle.at_model.specs.Book.{Book}
-use Rattle.at_model.specs.Order.{IsRising}
+use Rattle.model_laws.specs.Order.{IsRising}
 use Rattle.at_model.specs.Step.{Outcome, items_of}
 use Rattle.interposition.specs.Due.{FindsTheDue, WalksTheDue, due_outcome, due_outcomes, items_behind, next_item}
 use Rattle.world_laws.specs.Steps.{last_book, outs_of}

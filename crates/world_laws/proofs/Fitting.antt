@@ -7,8 +7,8 @@ use Rattle.at_base.specs.declared.event.Item.{Item}
 use Rattle.at_base.specs.declared.event.Local.{Local}
 use Rattle.at_base.specs.declared.event.Event.TheVariants as events
 use Rattle.at_model.specs.Book.{Book, last_counter}
-use Rattle.at_model.specs.Order.{IdsRise, IsInOrder}
-use Rattle.at_model.specs.Drawn.{restarted}
+use Rattle.model_laws.specs.Order.{IdsRise, IsInOrder}
+use Rattle.model_laws.specs.Drawn.{restarted}
 use Rattle.at_model.specs.Recover.{last_incarnation, recover}
 use Rattle.at_model.specs.Step.{Outcome, Plan, is_due, items_of, plan}
 use Rattle.at_model.specs.World.{Node, Posted, WorldEvent, Deliver, Tick, Raw, Turn, Ask, Crash, Up, nth, put_nth, new_node, new_nodes, node_of, opening, arrival_plan, answer_plan, decoded, is_receiver}

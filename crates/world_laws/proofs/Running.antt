@@ -4,7 +4,7 @@ use Rattle.std.specs.Prelude.{map, slice_get, slice_set}
 use Rattle.std.proofs.lemmas.List.{append-nil, append_assoc, drop_all, map-append}
 use Rattle.std.proofs.lemmas.Option.{slice_get_past}
 use Rattle.at_base.specs.declared.outs.Outs.{Outs}
-use Rattle.at_model.specs.Order.{IdsRise}
+use Rattle.model_laws.specs.Order.{IdsRise}
 use Rattle.at_model.specs.World.{World, Node, Posted, WorldEvent, nth, new_node, new_nodes, node_of, put_nth, run_of, run_on, opening, world_step}
 use Rattle.world_laws.specs.declared.event.WorldEvent.{WorldEvent as Given}
 use Rattle.world_laws.specs.Events.{event_of}

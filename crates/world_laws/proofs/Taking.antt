@@ -4,7 +4,7 @@ use Rattle.at_base.specs.declared.record.Record.{Record}
 use Rattle.at_base.specs.declared.event.Event.{Event}
 use Rattle.at_base.specs.declared.outs.Outs.{Outs}
 use Rattle.at_model.specs.Book.{Book}
-use Rattle.at_model.specs.Order.{IdsRise, IsInOrder}
+use Rattle.model_laws.specs.Order.{IdsRise, IsInOrder}
 use Rattle.at_model.specs.Step.{plan}
 use Rattle.interposition.specs.Doing.{done, recorded, sent}
 use Rattle.interposition.specs.Planning.{planned}

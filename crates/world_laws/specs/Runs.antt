@@ -4,7 +4,7 @@ use Rattle.std.specs.List.{AllByRecursion}
 use Rattle.at_base.specs.declared.event.Local.{Local}
 use Rattle.at_model.specs.Activities.{Refusal}
 use Rattle.at_model.specs.Book.{Book}
-use Rattle.at_model.specs.Order.{IsInOrder}
+use Rattle.model_laws.specs.Order.{IsInOrder}
 use Rattle.at_model.specs.Step.{refuses}
 use Rattle.at_model.specs.World.{World, Node, WorldEvent, Turn, Ask, Crash, Up, Deliver, Tick, Raw, nth, run_of}
 use Rattle.world_laws.specs.declared.event.WorldEvent.{WorldEvent as Given}

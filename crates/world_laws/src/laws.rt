@@ -2,7 +2,7 @@
 
 ghost use Rattle.world_laws.specs.Steps.{ChangesByOutcomes};
 
-use at_model::rules::ids_rise;
+use model_laws::rules::ids_rise;
 
 /// An event at which nothing fails changes a world by the outcomes of its steps, and by nothing else.
 pub fn changes_by_outcomes()

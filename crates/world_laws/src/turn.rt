@@ -2,7 +2,7 @@
 
 ghost use Rattle.std.specs.Prelude.{ℕ, ◌≡◌, ◌++◌, ◌∷◌, [], IfOk, OnOk, map, None, option_copied, true};
 ghost use Rattle.at_base.specs.declared.outs.Out.TheVariants as given;
-ghost use Rattle.at_model.specs.Order.{IsInOrder, IsRising};
+ghost use Rattle.model_laws.specs.Order.{IsInOrder, IsRising};
 ghost use Rattle.at_model.specs.Step.{items_of, plan};
 ghost use Rattle.at_model.specs.World.{arrival_plan};
 ghost use Rattle.interposition.specs.Doing.{done, recorded, sent};
@@ -14,7 +14,7 @@ use crate::posted::Steps;
 use at_base::event::{Arrived, Event, Item};
 use at_base::outs::{Effects, Out, OutList, Outs};
 use at_base::record::Record;
-use at_model::rules::ids_rise;
+use model_laws::rules::ids_rise;
 use interposition::book::{Book, finds_the_due, steps_as_the_model, walks_the_due};
 use std::alloc::{AllocError, Global};
 

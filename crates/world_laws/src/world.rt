@@ -2,9 +2,9 @@
 
 ghost use Rattle.std.specs.Prelude.{ℕ, ◌≡◌, ◌<◌, ◌≤◌, ◌++◌, ◌∷◌, [], IfOk, map, length, option_map, option_copied};
 ghost use Rattle.std.specs.List.{AllByRecursion};
-ghost use Rattle.at_model.specs.Agreement.{HasOneSuperior};
-ghost use Rattle.at_model.specs.Drawn.{AreApart};
-ghost use Rattle.at_model.specs.Made.{made_on};
+ghost use Rattle.model_laws.specs.Agreement.{HasOneSuperior};
+ghost use Rattle.model_laws.specs.Drawn.{AreApart};
+ghost use Rattle.model_laws.specs.Made.{made_on};
 ghost use Rattle.at_model.specs.World.{nth, opening, run_of, world_step};
 ghost use Rattle.completion_at.specs.Names.{refusal_of};
 ghost use Rattle.world_laws.specs.Events.{event_of};
@@ -16,9 +16,8 @@ use crate::laws::changes_by_outcomes;
 use crate::posted::{NodeEffect, Posted, Steps};
 use crate::scene::Scene;
 use at_base::event::Local;
-use at_model::rules::{ids_rise, makes_no_id_twice};
 use completion_at::requests::Refusal;
-use run_rules::enlists_under_one;
+use model_laws::rules::{enlists_under_one, ids_rise, makes_no_id_twice};
 use std::alloc::{AllocError, Global};
 use std::marker::Model;
 

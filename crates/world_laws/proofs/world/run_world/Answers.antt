@@ -1,6 +1,6 @@
 use Rattle.std.specs.Prelude.{map}
 use Rattle.std.proofs.Common.{arith, subst, sym}
-use Rattle.at_model.specs.Agreement.{HasOneSuperior}
+use Rattle.model_laws.specs.Agreement.{HasOneSuperior}
 use Rattle.world_laws.specs.Events.{event_of}
 use Rattle.world_laws.proofs.world.run_world.Goals as goal
 

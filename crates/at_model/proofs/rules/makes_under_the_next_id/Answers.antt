@@ -1,5 +1,0 @@
-use Rattle.at_model.proofs.Making.{makes_under_the_next_id}
-use Rattle.at_model.proofs.rules.makes_under_the_next_id.Goals as goal
-
-pub returns : goal.returns
-returns c = makes_under_the_next_id

@@ -1,5 +1,0 @@
-use Rattle.at_model.proofs.OneByOne.{relates_to_is_compared}
-use Rattle.at_model.proofs.steps.relates_to_is_compared.Goals as goal
-
-pub returns : goal.returns
-returns c = relates_to_is_compared

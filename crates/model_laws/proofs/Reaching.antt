@@ -1,0 +1,448 @@
+-- Every run leads to a world that is reached step by step.
+use Rattle.std.specs.Prelude.{ℕ, List, [], ◌∷◌, ◌++◌, Option, Some, None, Bool, true, false, nat_eq, nat_lt, ◌&&◌, ◌+◌, ◌-◌, if◌then◌else◌, map, ◌≡◌, ◌<◌, refl}
+use Rattle.std.specs.List.{AllByRecursion}
+use Rattle.std.proofs.Common.{inl, inr, sym, subst, ap, ◌∙◌}
+use Rattle.std.proofs.lemmas.Bool.{eqb-true, ltb-true}
+use Rattle.std.proofs.lemmas.List.{append-nil}
+use Rattle.at_base.specs.declared.record.Record.{Record}
+use Rattle.at_base.specs.declared.event.Arrived.{Arrived}
+use Rattle.at_base.specs.declared.event.Item.{Item}
+use Rattle.at_base.specs.declared.event.Local.{Local}
+use Rattle.at_base.specs.declared.event.Event.{Event}
+use Rattle.at_base.specs.declared.event.Event.TheVariants as events
+use Rattle.at_base.specs.declared.outs.Post.{Post}
+use Rattle.at_base.specs.declared.outs.Out.{Out}
+use Rattle.at_base.specs.declared.outs.Out.TheVariants as outs
+use Rattle.at_model.specs.Book.{Book, last_counter}
+use Rattle.at_model.specs.Recover.{recover, last_incarnation}
+use Rattle.at_model.specs.Step.{Outcome, Plan, still, items_of, plan, is_due, step}
+use Rattle.at_model.specs.World.{Node, Posted, World, WorldEvent, Turn, Ask, Crash, Up, Input, Deliver, Tick, Raw, Turning, nth, put_nth, opening, with_post, decoded, is_stopped, fate, fates_left, one_nearer, after_fate, sent, send_all, accepted_in, happened_at, counted, with_record, landed_step, absent_step, step_by, take_step, due_step, due_steps, put_book, goes_down, lost_in, turned, turn_from, take_turn, ticked, later, answer_plan, arrival_plan, is_receiver, deliver, turn, ask, started, up_after, start, on_book, down_only, at_node, at_some_node, node_of, world_step, run_on}
+use Rattle.model_laws.specs.Agreement.{IsIn}
+use Rattle.model_laws.specs.Behind.{IsInPhase}
+use Rattle.model_laws.specs.Drawn.{restarted, with_entry}
+use Rattle.model_laws.specs.Order.{IsInOrder}
+use Rattle.model_laws.specs.Reached.{Heard, post_all, counts, Reached, opened, stepped, fell, rose, waited, RunsAreReached}
+use Rattle.model_laws.proofs.Deciding.{IfThere}
+use Rattle.model_laws.proofs.Enlisting.{none_new}
+use Rattle.model_laws.proofs.Nodes.{put_put, put_same, each_put, same_bases, bases_back, bases_put, receiver_same, accepted_same}
+use Rattle.model_laws.proofs.Ordering.{ids_rise}
+use Rattle.model_laws.proofs.Running.{put_this, opening_node}
+use Rattle.model_laws.proofs.Standing.{decides_behind_every_answer}
+
+posted_nodes : (n : ℕ) (ps : List Post) (w : World) → (post_all n ps w).nodes ≡ w.nodes
+posted_nodes n [] w = refl
+posted_nodes n (p ∷ ps) w = posted_nodes n ps (with_post n p w)
+
+-- what holds of a node's records and its book, while it is up: an empty journal, a step, a fall, and a start
+pub record NodeLaw : Type 1 where
+  pub Good : List Record → Option Book → Type 0
+  pub opens : Good [] None
+  pub steps : (rs : List Record) (b : Book) (e : Event) (now : ℕ) (landed : Bool) → Good rs (Some b) → Good (with_entry (plan b e now).entry landed rs) (Some (step b e now landed).book)
+  pub falls : (rs : List Record) (b : Book) → Good rs (Some b) → Good rs None
+  pub rises : (base : List ℕ) (rs : List Record) → last_incarnation rs < last_counter → Good rs None → Good (restarted rs) (Some (recover base (restarted rs)))
+
+pub nodes_hold : (l : NodeLaw) (count : ℕ) (w : World) → Reached count w → (n : ℕ) (x : Node) → nth n w.nodes ≡ Some x → l.Good x.journal x.book
+nodes_hold l count w (opened is) n x found =
+    subst (λ (y : Node). l.Good y.journal y.book) (sym (opening_node count n x (ap (λ (v : World). nth n v.nodes) (sym is) ∙ found))) l.opens
+nodes_hold l count w (stepped u n x b e now landed ps reached found up heard posts is) m y f =
+    each_put (λ k z. l.Good z.journal z.book) u.nodes n x
+    (record x { book = Some (step b e now landed).book; journal = with_entry (plan b e now).entry landed x.journal }) found
+    (l.steps x.journal b e now landed (subst (l.Good x.journal) up (nodes_hold l count u reached n x found))) (λ k z i r. nodes_hold l count u reached k z r) m y
+    (sym (ap (nth m) (ap (λ (v : World). v.nodes) is ∙ posted_nodes n ps (counts u n x b e now landed))) ∙ f)
+nodes_hold l count w (fell u n x b reached found up is) m y f =
+    each_put (λ k z. l.Good z.journal z.book) u.nodes n x (record x { book = None }) found
+    (l.falls x.journal b (subst (l.Good x.journal) up (nodes_hold l count u reached n x found))) (λ k z i r. nodes_hold l count u reached k z r) m y
+    (sym (ap (λ (v : World). nth m v.nodes) (is ∙ ap (put_book n None (record u { happened = u.happened ++ lost_in n b })) found)) ∙ f)
+nodes_hold l count w (rose u n x stop reached found down small is) m y f =
+    each_put (λ k z. l.Good z.journal z.book) u.nodes n x (up_after (started (last_incarnation x.journal + 1) x) stop) found
+    (by_stop stop (risen x.book refl down (nodes_hold l count u reached n x found))) (λ k z i r. nodes_hold l count u reached k z r) m y
+    (sym (ap (λ (v : World). nth m v.nodes) is) ∙ f)
+  where
+    risen : (o : Option Book) → x.book ≡ o → o ≡ None → l.Good x.journal o → l.Good (restarted x.journal) (Some (recover x.base (restarted x.journal)))
+    risen o e d h = l.rises x.base x.journal small (subst (l.Good x.journal) d h)
+
+    by_stop : (s : Bool) → l.Good (restarted x.journal) (Some (recover x.base (restarted x.journal))) → l.Good (restarted x.journal) (up_after (started (last_incarnation x.journal + 1) x) s).book
+    by_stop true h = l.falls (restarted x.journal) (recover x.base (restarted x.journal)) h
+    by_stop false h = h
+nodes_hold l count w (waited u n x clock reached found is) m y f =
+    each_put (λ k z. l.Good z.journal z.book) u.nodes n x (record x { clock = clock }) found (nodes_hold l count u reached n x found)
+    (λ k z i r. nodes_hold l count u reached k z r) m y
+    (sym (ap (λ (v : World). nth m v.nodes) is) ∙ f)
+
+-- what a start gives and each step keeps holds of each book
+book_law : (P : Book → Type 0) → ((base : List ℕ) (rs : List Record) → P (recover base (restarted rs))) → ((b : Book) (e : Event) (now : ℕ) (landed : Bool) → P b → P (step b e now landed).book)
+    → NodeLaw
+book_law P starts stays = record {
+  Good = λ rs o. IfThere P o;
+  opens = tt;
+  steps = λ rs b e now landed h. stays b e now landed h;
+  falls = λ rs b h. tt;
+  rises = λ base rs small h. starts base rs;
+}
+
+-- the lists of each book are in order
+pub in_order : (count : ℕ) (w : World) → Reached count w → (n : ℕ) (x : Node) → nth n w.nodes ≡ Some x → IfThere IsInOrder x.book
+unfolding book_law
+in_order count w reached n x found = nodes_hold (book_law IsInOrder ids_rise.started ids_rise.stays) count w reached n x found
+
+-- each book stands behind the answers of its phases
+pub in_phase : (count : ℕ) (w : World) → Reached count w → (n : ℕ) (x : Node) → nth n w.nodes ≡ Some x → IfThere IsInPhase x.book
+unfolding book_law
+in_phase count w reached n x found =
+    nodes_hold (book_law IsInPhase (λ base rs. decides_behind_every_answer.recovered base (restarted rs)) decides_behind_every_answer.book) count w reached n x found
+
+-- the world of a turn, in which the node holds the book of the turn
+abbrev newest : ℕ → Node → Turning → World
+newest n x r = record r.world { nodes = put_nth n (record x { book = Some r.book }) r.world.nodes }
+
+record TurnReached (count n : ℕ) (r : Turning) : Type 0 where
+  node : Node
+  found : nth n r.world.nodes ≡ Some node
+  reached : Reached count (newest n node r)
+
+-- what is sent
+record Sends (n : ℕ) (os : List Out) (x : Node) (r t : Turning) : Type 0 where
+  ps : List Post
+  of : AllByRecursion (λ p. IsIn (outs.Post p) os) ps
+  same : t.book ≡ r.book
+  nodes : t.world.nodes ≡ r.world.nodes
+  is : newest n x t ≡ post_all n ps (newest n x r)
+
+more_of : (o : Out) (os : List Out) (ps : List Post) → AllByRecursion (λ p. IsIn (outs.Post p) os) ps → AllByRecursion (λ p. IsIn (outs.Post p) (o ∷ os)) ps
+more_of o os [] h = tt
+more_of o os (p ∷ ps) (h, k) = (inr h, more_of o os ps k)
+
+posted_newest : (n : ℕ) (p : Post) (x : Node) (w : World) (b : Book) → nth n w.nodes ≡ Some x
+    → record (with_post n p w) { nodes = put_nth n (record x { book = Some b }) w.nodes } ≡ with_post n p (record w { nodes = put_nth n (record x { book = Some b }) w.nodes })
+posted_newest n p x w b found = λ i. record w {
+  nodes = put_nth n (record x { book = Some b }) w.nodes;
+  posted = w.posted ++ record {
+    sender = n;
+    receiver = sym (receiver_same (put_nth n (record x { book = Some b }) w.nodes) w.nodes p.to
+        (bases_put w.nodes w.nodes n x (record x { book = Some b }) found refl (same_bases w.nodes))) i;
+    content = p;
+  } ∷ [];
+}
+
+sends_none : (n : ℕ) (o : Out) (os : List Out) (x : Node) (r t : Turning) → Sends n os x (after_fate r) t → Sends n (o ∷ os) x r t
+sends_none n o os x r t h = record { ps = h.ps; of = more_of o os h.ps h.of; same = h.same; nodes = h.nodes; is = h.is }
+
+sends_one : (n : ℕ) (p : Post) (os : List Out) (x : Node) (r t : Turning) → nth n r.world.nodes ≡ Some x → Sends n os x (record (after_fate r) { world = with_post n p r.world }) t
+    → Sends n (outs.Post p ∷ os) x r t
+sends_one n p os x r t found h = record {
+  ps = p ∷ h.ps;
+  of = (inl refl, more_of (outs.Post p) os h.ps h.of);
+  same = h.same;
+  nodes = h.nodes;
+  is = h.is ∙ ap (post_all n h.ps) (posted_newest n p x r.world r.book found);
+}
+
+sends : (n : ℕ) (os : List Out) (x : Node) (r : Turning) → nth n r.world.nodes ≡ Some x → Sends n os x r (send_all n os r)
+sends n [] x r found = record { ps = []; of = tt; same = refl; nodes = refl; is = refl }
+sends n (o ∷ os) x r found = by_stop (λ t f. sends n os x t f) (is_stopped r) (fate r.fates) o
+  where
+    by_stop : ((t : Turning) → nth n t.world.nodes ≡ Some x → Sends n os x t (send_all n os t)) → (s f : Bool) (a : Out)
+        → Sends n (a ∷ os) x r (if s then r else send_all n os (record (after_fate r) { world = sent n f a r.world }))
+    by_stop rest true f a = record { ps = []; of = tt; same = refl; nodes = refl; is = refl }
+    by_stop rest false true (outs.Post p) =
+        sends_one n p os x r (send_all n os (record (after_fate r) { world = with_post n p r.world })) found (rest (record (after_fate r) { world = with_post n p r.world }) found)
+    by_stop rest false true (outs.Answer status reply) = sends_none n (outs.Answer status reply) os x r (send_all n os (after_fate r)) (rest (after_fate r) found)
+    by_stop rest false false a = sends_none n a os x r (send_all n os (after_fate r)) (rest (after_fate r) found)
+
+-- A step that counts; its record, if any, stands in the journal.
+counted_reached : (count n : ℕ) (r : Turning) (x : Node) (e : Event) (now : ℕ) (landed : Bool) (entry : Option Record) (o : Outcome) (fates : List Bool) (until : Option ℕ)
+    → nth n r.world.nodes ≡ Some x → Reached count (newest n x r) → Heard (newest n x r) n x e → (plan r.book e now).entry ≡ entry → step r.book e now landed ≡ o
+    → TurnReached count n (counted n o (record {
+      world = record r.world { nodes = put_nth n (record x { journal = with_entry entry landed x.journal }) r.world.nodes };
+      book = r.book;
+      fates = fates;
+      until = until;
+    }))
+counted_reached count n r x e now landed entry o fates until found reached heard entry_is is = record {
+  node = y;
+  found = ap (nth n) sent.nodes ∙ stands;
+  reached = stepped (newest n x r) n (record x { book = Some r.book }) r.book e now landed sent.ps reached
+      (put_this r.world.nodes n x (record x { book = Some r.book }) found) refl heard
+      (subst (λ (q : Outcome). AllByRecursion (λ p. IsIn (outs.Post p) q.outs) sent.ps) (sym is) sent.of)
+      (sent.is ∙ ap (post_all n sent.ps) (before ∙ ap (λ q. now_counts q) (sym is) ∙ ap entered (sym entry_is)));
+}
+  where
+    y : Node
+    y = record x { journal = with_entry entry landed x.journal }
+
+    begun : Turning
+    begun = record {
+      world = record r.world {
+        nodes = put_nth n y r.world.nodes;
+        accepted = r.world.accepted ++ accepted_in n (put_nth n y r.world.nodes) r.book o.book.transactions;
+        happened = r.world.happened ++ map (happened_at n) o.effects;
+      };
+      book = o.book;
+      fates = fates;
+      until = until;
+    }
+
+    stands : nth n begun.world.nodes ≡ Some y
+    stands = put_this r.world.nodes n x y found
+
+    sent : Sends n o.outs y begun (send_all n o.outs begun)
+    sent = sends n o.outs y begun stands
+
+    now_counts : Outcome → World
+    now_counts q = record r.world {
+      nodes = put_nth n (record x { book = Some q.book; journal = with_entry entry landed x.journal }) (put_nth n (record x { book = Some r.book }) r.world.nodes);
+      accepted = r.world.accepted ++ accepted_in n (put_nth n (record x { book = Some r.book }) r.world.nodes) r.book q.book.transactions;
+      happened = r.world.happened ++ map (happened_at n) q.effects;
+    }
+
+    entered : Option Record → World
+    entered rec = record r.world {
+      nodes = put_nth n (record x { book = Some (step r.book e now landed).book; journal = with_entry rec landed x.journal }) (put_nth n (record x { book = Some r.book }) r.world.nodes);
+      accepted = r.world.accepted ++ accepted_in n (put_nth n (record x { book = Some r.book }) r.world.nodes) r.book (step r.book e now landed).book.transactions;
+      happened = r.world.happened ++ map (happened_at n) (step r.book e now landed).effects;
+    }
+
+    before : newest n y begun ≡ now_counts o
+    before = λ i. record r.world {
+      nodes = (put_put n y (record y { book = Some o.book }) r.world.nodes ∙ sym (put_put n (record x { book = Some r.book }) (record y { book = Some o.book }) r.world.nodes)) i;
+      accepted = r.world.accepted ++ accepted_same n (put_nth n y r.world.nodes) (put_nth n (record x { book = Some r.book }) r.world.nodes) r.book o.book.transactions
+          (bases_put r.world.nodes (put_nth n (record x { book = Some r.book }) r.world.nodes) n x y found refl
+          (bases_back (put_nth n (record x { book = Some r.book }) r.world.nodes) r.world.nodes
+          (bases_put r.world.nodes r.world.nodes n x (record x { book = Some r.book }) found refl (same_bases r.world.nodes)))) i;
+      happened = r.world.happened ++ map (happened_at n) o.effects;
+    }
+
+-- nothing moved but the fates
+same_reached : (count n : ℕ) (r t : Turning) → t.book ≡ r.book → t.world ≡ r.world → TurnReached count n r → TurnReached count n t
+same_reached count n r t e f h = record {
+  node = h.node;
+  found = ap (λ (w : World). nth n w.nodes) f ∙ h.found;
+  reached = subst (Reached count) (λ i. record (sym f i) { nodes = put_nth n (record h.node { book = Some (sym e i) }) (sym f i).nodes }) h.reached;
+}
+
+-- a step of a turn, of an event that came
+record TurnHears (count n : ℕ) (r : Turning) (e : Event) : Type 0 where
+  at : TurnReached count n r
+  heard : Heard (newest n at.node r) n at.node e
+
+still_there : (count n : ℕ) (r t : Turning) (x : Node) (o : Outcome) → nth n r.world.nodes ≡ Some x
+    → TurnReached count n (counted n o (record t { world = record r.world { nodes = put_nth n x r.world.nodes } })) → TurnReached count n (counted n o (record t { world = r.world }))
+still_there count n r t x o found h =
+    subst (λ xs. TurnReached count n (counted n o (record t { world = record r.world { nodes = xs } }))) (put_same n x r.world.nodes found) h
+
+absent_reached : (count n : ℕ) (r : Turning) (e : Event) (now : ℕ) (entry : Record) → TurnHears count n r e → (plan r.book e now).entry ≡ Some entry
+    → TurnReached count n (absent_step n (plan r.book e now) r)
+absent_reached count n r e now entry h f = by_stop (is_stopped (after_fate r))
+  where
+    by_stop : (b : Bool) → TurnReached count n (if b then after_fate r else counted n (plan r.book e now).absent (after_fate r))
+    by_stop true = same_reached count n r (after_fate r) refl refl h.at
+    by_stop false =
+        still_there count n r (after_fate r) h.at.node (plan r.book e now).absent h.at.found
+        (counted_reached count n r h.at.node e now false (Some entry) (plan r.book e now).absent (fates_left r.fates) (one_nearer r.until) h.at.found h.at.reached h.heard f refl)
+
+landed_reached : (count n : ℕ) (r : Turning) (e : Event) (now : ℕ) (entry : Record) → TurnHears count n r e → (plan r.book e now).entry ≡ Some entry
+    → TurnReached count n (landed_step n entry (plan r.book e now) r)
+landed_reached count n r e now entry h f =
+    subst (λ w. TurnReached count n (counted n (plan r.book e now).landed (record (after_fate r) { world = w })))
+    (sym (ap (with_record n entry r.world) h.at.found))
+    (counted_reached count n r h.at.node e now true (Some entry) (plan r.book e now).landed (fates_left r.fates) (one_nearer r.until) h.at.found h.at.reached h.heard f refl)
+
+entry_reached : (count n : ℕ) (r : Turning) (e : Event) (now : ℕ) (entry : Option Record) → TurnHears count n r e → (plan r.book e now).entry ≡ entry
+    → TurnReached count n (step_by n entry (plan r.book e now) r)
+entry_reached count n r e now None h f =
+    still_there count n r r h.at.node (plan r.book e now).landed h.at.found
+    (counted_reached count n r h.at.node e now true None (plan r.book e now).landed r.fates r.until h.at.found h.at.reached h.heard f refl)
+entry_reached count n r e now (Some entry) h f = by_fate (fate r.fates)
+  where
+    by_fate : (b : Bool) → TurnReached count n (if b then landed_step n entry (plan r.book e now) r else absent_step n (plan r.book e now) r)
+    by_fate true = landed_reached count n r e now entry h f
+    by_fate false = absent_reached count n r e now entry h f
+
+take_reached : (count n : ℕ) (r : Turning) (e : Event) (now : ℕ) → TurnHears count n r e → TurnReached count n (take_step n (plan r.book e now) r)
+take_reached count n r e now h = by_stop (is_stopped r)
+  where
+    by_stop : (b : Bool) → TurnReached count n (if b then r else step_by n (plan r.book e now).entry (plan r.book e now) r)
+    by_stop true = h.at
+    by_stop false = entry_reached count n r e now (plan r.book e now).entry h refl
+
+-- an answer alone
+answer_reached : (count n : ℕ) (r : Turning) (status : ℕ) → TurnReached count n r → TurnReached count n (take_step n (answer_plan r.book status) r)
+answer_reached count n r status h = by_stop (is_stopped r)
+  where
+    order : IsInOrder r.book
+    order = in_order count (newest n h.node r) h.reached n (record h.node { book = Some r.book }) (put_this r.world.nodes n h.node (record h.node { book = Some r.book }) h.found)
+
+    same : record r.world {
+      accepted = r.world.accepted ++ accepted_in n r.world.nodes r.book r.book.transactions;
+      happened = r.world.happened ++ [];
+    } ≡ r.world
+    same = λ i. record r.world {
+      accepted = (ap (λ xs. r.world.accepted ++ xs) (none_new r.world.nodes r.book order n) ∙ append-nil r.world.accepted) i;
+      happened = append-nil r.world.happened i;
+    }
+
+    begun : Turning
+    begun = record r {
+      world = record r.world {
+        accepted = r.world.accepted ++ accepted_in n r.world.nodes r.book r.book.transactions;
+        happened = r.world.happened ++ [];
+      };
+    }
+
+    by_fate : (s : Bool) → TurnReached count n (if s then begun else record (after_fate begun) { world = sent n (fate begun.fates) (outs.Answer status None) begun.world })
+    by_fate true = same_reached count n r begun refl same h
+    by_fate false = answered (fate begun.fates)
+      where
+        answered : (f : Bool) → TurnReached count n (record (after_fate begun) { world = sent n f (outs.Answer status None) begun.world })
+        answered true = same_reached count n r (after_fate begun) refl same h
+        answered false = same_reached count n r (after_fate begun) refl same h
+
+    by_stop : (b : Bool) → TurnReached count n (if b then r else counted n (still r.book (outs.Answer status None ∷ [])) r)
+    by_stop true = h
+    by_stop false = by_fate (is_stopped begun)
+
+arrival_reached : (count n : ℕ) (r : Turning) (now : ℕ) (a : Option Arrived) → (h : TurnReached count n r)
+    → ((y : Arrived) → a ≡ Some y → Heard (newest n h.node r) n h.node (events.Arrived y)) → TurnReached count n (take_step n (arrival_plan r.book now a) r)
+arrival_reached count n r now None h heard = answer_reached count n r 500 h
+arrival_reached count n r now (Some a) h heard = take_reached count n r (events.Arrived a) now (record { at = h; heard = heard a refl })
+
+-- the due steps
+due_reached : (count n now : ℕ) (item : Item) (r : Turning) → TurnReached count n r → TurnReached count n (due_step n now item r)
+due_reached count n now item r h = by_due (is_due r.book now item)
+  where
+    by_due : (b : Bool) → TurnReached count n (if b then take_step n (plan r.book (events.Due item) now) r else r)
+    by_due true = take_reached count n r (events.Due item) now (record { at = h; heard = tt })
+    by_due false = h
+
+dues_reached : (count n now : ℕ) (items : List Item) (r : Turning) → TurnReached count n r → TurnReached count n (due_steps n now items r)
+dues_reached count n now [] r h = h
+dues_reached count n now (item ∷ rest) r h = dues_reached count n now rest (due_step n now item r) (due_reached count n now item r h)
+
+-- a turn is over
+turned_reached : (count n : ℕ) (t : Turning) → TurnReached count n t → Reached count (turned n t)
+turned_reached count n t h = by_stop (is_stopped t)
+  where
+    up : Node
+    up = record h.node { book = Some t.book }
+
+    lost : World
+    lost = record (newest n h.node t) { happened = t.world.happened ++ lost_in n t.book }
+
+    by_stop : (b : Bool) → Reached count (if b then goes_down n t.book t.world else put_book n (Some t.book) t.world (nth n t.world.nodes))
+    by_stop true =
+        fell (newest n h.node t) n up t.book h.reached (put_this t.world.nodes n h.node up h.found) refl
+        (ap (put_book n None (record t.world { happened = t.world.happened ++ lost_in n t.book })) h.found
+        ∙ (λ i. record t.world {
+          nodes = sym (put_put n up (record up { book = None }) t.world.nodes) i;
+          happened = t.world.happened ++ lost_in n t.book;
+        })
+        ∙ sym (ap (put_book n None lost) (put_this t.world.nodes n h.node up h.found)))
+    by_stop false = subst (Reached count) (sym (ap (put_book n (Some t.book) t.world) h.found)) h.reached
+
+turn_reached : (count n now : ℕ) (p : Plan) (r : Turning) → TurnReached count n (take_step n p r) → Reached count (take_turn n now p r)
+turn_reached count n now p r h =
+    turned_reached count n (due_steps n now (items_of (take_step n p r).book) (take_step n p r)) (dues_reached count n now (items_of (take_step n p r).book) (take_step n p r) h)
+
+-- a turn begins with the world as it is
+begins : (count : ℕ) (w : World) (n : ℕ) (x : Node) (b : Book) → nth n w.nodes ≡ Some x → x.book ≡ Some b
+    → w ≡ record w { nodes = put_nth n (record x { book = Some b }) w.nodes }
+begins count w n x b found up = λ i. record w {
+  nodes = (sym (put_same n x w.nodes found) ∙ ap (λ o. put_nth n (record x { book = o }) w.nodes) up) i;
+}
+
+turn_begins : (count : ℕ) (w : World) (n : ℕ) (x : Node) (b : Book) (fates : List Bool) (until : Option ℕ) → Reached count w → nth n w.nodes ≡ Some x → x.book ≡ Some b
+    → TurnReached count n (turn_from w b fates until)
+turn_begins count w n x b fates until h found up = record { node = x; found = found; reached = subst (Reached count) (begins count w n x b found up) h }
+
+is_in_list : {A : Type 0} (k : ℕ) (x : A) (xs : List A) → nth k xs ≡ Some x → IsIn x xs
+is_in_list k x [] e = absurd cc
+is_in_list k x (y ∷ xs) e = by_number (λ f. is_in_list (k - 1) x xs f) (nat_eq k 1) e
+  where
+    by_number : (nth (k - 1) xs ≡ Some x → IsIn x xs) → (c : Bool) → (if c then Some y else nth (k - 1) xs) ≡ Some x → IsIn x (y ∷ xs)
+    by_number rest true f = inl cc
+    by_number rest false f = inr (rest f)
+
+receives : (n : ℕ) (o : Option ℕ) → is_receiver n o ≡ true → o ≡ Some n
+receives n None e = absurd cc
+receives n (Some m) e = ap Some (eqb-true m n e)
+
+delivered_reached : (count : ℕ) (w : World) (n : ℕ) (x : Node) (b : Book) (fates : List Bool) (until : Option ℕ) (k : ℕ) → Reached count w → nth n w.nodes ≡ Some x → x.book ≡ Some b
+    → (o : Option Posted) → nth k w.posted ≡ o → Reached count (deliver n x b fates until o w)
+unfolding turn_begins
+delivered_reached count w n x b fates until k h found up None e = h
+delivered_reached count w n x b fates until k h found up (Some p) e = by_receiver (is_receiver n p.receiver) refl
+  where
+    by_receiver : (c : Bool) → is_receiver n p.receiver ≡ c
+        → Reached count (if c then take_turn n x.clock (arrival_plan b x.clock (decoded x.base p.content)) (turn_from w b fates until) else w)
+    by_receiver true f =
+        turn_reached count n x.clock (arrival_plan b x.clock (decoded x.base p.content)) (turn_from w b fates until)
+        (arrival_reached count n (turn_from w b fates until) x.clock (decoded x.base p.content) (turn_begins count w n x b fates until h found up)
+        (λ a g. (p, is_in_list k p w.posted e, receives n p.receiver f, g)))
+    by_receiver false f = h
+
+ticked_reached : (count : ℕ) (w : World) (n : ℕ) (x : Node) (ms : ℕ) → Reached count w → nth n w.nodes ≡ Some x → Reached count (ticked n (later ms x) w)
+ticked_reached count w n x ms h found = waited w n x (x.clock + ms) h found refl
+
+input_reached : (count : ℕ) (w : World) (n : ℕ) (x : Node) (b : Book) (input : Input) (fates : List Bool) (until : Option ℕ) → Reached count w → nth n w.nodes ≡ Some x
+    → x.book ≡ Some b → Reached count (turn n input fates until x b w)
+input_reached count w n x b (Deliver k) fates until h found up = delivered_reached count w n x b fates until k h found up (nth k w.posted) refl
+input_reached count w n x b (Tick ms) fates until h found up =
+    turn_reached count n (x.clock + ms) (answer_plan b 202) (turn_from (ticked n (later ms x) w) b fates until)
+    (answer_reached count n (turn_from (ticked n (later ms x) w) b fates until) 202
+    (turn_begins count (ticked n (later ms x) w) n (later ms x) b fates until (ticked_reached count w n x ms h found) (put_this w.nodes n x (later ms x) found) up))
+input_reached count w n x b Raw fates until h found up =
+    turn_reached count n x.clock (answer_plan b 400) (turn_from w b fates until)
+    (answer_reached count n (turn_from w b fates until) 400 (turn_begins count w n x b fates until h found up))
+
+asked_reached : (count : ℕ) (w : World) (n : ℕ) (x : Node) (b : Book) (l : Local) (fates : List Bool) (until : Option ℕ) → Reached count w → nth n w.nodes ≡ Some x → x.book ≡ Some b
+    → Reached count (ask n l fates until x b w)
+asked_reached count w n x b l fates until h found up =
+    turned_reached count n (take_step n (plan b (events.Local l) x.clock) (turn_from w b fates until))
+    (take_reached count n (turn_from w b fates until) (events.Local l) x.clock (record { at = turn_begins count w n x b fates until h found up; heard = tt }))
+
+started_reached : (count : ℕ) (w : World) (n : ℕ) (x : Node) (landed stop : Bool) → Reached count w → nth n w.nodes ≡ Some x → x.book ≡ None → Reached count (start n landed stop x w)
+started_reached count w n x landed stop h found down = by_landed landed (nat_lt (last_incarnation x.journal) last_counter) refl
+  where
+    by_landed : (a b : Bool) → nat_lt (last_incarnation x.journal) last_counter ≡ b
+        → Reached count (if a && b then record w { nodes = put_nth n (up_after (started (last_incarnation x.journal + 1) x) stop) w.nodes } else w)
+    by_landed true true e = rose w n x stop h found down (ltb-true (last_incarnation x.journal) last_counter e) refl
+    by_landed true false e = h
+    by_landed false b e = h
+
+-- each event
+event_reached : (count : ℕ) (e : WorldEvent) (x : Node) (w : World) → Reached count w → nth (node_of e) w.nodes ≡ Some x → Reached count (at_node e x w)
+event_reached count (Turn n input fates until) x w h found = by_book x.book refl
+  where
+    by_book : (o : Option Book) → x.book ≡ o → Reached count (on_book o (λ b. turn n input fates until x b w) w)
+    by_book None up = h
+    by_book (Some b) up = input_reached count w n x b input fates until h found up
+event_reached count (Ask n l fates until) x w h found = by_book x.book refl
+  where
+    by_book : (o : Option Book) → x.book ≡ o → Reached count (on_book o (λ b. ask n l fates until x b w) w)
+    by_book None up = h
+    by_book (Some b) up = asked_reached count w n x b l fates until h found up
+event_reached count (Crash n) x w h found = by_book x.book refl
+  where
+    by_book : (o : Option Book) → x.book ≡ o → Reached count (on_book o (λ b. goes_down n b w) w)
+    by_book None up = h
+    by_book (Some b) up = fell w n x b h found up refl
+event_reached count (Up n landed stop) x w h found = by_book x.book refl
+  where
+    by_book : (o : Option Book) → x.book ≡ o → Reached count (down_only o (start n landed stop x w) w)
+    by_book None up = started_reached count w n x landed stop h found up
+    by_book (Some b) up = h
+
+step_reached : (count : ℕ) (w : World) (e : WorldEvent) → Reached count w → Reached count (world_step w e)
+unfolding world_step
+step_reached count w e h = by_node (nth (node_of e) w.nodes) refl
+  where
+    by_node : (o : Option Node) → nth (node_of e) w.nodes ≡ o → Reached count (at_some_node e o w)
+    by_node None f = h
+    by_node (Some x) f = event_reached count e x w h f
+
+all_reached : (count : ℕ) (es : List WorldEvent) (w : World) → Reached count w → Reached count (run_on w es)
+all_reached count [] w h = h
+all_reached count (e ∷ es) w h = all_reached count es (world_step w e) (step_reached count w e h)
+
+pub run_reached : RunsAreReached
+run_reached count es = all_reached count es (opening count) (opened refl)

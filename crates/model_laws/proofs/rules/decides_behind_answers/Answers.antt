@@ -1,0 +1,5 @@
+use Rattle.model_laws.proofs.Recording.{decides_behind_answers}
+use Rattle.model_laws.proofs.rules.decides_behind_answers.Goals as goal
+
+pub returns : goal.returns
+returns c = decides_behind_answers

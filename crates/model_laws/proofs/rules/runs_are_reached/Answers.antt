@@ -1,0 +1,5 @@
+use Rattle.model_laws.proofs.Reaching.{run_reached}
+use Rattle.model_laws.proofs.rules.runs_are_reached.Goals as goal
+
+pub returns : goal.returns
+returns c = run_reached

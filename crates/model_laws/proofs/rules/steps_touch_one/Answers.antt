@@ -1,0 +1,5 @@
+use Rattle.model_laws.proofs.Shaping.{steps_touch_one}
+use Rattle.model_laws.proofs.rules.steps_touch_one.Goals as goal
+
+pub returns : goal.returns
+returns c = steps_touch_one

@@ -1,0 +1,5 @@
+use Rattle.model_laws.proofs.OneByOne.{volatile_rollback_answers}
+use Rattle.model_laws.proofs.steps.volatile_rollback_answers.Goals as goal
+
+pub returns : goal.returns
+returns c = volatile_rollback_answers

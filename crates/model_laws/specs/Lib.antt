@@ -1,0 +1,16 @@
+pub mod Examples
+pub mod Agreement
+pub mod Settle
+pub mod Laws
+pub mod Shapes
+pub mod Drawn
+pub mod Order
+pub mod Made
+pub mod Behind
+pub mod Sound
+pub mod Links
+pub mod Singles
+pub mod Rules
+pub mod Enlisted
+pub mod Reached
+pub mod Compacted

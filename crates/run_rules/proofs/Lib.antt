@@ -1,5 +1,0 @@
-pub mod Posting
-pub mod Naming
-pub mod Enlisting
-pub mod Accepting
-pub mod Enrolled
