@@ -112,8 +112,8 @@ Tears file at n old new = (c : Files) → new c → TornFrom file at n old c
 abbrev pub Settled : ℕ → Option Files → (Files → Type 0) → Type 0
 Settled file files images = (c : Files) → images c → (f : Files) × Is files f × (file_of file c ≡ file_of file f)
 
--- of these calls one failed: those before it were done, and none behind it was tried. A call that failed for want of
--- memory wasn't tried either.
+-- of these calls one failed: those before it were done, and none behind it was tried. It is there as failed, or wasn't
+-- tried itself, for want of memory or on a machine that has stopped.
 pub record BreaksOff (calls : List Call) (made : List Made) : Type 0 where
   pub front : List Call
   pub call : Call
