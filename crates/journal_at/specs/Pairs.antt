@@ -1,0 +1,32 @@
+-- What a pair of files stands for.
+use Rattle.std.specs.Prelude.{ℕ, List, ◌≡◌, ◌≤◌, ◌<◌, zero, suc}
+use Rattle.site_model.specs.Told.{Files, file_of, other_than}
+use Rattle.journal_at.specs.declared.version.Version.{Version}
+use Rattle.journal_at.specs.Format.{Closed, FileOf, head_of, records_of}
+
+-- file 1 is live exactly where its generation is the greater one
+abbrev pub IsLive : ℕ → List (List ℕ) → List (List ℕ) → Type 0
+IsLive zero bodies others = (head_of others).generation ≤ (head_of bodies).generation
+IsLive (suc n) bodies others = (head_of others).generation < (head_of bodies).generation
+
+-- the pair stands for the live file's records
+pub record FilesOf (c : Files) (version : Version) (records : List (List ℕ)) : Type 0 where
+  pub live : ℕ
+  pub bodies : List (List ℕ)
+  pub others : List (List ℕ)
+  pub is : FileOf (file_of live c) bodies
+  pub other : FileOf (other_than live c) others
+  pub newer : IsLive live bodies others
+  pub versions : (head_of bodies).version ≡ version
+  pub all : records_of bodies ≡ records
+
+-- the other file is older
+pub record Beside (live : ℕ) (bodies : List (List ℕ)) (other : List ℕ) : Type 0 where
+  pub others : List (List ℕ)
+  pub is : FileOf other others
+  pub newer : IsLive live bodies others
+
+-- the file that is live holds these bodies, up to a gate that is there
+pub record Holds (live : ℕ) (bodies : List (List ℕ)) (c : Files) : Type 0 where
+  pub closed : Closed bodies (file_of live c)
+  pub beside : Beside live bodies (other_than live c)

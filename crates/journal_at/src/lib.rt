@@ -1,0 +1,9 @@
+//! A journal in two files: bodies behind gates, of which any crash leaves all that were appended.
+#![tactic(auto)]
+
+pub mod append;
+pub mod frame;
+pub mod journal;
+pub mod load;
+pub mod read;
+pub mod version;
