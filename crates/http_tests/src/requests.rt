@@ -195,7 +195,7 @@ fn each_request_is_judged(rt: HostRuntime) -> Result<(), Fail> {
 /// A head of so many bytes, and its body.
 fn long_head(alloc: Global, bytes: usize) -> Result<Vec<u8>, AllocError> {
     let mut head = Vec::from_slice(alloc, b"POST / HTTP/1.0\r\nContent-Length: 1\r\na: ")?;
-    while head.len() < bytes.saturating_sub(4) {
+    for _ in head.len()..bytes.saturating_sub(4) {
         head.push(b'b')?;
     }
     head.extend_from_slice(b"\r\n\r\nx")?;

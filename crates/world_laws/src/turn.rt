@@ -14,8 +14,8 @@ use crate::posted::Steps;
 use at_base::event::{Arrived, Event, Item};
 use at_base::outs::{Effects, Out, OutList, Outs};
 use at_base::record::Record;
-use model_laws::rules::ids_rise;
 use interposition::book::{Book, finds_the_due, steps_as_the_model, walks_the_due};
+use model_laws::rules::ids_rise;
 use std::alloc::{AllocError, Global};
 
 /// The answer to what changes nothing.
