@@ -1,5 +1,5 @@
 -- What an error of clap's says of the words.
-use Rattle.std.proofs.Common.{◌≡◌, ◌≢◌, List, [], Bool, true, false, ap, subst, sym, ◌∙◌, inl, inr, IsTrue, ◌⊎◌}
+use Rattle.std.proofs.Common.{◌≡◌, ◌≢◌, ℕ, List, [], ◌∷◌, Option, nat_eq, Bool, true, false, ap, subst, sym, ◌∙◌, inl, inr, IsTrue, ◌⊎◌}
 use Rattle.clap.specs.Faults.{fault_of}
 use Rattle.clap.specs.Kinds.{HasKind, IsAmong, Kinds}
 use Rattle.clap.specs.Values.{kind_of}
@@ -9,7 +9,9 @@ use Rattle.clap.specs.declared.error.kind.ErrorKind.{ErrorKind}
 use Rattle.clap.specs.declared.error.kind.ErrorKind.TheVariants.{OutOfMemory}
 use Rattle.atx.specs.Commands.{whole}
 use Rattle.atx.specs.Jobs.{IsFaulty, IsJob, asks, asks_for}
-use Rattle.atx.specs.Views.{Says, Tells}
+use Rattle.atx.specs.Views.{Says, Tells, statuses_of, told, unknown_state}
+use Rattle.std.specs.List.{list_any}
+use Rattle.std.specs.Io.KnownBytes.{Appends}
 use Rattle.atx.specs.declared.job.NoJob.{NoJob}
 use Rattle.atx.specs.declared.job.NoJob.TheVariants.{NoMemory, Question, Refused, Unread}
 use Rattle.atx.proofs.Purity.{IsPure, fault_is_pure}
@@ -44,3 +46,12 @@ asks_nothing kinds e h = not_true (asks kinds) (ap asks e) h
 
 pub unread : (words : List Text) → fault_of whole words ≡ [] → (IsJob words → ⊥) → Tells words Unread
 unread words e n = ((n, asks_nothing (fault_of whole words) e), e)
+
+-- 2 where clap has no fault: the states are said
+pub unknown_said : (words : List Text) (reason : NoJob) (old new : Option (List ℕ)) (status : ℕ) → Tells words reason
+    → IsTrue (list_any (nat_eq status) (statuses_of reason)) → ((status ≡ 5 → ⊥) → Appends old new (told reason))
+    → status ≡ 2 → fault_of whole words ≡ [] → Appends old new unknown_state
+unknown_said words NoMemory old new status h s t e f = let no_more : IsTrue false = subst (λ n. IsTrue (list_any (nat_eq n) (9 ∷ []))) e s in absurd cc
+unknown_said words (Question text) old new status h s t e f = let no_more : IsTrue false = subst (λ n. IsTrue (list_any (nat_eq n) (0 ∷ 5 ∷ []))) e s in absurd cc
+unknown_said words (Refused text) old new status h s t e f = absurd (h.1 f)
+unknown_said words Unread old new status h s t e f = t (λ five. let no_more : true ≡ false = ap (λ n. nat_eq n 5) (sym five ∙ e) in absurd cc)

@@ -1,5 +1,5 @@
 -- The job that the program's own names, and what stands where the words are none.
-use Rattle.std.specs.Prelude.{ℕ, List, ◌∷◌, [], ◌≡◌, ◌≢◌, true, false}
+use Rattle.std.specs.Prelude.{ℕ, List, string_bytes, ◌∷◌, [], ◌≡◌, ◌≢◌, codes, true, false}
 use Rattle.clap.specs.Faults.{fault_of}
 use Rattle.clap.specs.Walk.{Text}
 use Rattle.clap.specs.declared.error.kind.ErrorKind.{ErrorKind}
@@ -36,10 +36,20 @@ abbrev pub statuses_of : NoJob → List ℕ
 statuses_of none.NoMemory = 9 ∷ []
 statuses_of (none.Question text) = 0 ∷ 5 ∷ []
 statuses_of (none.Refused text) = 2 ∷ 5 ∷ []
-statuses_of none.Unread = 2 ∷ []
+statuses_of none.Unread = 2 ∷ 5 ∷ []
+
+-- the states that there are; clap takes any value for one
+unfoldable pub unknown_state : List ℕ
+unknown_state = codes "error: invalid value for '--state <STATE>'\n  [possible values: None, Registering, Active, Preparing, Prepared, PreparedSuccess, Committing, Aborting, Completing]\n\nFor more information, try '--help'.\n"
+
+-- what is printed of it
+abbrev pub told : NoJob → List ℕ
+told none.NoMemory = []
+told (none.Question text) = string_bytes text
+told (none.Refused text) = string_bytes text
+told none.Unread = unknown_state
 
 -- where nothing is said, this holds
 abbrev pub Leaves : NoJob → Type 0 → Type 0
 Leaves none.NoMemory quiet = quiet
-Leaves none.Unread quiet = quiet
 Leaves _ quiet = Unit {0}

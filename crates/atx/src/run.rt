@@ -8,7 +8,7 @@ ghost use Rattle.clap.specs.Faults.{fault_of};
 ghost use Rattle.atx.specs.Commands.{whole};
 ghost use Rattle.atx.specs.Jobs.{IsFaulty, IsJob, IsJobOf, IsQuestion, Job as Meant};
 ghost use Rattle.atx.specs.Reports.{IsCut, IsDone, IsReport, Reports, status_of};
-ghost use Rattle.atx.specs.Views.{meant, statuses_of, Leaves};
+ghost use Rattle.atx.specs.Views.{meant, statuses_of, told, unknown_state, Leaves};
 
 use crate::job::{Job, NoJob, job_of};
 use crate::replay::replayed;
@@ -65,11 +65,12 @@ fn print<K: Sink>(sink: &mut K, printed: &Printed) -> u8
     }
 }
 
-/// Writes what clap says of the words.
+/// Writes this text, and gives the status.
 fn say<K: Sink>(sink: &mut K, text: &str, status: u8) -> u8
     ensures statuses { IsTrue (list_any (nat_eq result) (status ∷ 5 ∷ [])) }
     ensures cause { result ≡ 5 → status ≢ 5 → Rose (K.faults sink.old) (K.faults sink.new) }
-    ensures said { (said : List ℕ) × Appends (K.contents sink.old) (K.contents sink.new) said }
+    ensures all { result ≢ 5 → Appends (K.contents sink.old) (K.contents sink.new) text.now }
+    ensures part { (n : ℕ) × ((n ≤ length text.now) × Appends (K.contents sink.old) (K.contents sink.new) (take n text.now)) }
 {
     match write_all(sink, text.as_bytes()) {
         Ok(()) => status,
@@ -77,18 +78,28 @@ fn say<K: Sink>(sink: &mut K, text: &str, status: u8) -> u8
     }
 }
 
+/// What is said of a state of another name.
+fn unknown_state() -> &'static str
+    ensures { result.now ≡ unknown_state }
+{
+    "error: invalid value for '--state <STATE>'\n  \
+[possible values: None, Registering, Active, Preparing, Prepared, PreparedSuccess, Committing, Aborting, Completing]\n\n\
+For more information, try '--help'.\n"
+}
+
 /// Says why the words are no job, and gives the status.
 fn tell<K: Sink>(sink: &mut K, reason: &NoJob) -> u8
     ensures statuses { IsTrue (list_any (nat_eq result) (statuses_of reason.now)) }
     ensures cause { result ≡ 5 → Rose (K.faults sink.old) (K.faults sink.new) }
     ensures said { (said : List ℕ) × Appends (K.contents sink.old) (K.contents sink.new) said }
+    ensures told { result ≢ 5 → Appends (K.contents sink.old) (K.contents sink.new) (told reason.now) }
     ensures silent { Leaves reason.now (Appends (K.contents sink.old) (K.contents sink.new) []) }
 {
     match reason {
         NoJob::NoMemory => NO_MEMORY,
         NoJob::Question(text) => say(sink, text.as_str(), DONE),
         NoJob::Refused(text) => say(sink, text.as_str(), NO_JOB),
-        NoJob::Unread => NO_JOB,
+        NoJob::Unread => say(sink, unknown_state(), NO_JOB),
     }
 }
 
@@ -125,13 +136,14 @@ fn work<S: Source, K: Sink>(alloc: Global, job: &Job<'_>, source: &mut S, sink: 
 /// that the cell posts. `check [--path P]` prints what the envelope says, line by line. `replay` reads a schedule, and
 /// prints its report. All that is printed is made in
 /// memory before the first write. `--help` and `--version` are answered without a look at the source, and so are words
-/// that clap refuses: it says why.
+/// that clap refuses: it says why. A state of another name is answered with those that there are. The site stays as it is.
+#[tactic(auto, using(crate::proofs::Words::unknown_said))]
 pub fn run<S: Source, K: Sink, H: Site>(
     alloc: Global,
     words: &[String],
     source: &mut S,
     sink: &mut K,
-    _site: &mut H,
+    site: &mut H,
 ) -> u8
     ensures statuses { IsTrue (list_any (nat_eq result) (0 ∷ 2 ∷ 3 ∷ 4 ∷ 5 ∷ 9 ∷ 10 ∷ [])) }
     ensures words { result ≡ 2 → IsFaulty (map string_bytes words.now) }
@@ -139,7 +151,8 @@ pub fn run<S: Source, K: Sink, H: Site>(
     ensures question { IsQuestion (map string_bytes words.now) → IsTrue (list_any (nat_eq result) (0 ∷ 5 ∷ 9 ∷ [])) }
     ensures unread { ¬ (IsJob (map string_bytes words.now)) → source.new ≡ source.old }
     ensures said { ¬ (IsJob (map string_bytes words.now)) → (said : List ℕ) × Appends (K.contents sink.old) (K.contents sink.new) said }
-    ensures silent { result ≡ 2 → fault_of whole (map string_bytes words.now) ≡ [] → Appends (K.contents sink.old) (K.contents sink.new) [] }
+    ensures unknown { result ≡ 2 → fault_of whole (map string_bytes words.now) ≡ [] → Appends (K.contents sink.old) (K.contents sink.new) unknown_state }
+    ensures untouched { site.new ≡ site.old }
     ensures source_failed { result ≡ 4 → Rose (S.faults source.old) (S.faults source.new) }
     ensures sink_failed { result ≡ 5 → Rose (K.faults sink.old) (K.faults sink.new) }
     ensures too_long { result ≡ 10 → capped (S.given source.old + 1048577) ≤ S.given source.new }

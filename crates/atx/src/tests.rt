@@ -161,6 +161,10 @@ const FAULTY: &[(&str, &str)] = &[
 /// Where the answer to a fault ends.
 const TRY: &str = "\nFor more information, try '--help'.\n";
 
+const UNKNOWN_STATE: &str = "error: invalid value for '--state <STATE>'\n  \
+[possible values: None, Registering, Active, Preparing, Prepared, PreparedSuccess, Committing, Aborting, Completing]\n\n\
+For more information, try '--help'.\n";
+
 const HELP: &str =
     "Atomic transactions between web services (WS-AtomicTransaction 1.2)\n\nUsage: atx <COMMAND>\n\nCommands:\n  \
 cell    Print the cell that an envelope meets in a state, and the envelope that it posts\n  \
@@ -180,7 +184,7 @@ fn words_that_are_no_job(rt: HostRuntime) -> Result<(), Fail> {
         let outcome = prints(rt, line, b"", text.as_str())?;
         assert!(rt; outcome == (2, true));
     }
-    let outcome = prints(rt, "cell --state none", b"", "")?;
+    let outcome = prints(rt, "cell --state none", b"", UNKNOWN_STATE)?;
     assert!(rt; outcome == (2, true));
     Ok(())
 }

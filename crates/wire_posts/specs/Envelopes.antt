@@ -1,6 +1,7 @@
 -- The envelope of each message that is posted (WS-Addressing 1.0 Core, section 3; WS-Coordination 1.2, sections 2 and 3;
 -- WS-AtomicTransaction 1.2, section 3).
 use Rattle.std.specs.Prelude.{◌≡◌, ℕ, List, [], ◌∷◌, Option, Some, None, codes}
+use Rattle.std.specs.Option.{option_map}
 use Rattle.xml_profile.specs.declared.tree.Tree.{Tree}
 use Rattle.xml_profile.specs.Canonical.{canonical_text}
 use Rattle.xml_profile.specs.Forest.Forest.{End}
@@ -36,9 +37,11 @@ use Rattle.wire_msgs.specs.declared.part.Part.{Part}
 use Rattle.wire_msgs.specs.declared.part.Part.TheVariants as parts
 use Rattle.wire_msgs.specs.Forms.{action_of, local_of, space_of}
 use Rattle.wire_msgs.specs.Parts.{part_name}
+use Rattle.wire_posts.specs.declared.encode.Encoded.{Encoded}
+use Rattle.wire_posts.specs.declared.encode.Encoded.TheVariants as encoded
 use Rattle.wire_posts.specs.declared.encode.Outgoing.{Outgoing}
 use Rattle.wire_posts.specs.declared.encode.Outgoing.TheVariants as outgoing
-use Rattle.wire_posts.specs.Faults.{fault_action, fault_body, fault_named, refusal_text}
+use Rattle.wire_posts.specs.Faults.{fault_action, fault_body, fault_named, refusal_status, refusal_text}
 
 -- both are absent, or one is the other's
 abbrev pub AreBoth : {A B : Type 0} → (A → B → Type 0) → Option A → Option B → Type 0
@@ -168,7 +171,9 @@ pub record IsTextOf (post : Post) (text : List ℕ) : Type 0 where
   pub of : IsEnvelopeOf post tree
   pub whole : text ≡ canonical_text tree
 
--- the text of what goes out
-abbrev pub Encodes : Outgoing → List ℕ → Type 0
-Encodes (outgoing.Post post) text = IsTextOf post text
-Encodes (outgoing.Refusal refusal) text = text ≡ refusal_text refusal
+-- what goes out, as HTTP carries it: a message is a request, and a refusal an answer
+abbrev pub Encodes : Outgoing → Encoded → Type 0
+Encodes (outgoing.Post post) (encoded.Request bytes) = IsTextOf post bytes.items
+Encodes (outgoing.Refusal refusal) (encoded.Answer answer) =
+    (answer.status ≡ refusal_status refusal) × (option_map (λ bytes. bytes.items) answer.body ≡ refusal_text refusal)
+Encodes _ _ = ⊥

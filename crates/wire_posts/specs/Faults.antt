@@ -121,13 +121,30 @@ refusal_fault refusals.NoMemory = None
 abbrev pub refusal_tree : WrittenFault → Tree
 refusal_tree fault = envelope_tree (text_element (codes "Action") (fault_action fault) ∷ []) (fault_body fault)
 
--- empty where the answer has no body
-abbrev pub answer_text : Option WrittenFault → List ℕ
-answer_text None = []
-answer_text (Some fault) = canonical_text (refusal_tree fault)
+-- none where the answer has no body
+abbrev pub answer_text : Option WrittenFault → Option (List ℕ)
+answer_text None = None
+answer_text (Some fault) = Some (canonical_text (refusal_tree fault))
 
-abbrev pub refusal_text : Refusal → List ℕ
+abbrev pub refusal_text : Refusal → Option (List ℕ)
 refusal_text refusal = answer_text (refusal_fault refusal)
+
+-- the HTTP status of the answer (RFC 9110, sections 15.5.5, 15.5.14, 15.6.1 and 15.6.4; SOAP 1.1, section 6.2)
+abbrev pub refusal_status : Refusal → ℕ
+refusal_status refusals.TooLong = 413
+refusal_status refusals.NoTarget = 404
+refusal_status refusals.NoMemory = 503
+refusal_status (refusals.NotUtf8 place) = 500
+refusal_status refusals.NotSpelled = 500
+refusal_status refusals.TooDeep = 500
+refusal_status refusals.TooMany = 500
+refusal_status refusals.VersionMismatch = 500
+refusal_status refusals.NotEnvelope = 500
+refusal_status (refusals.MustUnderstand name) = 500
+refusal_status (refusals.MissingHeader name) = 500
+refusal_status (refusals.InvalidHeader name) = 500
+refusal_status refusals.Action = 500
+refusal_status (refusals.Parameters name) = 500
 
 pub code_of_a_missing_header : code_of HeaderRequired ≡ codes "wsa:MessageAddressingHeaderRequired"
 code_of_a_missing_header = refl

@@ -27,6 +27,10 @@ use Rattle.context.specs.Writing.{IsNarrow}
 use Rattle.wire_msgs.specs.declared.decode.Arrival.{Arrival}
 use Rattle.wire_msgs.specs.Arrivals.{Arrives}
 use Rattle.wire_msgs.specs.Targets.{target_at}
+use Rattle.wire_posts.specs.declared.encode.Encoded.{Encoded}
+use Rattle.wire_posts.specs.declared.encode.Encoded.TheVariants as encoded
+use Rattle.wire_posts.specs.declared.encode.Outgoing.{Outgoing}
+use Rattle.wire_posts.specs.declared.encode.Outgoing.TheVariants as outgoing
 use Rattle.wire_posts.specs.declared.fault.WrittenFault.{WrittenFault}
 use Rattle.wire_posts.specs.Envelopes.{IsEnvelopeOf, reply_epr}
 use Rattle.wire_posts.specs.Faults.{detail_of, name_of}
@@ -147,3 +151,9 @@ IsInLimits post = (t : Tree) → IsEnvelopeOf post t → IsWithin t
 abbrev pub Returns : Post → List ℕ → Type 0
 Returns post text =
     (path : List ℕ) (target : Target) → CanReturn post path target → IsInLimits post → IsShort text → Arrives text path (returned post target)
+
+-- a message that goes out is
+abbrev pub IsReadBack : Outgoing → Encoded → Type 0
+IsReadBack (outgoing.Post post) (encoded.Request bytes) = Returns post bytes.items
+IsReadBack (outgoing.Post post) (encoded.Answer answer) = ⊥
+IsReadBack (outgoing.Refusal refusal) _ = Unit {0}

@@ -2,9 +2,11 @@ use addressing::endpoint::{fault_to, read_epr, reply_to};
 use addressing::headers::{AddressingRefusal, Headers, read_headers};
 use addressing::post_to::{PostTo, post_to};
 use addressing::request::check_request;
+use addressing::stored::write_epr;
 use addressing::writer::{Endpoint, OutgoingHeaders, header_blocks};
 use at_base::epr::{Epr, Reply};
 use at_base::text::Text;
+use soap_profile::build::qualified;
 use soap_profile::envelope::envelope_tree;
 use soap_profile::trees::Trees;
 use soap_profile::value::into_elements;
@@ -468,5 +470,42 @@ fn writes_headers_of_a_request(rt: HostRuntime) -> Result<(), Fail> {
         "<s:Envelope xmlns:s=\"http://schemas.xmlsoap.org/soap/envelope/\" xmlns:wsa=\"http://www.w3.org/2005/08/addressing\" xmlns:wscoor=\"http://docs.oasis-open.org/ws-tx/wscoor/2006/06\"><s:Header><wsa:Action>a</wsa:Action><wsa:MessageID/><wsa:RelatesTo>m</wsa:RelatesTo><wsa:ReplyTo><wsa:Address>r</wsa:Address></wsa:ReplyTo><wsa:k a=\"1\" wsa:IsReferenceParameter=\"true\" b=\"2\"/><wsa:l wsa:IsReferenceParameter=\"true\" a=\"1\">x</wsa:l><wscoor:CoordinationContext s:mustUnderstand=\"1\">c</wscoor:CoordinationContext></s:Header><s:Body><b/></s:Body></s:Envelope>";
     let bytes = written(rt.alloc(), request(rt.alloc())?, "<b/>")?;
     assert!(rt; bytes.as_slice() == wanted.as_bytes());
+    Ok(())
+}
+
+/// The text of an endpoint's element.
+fn element_text(alloc: Global, params: &str) -> Result<Vec<u8>, Fail> {
+    let address = Text::copied(alloc, "http://h/p")?;
+    let params = Text::copied(alloc, params)?;
+    let epr = Epr { address, params };
+    let name = qualified(alloc, "http://www.w3.org/2005/08/addressing", "From")?;
+    let tree = write_epr(alloc, &epr, name)?;
+    let mut bytes = Vec::new(alloc);
+    write_tree(alloc, &tree, &mut bytes)?;
+    Ok(bytes)
+}
+
+/// Kept reference parameters, and the element of the endpoint that has them.
+const KEPT: &[(&str, &str)] = &[
+    (
+        "",
+        "<wsa:From xmlns:wsa=\"http://www.w3.org/2005/08/addressing\"><wsa:Address>http://h/p</wsa:Address></wsa:From>",
+    ),
+    (
+        "<wsa:ReferenceParameters xmlns:wsa=\"http://www.w3.org/2005/08/addressing\"><k a=\"1\">7</k></wsa:ReferenceParameters>",
+        "<wsa:From xmlns:wsa=\"http://www.w3.org/2005/08/addressing\"><wsa:Address>http://h/p</wsa:Address><wsa:ReferenceParameters><k a=\"1\">7</k></wsa:ReferenceParameters></wsa:From>",
+    ),
+    (
+        "<k",
+        "<wsa:From xmlns:wsa=\"http://www.w3.org/2005/08/addressing\"><wsa:Address>http://h/p</wsa:Address></wsa:From>",
+    ),
+];
+
+#[test]
+fn kept_endpoints_are_written(rt: HostRuntime) -> Result<(), Fail> {
+    for (params, text) in KEPT {
+        let bytes = element_text(rt.alloc(), params)?;
+        assert!(rt; bytes.as_slice() == text.as_bytes());
+    }
     Ok(())
 }

@@ -7,7 +7,7 @@ use std::alloc::{AllocError, Global};
 use std::test::Fail;
 use wire_msgs::decode::{Arrival, decode};
 use wire_msgs::refusal::Refusal;
-use wire_posts::encode::{Outgoing, encode, encode_post};
+use wire_posts::encode::{Encoded, Outgoing, encode, encode_post};
 
 fn endpoint(alloc: Global, address: &str) -> Result<Epr, AllocError> {
     let address = Text::copied(alloc, address)?;
@@ -303,9 +303,20 @@ fn a_notification_is_written(rt: HostRuntime) -> Result<(), Fail> {
     Ok(())
 }
 
-fn refused(alloc: Global, refusal: Refusal) -> Result<Vec<u8>, AllocError> {
+/// The answer to a refusal has this status, and this body where there is one.
+fn answered(alloc: Global, refusal: Refusal, status: u16, body: Option<&str>) -> Result<bool, AllocError> {
     let outgoing = Outgoing::Refusal(refusal);
-    encode(alloc, &outgoing)
+    match encode(alloc, &outgoing)? {
+        Encoded::Request(_) => Ok(false),
+        Encoded::Answer(answer) => {
+            let same = match (&answer.body, body) {
+                (None, None) => true,
+                (Some(bytes), Some(text)) => bytes.as_slice() == text.as_bytes(),
+                _ => false,
+            };
+            Ok(same && answer.status == status)
+        }
+    }
 }
 
 #[test]
@@ -313,15 +324,19 @@ fn a_refusal_is_written(rt: HostRuntime) -> Result<(), Fail> {
     let alloc = rt.alloc();
     let expected =
         "<s:Envelope xmlns:s=\"http://schemas.xmlsoap.org/soap/envelope/\" xmlns:wsa=\"http://www.w3.org/2005/08/addressing\"><s:Header><wsa:Action>http://www.w3.org/2005/08/addressing/fault</wsa:Action></s:Header><s:Body><s:Fault><faultcode>wsa:ActionNotSupported</faultcode><faultstring>action not supported</faultstring></s:Fault></s:Body></s:Envelope>";
-    let text = refused(alloc, Refusal::Action)?;
-    assert_eq!(rt; text.as_slice(), expected.as_bytes());
+    let written = answered(alloc, Refusal::Action, 500, Some(expected))?;
+    assert!(rt; written);
     Ok(())
 }
 
 #[test]
-fn a_refusal_without_a_body_is_empty(rt: HostRuntime) -> Result<(), Fail> {
+fn a_refusal_without_a_body(rt: HostRuntime) -> Result<(), Fail> {
     let alloc = rt.alloc();
-    assert!(rt; refused(alloc, Refusal::TooLong)?.is_empty());
-    assert!(rt; refused(alloc, Refusal::NoTarget)?.is_empty());
+    let too_long = answered(alloc, Refusal::TooLong, 413, None)?;
+    assert!(rt; too_long);
+    let no_target = answered(alloc, Refusal::NoTarget, 404, None)?;
+    assert!(rt; no_target);
+    let no_memory = answered(alloc, Refusal::NoMemory, 503, None)?;
+    assert!(rt; no_memory);
     Ok(())
 }
