@@ -304,7 +304,12 @@ fn a_notification_is_written(rt: HostRuntime) -> Result<(), Fail> {
 }
 
 /// The answer to a refusal has this status, and this body where there is one.
-fn answered(alloc: Global, refusal: Refusal, status: u16, body: Option<&str>) -> Result<bool, AllocError> {
+fn answered(
+    alloc: Global,
+    refusal: Refusal,
+    status: u16,
+    body: Option<&str>,
+) -> Result<bool, AllocError> {
     let outgoing = Outgoing::Refusal(refusal);
     match encode(alloc, &outgoing)? {
         Encoded::Request(_) => Ok(false),
