@@ -1,16 +1,17 @@
 -- How a file's bodies are read, one after another.
-use Rattle.std.proofs.Common.{ℕ, List, None, [], ◌∷◌, length, ◌≡◌, ◌≢◌, ◌++◌, ◌<◌, ◌≤◌, ◌⊎◌, inl, inr, refl, sym, ◌∙◌, ap, subst, take, drop, arith}
+use Rattle.std.proofs.Common.{ℕ, List, None, [], ◌∷◌, length, ◌≡◌, ◌++◌, ◌-◌, ◌<◌, ◌≤◌, ◌⊎◌, inl, inr, refl, sym, ◌∙◌, ap, subst, take, drop, arith}
 use Rattle.std.specs.Int.{from_be_bytes, to_be_bytes, w32}
-use Rattle.std.proofs.lemmas.List.{append_assoc, append-nil, take_at, drop_at}
+use Rattle.std.proofs.lemmas.List.{append_assoc, append-nil, length-append, take_at, drop_at}
 use Rattle.std.proofs.lemmas.Nat.{from_be_bytes-to_be_bytes_4}
-use Rattle.journal_at.specs.Format.{AreInPlace, AreUnmarked, Closed, FileOf, IsBody, behind, frames, mark_of}
-use Rattle.journal_at.specs.Reading.{Begins, Framed, IsMisplaced, IsRead, IsShut, IsWhy, NotFramed}
+use Rattle.journal_at.specs.Format.{AreBodies, AreInPlace, AreUnmarked, Closed, FileOf, IsBody, behind, frames, mark_of}
+use Rattle.journal_at.specs.Reading.{Begins, Framed, IsBadAt, IsMisplaced, IsRead, IsShut, IsStray, IsWhy, NoFrame}
 use Rattle.journal_at.specs.declared.read.BodiesFault.{BodiesFault}
 use Rattle.journal_at.specs.declared.read.BodiesFault.TheVariants.{NoMemory, Bad as BadAt}
 use Rattle.journal_at.proofs.Framing.{four, head_of_list, tail_of}
+use Rattle.journal_at.proofs.Torn.{frames_push}
 
 pub start : (whole : List ℕ) → IsRead whole [] whole
-start whole = record { on = λ bodies h. (bodies, refl, h); back = λ more h. h; placed = tt }
+start whole = record { sized = tt; is = refl; on = λ bodies h. (bodies, refl, h); back = λ more h. h; placed = tt }
 
 -- what two framed bodies begin with is one body
 pub same_size : (a b x y : List ℕ) → IsBody a → IsBody b → behind a ++ x ≡ behind b ++ y → length a ≡ length b
@@ -58,9 +59,15 @@ placed_push [] body h e = tt
 placed_push (x ∷ bodies) body h (inl e) = absurd (omega (arith, ap length e))
 placed_push (x ∷ bodies) body h (inr e) = unmarked_push bodies body h e
 
+pub sized_push : (bodies : List (List ℕ)) (body : List ℕ) → AreBodies bodies → IsBody body → AreBodies (bodies ++ body ∷ [])
+sized_push [] body h b = (b, tt)
+sized_push (x ∷ bodies) body h b = (h.0, sized_push bodies body h.1 b)
+
 pub one_more : (whole : List ℕ) (so_far : List (List ℕ)) (rest body after : List ℕ) → IsRead whole so_far rest → Begins body after rest → (so_far ≡ []) ⊎ (mark_of body ≡ None) → IsRead whole (so_far ++ body ∷ []) after
 one_more whole so_far rest body after r b u =
     record {
+      sized = sized_push so_far body r.sized b.sized;
+      is = r.is ∙ ap (λ z. frames so_far ++ z) b.is ∙ sym (frames_push so_far body after);
       on = λ bodies h.
           let (more, e, m) = r.on bodies h in
           let (then, k, n) = tail_framed body after rest more b m in
@@ -80,22 +87,13 @@ framed_of f bodies l h = by_case h.is where
   by_case (inl k) = absurd (omega (arith, k.0, l))
   by_case (inr k) = record { sized = h.listed.sized; closed = k }
 
-pub not_read : (whole : List ℕ) (so_far : List (List ℕ)) (rest : List ℕ) → 1 < length whole → IsRead whole so_far rest → NotFramed rest → (bodies : List (List ℕ)) → FileOf whole bodies → ⊥
-not_read whole so_far rest l r n bodies h = let (more, e, m) = r.on bodies (framed_of whole bodies l h) in n more m
+pub before : (whole : List ℕ) (so_far : List (List ℕ)) (rest : List ℕ) → IsRead whole so_far rest → length whole - length rest ≡ length (frames so_far)
+before whole so_far rest r = let k = ap length r.is ∙ length-append (frames so_far) rest in omega (arith, k)
 
-pub unmarked_at : (front : List (List ℕ)) (body : List ℕ) (back : List (List ℕ)) → front ≢ [] → AreInPlace (front ++ body ∷ back) → mark_of body ≡ None
-unmarked_at [] body back n h = absurd (n refl)
-unmarked_at (x ∷ front) body back n h = inner front h where
-  inner : (front : List (List ℕ)) → AreUnmarked (front ++ body ∷ back) → mark_of body ≡ None
-  inner [] h = h.0
-  inner (y ∷ front) h = inner front h.1
+-- where the reading stopped, a file stands for no bodies
+pub bad_there : (whole : List ℕ) (so_far : List (List ℕ)) (rest : List ℕ) (place : ℕ) → 1 < length whole → IsRead whole so_far rest → place ≡ length whole - length rest → NoFrame rest ⊎ IsStray so_far rest → IsBadAt place whole
+bad_there whole so_far rest place l r p b = record { front = so_far; rest = rest; long = l; sized = r.sized; placed = r.placed; is = r.is; at = p ∙ before whole so_far rest r; bad = b }
 
-pub misplaced : (whole : List ℕ) (so_far : List (List ℕ)) (rest body after : List ℕ) → 1 < length whole → IsRead whole so_far rest → Begins body after rest → so_far ≢ [] → mark_of body ≢ None → (bodies : List (List ℕ)) → FileOf whole bodies → ⊥
-misplaced whole so_far rest body after l r b n m bodies h =
-    let (more, e, k) = r.on bodies (framed_of whole bodies l h) in
-    let (then, is, rest_of) = tail_framed body after rest more b k in
-    m (unmarked_at so_far body then n (subst AreInPlace (e ∙ ap (λ z. so_far ++ z) is) h.listed.placed))
-
-pub why_misplaced : (fault : BodiesFault) (whole : List ℕ) (so_far : List (List ℕ)) (rest body after : List ℕ) → 1 < length whole → IsRead whole so_far rest → Begins body after rest → IsMisplaced fault so_far body → IsWhy fault whole
-why_misplaced NoMemory whole so_far rest body after l r b m = tt
-why_misplaced (BadAt place) whole so_far rest body after l r b m = misplaced whole so_far rest body after l r b m.0 m.1
+pub why_misplaced : (fault : BodiesFault) (whole : List ℕ) (so_far : List (List ℕ)) (rest body after : List ℕ) (place : ℕ) → 1 < length whole → IsRead whole so_far rest → place ≡ length whole - length rest → Begins body after rest → IsMisplaced fault place so_far body → IsWhy fault whole
+why_misplaced NoMemory whole so_far rest body after place l r p b m = tt
+why_misplaced (BadAt at) whole so_far rest body after place l r p b m = bad_there whole so_far rest at l r (m.0 ∙ p) (inr (record { body = body; after = after; begins = b; behind = m.1; mark = m.2 }))

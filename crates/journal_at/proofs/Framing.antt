@@ -4,7 +4,7 @@ use Rattle.std.specs.Int.{from_be_bytes, to_be_bytes, w32}
 use Rattle.std.proofs.lemmas.List.{append_assoc, length-append, take_at, drop_at}
 use Rattle.std.proofs.lemmas.Nat.{from_be_bytes-to_be_bytes_4}
 use Rattle.journal_at.specs.Format.{Closed, IsBody, behind, frames}
-use Rattle.journal_at.specs.Reading.{Framed, NotFramed}
+use Rattle.journal_at.specs.Reading.{Begins, IsShut, NoFrame, NotFramed}
 
 pub four : (n : ℕ) → length (to_be_bytes w32 n) ≡ 4
 four n = search rules
@@ -26,15 +26,14 @@ tail_of x y xs ys e = ap (drop 1) e
 pub head_of_list : (x y : ℕ) (xs ys : List ℕ) → (x ∷ xs) ≡ (y ∷ ys) → x ≡ y
 head_of_list x y xs ys e = ap (λ z. get_or z 0 0) e
 
-pub opened : (bodies : List (List ℕ)) (rest : List ℕ) → Framed bodies (1 ∷ rest) → Opened rest
-opened [] rest h = absurd (h.closed.shut (sym (head_of_list _ _ _ _ h.closed.is)))
-opened (body ∷ bodies) rest h =
+pub opened : (body after rest : List ℕ) → Begins body after (1 ∷ rest) → 1 ≤ length after → Opened rest
+opened body after rest b l =
     record {
       body = body;
-      after = frames bodies ++ (h.closed.gate ∷ h.closed.rest);
-      sized = h.sized.0;
-      is = tail_of _ _ _ _ h.closed.is ∙ append_assoc (behind body) (frames bodies) (h.closed.gate ∷ h.closed.rest) ∙ append_assoc (to_be_bytes w32 (length body)) body (frames bodies ++ (h.closed.gate ∷ h.closed.rest));
-      gate = let k = length-append (frames bodies) (h.closed.gate ∷ h.closed.rest) in omega (arith, k);
+      after = after;
+      sized = b.sized;
+      is = tail_of _ _ _ _ b.is ∙ append_assoc (to_be_bytes w32 (length body)) body after;
+      gate = l;
     }
 
 pub long_rest : (rest : List ℕ) → Opened rest → 4 ≤ length rest
@@ -53,19 +52,43 @@ back_long rest back e o =
 
 -- with less than that it is no beginning of bodies
 module _ (f rest : List ℕ) (gate : ℕ) (e : f ≡ gate ∷ rest) (one : gate ≡ 1) where
-  pub opened_in : (bodies : List (List ℕ)) → Framed bodies f → Opened rest
-  opened_in bodies h = opened bodies rest (subst (Framed bodies) (e ∙ ap (λ z. z ∷ rest) one) h)
+  pub not_shut : IsShut f → ⊥
+  not_shut s = s.shut (head_of_list _ _ _ _ (sym s.is ∙ e) ∙ one)
 
-  pub too_short : length rest < 4 → NotFramed f
-  too_short l bodies h = let k = long_rest rest (opened_in bodies h) in absurd (omega (arith, k, l))
+  pub opened_in : (body after : List ℕ) → Begins body after f → 1 ≤ length after → Opened rest
+  opened_in body after b l = opened body after rest (subst (Begins body after) (e ∙ ap (λ z. z ∷ rest) one) b) l
 
-  pub of_no_size : (front : List ℕ) (n : ℕ) → front ≡ take 4 rest → n ≡ from_be_bytes w32 front → (n ≡ 0) ⊎ (1060000 < n) → NotFramed f
-  of_no_size front n t k (inl z) bodies h = let o = opened_in bodies h in let s = size_is rest front n t k o in absurd (omega (arith, s, z, o.sized.least))
-  of_no_size front n t k (inr z) bodies h = let o = opened_in bodies h in let s = size_is rest front n t k o in absurd (omega (arith, s, z, o.sized.most))
+  pub too_short : length rest < 4 → NoFrame f
+  too_short l = record { unshut = not_shut; none = λ body after b g. let k = long_rest rest (opened_in body after b g) in absurd (omega (arith, k, l)) }
 
-  pub cut_off : (front back : List ℕ) (n : ℕ) → front ≡ take 4 rest → back ≡ drop 4 rest → n ≡ from_be_bytes w32 front → length back ≤ n → NotFramed f
-  cut_off front back n t d k l bodies h =
-      let o = opened_in bodies h in
-      let s = size_is rest front n t k o in
-      let b = back_long rest back d o in
-      absurd (omega (arith, s, b, l))
+  pub of_no_size : (front : List ℕ) (n : ℕ) → front ≡ take 4 rest → n ≡ from_be_bytes w32 front → (n ≡ 0) ⊎ (1060000 < n) → NoFrame f
+  of_no_size front n t k either = record { unshut = not_shut; none = λ body after b g. none body after b g either } where
+    none : (body after : List ℕ) → Begins body after f → 1 ≤ length after → (n ≡ 0) ⊎ (1060000 < n) → ⊥
+    none body after b g (inl z) = let o = opened_in body after b g in let s = size_is rest front n t k o in absurd (omega (arith, s, z, o.sized.least))
+    none body after b g (inr z) = let o = opened_in body after b g in let s = size_is rest front n t k o in absurd (omega (arith, s, z, o.sized.most))
+
+  pub cut_off : (front back : List ℕ) (n : ℕ) → front ≡ take 4 rest → back ≡ drop 4 rest → n ≡ from_be_bytes w32 front → length back ≤ n → NoFrame f
+  cut_off front back n t d k l =
+      record {
+        unshut = not_shut;
+        none = λ body after b g.
+            let o = opened_in body after b g in
+            let s = size_is rest front n t k o in
+            let m = back_long rest back d o in
+            absurd (omega (arith, s, m, l));
+      }
+
+pub none_there : (f : List ℕ) → f ≡ [] → NoFrame f
+none_there f e =
+    record {
+      unshut = λ s. absurd (omega (arith, ap length (sym s.is ∙ e)));
+      none = λ body after b l. absurd (omega (arith, ap length (sym b.is ∙ e)));
+    }
+
+-- what has no frame is no beginning of bodies
+pub not_framed : (f : List ℕ) → NoFrame f → NotFramed f
+not_framed f n [] h = n.unshut (record { gate = h.closed.gate; rest = h.closed.rest; shut = h.closed.shut; is = h.closed.is })
+not_framed f n (body ∷ bodies) h =
+    let after = frames bodies ++ (h.closed.gate ∷ h.closed.rest) in
+    let long : 1 ≤ length after = let k = length-append (frames bodies) (h.closed.gate ∷ h.closed.rest) in omega (arith, k) in
+    n.none body after (record { sized = h.sized.0; is = h.closed.is ∙ ap (λ z. 1 ∷ z) (append_assoc (behind body) (frames bodies) (h.closed.gate ∷ h.closed.rest)) }) long

@@ -3,5 +3,7 @@ pub mod Bodies
 pub mod Fetching
 pub mod Framing
 pub mod Laying
+pub mod Opening
 pub mod Ran
+pub mod Settling
 pub mod Torn

@@ -2,4 +2,5 @@ pub mod Format
 pub mod Pairs
 pub mod Standing
 pub mod Reading
+pub mod Scanning
 pub mod Loading

@@ -4,6 +4,9 @@
 pub mod append;
 pub mod frame;
 pub mod journal;
+pub mod listed;
 pub mod load;
 pub mod read;
+pub mod records;
+pub mod scan;
 pub mod version;

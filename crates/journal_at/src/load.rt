@@ -2,9 +2,15 @@
 
 ghost use Rattle.std.specs.Prelude.{ℕ, List, ◌≡◌, ◌≤◌, IfOk, OnErr, IsErr};
 ghost use Rattle.site_model.specs.Told.{Files, Is, file_of};
-ghost use Rattle.journal_at.specs.Loading.{Quiet, LoadCause};
+ghost use Rattle.journal_at.specs.Loading.{Quiet, LoadCause, LookCause, Loads, Settles, Surveys};
+ghost use Rattle.journal_at.specs.Scanning.{IsSeen};
 ghost use Rattle.journal_at.specs.declared.load.LoadFault.TheVariants.{NoMemory, Disk};
 
+use crate::append::stage;
+use crate::journal::Journal;
+use crate::read::BodiesFault;
+use crate::records::Records;
+use crate::scan::{Both, Scan, pick, scan_file};
 use site_model::site::Site;
 use site_model::source::Failed;
 use std::alloc::{AllocError, Global};
@@ -38,7 +44,7 @@ impl From<Failed> for LoadFault {
 fn fetch<S: Site>(alloc: Global, site: &mut S, file: u8) -> Result<Vec<u8>, LoadFault>
     ensures bytes { IfOk result (λ v. (f : Files) → Is (S.told site.old).files f → v.items ≡ file_of file f) }
     ensures quiet { Quiet (S.told site.old) (S.told site.new) }
-    ensures cause { LoadCause result (S.told site.old) (S.told site.new) }
+    ensures cause { LookCause file result (S.told site.old) (S.told site.new) }
 {
     let mut bytes = Vec::new(alloc);
     let mut buf = [0u8; 4096];
@@ -51,4 +57,86 @@ fn fetch<S: Site>(alloc: Global, site: &mut S, file: u8) -> Result<Vec<u8>, Load
         bytes.extend_from_slice(&buf[..n])?;
     }
     Ok(bytes)
+}
+
+/// Syncs both files.
+fn settle<S: Site>(site: &mut S) -> Result<(), Failed>
+    ensures { Settles result (S.told site.old) (S.told site.new) }
+{
+    match site.sync(0) {
+        Ok(()) => site.sync(1),
+        Err(_) => Err(Failed),
+    }
+}
+
+/// All that a file says.
+fn look<S: Site>(alloc: Global, site: &mut S, file: u8) -> Result<Scan, LoadFault>
+    ensures seen { IfOk result (λ s. IsSeen s file (S.told site.old)) }
+    ensures quiet { Quiet (S.told site.old) (S.told site.new) }
+    ensures cause { LookCause file result (S.told site.old) (S.told site.new) }
+{
+    let bytes = match fetch(alloc, site, file) {
+        Ok(bytes) => bytes,
+        Err(fault) => return Err(fault),
+    };
+    match scan_file(alloc, bytes.as_slice()) {
+        Ok(scan) => Ok(scan),
+        Err(BodiesFault::NoMemory) => Err(LoadFault::NoMemory),
+        Err(BodiesFault::Bad(place)) => Err(LoadFault::Bad { file, place }),
+    }
+}
+
+/// All that both files say, file 0 first.
+fn look_both<S: Site>(alloc: Global, site: &mut S) -> Result<Both, LoadFault>
+    ensures first { IfOk result (λ b. IsSeen b.first 0 (S.told site.old)) }
+    ensures second { IfOk result (λ b. IsSeen b.second 1 (S.told site.old)) }
+    ensures quiet { Quiet (S.told site.old) (S.told site.new) }
+    ensures cause { LoadCause result (S.told site.old) (S.told site.new) }
+{
+    let first = match look(alloc, site, 0) {
+        Ok(first) => first,
+        Err(fault) => return Err(fault),
+    };
+    match look(alloc, site, 1) {
+        Ok(second) => Ok(Both { first, second }),
+        Err(fault) => Err(fault),
+    }
+}
+
+/// Syncs both files, and reads them.
+fn survey<S: Site>(alloc: Global, site: &mut S) -> Result<Both, LoadFault>
+    ensures { Surveys result (S.told site.old) (S.told site.new) }
+{
+    match settle(site) {
+        Ok(()) => look_both(alloc, site),
+        Err(_) => Err(LoadFault::Disk),
+    }
+}
+
+/// Reads a journal.
+///
+/// Both files are synced first. Where file 0 is live and has at most one byte, a shut gate is written into it.
+pub fn load<S: Site>(
+    alloc: Global,
+    site: &mut S,
+    limit: u32,
+) -> Result<(Journal, Records), LoadFault>
+    ensures { Loads result limit (S.told site.old) (S.told site.new) }
+{
+    let both = match survey(alloc, site) {
+        Ok(both) => both,
+        Err(fault) => return Err(fault),
+    };
+    let bare = both.is_bare();
+    let (journal, records) = match pick(alloc, limit, both) {
+        Ok(pair) => pair,
+        Err(_) => return Err(LoadFault::NoMemory),
+    };
+    if !bare {
+        return Ok((journal, records));
+    }
+    match stage(site, 0, 0, &[0]) {
+        Ok(()) => Ok((journal, records)),
+        Err(_) => Err(LoadFault::Disk),
+    }
 }

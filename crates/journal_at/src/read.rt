@@ -2,10 +2,11 @@
 
 ghost use Rattle.std.specs.Prelude.{◌≡◌, ◌≢◌, ◌⊎◌, ◌++◌, ◌∷◌, [], length, None, IfOk, IfErr, OnOk, is_some};
 ghost use Rattle.journal_at.specs.declared.read.BodiesFault.TheVariants.{NoMemory};
-ghost use Rattle.journal_at.specs.Format.{FileOf, mark_of};
+ghost use Rattle.journal_at.specs.Format.{FileOf, frames, mark_of};
 ghost use Rattle.std.specs.Int.{from_be_bytes, to_be_bytes, w32};
-ghost use Rattle.journal_at.specs.Reading.{Says, IsMisplaced, IsWhy, bodies_of};
+ghost use Rattle.journal_at.specs.Reading.{Says, IsMisplaced, IsWhy, bodies_of, listed_in};
 
+use crate::listed::Bodies;
 use std::alloc::{AllocError, Global};
 
 /// How the bytes of a file begin: with a gate that is shut, with a body and what stands behind it, or with neither.
@@ -16,7 +17,7 @@ pub enum Frame<'a> {
 }
 
 /// The number that four bytes spell.
-fn number(front: &[u8]) -> u32
+pub(crate) fn number(front: &[u8]) -> u32
     requires { length front.now ≡ 4 }
     ensures read { result ≡ from_be_bytes w32 front.now }
     ensures spelled { to_be_bytes w32 result ≡ front.now }
@@ -107,7 +108,7 @@ fn take_body(
     gate: u64,
 ) -> Result<(), BodiesFault>
     ensures done { OnOk result ((bodies_of bodies.new.items ≡ bodies_of bodies.old.items ++ body.now ∷ []) × ((bodies_of bodies.old.items ≡ []) ⊎ (mark_of body.now ≡ None))) }
-    ensures bad { IfErr result (λ e. IsMisplaced e (bodies_of bodies.old.items) body.now) }
+    ensures bad { IfErr result (λ e. IsMisplaced e gate (bodies_of bodies.old.items) body.now) }
 {
     if !bodies.is_empty() && is_mark(body) {
         return Err(BodiesFault::Bad(gate));
@@ -120,19 +121,26 @@ fn take_body(
 }
 
 /// All bodies of a file.
-pub fn read_bodies(alloc: Global, bytes: &[u8]) -> Result<Vec<Placed>, BodiesFault>
-    ensures ok { IfOk result (λ v. FileOf bytes.now (bodies_of v.items)) }
+pub fn read_bodies(alloc: Global, bytes: &[u8]) -> Result<Bodies, BodiesFault>
+    ensures ok { IfOk result (λ v. FileOf bytes.now (listed_in v)) }
+    ensures end { IfOk result (λ v. v.end ≡ length (frames (listed_in v))) }
     ensures why { IfErr result (λ e. IsWhy e bytes.now) }
 {
     let mut bodies = Vec::new(alloc);
     if bytes.len() <= 1 {
-        return Ok(bodies);
+        return Ok(Bodies {
+            items: bodies,
+            end: 0,
+        });
     }
     let mut rest = bytes;
     loop {
         let gate = bytes.len().saturating_sub(rest.len()) as u64;
         match read_frame(rest) {
-            Frame::End => return Ok(bodies),
+            Frame::End => return Ok(Bodies {
+                items: bodies,
+                end: gate,
+            }),
             Frame::Bad => return Err(BodiesFault::Bad(gate)),
             Frame::Body(body, after) => {
                 match take_body(alloc, &mut bodies, body, gate) {
