@@ -6,4 +6,5 @@ pub mod Laying
 pub mod Opening
 pub mod Ran
 pub mod Settling
+pub mod Sparing
 pub mod Torn

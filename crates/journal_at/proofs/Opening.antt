@@ -17,9 +17,10 @@ use Rattle.journal_at.specs.Loading.{Alike, Fails, IsBare, Lasts, Loads, Ready, 
 use Rattle.journal_at.specs.Pairs.{FilesOf, Holds, IsLive}
 use Rattle.journal_at.specs.Reading.{listed_in}
 use Rattle.journal_at.specs.Scanning.{IsOpened, IsPicked, IsScan, IsSeen, is_bare, mark_in, records_in, second_lives, starts}
-use Rattle.journal_at.specs.Standing.{Keeps, Laid, Stands}
+use Rattle.journal_at.specs.Standing.{Keeps, Laid, Spare, Stands}
 use Rattle.journal_at.proofs.Laying.{rose_later}
 use Rattle.journal_at.proofs.Ran.{after_that, all_ran, breaks_then, grown_then, option_map_is, through}
+use Rattle.journal_at.proofs.Sparing.{others_laid, spare_of, spare_others}
 
 pub no_true : false ≡ true → ⊥
 no_true e = subst Is_no e tt where
@@ -95,21 +96,27 @@ holds_of w s o f h k l = record { closed = h; beside = record { others = listed 
 pub stands_of : (w : ℕ) (bodies : List (List ℕ)) (t : Told) → Within (Is t.files) t.images → AreListed bodies → ((f : Files) → Is t.files f → Holds w bodies f) → Stands w bodies t
 stands_of w bodies t settled k h = record { listed = k; files = h; images = λ c im. h c (settled c im) }
 
-module _ (w limit : ℕ) (s : Scan) (f : List ℕ) (journal : Journal) (records : Records) (scan : IsScan s f) (opened : IsOpened w limit s journal records) where
+module _ (w limit : ℕ) (u : Bool) (s : Scan) (f : List ℕ) (journal : Journal) (records : Records) (scan : IsScan s f) (opened : IsOpened w limit u s journal records) where
   pub records_same : drop s.head.start (listed s) ≡ records_in records
   records_same = (λ i. drop (sym opened.start i) (sym opened.items i))
 
-  pub keeps_of : (t : Told) → Stands w (listed s) t → Keeps journal (listed s) t
-  keeps_of t h = record { stands = subst (λ n. Stands n (listed s) t) (sym opened.live_is) h; end = opened.end ∙ scan.end }
+  pub keeps_of : (t : Told) → Stands w (listed s) t → Spare u w (listed s) t → Keeps journal (listed s) t
+  keeps_of t h k =
+      record {
+        stands = subst (λ n. Stands n (listed s) t) (sym opened.live_is) h;
+        spare = subst (λ n. Spare journal.unshut n (listed s) t) (sym opened.live_is) (subst (λ z. Spare z w (listed s) t) (sym opened.unshut_is) k);
+        end = opened.end ∙ scan.end;
+        generation = opened.generation ∙ generation_is s f scan;
+      }
 
-  pub opens : (old new : Told) (bare : Bool) → ((g : Files) → Is old.files g → FilesOf g s.head.version (drop s.head.start (listed s))) → Stands w (listed s) new → ((g : Files) → Is old.files g → (bare ≡ true) ↔ IsBare journal g)
+  pub opens : (old new : Told) (bare : Bool) → ((g : Files) → Is old.files g → FilesOf g s.head.version (drop s.head.start (listed s))) → Stands w (listed s) new → Spare u w (listed s) new → ((g : Files) → Is old.files g → (bare ≡ true) ↔ IsBare journal g)
       → new.calls ≡ option_map (λ l. l ++ map done (syncs ++ shuts_if bare)) old.calls → ((c : Files) → new.images c → Lasts old c) → Elapses old new (λ l c. Between old new l × Lasts old c) → Spent old new
       → Loads (Ok (journal, records)) limit old new
-  opens old new bare is stands when grown images time spent = (
+  opens old new bare is stands spare when grown images time spent = (
     record {
       is = λ g k. subst (λ z. FilesOf g z (records_in records)) (sym opened.version) (subst (FilesOf g s.head.version) records_same (is g k));
       bodies = listed s;
-      keeps = keeps_of new stands;
+      keeps = keeps_of new stands spare;
       version = sym (version_is s f scan) ∙ sym opened.version;
       records_are = records_from s f scan ∙ records_same;
       bare = bare;
@@ -146,21 +153,23 @@ module _ (old mid : Told) (both : Both) (ready : Ready old mid) (a : IsSeen both
   pub plain_time : Elapses old mid (λ l c. Between old mid l × Lasts old c)
   plain_time = weaker old mid _ _ ready.time (λ l c n. (n.0, inl n.1))
 
-  pub opens_second : (journal : Journal) (records : Records) (limit : ℕ) → second_lives both ≡ true → IsOpened 1 limit both.second journal records → Loads (Ok (journal, records)) limit old mid
+  pub opens_second : (journal : Journal) (records : Records) (limit : ℕ) → second_lives both ≡ true → IsOpened 1 limit both.first.unshut both.second journal records → Loads (Ok (journal, records)) limit old mid
   opens_second journal records limit e o =
       let l = second_newer e in
-      opens 1 limit both.second _ journal records b.is o old mid false
+      opens 1 limit both.first.unshut both.second _ journal records b.is o old mid false
       (λ g is. pair_of 1 both.second both.first g (second_of g (then_mid g is)) (first_of g (then_mid g is)) l)
       (stands_of 1 _ mid ready.settled b.is.is.listed (λ f is. holds_of 1 both.second both.first f (closed_marked f.second _ (omega (arith, l)) (second_of f is).is) (first_of f is) l))
+      (spare_of both.first.unshut 1 _ _ mid l (λ f is. ((first_of f is).is, (first_of f is).gate)) (λ c im. let k = first_of c (ready.settled c im) in (k.is, k.gate)))
       (λ g is. ((λ k. absurd (no_true k)), (λ k. absurd (omega (arith, k.0, o.live_is)))))
       ready.grown (λ c im. inl (ready.images c im)) plain_time ready.spent
 
-  pub opens_first : (journal : Journal) (records : Records) (limit : ℕ) → second_lives both ≡ false → both.first.bare ≡ false → IsOpened 0 limit both.first journal records → Loads (Ok (journal, records)) limit old mid
+  pub opens_first : (journal : Journal) (records : Records) (limit : ℕ) → second_lives both ≡ false → both.first.bare ≡ false → IsOpened 0 limit both.second.unshut both.first journal records → Loads (Ok (journal, records)) limit old mid
   opens_first journal records limit e n o =
       let l = first_newer e in
-      opens 0 limit both.first _ journal records a.is o old mid false
+      opens 0 limit both.second.unshut both.first _ journal records a.is o old mid false
       (λ g is. pair_of 0 both.first both.second g (first_of g (then_mid g is)) (second_of g (then_mid g is)) l)
       (stands_of 0 _ mid ready.settled a.is.is.listed (λ f is. holds_of 0 both.first both.second f (closed_long f.first _ ((first_of f is).long n) (first_of f is).is) (second_of f is) l))
+      (spare_of both.second.unshut 0 _ _ mid l (λ f is. ((second_of f is).is, (second_of f is).gate)) (λ c im. let k = second_of c (ready.settled c im) in (k.is, k.gate)))
       (λ g is. ((λ k. absurd (no_true k)), (λ k. absurd (omega (arith, k.1, (first_of g (then_mid g is)).long n)))))
       ready.grown (λ c im. inl (ready.images c im)) plain_time ready.spent
 
@@ -223,13 +232,14 @@ module _ (old mid : Told) (both : Both) (ready : Ready old mid) (a : IsSeen both
             beside = record { others = listed both.second; is = subst (λ z. FileOf z (listed both.second)) (sym t.kept) (second_of d (ready.settled d was)).is; newer = l };
           }
 
-    pub opens_shut : {T E : Type 0} (r : Result T E) (x : T) (journal : Journal) (records : Records) (limit : ℕ) → r ≡ Ok x → Laid 0 0 (0 ∷ []) r mid new → second_lives both ≡ false → IsOpened 0 limit both.first journal records → Loads (Ok (journal, records)) limit old new
+    pub opens_shut : {T E : Type 0} (r : Result T E) (x : T) (journal : Journal) (records : Records) (limit : ℕ) → r ≡ Ok x → Laid 0 0 (0 ∷ []) r mid new → second_lives both ≡ false → IsOpened 0 limit both.second.unshut both.first journal records → Loads (Ok (journal, records)) limit old new
     opens_shut r x journal records limit e h n o =
         let l = first_newer n in
         let ran = all_ran shuts r x mid new e h.calls in
-        opens 0 limit both.first _ journal records a.is o old new true
+        opens 0 limit both.second.unshut both.first _ journal records a.is o old new true
         (λ g is. pair_of 0 both.first both.second g (first_of g (then_mid g is)) (second_of g (then_mid g is)) l)
         (record { listed = a.is.is.listed; files = shut_files r x e h l; images = shut_images r x e h l })
+        (spare_others both.second.unshut 0 _ mid new (others_laid 0 0 (0 ∷ []) r mid new h) (spare_of both.second.unshut 0 _ _ mid l (λ f is. ((second_of f is).is, (second_of f is).gate)) (λ c im. let k = second_of c (ready.settled c im) in (k.is, k.gate))))
         (λ g is. ((λ k. (o.live_is, (first_of g (then_mid g is)).bare bare)), (λ k. refl)))
         (grown_then old.calls mid.calls new.calls (map done syncs) (map done shuts) ready.grown (ran.grown ∙ ap (λ m. option_map (λ l. l ++ m) mid.calls) ran.is))
         (λ c im. lasts_torn c (h.images c im)) (shut_time r h) (shut_spent r h)

@@ -40,6 +40,10 @@ abbrev pub mark_of : List ℕ → Option Mark
 mark_of (tag ∷ a ∷ b ∷ c ∷ d ∷ []) = mark_from tag (from_be_bytes w32 (a ∷ b ∷ c ∷ d ∷ []))
 mark_of body = None
 
+-- the mark of version 2 with that generation
+abbrev pub mark_body : ℕ → List ℕ
+mark_body g = 11 ∷ to_be_bytes w32 g
+
 abbrev pub AreUnmarked : List (List ℕ) → Type 0
 AreUnmarked [] = Unit {0}
 AreUnmarked (body ∷ bodies) = (mark_of body ≡ None) × AreUnmarked bodies

@@ -1,14 +1,15 @@
 -- What stands, and what an append leaves.
-use Rattle.std.specs.Prelude.{ℕ, List, Result, true, [], ◌∷◌, ◌++◌, ◌+◌, ◌≡◌, ◌≤◌, ◌⊎◌, length, map, option_map, OnOk, OnErr}
+use Rattle.std.specs.Prelude.{ℕ, List, Bool, Result, true, false, [], ◌∷◌, ◌++◌, ◌+◌, ◌≡◌, ◌≤◌, ◌⊎◌, length, map, option_map, OnOk, OnErr}
 use Rattle.site_model.specs.Counts.{HasCause, Rose}
 use Rattle.site_model.specs.Calls.{Runs}
-use Rattle.site_model.specs.Told.{Told, Files, Made, Call, Is, Elapses, Between, Apart, BreaksOff, TornFrom, Tears, Settled, done, with_file, written}
+use Rattle.site_model.specs.Told.{Told, Files, Made, Call, Is, Elapses, Between, Apart, BreaksOff, Torn, TornFrom, Tears, Settled, done, other_than, with_file, written}
 use Rattle.site_model.specs.Told.Call.{Write, Sync}
 use Rattle.journal_at.specs.declared.journal.Journal.{Journal}
 use Rattle.journal_at.specs.declared.journal.Append.{Append}
 use Rattle.journal_at.specs.declared.journal.Append.TheVariants.{Done, Refused, Unsure, Full}
 use Rattle.journal_at.specs.Format.{AreListed, behind, frames, head_of}
-use Rattle.journal_at.specs.Pairs.{Holds}
+use Rattle.journal_at.specs.Pairs.{Beside, Holds}
+use Rattle.journal_at.specs.Reading.{IsShut}
 
 -- the files, and whatever a crash leaves of them, hold these bodies
 pub record Stands (live : ℕ) (bodies : List (List ℕ)) (s : Told) : Type 0 where
@@ -16,9 +17,20 @@ pub record Stands (live : ℕ) (bodies : List (List ℕ)) (s : Told) : Type 0 wh
   pub files : (f : Files) → Is s.files f → Holds live bodies f
   pub images : (c : Files) → s.images c → Holds live bodies c
 
+-- whatever its first byte becomes, the other file stands for an older list
+pub record MayShut (live : ℕ) (bodies : List (List ℕ)) (other : List ℕ) : Type 0 where
+  pub any : (x : List ℕ) → Torn 0 1 other x → Beside live bodies x
+
+-- the first gate of the other file may be written, or it is there and shut, and must not be written again
+abbrev pub Spare : Bool → ℕ → List (List ℕ) → Told → Type 0
+Spare true live bodies s = ((f : Files) → Is s.files f → MayShut live bodies (other_than live f)) × ((c : Files) → s.images c → MayShut live bodies (other_than live c))
+Spare false live bodies s = (f : Files) → Is s.files f → IsShut (other_than live f)
+
 pub record Keeps (journal : Journal) (bodies : List (List ℕ)) (s : Told) : Type 0 where
   pub stands : Stands journal.live bodies s
+  pub spare : Spare journal.unshut journal.live bodies s
   pub end : journal.end ≡ length (frames bodies)
+  pub generation : journal.generation ≡ (head_of bodies).generation
 
 -- a mark is appended to an empty file alone, and says no generation
 pub record MayFollow (bodies : List (List ℕ)) (body : List ℕ) : Type 0 where

@@ -3,7 +3,7 @@
 ghost use Rattle.std.specs.Prelude.{◌≡◌, ◌≤◌, IfOk, IfErr, OnOk, nat_lt, vec_capacity};
 ghost use Rattle.journal_at.specs.Format.{mark_of};
 ghost use Rattle.journal_at.specs.Reading.{IsWhy, bodies_of};
-ghost use Rattle.journal_at.specs.Scanning.{IsHead, IsOpened, IsPicked, IsScan, is_bare, mark_in, second_lives};
+ghost use Rattle.journal_at.specs.Scanning.{IsGate, IsHead, IsOpened, IsPicked, IsScan, is_bare, mark_in, second_lives};
 
 use crate::journal::Journal;
 use crate::listed::Bodies;
@@ -69,11 +69,22 @@ fn head_of_all(bodies: &[Placed]) -> Head
     }
 }
 
-/// The bodies of a file, what they say of it, and whether it has at most one byte.
+/// Whether a file's first gate is open or not there.
+fn is_unshut(bytes: &[u8]) -> bool
+    ensures { IsGate result bytes.now }
+{
+    match bytes.split_first() {
+        Some((gate, _)) => *gate == 1,
+        None => true,
+    }
+}
+
+/// The bodies of a file, what they say of it, whether its first gate is open or not there, and whether it has at most one byte.
 #[derive(Drop)]
 pub struct Scan {
     pub(crate) bodies: Bodies,
     pub(crate) head: Head,
+    pub(crate) unshut: bool,
     pub(crate) bare: bool,
 }
 
@@ -85,11 +96,8 @@ pub fn scan_file(alloc: Global, bytes: &[u8]) -> Result<Scan, BodiesFault>
     match read_bodies(alloc, bytes) {
         Ok(bodies) => {
             let head = head_of_all(bodies.items.as_slice());
-            Ok(Scan {
-                bodies,
-                head,
-                bare: bytes.len() <= 1,
-            })
+            let unshut = is_unshut(bytes);
+            Ok(Scan { bodies, head, unshut, bare: bytes.len() <= 1 })
         }
         Err(fault) => Err(fault),
     }
@@ -119,28 +127,23 @@ impl Both {
 }
 
 /// A journal whose file says that, and the records of it.
-fn opened(live: u8, limit: u32, room: Vec<u8>, scan: Scan) -> (Journal, Records)
-    requires { 1060005 ≤ vec_capacity room }
-    ensures { IsOpened live limit scan result.0 result.1 }
+fn opened(live: u8, limit: u32, room: Vec<u8>, unshut: bool, scan: Scan) -> (Journal, Records)
+    requires roomy { 1060005 ≤ vec_capacity room }
+    requires two { live ≤ 1 }
+    ensures { IsOpened live limit unshut scan result.0 result.1 }
 {
-    let Scan {
-        bodies,
-        head,
-        bare: _bare,
-    } = scan;
+    let Scan { bodies, head, unshut: _unshut, bare: _bare } = scan;
     let Bodies { items, end } = bodies;
     let journal = Journal {
         live,
         end,
         limit,
+        generation: head.generation,
+        unshut,
         unsure: false,
         room,
     };
-    let records = Records {
-        version: head.version,
-        start: head.start,
-        items,
-    };
+    let records = Records { version: head.version, start: head.start, items };
     (journal, records)
 }
 
@@ -150,13 +153,12 @@ pub fn pick(alloc: Global, limit: u32, both: Both) -> Result<(Journal, Records),
 {
     let room = Vec::with_capacity(alloc, 1_060_005)?;
     let second = both.second_lives();
-    let Both {
-        first,
-        second: other,
-    } = both;
+    let Both { first, second: other } = both;
     if second {
-        Ok(opened(1, limit, room, other))
+        let unshut = first.unshut;
+        Ok(opened(1, limit, room, unshut, other))
     } else {
-        Ok(opened(0, limit, room, first))
+        let unshut = other.unshut;
+        Ok(opened(0, limit, room, unshut, first))
     }
 }
