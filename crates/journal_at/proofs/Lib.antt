@@ -1,10 +1,15 @@
+pub mod Acting
 pub mod Appending
 pub mod Bodies
 pub mod Fetching
 pub mod Framing
+pub mod Holding
 pub mod Laying
 pub mod Opening
 pub mod Ran
 pub mod Settling
+pub mod Shutting
 pub mod Sparing
+pub mod Switching
+pub mod Texts
 pub mod Torn

@@ -1,16 +1,15 @@
 -- What the file that isn't live still allows.
-use Rattle.std.proofs.Common.{ℕ, List, Bool, Result, Ok, Err, true, false, zero, suc, [], ◌∷◌, length, ◌≡◌, ◌≢◌, ◌++◌, ◌+◌, ◌-◌, ◌<◌, ◌≤◌, ◌⊎◌, inl, inr, ⊎_elim, refl, sym, ◌∙◌, ap, subst, take, drop, replicate, get_or, option_map, arith}
+use Rattle.std.proofs.Common.{ℕ, List, Bool, Result, Ok, Err, true, false, zero, suc, [], ◌∷◌, length, ◌≡◌, ◌≢◌, ◌≤◌, inl, inr, ⊎_elim, refl, sym, ◌∙◌, ap, subst, drop, get_or, option_map, arith}
 use Rattle.std.proofs.lemmas.Bool.{cases_eq}
-use Rattle.std.proofs.lemmas.List.{append_assoc, length-append, length-drop, drop_more}
+use Rattle.std.proofs.lemmas.List.{drop_more}
 use Rattle.site_model.specs.Calls.{Raised}
 use Rattle.site_model.specs.Told.{Told, Files, Is, Torn, TornFrom, other_than, with_file, written}
-use Rattle.journal_at.specs.Format.{AreListed, Closed, FileOf, behind, frames, head_of}
+use Rattle.journal_at.specs.Format.{FileOf, head_of}
 use Rattle.journal_at.specs.Pairs.{Beside, IsLive}
 use Rattle.journal_at.specs.Reading.{IsShut}
 use Rattle.journal_at.specs.Scanning.{IsGate}
 use Rattle.journal_at.specs.Standing.{Laid, MayShut, Spare}
 use Rattle.journal_at.proofs.Appending.{live_more, other_with}
-use Rattle.journal_at.proofs.Framing.{head_of_list}
 use Rattle.journal_at.proofs.Ran.{option_map_is}
 
 -- the other file is what it was
@@ -46,9 +45,10 @@ others_raised w at (Ok x) old new h = record { files = others_done w (written at
 others_raised w at (Err x) old new h = record { files = λ f is. others_torn w at 1 (Is old.files) f (h.failed f is); images = λ c im. others_torn w at 1 old.images c (h.images c im) }
 
 pub spare_others : (u : Bool) (w : ℕ) (bodies : List (List ℕ)) (old new : Told) → Others w old new → Spare u w bodies old → Spare u w bodies new
-spare_others true w bodies old new o s =
-    ((λ f is. let (g, was, e) = o.files f is in subst (MayShut w bodies) (sym e) (s.0 g was)),
-    (λ c im. let (d, was, e) = o.images c im in subst (MayShut w bodies) (sym e) (s.1 d was)))
+spare_others true w bodies old new o s = (
+  (λ f is. let (g, was, e) = o.files f is in subst (MayShut w bodies) (sym e) (s.0 g was)),
+  (λ c im. let (d, was, e) = o.images c im in subst (MayShut w bodies) (sym e) (s.1 d was)),
+)
 spare_others false w bodies old new o s = λ f is. let (g, was, e) = o.files f is in subst IsShut (sym e) (s g was)
 
 pub may_more : (w : ℕ) (bodies later : List (List ℕ)) (f : List ℕ) → (head_of later).generation ≡ (head_of bodies).generation → MayShut w bodies f → MayShut w later f

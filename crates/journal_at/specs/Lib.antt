@@ -4,3 +4,4 @@ pub mod Standing
 pub mod Reading
 pub mod Scanning
 pub mod Loading
+pub mod Compacting

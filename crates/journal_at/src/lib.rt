@@ -2,6 +2,8 @@
 #![tactic(auto)]
 
 pub mod append;
+pub mod body;
+pub mod compact;
 pub mod frame;
 pub mod journal;
 pub mod listed;
@@ -9,4 +11,5 @@ pub mod load;
 pub mod read;
 pub mod records;
 pub mod scan;
+pub mod spare;
 pub mod version;

@@ -97,7 +97,12 @@ pub fn scan_file(alloc: Global, bytes: &[u8]) -> Result<Scan, BodiesFault>
         Ok(bodies) => {
             let head = head_of_all(bodies.items.as_slice());
             let unshut = is_unshut(bytes);
-            Ok(Scan { bodies, head, unshut, bare: bytes.len() <= 1 })
+            Ok(Scan {
+                bodies,
+                head,
+                unshut,
+                bare: bytes.len() <= 1,
+            })
         }
         Err(fault) => Err(fault),
     }
@@ -132,7 +137,12 @@ fn opened(live: u8, limit: u32, room: Vec<u8>, unshut: bool, scan: Scan) -> (Jou
     requires two { live ≤ 1 }
     ensures { IsOpened live limit unshut scan result.0 result.1 }
 {
-    let Scan { bodies, head, unshut: _unshut, bare: _bare } = scan;
+    let Scan {
+        bodies,
+        head,
+        unshut: _unshut,
+        bare: _bare,
+    } = scan;
     let Bodies { items, end } = bodies;
     let journal = Journal {
         live,
@@ -143,7 +153,11 @@ fn opened(live: u8, limit: u32, room: Vec<u8>, unshut: bool, scan: Scan) -> (Jou
         unsure: false,
         room,
     };
-    let records = Records { version: head.version, start: head.start, items };
+    let records = Records {
+        version: head.version,
+        start: head.start,
+        items,
+    };
     (journal, records)
 }
 
@@ -153,7 +167,10 @@ pub fn pick(alloc: Global, limit: u32, both: Both) -> Result<(Journal, Records),
 {
     let room = Vec::with_capacity(alloc, 1_060_005)?;
     let second = both.second_lives();
-    let Both { first, second: other } = both;
+    let Both {
+        first,
+        second: other,
+    } = both;
     if second {
         let unshut = first.unshut;
         Ok(opened(1, limit, room, unshut, other))
