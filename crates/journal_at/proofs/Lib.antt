@@ -1,6 +1,7 @@
 pub mod Acting
 pub mod Appending
 pub mod Bodies
+pub mod Dropping
 pub mod Fetching
 pub mod Framing
 pub mod Holding

@@ -1,6 +1,6 @@
 //! A journal.
 
-ghost use Rattle.std.specs.Prelude.{◌≤◌, ◌<◌, ◌^◌, vec_capacity};
+ghost use Rattle.std.specs.Prelude.{◌≡◌, ◌≤◌, ◌<◌, ◌^◌, vec_capacity};
 
 /// A journal whose files were read. `live` is the file that is appended to, `end` the place of its last gate, `generation` the
 /// number in its mark. Where `unshut`, the other file's first gate is still to be shut before a compaction writes behind it.
@@ -17,6 +17,29 @@ pub struct Journal {
     ghost two: { live ≤ 1 },
     ghost small: { end < 2 ^ 63 },
     ghost roomy: { 1060005 ≤ vec_capacity room },
+}
+
+impl Journal {
+    /// The file that is appended to.
+    pub fn live(&self) -> u8
+        ensures { result ≡ self.now.live }
+    {
+        self.live
+    }
+
+    /// The place of that file's last gate.
+    pub fn end(&self) -> u64
+        ensures { result ≡ self.now.end }
+    {
+        self.end
+    }
+
+    /// The generation of that file.
+    pub fn generation(&self) -> u32
+        ensures { result ≡ self.now.generation }
+    {
+        self.generation
+    }
 }
 
 /// What became of a body.

@@ -4,7 +4,7 @@ ghost use Rattle.std.specs.Prelude.{◌≡◌, ◌≢◌, ◌⊎◌, ◌++◌, �
 ghost use Rattle.journal_at.specs.declared.read.BodiesFault.TheVariants.{NoMemory};
 ghost use Rattle.journal_at.specs.Format.{FileOf, frames, mark_of};
 ghost use Rattle.std.specs.Int.{from_be_bytes, to_be_bytes, w32};
-ghost use Rattle.journal_at.specs.Reading.{Says, IsMisplaced, IsWhy, bodies_of, listed_in};
+ghost use Rattle.journal_at.specs.Reading.{Says, IsMisplaced, IsWhy, bodies_of, body_of, listed_in};
 
 use crate::listed::Bodies;
 use std::alloc::{AllocError, Global};
@@ -77,6 +77,22 @@ impl From<AllocError> for BodiesFault {
 pub struct Placed {
     pub(crate) body: Vec<u8>,
     pub(crate) gate: u64,
+}
+
+impl Placed {
+    /// The body.
+    pub fn body(&self) -> &[u8]
+        ensures { result.now ≡ body_of self.now }
+    {
+        self.body.as_slice()
+    }
+
+    /// The place of its gate.
+    pub fn gate(&self) -> u64
+        ensures { result ≡ self.now.gate }
+    {
+        self.gate
+    }
 }
 
 fn copy_of(alloc: Global, body: &[u8], gate: u64) -> Result<Placed, AllocError>

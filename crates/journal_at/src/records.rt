@@ -1,6 +1,8 @@
 //! The records of a journal.
 
 ghost use Rattle.std.specs.Prelude.{◌≡◌};
+ghost use Rattle.journal_at.specs.Reading.{bodies_of};
+ghost use Rattle.journal_at.specs.Scanning.{records_in};
 
 use crate::read::Placed;
 use crate::version::Version;
@@ -11,4 +13,23 @@ pub struct Records {
     pub(crate) version: Version,
     pub(crate) start: usize,
     pub(crate) items: Vec<Placed>,
+}
+
+impl Records {
+    /// The version.
+    pub fn version(&self) -> Version
+        ensures { result ≡ self.now.version }
+    {
+        self.version
+    }
+
+    /// The records, each with the place of its gate.
+    pub fn items(&self) -> &[Placed]
+        ensures { bodies_of result.now ≡ records_in self.now }
+    {
+        let all = self.items.as_slice();
+        let start = self.start.min(all.len());
+        let (_, records) = all.split_at(start);
+        records
+    }
 }
