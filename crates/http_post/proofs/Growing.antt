@@ -73,7 +73,7 @@ nothing : (xs : List ℕ) → length xs ≡ 0 → xs ≡ []
 nothing [] e = refl
 nothing (x ∷ xs) e = absurd (omega (arith, e))
 
--- the source ended
+-- the connection ended
 pub none_at_zero : (left mid now : Option (List ℕ)) (before after : List ℕ) (n : ℕ) → Consumes left mid before → length before ≤ 8192 → IsPiece mid now before after n → n ≡ 0 → HasNoRequest before → HasNoHead left
 none_at_zero left mid now before after n h fits p zero_bytes none =
     let same : before ++ p.piece ≡ before = ap (λ z. before ++ z) (nothing p.piece (p.count ∙ zero_bytes)) ∙ append-nil before in

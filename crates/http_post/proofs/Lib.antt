@@ -10,3 +10,7 @@ mod Lining
 mod Trailing
 mod Contents
 mod Chunking
+mod Receiving
+mod Conversing
+mod Concluding
+mod Deciding

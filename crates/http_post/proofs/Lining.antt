@@ -1,7 +1,7 @@
 -- A chunk line that is found in what came is that of all that counts.
 use Rattle.std.proofs.Common.{ℕ, List, Option, Some, None, [], ◌∷◌, ◌++◌, ◌≡◌, ◌≤◌, ◌+◌, ◌-◌, inl, inr, min, zero, suc, length, take, drop, refl, sym, subst, ap, ◌∙◌, arith, append_assoc}
 use Rattle.std.proofs.Common.{true, false, Result, Ok, Err}
-use Rattle.std.specs.Prelude.{IfOk, IfErr}
+use Rattle.std.specs.Prelude.{IfOk, IfErr, OnOk}
 use Rattle.std.proofs.lemmas.Bool.{true≢false}
 use Rattle.std.proofs.lemmas.List.{length-append, length-take, length-drop, drop-append-le}
 use Rattle.httparse.specs.Grammar.{ChunkLine, HasNoChunkLine, MayBecomeChunkLine, NeverHasChunkLine, ReadsChunkLine, print_chunk_line}
@@ -136,3 +136,7 @@ module _ (first left now : Option (List ℕ)) (old bytes new : List ℕ) (at : �
 -- where the bytes that count stay, a place in them stays one
 pub still_within : (old new : List ℕ) (at : ℕ) → take 131072 new ≡ take 131072 old → at ≤ min (length old) 131072 → at ≤ min (length new) 131072
 still_within old new at e le = omega (arith, le, ap length e, length-take 131072 old, length-take 131072 new)
+
+pub on_ok : {T E : Type 0} (r : Result T E) (P : T → Type 0) (Q : Type 0) → IfOk r P → ((x : T) → P x → Q) → OnOk r Q
+on_ok (Ok x) P Q h k = k x h
+on_ok (Err e) P Q h k = tt

@@ -31,7 +31,7 @@ cut_long (Some l) bytes raw k lt = record {
   held = ap (take 131072) k ∙ take-append-le 131072 bytes l (omega (arith, lt));
 }
 
--- the source ended
+-- the connection ended
 pub cut_short : (left : Option (List ℕ)) (bytes raw : List ℕ) → IsRaw left bytes raw → raw ≡ bytes → length bytes ≤ 131072 → BreaksOff bytes raw BadRequest
 cut_short left bytes raw k same le = record {
   is_cut = sym (rw (le-ltb 131072 (length raw) (omega (arith, le, ap length same))) refl);

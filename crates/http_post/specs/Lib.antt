@@ -8,3 +8,6 @@ pub mod Lines
 pub mod Known
 pub mod Reading
 pub mod Kept
+pub mod Connections
+pub mod Conversations
+pub mod Laws

@@ -35,6 +35,20 @@ impl Drop for Asking {
     }
 }
 
+impl Asking {
+    /// The path alone.
+    pub fn into_path(self) -> Text
+        ensures { result ≡ self.path }
+    {
+        let Asking {
+            path,
+            framing: _framing,
+            waits: _waits,
+        } = self;
+        path
+    }
+}
+
 /// The fields of a head.
 #[tactic(auto, using(crate::proofs::Fitting::keepable, crate::proofs::Fitting::found))]
 fn fields_of(alloc: Global, head: &Head) -> Result<HeaderMap, AllocError>

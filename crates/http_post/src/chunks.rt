@@ -1,6 +1,7 @@
 //! A body in chunks (RFC 9112, section 7.1).
 
 ghost use Rattle.std.specs.Prelude.{ℕ, List, ◌≡◌, ◌+◌, ◌<◌, ◌≤◌, Err, Ok, IfErr, IfOk, IfSome, OnOk, length, min, drop, take, true};
+ghost use Rattle.http_post.specs.Connections.{Leaves, left};
 ghost use Rattle.http_post.specs.Causes.{HasLinkCause};
 ghost use Rattle.http_post.specs.Raw.{EndsBefore, IsFault, IsRaw, is_cut, seen};
 ghost use Rattle.httparse.specs.Grammar.{ChunkLine};
@@ -13,18 +14,19 @@ use crate::raw::{counted, counting, more};
 use crate::refusal::HttpRefusal;
 use crate::trailers::read_trailers;
 use httparse::{InvalidChunkSize, Status, parse_chunk_size};
-use site_model::source::Source;
+use site_model::site::Site;
 use std::alloc::{AllocError, Global};
 
 /// Reads on until so many bytes count, or the body breaks off before.
-pub fn fill<S: Source>(source: &mut S, bytes: &mut Vec<u8>, upto: usize) -> Result<(), HttpRefusal>
-    ensures kept { OnOk result ((raw : List ℕ) → IsRaw (S.left source.old) bytes.old.items raw → IsRaw (S.left source.new) bytes.new.items raw) }
+pub fn fill<S: Site>(site: &mut S, bytes: &mut Vec<u8>, upto: usize) -> Result<(), HttpRefusal>
+    ensures kept { OnOk result ((raw : List ℕ) → IsRaw (left (S.told site.old)) bytes.old.items raw → IsRaw (left (S.told site.new)) bytes.new.items raw) }
     ensures full { OnOk result (upto ≤ min (length bytes.new.items) 131072) }
-    ensures fault { IfErr result (λ e. IsFault e (λ r. (raw : List ℕ) → IsRaw (S.left source.old) bytes.old.items raw → EndsBefore upto raw r)) }
-    ensures cause { HasLinkCause (S.faults source.old) (S.faults source.new) result }
+    ensures fault { IfErr result (λ e. IsFault e (λ r. (raw : List ℕ) → IsRaw (left (S.told site.old)) bytes.old.items raw → EndsBefore upto raw r)) }
+    ensures cause { HasLinkCause ((S.told site.old).counts.receive) ((S.told site.new).counts.receive) result }
+    ensures leaves { Leaves S.told site.old site.new }
 {
     while counting(bytes.as_slice()) < upto {
-        if let Err(refusal) = more(source, bytes) {
+        if let Err(refusal) = more(site, bytes) {
             return Err(refusal);
         }
     }
@@ -100,17 +102,14 @@ fn is_worth(counted: &[u8], at: usize, tried: usize) -> bool
 }
 
 /// Reads a chunk line at a place of what counts, reading on until it is whole.
-fn read_line<S: Source>(
-    source: &mut S,
-    bytes: &mut Vec<u8>,
-    at: usize,
-) -> Result<Sized, HttpRefusal>
+fn read_line<S: Site>(site: &mut S, bytes: &mut Vec<u8>, at: usize) -> Result<Sized, HttpRefusal>
     requires { at ≤ min (length bytes.old.items) 131072 }
-    ensures kept { OnOk result ((raw : List ℕ) → IsRaw (S.left source.old) bytes.old.items raw → IsRaw (S.left source.new) bytes.new.items raw) }
-    ensures line { IfOk result (λ line. (raw : List ℕ) → IsRaw (S.left source.old) bytes.old.items raw → (l : ChunkLine) × IsChunkLineAt (drop at (seen raw)) line.len line.size l) }
+    ensures kept { OnOk result ((raw : List ℕ) → IsRaw (left (S.told site.old)) bytes.old.items raw → IsRaw (left (S.told site.new)) bytes.new.items raw) }
+    ensures line { IfOk result (λ line. (raw : List ℕ) → IsRaw (left (S.told site.old)) bytes.old.items raw → (l : ChunkLine) × IsChunkLineAt (drop at (seen raw)) line.len line.size l) }
     ensures within { IfOk result (λ line. at + line.len ≤ min (length bytes.new.items) 131072) }
-    ensures fault { IfErr result (λ e. IsFault e (λ r. (raw : List ℕ) → IsRaw (S.left source.old) bytes.old.items raw → IsNoLine (drop at (seen raw)) (cut_at_end raw) r)) }
-    ensures cause { HasLinkCause (S.faults source.old) (S.faults source.new) result }
+    ensures fault { IfErr result (λ e. IsFault e (λ r. (raw : List ℕ) → IsRaw (left (S.told site.old)) bytes.old.items raw → IsNoLine (drop at (seen raw)) (cut_at_end raw) r)) }
+    ensures cause { HasLinkCause ((S.told site.old).counts.receive) ((S.told site.new).counts.receive) result }
+    ensures leaves { Leaves S.told site.old site.new }
 {
     let mut tried = at;
     loop {
@@ -121,7 +120,7 @@ fn read_line<S: Source>(
                 LineStep::More => tried = counting(bytes.as_slice()),
             }
         }
-        if let Err(refusal) = more(source, bytes) {
+        if let Err(refusal) = more(site, bytes) {
             return last_line(bytes.as_slice(), at, refusal);
         }
     }
@@ -132,28 +131,29 @@ const MOST_CONTENT: u64 = 65536;
 
 /// Reads one chunk at a place, and adds its data to the body. Says where the next chunk begins, or none where this was
 /// the last one and the trailers ended.
-fn read_chunk<S: Source>(
-    source: &mut S,
+fn read_chunk<S: Site>(
+    site: &mut S,
     bytes: &mut Vec<u8>,
     at: usize,
     body: &mut Vec<u8>,
 ) -> Result<Option<usize>, HttpRefusal>
     requires at { at ≤ min (length bytes.old.items) 131072 }
     requires body { length body.old.items ≤ 65536 }
-    ensures kept { OnOk result ((raw : List ℕ) → IsRaw (S.left source.old) bytes.old.items raw → IsRaw (S.left source.new) bytes.new.items raw) }
+    ensures kept { OnOk result ((raw : List ℕ) → IsRaw (left (S.told site.old)) bytes.old.items raw → IsRaw (left (S.told site.new)) bytes.new.items raw) }
     ensures next { IfOk result (λ o. IfSome o (λ next. (at < next) × (next ≤ min (length bytes.new.items) 131072))) }
     ensures most { OnOk result (length body.new.items ≤ 65536) }
-    ensures step { IfOk result (λ o. (raw : List ℕ) → IsRaw (S.left source.old) bytes.old.items raw → IsChunkStep (cut_at_end raw) (seen raw) at body.old.items body.new.items o) }
-    ensures fault { IfErr result (λ e. IsFault e (λ r. (raw : List ℕ) → IsRaw (S.left source.old) bytes.old.items raw → Chunks (cut_at_end raw) (length body.old.items) (drop at (seen raw)) (Err r))) }
-    ensures cause { HasLinkCause (S.faults source.old) (S.faults source.new) result }
+    ensures step { IfOk result (λ o. (raw : List ℕ) → IsRaw (left (S.told site.old)) bytes.old.items raw → IsChunkStep (cut_at_end raw) (seen raw) at body.old.items body.new.items o) }
+    ensures fault { IfErr result (λ e. IsFault e (λ r. (raw : List ℕ) → IsRaw (left (S.told site.old)) bytes.old.items raw → Chunks (cut_at_end raw) (length body.old.items) (drop at (seen raw)) (Err r))) }
+    ensures cause { HasLinkCause ((S.told site.old).counts.receive) ((S.told site.new).counts.receive) result }
+    ensures leaves { Leaves S.told site.old site.new }
 {
-    let line = match read_line(source, bytes, at) {
+    let line = match read_line(site, bytes, at) {
         Ok(line) => line,
         Err(refusal) => return Err(refusal),
     };
     let from = at + line.len;
     if line.size == 0 {
-        return match read_trailers(source, bytes, from) {
+        return match read_trailers(site, bytes, from) {
             Ok(()) => Ok(None),
             Err(refusal) => Err(refusal),
         };
@@ -162,7 +162,7 @@ fn read_chunk<S: Source>(
         return Err(HttpRefusal::ContentTooLarge);
     }
     let size = line.size as usize;
-    match read_content(source, bytes, from, size) {
+    match read_content(site, bytes, from, size) {
         Ok(()) => {}
         Err(refusal) => return Err(refusal),
     }
@@ -173,19 +173,20 @@ fn read_chunk<S: Source>(
 }
 
 /// The content of a body in chunks, of which these bytes came already.
-pub fn read_chunks<S: Source>(
+pub fn read_chunks<S: Site>(
     alloc: Global,
-    source: &mut S,
+    site: &mut S,
     bytes: &mut Vec<u8>,
 ) -> Result<Vec<u8>, HttpRefusal>
-    ensures content { IfOk result (λ body. (raw : List ℕ) → IsRaw (S.left source.old) bytes.old.items raw → Chunks (cut_at_end raw) 0 (seen raw) (Ok body.items)) }
-    ensures fault { IfErr result (λ e. IsFault e (λ r. (raw : List ℕ) → IsRaw (S.left source.old) bytes.old.items raw → Chunks (cut_at_end raw) 0 (seen raw) (Err r))) }
-    ensures cause { HasLinkCause (S.faults source.old) (S.faults source.new) result }
+    ensures content { IfOk result (λ body. (raw : List ℕ) → IsRaw (left (S.told site.old)) bytes.old.items raw → Chunks (cut_at_end raw) 0 (seen raw) (Ok body.items)) }
+    ensures fault { IfErr result (λ e. IsFault e (λ r. (raw : List ℕ) → IsRaw (left (S.told site.old)) bytes.old.items raw → Chunks (cut_at_end raw) 0 (seen raw) (Err r))) }
+    ensures cause { HasLinkCause ((S.told site.old).counts.receive) ((S.told site.new).counts.receive) result }
+    ensures leaves { Leaves S.told site.old site.new }
 {
     let mut body = Vec::new(alloc);
     let mut at = 0;
     loop {
-        let next = match read_chunk(source, bytes, at, &mut body) {
+        let next = match read_chunk(site, bytes, at, &mut body) {
             Ok(next) => next,
             Err(refusal) => return Err(refusal),
         };

@@ -3,14 +3,17 @@
 ghost use Rattle.std.specs.Prelude.{◌≡◌, ◌<◌, ◌≤◌, IfErr, IfOk, drop, length};
 ghost use Rattle.std.specs.Io.KnownBytes.{Consumes};
 ghost use Rattle.site_model.specs.Counts.{Rose};
+ghost use Rattle.http_post.specs.Connections.{Leaves, left};
 ghost use Rattle.http_post.specs.declared.head.HeadFault.TheVariants as faults;
 ghost use Rattle.http_post.specs.declared.head.PieceFault.TheVariants as pieces;
 ghost use Rattle.http_post.specs.Known.{HasNoHead, HoldsHead, IsPiece, IsRead};
 ghost use Rattle.http_post.specs.Reading.{IfNoHead};
 
+use crate::connection::receive;
 use crate::places::{Places, Step};
 use httparse::spans::RequestSpans;
-use site_model::source::{Failed, Source};
+use site_model::site::Site;
+use site_model::source::Failed;
 use std::alloc::{AllocError, Global};
 
 /// The most bytes of a head.
@@ -60,15 +63,16 @@ enum PieceFault {
 }
 
 /// Adds what one read gives, at most to 8,192 bytes in all.
-fn read_piece<S: Source>(source: &mut S, bytes: &mut Vec<u8>) -> Result<usize, PieceFault>
+fn read_piece<S: Site>(site: &mut S, bytes: &mut Vec<u8>) -> Result<usize, PieceFault>
     requires { length bytes.old.items < 8192 }
-    ensures piece { IfOk result (λ n. IsPiece (S.left source.old) (S.left source.new) bytes.old.items bytes.new.items n) }
-    ensures later { S.faults source.old ≤ S.faults source.new }
-    ensures failed { IfErr result (λ e. e ≡ pieces.Failed → Rose (S.faults source.old) (S.faults source.new)) }
+    ensures piece { IfOk result (λ n. IsPiece (left (S.told site.old)) (left (S.told site.new)) bytes.old.items bytes.new.items n) }
+    ensures later { (S.told site.old).counts.receive ≤ (S.told site.new).counts.receive }
+    ensures leaves { Leaves S.told site.old site.new }
+    ensures failed { IfErr result (λ e. e ≡ pieces.Failed → Rose ((S.told site.old).counts.receive) ((S.told site.new).counts.receive)) }
 {
     let mut buf = [0u8; 1024];
     let room = (MOST_HEAD - bytes.len()).min(1024);
-    let n = match source.read(&mut buf[..room]) {
+    let n = match receive(site, &mut buf[..room]) {
         Ok(n) => n,
         Err(Failed) => return Err(PieceFault::Failed),
     };
@@ -78,15 +82,16 @@ fn read_piece<S: Source>(source: &mut S, bytes: &mut Vec<u8>) -> Result<usize, P
     }
 }
 
-/// The head that the source begins with, and what came with it.
+/// The head that the connection begins with, and what came with it.
 #[tactic(auto, using(crate::proofs::Growing::nothing_yet, crate::proofs::Growing::grown, crate::proofs::Growing::holds, crate::proofs::Growing::none_at_most, crate::proofs::Growing::none_at_end, crate::proofs::Growing::never))]
-pub fn read_head<S: Source>(alloc: Global, source: &mut S) -> Result<Head, HeadFault>
-    ensures head { IfOk result (λ h. HoldsHead (S.left source.old) h.bytes.items h.places h.spans) }
+pub fn read_head<S: Site>(alloc: Global, site: &mut S) -> Result<Head, HeadFault>
+    ensures head { IfOk result (λ h. HoldsHead (left (S.told site.old)) h.bytes.items h.places h.spans) }
     ensures read { IfOk result (λ h. IsRead h.bytes.items h.places h.spans) }
-    ensures taken { IfOk result (λ h. Consumes (S.left source.old) (S.left source.new) h.bytes.items) }
-    ensures later { S.faults source.old ≤ S.faults source.new }
-    ensures failed { IfErr result (λ e. e ≡ faults.Failed → Rose (S.faults source.old) (S.faults source.new)) }
-    ensures none { IfErr result (λ e. IfNoHead e (HasNoHead (S.left source.old))) }
+    ensures taken { IfOk result (λ h. Consumes (left (S.told site.old)) (left (S.told site.new)) h.bytes.items) }
+    ensures later { (S.told site.old).counts.receive ≤ (S.told site.new).counts.receive }
+    ensures leaves { Leaves S.told site.old site.new }
+    ensures failed { IfErr result (λ e. e ≡ faults.Failed → Rose ((S.told site.old).counts.receive) ((S.told site.new).counts.receive)) }
+    ensures none { IfErr result (λ e. IfNoHead e (HasNoHead (left (S.told site.old)))) }
 {
     let Ok(mut places) = Places::new(alloc) else {
         return Err(HeadFault::NoMemory);
@@ -107,7 +112,7 @@ pub fn read_head<S: Source>(alloc: Global, source: &mut S) -> Result<Head, HeadF
         if bytes.len() >= MOST_HEAD {
             return Err(HeadFault::NoHead);
         }
-        let n = match read_piece(source, &mut bytes) {
+        let n = match read_piece(site, &mut bytes) {
             Ok(n) => n,
             Err(PieceFault::NoMemory) => return Err(HeadFault::NoMemory),
             Err(PieceFault::Failed) => return Err(HeadFault::Failed),

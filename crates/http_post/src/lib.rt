@@ -5,6 +5,7 @@
 pub mod asking;
 pub mod body;
 mod chunks;
+mod connection;
 mod content;
 mod fields;
 pub mod framing;
@@ -13,5 +14,7 @@ mod lengths;
 pub mod places;
 mod raw;
 pub mod refusal;
+pub mod request;
+pub mod ruling;
 mod trailers;
 pub mod writer;

@@ -1,6 +1,7 @@
 //! The trailers behind the last chunk (RFC 9112, section 7.1.2), which aren't looked at.
 
 ghost use Rattle.std.specs.Prelude.{ℕ, List, ◌≡◌, ◌+◌, ◌≤◌, IfErr, OnOk, drop, length, min, true, false};
+ghost use Rattle.http_post.specs.Connections.{Leaves, left};
 ghost use Rattle.http_post.specs.Chunks.{cut_at_end, ends_trailers};
 ghost use Rattle.http_post.specs.Lines.{IsAfter};
 ghost use Rattle.http_post.specs.Causes.{HasLinkCause};
@@ -8,7 +9,7 @@ ghost use Rattle.http_post.specs.Raw.{IsFault, IsRaw, seen};
 
 use crate::chunks::fill;
 use crate::refusal::HttpRefusal;
-use site_model::source::Source;
+use site_model::site::Site;
 
 /// How far a trailer line came.
 #[derive(Clone, Copy)]
@@ -34,21 +35,22 @@ fn after(line: Line, byte: u8) -> Option<Line>
 }
 
 /// Reads on to the end of the trailers, which begin at a place.
-pub fn read_trailers<S: Source>(
-    source: &mut S,
+pub fn read_trailers<S: Site>(
+    site: &mut S,
     bytes: &mut Vec<u8>,
     from: usize,
 ) -> Result<(), HttpRefusal>
     requires { from ≤ 131072 }
-    ensures kept { OnOk result ((raw : List ℕ) → IsRaw (S.left source.old) bytes.old.items raw → IsRaw (S.left source.new) bytes.new.items raw) }
-    ensures ended { OnOk result ((raw : List ℕ) → IsRaw (S.left source.old) bytes.old.items raw → ends_trailers (drop from (seen raw)) ≡ true) }
-    ensures fault { IfErr result (λ e. IsFault e (λ r. (raw : List ℕ) → IsRaw (S.left source.old) bytes.old.items raw → (ends_trailers (drop from (seen raw)) ≡ false) × (r ≡ cut_at_end raw))) }
-    ensures cause { HasLinkCause (S.faults source.old) (S.faults source.new) result }
+    ensures kept { OnOk result ((raw : List ℕ) → IsRaw (left (S.told site.old)) bytes.old.items raw → IsRaw (left (S.told site.new)) bytes.new.items raw) }
+    ensures ended { OnOk result ((raw : List ℕ) → IsRaw (left (S.told site.old)) bytes.old.items raw → ends_trailers (drop from (seen raw)) ≡ true) }
+    ensures fault { IfErr result (λ e. IsFault e (λ r. (raw : List ℕ) → IsRaw (left (S.told site.old)) bytes.old.items raw → (ends_trailers (drop from (seen raw)) ≡ false) × (r ≡ cut_at_end raw))) }
+    ensures cause { HasLinkCause ((S.told site.old).counts.receive) ((S.told site.new).counts.receive) result }
+    ensures leaves { Leaves S.told site.old site.new }
 {
     let mut line = Line::Fresh;
     let mut at = from;
     loop {
-        match fill(source, bytes, at + 1) {
+        match fill(site, bytes, at + 1) {
             Ok(()) => {}
             Err(refusal) => return Err(refusal),
         }

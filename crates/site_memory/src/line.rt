@@ -14,6 +14,8 @@ use std::collections::VecDeque;
 pub struct Line {
     pub(crate) coming: Vec<u8>,
     pub(crate) at: usize,
+    /// The most bytes that are given at once, or 0 where as many as there is room for.
+    pub(crate) most: usize,
     pub(crate) waiting: VecDeque<Bytes>,
 }
 
@@ -25,6 +27,7 @@ impl Line {
         Line {
             coming: Vec::new(alloc),
             at: 0,
+            most: 0,
             waiting: VecDeque::new(alloc),
         }
     }
@@ -67,10 +70,20 @@ impl Line {
         if self.at >= self.coming.len() {
             return 0;
         }
-        let n = buf.len().min(self.coming.len() - self.at);
+        let mut n = buf.len().min(self.coming.len() - self.at);
+        if self.most > 0 {
+            n = n.min(self.most);
+        }
         buf[..n].copy_from_slice(&self.coming[self.at..self.at + n]);
         self.at += n;
         n
+    }
+
+    /// From now on it gives at most so many bytes at once.
+    pub fn give_at_most(&mut self, most: usize)
+        ensures { self.new ≡ record self.old { most = most } }
+    {
+        self.most = most;
     }
 
     /// The open one brings nothing more.

@@ -179,6 +179,14 @@ impl MemSite {
         self.line.connect(self.alloc, bytes)
     }
 
+    /// From now on each receive gives at most so many bytes, or as many as there is room for where that is 0.
+    pub fn give_at_most(&mut self, most: usize)
+        ensures same { link_of self.new.line ≡ link_of self.old.line }
+        ensures others { self.new ≡ record self.old { line = self.new.line } }
+    {
+        self.line.give_at_most(most);
+    }
+
     /// From now on it is attached by these names alone.
     pub fn named(&mut self, journal: &[u8], listen: &[u8]) -> Result<(), AllocError>
         ensures done { OnOk result (IfSome self.new.names (λ n. (contents n.journal ≡ journal.now) × (contents n.listen ≡ listen.now))) }

@@ -1,5 +1,5 @@
 -- What each call of a node's machine changes of what it tells.
-use Rattle.std.specs.Prelude.{ℕ, List, Bool, Result, Ok, Err, Some, ◌∷◌, [], ◌++◌, ◌≡◌, ◌⊎◌, ◌≤◌, ◌<◌, length, take, drop, map, OnOk, OnErr, IfOk, option_map}
+use Rattle.std.specs.Prelude.{ℕ, List, Bool, Result, Ok, Err, Some, None, ◌∷◌, [], ◌++◌, ◌≡◌, ◌⊎◌, ◌≤◌, ◌<◌, length, take, drop, map, OnOk, OnErr, IfOk, option_map}
 use Rattle.site_model.specs.Site.{OnDisk, OnGate, OnReceive, OnLink, Attached, Took}
 use Rattle.site_model.specs.Told.{Told, Call, Made, Link, done, BreaksOff, with_file, written, Is, Within, TornFrom, Tears, Settled, Elapses, Between, Now, Still, Apart}
 use Rattle.site_model.specs.Told.Call.{Write, Sync}
@@ -81,6 +81,7 @@ pub record Takes {E : Type 0} (result : Result Taken E) (old new : Told) : Type 
   pub still : Still old new
   pub clock : new.clock ≡ old.clock
   pub told : (before : Link) → old.link ≡ Some before → (after : Link) × (new.link ≡ Some after) × Opens result before after
+  pub untold : old.link ≡ None → new.link ≡ None
   pub counts : Took old.counts new.counts result
 
 -- a beginning of the bytes that are to come was given, at least one where one is there and there is room; the rest are to come
@@ -100,6 +101,7 @@ pub record Received {E : Type 0} (result : Result ℕ E) (buf : List ℕ) (old n
   pub still : Still old new
   pub clock : new.clock ≡ old.clock
   pub told : (before : Link) → old.link ≡ Some before → (after : Link) × (new.link ≡ Some after) × Gives result buf before after
+  pub untold : old.link ≡ None → new.link ≡ None
   pub counts : OnReceive old.counts new.counts result
 
 -- the connection brings nothing more

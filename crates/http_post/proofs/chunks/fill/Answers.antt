@@ -5,5 +5,11 @@ use Rattle.http_post.proofs.chunks.fill.Goals as goal
 -- src/chunks.rt:22:13
 pub returns-in-Err-clause-fault : goal.returns-in-Err-clause-fault
 returns-in-Err-clause-fault g c =
-    let few : min (length c.loop-source.bytes.items) 131072 < c.args.upto = omega (arith, c.loop-source-test.true, c.counting.ensures, ap length c.as_slice.ensures.value) in
-    fill_fault _ _ _ _ _ _ c.loop-source.invariant.0 few c.in-Err.ensures.fault
+    let few : min (length c.loop-site.bytes.items) 131072 < c.args.upto = omega (arith, c.loop-site-test.true, c.counting.ensures, ap length c.as_slice.ensures.value) in
+    fill_fault _ _ _ _ _ _ c.loop-site.invariant.0 few c.in-Err.ensures.fault
+
+pub loop-site-preserved : goal.loop-site-preserved
+loop-site-preserved g c = (
+  (λ raw k. c.in_default.ensures.kept raw (c.loop-site.invariant.0 raw k)),
+  (omega (arith, c.loop-site.invariant.1.0, c.more.ensures.cause.later), (λ first h. c.more.ensures.leaves first (c.loop-site.invariant.1.1 first h))),
+)

@@ -16,7 +16,7 @@ loop-next-preserved g c = (
       ),
     ),
   ),
-  omega (arith, c.loop-next.invariant.1, c.read_chunk.ensures.cause.later),
+  (omega (arith, c.loop-next.invariant.1.0, c.read_chunk.ensures.cause.later), (λ first h. c.read_chunk.ensures.leaves first (c.loop-next.invariant.1.1 first h))),
 )
 
 -- src/chunks.rt:193:21

@@ -1,10 +1,12 @@
 use Rattle.std.proofs.Common.{ℕ, List, true, ◌≡◌, ◌+◌, arith, ap, length, ◌≤◌, min, drop, take}
+use Rattle.http_post.specs.Connections.{left}
 use Rattle.http_post.specs.Chunks.{cut_at_end}
 use Rattle.http_post.specs.Lines.{IsLast, IsNoLine}
 use Rattle.http_post.specs.Raw.{IsFault, IsRaw, is_cut, seen}
 use Rattle.httparse.specs.Grammar.{ChunkLine}
 use Rattle.httparse.specs.Spans.{IsChunkLineAt}
-use Rattle.http_post.proofs.Lining.{if_err, if_ok, last_fault, last_of, last_seen, line_of, line_seen, line_within, never_of, never_seen, still_within}
+use Rattle.http_post.proofs.Lining.{if_err, if_ok, last_kept, on_ok, last_fault, last_of, last_seen, line_of, line_seen, line_within, never_of, never_seen, still_within}
+use Rattle.http_post.proofs.chunks.read_line.Goals.{then-is_worth+in-More, else-is_worth}
 use Rattle.http_post.proofs.chunks.read_line.Goals as goal
 
 -- src/chunks.rt:117:42
@@ -44,7 +46,29 @@ returns-in-Err-clause-within g c =
 pub returns-in-Err-clause-fault : goal.returns-in-Err-clause-fault
 returns-in-Err-clause-fault g c =
     if_err c.last_line.result (λ e. IsLast (drop c.args.at (take 131072 c.as_slice-in-Err.result.now)) c.in-Err.refusal e)
-    (λ e. IsFault e (λ r. (raw : List ℕ) → IsRaw (g.S.Source.left c.args.source.now) c.args.bytes.now.items raw → IsNoLine (drop c.args.at (seen raw)) (cut_at_end raw) r))
+    (λ e. IsFault e (λ r. (raw : List ℕ) → IsRaw (left (g.S.Site.told c.args.site.now)) c.args.bytes.now.items raw → IsNoLine (drop c.args.at (seen raw)) (cut_at_end raw) r))
     c.last_line.ensures.fault
     (λ e h. last_fault _ _ _ _ _ _ _ _ c.loop-bytes.invariant.0.0 c.loop-bytes.invariant.0.1.1 c.in-Err.ensures.fault c.in-Err.ensures.kept_at_cut c.in-Err.ensures.held e
     (last_of c.more.new.bytes.items c.as_slice-in-Err.result.now c.args.at c.in-Err.refusal e c.as_slice-in-Err.ensures.value h))
+
+-- src/chunks.rt:128:13
+pub returns-in-Err-clause-kept : goal.returns-in-Err-clause-kept
+returns-in-Err-clause-kept g c =
+    on_ok c.last_line.result (λ line. (is_cut c.in-Err.refusal ≡ true) × ((l : ChunkLine) × IsChunkLineAt (drop c.args.at (take 131072 c.as_slice-in-Err.result.now)) line.len line.size l))
+    ((raw : List ℕ) → IsRaw (left (g.S.Site.told c.args.site.now)) c.args.bytes.now.items raw → IsRaw (left (g.S.Site.told c.more.new.site)) c.more.new.bytes.items raw)
+    c.last_line.ensures.line
+    (λ line h. last_kept _ _ _ _ _ _ _ _ c.loop-bytes.invariant.0.0 c.loop-bytes.invariant.0.1.1 c.in-Err.ensures.fault c.in-Err.ensures.kept_at_cut c.in-Err.ensures.held h.0)
+
+-- src/chunks.rt:119:5
+pub loop-bytes-preserved : goal.loop-bytes-preserved
+loop-bytes-preserved g c =
+    let tried : c.args.at ≤ c.if-is_worth.tried = elim c.if-is_worth.branch [
+      | then-is_worth+in-More w ↦ omega (arith, w.tried-is, w.counting-tried.ensures, c.loop-bytes.invariant.0.1.1, ap length w.as_slice-in-More.ensures.value)
+      | else-is_worth w ↦ omega (arith, w.tried-is, c.loop-bytes.invariant.0.1.0)
+    ] in (
+      (
+        (λ raw k. c.in_default.ensures.kept raw (c.loop-bytes.invariant.0.0 raw k)),
+        (tried, omega (arith, c.in_default.ensures.grown, c.loop-bytes.invariant.0.1.1)),
+      ),
+      (omega (arith, c.loop-bytes.invariant.1.0, c.more.ensures.cause.later), (λ first h. c.more.ensures.leaves first (c.loop-bytes.invariant.1.1 first h))),
+    )

@@ -1,4 +1,5 @@
 use Rattle.std.proofs.Common.{arith}
+use Rattle.http_post.specs.Connections.{left}
 use Rattle.http_post.proofs.Reading.{cut_full, held_full, held_still}
 use Rattle.http_post.proofs.raw.more.Goals as goal
 
@@ -10,7 +11,7 @@ returns-then-n-eq0-clause-held g c =
 -- src/raw.rt:58:9
 pub returns-then-not-counts-clause-fault : goal.returns-then-not-counts-clause-fault
 returns-then-not-counts-clause-fault g c raw k =
-    cut_full (g.S.Source.left c.args.source.now) (g.S.Source.left c.read_on.new.source) c.args.bytes.now.items c.read_on.new.bytes.items raw c.in-Ok.n
+    cut_full (left (g.S.Site.told c.args.site.now)) (left (g.S.Site.told c.read_on.new.site)) c.args.bytes.now.items c.read_on.new.bytes.items raw c.in-Ok.n
     k (c.in-Ok.ensures.kept raw k) c.in-Ok.ensures.grown (omega (arith, c.if-n-eq0.false)) (omega (arith, c.if-len-gt-MOST_RAW.false, c.if-not-counts.true))
 
 -- src/raw.rt:58:9

@@ -1,0 +1,13 @@
+use Rattle.http_post.specs.Connections.{left}
+use Rattle.http_post.proofs.Concluding.{body_asked, body_refused}
+use Rattle.http_post.proofs.request.hear_body.Goals as goal
+
+pub returns-in-Ok-read_body-clause-ok : goal.returns-in-Ok-read_body-clause-ok
+returns-in-Ok-read_body-clause-ok g c =
+    body_asked (left (g.S.Site.told c.args.site.now)) (left (g.S.Site.told c.go_on.new.site)) c.args.heard.asking.path c.into_path.result c.args.heard.rest.items c.in-Ok-read_body.body.items c.args.heard.asking.framing c.args.heard.asking.waits
+    c.into_path.ensures c.in-Ok.ensures.same c.in-Ok-read_body.ensures.content
+
+pub returns-in-Err-read_body-clause-err : goal.returns-in-Err-read_body-clause-err
+returns-in-Err-read_body-clause-err g c =
+    body_refused (left (g.S.Site.told c.args.site.now)) (left (g.S.Site.told c.go_on.new.site)) c.args.heard.asking.path c.args.heard.rest.items c.args.heard.asking.framing c.args.heard.asking.waits
+    c.in-Err-read_body.refusal c.in-Ok.ensures.same c.in-Err-read_body.ensures.fault
