@@ -1,7 +1,7 @@
 -- The worked examples, by computation.
 use Rattle.std.specs.Prelude.{refl}
 use Rattle.model_laws.specs.Settle.{deliveries_from, settle_round, settle_rounds, settle_from, settled, settle}
-use Rattle.model_laws.specs.Examples.{WaitsForAllMessages, PlainPathMessages, PlainPathEffects, NoParticipantMessages, NoParticipantEffects, VolatileFirstMessages, VolatileFirstEffects, ReadOnlyMessages, ReadOnlyEffects, OneAbortsMessages, OneAbortsEffects, LateRegisterMessages, LateRegisterEffects, RegisterTwiceMessages, RegisterTwiceEffects, NewIncarnationMessages, NewIncarnationEffects, PrepareAgainMessages, PrepareAgainEffects, StopBeforeVoteMessages, StopBeforeVoteEffects, StopBehindVoteMessages, StopBehindVoteEffects, DecisionRefusedMessages, DecisionRefusedEffects, HaltBehindDecisionMessages, HaltBehindDecisionEffects, ExpiryMessages, ExpiryEffects, NoExpiryBehindDecisionMessages, NoExpiryBehindDecisionEffects, EndStandsMessages, EndStandsEffects, RollbackOnVolatileLinkMessages, RollbackOnVolatileLinkEffects, InterpositionMessages, InterpositionEffects, SubordinateCrashesMessages, SubordinateCrashesEffects, RegisterTwiceSeats, PlainPathJournals, NoDecisionRecorded, HalfToldSettles, StillRegisteringSettles}
+use Rattle.model_laws.specs.Examples.{WaitsForAllMessages, PlainPathMessages, PlainPathEffects, NoParticipantMessages, NoParticipantEffects, VolatileFirstMessages, VolatileFirstEffects, ReadOnlyMessages, ReadOnlyEffects, OneAbortsMessages, OneAbortsEffects, LateRegisterMessages, LateRegisterEffects, RegisterTwiceMessages, RegisterTwiceEffects, NewIncarnationMessages, NewIncarnationEffects, PrepareAgainMessages, PrepareAgainEffects, StopBeforeVoteMessages, StopBeforeVoteEffects, StopBehindVoteMessages, StopBehindVoteEffects, DecisionRefusedMessages, DecisionRefusedEffects, HaltBehindDecisionMessages, HaltBehindDecisionEffects, ExpiryMessages, ExpiryEffects, NoExpiryBehindDecisionMessages, NoExpiryBehindDecisionEffects, EndStandsMessages, EndStandsEffects, RollbackOnVolatileLinkMessages, RollbackOnVolatileLinkEffects, InterpositionMessages, InterpositionEffects, SubordinateCrashesMessages, SubordinateCrashesEffects, RegisterTwiceSeats, PlainPathJournals, DecidesWithoutSeats, CommitsAgain, HalfToldSettles, StillRegisteringSettles}
 use Rattle.at_model.specs.Abort.{abort}
 use Rattle.at_model.specs.Phases.{decided, committed, root_answered, voted, sub_answered, go_durable, volatile_answered, all_committed, advance_in, go_volatile}
 use Rattle.at_model.specs.Arrivals.{seat_act, seat_notice, commit_voted, link_act, link_notice, completion_act, completion_notice, link_registered, link_fault, on_link, on_seat, on_completion}
@@ -176,9 +176,9 @@ pub plain_path_journals : PlainPathJournals
 unfolding abort decided committed root_answered voted sub_answered go_durable volatile_answered all_committed advance_in go_volatile seat_act seat_notice commit_voted link_act link_notice completion_act completion_notice link_registered link_fault on_link on_seat on_completion accept register_new register_again on_register register_unknown create_under create_in on_create leaf_votes leaf_commit leaf_roll_back leaf_act leaf_notice leaf_registered leaf_fault on_leaf on_work activity_act activity_notice activity_created activity_registered activity_fault on_activity on_begin on_interpose on_ask on_complete transaction_reached leaf_reached activity_reached activation_plan registration_plan completion_plan coordinator_plan participant_plan initiator_plan work_plan arrived_plan request_plan due_plan world_step sha1 first_words schedule rounds compress hash_after digest_bytes by_index digits
 plain_path_journals = refl
 
-pub no_decision_recorded : NoDecisionRecorded
+pub decides_without_seats : DecidesWithoutSeats
 unfolding abort decided committed root_answered voted sub_answered go_durable volatile_answered all_committed advance_in go_volatile seat_act seat_notice commit_voted link_act link_notice completion_act completion_notice link_registered link_fault on_link on_seat on_completion accept register_new register_again on_register register_unknown create_under create_in on_create leaf_votes leaf_commit leaf_roll_back leaf_act leaf_notice leaf_registered leaf_fault on_leaf on_work activity_act activity_notice activity_created activity_registered activity_fault on_activity on_begin on_interpose on_ask on_complete transaction_reached leaf_reached activity_reached activation_plan registration_plan completion_plan coordinator_plan participant_plan initiator_plan work_plan arrived_plan request_plan due_plan world_step sha1 first_words schedule rounds compress hash_after digest_bytes by_index digits
-no_decision_recorded = refl
+decides_without_seats = refl
 
 pub half_told_settles : HalfToldSettles
 unfolding deliveries_from settle_round settle_rounds settle_from settled settle abort decided committed root_answered voted sub_answered go_durable volatile_answered all_committed advance_in go_volatile seat_act seat_notice commit_voted link_act link_notice completion_act completion_notice link_registered link_fault on_link on_seat on_completion accept register_new register_again on_register register_unknown create_under create_in on_create leaf_votes leaf_commit leaf_roll_back leaf_act leaf_notice leaf_registered leaf_fault on_leaf on_work activity_act activity_notice activity_created activity_registered activity_fault on_activity on_begin on_interpose on_ask on_complete transaction_reached leaf_reached activity_reached activation_plan registration_plan completion_plan coordinator_plan participant_plan initiator_plan work_plan arrived_plan request_plan due_plan world_step sha1 first_words schedule rounds compress hash_after digest_bytes by_index digits
@@ -191,3 +191,7 @@ still_registering_settles = (refl, refl)
 pub waits_for_all_messages : WaitsForAllMessages
 unfolding abort decided committed root_answered voted sub_answered go_durable volatile_answered all_committed advance_in go_volatile seat_act seat_notice commit_voted link_act link_notice completion_act completion_notice link_registered link_fault on_link on_seat on_completion accept register_new register_again on_register register_unknown create_under create_in on_create leaf_votes leaf_commit leaf_roll_back leaf_act leaf_notice leaf_registered leaf_fault on_leaf on_work activity_act activity_notice activity_created activity_registered activity_fault on_activity on_begin on_interpose on_ask on_complete transaction_reached leaf_reached activity_reached activation_plan registration_plan completion_plan coordinator_plan participant_plan initiator_plan work_plan arrived_plan request_plan due_plan world_step sha1 first_words schedule rounds compress hash_after digest_bytes by_index digits
 waits_for_all_messages = refl
+
+pub commits_again : CommitsAgain
+unfolding abort decided committed root_answered voted sub_answered go_durable volatile_answered all_committed advance_in go_volatile seat_act seat_notice commit_voted link_act link_notice completion_act completion_notice link_registered link_fault on_link on_seat on_completion accept register_new register_again on_register register_unknown create_under create_in on_create leaf_votes leaf_commit leaf_roll_back leaf_act leaf_notice leaf_registered leaf_fault on_leaf on_work activity_act activity_notice activity_created activity_registered activity_fault on_activity on_begin on_interpose on_ask on_complete transaction_reached leaf_reached activity_reached activation_plan registration_plan completion_plan coordinator_plan participant_plan initiator_plan work_plan arrived_plan request_plan due_plan world_step sha1 first_words schedule rounds compress hash_after digest_bytes by_index digits
+commits_again = refl
