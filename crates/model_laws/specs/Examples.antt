@@ -58,7 +58,7 @@ PlainPathEffects =
     ≡ at 2 (effects.Root first endings.Committed) ∷ at 3 (effects.Leaf first kinds.Durable endings.Committed)
     ∷ at 1 (effects.Told first tellings.Committed) ∷ []
 
--- No participant: the root commits at once, and records nothing.
+-- No participant: the root commits at once.
 abbrev pub no_participant : List WorldEvent
 no_participant =
     up 1 ∷ up 2 ∷ begin_at 1 2 0 ∷ deliver_to 2 1 ∷ deliver_to 1 2 ∷ deliver_to 2 3 ∷ deliver_to 1 4

@@ -86,7 +86,7 @@ pub fn decision_refused()
     ensures effects { DecisionRefusedEffects }
 {}
 
-/// A halt right behind the decision: it holds, the participant is told, and the initiator finds the outcome unknown.
+/// A halt right behind the decision: it holds, the participant is told, and the initiator, which asks again, hears of it.
 #[tactic(auto, using(crate::proofs::Examples::halt_behind_decision_messages, crate::proofs::Examples::halt_behind_decision_effects))]
 pub fn halt_behind_decision()
     ensures messages { HaltBehindDecisionMessages }
