@@ -33,3 +33,4 @@ pub mod Holding
 pub mod Seating
 pub mod Sorting
 pub mod Compacting
+pub mod Outcoming
