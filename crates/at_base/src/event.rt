@@ -122,6 +122,8 @@ pub enum Event {
     Local(Local),
     /// An item that is due: it expired, its aborting ended, or it sends again.
     Due(Item),
+    /// A tick: the time is noted, and accepted.
+    Tick,
 }
 
 impl Drop for Event {
@@ -130,6 +132,7 @@ impl Drop for Event {
             Event::Arrived(_held) => {}
             Event::Local(_held) => {}
             Event::Due(_held) => {}
+            Event::Tick => {}
         }
     }
 }
@@ -234,6 +237,7 @@ impl Clone for Event {
             Event::Arrived(arrived) => Ok(Event::Arrived(arrived.clone()?)),
             Event::Local(local) => Ok(Event::Local(local.clone()?)),
             Event::Due(item) => Ok(Event::Due(*item)),
+            Event::Tick => Ok(Event::Tick),
         }
     }
 }

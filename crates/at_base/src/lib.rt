@@ -4,6 +4,7 @@
 pub mod epr;
 pub mod event;
 pub mod id;
+pub mod limits;
 pub mod message;
 pub mod message_id;
 pub mod notice;

@@ -37,7 +37,7 @@ impl Clone for Seated {
     }
 }
 
-/// Seats of one transaction, their numbers rising, 1 to 64 of them in a record.
+/// Seats of one transaction, their numbers rising, at most 512 of them in a record.
 #[derive(Debug, Drop)]
 pub struct Seats {
     items: Vec<Seated>,
@@ -140,7 +140,7 @@ pub enum Record {
         superior: Epr,
         seats: Seats,
     },
-    /// A root decided to commit, with these seats prepared.
+    /// A root decided to commit, with these durable seats prepared, or none.
     Decided {
         id: Id,
         seats: Seats,
@@ -151,6 +151,10 @@ pub enum Record {
     },
     /// A transaction is over, and nobody waits for it.
     Ended {
+        id: Id,
+    },
+    /// A root committed, and is over: what is kept of its Decided.
+    Done {
         id: Id,
     },
 }
@@ -180,6 +184,7 @@ impl Drop for Record {
             } => {}
             Record::SubCommitted { id: _id } => {}
             Record::Ended { id: _id } => {}
+            Record::Done { id: _id } => {}
         }
     }
 }
@@ -227,6 +232,7 @@ impl Clone for Record {
             }),
             Record::SubCommitted { id } => Ok(Record::SubCommitted { id: *id }),
             Record::Ended { id } => Ok(Record::Ended { id: *id }),
+            Record::Done { id } => Ok(Record::Done { id: *id }),
         }
     }
 }

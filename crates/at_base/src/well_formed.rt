@@ -8,6 +8,7 @@ ghost use Rattle.at_base.specs.WellFormed.{IsEndpoint, IsField, Rises, AreSeats,
 
 use crate::epr::Epr;
 use crate::id::Id;
+use crate::limits::{MOST_ENDPOINT, MOST_FIELD, MOST_SEATS};
 use crate::record::{Record, Seated, Seats};
 use crate::text::Text;
 
@@ -32,8 +33,8 @@ pub fn is_endpoint(endpoint: &Epr) -> bool
     let address = endpoint.address.as_str().len();
     let params = endpoint.params.as_str().len();
     address >= 1
-        && address <= 2048
-        && params <= 2048 - address
+        && address <= MOST_ENDPOINT
+        && params <= MOST_ENDPOINT - address
         && is_xml_text(&endpoint.address)
         && is_xml_text(&endpoint.params)
 }
@@ -42,7 +43,7 @@ pub fn is_endpoint(endpoint: &Epr) -> bool
 pub fn is_field(text: &Text) -> bool
     ensures { IsTrue result ↔ IsField text.now }
 {
-    text.as_str().len() <= 256 && is_xml_text(text)
+    text.as_str().len() <= MOST_FIELD && is_xml_text(text)
 }
 
 fn rises(seats: &[Seated]) -> bool
@@ -58,13 +59,12 @@ fn rises(seats: &[Seated]) -> bool
     true
 }
 
-/// Whether a record may hold these participants: 1 to 64 of them, their numbers rising from 1.
+/// Whether a record may hold these participants: at most 512 of them, their numbers rising from 1.
 pub fn are_seats(seats: &Seats) -> bool
     ensures { IsTrue result ↔ AreSeats seats.now }
 {
     let items = seats.as_slice();
-    items.len() >= 1
-        && items.len() <= 64
+    items.len() <= MOST_SEATS
         && rises(items)
         && items.iter().all(|seated| is_endpoint(&seated.endpoint))
 }
@@ -92,11 +92,12 @@ pub fn is_well_formed(entry: &Record) -> bool
             id,
             superior,
             seats,
-        } => is_id(*id) && is_endpoint(superior) && are_seats(seats),
+        } => is_id(*id) && is_endpoint(superior) && !seats.as_slice().is_empty() && are_seats(seats),
         Record::Decided { id, seats } => is_id(*id) && are_seats(seats),
         Record::LeafCommitted { id }
         | Record::LeafAborted { id }
         | Record::SubCommitted { id }
-        | Record::Ended { id } => is_id(*id),
+        | Record::Ended { id }
+        | Record::Done { id } => is_id(*id),
     }
 }

@@ -15,7 +15,7 @@ use Rattle.at_tables.specs.Names.{is_kind, is_state}
 use Rattle.at_model.specs.Book.{Transaction, Link, Superior, Phase}
 use Rattle.at_model.specs.Posts.{notice_post, stored_or, to_each}
 use Rattle.at_model.specs.Moves.{Moving, Change, posts, effect, become, stays, forgotten}
-use Rattle.at_model.specs.Seats.{in_state, is_open, send_each, link_in, ending, initiator_posts, completed}
+use Rattle.at_model.specs.Seats.{in_state, is_open, send_each, link_in, ending, initiator_posts, completion_in}
 
 -- Why a transaction aborts: on its own; or by a Rollback that came on a link, with its From; or behind an InvalidState
 -- that a link drew.
@@ -66,7 +66,7 @@ abort m reason g =
       superior = without_links g.item.superior;
       phase = Phase.Aborting;
       aborted = Some m.now;
-      completion = completed g.item.completion;
+      completion = completion_in states.None g.item.completion;
     })
     (posts (links_aborted m.base g.item.id reason g.item.superior)
     (effect (ending g.item endings.Aborted) g)))))

@@ -122,20 +122,23 @@ unfoldable pub link_notice : Moment → Option Epr → Option (List ℕ) → Kin
 link_notice m from id kind s t None = ignored t
 link_notice m from id kind s t (Some c) = link_act m from id kind s t c.act
 
--- The acts of the completion table at a seat that is known (WS-AtomicTransaction 1.2, section 3.2).
-unfoldable pub completion_act : Moment → Option (List ℕ) → Completion → Transaction → Act → Decision Transaction
-completion_act m id c t acts.FaultUnknownTransaction =
+-- The acts of the completion table at a seat that is known (WS-AtomicTransaction 1.2, section 3.2). An initiator that asks
+-- for the commit again hears of it at its message's From.
+unfoldable pub completion_act : Moment → Option Epr → Option (List ℕ) → Completion → Transaction → Act → Decision Transaction
+completion_act m from id c t acts.SendCommitted =
+    Goes (stays (posts (to_each from (λ to. notice_post m.base (targets.Completion t.id) to notices.Committed)) (begin t)))
+completion_act m from id c t acts.FaultUnknownTransaction =
     Goes (stays (post (fault_post (Some c.initiator) id unknown_transaction) (begin t)))
-completion_act m id c t acts.FaultInvalidState =
+completion_act m from id c t acts.FaultInvalidState =
     Goes (stays (post (fault_post (Some c.initiator) id invalid_state) (begin t)))
-completion_act m id c t acts.Complete =
+completion_act m from id c t acts.Complete =
     go_volatile m (begin (record t { completion = Some (record c { state = states.Completing }) }))
-completion_act m id c t acts.AbortAndSendAborted = Goes (abort m Alone (begin t))
-completion_act m id c t other = ignored t
+completion_act m from id c t acts.AbortAndSendAborted = Goes (abort m Alone (begin t))
+completion_act m from id c t other = ignored t
 
-unfoldable pub completion_notice : Moment → Option (List ℕ) → Completion → Transaction → Option Cell → Decision Transaction
-completion_notice m id c t None = ignored t
-completion_notice m id c t (Some cell) = completion_act m id c t cell.act
+unfoldable pub completion_notice : Moment → Option Epr → Option (List ℕ) → Completion → Transaction → Option Cell → Decision Transaction
+completion_notice m from id c t None = ignored t
+completion_notice m from id c t (Some cell) = completion_act m from id c t cell.act
 
 -- the message answers what has this id (WS-Addressing 1.0 Core, section 3.3)
 abbrev pub relates_to : Option (List ℕ) → List ℕ → Bool
@@ -182,7 +185,7 @@ on_seat m a t s other = ignored t
 
 -- A message at the completion seat: a notification; a fault is ignored.
 unfoldable pub on_completion : Moment → Arrived → Transaction → Completion → Message → Decision Transaction
-on_completion m a t c (messages.Notice n) = completion_notice m a.id c t (completion_of c.state n)
+on_completion m a t c (messages.Notice n) = completion_notice m a.from a.id c t (completion_of c.state n)
 on_completion m a t c other = ignored t
 
 -- What a subordinate's request is answered with, and when: with the context once neither link is Registering, with

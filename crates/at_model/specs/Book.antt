@@ -114,6 +114,8 @@ pub record Book : Type 0 where
   pub counter : ℕ
   -- the greatest time seen, in milliseconds
   pub seen : ℕ
+  -- the last roots that committed, the newest last
+  pub outcomes : List Numbers
   pub transactions : List Transaction
   pub leaves : List Leaf
   pub activities : List Activity

@@ -73,6 +73,7 @@ unanswered_seat states.PreparedSuccess = None
 unanswered_seat states.Committing = Some notices.Commit
 unanswered_seat states.Aborting = Some notices.Rollback
 unanswered_seat states.Completing = None
+unanswered_seat states.Done = None
 
 abbrev pub seat_again : List ℕ → Numbers → Enlistment → Option Notice → List Post
 seat_again base id s None = []

@@ -7,6 +7,7 @@ pub mod Create
 pub mod Due
 pub mod Leaves
 pub mod Moves
+pub mod Outcomes
 pub mod Phases
 pub mod Posts
 pub mod Recover

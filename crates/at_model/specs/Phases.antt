@@ -16,8 +16,8 @@ use Rattle.at_tables.specs.declared.cells.State.TheVariants as states
 use Rattle.at_tables.specs.Names.{is_state}
 use Rattle.at_model.specs.Book.{Transaction, Link, Superior, Phase}
 use Rattle.at_model.specs.Posts.{notice_post, to_each}
-use Rattle.at_model.specs.Moves.{Moving, Decision, Goes, Records, posts, effect, become, stays, forgotten}
-use Rattle.at_model.specs.Seats.{in_state, is_of, answered, all_left, is_prepared_durable, prepared, send_each, in_phase, link_in, ending, initiator_posts, completed}
+use Rattle.at_model.specs.Moves.{Change, Moving, Decision, Goes, Records, posts, effect, become, stays, forgotten}
+use Rattle.at_model.specs.Seats.{in_state, is_of, answered, all_left, is_prepared_durable, prepared, send_each, in_phase, link_in, ending, initiator_posts, completion_in}
 use Rattle.at_model.specs.Abort.{until_rolled_back, abort, Alone}
 
 -- To the superior, on a link that knows its endpoint.
@@ -28,21 +28,21 @@ upwards base id kind n link = to_each link.coordinator (λ to. notice_post base 
 abbrev pub commit_seats : Moment → Moving Transaction → Moving Transaction
 commit_seats m g = send_each m notices.Commit states.Committing (in_state states.Prepared) g
 
--- A root's decision: Commit to every Prepared seat, then Committed to the initiator.
+-- A root's decision: Commit to every Prepared seat, then Committed to the initiator, whose seat is Done from then on.
 unfoldable pub decided : Moment → Moving Transaction → Moving Transaction
 decided m g =
     posts (initiator_posts m.base g.item.id notices.Committed g.item.completion)
-    (become (record (commit_seats m g).item { phase = Phase.Committing; completion = completed g.item.completion })
+    (become (record (commit_seats m g).item { phase = Phase.Committing; completion = completion_in states.Done g.item.completion })
     (commit_seats m (effect (ending g.item endings.Committed) g)))
 
--- Every durable seat of a root has answered: with one Prepared the decision is recorded first, and where that record is
--- absent the transaction aborts; with none, nobody waits for the decision, and no record is made.
--- (WS-AtomicTransaction 1.2, sections 3.3.3 and 3.3.4.)
+-- A decided root waits for its durable seats; where none is Prepared nobody waits for it.
+unfoldable pub committed : Moment → Moving Transaction → Change Transaction
+committed m g = if list_any is_prepared_durable g.item.seats then stays (decided m g) else forgotten (decided m g)
+
+-- Every durable seat of a root has answered: the decision is recorded first, with the seats that are Prepared, also where
+-- none is; where that record is absent the transaction aborts (WS-AtomicTransaction 1.2, sections 3.3.3 and 3.3.4).
 unfoldable pub root_answered : Moment → Moving Transaction → Decision Transaction
-root_answered m g =
-    if list_any is_prepared_durable g.item.seats
-    then Records (records.Decided g.item.id (prepared g.item.seats)) (stays (decided m g)) (Some (abort m Alone g))
-    else Goes (forgotten (decided m g))
+root_answered m g = Records (records.Decided g.item.id (prepared g.item.seats)) (committed m g) (Some (abort m Alone g))
 
 -- A subordinate's vote: Prepared upwards.
 unfoldable pub voted : Moment → Superior → Moving Transaction → Moving Transaction

@@ -11,6 +11,7 @@ use Rattle.at_base.specs.declared.record.Record.TheVariants as records
 use Rattle.at_tables.specs.declared.cells.State.{State}
 use Rattle.at_tables.specs.declared.cells.State.TheVariants as states
 use Rattle.at_model.specs.Book.{Book, Transaction, Leaf, Enlistment, Superior, Phase, is_id, transaction_id, leaf_id}
+use Rattle.at_model.specs.Outcomes.{outcomes_after}
 use Rattle.at_model.specs.Create.{identifier_of}
 
 -- what a record is about
@@ -53,6 +54,11 @@ ends_transaction id r = is_ended id r || is_promise id r
 abbrev pub with_commit : Numbers → List Record → List Record
 with_commit id rest = if list_any (is_sub_committed id) rest then records.SubCommitted id ∷ [] else []
 
+-- nobody waits for a decision without seats
+abbrev pub no_seats : List Seated → Bool
+no_seats [] = true
+no_seats (s ∷ ss) = false
+
 -- What a record keeps alive, with the records behind it: a prepared leaf until it is ended, a vote or a decision until
 -- it is ended (WS-AtomicTransaction 1.2, section 3.3.4).
 abbrev pub kept : Record → List Record → List Record
@@ -61,7 +67,7 @@ kept (records.LeafPrepared id coordinator key value) rest =
 kept (records.Voted id superior seats) rest =
     if list_any (ends_transaction id) rest then [] else records.Voted id superior seats ∷ with_commit id rest
 kept (records.Decided id seats) rest =
-    if list_any (ends_transaction id) rest then [] else records.Decided id seats ∷ []
+    if no_seats seats || list_any (ends_transaction id) rest then [] else records.Decided id seats ∷ []
 kept other rest = []
 
 -- The live records, in the order of the journal.
@@ -132,6 +138,7 @@ transactions_of base (records.LeafCommitted id ∷ rest) = transactions_of base 
 transactions_of base (records.LeafAborted id ∷ rest) = transactions_of base rest
 transactions_of base (records.SubCommitted id ∷ rest) = transactions_of base rest
 transactions_of base (records.Ended id ∷ rest) = transactions_of base rest
+transactions_of base (records.Done id ∷ rest) = transactions_of base rest
 
 abbrev pub leaves_of : List Record → List Leaf
 leaves_of [] = []
@@ -143,6 +150,7 @@ leaves_of (records.Voted id superior seats ∷ rest) = leaves_of rest
 leaves_of (records.Decided id seats ∷ rest) = leaves_of rest
 leaves_of (records.SubCommitted id ∷ rest) = leaves_of rest
 leaves_of (records.Ended id ∷ rest) = leaves_of rest
+leaves_of (records.Done id ∷ rest) = leaves_of rest
 
 -- the lists in the order of making, which is by rising id
 abbrev pub is_before : Numbers → Numbers → Bool
@@ -166,6 +174,7 @@ incarnation_of (records.Voted id superior seats) = id.incarnation
 incarnation_of (records.Decided id seats) = id.incarnation
 incarnation_of (records.SubCommitted id) = id.incarnation
 incarnation_of (records.Ended id) = id.incarnation
+incarnation_of (records.Done id) = id.incarnation
 
 -- the greatest of the records', or 0
 abbrev pub last_incarnation : List Record → ℕ
@@ -178,13 +187,15 @@ recovered_transactions base rs = in_order transaction_id (transactions_of base (
 abbrev pub recovered_leaves : List Record → List Leaf
 recovered_leaves rs = in_order leaf_id (leaves_of (live rs))
 
--- Recovery: what live records promise, and nothing else; the counter starts anew in the last incarnation.
+-- Recovery: what live records promise and the last outcomes, and nothing else; the counter starts anew in the last
+-- incarnation.
 abbrev pub recover : List ℕ → List Record → Book
 recover base rs = record {
   base = base;
   incarnation = last_incarnation rs;
   counter = 0;
   seen = 0;
+  outcomes = outcomes_after [] rs;
   transactions = recovered_transactions base rs;
   leaves = recovered_leaves rs;
   activities = [];

@@ -2,6 +2,7 @@
 use Rattle.std.specs.Prelude.{ℕ, List, [], ◌∷◌, ◌++◌, Option, Some, None, Bool, true, false, not, nat_lt, ◌&&◌, ◌+◌, if◌then◌else◌, bytes_eq, length, find, option_map, is_none}
 use Rattle.at_base.specs.Numbers.{Numbers}
 use Rattle.at_base.specs.declared.epr.Epr.{Epr}
+use Rattle.at_base.specs.declared.limits.TheConstants.{MOST_SEATS}
 use Rattle.at_base.specs.declared.notice.Kind.{Kind}
 use Rattle.at_base.specs.declared.notice.Kind.TheVariants as kinds
 use Rattle.at_base.specs.declared.notice.Notice.TheVariants as notices
@@ -63,9 +64,9 @@ abbrev pub may_complete : Transaction → Option Kind → Bool
 may_complete t (Some kind) = true
 may_complete t None = is_none t.superior && is_none t.completion
 
--- A transaction has at most 64 seats.
+-- A transaction has at most 512 seats.
 abbrev pub may_register : Transaction → Option Kind → Bool
-may_register t kind = accepts t.phase && nat_lt (length t.seats) 64 && may_complete t kind
+may_register t kind = accepts t.phase && nat_lt (length t.seats) MOST_SEATS && may_complete t kind
 
 abbrev pub registered_reply : Arrived → Epr → List Out
 registered_reply a coordinator = replied a.reply a.id (messages.RegisterResponse coordinator)

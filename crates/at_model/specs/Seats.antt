@@ -108,11 +108,12 @@ ending_of (Some s) id what = effects.Sub id what
 abbrev pub ending : Transaction → Ending → Effect
 ending t what = ending_of t.superior t.id what
 
--- the notification to the initiator, whose seat then is None
+-- the notification to the initiator
 abbrev pub initiator_posts : List ℕ → Numbers → Notice → Option Completion → List Post
 initiator_posts base id n None = []
 initiator_posts base id n (Some c) =
     if is_state c.state states.None then [] else notice_post base (targets.Completion id) c.initiator n ∷ []
 
-abbrev pub completed : Option Completion → Option Completion
-completed c = option_map (λ x. record { initiator = x.initiator; state = states.None }) c
+-- the completion seat, in this state from now on
+abbrev pub completion_in : State → Option Completion → Option Completion
+completion_in state c = option_map (λ x. record { initiator = x.initiator; state = state }) c

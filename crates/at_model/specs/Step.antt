@@ -1,5 +1,5 @@
 -- A step: what an event does to a book, what it records, sends and brings about.
-use Rattle.std.specs.Prelude.{ℕ, List, [], ◌∷◌, ◌++◌, Option, Some, None, Bool, true, false, not, nat_eq, nat_lt, ◌&&◌, ◌+◌, if◌then◌else◌, length, map, filter, find, max}
+use Rattle.std.specs.Prelude.{ℕ, List, [], ◌∷◌, ◌++◌, Option, Some, None, Bool, true, false, not, nat_eq, nat_lt, ◌&&◌, ◌||◌, ◌+◌, if◌then◌else◌, length, map, filter, find, max, is_none}
 use Rattle.at_base.specs.Numbers.{Numbers}
 use Rattle.at_base.specs.declared.epr.Epr.{Epr}
 use Rattle.at_base.specs.declared.notice.Kind.{Kind}
@@ -28,8 +28,9 @@ use Rattle.at_tables.specs.declared.cells.Act.TheVariants as acts
 use Rattle.at_tables.specs.declared.cells.Cell.{Cell}
 use Rattle.at_tables.specs.Names.{is_kind}
 use Rattle.at_tables.specs.Tables.{coordinator_of, participant_of, completion_of, initiator_of}
-use Rattle.at_model.specs.Book.{Book, Transaction, Leaf, Activity, Enlistment, Completion, Superior, is_id, find_by, put_by, transaction_id, leaf_id, activity_id, next_id, last_counter}
-use Rattle.at_model.specs.Posts.{stranger_post, fault_post, to_each, accepted, unknown_transaction}
+use Rattle.at_model.specs.Book.{Book, Transaction, Leaf, Activity, Enlistment, Completion, Superior, Phase, is_id, find_by, put_by, transaction_id, leaf_id, activity_id, next_id, last_counter}
+use Rattle.at_model.specs.Outcomes.{is_kept, noted}
+use Rattle.at_model.specs.Posts.{notice_post, stranger_post, fault_post, to_each, accepted, invalid_state, unknown_transaction}
 use Rattle.at_model.specs.Moves.{Change, Decision, Goes, Records}
 use Rattle.at_model.specs.Arrivals.{on_link, on_seat, on_completion, with_answer}
 use Rattle.at_model.specs.Register.{protocol_named, Registration, on_register, register_unknown}
@@ -68,6 +69,16 @@ at_time now b = record b { seen = time_of b now }
 abbrev pub moment_of : Book → ℕ → Moment
 moment_of b now = record { now = time_of b now; next = next_id b; base = b.base }
 
+-- The items of a book, by id.
+abbrev pub transaction_at : Book → Numbers → Option Transaction
+transaction_at b id = find_by transaction_id id b.transactions
+
+abbrev pub leaf_at : Book → Numbers → Option Leaf
+leaf_at b id = find_by leaf_id id b.leaves
+
+abbrev pub activity_at : Book → Numbers → Option Activity
+activity_at b id = find_by activity_id id b.activities
+
 -- The book with what became of one item.
 abbrev pub put_transaction : Numbers → Book → Option Transaction → Book
 put_transaction id b t = record b { transactions = put_by transaction_id id t b.transactions }
@@ -103,11 +114,15 @@ abbrev pub absent_outcome : {A : Type 0} → Book → (Option A → Book) → Li
 absent_outcome b put answer None = still b answer
 absent_outcome b put answer (Some c) = outcome_of put answer c
 
+-- Where a record stands, its outcome is kept.
+abbrev pub noting : Record → Outcome → Outcome
+noting r o = record o { book = noted r o.book }
+
 -- The plan of a decision on one item. Where a step is undone, the book is as it was.
 abbrev pub plan_of : {A : Type 0} → Book → (Option A → Book) → List Out → Decision A → Plan
 plan_of b put answer (Goes c) = plain (outcome_of put answer c)
 plan_of b put answer (Records r c absent) =
-    record { entry = Some r; landed = outcome_of put answer c; absent = absent_outcome b put answer absent }
+    record { entry = Some r; landed = noting r (outcome_of put answer c); absent = absent_outcome b put answer absent }
 
 abbrev pub transaction_plan : Book → ℕ → List Out → Transaction → Decision Transaction → Plan
 transaction_plan b now answer t d =
@@ -165,14 +180,51 @@ registration_plan b now a (messages.Register r) None =
 registration_plan b now a (messages.Register r) (Some t) = plain (registration_outcome b now (on_register (moment_of b now) a r t))
 registration_plan b now a other t = nothing b now
 
--- The completion seat.
-abbrev pub completion_seat_plan : Book → ℕ → Arrived → Transaction → Option Completion → Plan
-completion_seat_plan b now a t None = stranger_plan b now a (completion_of states.None) a.message
-completion_seat_plan b now a t (Some c) = transaction_plan b now accepted t (on_completion (moment_of b now) a t c a.message)
+-- The completion seat. Where a root committed and has none any more, its state is Done, and the answer goes to the
+-- message's From.
+abbrev pub outcome_act : List ℕ → Target → Option Epr → Option (List ℕ) → Act → List Post
+outcome_act base own from id acts.SendCommitted = to_each from (λ to. notice_post base own to notices.Committed)
+outcome_act base own from id acts.FaultInvalidState = to_each from (λ to. fault_post (Some to) id invalid_state)
+outcome_act base own from id other = []
 
-unfoldable pub completion_plan : Book → ℕ → Arrived → Option Transaction → Plan
-completion_plan b now a None = stranger_plan b now a (completion_of states.None) a.message
-completion_plan b now a (Some t) = completion_seat_plan b now a t t.completion
+abbrev pub outcome_cell : List ℕ → Target → Option Epr → Option (List ℕ) → Option Cell → List Post
+outcome_cell base own from id None = []
+outcome_cell base own from id (Some c) = outcome_act base own from id c.act
+
+abbrev pub outcome_plan : Book → ℕ → Arrived → Message → Plan
+outcome_plan b now a (messages.Notice n) =
+    answered_with b now (outcome_cell b.base a.target a.from a.id (completion_of states.Done n))
+outcome_plan b now a other = nothing b now
+
+abbrev pub is_committing : Phase → Bool
+is_committing Phase.Registering = false
+is_committing Phase.Active = false
+is_committing Phase.Volatile = false
+is_committing Phase.Durable = false
+is_committing Phase.Voted = false
+is_committing Phase.Committing = true
+is_committing Phase.Aborting = false
+
+abbrev pub is_decided_root : Option Transaction → Bool
+is_decided_root None = false
+is_decided_root (Some t) = is_none t.superior && is_committing t.phase
+
+-- The root of this id committed: it still waits for its seats, or its outcome is kept.
+abbrev pub has_committed : Book → Numbers → Bool
+has_committed b id = is_decided_root (transaction_at b id) || is_kept id b.outcomes
+
+abbrev pub seatless_plan : Book → ℕ → Arrived → Bool → Plan
+seatless_plan b now a true = outcome_plan b now a a.message
+seatless_plan b now a false = stranger_plan b now a (completion_of states.None) a.message
+
+abbrev pub completion_seat_plan : Book → ℕ → Arrived → Bool → Transaction → Option Completion → Plan
+completion_seat_plan b now a committed t None = seatless_plan b now a committed
+completion_seat_plan b now a committed t (Some c) =
+    transaction_plan b now accepted t (on_completion (moment_of b now) a t c a.message)
+
+unfoldable pub completion_plan : Book → ℕ → Arrived → Bool → Option Transaction → Plan
+completion_plan b now a committed None = seatless_plan b now a committed
+completion_plan b now a committed (Some t) = completion_seat_plan b now a committed t t.completion
 
 -- A coordinator's seat.
 abbrev pub find_seat : ℕ → Kind → List Enlistment → Option Enlistment
@@ -218,20 +270,11 @@ work_plan b now a (messages.Work w) =
     employed_plan b now made.leaf made.outs
 work_plan b now a other = nothing b now
 
-abbrev pub transaction_at : Book → Numbers → Option Transaction
-transaction_at b id = find_by transaction_id id b.transactions
-
-abbrev pub leaf_at : Book → Numbers → Option Leaf
-leaf_at b id = find_by leaf_id id b.leaves
-
-abbrev pub activity_at : Book → Numbers → Option Activity
-activity_at b id = find_by activity_id id b.activities
-
 -- A message, by its target.
 unfoldable pub arrived_plan : Book → ℕ → Arrived → Target → Plan
 arrived_plan b now a targets.Activation = activation_plan b now a a.message
 arrived_plan b now a (targets.Registration id) = registration_plan b now a a.message (transaction_at b id)
-arrived_plan b now a (targets.Completion id) = completion_plan b now a (transaction_at b id)
+arrived_plan b now a (targets.Completion id) = completion_plan b now a (has_committed b id) (transaction_at b id)
 arrived_plan b now a (targets.Coordinator id seat) = coordinator_plan b now a seat.number seat.kind (transaction_at b id)
 arrived_plan b now a (targets.Participant id kind) = participant_plan b now a kind (transaction_at b id) (leaf_at b id)
 arrived_plan b now a (targets.Initiator id) = initiator_plan b now a (activity_at b id)
@@ -323,6 +366,7 @@ abbrev pub plan : Book → Event → ℕ → Plan
 plan b (events.Arrived a) now = arrived_plan b now a a.target
 plan b (events.Local l) now = local_plan b now l (refuses b l)
 plan b (events.Due item) now = due_plan b now item
+plan b events.Tick now = nothing b now
 
 abbrev pub branch : Plan → Bool → Outcome
 branch p landed = if landed then p.landed else p.absent

@@ -375,7 +375,7 @@ later ms x = record x { clock = x.clock + ms }
 abbrev pub turn : ℕ → Input → List Bool → Option ℕ → Node → Book → World → World
 turn n (Deliver k) fates until x b w = deliver n x b fates until (nth k w.posted) w
 turn n (Tick ms) fates until x b w =
-    take_turn n (x.clock + ms) (answer_plan b 202) (turn_from (ticked n (later ms x) w) b fates until)
+    take_turn n (x.clock + ms) (plan b events.Tick (x.clock + ms)) (turn_from (ticked n (later ms x) w) b fates until)
 turn n Raw fates until x b w = take_turn n x.clock (answer_plan b 400) (turn_from w b fates until)
 
 -- A request of the node's own program: one step.

@@ -11,7 +11,7 @@ use Rattle.at_tables.specs.declared.cells.State.TheVariants as states
 use Rattle.at_tables.specs.declared.cells.Act.TheVariants as acts
 use Rattle.at_tables.specs.Names.{is_state, is_notice, is_act, state_place, notice_place, act_place}
 use Rattle.at_tables.specs.Tables.{coordinator_of, participant_of, completion_of, initiator_of}
-use Rattle.at_tables.specs.Laws.{NoMessageCommits, VotesAtPreparing, CommittedEnds, DecisionStands, CommitAfterDecision, PresumesAbort, NothingBegins, PreparedAfterVote, CommitsWhenTold, StaysInDoubt, CommittedWhenDone, CommitIsFinal, ToldCommittedWhenAsked, CompletesOnce, FaultKeepsState}
+use Rattle.at_tables.specs.Laws.{NoMessageCommits, VotesAtPreparing, CommittedEnds, DecisionStands, CommitAfterDecision, PresumesAbort, NothingBegins, PreparedAfterVote, CommitsWhenTold, StaysInDoubt, CommittedWhenDone, CommitIsFinal, ToldCommittedWhenAsked, CompletesOnce, OutcomeStays, FaultKeepsState}
 
 both : (a b : Bool) → a && b ≡ true → (a ≡ true) × (b ≡ true)
 both true b h = (refl, h)
@@ -29,18 +29,19 @@ at_kind p h x =
     ]
 
 abbrev pub every_state : (State → Bool) → Bool
-every_state p = p states.None && (p states.Registering && (p states.Active && (p states.Preparing && (p states.Prepared && (p states.PreparedSuccess && (p states.Committing && (p states.Aborting && (p states.Completing))))))))
+every_state p = p states.None && (p states.Registering && (p states.Active && (p states.Preparing && (p states.Prepared && (p states.PreparedSuccess && (p states.Committing && (p states.Aborting && (p states.Completing && (p states.Done)))))))))
 
 pub at_state : (p : State → Bool) → every_state p ≡ true → (x : State) → p x ≡ true
 at_state p h x =
-    let h0 = both (p states.None) (p states.Registering && (p states.Active && (p states.Preparing && (p states.Prepared && (p states.PreparedSuccess && (p states.Committing && (p states.Aborting && (p states.Completing)))))))) h in
-    let h1 = both (p states.Registering) (p states.Active && (p states.Preparing && (p states.Prepared && (p states.PreparedSuccess && (p states.Committing && (p states.Aborting && (p states.Completing))))))) h0.1 in
-    let h2 = both (p states.Active) (p states.Preparing && (p states.Prepared && (p states.PreparedSuccess && (p states.Committing && (p states.Aborting && (p states.Completing)))))) h1.1 in
-    let h3 = both (p states.Preparing) (p states.Prepared && (p states.PreparedSuccess && (p states.Committing && (p states.Aborting && (p states.Completing))))) h2.1 in
-    let h4 = both (p states.Prepared) (p states.PreparedSuccess && (p states.Committing && (p states.Aborting && (p states.Completing)))) h3.1 in
-    let h5 = both (p states.PreparedSuccess) (p states.Committing && (p states.Aborting && (p states.Completing))) h4.1 in
-    let h6 = both (p states.Committing) (p states.Aborting && (p states.Completing)) h5.1 in
-    let h7 = both (p states.Aborting) (p states.Completing) h6.1 in
+    let h0 = both (p states.None) (p states.Registering && (p states.Active && (p states.Preparing && (p states.Prepared && (p states.PreparedSuccess && (p states.Committing && (p states.Aborting && (p states.Completing && (p states.Done))))))))) h in
+    let h1 = both (p states.Registering) (p states.Active && (p states.Preparing && (p states.Prepared && (p states.PreparedSuccess && (p states.Committing && (p states.Aborting && (p states.Completing && (p states.Done)))))))) h0.1 in
+    let h2 = both (p states.Active) (p states.Preparing && (p states.Prepared && (p states.PreparedSuccess && (p states.Committing && (p states.Aborting && (p states.Completing && (p states.Done))))))) h1.1 in
+    let h3 = both (p states.Preparing) (p states.Prepared && (p states.PreparedSuccess && (p states.Committing && (p states.Aborting && (p states.Completing && (p states.Done)))))) h2.1 in
+    let h4 = both (p states.Prepared) (p states.PreparedSuccess && (p states.Committing && (p states.Aborting && (p states.Completing && (p states.Done))))) h3.1 in
+    let h5 = both (p states.PreparedSuccess) (p states.Committing && (p states.Aborting && (p states.Completing && (p states.Done)))) h4.1 in
+    let h6 = both (p states.Committing) (p states.Aborting && (p states.Completing && (p states.Done))) h5.1 in
+    let h7 = both (p states.Aborting) (p states.Completing && (p states.Done)) h6.1 in
+    let h8 = both (p states.Completing) (p states.Done) h7.1 in
     elim x as (λ x. p x ≡ true) [
       | states.None ↦ h0.0
       | states.Registering ↦ h1.0
@@ -50,7 +51,8 @@ at_state p h x =
       | states.PreparedSuccess ↦ h5.0
       | states.Committing ↦ h6.0
       | states.Aborting ↦ h7.0
-      | states.Completing ↦ h7.1
+      | states.Completing ↦ h8.0
+      | states.Done ↦ h8.1
     ]
 
 abbrev pub every_notice : (Notice → Bool) → Bool
@@ -91,6 +93,7 @@ state_is states.None states.PreparedSuccess h = absurd cc
 state_is states.None states.Committing h = absurd cc
 state_is states.None states.Aborting h = absurd cc
 state_is states.None states.Completing h = absurd cc
+state_is states.None states.Done h = absurd cc
 state_is states.Registering states.None h = absurd cc
 state_is states.Registering states.Registering h = refl
 state_is states.Registering states.Active h = absurd cc
@@ -100,6 +103,7 @@ state_is states.Registering states.PreparedSuccess h = absurd cc
 state_is states.Registering states.Committing h = absurd cc
 state_is states.Registering states.Aborting h = absurd cc
 state_is states.Registering states.Completing h = absurd cc
+state_is states.Registering states.Done h = absurd cc
 state_is states.Active states.None h = absurd cc
 state_is states.Active states.Registering h = absurd cc
 state_is states.Active states.Active h = refl
@@ -109,6 +113,7 @@ state_is states.Active states.PreparedSuccess h = absurd cc
 state_is states.Active states.Committing h = absurd cc
 state_is states.Active states.Aborting h = absurd cc
 state_is states.Active states.Completing h = absurd cc
+state_is states.Active states.Done h = absurd cc
 state_is states.Preparing states.None h = absurd cc
 state_is states.Preparing states.Registering h = absurd cc
 state_is states.Preparing states.Active h = absurd cc
@@ -118,6 +123,7 @@ state_is states.Preparing states.PreparedSuccess h = absurd cc
 state_is states.Preparing states.Committing h = absurd cc
 state_is states.Preparing states.Aborting h = absurd cc
 state_is states.Preparing states.Completing h = absurd cc
+state_is states.Preparing states.Done h = absurd cc
 state_is states.Prepared states.None h = absurd cc
 state_is states.Prepared states.Registering h = absurd cc
 state_is states.Prepared states.Active h = absurd cc
@@ -127,6 +133,7 @@ state_is states.Prepared states.PreparedSuccess h = absurd cc
 state_is states.Prepared states.Committing h = absurd cc
 state_is states.Prepared states.Aborting h = absurd cc
 state_is states.Prepared states.Completing h = absurd cc
+state_is states.Prepared states.Done h = absurd cc
 state_is states.PreparedSuccess states.None h = absurd cc
 state_is states.PreparedSuccess states.Registering h = absurd cc
 state_is states.PreparedSuccess states.Active h = absurd cc
@@ -136,6 +143,7 @@ state_is states.PreparedSuccess states.PreparedSuccess h = refl
 state_is states.PreparedSuccess states.Committing h = absurd cc
 state_is states.PreparedSuccess states.Aborting h = absurd cc
 state_is states.PreparedSuccess states.Completing h = absurd cc
+state_is states.PreparedSuccess states.Done h = absurd cc
 state_is states.Committing states.None h = absurd cc
 state_is states.Committing states.Registering h = absurd cc
 state_is states.Committing states.Active h = absurd cc
@@ -145,6 +153,7 @@ state_is states.Committing states.PreparedSuccess h = absurd cc
 state_is states.Committing states.Committing h = refl
 state_is states.Committing states.Aborting h = absurd cc
 state_is states.Committing states.Completing h = absurd cc
+state_is states.Committing states.Done h = absurd cc
 state_is states.Aborting states.None h = absurd cc
 state_is states.Aborting states.Registering h = absurd cc
 state_is states.Aborting states.Active h = absurd cc
@@ -154,6 +163,7 @@ state_is states.Aborting states.PreparedSuccess h = absurd cc
 state_is states.Aborting states.Committing h = absurd cc
 state_is states.Aborting states.Aborting h = refl
 state_is states.Aborting states.Completing h = absurd cc
+state_is states.Aborting states.Done h = absurd cc
 state_is states.Completing states.None h = absurd cc
 state_is states.Completing states.Registering h = absurd cc
 state_is states.Completing states.Active h = absurd cc
@@ -163,6 +173,17 @@ state_is states.Completing states.PreparedSuccess h = absurd cc
 state_is states.Completing states.Committing h = absurd cc
 state_is states.Completing states.Aborting h = absurd cc
 state_is states.Completing states.Completing h = refl
+state_is states.Completing states.Done h = absurd cc
+state_is states.Done states.None h = absurd cc
+state_is states.Done states.Registering h = absurd cc
+state_is states.Done states.Active h = absurd cc
+state_is states.Done states.Preparing h = absurd cc
+state_is states.Done states.Prepared h = absurd cc
+state_is states.Done states.PreparedSuccess h = absurd cc
+state_is states.Done states.Committing h = absurd cc
+state_is states.Done states.Aborting h = absurd cc
+state_is states.Done states.Completing h = absurd cc
+state_is states.Done states.Done h = refl
 
 pub notice_is : (x y : Notice) → is_notice x y ≡ true → x ≡ y
 notice_is notices.Prepare notices.Prepare h = refl
@@ -225,6 +246,7 @@ state_same states.PreparedSuccess = refl
 state_same states.Committing = refl
 state_same states.Aborting = refl
 state_same states.Completing = refl
+state_same states.Done = refl
 
 notice_same : (x : Notice) → is_notice x x ≡ true
 notice_same notices.Prepare = refl
@@ -353,6 +375,27 @@ completes_once s n cell e a =
     let i = under (is_act cell.act acts.Complete) (is_state s states.Active && (is_notice n notices.Commit)) h (subst (λ x. is_act x acts.Complete ≡ true) (sym a) refl) in
     let b0 = both (is_state s states.Active) (is_notice n notices.Commit) i in
     (state_is s states.Active b0.0, notice_is n notices.Commit b0.1)
+
+outcome_kept_at : every_entry (λ k s n. holds (completion_of states.Done n) (λ c. is_state c.next states.Done)) ≡ true
+outcome_kept_at = refl
+
+outcome_kept : (n : Notice) (cell : Cell) → completion_of states.Done n ≡ Some cell → cell.next ≡ states.Done
+outcome_kept n cell e =
+    state_is cell.next states.Done (told (completion_of states.Done n) cell (λ c. is_state c.next states.Done) (at_entry (λ k s n. holds (completion_of states.Done n) (λ c. is_state c.next states.Done)) outcome_kept_at kinds.Durable states.None n) e)
+
+committed_at_done_at : every_entry (λ k s n. holds (completion_of s n) (λ c. when (is_act c.act acts.SendCommitted) (is_state s states.Done && (is_notice n notices.Commit)))) ≡ true
+committed_at_done_at = refl
+
+committed_at_done : (s : State) (n : Notice) (cell : Cell) → completion_of s n ≡ Some cell → cell.act ≡ acts.SendCommitted → (s ≡ states.Done) × (n ≡ notices.Commit)
+committed_at_done s n cell e a =
+    let h = told (completion_of s n) cell (λ c. when (is_act c.act acts.SendCommitted) (is_state s states.Done && (is_notice n notices.Commit))) (at_entry (λ k s n. holds (completion_of s n) (λ c. when (is_act c.act acts.SendCommitted) (is_state s states.Done && (is_notice n notices.Commit)))) committed_at_done_at kinds.Durable s n) e in
+    let i = under (is_act cell.act acts.SendCommitted) (is_state s states.Done && (is_notice n notices.Commit)) h (subst (λ x. is_act x acts.SendCommitted ≡ true) (sym a) refl) in
+    let b0 = both (is_state s states.Done) (is_notice n notices.Commit) i in
+    (state_is s states.Done b0.0, notice_is n notices.Commit b0.1)
+
+pub outcome_stays : OutcomeStays
+outcome_stays s n cell e =
+    (λ at. outcome_kept n cell (subst (λ x. completion_of x n ≡ Some cell) at e), committed_at_done s n cell e)
 
 pub committed_ends : CommittedEnds
 committed_ends kinds.Volatile = refl

@@ -92,6 +92,13 @@ CompletesOnce = (state : State) (notice : Notice) (cell : Cell)
     → completion_of state notice ≡ Some cell → cell.act ≡ acts.Complete
     → (state ≡ states.Active) × (notice ≡ notices.Commit)
 
+-- An outcome that is kept stays: Done is left by no message, and only Done answers Committed.
+abbrev pub OutcomeStays : Type 0
+OutcomeStays = (state : State) (notice : Notice) (cell : Cell)
+    → completion_of state notice ≡ Some cell
+    → (state ≡ states.Done → cell.next ≡ states.Done)
+    × (cell.act ≡ acts.SendCommitted → (state ≡ states.Done) × (notice ≡ notices.Commit))
+
 -- No cell of a coordinator's seat or of a participant answers InvalidState with a change of the state, unless it aborts too.
 abbrev pub FaultKeepsState : Type 0
 FaultKeepsState = (kind : Kind) (state : State) (notice : Notice) (cell : Cell)

@@ -32,6 +32,7 @@ state_place states.PreparedSuccess = 5
 state_place states.Committing = 6
 state_place states.Aborting = 7
 state_place states.Completing = 8
+state_place states.Done = 9
 
 abbrev pub act_place : Act → ℕ
 act_place acts.Ignore = 0

@@ -90,7 +90,8 @@ participant_table =
     row any states.Committing notices.Commit acts.Ignore states.Committing ∷
     row any states.Committing notices.Rollback acts.FaultInvalidState states.Committing ∷ []
 
--- The completion seat, at a message of the initiator (WS-AtomicTransaction 1.2, section 3.2).
+-- The completion seat, at a message of the initiator (WS-AtomicTransaction 1.2, section 3.2). Done is kept beyond the
+-- transaction, so that an initiator that asks again hears of the commit.
 abbrev pub completion_table : List Row
 completion_table =
     row any states.None notices.Commit acts.FaultUnknownTransaction states.None ∷
@@ -98,7 +99,9 @@ completion_table =
     row any states.Active notices.Commit acts.Complete states.Completing ∷
     row any states.Active notices.Rollback acts.AbortAndSendAborted states.None ∷
     row any states.Completing notices.Commit acts.Ignore states.Completing ∷
-    row any states.Completing notices.Rollback acts.FaultInvalidState states.Completing ∷ []
+    row any states.Completing notices.Rollback acts.FaultInvalidState states.Completing ∷
+    row any states.Done notices.Commit acts.SendCommitted states.Done ∷
+    row any states.Done notices.Rollback acts.FaultInvalidState states.Done ∷ []
 
 -- An initiator's activity, at a message of the coordinator.
 abbrev pub initiator_table : List Row

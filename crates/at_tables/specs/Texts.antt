@@ -15,6 +15,7 @@ state_name states.PreparedSuccess = codes "PreparedSuccess"
 state_name states.Committing = codes "Committing"
 state_name states.Aborting = codes "Aborting"
 state_name states.Completing = codes "Completing"
+state_name states.Done = codes "Done"
 
 abbrev pub act_text : Act → List ℕ
 act_text acts.Ignore = codes "ignore"

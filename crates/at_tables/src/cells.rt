@@ -7,7 +7,8 @@ use at_base::notice::{Kind, Notice};
 
 /// A state of a seat, a participant, a completion seat or an activity.
 ///
-/// Registering is this project's addition: a participant that has sent Register and waits for its answer.
+/// Two are this project's additions: Registering, of a participant that has sent Register and waits for its answer, and
+/// Done, of a completion seat whose transaction committed.
 #[derive(Clone, Copy, Debug, PartialEq, Eq)]
 pub enum State {
     None,
@@ -19,6 +20,7 @@ pub enum State {
     Committing,
     Aborting,
     Completing,
+    Done,
 }
 
 /// What a cell asks for beside the next state.
@@ -156,6 +158,8 @@ pub fn completion_cell(state: State, notice: Notice) -> Option<Cell>
         (Notice::Commit, State::Completing) => (Act::Ignore, State::Completing),
         (Notice::Rollback, State::Active) => (Act::AbortAndSendAborted, State::None),
         (Notice::Rollback, State::Completing) => (Act::FaultInvalidState, State::Completing),
+        (Notice::Commit, State::Done) => (Act::SendCommitted, State::Done),
+        (Notice::Rollback, State::Done) => (Act::FaultInvalidState, State::Done),
         _ => return None,
     };
     Some(Cell { act, next })

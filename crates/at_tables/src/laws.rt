@@ -1,6 +1,6 @@
 //! What the tables promise in words (WS-AtomicTransaction 1.2, sections 3 and 10), as laws for the proofs above.
 
-ghost use Rattle.at_tables.specs.Laws.{NoMessageCommits, VotesAtPreparing, CommittedEnds, DecisionStands, CommitAfterDecision, PresumesAbort, NothingBegins, PreparedAfterVote, CommitsWhenTold, StaysInDoubt, CommittedWhenDone, CommitIsFinal, ToldCommittedWhenAsked, CompletesOnce, FaultKeepsState};
+ghost use Rattle.at_tables.specs.Laws.{NoMessageCommits, VotesAtPreparing, CommittedEnds, DecisionStands, CommitAfterDecision, PresumesAbort, NothingBegins, PreparedAfterVote, CommitsWhenTold, StaysInDoubt, CommittedWhenDone, CommitIsFinal, ToldCommittedWhenAsked, CompletesOnce, OutcomeStays, FaultKeepsState};
 
 /// No message alone brings a seat to Committing: only a decision does (section 3.3.3).
 #[tactic(auto, using(crate::proofs::Entries::no_message_commits))]
@@ -84,6 +84,12 @@ pub fn told_committed_when_asked()
 #[tactic(auto, using(crate::proofs::Entries::completes_once))]
 pub fn completes_once()
     ensures { CompletesOnce }
+{}
+
+/// A kept outcome stays, and only it is answered with Committed.
+#[tactic(auto, using(crate::proofs::Entries::outcome_stays))]
+pub fn outcome_stays()
+    ensures { OutcomeStays }
 {}
 
 /// InvalidState without an abort changes no state.

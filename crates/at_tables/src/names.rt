@@ -20,6 +20,7 @@ impl State {
             State::Committing => "Committing",
             State::Aborting => "Aborting",
             State::Completing => "Completing",
+            State::Done => "Done",
         }
     }
 
@@ -38,6 +39,7 @@ impl State {
             "Committing" => Some(State::Committing),
             "Aborting" => Some(State::Aborting),
             "Completing" => Some(State::Completing),
+            "Done" => Some(State::Done),
             _ => None,
         }
     }

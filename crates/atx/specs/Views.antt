@@ -40,7 +40,7 @@ statuses_of none.Unread = 2 ∷ 5 ∷ []
 
 -- the states that there are; clap takes any value for one
 unfoldable pub unknown_state : List ℕ
-unknown_state = codes "error: invalid value for '--state <STATE>'\n  [possible values: None, Registering, Active, Preparing, Prepared, PreparedSuccess, Committing, Aborting, Completing]\n\nFor more information, try '--help'.\n"
+unknown_state = codes "error: invalid value for '--state <STATE>'\n  [possible values: None, Registering, Active, Preparing, Prepared, PreparedSuccess, Committing, Aborting, Completing, Done]\n\nFor more information, try '--help'.\n"
 
 -- what is printed of it
 abbrev pub told : NoJob → List ℕ

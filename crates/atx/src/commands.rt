@@ -23,7 +23,7 @@ fn cell<'a>(alloc: Global) -> Result<Command<'a>, AllocError>
     ensures { IfOk result (IsCommand cell) }
 {
     let state = valued(alloc, "state", "STATE").required(true).help(
-        "None, Registering, Active, Preparing, Prepared, PreparedSuccess, Committing, Aborting or Completing",
+        "None, Registering, Active, Preparing, Prepared, PreparedSuccess, Committing, Aborting, Completing or Done",
     );
     Command::new(alloc, "cell")
         .about("Print the cell that an envelope meets in a state, and the envelope that it posts")

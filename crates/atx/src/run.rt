@@ -83,7 +83,7 @@ fn unknown_state() -> &'static str
     ensures { result.now ≡ unknown_state }
 {
     "error: invalid value for '--state <STATE>'\n  \
-[possible values: None, Registering, Active, Preparing, Prepared, PreparedSuccess, Committing, Aborting, Completing]\n\n\
+[possible values: None, Registering, Active, Preparing, Prepared, PreparedSuccess, Committing, Aborting, Completing, Done]\n\n\
 For more information, try '--help'.\n"
 }
 

@@ -162,7 +162,7 @@ const FAULTY: &[(&str, &str)] = &[
 const TRY: &str = "\nFor more information, try '--help'.\n";
 
 const UNKNOWN_STATE: &str = "error: invalid value for '--state <STATE>'\n  \
-[possible values: None, Registering, Active, Preparing, Prepared, PreparedSuccess, Committing, Aborting, Completing]\n\n\
+[possible values: None, Registering, Active, Preparing, Prepared, PreparedSuccess, Committing, Aborting, Completing, Done]\n\n\
 For more information, try '--help'.\n";
 
 const HELP: &str =

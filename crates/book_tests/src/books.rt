@@ -64,6 +64,7 @@ flush\n\
 const ALONE_LOG: &str = "\
 msg 5 1>2 Commit /completion/1-1\n\
 deliver 5 2 202\n\
+record 2 Decided 1-1\n\
 root 2 1-1 committed\n\
 msg 6 2>1 Committed /i/1-1\n\
 deliver 6 1 202\n\
@@ -132,6 +133,7 @@ msg 10 2>3 Prepare /p/d/1-1\n\
 deliver 10 3 202\n\
 msg 11 3>2 ReadOnly /c/d/1-1/1\n\
 deliver 11 2 202\n\
+record 2 Decided 1-1\n\
 root 2 1-1 committed\n\
 msg 12 2>1 Committed /i/1-1\n\
 deliver 12 1 202\n\
@@ -551,6 +553,36 @@ tick 2 60000\n\
 msg 14 2>3 Commit /p/d/1-1\n\
 ";
 
+/// The initiator asks again: before the transaction is over, and behind its end.
+const TOLD_AGAIN: &str = "\
+begin 1 2 60000\n\
+flush\n\
+work 1 1-1 3 d prepared\n\
+flush\n\
+commit 1 1-1\n\
+deliver 9\n\
+deliver 10\n\
+deliver 11\n\
+mark\n\
+deliver 9\n\
+deliver 12\n\
+deliver 15\n\
+deliver 9\n\
+";
+
+const TOLD_AGAIN_LOG: &str = "\
+deliver 9 2 202\n\
+msg 14 2>1 Committed /i/1-1\n\
+deliver 12 3 202\n\
+record 3 LeafCommitted 1-1\n\
+leaf 3 1-1 d committed\n\
+msg 15 3>2 Committed /c/d/1-1/1\n\
+deliver 15 2 202\n\
+record 2 Ended 1-1\n\
+deliver 9 2 202\n\
+msg 16 2>1 Committed /i/1-1\n\
+";
+
 /// An active transaction expires at its last millisecond, and not before.
 const EXPIRES_ACTIVE: &str = "\
 begin 1 2 60000\n\
@@ -675,6 +707,7 @@ const RUNS: &[(&str, &str)] = &[
     (TWO_BELOW, TWO_BELOW_LOG),
     (EXPIRES, EXPIRES_LOG),
     (DECIDED, DECIDED_LOG),
+    (TOLD_AGAIN, TOLD_AGAIN_LOG),
     (EXPIRES_ACTIVE, EXPIRES_ACTIVE_LOG),
     (LEAF_EXPIRES, LEAF_EXPIRES_LOG),
     (UNREGISTERED_EXPIRES, UNREGISTERED_EXPIRES_LOG),

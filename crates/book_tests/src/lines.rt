@@ -94,6 +94,7 @@ pub fn record_line(alloc: Global, entry: &Record) -> Result<String, AllocError> 
         Record::Decided { id, seats } => decided_line(alloc, *id, seats),
         Record::SubCommitted { id } => format!(in alloc; "SubCommitted {id}"),
         Record::Ended { id } => format!(in alloc; "Ended {id}"),
+        Record::Done { id } => format!(in alloc; "Done {id}"),
     }
 }
 

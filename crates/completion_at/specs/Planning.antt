@@ -122,3 +122,4 @@ abbrev pub activities_plan : Moment → Event → List Activity → Plan Activit
 activities_plan m (events.Arrived a) xs = arrived_at m a xs a.target
 activities_plan m (events.Due item) xs = item_asked m xs item
 activities_plan m (events.Local l) xs = requested m xs l
+activities_plan m events.Tick xs = nothing

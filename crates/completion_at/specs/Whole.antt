@@ -9,7 +9,7 @@ use Rattle.at_base.specs.declared.event.Event.{Event}
 use Rattle.at_base.specs.declared.event.Event.TheVariants as events
 use Rattle.at_model.specs.Book.{Book, Activity, next_id}
 use Rattle.at_model.specs.Activities.{Refusal}
-use Rattle.at_model.specs.Step.{Outcome, Plan, plain, still, plan, refuses, at_time, moment_of, activity_at}
+use Rattle.at_model.specs.Step.{Outcome, Plan, plain, noting, still, plan, refuses, at_time, moment_of, activity_at}
 use Rattle.by_id.specs.declared.list.Alteration.{Alteration}
 use Rattle.by_id.specs.declared.list.Alteration.TheVariants as alterations
 use Rattle.by_id.specs.declared.plan.Branch.{Branch}
@@ -42,7 +42,7 @@ abbrev pub whole : Book → ℕ → Planned Activity → Plan
 whole b now (plans.Plain branch) = plain (outcome_in (at_time now b) branch)
 whole b now (plans.Recorded entry landed absent) = record {
   entry = Some entry;
-  landed = outcome_in (at_time now b) landed;
+  landed = noting entry (outcome_in (at_time now b) landed);
   absent = outcome_in (noted_if_done b now absent.change) absent;
 }
 
@@ -61,6 +61,7 @@ abbrev pub IsForActivities : Book → Event → Type 0
 IsForActivities b (events.Arrived a) = IsForActivityAt b a.target
 IsForActivities b (events.Due item) = IsActivityIn b item
 IsForActivities b (events.Local l) = refuses b l ≡ None
+IsForActivities b events.Tick = ⊥
 
 abbrev pub PlansAsTheModel : Type 0
 PlansAsTheModel =

@@ -259,6 +259,7 @@ impl Activities {
             Event::Arrived(arrived) => self.arrived_at(alloc, moment, arrived),
             Event::Due(item) => self.item_asked(alloc, moment, *item),
             Event::Local(local) => self.requested(alloc, moment, local),
+            Event::Tick => Ok(nothing(alloc)),
         }
     }
 

@@ -24,7 +24,7 @@ use Rattle.at_model.specs.Create.{Creation, create_in, create_under, on_create}
 use Rattle.at_model.specs.Due.{transaction_due, transaction_reached}
 use Rattle.at_model.specs.Moves.{Decision, Goes, Records}
 use Rattle.at_model.specs.Posts.{accepted}
-use Rattle.at_model.specs.Step.{moment_of, at_time, plan_of, put_transaction, transaction_plan, created_plan, activation_plan, registration_plan, completion_seat_plan, completion_plan, seat_plan, find_seat, coordinator_plan, link_plan, participant_plan, arrived_plan, transaction_due_plan, due_plan, transaction_at, leaf_at}
+use Rattle.at_model.specs.Step.{moment_of, at_time, plan_of, put_transaction, transaction_plan, created_plan, activation_plan, registration_plan, completion_seat_plan, completion_plan, seat_plan, find_seat, coordinator_plan, link_plan, participant_plan, arrived_plan, transaction_due_plan, due_plan, transaction_at, leaf_at, has_committed}
 use Rattle.by_id.specs.Plans.{decided}
 use Rattle.coordinator_at.specs.Creating.{created}
 use Rattle.coordinator_at.specs.Planning.{moved, creation_arrived, register_at, registration_arrived, completion_arrived, completion_at, seat_arrived, seat_at, link_arrived, link_at, arrived_at, transaction_asked, item_asked, has_initiator, has_seat, has_superior}
@@ -95,14 +95,14 @@ at_registration b now a (Some t) h i = registers b now a a.message t h
 at_registration b now a None h i = absurd cc
 
 -- a message at the completion seat
-completes : (b : Book) (now : ℕ) (a : Arrived) (t : Transaction) (c : Option Completion) → IsTrue (is_some c) → completion_seat_plan b now a t c ≡ whole b now (completion_arrived (moment_of b now) a t c)
-completes b now a t (Some c) h = decides b now accepted t (on_completion (moment_of b now) a t c a.message)
-completes b now a t None h = absurd cc
+completes : (b : Book) (now : ℕ) (a : Arrived) (committed : Bool) (t : Transaction) (c : Option Completion) → IsTrue (is_some c) → completion_seat_plan b now a committed t c ≡ whole b now (completion_arrived (moment_of b now) a t c)
+completes b now a committed t (Some c) h = decides b now accepted t (on_completion (moment_of b now) a t c a.message)
+completes b now a committed t None h = absurd cc
 
-at_completion : (b : Book) (now : ℕ) (a : Arrived) (t : Option Transaction) → IsTrue (has_initiator t) → completion_plan b now a t ≡ whole b now (completion_at (moment_of b now) a t)
+at_completion : (b : Book) (now : ℕ) (a : Arrived) (committed : Bool) (t : Option Transaction) → IsTrue (has_initiator t) → completion_plan b now a committed t ≡ whole b now (completion_at (moment_of b now) a t)
 unfolding completion_plan
-at_completion b now a (Some t) h = completes b now a t t.completion h
-at_completion b now a None h = absurd cc
+at_completion b now a committed (Some t) h = completes b now a committed t t.completion h
+at_completion b now a committed None h = absurd cc
 
 -- a message at a seat
 at_one_seat : (b : Book) (now : ℕ) (a : Arrived) (kind : Kind) (t : Transaction) (s : Option Enlistment) → IsTrue (is_some s) → seat_plan b now a kind t s ≡ whole b now (seat_arrived (moment_of b now) a t s)
@@ -128,7 +128,7 @@ arrives : (b : Book) (now : ℕ) (a : Arrived) (t : Target) → IsForTransaction
 unfolding arrived_plan
 arrives b now a targets.Activation h = activates b now a a.message h
 arrives b now a (targets.Registration id) h = at_registration b now a (transaction_at b id) h.0 h.1
-arrives b now a (targets.Completion id) h = at_completion b now a (transaction_at b id) h
+arrives b now a (targets.Completion id) h = at_completion b now a (has_committed b id) (transaction_at b id) h
 arrives b now a (targets.Coordinator id seat) h = at_seat b now a seat.number seat.kind (transaction_at b id) h
 arrives b now a (targets.Participant id kind) h = at_link b now a kind (transaction_at b id) (leaf_at b id) h
 arrives b now a (targets.Initiator id) h = absurd h
@@ -149,3 +149,4 @@ pub plans_as_the_model : PlansAsTheModel
 plans_as_the_model b (events.Arrived a) now h = arrives b now a a.target h
 plans_as_the_model b (events.Due item) now h = due b now item h
 plans_as_the_model b (events.Local l) now h = absurd h
+plans_as_the_model b events.Tick now h = absurd h

@@ -103,6 +103,7 @@ abbrev pub transactions_plan : Moment → Event → List Transaction → Plan Tr
 transactions_plan m (events.Arrived a) ts = arrived_at m a ts a.target
 transactions_plan m (events.Due item) ts = item_asked m ts item
 transactions_plan m (events.Local l) ts = nothing
+transactions_plan m events.Tick ts = nothing
 
 -- What going down loses: the undecided roots, and then the subordinates that haven't voted.
 abbrev pub transaction_lost : Transaction → Effect

@@ -9,7 +9,7 @@ use Rattle.at_base.specs.declared.event.Item.TheVariants as items
 use Rattle.at_base.specs.declared.event.Event.{Event}
 use Rattle.at_base.specs.declared.event.Event.TheVariants as events
 use Rattle.at_model.specs.Book.{Book, Transaction, transaction_id}
-use Rattle.at_model.specs.Step.{Outcome, Plan, plain, plan, at_time, moment_of, transaction_at}
+use Rattle.at_model.specs.Step.{Outcome, Plan, plain, noting, plan, at_time, moment_of, transaction_at}
 use Rattle.by_id.specs.Lists.{altered}
 use Rattle.by_id.specs.declared.list.Alteration.{Alteration}
 use Rattle.by_id.specs.declared.list.Alteration.TheVariants as alterations
@@ -46,7 +46,7 @@ abbrev pub whole : Book → ℕ → Planned Transaction → Plan
 whole b now (plans.Plain branch) = plain (outcome_in (at_time now b) branch)
 whole b now (plans.Recorded entry landed absent) = record {
   entry = Some entry;
-  landed = outcome_in (at_time now b) landed;
+  landed = noting entry (outcome_in (at_time now b) landed);
   absent = outcome_in (noted_if_done b now absent.change) absent;
 }
 
@@ -80,6 +80,7 @@ abbrev pub IsForTransactions : Book → Event → Type 0
 IsForTransactions b (events.Arrived a) = IsForTransactionAt b a.message a.target
 IsForTransactions b (events.Due item) = IsTransactionIn b item
 IsForTransactions b (events.Local l) = ⊥
+IsForTransactions b events.Tick = ⊥
 
 abbrev pub PlansAsTheModel : Type 0
 PlansAsTheModel =

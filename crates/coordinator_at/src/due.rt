@@ -114,7 +114,8 @@ fn push_link_again(
         | State::Prepared
         | State::Committing
         | State::Aborting
-        | State::Completing => Ok(()),
+        | State::Completing
+        | State::Done => Ok(()),
     }
 }
 

@@ -1,6 +1,7 @@
 //! Register: which participants a transaction accepts, and what it answers (WS-Coordination 1.2, section 3.2).
 
 ghost use Rattle.std.specs.Prelude.{◌≡◌, ◌<◌, ◌++◌, ◌&&◌, if◌then◌else◌, IfOk, OnOk, Some, None, find, length, nat_lt, option_copied, option_map, is_none};
+ghost use Rattle.at_base.specs.declared.limits.TheConstants.{MOST_SEATS};
 ghost use Rattle.at_model.specs.Book.{is_epr};
 ghost use Rattle.at_model.specs.Posts.{invalid_protocol, invalid_parameters, cannot_register};
 ghost use Rattle.at_model.specs.Register.{protocol_named, seat_endpoint, completion_endpoint, seat_for, accepts, may_complete, may_register, registered_reply, is_late, new_seat, late_prepare, with_seat, accept_seat, accept, refuse_register, register_new, register_again, held_seat, on_register, register_unknown};
@@ -12,6 +13,7 @@ ghost use Rattle.transaction_at.specs.PhaseNames.{phase_of};
 use at_base::epr::Epr;
 use at_base::event::{Arrived, Moment};
 use at_base::id::Id;
+use at_base::limits::MOST_SEATS;
 use at_base::message::{Message, Register};
 use at_base::notice::{Kind, Notice};
 use at_base::outs::{Effects, OutList, Outs};
@@ -29,9 +31,6 @@ use by_id::plan::{Branch, Plan};
 use std::alloc::{AllocError, Global};
 use transaction_at::seats::{is_kind, seat_target};
 use transaction_at::transaction::{Completion, Enlistment, Phase, Transaction};
-
-/// How many seats a transaction has at most.
-pub const MOST_SEATS: usize = 64;
 
 /// What a Register asks for: a seat of a kind, or none for Completion (WS-AtomicTransaction 1.2, section 3).
 pub type Protocol = Option<Kind>;
@@ -174,7 +173,7 @@ fn may_complete(transaction: &Transaction, protocol: Protocol) -> bool
 
 /// Whether a seat is left.
 fn has_room(transaction: &Transaction) -> bool
-    ensures { result ≡ nat_lt (length transaction.now.seats) 64 }
+    ensures { result ≡ nat_lt (length transaction.now.seats) MOST_SEATS }
 {
     transaction.seats.as_slice().len() < MOST_SEATS
 }
@@ -213,7 +212,7 @@ fn new_seat(
     participant: &Epr,
     kind: Kind,
 ) -> Result<Enlistment, AllocError>
-    requires { length transaction.now.seats < 64 }
+    requires { length transaction.now.seats < MOST_SEATS }
     ensures { IfOk result (λ seat. seat ≡ new_seat transaction.now participant.now kind) }
 {
     let participant = participant.clone()?;
@@ -364,7 +363,7 @@ fn accept(
     participant: &Epr,
     protocol: Protocol,
 ) -> Result<Plan<Transaction>, AllocError>
-    requires { length transaction.now.seats < 64 }
+    requires { length transaction.now.seats < MOST_SEATS }
     ensures { IfOk result
         (λ plan. plan
         ≡ registered

@@ -470,7 +470,7 @@ impl Transactions {
         match event {
             Event::Arrived(arrived) => self.arrived_at(alloc, moment, arrived),
             Event::Due(item) => self.item_asked(alloc, moment, *item),
-            Event::Local(_) => Ok(nothing(alloc)),
+            Event::Local(_) | Event::Tick => Ok(nothing(alloc)),
         }
     }
 

@@ -21,7 +21,7 @@ use Rattle.at_tables.specs.Names.{is_kind}
 use Rattle.at_tables.specs.Tables.{coordinator_of, participant_of, completion_of, initiator_of}
 use Rattle.at_model.specs.Book.{Book, Transaction, Leaf, Activity, Enlistment, Completion, Superior, next_id}
 use Rattle.at_model.specs.Activities.{Refusal}
-use Rattle.at_model.specs.Step.{Plan, plain, plan, at_time, moment_of, transaction_at, leaf_at, activity_at, stranger_plan, activation_plan, registration_plan, completion_seat_plan, completion_plan, find_seat, seat_plan, coordinator_plan, leaf_or_stranger_plan, link_plan, participant_plan, initiator_plan, work_plan, arrived_plan, local_plan, transaction_due_plan, leaf_due_plan, activity_due_plan, due_plan, refuses}
+use Rattle.at_model.specs.Step.{Plan, plain, plan, at_time, moment_of, transaction_at, leaf_at, activity_at, stranger_plan, activation_plan, registration_plan, completion_seat_plan, completion_plan, find_seat, seat_plan, coordinator_plan, leaf_or_stranger_plan, link_plan, participant_plan, initiator_plan, work_plan, arrived_plan, local_plan, transaction_due_plan, leaf_due_plan, activity_due_plan, due_plan, refuses, outcome_plan, seatless_plan, has_committed}
 use Rattle.participant_at.specs.Planning.{leaves_plan, has_kind}
 use Rattle.participant_at.specs.Whole.{whole as of_leaves, IsForLeafAt, PlansAsTheModel as LeavesAsTheModel}
 use Rattle.coordinator_at.specs.Planning.{transactions_plan, has_initiator, has_seat, has_superior}
@@ -31,7 +31,7 @@ use Rattle.completion_at.specs.Whole.{whole as of_activities, IsForActivityAt, P
 use Rattle.interposition.specs.declared.plan.Part.{Part}
 use Rattle.interposition.specs.declared.plan.Part.TheVariants as parts
 use Rattle.interposition.specs.Doing.{noted}
-use Rattle.interposition.specs.Planning.{cell_of_none, stranger, at_activation, at_registration, at_transaction, at_leaf, at_participant, at_activity, at_work, arrived_part, requested_part, if_known, due_part, part_of}
+use Rattle.interposition.specs.Planning.{cell_of_none, stranger, at_activation, at_registration, at_transaction, at_leaf, at_participant, at_activity, at_work, arrived_part, requested_part, if_known, due_part, part_of, at_completion, committed}
 
 -- a part, as a plan of the whole book
 abbrev pub whole : Book → ℕ → Part → Plan
@@ -111,23 +111,39 @@ registers law b now a id (messages.Fault name) (Some t) e f g = refl
 registers law b now a id (messages.Fault name) None e f g = refl
 
 -- the completion seat
-no_initiator : (b : Book) (now : ℕ) (a : Arrived) (id : Numbers) (t : Transaction) (c : Option Completion) → is_some c ≡ false
-    → whole b now (stranger (moment_of b now) a (targets.Completion id) a.message) ≡ completion_seat_plan b now a t c
-no_initiator b now a id t None e = strange b now a (targets.Completion id) (completion_of states.None) (λ n. refl) a.message
-no_initiator b now a id t (Some c) e = absurd cc
+kept_outcome : (b : Book) (now : ℕ) (a : Arrived) (t : Target) (message : Message) → whole b now (committed (moment_of b now) a t message) ≡ outcome_plan b now a message
+kept_outcome b now a t (messages.Notice n) = refl
+kept_outcome b now a t (messages.Create c) = refl
+kept_outcome b now a t (messages.CreateResponse c) = refl
+kept_outcome b now a t (messages.Register r) = refl
+kept_outcome b now a t (messages.RegisterResponse c) = refl
+kept_outcome b now a t (messages.Work w) = refl
+kept_outcome b now a t messages.WorkDone = refl
+kept_outcome b now a t messages.WorkRefused = refl
+kept_outcome b now a t (messages.Fault name) = refl
 
-not_completed : (b : Book) (now : ℕ) (a : Arrived) (id : Numbers) (o : Option Transaction) → has_initiator o ≡ false
-    → whole b now (stranger (moment_of b now) a (targets.Completion id) a.message) ≡ completion_plan b now a o
+seatless : (b : Book) (now : ℕ) (a : Arrived) (id : Numbers) (done : Bool)
+    → whole b now (at_completion b (moment_of b now) a (targets.Completion id) false done) ≡ seatless_plan b now a done
+seatless b now a id true = kept_outcome b now a (targets.Completion id) a.message
+seatless b now a id false = strange b now a (targets.Completion id) (completion_of states.None) (λ n. refl) a.message
+
+no_initiator : (b : Book) (now : ℕ) (a : Arrived) (id : Numbers) (done : Bool) (t : Transaction) (c : Option Completion) → is_some c ≡ false
+    → whole b now (at_completion b (moment_of b now) a (targets.Completion id) false done) ≡ completion_seat_plan b now a done t c
+no_initiator b now a id done t None e = seatless b now a id done
+no_initiator b now a id done t (Some c) e = absurd cc
+
+not_completed : (b : Book) (now : ℕ) (a : Arrived) (id : Numbers) (done : Bool) (o : Option Transaction) → has_initiator o ≡ false
+    → whole b now (at_completion b (moment_of b now) a (targets.Completion id) false done) ≡ completion_plan b now a done o
 unfolding completion_plan
-not_completed b now a id None e = strange b now a (targets.Completion id) (completion_of states.None) (λ n. refl) a.message
-not_completed b now a id (Some t) e = no_initiator b now a id t t.completion e
+not_completed b now a id done None e = seatless b now a id done
+not_completed b now a id done (Some t) e = no_initiator b now a id done t t.completion e
 
 completes : TransactionsAsTheModel → (b : Book) (now : ℕ) (a : Arrived) (id : Numbers) (has : Bool) → a.target ≡ targets.Completion id
     → has_initiator (transaction_at b id) ≡ has
-    → whole b now (at_transaction b (moment_of b now) a (targets.Completion id) has) ≡ arrived_plan b now a (targets.Completion id)
+    → whole b now (at_completion b (moment_of b now) a (targets.Completion id) has (has_committed b id)) ≡ arrived_plan b now a (targets.Completion id)
 unfolding arrived_plan
 completes law b now a id true e h = by_transactions law b now a (targets.Completion id) e h
-completes law b now a id false e h = not_completed b now a id (transaction_at b id) h
+completes law b now a id false e h = not_completed b now a id (has_committed b id) (transaction_at b id) h
 
 -- a coordinator's seat
 no_seat : (b : Book) (now : ℕ) (a : Arrived) (id : Numbers) (seat : Seat) (t : Transaction) (s : Option Enlistment) → is_some s ≡ false
@@ -266,3 +282,4 @@ plans law leaves activities refusals b (events.Local l) now =
     subst (λ why. whole b now (requested_part b (moment_of b now) l why) ≡ local_plan b now l (refuses b l)) (refusals b l)
     (requests activities b now l (refuses b l) refl)
 plans law leaves activities refusals b (events.Due item) now = due law leaves activities b now item
+plans law leaves activities refusals b events.Tick now = refl

@@ -15,14 +15,14 @@ use Rattle.at_base.specs.declared.event.Event.{Event}
 use Rattle.at_base.specs.declared.event.Event.TheVariants as events
 use Rattle.at_model.specs.Book.{Book, Transaction, last_counter, next_id}
 use Rattle.at_model.specs.Activities.{Refusal}
-use Rattle.at_model.specs.Step.{moment_of, transaction_at, leaf_at, activity_at}
+use Rattle.at_model.specs.Step.{moment_of, transaction_at, leaf_at, activity_at, has_committed}
 use Rattle.participant_at.specs.Planning.{leaves_plan, has_kind}
 use Rattle.coordinator_at.specs.Planning.{transactions_plan, has_initiator, has_seat}
 use Rattle.completion_at.specs.Planning.{activities_plan, refused_at}
 use Rattle.interposition.specs.declared.plan.Part.{Part}
 use Rattle.interposition.specs.declared.plan.Part.TheVariants as parts
 use Rattle.interposition.specs.Doing.{draws}
-use Rattle.interposition.specs.Planning.{stranger, at_activation, at_registration, at_transaction, at_leaf, at_participant, at_activity, at_work, arrived_part, requested_part, if_known, due_part, part_of}
+use Rattle.interposition.specs.Planning.{at_completion, committed, stranger, at_activation, at_registration, at_transaction, at_leaf, at_participant, at_activity, at_work, arrived_part, requested_part, if_known, due_part, part_of}
 use Rattle.interposition.proofs.Undrawn.{transactions_undrawn, leaves_undrawn, activities_undrawn}
 
 -- where the part makes an item, there is an id for it
@@ -100,6 +100,22 @@ transaction : (b : Book) (now : ℕ) (a : Arrived) (t : Target) (has landed : Bo
 transaction b now a t true landed = transactions b (events.Arrived a) now landed
 transaction b now a t false landed = strange b now a t a.message landed
 
+outcome : (b : Book) (now : ℕ) (a : Arrived) (t : Target) (message : Message) (landed : Bool) → IsDrawable b (committed (moment_of b now) a t message) landed
+outcome b now a t (messages.Notice n) landed = tt
+outcome b now a t (messages.Create c) landed = tt
+outcome b now a t (messages.CreateResponse c) landed = tt
+outcome b now a t (messages.Register r) landed = tt
+outcome b now a t (messages.RegisterResponse c) landed = tt
+outcome b now a t (messages.Work w) landed = tt
+outcome b now a t messages.WorkDone landed = tt
+outcome b now a t messages.WorkRefused landed = tt
+outcome b now a t (messages.Fault name) landed = tt
+
+completion : (b : Book) (now : ℕ) (a : Arrived) (t : Target) (has done landed : Bool) → IsDrawable b (at_completion b (moment_of b now) a t has done) landed
+completion b now a t true done landed = transactions b (events.Arrived a) now landed
+completion b now a t false true landed = outcome b now a t a.message landed
+completion b now a t false false landed = strange b now a t a.message landed
+
 leaf : (b : Book) (now : ℕ) (a : Arrived) (t : Target) (has landed : Bool) → IsDrawable b (at_leaf b (moment_of b now) a t has) landed
 leaf b now a t true landed = leaves b (events.Arrived a) now landed
 leaf b now a t false landed = strange b now a t a.message landed
@@ -126,7 +142,7 @@ work b now a (messages.Fault name) landed = tt
 arrived : (b : Book) (now : ℕ) (a : Arrived) (t : Target) (landed : Bool) → IsDrawable b (arrived_part b (moment_of b now) a t) landed
 arrived b now a targets.Activation landed = activation b now a a.message landed
 arrived b now a (targets.Registration id) landed = registration b now a (transaction_at b id) a.message landed
-arrived b now a (targets.Completion id) landed = transaction b now a (targets.Completion id) (has_initiator (transaction_at b id)) landed
+arrived b now a (targets.Completion id) landed = completion b now a (targets.Completion id) (has_initiator (transaction_at b id)) (has_committed b id) landed
 arrived b now a (targets.Coordinator id seat) landed = transaction b now a (targets.Coordinator id seat) (has_seat seat.number seat.kind (transaction_at b id)) landed
 arrived b now a (targets.Participant id kind) landed = participant b now a id kind (transaction_at b id) landed
 arrived b now a (targets.Initiator id) landed = activity b now a (targets.Initiator id) (is_some (activity_at b id)) landed
@@ -155,3 +171,4 @@ pub part_is_drawable : (b : Book) (e : Event) (now : ℕ) (landed : Bool) → Is
 part_is_drawable b (events.Arrived a) now landed = arrived b now a a.target landed
 part_is_drawable b (events.Local l) now landed = requested b now l (refused_at (next_id b) b.activities l) landed
 part_is_drawable b (events.Due item) now landed = due b now item landed
+part_is_drawable b events.Tick now landed = tt

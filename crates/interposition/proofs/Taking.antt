@@ -6,6 +6,7 @@ use Rattle.at_base.specs.declared.event.Event.TheVariants as events
 use Rattle.at_base.specs.declared.event.Moment.{Moment}
 use Rattle.at_base.specs.declared.event.Arrived.{Arrived}
 use Rattle.at_base.specs.declared.record.Record.{Record}
+use Rattle.at_model.specs.Outcomes.{with_outcome}
 use Rattle.at_model.specs.Book.{Book, Transaction, Leaf, Activity, transaction_id, leaf_id, last_counter, next_id}
 use Rattle.at_model.specs.Step.{Plan, plan, step, branch, at_time, moment_of}
 use Rattle.by_id.specs.Lists.{altered}
@@ -23,7 +24,7 @@ use Rattle.completion_at.specs.Planning.{activities_plan, settled}
 use Rattle.completion_at.specs.Whole.{whole as of_activities, drawn as drawn_activity, noted_if_done as noted_activity, PlansAsTheModel as ActivitiesAsTheModel, RefusesAsTheModel}
 use Rattle.interposition.specs.declared.plan.Part.{Part}
 use Rattle.interposition.specs.declared.plan.Part.TheVariants as parts
-use Rattle.interposition.specs.Doing.{is_addition, is_change, draws, notes_time, drawn, noted, moved, done_part, part_entry, part_outs}
+use Rattle.interposition.specs.Doing.{is_addition, is_change, draws, notes_time, drawn, noted, moved, done_part, part_entry, part_outs, kept}
 use Rattle.interposition.specs.Planning.{part_of}
 use Rattle.model_laws.specs.Sound.{IsSound, RecordsAreWellFormed}
 use Rattle.interposition.specs.Whole.{IsStep, StepsAsTheModel, KeepsBounds}
@@ -34,17 +35,21 @@ use Rattle.interposition.proofs.Parting.{IsDrawable, part_is_drawable}
 abbrev HasNext : Book → Bool → Type 0
 HasNext b holds = holds ≡ true → nat_lt b.counter last_counter ≡ true
 
+-- and what is recorded may be an outcome
+with_kept : (entry : Record) (b : Book) {c d : Book} → c ≡ d → kept (with_outcome entry b.outcomes) c ≡ kept (with_outcome entry b.outcomes) d
+with_kept entry b e = ap (kept (with_outcome entry b.outcomes)) e
+
 -- transactions
 
 transaction_plain : (now : ℕ) (b : Book) (c : Alteration Transaction) → HasNext b (is_addition c)
-    → record (drawn (is_addition c) (at_time now b)) { transactions = altered transaction_id c b.transactions }
+    → record (kept b.outcomes (drawn (is_addition c) (at_time now b))) { transactions = altered transaction_id c b.transactions }
     ≡ record (at_time now b) { counter = drawn_transaction c b.counter; transactions = altered transaction_id c b.transactions }
 transaction_plain now b alterations.Keep h = refl
 transaction_plain now b (alterations.Put id item) h = refl
 transaction_plain now b (alterations.Add t) h = rw (h refl) refl
 
 transaction_absent : (now : ℕ) (b : Book) (c : Alteration Transaction) → HasNext b (is_addition c)
-    → record (drawn (is_addition c) (noted (is_change c) now b)) { transactions = altered transaction_id c b.transactions }
+    → record (kept b.outcomes (drawn (is_addition c) (noted (is_change c) now b))) { transactions = altered transaction_id c b.transactions }
     ≡ record (noted_transaction b now c) { counter = drawn_transaction c b.counter; transactions = altered transaction_id c b.transactions }
 transaction_absent now b alterations.Keep h = refl
 transaction_absent now b (alterations.Put id item) h = refl
@@ -61,21 +66,21 @@ transactions : (now : ℕ) (b : Book) (p : Planned Transaction) (landed : Bool) 
     → done_part now (parts.Transactions p) landed b ≡ (branch (of_transactions b now p) landed).book
 transactions now b (plans.Plain x) true h = transaction_plain now b x.change h
 transactions now b (plans.Plain x) false h = transaction_plain now b x.change h
-transactions now b (plans.Recorded entry x absent) true h = transaction_plain now b x.change h
+transactions now b (plans.Recorded entry x absent) true h = with_kept entry b (transaction_plain now b x.change h)
 transactions now b (plans.Recorded entry x absent) false h =
     transaction_absent now b absent.change h ∙ transaction_kept now b absent.change
 
 -- leaves
 
 leaf_plain : (now : ℕ) (b : Book) (c : Alteration Leaf) → HasNext b (is_addition c)
-    → record (drawn (is_addition c) (at_time now b)) { leaves = altered leaf_id c b.leaves }
+    → record (kept b.outcomes (drawn (is_addition c) (at_time now b))) { leaves = altered leaf_id c b.leaves }
     ≡ record (at_time now b) { counter = drawn_leaf c b.counter; leaves = altered leaf_id c b.leaves }
 leaf_plain now b alterations.Keep h = refl
 leaf_plain now b (alterations.Put id item) h = refl
 leaf_plain now b (alterations.Add t) h = rw (h refl) refl
 
 leaf_absent : (now : ℕ) (b : Book) (c : Alteration Leaf) → HasNext b (is_addition c)
-    → record (drawn (is_addition c) (noted (is_change c) now b)) { leaves = altered leaf_id c b.leaves }
+    → record (kept b.outcomes (drawn (is_addition c) (noted (is_change c) now b))) { leaves = altered leaf_id c b.leaves }
     ≡ record (noted_leaf b now c) { counter = drawn_leaf c (noted_leaf b now c).counter; leaves = altered leaf_id c (noted_leaf b now c).leaves }
 leaf_absent now b alterations.Keep h = refl
 leaf_absent now b (alterations.Put id item) h = refl
@@ -85,20 +90,20 @@ leaves : (now : ℕ) (b : Book) (p : Planned Leaf) (landed : Bool) → HasNext b
     → done_part now (parts.Leaves p) landed b ≡ (branch (of_leaves b now p) landed).book
 leaves now b (plans.Plain x) true h = leaf_plain now b x.change h
 leaves now b (plans.Plain x) false h = leaf_plain now b x.change h
-leaves now b (plans.Recorded entry x absent) true h = leaf_plain now b x.change h
+leaves now b (plans.Recorded entry x absent) true h = with_kept entry b (leaf_plain now b x.change h)
 leaves now b (plans.Recorded entry x absent) false h = leaf_absent now b absent.change h
 
 -- activities
 
 activity_plain : (now : ℕ) (b : Book) (c : Alteration Activity) → HasNext b (is_addition c)
-    → record (drawn (is_addition c) (at_time now b)) { activities = settled c b.activities }
+    → record (kept b.outcomes (drawn (is_addition c) (at_time now b))) { activities = settled c b.activities }
     ≡ record (at_time now b) { counter = drawn_activity c b.counter; activities = settled c b.activities }
 activity_plain now b alterations.Keep h = refl
 activity_plain now b (alterations.Put id item) h = refl
 activity_plain now b (alterations.Add t) h = rw (h refl) refl
 
 activity_absent : (now : ℕ) (b : Book) (c : Alteration Activity) → HasNext b (is_addition c)
-    → record (drawn (is_addition c) (noted (is_change c) now b)) { activities = settled c b.activities }
+    → record (kept b.outcomes (drawn (is_addition c) (noted (is_change c) now b))) { activities = settled c b.activities }
     ≡ record (noted_activity b now c) { counter = drawn_activity c (noted_activity b now c).counter; activities = settled c (noted_activity b now c).activities }
 activity_absent now b alterations.Keep h = refl
 activity_absent now b (alterations.Put id item) h = refl
@@ -108,7 +113,7 @@ activities : (now : ℕ) (b : Book) (p : Planned Activity) (landed : Bool) → H
     → done_part now (parts.Activities p) landed b ≡ (branch (of_activities b now p) landed).book
 activities now b (plans.Plain x) true h = activity_plain now b x.change h
 activities now b (plans.Plain x) false h = activity_plain now b x.change h
-activities now b (plans.Recorded entry x absent) true h = activity_plain now b x.change h
+activities now b (plans.Recorded entry x absent) true h = with_kept entry b (activity_plain now b x.change h)
 activities now b (plans.Recorded entry x absent) false h = activity_absent now b absent.change h
 
 -- a part

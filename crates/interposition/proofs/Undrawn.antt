@@ -116,6 +116,7 @@ transaction_item m ts (items.Activity id) landed = refl
 pub transactions_undrawn : (m : Moment) (e : Event) (ts : List Transaction) (landed : Bool) → m.next ≡ None → draws (transactions_plan m e ts) landed ≡ false
 transactions_undrawn m (events.Arrived a) ts landed h = transaction_arrives m a ts a.target landed h
 transactions_undrawn m (events.Due item) ts landed h = transaction_item m ts item landed
+transactions_undrawn m events.Tick ts landed h = refl
 transactions_undrawn m (events.Local l) ts landed h = refl
 
 -- leaves
@@ -162,6 +163,7 @@ leaf_item m ls (items.Activity id) landed = refl
 pub leaves_undrawn : (m : Moment) (e : Event) (ls : List Leaf) (landed : Bool) → m.next ≡ None → draws (leaves_plan m e ls) landed ≡ false
 leaves_undrawn m (events.Arrived a) ls landed h = leaf_arrives m a ls a.target landed h
 leaves_undrawn m (events.Due item) ls landed h = leaf_item m ls item landed
+leaves_undrawn m events.Tick ls landed h = refl
 leaves_undrawn m (events.Local l) ls landed h = refl
 
 -- activities
@@ -207,4 +209,5 @@ unless_undrawn (Some why) p landed h = refl
 pub activities_undrawn : (m : Moment) (e : Event) (xs : List Activity) (landed : Bool) → m.next ≡ None → draws (activities_plan m e xs) landed ≡ false
 activities_undrawn m (events.Arrived a) xs landed h = activity_arrives m a xs a.target landed
 activities_undrawn m (events.Due item) xs landed h = activity_item m xs item landed
+activities_undrawn m events.Tick xs landed h = refl
 activities_undrawn m (events.Local l) xs landed h = unless_undrawn (refused_at m.next xs l) (taken m xs l) landed (taken_undrawn m xs l landed h)

@@ -1,8 +1,10 @@
 -- What a plan does to a book, where its record landed, and where it didn't.
 use Rattle.std.specs.Prelude.{ℕ, List, Option, Some, None, Bool, true, false, nat_lt, ◌+◌, if◌then◌else◌}
+use Rattle.at_base.specs.Numbers.{Numbers}
 use Rattle.at_base.specs.declared.record.Record.{Record}
 use Rattle.at_base.specs.declared.outs.Outs.{Outs}
 use Rattle.at_model.specs.Book.{Book, transaction_id, leaf_id, last_counter}
+use Rattle.at_model.specs.Outcomes.{with_outcome}
 use Rattle.at_model.specs.Step.{at_time}
 use Rattle.by_id.specs.Lists.{altered}
 use Rattle.by_id.specs.Plans.{branch_of, entry_of}
@@ -40,8 +42,16 @@ noted holds now b = if holds then at_time now b else b
 abbrev pub drawn : Bool → Book → Book
 drawn holds b = record b { counter = if holds then (if nat_lt b.counter last_counter then b.counter + 1 else b.counter) else b.counter }
 
+-- the outcomes behind it: a record that stands may add one
+abbrev pub outcomes_by : {A : Type 0} → Planned A → Bool → List Numbers → List Numbers
+outcomes_by (plans.Plain branch) landed ids = ids
+outcomes_by (plans.Recorded entry stands absent) landed ids = if landed then with_outcome entry ids else ids
+
+abbrev pub kept : List Numbers → Book → Book
+kept ids b = record b { outcomes = ids }
+
 abbrev pub moved : {A : Type 0} → ℕ → Planned A → Bool → Book → Book
-moved now p landed b = drawn (draws p landed) (noted (notes_time p landed) now b)
+moved now p landed b = kept (outcomes_by p landed b.outcomes) (drawn (draws p landed) (noted (notes_time p landed) now b))
 
 abbrev pub done_part : ℕ → Part → Bool → Book → Book
 done_part now (parts.Still holds outs) landed b = noted holds now b

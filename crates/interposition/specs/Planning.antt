@@ -23,7 +23,7 @@ use Rattle.at_model.specs.Book.{Book, Transaction, next_id}
 use Rattle.at_model.specs.Posts.{accepted}
 use Rattle.at_model.specs.Register.{protocol_named, register_unknown}
 use Rattle.at_model.specs.Activities.{Refusal}
-use Rattle.at_model.specs.Step.{moment_of, stranger_cell, transaction_at, leaf_at, activity_at}
+use Rattle.at_model.specs.Step.{moment_of, stranger_cell, outcome_cell, has_committed, transaction_at, leaf_at, activity_at}
 use Rattle.participant_at.specs.Planning.{leaves_plan, has_kind}
 use Rattle.coordinator_at.specs.Planning.{transactions_plan, has_initiator, has_seat}
 use Rattle.completion_at.specs.Planning.{activities_plan, refused_at}
@@ -55,6 +55,12 @@ stranger m a t (messages.Notice n) =
     answered (accepted ++ map outs.Post (stranger_cell m.base a.target a.from a.id (cell_of_none t n)))
 stranger m a t other = answered accepted
 
+-- A message at the completion seat of a root that committed, where the seat isn't there any more.
+abbrev pub committed : Moment → Arrived → Target → Message → Part
+committed m a t (messages.Notice n) =
+    answered (accepted ++ map outs.Post (outcome_cell m.base a.target a.from a.id (completion_of states.Done n)))
+committed m a t other = answered accepted
+
 abbrev pub at_activation : Book → Moment → Arrived → Message → Part
 at_activation b m a (messages.Create c) = parts.Transactions (transactions_plan m (events.Arrived a) b.transactions)
 at_activation b m a other = answered accepted
@@ -68,6 +74,12 @@ at_registration b m a t other = answered accepted
 abbrev pub at_transaction : Book → Moment → Arrived → Target → Bool → Part
 at_transaction b m a t true = parts.Transactions (transactions_plan m (events.Arrived a) b.transactions)
 at_transaction b m a t false = stranger m a t a.message
+
+-- a message at a completion seat that is there, or isn't
+abbrev pub at_completion : Book → Moment → Arrived → Target → Bool → Bool → Part
+at_completion b m a t true done = parts.Transactions (transactions_plan m (events.Arrived a) b.transactions)
+at_completion b m a t false true = committed m a t a.message
+at_completion b m a t false false = stranger m a t a.message
 
 abbrev pub at_leaf : Book → Moment → Arrived → Target → Bool → Part
 at_leaf b m a t true = parts.Leaves (leaves_plan m (events.Arrived a) b.leaves)
@@ -91,7 +103,7 @@ abbrev pub arrived_part : Book → Moment → Arrived → Target → Part
 arrived_part b m a targets.Activation = at_activation b m a a.message
 arrived_part b m a (targets.Registration id) = at_registration b m a (transaction_at b id) a.message
 arrived_part b m a (targets.Completion id) =
-    at_transaction b m a (targets.Completion id) (has_initiator (transaction_at b id))
+    at_completion b m a (targets.Completion id) (has_initiator (transaction_at b id)) (has_committed b id)
 arrived_part b m a (targets.Coordinator id seat) =
     at_transaction b m a (targets.Coordinator id seat) (has_seat seat.number seat.kind (transaction_at b id))
 arrived_part b m a (targets.Participant id kind) = at_participant b m a id kind (transaction_at b id)
@@ -120,6 +132,7 @@ abbrev pub part_of : Book → Moment → Event → Part
 part_of b m (events.Arrived a) = arrived_part b m a a.target
 part_of b m (events.Local l) = requested_part b m l (refused_at m.next b.activities l)
 part_of b m (events.Due item) = due_part b m item
+part_of b m events.Tick = answered accepted
 
 -- The plan of an event for the book.
 abbrev pub planned : Book → Event → ℕ → Plan

@@ -1,24 +1,26 @@
 //! A node's book: planned first, and then done.
 
-ghost use Rattle.std.specs.Prelude.{ℕ, ◌≡◌, ◌≤◌, ◌++◌, ◌∷◌, [], IfOk, OnOk, Option, Some, None, option_map};
+ghost use Rattle.std.specs.Prelude.{ℕ, ◌≡◌, ◌≤◌, ◌++◌, ◌∷◌, [], IfOk, OnOk, Option, Some, None, option_copied, option_map};
 ghost use Rattle.at_base.specs.declared.event.Event.TheVariants as events;
 ghost use Rattle.at_base.specs.declared.record.Record.TheVariants as records;
 ghost use Rattle.at_base.specs.declared.target.Target.TheVariants as targets;
 ghost use Rattle.at_model.specs.Book.{next_id};
 ghost use Rattle.at_model.specs.Recover.{recover};
-ghost use Rattle.at_model.specs.Step.{moment_of, transaction_at};
+ghost use Rattle.at_model.specs.Step.{has_committed, is_committing, is_decided_root, moment_of, transaction_at};
 ghost use Rattle.completion_at.specs.Names.{refusal_of};
 ghost use Rattle.completion_at.specs.Planning.{activities_plan, refused_at};
-ghost use Rattle.coordinator_at.specs.Planning.{transactions_lost, transactions_plan};
+ghost use Rattle.coordinator_at.specs.Planning.{has_initiator, transactions_lost, transactions_plan};
 ghost use Rattle.participant_at.specs.Planning.{leaves_lost, leaves_plan};
-ghost use Rattle.interposition.specs.Doing.{done, drawn, noted, sent};
+ghost use Rattle.interposition.specs.Doing.{done, drawn, kept, noted, outcomes_by, sent};
 ghost use Rattle.interposition.specs.Due.{FindsTheDue, WalksTheDue, next_item, next_transaction, next_leaf, next_activity};
-ghost use Rattle.interposition.specs.Planning.{arrived_part, at_activation, at_activity, at_leaf, at_participant, at_registration, at_transaction, at_work, due_part, part_of, planned, requested_part};
+ghost use Rattle.interposition.specs.Planning.{arrived_part, at_activation, at_activity, at_completion, at_leaf, at_participant, at_registration, at_transaction, at_work, due_part, part_of, planned, requested_part};
 ghost use Rattle.interposition.specs.declared.plan.Part.TheVariants as parts;
+ghost use Rattle.transaction_at.specs.PhaseNames.{phase_of};
 ghost use Rattle.interposition.specs.Whole.{KeepsBounds, LosesAsTheModel, StepsAsTheModel};
 
 use crate::plan::{Part, Plan, draws, notes_time};
-use crate::strangers::{answered, ignored, nothing, stranger};
+use crate::outcomes::Outcomes;
+use crate::strangers::{answered, committed, ignored, nothing, stranger};
 use at_base::event::{Arrived, Event, Item, Local, Moment};
 use at_base::id::Id;
 use at_base::message::Message;
@@ -26,6 +28,7 @@ use at_base::notice::Kind;
 use at_base::outs::{Effects, Outs};
 use at_base::target::Target;
 use at_base::text::Text;
+use by_id::plan;
 use completion_at::activities::{
     Activities, plans_as_the_model as activities_as_the_model,
     refuses_as_the_model as requests_as_the_model,
@@ -35,6 +38,7 @@ use coordinator_at::register::register_unknown;
 use coordinator_at::transactions::{Transactions, plans_as_the_model as transactions_as_the_model};
 use model_laws::rules::{ids_rise, records_are_well_formed};
 use participant_at::leaves::{Leaves, plans_as_the_model as leaves_as_the_model};
+use transaction_at::transaction::{Phase, Transaction};
 use std::alloc::{AllocError, Global};
 use std::marker::Model;
 
@@ -85,6 +89,30 @@ fn append(effects: &mut Effects, more: Effects) -> Result<(), AllocError>
     Ok(())
 }
 
+/// Whether a transaction is a root that committed.
+fn is_decided_root(found: Option<&Transaction>) -> bool
+    ensures { result ≡ is_decided_root (option_copied found.entry) }
+{
+    match found {
+        Some(transaction) => transaction.superior.is_none() && is_committing(transaction.phase),
+        None => false,
+    }
+}
+
+fn is_committing(phase: Phase) -> bool
+    ensures { result ≡ is_committing (phase_of phase) }
+{
+    match phase {
+        Phase::Committing => true,
+        Phase::Registering
+        | Phase::Active
+        | Phase::Volatile
+        | Phase::Durable
+        | Phase::Voted
+        | Phase::Aborting => false,
+    }
+}
+
 /// What a node knows: its transactions, leaves and activities, and how many ids it drew.
 #[derive(Drop)]
 pub struct Book {
@@ -93,6 +121,7 @@ pub struct Book {
     incarnation: u32,
     counter: u32,
     seen: u64,
+    outcomes: Outcomes,
     transactions: Transactions,
     leaves: Leaves,
     activities: Activities,
@@ -109,6 +138,7 @@ impl Model for Book {
       incarnation = b.incarnation;
       counter = b.counter;
       seen = b.seen;
+      outcomes = b.outcomes;
       transactions = b.transactions;
       leaves = b.leaves;
       activities = b.activities;
@@ -128,6 +158,7 @@ impl Book {
         let transactions = Transactions::new(alloc)?;
         let leaves = Leaves::new(alloc)?;
         let activities = Activities::new(alloc)?;
+        let outcomes = Outcomes::new(alloc)?;
         Ok(Book {
             moment: Moment {
                 now: 0,
@@ -137,6 +168,7 @@ impl Book {
             incarnation,
             counter: 0,
             seen: 0,
+            outcomes,
             transactions,
             leaves,
             activities,
@@ -245,6 +277,37 @@ impl Book {
         }
     }
 
+    /// Whether the root of this id committed: it waits for its seats, or its outcome is kept.
+    fn has_committed(&self, id: Id) -> bool
+        ensures { result ≡ has_committed self.now id }
+    {
+        is_decided_root(self.transactions.find(id)) || self.outcomes.has(id)
+    }
+
+    fn at_completion(
+        &self,
+        alloc: Global,
+        event: &Event,
+        moment: &Moment,
+        arrived: &Arrived,
+        id: Id,
+    ) -> Result<Part, AllocError>
+        requires event { event.now ≡ events.Arrived arrived.now }
+        requires target { arrived.now.target ≡ targets.Completion id }
+        ensures { IfOk result
+            (λ part. part
+            ≡ at_completion self.now moment.entry.now arrived.now arrived.now.target
+            (has_initiator (transaction_at self.now id)) (has_committed self.now id)) }
+    {
+        if self.transactions.has_initiator(id) {
+            self.plan_transactions(alloc, event, moment)
+        } else if self.has_committed(id) {
+            committed(alloc, moment, arrived)
+        } else {
+            stranger(alloc, moment, arrived)
+        }
+    }
+
     fn at_leaf(
         &self,
         alloc: Global,
@@ -335,10 +398,7 @@ impl Book {
         match arrived.target {
             Target::Activation => self.at_activation(alloc, event, moment, arrived),
             Target::Registration(id) => self.at_registration(alloc, event, moment, arrived, id),
-            Target::Completion(id) => {
-                let has = self.transactions.has_initiator(id);
-                self.at_transaction(alloc, event, moment, arrived, has)
-            }
+            Target::Completion(id) => self.at_completion(alloc, event, moment, arrived, id),
             Target::Coordinator { id, seat } => {
                 let has = self.transactions.has_seat(id, seat);
                 self.at_transaction(alloc, event, moment, arrived, has)
@@ -417,6 +477,7 @@ impl Book {
             Event::Arrived(arrived) => self.arrived(alloc, event, moment, arrived),
             Event::Local(local) => self.requested(alloc, event, moment, local),
             Event::Due(item) => self.due(alloc, event, moment, *item),
+            Event::Tick => ignored(alloc),
         }
     }
 
@@ -450,6 +511,16 @@ impl Book {
         }
     }
 
+    /// A record that stands may be an outcome.
+    fn keep<T>(&mut self, plan: &plan::Plan<T>, landed: bool)
+        ensures { self.new ≡ kept (outcomes_by plan.entry.now landed self.old.outcomes) self.old }
+    {
+        match plan {
+            plan::Plan::Recorded { entry, .. } if landed => self.outcomes.note(entry),
+            _ => {}
+        }
+    }
+
     /// Does what was planned, where its record landed, and where it didn't. It takes no memory, and cannot fail.
     pub fn apply(&mut self, plan: Plan, landed: bool) -> Outs
         ensures book { self.new ≡ done plan landed self.old }
@@ -464,16 +535,19 @@ impl Book {
             Part::Transactions(plan) => {
                 self.note(notes_time(&plan, landed), now);
                 self.draw(draws(&plan, landed));
+                self.keep(&plan, landed);
                 self.transactions.apply(plan, landed)
             }
             Part::Leaves(plan) => {
                 self.note(notes_time(&plan, landed), now);
                 self.draw(draws(&plan, landed));
+                self.keep(&plan, landed);
                 self.leaves.apply(plan, landed)
             }
             Part::Activities(plan) => {
                 self.note(notes_time(&plan, landed), now);
                 self.draw(draws(&plan, landed));
+                self.keep(&plan, landed);
                 self.activities.apply(plan, landed)
             }
         }

@@ -3,5 +3,6 @@
 #![tactic(auto)]
 
 pub mod book;
+pub mod outcomes;
 pub mod plan;
 mod strangers;

@@ -3,19 +3,19 @@
 ghost use Rattle.std.specs.Prelude.{◌≡◌, ◌++◌, [], IfOk, OnOk, map};
 ghost use Rattle.at_base.specs.declared.outs.Out.TheVariants as out;
 ghost use Rattle.at_model.specs.Posts.{accepted};
-ghost use Rattle.at_model.specs.Step.{stranger_act, stranger_cell};
-ghost use Rattle.interposition.specs.Planning.{answered, cell_of_none, nothing, stranger};
+ghost use Rattle.at_model.specs.Step.{outcome_act, outcome_cell, stranger_act, stranger_cell};
+ghost use Rattle.interposition.specs.Planning.{answered, cell_of_none, committed, nothing, stranger};
 
 use crate::plan::Part;
 use at_base::epr::Epr;
 use at_base::event::{Arrived, Moment};
 use at_base::message::Message;
 use at_base::notice::Notice;
-use at_base::outs::{Effects, OutList, Outs};
+use at_base::outs::{Effects, Out, OutList, Outs};
 use at_base::target::Target;
 use at_posts::answers::accepted;
-use at_posts::names::unknown_transaction;
-use at_posts::posts::{push_fault, push_stranger};
+use at_posts::names::{invalid_state, unknown_transaction};
+use at_posts::posts::{notice_post, push_fault, push_stranger};
 use at_tables::cells::{
     Act, Cell, State, completion_cell, coordinator_cell, initiator_cell, participant_cell,
 };
@@ -144,6 +144,72 @@ pub fn stranger(alloc: Global, moment: &Moment, arrived: &Arrived) -> Result<Par
             let mut outs = accepted(alloc)?;
             let cell = cell_of_none(arrived.target, *notice);
             push_cell(alloc, &mut outs, moment, arrived, cell)?;
+            Ok(answered(alloc, outs))
+        }
+        _ => ignored(alloc),
+    }
+}
+
+fn push_outcome_to(
+    alloc: Global,
+    outs: &mut OutList,
+    moment: &Moment,
+    arrived: &Arrived,
+    to: &Epr,
+    act: Act,
+) -> Result<(), AllocError>
+    ensures { OnOk result
+        (outs.new
+        ≡ outs.old
+        ++ map out.Post (outcome_act moment.entry.now.base arrived.now.target (Some to.now) arrived.now.id act)) }
+{
+    match act {
+        Act::SendCommitted => {
+            let post = notice_post(
+                alloc,
+                &moment.base,
+                &arrived.target,
+                to,
+                Notice::Committed,
+            )?;
+            outs.push(Out::Post(post))
+        }
+        Act::FaultInvalidState => push_fault(alloc, outs, to, &arrived.id, invalid_state()),
+        _ => Ok(()),
+    }
+}
+
+fn push_outcome(
+    alloc: Global,
+    outs: &mut OutList,
+    moment: &Moment,
+    arrived: &Arrived,
+    cell: Option<Cell>,
+) -> Result<(), AllocError>
+    ensures { OnOk result
+        (outs.new
+        ≡ outs.old
+        ++ map out.Post (outcome_cell moment.entry.now.base arrived.now.target arrived.now.from arrived.now.id cell)) }
+{
+    let Some(cell) = cell else {
+        return Ok(());
+    };
+    match &arrived.from {
+        Some(to) => push_outcome_to(alloc, outs, moment, arrived, to, cell.act),
+        None => Ok(()),
+    }
+}
+
+/// A message at the completion seat of a root that committed, where the seat isn't there any more.
+pub fn committed(alloc: Global, moment: &Moment, arrived: &Arrived) -> Result<Part, AllocError>
+    ensures { IfOk result
+        (λ part. part ≡ committed moment.entry.now arrived.now arrived.now.target arrived.now.message) }
+{
+    match &arrived.message {
+        Message::Notice(notice) => {
+            let mut outs = accepted(alloc)?;
+            let cell = completion_cell(State::Done, *notice);
+            push_outcome(alloc, &mut outs, moment, arrived, cell)?;
             Ok(answered(alloc, outs))
         }
         _ => ignored(alloc),

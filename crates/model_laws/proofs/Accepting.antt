@@ -36,9 +36,11 @@ use Rattle.at_tables.specs.declared.cells.Act.TheVariants as acts
 use Rattle.at_tables.specs.declared.cells.Cell.{Cell}
 use Rattle.at_tables.specs.Names.{is_kind}
 use Rattle.at_tables.specs.Tables.{coordinator_of, participant_of, completion_of, initiator_of}
+use Rattle.at_base.specs.declared.limits.TheConstants.{MOST_SEATS}
+use Rattle.at_base.specs.declared.outs.Post.{Post}
 use Rattle.at_model.specs.Book.{Book, Transaction, Leaf, Activity, Enlistment, Completion, Superior, is_id, find_by, put_by, transaction_id, leaf_id, next_id, last_counter}
 use Rattle.at_model.specs.Addresses.{endpoint_of, atomic}
-use Rattle.at_model.specs.Posts.{accepted, replied, stranger_post, fault_post, unknown_transaction, invalid_protocol, invalid_parameters, cannot_create, cannot_register}
+use Rattle.at_model.specs.Posts.{accepted, replied, stranger_post, fault_post, unknown_transaction, invalid_protocol, invalid_parameters, cannot_create, cannot_register, notice_post, invalid_state}
 use Rattle.at_model.specs.Moves.{Change, Decision, Goes}
 use Rattle.at_model.specs.Arrivals.{on_link, on_seat, on_completion, request_of, with_answer, context_of}
 use Rattle.at_model.specs.Register.{accepts, protocol_named, Registration, seat_endpoint, completion_endpoint, may_register, is_late, new_seat, late_prepare, accept, refuse_register, register_new, register_again, held_seat, on_register, register_unknown}
@@ -46,7 +48,7 @@ use Rattle.at_model.specs.Create.{new_root, Creation, refuse_create, create_unde
 use Rattle.at_model.specs.Leaves.{leaf_target, on_leaf, Employment, refuse_work, work_for, on_work}
 use Rattle.at_model.specs.Activities.{on_activity, Refusal, Beginning, on_begin, on_interpose, on_ask, on_complete}
 use Rattle.at_model.specs.Due.{transaction_due, transaction_reached, leaf_due, leaf_reached, activity_due, activity_reached}
-use Rattle.at_model.specs.Step.{plain, still, at_time, moment_of, make_transaction, make_leaf, make_activity, leaf_plan, stranger_act, stranger_cell, nothing, stranger_plan, created_plan, activation_plan, registration_plan, registration_outcome, completion_seat_plan, completion_plan, find_seat, seat_plan, coordinator_plan, leaf_or_stranger_plan, link_plan, participant_plan, initiator_plan, employed_plan, work_plan, transaction_at, leaf_at, activity_at, arrived_plan, refuses, begun_plan, begin_plan, interpose_plan, asking_plan, request_plan, local_plan, transaction_due_plan, leaf_due_plan, activity_due_plan, due_plan, plan, step}
+use Rattle.at_model.specs.Step.{plain, still, at_time, moment_of, make_transaction, make_leaf, make_activity, leaf_plan, stranger_act, stranger_cell, nothing, stranger_plan, created_plan, activation_plan, registration_plan, registration_outcome, completion_seat_plan, completion_plan, find_seat, seat_plan, coordinator_plan, leaf_or_stranger_plan, link_plan, participant_plan, initiator_plan, employed_plan, work_plan, transaction_at, leaf_at, activity_at, arrived_plan, refuses, begun_plan, begin_plan, interpose_plan, asking_plan, request_plan, local_plan, transaction_due_plan, leaf_due_plan, activity_due_plan, due_plan, plan, step, outcome_act, outcome_cell, outcome_plan, seatless_plan, has_committed}
 use Rattle.at_model.specs.World.{Node, Accepted, who_of, accepted_seat, accepted_completion, accepted_by}
 use Rattle.model_laws.specs.Behind.{accepted_as}
 use Rattle.model_laws.specs.Drawn.{AreDrawn}
@@ -356,7 +358,7 @@ accept_says m a t participant None may = record {
       subst (λ (ss : List Enlistment). AllByRecursion (IsNew n nodes t.id participant)
       (map (accepted_seat n nodes t.id) ss ++ accepted_completion n nodes t.id t.completion (Some (record { initiator = participant; state = states.Active }))))
       (sym (dropped t.seats (length t.seats) refl)) (initiator_new n nodes t.id t.completion (record { initiator = participant; state = states.Active }));
-  grown = ((grown_like t t refl refl).0, free t.completion (has_none (accepts t.phase) (nat_lt (length t.seats) 64) (is_none t.superior) (is_none t.completion) may));
+  grown = ((grown_like t t refl refl).0, free t.completion (has_none (accepts t.phase) (nat_lt (length t.seats) MOST_SEATS) (is_none t.superior) (is_none t.completion) may));
 }
   where
     has_none : (a b c d : Bool) → (a && b && (c && d)) ≡ true → d ≡ true
@@ -498,20 +500,41 @@ keeps_both : (a : Activity) (d : Decision Activity) → ActivityKept a d → Dec
 keeps_both a d h = ids_alone (HasBoth a) NoRecord d h
 
 -- arrivals
+kept_fine : (base : List ℕ) (own : Target) (from : Option Epr) (id : Option (List ℕ)) (c : Option Cell) → AreFine NoRegister (outcome_cell base own from id c)
+kept_fine base own from id None = tt
+kept_fine base own from id (Some c) = act_fine c.act
+  where
+    act_fine : (act : Act) → AreFine NoRegister (outcome_act base own from id act)
+    act_fine acts.SendCommitted = to_each_fine NoRegister from (λ to. notice_post base own to notices.Committed) (λ to. tt)
+    act_fine acts.FaultInvalidState = to_each_fine NoRegister from (λ to. fault_post (Some to) id invalid_state) (λ to. tt)
+    act_fine other = tt
+
+outcome_gives : (base : List ℕ) (s : Numbers → Standing) (b : Book) (now : ℕ) (a : Arrived) (x : Message) → Says base s b → Both (Gives base (events.Arrived a) s b) (outcome_plan b now a x)
+outcome_gives base s b now a (messages.Notice n) h =
+    let posted : List Post = outcome_cell b.base a.target a.from a.id (completion_of states.Done n) in
+    plain_both (Gives base (events.Arrived a) s b) (still (at_time now b) (accepted ++ map outs.Post posted))
+    (time_gives base (events.Arrived a) s b now (accepted ++ map outs.Post posted) h
+    (tt, posts_say NoRegister NoRegister (λ participant to f. f) posted (kept_fine b.base a.target a.from a.id (completion_of states.Done n))))
+outcome_gives base s b now a other h = nothing_gives base (events.Arrived a) s b now h
+
+seatless_gives : (base : List ℕ) (s : Numbers → Standing) (b : Book) (now : ℕ) (a : Arrived) (done : Bool) → Says base s b → Both (Gives base (events.Arrived a) s b) (seatless_plan b now a done)
+seatless_gives base s b now a true h = outcome_gives base s b now a a.message h
+seatless_gives base s b now a false h = stranger_gives base (events.Arrived a) s b now a (completion_of states.None) a.message h
+
 completion_seat_gives : (base : List ℕ) (s : Numbers → Standing) (b : Book) (now : ℕ) (a : Arrived) (id : Numbers) (t : Transaction) (c : Option Completion) → Says base s b
-    → transaction_at b id ≡ Some t → t.completion ≡ c → Both (Gives base (events.Arrived a) s b) (completion_seat_plan b now a t c)
-completion_seat_gives base s b now a id t None h f g = stranger_gives base (events.Arrived a) s b now a (completion_of states.None) a.message h
-completion_seat_gives base s b now a id t (Some c) h f g =
+    → transaction_at b id ≡ Some t → t.completion ≡ c → (done : Bool) → Both (Gives base (events.Arrived a) s b) (completion_seat_plan b now a done t c)
+completion_seat_gives base s b now a id t None h f g done = seatless_gives base s b now a done h
+completion_seat_gives base s b now a id t (Some c) h f g done =
     let m : Moment = moment_of b now in
     transaction_gives base (events.Arrived a) s b now accepted id t (on_completion m a t c a.message) h f is_accepted
     (keeps_id t m (on_completion m a t c a.message) (completion_kept t.id m a t c a.message refl))
     (completion_like (Registers base s) (request_of t.superior) (map accepted_as t.seats) (option_map initiator_endpoint t.completion) m a t c a.message (sym (ap (option_map initiator_endpoint) g)) (as_it_is t))
 
 completion_gives : (base : List ℕ) (s : Numbers → Standing) (b : Book) (now : ℕ) (a : Arrived) (id : Numbers) (t : Option Transaction) → Says base s b → transaction_at b id ≡ t
-    → Both (Gives base (events.Arrived a) s b) (completion_plan b now a t)
+    → (done : Bool) → Both (Gives base (events.Arrived a) s b) (completion_plan b now a done t)
 unfolding completion_plan
-completion_gives base s b now a id None h f = stranger_gives base (events.Arrived a) s b now a (completion_of states.None) a.message h
-completion_gives base s b now a id (Some t) h f = completion_seat_gives base s b now a id t t.completion h f refl
+completion_gives base s b now a id None h f done = seatless_gives base s b now a done h
+completion_gives base s b now a id (Some t) h f done = completion_seat_gives base s b now a id t t.completion h f refl done
 
 seat_gives : (base : List ℕ) (s : Numbers → Standing) (b : Book) (now : ℕ) (a : Arrived) (kind : Kind) (id : Numbers) (t : Transaction) (x : Option Enlistment) → Says base s b
     → transaction_at b id ≡ Some t → Both (Gives base (events.Arrived a) s b) (seat_plan b now a kind t x)
@@ -572,7 +595,7 @@ arrived_gives : (base : List ℕ) (s : Numbers → Standing) (b : Book) (now : �
 unfolding arrived_plan
 arrived_gives base s b now a targets.Activation h e = activation_gives base (events.Arrived a) s b now a a.message h
 arrived_gives base s b now a (targets.Registration id) h e = registration_gives base s b now a id a.message (transaction_at b id) h refl e refl
-arrived_gives base s b now a (targets.Completion id) h e = completion_gives base s b now a id (transaction_at b id) h refl
+arrived_gives base s b now a (targets.Completion id) h e = completion_gives base s b now a id (transaction_at b id) h refl (has_committed b id)
 arrived_gives base s b now a (targets.Coordinator id seat) h e = coordinator_gives base s b now a seat.number seat.kind id (transaction_at b id) h refl
 arrived_gives base s b now a (targets.Participant id kind) h e = participant_gives base s b now a kind id (transaction_at b id) (leaf_at b id) h refl refl
 arrived_gives base s b now a (targets.Initiator id) h e = initiator_gives base s b now a id (activity_at b id) h refl
@@ -689,6 +712,7 @@ plan_gives : (base : List ℕ) (s : Numbers → Standing) (b : Book) (e : Event)
 plan_gives base s b (events.Arrived a) now h = arrived_gives base s b now a a.target h refl
 plan_gives base s b (events.Local l) now h = local_gives base s b now l (refuses b l) h
 plan_gives base s b (events.Due item) now h = due_gives base s b now item h
+plan_gives base s b events.Tick now h = nothing_gives base events.Tick s b now h
 
 pub step_gives : (base : List ℕ) (s : Numbers → Standing) (b : Book) (e : Event) (now : ℕ) (landed : Bool) → Says base s b → Gives base e s b (step b e now landed)
 step_gives base s b e now landed h = in_branch (Gives base e s b) (plan b e now) landed (plan_gives base s b e now h)

@@ -22,12 +22,13 @@ use Rattle.at_tables.specs.declared.cells.Act.TheVariants as acts
 use Rattle.at_tables.specs.declared.cells.Cell.{Cell}
 use Rattle.at_tables.specs.Names.{is_state}
 use Rattle.at_tables.specs.Tables.{coordinator_of, participant_of, completion_of}
+use Rattle.at_base.specs.declared.limits.TheConstants.{MOST_SEATS}
 use Rattle.at_model.specs.Book.{Transaction, Enlistment, Completion, Superior, Phase}
 use Rattle.at_model.specs.Addresses.{register_id}
 use Rattle.at_model.specs.Moves.{Moving, Decision, Goes, begin, become, stays, forgotten, ignored}
 use Rattle.at_model.specs.Seats.{answered, all_left, in_state, is_prepared_durable, in_phase, under}
 use Rattle.at_model.specs.Abort.{Reason, Alone, Asked, until_rolled_back, abort}
-use Rattle.at_model.specs.Phases.{decided, root_answered, voted, sub_answered, durable_answered, if_durable_answered, prepare_seats, go_durable, volatile_answered, all_committed, advance_in, advance, go_volatile}
+use Rattle.at_model.specs.Phases.{decided, committed, root_answered, voted, sub_answered, durable_answered, if_durable_answered, prepare_seats, go_durable, volatile_answered, all_committed, advance_in, advance, go_volatile}
 use Rattle.at_model.specs.Arrivals.{seat_act, seat_notice, commit_voted, link_act, link_notice, completion_act, completion_notice, relates_to, link_registered, link_fault, on_link, on_seat, on_completion, request_answered, with_answer, asked}
 use Rattle.at_model.specs.Register.{Registration, accept, register_new, register_again, on_register, may_register, protocol_named, held_seat}
 use Rattle.at_model.specs.Due.{Reached, Expired, Over, Unanswered, Nothing, transaction_reached}
@@ -46,7 +47,7 @@ use Rattle.model_laws.proofs.Standing.{then_accepts, then_room}
 use Rattle.at_base.specs.IdText.{IsId}
 use Rattle.at_base.specs.WellFormed.{IsEndpoint, Rises, AreSeats, IsWellFormed}
 use Rattle.at_base.specs.declared.target.Target.TheVariants as targets
-use Rattle.at_model.specs.Seats.{seated, set_link, link_of, link_in, is_open, completed}
+use Rattle.at_model.specs.Seats.{seated, set_link, link_of, link_in, is_open, completion_in}
 use Rattle.at_model.specs.Abort.{without_links}
 use Rattle.model_laws.proofs.Asking.{ActsAt, CellAt, table_acts}
 use Rattle.model_laws.proofs.Deciding.{either_of, first_true, DecisionHas, IfThere, either_has, either_change, with_answer_has, all_join}
@@ -70,7 +71,7 @@ same_length : (test : Enlistment → Bool) (state : State) (seats : List Enlistm
 same_length test state [] = refl
 same_length test state (s ∷ ss) = ap suc (same_length test state ss)
 
-most_moved : (test : Enlistment → Bool) (state : State) (seats : List Enlistment) → length seats ≤ 64 → length (moved test state seats) ≤ 64
+most_moved : (test : Enlistment → Bool) (state : State) (seats : List Enlistment) → length seats ≤ MOST_SEATS → length (moved test state seats) ≤ MOST_SEATS
 most_moved test state seats h = omega (arith, same_length test state seats, h)
 
 pub bounds_moved : (id : Numbers) (s : Option Superior) (test : Enlistment → Bool) (state : State) (seats : List Enlistment) → IsBounded id s seats → IsBounded id s (moved test state seats)
@@ -130,10 +131,8 @@ named_endpoints test (s ∷ ss) (h, k) = either_named (test s) s (filter test ss
     either_named true s rest h k = (h, k)
     either_named false s rest h k = k
 
-named_well : (id : Numbers) (superior : Option Superior) (seats : List Enlistment) → IsBounded id superior seats → SeatsRise 0 seats → list_any is_prepared_durable seats ≡ true
-    → AreSeats (prepared seats)
-named_well id superior seats h k e = record {
-  least = named_least is_prepared_durable seats e;
+named_well : (id : Numbers) (superior : Option Superior) (seats : List Enlistment) → IsBounded id superior seats → SeatsRise 0 seats → AreSeats (prepared seats)
+named_well id superior seats h k = record {
   most = omega (arith, named_most is_prepared_durable seats, h.most);
   rise = rise_named 0 0 is_prepared_durable seats (omega arith) k;
   endpoints = All-from_recursion (λ s. IsEndpoint s.endpoint) (prepared seats) (named_endpoints is_prepared_durable seats h.participants);
@@ -181,11 +180,11 @@ sound t h = record { bounds = h.bounds; numbers = inl h.order }
 rolled_back : (g : Moving Transaction) → IsSoundTransaction g.item → IfThere IsSoundTransaction (until_rolled_back g).item
 rolled_back g h = either_change (IfThere IsSoundTransaction) (list_any (in_state states.Aborting) g.item.seats) (stays g) (forgotten g) h tt
 
-completed_none : (c : Option Completion) → c ≡ None → completed c ≡ None
-completed_none c e = ap completed e
+completed_none : (c : Option Completion) → c ≡ None → completion_in states.None c ≡ None
+completed_none c e = ap (completion_in states.None) e
 
 aborted_numbers : (phase : Phase) (s : Option Superior) (c : Option Completion) (test : Enlistment → Bool) (seats : List Enlistment) → AreNumbered 0 seats ⊎ IsSealed phase s c seats
-    → AreNumbered 0 (moved test states.Aborting seats) ⊎ IsSealed Phase.Aborting (without_links s) (completed c) (moved test states.Aborting seats)
+    → AreNumbered 0 (moved test states.Aborting seats) ⊎ IsSealed Phase.Aborting (without_links s) (completion_in states.None c) (moved test states.Aborting seats)
 aborted_numbers phase s c test seats (inl h) = inl (numbered_moved 0 test states.Aborting seats h)
 aborted_numbers phase s c test seats (inr h) = inr (record {
   rise = rise_moved 0 test states.Aborting seats h.rise;
@@ -195,7 +194,7 @@ aborted_numbers phase s c test seats (inr h) = inr (record {
 })
 
 aborted : (t x : Transaction) → IsSoundTransaction t → x.id ≡ t.id → x.superior ≡ without_links t.superior → x.seats ≡ moved is_open states.Aborting t.seats → x.phase ≡ Phase.Aborting
-    → x.completion ≡ completed t.completion → IsSoundTransaction x
+    → x.completion ≡ completion_in states.None t.completion → IsSoundTransaction x
 aborted t x h own under seats phase completion = record {
   bounds = rw (own, under, seats) (bounds_moved t.id (without_links t.superior) is_open states.Aborting t.seats
       (bounds_under t.id t.superior (without_links t.superior) t.seats h.bounds (without_known t.superior h.bounds.known)));
@@ -213,14 +212,17 @@ decided_sound m g h = record {
   numbers = inl (numbered_moved 0 (in_state states.Prepared) states.Committing g.item.seats h.order);
 }
 
-seats_well : (t : Transaction) → Numbered t → list_any is_prepared_durable t.seats ≡ true → AreSeats (prepared t.seats)
-seats_well t h e = named_well t.id t.superior t.seats h.bounds (rise_from 0 t.seats h.order) e
+seats_well : (t : Transaction) → Numbered t → AreSeats (prepared t.seats)
+seats_well t h = named_well t.id t.superior t.seats h.bounds (rise_from 0 t.seats h.order)
+
+committed_sound : (m : Moment) (g : Moving Transaction) → Numbered g.item → IfThere IsSoundTransaction (committed m g).item
+unfolding committed
+committed_sound m g h =
+    either_change (IfThere IsSoundTransaction) (list_any is_prepared_durable g.item.seats) (stays (decided m g)) (forgotten (decided m g)) (decided_sound m g h) tt
 
 root_sound : (m : Moment) (g : Moving Transaction) → Numbered g.item → Sound (root_answered m g)
 unfolding root_answered
-root_sound m g h =
-    either (list_any is_prepared_durable g.item.seats) _ _
-    (λ e. record { entry = (h.bounds.own, seats_well g.item h e); landed = decided_sound m g h; otherwise = abort_sound m Alone g (sound g.item h) }) (λ e. tt)
+root_sound m g h = record { entry = (h.bounds.own, seats_well g.item h); landed = committed_sound m g h; otherwise = abort_sound m Alone g (sound g.item h) }
 
 voted_sound : (m : Moment) (s : Superior) (g : Moving Transaction) → KnowsLinks s → Numbered g.item → IsSoundTransaction (voted m s g).item
 unfolding voted
@@ -234,7 +236,7 @@ unfolding sub_answered
 sub_sound m s None g k i h = abort_sound m Alone g (sound g.item h)
 sub_sound m s (Some superior) g k i h =
     either (list_any is_prepared_durable g.item.seats) _ _
-    (λ e. record { entry = (h.bounds.own, i, seats_well g.item h e); landed = voted_sound m s g k h; otherwise = abort_sound m Alone g (sound g.item h) }) (λ e. tt)
+    (λ e. record { entry = (h.bounds.own, i, named_least is_prepared_durable g.item.seats e, seats_well g.item h); landed = voted_sound m s g k h; otherwise = abort_sound m Alone g (sound g.item h) }) (λ e. tt)
 
 durable_sound : (m : Moment) (s : Option Superior) (g : Moving Transaction) → KnowsSuperior s → Numbered g.item → Sound (durable_answered m s g)
 durable_sound m None g k h = root_sound m g h
@@ -524,23 +526,24 @@ with_initiator : (t : Transaction) (c : Completion) → t.completion ≡ Some c 
 with_initiator t c e (inl h) = h
 with_initiator t c e (inr h) = let f : t.completion ≡ None = h.no_initiator in absurd cc
 
-completion_act_sound : (m : Moment) (i : Option (List ℕ)) (c : Completion) (t : Transaction) (act : Act) → t.completion ≡ Some c → IsSoundTransaction t → Sound (completion_act m i c t act)
+completion_act_sound : (m : Moment) (from : Option Epr) (i : Option (List ℕ)) (c : Completion) (t : Transaction) (act : Act) → t.completion ≡ Some c → IsSoundTransaction t → Sound (completion_act m from i c t act)
 unfolding completion_act
-completion_act_sound m i c t acts.FaultUnknownTransaction e h = h
-completion_act_sound m i c t acts.FaultInvalidState e h = h
-completion_act_sound m i c t acts.Complete e h =
+completion_act_sound m from i c t acts.SendCommitted e h = h
+completion_act_sound m from i c t acts.FaultUnknownTransaction e h = h
+completion_act_sound m from i c t acts.FaultInvalidState e h = h
+completion_act_sound m from i c t acts.Complete e h =
     go_volatile_sound m (begin (record t { completion = Some (record c { state = states.Completing }) })) (record { bounds = h.bounds; order = with_initiator t c e h.numbers })
-completion_act_sound m i c t acts.AbortAndSendAborted e h = abort_sound m Alone (begin t) h
-completion_act_sound m i c t other e h = h
+completion_act_sound m from i c t acts.AbortAndSendAborted e h = abort_sound m Alone (begin t) h
+completion_act_sound m from i c t other e h = h
 
-completion_notice_sound : (m : Moment) (i : Option (List ℕ)) (c : Completion) (t : Transaction) (cell : Option Cell) → t.completion ≡ Some c → IsSoundTransaction t → Sound (completion_notice m i c t cell)
+completion_notice_sound : (m : Moment) (from : Option Epr) (i : Option (List ℕ)) (c : Completion) (t : Transaction) (cell : Option Cell) → t.completion ≡ Some c → IsSoundTransaction t → Sound (completion_notice m from i c t cell)
 unfolding completion_notice
-completion_notice_sound m i c t None e h = h
-completion_notice_sound m i c t (Some cell) e h = completion_act_sound m i c t cell.act e h
+completion_notice_sound m from i c t None e h = h
+completion_notice_sound m from i c t (Some cell) e h = completion_act_sound m from i c t cell.act e h
 
 pub completion_sound : (m : Moment) (a : Arrived) (t : Transaction) (c : Completion) (x : Message) → t.completion ≡ Some c → IsSoundTransaction t → Sound (on_completion m a t c x)
 unfolding on_completion
-completion_sound m a t c (messages.Notice n) e h = completion_notice_sound m a.id c t (completion_of c.state n) e h
+completion_sound m a t c (messages.Notice n) e h = completion_notice_sound m a.from a.id c t (completion_of c.state n) e h
 completion_sound m a t c other e h = h
 
 pub due_sound : (m : Moment) (t : Transaction) (reached : Reached) → IsSoundTransaction t → Sound (transaction_reached m t reached)
@@ -579,8 +582,8 @@ participants_behind : (seats : List Enlistment) (s : Enlistment) → AllByRecurs
     → AllByRecursion (λ x. IsEndpoint x.participant) (seats ++ s ∷ [])
 participants_behind seats s h k = all_join (λ x. IsEndpoint x.participant) seats (s ∷ []) h (k, tt)
 
-room_for : (seats : List Enlistment) (s : Enlistment) → nat_lt (length seats) 64 ≡ true → length (seats ++ s ∷ []) ≤ 64
-room_for seats s e = omega (arith, ltb-true (length seats) 64 e, length-append seats (s ∷ []))
+room_for : (seats : List Enlistment) (s : Enlistment) → nat_lt (length seats) MOST_SEATS ≡ true → length (seats ++ s ∷ []) ≤ MOST_SEATS
+room_for seats s e = omega (arith, ltb-true (length seats) MOST_SEATS e, length-append seats (s ∷ []))
 
 accepting : (phase : Phase) → accepts phase ≡ true → IsPastAsking phase → ⊥
 accepting Phase.Registering e h = h

@@ -7,11 +7,13 @@ use Rattle.at_base.specs.declared.epr.Epr.{Epr}
 use Rattle.at_base.specs.declared.record.Seated.{Seated}
 use Rattle.at_base.specs.declared.record.Record.{Record}
 use Rattle.at_base.specs.declared.record.Record.TheVariants as records
+use Rattle.at_model.specs.Outcomes.{outcomes_after}
 use Rattle.at_model.specs.Book.{Transaction, Leaf, transaction_id, leaf_id, is_id}
-use Rattle.at_model.specs.Recover.{is_before, insert_by, in_order, live, ends_leaf, ends_transaction, is_promise, is_sub_committed, is_leaf_ended, is_ended, transactions_of, leaves_of, recovered_voted, recovered_decided, recovered_leaf, last_incarnation, incarnation_of}
+use Rattle.at_model.specs.Recover.{is_before, insert_by, in_order, live, ends_leaf, ends_transaction, is_promise, is_sub_committed, is_leaf_ended, is_ended, transactions_of, leaves_of, recovered_voted, recovered_decided, recovered_leaf, last_incarnation, incarnation_of, no_seats}
 use Rattle.model_laws.specs.Compacted.{record_id, compacted, RecoversTheCompacted}
 use Rattle.model_laws.specs.Order.{AreRising}
-use Rattle.model_laws.proofs.Deciding.{all_more}
+use Rattle.model_laws.proofs.Keepsakes.{outcomes_below, outcomes_again}
+use Rattle.model_laws.proofs.Deciding.{all_more, all_join}
 use Rattle.model_laws.proofs.Living.{all_in_order, all_live}
 use Rattle.model_laws.proofs.Ordering.{AreDifferent, other_id, one_before, before_further, in_order_rising, transactions_different, leaves_different, unmapped}
 use Rattle.model_laws.proofs.Recovering.{or_false, none_append, incarnations_rise, same_id, self_id}
@@ -20,17 +22,17 @@ use Rattle.model_laws.proofs.Recovering.{or_false, none_append, incarnations_ris
 data Promise : Type 0 where
   LeafPromise : Numbers → Epr → List ℕ → List ℕ → Promise
   Vote : Numbers → Epr → List Seated → Bool → Promise
-  Decision : Numbers → List Seated → Promise
+  Decision : Numbers → Seated → List Seated → Promise
 
 abbrev promise_id : Promise → Numbers
 promise_id (LeafPromise id c key value) = id
 promise_id (Vote id superior seats committed) = id
-promise_id (Decision id seats) = id
+promise_id (Decision id s seats) = id
 
 abbrev records_of : Promise → List Record
 records_of (LeafPromise id c key value) = records.LeafPrepared id c key value ∷ []
 records_of (Vote id superior seats committed) = records.Voted id superior seats ∷ (if committed then records.SubCommitted id ∷ [] else [])
-records_of (Decision id seats) = records.Decided id seats ∷ []
+records_of (Decision id s seats) = records.Decided id (s ∷ seats) ∷ []
 
 abbrev flat : List Promise → List Record
 flat [] = []
@@ -40,12 +42,14 @@ abbrev promise_of : Record → List Record → List Promise
 promise_of (records.LeafPrepared id c key value) rest = if list_any (ends_leaf id) rest then [] else LeafPromise id c key value ∷ []
 promise_of (records.Voted id superior seats) rest =
     if list_any (ends_transaction id) rest then [] else Vote id superior seats (list_any (is_sub_committed id) rest) ∷ []
-promise_of (records.Decided id seats) rest = if list_any (ends_transaction id) rest then [] else Decision id seats ∷ []
+promise_of (records.Decided id []) rest = []
+promise_of (records.Decided id (s ∷ seats)) rest = if list_any (ends_transaction id) rest then [] else Decision id s seats ∷ []
 promise_of (records.Start i) rest = []
 promise_of (records.LeafCommitted id) rest = []
 promise_of (records.LeafAborted id) rest = []
 promise_of (records.SubCommitted id) rest = []
 promise_of (records.Ended id) rest = []
+promise_of (records.Done id) rest = []
 
 abbrev promises_of : List Record → List Promise
 promises_of [] = []
@@ -60,12 +64,14 @@ live_flat [] = refl
 live_flat (records.LeafPrepared id c key value ∷ rest) = kept_flat (list_any (ends_leaf id) rest) (LeafPromise id c key value) (live rest) (promises_of rest) (live_flat rest)
 live_flat (records.Voted id superior seats ∷ rest) =
     kept_flat (list_any (ends_transaction id) rest) (Vote id superior seats (list_any (is_sub_committed id) rest)) (live rest) (promises_of rest) (live_flat rest)
-live_flat (records.Decided id seats ∷ rest) = kept_flat (list_any (ends_transaction id) rest) (Decision id seats) (live rest) (promises_of rest) (live_flat rest)
+live_flat (records.Decided id [] ∷ rest) = live_flat rest
+live_flat (records.Decided id (s ∷ seats) ∷ rest) = kept_flat (list_any (ends_transaction id) rest) (Decision id s seats) (live rest) (promises_of rest) (live_flat rest)
 live_flat (records.Start i ∷ rest) = live_flat rest
 live_flat (records.LeafCommitted id ∷ rest) = live_flat rest
 live_flat (records.LeafAborted id ∷ rest) = live_flat rest
 live_flat (records.SubCommitted id ∷ rest) = live_flat rest
 live_flat (records.Ended id ∷ rest) = live_flat rest
+live_flat (records.Done id ∷ rest) = live_flat rest
 
 -- one promise an id
 none_of_both : (p q : Record → Bool) (rs : List Record) → list_any (λ r. p r || q r) rs ≡ false → list_any q rs ≡ false
@@ -104,12 +110,14 @@ none_promised id (r ∷ rest) e =
     one (records.LeafPrepared i c key value) h k = maybe (list_any (ends_leaf i) rest) (LeafPromise i c key value) (differs i id (or_nothing (is_id i id) h)) k
     one (records.Voted i superior seats) h k =
         maybe (list_any (ends_transaction i) rest) (Vote i superior seats (list_any (is_sub_committed i) rest)) (differs i id (or_nothing (is_id i id) h)) k
-    one (records.Decided i seats) h k = maybe (list_any (ends_transaction i) rest) (Decision i seats) (differs i id h) k
+    one (records.Decided i []) h k = k
+    one (records.Decided i (s ∷ seats)) h k = maybe (list_any (ends_transaction i) rest) (Decision i s seats) (differs i id h) k
     one (records.Start i) h k = k
     one (records.LeafCommitted i) h k = k
     one (records.LeafAborted i) h k = k
     one (records.SubCommitted i) h k = k
     one (records.Ended i) h k = k
+    one (records.Done i) h k = k
 
 kept_different : (b : Bool) (p : Promise) (ps : List Promise) → (b ≡ false → AllByRecursion (λ q. promise_id q ≡ promise_id p → ⊥) ps) → AreDifferent promise_id ps
     → AreDifferent promise_id ((if b then [] else p ∷ []) ++ ps)
@@ -124,14 +132,16 @@ promises_different (records.LeafPrepared id c key value ∷ rest) =
 promises_different (records.Voted id superior seats ∷ rest) =
     kept_different (list_any (ends_transaction id) rest) (Vote id superior seats (list_any (is_sub_committed id) rest)) (promises_of rest)
     (λ e. none_promised id rest (none_of_both (is_ended id) (is_promise id) rest e)) (promises_different rest)
-promises_different (records.Decided id seats ∷ rest) =
-    kept_different (list_any (ends_transaction id) rest) (Decision id seats) (promises_of rest)
+promises_different (records.Decided id [] ∷ rest) = promises_different rest
+promises_different (records.Decided id (s ∷ seats) ∷ rest) =
+    kept_different (list_any (ends_transaction id) rest) (Decision id s seats) (promises_of rest)
     (λ e. none_promised id rest (none_of_both (is_ended id) (is_promise id) rest e)) (promises_different rest)
 promises_different (records.Start i ∷ rest) = promises_different rest
 promises_different (records.LeafCommitted id ∷ rest) = promises_different rest
 promises_different (records.LeafAborted id ∷ rest) = promises_different rest
 promises_different (records.SubCommitted id ∷ rest) = promises_different rest
 promises_different (records.Ended id ∷ rest) = promises_different rest
+promises_different (records.Done id ∷ rest) = promises_different rest
 
 -- records in order are promises in order
 not_before : (id : Numbers) → is_before id id ≡ false
@@ -148,7 +158,7 @@ insert_one : (r : Record) (d : Promise) (xs : List Record) (b : Bool) → is_bef
     → insert_by record_id r (records_of d ++ xs) ≡ (if b then records_of d ++ insert_by record_id r xs else r ∷ (records_of d ++ xs))
 insert_one r (LeafPromise id c key value) xs b e =
     ap (λ t. if t then records.LeafPrepared id c key value ∷ insert_by record_id r xs else r ∷ (records.LeafPrepared id c key value ∷ xs)) e
-insert_one r (Decision id seats) xs b e = ap (λ t. if t then records.Decided id seats ∷ insert_by record_id r xs else r ∷ (records.Decided id seats ∷ xs)) e
+insert_one r (Decision id s seats) xs b e = ap (λ t. if t then records.Decided id (s ∷ seats) ∷ insert_by record_id r xs else r ∷ (records.Decided id (s ∷ seats) ∷ xs)) e
 insert_one r (Vote id superior seats false) xs b e =
     ap (λ t. if t then records.Voted id superior seats ∷ insert_by record_id r xs else r ∷ (records.Voted id superior seats ∷ xs)) e
 insert_one r (Vote id superior seats true) xs b e = by_case b e
@@ -167,7 +177,7 @@ abbrev insert_records : Promise → List Record → List Record
 insert_records (LeafPromise id c key value) xs = insert_by record_id (records.LeafPrepared id c key value) xs
 insert_records (Vote id superior seats true) xs = insert_by record_id (records.Voted id superior seats) (insert_by record_id (records.SubCommitted id) xs)
 insert_records (Vote id superior seats false) xs = insert_by record_id (records.Voted id superior seats) xs
-insert_records (Decision id seats) xs = insert_by record_id (records.Decided id seats) xs
+insert_records (Decision id s seats) xs = insert_by record_id (records.Decided id (s ∷ seats)) xs
 
 -- a vote goes in front of its SubCommitted
 insert_vote : (id : Numbers) (superior : Epr) (seats : List Seated) (xs : List Record)
@@ -177,7 +187,7 @@ insert_vote id superior seats xs =
 
 insert_passes : (p d : Promise) (xs : List Record) → is_before (promise_id d) (promise_id p) ≡ true → insert_records p (records_of d ++ xs) ≡ records_of d ++ insert_records p xs
 insert_passes (LeafPromise id c key value) d xs e = insert_one (records.LeafPrepared id c key value) d xs true e
-insert_passes (Decision id seats) d xs e = insert_one (records.Decided id seats) d xs true e
+insert_passes (Decision id s seats) d xs e = insert_one (records.Decided id (s ∷ seats)) d xs true e
 insert_passes (Vote id superior seats false) d xs e = insert_one (records.Voted id superior seats) d xs true e
 insert_passes (Vote id superior seats true) d xs e =
     ap (insert_by record_id (records.Voted id superior seats)) (insert_one (records.SubCommitted id) d xs true e)
@@ -185,14 +195,14 @@ insert_passes (Vote id superior seats true) d xs e =
 
 insert_stops : (p d : Promise) (xs : List Record) → is_before (promise_id d) (promise_id p) ≡ false → insert_records p (records_of d ++ xs) ≡ records_of p ++ (records_of d ++ xs)
 insert_stops (LeafPromise id c key value) d xs e = insert_one (records.LeafPrepared id c key value) d xs false e
-insert_stops (Decision id seats) d xs e = insert_one (records.Decided id seats) d xs false e
+insert_stops (Decision id s seats) d xs e = insert_one (records.Decided id (s ∷ seats)) d xs false e
 insert_stops (Vote id superior seats false) d xs e = insert_one (records.Voted id superior seats) d xs false e
 insert_stops (Vote id superior seats true) d xs e =
     ap (insert_by record_id (records.Voted id superior seats)) (insert_one (records.SubCommitted id) d xs false e) ∙ insert_vote id superior seats (records_of d ++ xs)
 
 insert_last : (p : Promise) → insert_records p [] ≡ records_of p ++ []
 insert_last (LeafPromise id c key value) = refl
-insert_last (Decision id seats) = refl
+insert_last (Decision id s seats) = refl
 insert_last (Vote id superior seats false) = refl
 insert_last (Vote id superior seats true) = insert_vote id superior seats []
 
@@ -211,7 +221,7 @@ sorted_flat (p ∷ ps) = first p (flat ps) ∙ ap (insert_records p) (sorted_fla
   where
     first : (p : Promise) (xs : List Record) → in_order record_id (records_of p ++ xs) ≡ insert_records p (in_order record_id xs)
     first (LeafPromise id c key value) xs = refl
-    first (Decision id seats) xs = refl
+    first (Decision id s seats) xs = refl
     first (Vote id superior seats false) xs = refl
     first (Vote id superior seats true) xs = refl
 
@@ -241,19 +251,19 @@ test_two false e = refl
 
 leaf_asleep : (id : Numbers) → IsAsleep id (ends_leaf id)
 leaf_asleep id (LeafPromise i c key value) f = test_two (is_id i id) (other i id f)
-leaf_asleep id (Decision i seats) f = test_one (is_id i id) (other i id f)
+leaf_asleep id (Decision i s seats) f = test_one (is_id i id) (other i id f)
 leaf_asleep id (Vote i superior seats true) f = test_two (is_id i id) (other i id f)
 leaf_asleep id (Vote i superior seats false) f = test_two (is_id i id) (other i id f)
 
 transaction_asleep : (id : Numbers) → IsAsleep id (ends_transaction id)
 transaction_asleep id (LeafPromise i c key value) f = test_two (is_id i id) (other i id f)
-transaction_asleep id (Decision i seats) f = test_one (is_id i id) (other i id f)
+transaction_asleep id (Decision i s seats) f = test_one (is_id i id) (other i id f)
 transaction_asleep id (Vote i superior seats true) f = test_two (is_id i id) (other i id f)
 transaction_asleep id (Vote i superior seats false) f = test_two (is_id i id) (other i id f)
 
 commit_asleep : (id : Numbers) → IsAsleep id (is_sub_committed id)
 commit_asleep id (LeafPromise i c key value) f = refl
-commit_asleep id (Decision i seats) f = refl
+commit_asleep id (Decision i s seats) f = refl
 commit_asleep id (Vote i superior seats true) f = test_one (is_id i id) (other i id f)
 commit_asleep id (Vote i superior seats false) f = refl
 
@@ -276,8 +286,8 @@ all_kept : (ps : List Promise) → AreDifferent promise_id ps → promises_of (f
 all_kept [] h = refl
 all_kept (LeafPromise id c key value ∷ ps) (h, k) = λ i.
     (if asleep id (ends_leaf id) ps (leaf_asleep id) h i then [] else LeafPromise id c key value ∷ []) ++ all_kept ps k i
-all_kept (Decision id seats ∷ ps) (h, k) = λ i.
-    (if asleep id (ends_transaction id) ps (transaction_asleep id) h i then [] else Decision id seats ∷ []) ++ all_kept ps k i
+all_kept (Decision id s seats ∷ ps) (h, k) = λ i.
+    (if asleep id (ends_transaction id) ps (transaction_asleep id) h i then [] else Decision id s seats ∷ []) ++ all_kept ps k i
 all_kept (Vote id superior seats committed ∷ ps) (h, k) = λ i.
     (if still_awake id committed (flat ps) (asleep id (ends_transaction id) ps (transaction_asleep id) h) i then []
     else Vote id superior seats (is_committed id committed (flat ps) (asleep id (is_sub_committed id) ps (commit_asleep id) h) i) ∷ [])
@@ -295,12 +305,12 @@ items f (p ∷ ps) = with_item (f p) (items f ps)
 abbrev promised_transaction : List ℕ → Promise → Option Transaction
 promised_transaction base (LeafPromise id c key value) = None
 promised_transaction base (Vote id superior seats committed) = Some (recovered_voted id superior seats committed)
-promised_transaction base (Decision id seats) = Some (recovered_decided base id seats)
+promised_transaction base (Decision id s seats) = Some (recovered_decided base id (s ∷ seats))
 
 abbrev promised_leaf : Promise → Option Leaf
 promised_leaf (LeafPromise id c key value) = Some (recovered_leaf id c key value)
 promised_leaf (Vote id superior seats committed) = None
-promised_leaf (Decision id seats) = None
+promised_leaf (Decision id s seats) = None
 
 same_transactions : (base : List ℕ) (id : Numbers) (committed : Bool) (xs : List Record)
     → transactions_of base ((if committed then records.SubCommitted id ∷ [] else []) ++ xs) ≡ transactions_of base xs
@@ -310,7 +320,7 @@ same_transactions base id false xs = refl
 transactions_flat : (base : List ℕ) (ps : List Promise) → AreDifferent promise_id ps → transactions_of base (flat ps) ≡ items (promised_transaction base) ps
 transactions_flat base [] h = refl
 transactions_flat base (LeafPromise id c key value ∷ ps) (h, k) = transactions_flat base ps k
-transactions_flat base (Decision id seats ∷ ps) (h, k) = ap (λ ts. recovered_decided base id seats ∷ ts) (transactions_flat base ps k)
+transactions_flat base (Decision id s seats ∷ ps) (h, k) = ap (λ ts. recovered_decided base id (s ∷ seats) ∷ ts) (transactions_flat base ps k)
 transactions_flat base (Vote id superior seats committed ∷ ps) (h, k) = λ i.
     recovered_voted id superior seats (is_committed id committed (flat ps) (asleep id (is_sub_committed id) ps (commit_asleep id) h) i)
     ∷ (same_transactions base id committed (flat ps) ∙ transactions_flat base ps k) i
@@ -318,7 +328,7 @@ transactions_flat base (Vote id superior seats committed ∷ ps) (h, k) = λ i.
 leaves_flat : (ps : List Promise) → leaves_of (flat ps) ≡ items promised_leaf ps
 leaves_flat [] = refl
 leaves_flat (LeafPromise id c key value ∷ ps) = ap (λ ls. recovered_leaf id c key value ∷ ls) (leaves_flat ps)
-leaves_flat (Decision id seats ∷ ps) = leaves_flat ps
+leaves_flat (Decision id s seats ∷ ps) = leaves_flat ps
 leaves_flat (Vote id superior seats true ∷ ps) = leaves_flat ps
 leaves_flat (Vote id superior seats false ∷ ps) = leaves_flat ps
 
@@ -410,12 +420,12 @@ transaction_named : (base : List ℕ) → HasPromiseId transaction_id (promised_
 transaction_named base (LeafPromise id c key value) x e = absurd cc
 transaction_named base (Vote id superior seats true) x e = let same : recovered_voted id superior seats true ≡ x = cc in ap (λ t. t.id) (sym same)
 transaction_named base (Vote id superior seats false) x e = let same : recovered_voted id superior seats false ≡ x = cc in ap (λ t. t.id) (sym same)
-transaction_named base (Decision id seats) x e = let same : recovered_decided base id seats ≡ x = cc in ap (λ t. t.id) (sym same)
+transaction_named base (Decision id s seats) x e = let same : recovered_decided base id (s ∷ seats) ≡ x = cc in ap (λ t. t.id) (sym same)
 
 leaf_named : HasPromiseId leaf_id promised_leaf
 leaf_named (LeafPromise id c key value) x e = let same : recovered_leaf id c key value ≡ x = cc in ap (λ l. l.id) (sym same)
 leaf_named (Vote id superior seats committed) x e = absurd cc
-leaf_named (Decision id seats) x e = absurd cc
+leaf_named (Decision id s seats) x e = absurd cc
 
 -- the compacted records
 abbrev promised : List Record → List Promise
@@ -447,8 +457,36 @@ in_order_flat rs = ap (in_order record_id) (live_flat rs) ∙ sorted_flat (promi
 live_sorted : (rs : List Record) → live (flat (promised rs)) ≡ flat (promised rs)
 live_sorted rs = live_flat (flat (promised rs)) ∙ ap flat (all_kept (promised rs) (sorted_different (promises_of rs) (promises_different rs)))
 
+-- the kept outcomes keep nothing else alive
+none_done : (p : Record → Bool) → ((id : Numbers) → p (records.Done id) ≡ false) → (ids : List Numbers) → list_any p (map records.Done ids) ≡ false
+none_done p f [] = refl
+none_done p f (id ∷ ids) = ap (λ b. b || list_any p (map records.Done ids)) (f id) ∙ none_done p f ids
+
+test_dones : (p : Record → Bool) → ((id : Numbers) → p (records.Done id) ≡ false) → (ids : List Numbers) (xs : List Record) → list_any p (xs ++ map records.Done ids) ≡ list_any p xs
+test_dones p f ids [] = none_done p f ids
+test_dones p f ids (x ∷ xs) = ap (λ b. p x || b) (test_dones p f ids xs)
+
+live_dones : (ids : List Numbers) (xs : List Record) → live (xs ++ map records.Done ids) ≡ live xs
+live_dones [] [] = refl
+live_dones (id ∷ ids) [] = live_dones ids []
+live_dones ids (records.LeafPrepared id c key value ∷ rest) = λ i.
+    (if test_dones (ends_leaf id) (λ j. refl) ids rest i then [] else records.LeafPrepared id c key value ∷ []) ++ live_dones ids rest i
+live_dones ids (records.Voted id superior seats ∷ rest) = λ i.
+    (if test_dones (ends_transaction id) (λ j. refl) ids rest i then []
+    else records.Voted id superior seats ∷ (if test_dones (is_sub_committed id) (λ j. refl) ids rest i then records.SubCommitted id ∷ [] else []))
+    ++ live_dones ids rest i
+live_dones ids (records.Decided id seats ∷ rest) = λ i.
+    (if no_seats seats || test_dones (ends_transaction id) (λ j. refl) ids rest i then [] else records.Decided id seats ∷ []) ++ live_dones ids rest i
+live_dones ids (records.Start n ∷ rest) = live_dones ids rest
+live_dones ids (records.LeafCommitted id ∷ rest) = live_dones ids rest
+live_dones ids (records.LeafAborted id ∷ rest) = live_dones ids rest
+live_dones ids (records.SubCommitted id ∷ rest) = live_dones ids rest
+live_dones ids (records.Ended id ∷ rest) = live_dones ids rest
+live_dones ids (records.Done id ∷ rest) = live_dones ids rest
+
 live_compacted : (rs : List Record) → live (compacted rs) ≡ in_order record_id (live rs)
-live_compacted rs = ap live (in_order_flat rs) ∙ live_sorted rs ∙ sym (in_order_flat rs)
+live_compacted rs =
+    live_dones (outcomes_after [] rs) (in_order record_id (live rs)) ∙ ap live (in_order_flat rs) ∙ live_sorted rs ∙ sym (in_order_flat rs)
 
 transactions_same : (base : List ℕ) (rs : List Record) → in_order transaction_id (transactions_of base (live (compacted rs))) ≡ in_order transaction_id (transactions_of base (live rs))
 transactions_same base rs =
@@ -487,9 +525,11 @@ most_of n rs h = capped n (last_incarnation rs) (most n rs h)
 
 incarnation_same : (rs : List Record) → last_incarnation (compacted rs) ≡ last_incarnation rs
 incarnation_same rs =
-    most_of (last_incarnation rs) (in_order record_id (live rs))
+    most_of (last_incarnation rs) (in_order record_id (live rs) ++ map records.Done (outcomes_after [] rs))
+    (all_join (λ r. incarnation_of r < last_incarnation rs + 1) (in_order record_id (live rs)) (map records.Done (outcomes_after [] rs))
     (all_in_order (λ r. incarnation_of r < last_incarnation rs + 1) record_id (live rs)
     (all_live (λ r. incarnation_of r < last_incarnation rs + 1) rs (λ id superior seats i. i) (incarnations_rise rs).1))
+    (outcomes_below rs))
 
 pub recovers_the_compacted : RecoversTheCompacted
 recovers_the_compacted = record {
@@ -498,6 +538,7 @@ recovers_the_compacted = record {
     incarnation = incarnation_same rs i;
     counter = 0;
     seen = 0;
+    outcomes = outcomes_again rs i;
     transactions = transactions_same base rs i;
     leaves = leaves_same rs i;
     activities = [];

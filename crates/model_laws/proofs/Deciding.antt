@@ -17,7 +17,11 @@ use Rattle.at_model.specs.Arrivals.{is_registering, request_answered, context_of
 use Rattle.at_model.specs.Moves.{Change, Decision, Goes, Records, in_both}
 use Rattle.model_laws.specs.Agreement.{IsIn}
 use Rattle.model_laws.proofs.Recovering.{same_id}
-use Rattle.at_model.specs.Step.{Outcome, Plan, plain, still, outcome_of, plan_of, branch}
+use Rattle.at_model.specs.Step.{Outcome, Plan, plain, still, outcome_of, plan_of, branch, noting}
+
+-- a property that a kept outcome leaves as it is
+abbrev pub StaysOn : (Outcome → Type 0) → Type 0
+StaysOn P = (r : Record) (o : Outcome) → P o → P (noting r o)
 
 -- one property of both branches of a plan
 pub record Both (P : Outcome → Type 0) (p : Plan) : Type 0 where
@@ -31,11 +35,11 @@ in_branch P p false h = h.absent
 pub plain_both : (P : Outcome → Type 0) (o : Outcome) → P o → Both P (plain o)
 plain_both P o h = record { landed = h; absent = h }
 
-pub decision_both : {A : Type 0} (P : Outcome → Type 0) (b : Book) (put : Option A → Book) (answer : List Out) (d : Decision A)
+pub decision_both : {A : Type 0} (P : Outcome → Type 0) (on : StaysOn P) (b : Book) (put : Option A → Book) (answer : List Out) (d : Decision A)
     → ((c : Change A) → P (outcome_of put answer c)) → P (still b answer) → Both P (plan_of b put answer d)
-decision_both P b put answer (Goes c) h k = plain_both P (outcome_of put answer c) (h c)
-decision_both P b put answer (Records r c None) h k = record { landed = h c; absent = k }
-decision_both P b put answer (Records r c (Some d)) h k = record { landed = h c; absent = h d }
+decision_both P on b put answer (Goes c) h k = plain_both P (outcome_of put answer c) (h c)
+decision_both P on b put answer (Records r c None) h k = record { landed = on r (outcome_of put answer c) (h c); absent = k }
+decision_both P on b put answer (Records r c (Some d)) h k = record { landed = on r (outcome_of put answer c) (h c); absent = h d }
 
 -- where the record is absent
 abbrev pub AbsentSays : {A : Type 0} → (Change A → Type 0) → Option (Change A) → Type 0
@@ -60,31 +64,31 @@ abbrev pub IfThere : {A : Type 0} → (A → Type 0) → Option A → Type 0
 IfThere P None = Unit {0}
 IfThere P (Some a) = P a
 
-pub decided_says : {A : Type 0} (P : Change A → Type 0) (Q : Record → Change A → Type 0) (R : Outcome → Type 0) (b : Book) (put : Option A → Book) (answer : List Out)
+pub decided_says : {A : Type 0} (P : Change A → Type 0) (Q : Record → Change A → Type 0) (R : Outcome → Type 0) (on : StaysOn R) (b : Book) (put : Option A → Book) (answer : List Out)
     (d : Decision A) → DecisionSays P Q d → ((c : Change A) → P c → R (outcome_of put answer c)) → R (still b answer) → Both R (plan_of b put answer d)
-decided_says P Q R b put answer (Goes c) h j k = plain_both R (outcome_of put answer c) (j c h)
-decided_says P Q R b put answer (Records r c None) h j k = record { landed = j c h.landed; absent = k }
-decided_says P Q R b put answer (Records r c (Some d)) h j k = record { landed = j c h.landed; absent = j d h.otherwise }
+decided_says P Q R on b put answer (Goes c) h j k = plain_both R (outcome_of put answer c) (j c h)
+decided_says P Q R on b put answer (Records r c None) h j k = record { landed = on r (outcome_of put answer c) (j c h.landed); absent = k }
+decided_says P Q R on b put answer (Records r c (Some d)) h j k = record { landed = on r (outcome_of put answer c) (j c h.landed); absent = j d h.otherwise }
 
-pub decided_both : {A : Type 0} (P : Option A → Type 0) (Q : Record → Option A → Type 0) (R : Outcome → Type 0) (b : Book) (put : Option A → Book) (answer : List Out)
+pub decided_both : {A : Type 0} (P : Option A → Type 0) (Q : Record → Option A → Type 0) (R : Outcome → Type 0) (on : StaysOn R) (b : Book) (put : Option A → Book) (answer : List Out)
     (d : Decision A) → DecisionHas P Q d → ((c : Change A) → P c.item → R (outcome_of put answer c)) → R (still b answer) → Both R (plan_of b put answer d)
-decided_both P Q R b put answer d h j k = decided_says (λ c. P c.item) (λ r c. Q r c.item) R b put answer d h j k
+decided_both P Q R on b put answer d h j k = decided_says (λ c. P c.item) (λ r c. Q r c.item) R on b put answer d h j k
 
 no_entry : (o : Option Record) (r : Record) → o ≡ None → o ≡ Some r → ⊥
 no_entry o r e f = cc
 
-pub says_entry : {A : Type 0} (P : Change A → Type 0) (Q : Record → Change A → Type 0) (R : Record → Outcome → Type 0) (b : Book) (put : Option A → Book) (answer : List Out)
+pub says_entry : {A : Type 0} (P : Change A → Type 0) (Q : Record → Change A → Type 0) (R : Record → Outcome → Type 0) (on : (s : Record) → StaysOn (R s)) (b : Book) (put : Option A → Book) (answer : List Out)
     (d : Decision A) (r : Record) → DecisionSays P Q d → ((s : Record) (c : Change A) → P c → Q s c → R s (outcome_of put answer c))
     → (plan_of b put answer d).entry ≡ Some r → R r (plan_of b put answer d).landed
-says_entry P Q R b put answer (Goes c) r h f e = absurd (no_entry None r refl e)
-says_entry P Q R b put answer (Records s c absent) r h f e =
+says_entry P Q R on b put answer (Goes c) r h f e = absurd (no_entry None r refl e)
+says_entry P Q R on b put answer (Records s c absent) r h f e =
     let same : s ≡ r = cc in
-    subst (λ x. R x (outcome_of put answer c)) same (f s c h.landed h.entry)
+    subst (λ x. R x (noting s (outcome_of put answer c))) same (on s s (outcome_of put answer c) (f s c h.landed h.entry))
 
-pub decided_entry : {A : Type 0} (P : Option A → Type 0) (Q : Record → Option A → Type 0) (R : Record → Outcome → Type 0) (b : Book) (put : Option A → Book) (answer : List Out)
+pub decided_entry : {A : Type 0} (P : Option A → Type 0) (Q : Record → Option A → Type 0) (R : Record → Outcome → Type 0) (on : (s : Record) → StaysOn (R s)) (b : Book) (put : Option A → Book) (answer : List Out)
     (d : Decision A) (r : Record) → DecisionHas P Q d → ((s : Record) (c : Change A) → P c.item → Q s c.item → R s (outcome_of put answer c))
     → (plan_of b put answer d).entry ≡ Some r → R r (plan_of b put answer d).landed
-decided_entry P Q R b put answer d r h f e = says_entry (λ c. P c.item) (λ s c. Q s c.item) R b put answer d r h f e
+decided_entry P Q R on b put answer d r h f e = says_entry (λ c. P c.item) (λ s c. Q s c.item) R on b put answer d r h f e
 
 -- the same, where both branches are changed alike
 pub both_say : {A : Type 0} (P : Change A → Type 0) (Q : Record → Change A → Type 0) (f : Change A → Change A) → ((c : Change A) → P c → P (f c))

@@ -6,15 +6,17 @@ use Rattle.at_base.specs.Numbers.{Numbers}
 use Rattle.at_base.specs.declared.event.Event.{Event}
 use Rattle.at_base.specs.declared.event.Moment.{Moment}
 use Rattle.at_base.specs.declared.outs.Out.{Out}
+use Rattle.at_base.specs.declared.record.Record.{Record}
+use Rattle.at_model.specs.Posts.{accepted}
 use Rattle.at_model.specs.Book.{Book, Transaction, Leaf, Activity, put_by, transaction_id, leaf_id, activity_id, next_id}
-use Rattle.at_model.specs.Moves.{Decision}
+use Rattle.at_model.specs.Moves.{Decision, Change}
 use Rattle.at_model.specs.Arrivals.{with_answer}
 use Rattle.at_model.specs.Register.{on_register}
 use Rattle.at_model.specs.Activities.{on_begin, on_interpose}
-use Rattle.at_model.specs.Step.{Outcome, Plan, still, at_time, moment_of, is_under, put_transaction, put_leaf, put_activity, put_activities, make_transaction, make_leaf, make_activity, registration_outcome, plan, step}
+use Rattle.at_model.specs.Step.{Outcome, Plan, still, at_time, moment_of, is_under, put_transaction, put_leaf, put_activity, put_activities, make_transaction, make_leaf, make_activity, registration_outcome, plan, step, plan_of}
 use Rattle.model_laws.specs.Laws.{HasId, HasLeafId}
-use Rattle.model_laws.specs.Shapes.{MovesTransaction, MovesLeaf, MovesActivity, MakesActivity, Shape, at_seat, at_link, at_completion, when_due, at_leaf, leaf_when_due, at_activity, activity_when_due, works, completes, begins, interposes, nothing_moves, time_moves, transaction_moves, leaf_moves, activity_moves, transaction_registers, transaction_made, leaf_made, activity_made}
-use Rattle.model_laws.proofs.Deciding.{Both, in_branch, plain_both, IfThere, decided_both, all_find, all_put, all_filter}
+use Rattle.model_laws.specs.Shapes.{MovesTransaction, MovesLeaf, MovesActivity, MakesActivity, Shape, at_seat, at_link, at_completion, when_due, at_leaf, leaf_when_due, at_activity, activity_when_due, works, completes, begins, interposes, nothing_moves, time_moves, time_passes, transaction_moves, leaf_moves, activity_moves, transaction_registers, transaction_made, leaf_made, activity_made}
+use Rattle.model_laws.proofs.Deciding.{Both, in_branch, plain_both, IfThere, decided_both, all_find, all_put, all_filter, StaysOn, DecisionHas}
 use Rattle.model_laws.proofs.Keeping.{Names, NamesLeaf, Kept, LeafKept, HasBoth, NoRecord, ActivityKept, seat_kept, link_kept, completion_kept, due_kept, with_answer_kept, register_kept, leaf_kept, leaf_due_kept, activity_kept, activity_due_kept, asks_kept, completes_kept}
 use Rattle.model_laws.proofs.Making.{makes_under_the_next_id}
 use Rattle.model_laws.proofs.Shaping.{steps_touch_one}
@@ -124,6 +126,15 @@ activity_made_leaves T L A R b e now id a os h next (interposes coordinator name
     (inr (subst R (sym (ap (λ x. x.root) is ∙ interposed_root (moment_of b now) id coordinator x))
     (all_find (λ x. R x.root) activity_id named b.activities x h.roots found))) refl
 
+holds_on : (T L A R : Numbers → Type 0) → StaysOn (λ o. Holds T L A R o.book)
+holds_on T L A R r o h = record { transactions = h.transactions; leaves = h.leaves; activities = h.activities; roots = h.roots }
+
+moved_leaves : {X : Type 0} (P : Option X → Type 0) (Q : Record → Option X → Type 0) (T L A R : Numbers → Type 0) (b : Book) (now : ℕ) (put : Option X → Book) (answer : List Out)
+    (d : Decision X) → DecisionHas P Q d → ((c : Change X) → P c.item → Holds T L A R (put c.item)) → Holds T L A R b → Both (Leaves T L A R b now) (plan_of b put answer d)
+moved_leaves P Q T L A R b now put answer d has f h =
+    let k : Both (λ o. Holds T L A R o.book) (plan_of b put answer d) = decided_both P Q (λ o. Holds T L A R o.book) (holds_on T L A R) b put answer d has f h in
+    record { landed = as_before k.landed; absent = as_before k.absent }
+
 step_leaves : (T L A R : Numbers → Type 0) (b : Book) (e : Event) (now : ℕ) (p : Plan) → Holds T L A R b → Shape b e now p → Both (Leaves T L A R b now) p
 step_leaves T L A R b e now p h (nothing_moves f) = subst (Both (Leaves T L A R b now)) (sym f) (plain_both (Leaves T L A R b now) (still b []) (as_before h))
 step_leaves T L A R b e now p h (time_moves a os came why o f) =
@@ -131,23 +142,26 @@ step_leaves T L A R b e now p h (time_moves a os came why o f) =
   where
     same_holds : Holds T L A R b → Holds T L A R (at_time now b)
     same_holds h = record { transactions = h.transactions; leaves = h.leaves; activities = h.activities; roots = h.roots }
+step_leaves T L A R b e now p h (time_passes came f) =
+    subst (Both (Leaves T L A R b now)) (sym f) (plain_both (Leaves T L A R b now) (still (at_time now b) accepted)
+    (as_before (record { transactions = h.transactions; leaves = h.leaves; activities = h.activities; roots = h.roots })))
 step_leaves T L A R b e now p h (transaction_moves id t answer d stands how o f) =
     subst (Both (Leaves T L A R b now)) (sym f)
-    (decided_both (HasId t.id) (Names t.id) (Leaves T L A R b now) b (put_transaction t.id (at_time now b)) answer (with_answer (moment_of b now) t d)
+    (moved_leaves (HasId t.id) (Names t.id) T L A R b now (put_transaction t.id (at_time now b)) answer (with_answer (moment_of b now) t d)
     (with_answer_kept t.id (moment_of b now) t d (moved_kept b e now t d how))
-    (λ c k. as_before (put_holds T L A R b now t.id c.item h (all_find (λ x. T x.id) transaction_id id b.transactions t h.transactions stands) k))
-    (as_before h))
+    (λ c k. put_holds T L A R b now t.id c.item h (all_find (λ x. T x.id) transaction_id id b.transactions t h.transactions stands) k)
+    h)
 step_leaves T L A R b e now p h (leaf_moves id l answer d stands how o f) =
     subst (Both (Leaves T L A R b now)) (sym f)
-    (decided_both (HasLeafId l.id) (NamesLeaf l.id) (Leaves T L A R b now) b (put_leaf l.id (at_time now b)) answer d (leaf_moved_kept b e now l d how)
-    (λ c k. as_before (put_leaf_holds T L A R b now l.id c.item h (all_find (λ x. L x.id) leaf_id id b.leaves l h.leaves stands) k))
-    (as_before h))
+    (moved_leaves (HasLeafId l.id) (NamesLeaf l.id) T L A R b now (put_leaf l.id (at_time now b)) answer d (leaf_moved_kept b e now l d how)
+    (λ c k. put_leaf_holds T L A R b now l.id c.item h (all_find (λ x. L x.id) leaf_id id b.leaves l h.leaves stands) k)
+    h)
 step_leaves T L A R b e now p h (activity_moves id a answer d stands how o f) =
     subst (Both (Leaves T L A R b now)) (sym f)
-    (decided_both (HasBoth a) NoRecord (Leaves T L A R b now) b (put_activity a.id (at_time now b)) answer d (activity_moved_kept b e now a d how)
-    (λ c k. as_before (put_activity_holds T L A R b now a c.item h
-    (all_find (λ x. A x.id) activity_id id b.activities a h.activities stands) (all_find (λ x. R x.root) activity_id id b.activities a h.roots stands) k))
-    (as_before h))
+    (moved_leaves (HasBoth a) NoRecord T L A R b now (put_activity a.id (at_time now b)) answer d (activity_moved_kept b e now a d how)
+    (λ c k. put_activity_holds T L A R b now a c.item h
+    (all_find (λ x. A x.id) activity_id id b.activities a h.activities stands) (all_find (λ x. R x.root) activity_id id b.activities a h.roots stands) k)
+    h)
 step_leaves T L A R b e now p h (transaction_registers id a r t stands came at says o f) =
     subst (Both (Leaves T L A R b now)) (sym f)
     (plain_both (Leaves T L A R b now) (registration_outcome b now (on_register (moment_of b now) a r t))

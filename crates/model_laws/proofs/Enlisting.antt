@@ -35,7 +35,7 @@ use Rattle.model_laws.specs.Laws.{IsDrawn, HasId, HasLeafId}
 use Rattle.model_laws.specs.Order.{AreRising, IsInOrder}
 use Rattle.at_model.specs.Recover.{is_before}
 use Rattle.model_laws.specs.Shapes.{IsAnswer}
-use Rattle.model_laws.proofs.Deciding.{found_id, Both, IfThere, DecisionSays, decided_says, all_find, all_put, all_filter, all_join, all_more}
+use Rattle.model_laws.proofs.Deciding.{found_id, Both, IfThere, DecisionSays, decided_says, all_find, all_put, all_filter, all_join, all_more, StaysOn}
 use Rattle.model_laws.proofs.Keeping.{HasBoth}
 use Rattle.at_base.specs.IdText.{IsId}
 use Rattle.model_laws.proofs.Ordering.{other_id, unmapped}
@@ -227,6 +227,19 @@ pub record Gives (base : List ℕ) (e : Event) (s : Numbers → Standing) (b : B
   pub accepted : (n : ℕ) (nodes : List Node) → AllByRecursion (AcceptedBy e n nodes) (accepted_in n nodes b o.book.transactions)
   pub grown : AreGrown b o.book.transactions
 
+-- a kept outcome changes no item
+pub gives_on : (base : List ℕ) (e : Event) (s : Numbers → Standing) (b : Book) → StaysOn (Gives base e s b)
+gives_on base e s b r o g = record {
+  after = g.after;
+  keeps = g.keeps;
+  fits = record { transactions = g.fits.transactions; leaves = g.fits.leaves; activities = g.fits.activities };
+  undrawn = g.undrawn;
+  small = g.small;
+  outs = g.outs;
+  accepted = g.accepted;
+  grown = g.grown;
+}
+
 -- lists of outs
 pub fine_more : (Q R : Epr → Option Epr → Type 0) → ((participant : Epr) (to : Option Epr) → Q participant to → R participant to) → (to : Option Epr) (x : Message) → Fine Q to x → Fine R to x
 fine_more Q R f to (messages.Register r) h = f r.participant to h
@@ -401,7 +414,7 @@ pub transaction_gives : (base : List ℕ) (e : Event) (s : Numbers → Standing)
     → Says base s b → transaction_at b id ≡ Some t → IsAnswer answer → DecisionSays (λ c. HasId t.id c.item) (λ r c. Unit {0}) (with_answer (moment_of b now) t d)
     → AreLike (Registers base s) (request_of t.superior) (map accepted_as t.seats) (option_map initiator_endpoint t.completion) d → Both (Gives base e s b) (transaction_plan b now answer t d)
 transaction_gives base e s b now answer id t d h stands a kept like =
-    decided_says (λ c. HasId t.id c.item × LeftSays (Registers base s) (request_of t.superior) (map accepted_as t.seats) (option_map initiator_endpoint t.completion) c) (λ r c. Unit {0}) (Gives base e s b) b
+    decided_says (λ c. HasId t.id c.item × LeftSays (Registers base s) (request_of t.superior) (map accepted_as t.seats) (option_map initiator_endpoint t.completion) c) (λ r c. Unit {0}) (Gives base e s b) (gives_on base e s b) b
     (put_transaction t.id (at_time now b)) answer (with_answer (moment_of b now) t d)
     (says_both (λ c. HasId t.id c.item) (LeftSays (Registers base s) (request_of t.superior) (map accepted_as t.seats) (option_map initiator_endpoint t.completion)) (λ r c. Unit {0}) Anything
     (with_answer (moment_of b now) t d) kept
@@ -446,7 +459,7 @@ pub leaf_gives : (base : List ℕ) (e : Event) (s : Numbers → Standing) (b : B
     → leaf_at b id ≡ Some l → IsAnswer answer → DecisionSays (λ c. HasLeafId l.id c.item) (λ r c. Unit {0}) d → AreLeafLike (Registers base s) l.request d
     → Both (Gives base e s b) (leaf_plan b now answer l d)
 leaf_gives base e s b now answer id l d h stands a kept like =
-    decided_says (λ c. HasLeafId l.id c.item × LeafLike (Registers base s) l.request c) (λ r c. Unit {0}) (Gives base e s b) b (put_leaf l.id (at_time now b)) answer d
+    decided_says (λ c. HasLeafId l.id c.item × LeafLike (Registers base s) l.request c) (λ r c. Unit {0}) (Gives base e s b) (gives_on base e s b) b (put_leaf l.id (at_time now b)) answer d
     (says_both (λ c. HasLeafId l.id c.item) (LeafLike (Registers base s) l.request) (λ r c. Unit {0}) Anything d kept like)
     (λ c k. leaf_moved_gives base e s b now answer id l c h stands a k.0 k.1) (still_gives base e s b answer h (answer_says NoRegister answer a))
 
@@ -560,7 +573,7 @@ pub activity_gives : (base : List ℕ) (e : Event) (s : Numbers → Standing) (b
     → activity_at b id ≡ Some a → IsAnswer answer → DecisionSays (λ c. HasBoth a c.item) (λ r c. Unit {0}) d → AreActivityLike b.base a d
     → Both (Gives base e s b) (activity_plan b now answer a d)
 activity_gives base e s b now answer id a d h stands i kept like =
-    decided_says (λ c. HasBoth a c.item × ActivityLike b.base a c.item c.posts) (λ r c. Unit {0}) (Gives base e s b) b (put_activity a.id (at_time now b)) answer d
+    decided_says (λ c. HasBoth a c.item × ActivityLike b.base a c.item c.posts) (λ r c. Unit {0}) (Gives base e s b) (gives_on base e s b) b (put_activity a.id (at_time now b)) answer d
     (says_both (λ c. HasBoth a c.item) (λ c. ActivityLike b.base a c.item c.posts) (λ r c. Unit {0}) Anything d kept like)
     (λ c k. activity_moved_gives base e s b now answer id a c h stands i c.item refl k.0 k.1) (still_gives base e s b answer h (answer_says NoRegister answer i))
 

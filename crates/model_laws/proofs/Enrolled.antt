@@ -281,6 +281,10 @@ heard_says count u n x (events.Local l) g found h = λ a r id e f i. absurd (no_
   where
     no_local : (l : Local) (a : Arrived) → events.Local l ≡ events.Arrived a → ⊥
     no_local l a e = cc
+heard_says count u n x events.Tick g found h = λ a r id e f i. absurd (no_tick a e)
+  where
+    no_tick : (a : Arrived) → events.Tick ≡ events.Arrived a → ⊥
+    no_tick a e = cc
 heard_says count u n x (events.Due item) g found h = λ a r id e f i. absurd (no_due item a e)
   where
     no_due : (item : Item) (a : Arrived) → events.Due item ≡ events.Arrived a → ⊥
@@ -398,6 +402,7 @@ transactions_silent base (records.LeafCommitted id ∷ rest) = transactions_sile
 transactions_silent base (records.LeafAborted id ∷ rest) = transactions_silent base rest
 transactions_silent base (records.SubCommitted id ∷ rest) = transactions_silent base rest
 transactions_silent base (records.Ended id ∷ rest) = transactions_silent base rest
+transactions_silent base (records.Done id ∷ rest) = transactions_silent base rest
 
 leaves_silent : (rs : List Record) → AllByRecursion (λ l. leaf_standing l ≡ Silent) (leaves_of rs)
 leaves_silent [] = tt
@@ -409,6 +414,7 @@ leaves_silent (records.LeafCommitted id ∷ rest) = leaves_silent rest
 leaves_silent (records.LeafAborted id ∷ rest) = leaves_silent rest
 leaves_silent (records.SubCommitted id ∷ rest) = leaves_silent rest
 leaves_silent (records.Ended id ∷ rest) = leaves_silent rest
+leaves_silent (records.Done id ∷ rest) = leaves_silent rest
 
 meets_silent : (kept S : Standing) → S ≡ Silent → Meets kept S
 meets_silent kept S e = subst (Meets kept) (sym e) tt

@@ -17,6 +17,8 @@ use Rattle.at_base.specs.declared.event.Arrived.{Arrived}
 use Rattle.at_base.specs.declared.event.Event.{Event}
 use Rattle.at_base.specs.declared.event.Moment.{Moment}
 use Rattle.at_tables.specs.declared.cells.State.TheVariants as states
+use Rattle.at_base.specs.declared.limits.TheConstants.{MOST_SEATS}
+use Rattle.at_model.specs.Posts.{accepted}
 use Rattle.at_model.specs.Book.{Book, Transaction, transaction_id}
 use Rattle.at_model.specs.Addresses.{atomic}
 use Rattle.at_model.specs.Moves.{Decision}
@@ -25,7 +27,7 @@ use Rattle.at_model.specs.Register.{Registration, accepts, may_complete, may_reg
 use Rattle.at_model.specs.Create.{create_under, create_in, on_create, refuse_create}
 use Rattle.at_model.specs.Step.{Outcome, Plan, still, at_time, moment_of, put_transaction, put_leaf, put_activity, make_transaction, make_leaf, make_activity, registration_outcome, plan, step}
 use Rattle.at_model.specs.Recover.{live, is_sub_committed, transactions_of, recovered_voted}
-use Rattle.model_laws.specs.Shapes.{MovesTransaction, Shape, at_seat, at_link, at_completion, when_due, nothing_moves, time_moves, transaction_moves, leaf_moves, activity_moves, transaction_registers, transaction_made, leaf_made, activity_made}
+use Rattle.model_laws.specs.Shapes.{MovesTransaction, Shape, at_seat, at_link, at_completion, when_due, nothing_moves, time_moves, time_passes, transaction_moves, leaf_moves, activity_moves, transaction_registers, transaction_made, leaf_made, activity_made}
 use Rattle.model_laws.proofs.Living.{all_in_order}
 use Rattle.model_laws.proofs.Shaping.{steps_touch_one}
 use Rattle.std.specs.Prelude.{is_none}
@@ -52,7 +54,7 @@ none_is (Some s) e = absurd cc
 then_root : (t : Transaction) → may_register t None ≡ true → t.superior ≡ None
 then_root t e =
     none_is t.superior
-    (first_true (is_none t.superior) (is_none t.completion) (second_true (accepts t.phase && nat_lt (length t.seats) 64) (may_complete t None) e))
+    (first_true (is_none t.superior) (is_none t.completion) (second_true (accepts t.phase && nat_lt (length t.seats) MOST_SEATS) (may_complete t None) e))
 
 accept_linked : (m : Moment) (a : Arrived) (t : Transaction) (participant : Epr) (kind : Option Kind) → may_register t kind ≡ true → Linked t
     → Linked (accept m a t participant kind).transaction
@@ -105,15 +107,16 @@ linked_both : (b : Book) (e : Event) (now : ℕ) (p : Plan) → IsLinked b → S
 unfolding LinkedAfter
 linked_both b e now p h (nothing_moves f) = subst (Both LinkedAfter) (sym f) (plain_both LinkedAfter (still b []) h)
 linked_both b e now p h (time_moves a os came why o f) = subst (Both LinkedAfter) (sym f) (plain_both LinkedAfter (still (at_time now b) os) h)
+linked_both b e now p h (time_passes came f) = subst (Both LinkedAfter) (sym f) (plain_both LinkedAfter (still (at_time now b) accepted) h)
 linked_both b e now p h (transaction_moves id t answer d stands how o f) =
     subst (Both LinkedAfter) (sym f)
-    (decided_both (IfThere Linked) AnyRecord LinkedAfter b (put_transaction t.id (at_time now b)) answer (with_answer (moment_of b now) t d)
+    (decided_both (IfThere Linked) AnyRecord LinkedAfter (λ r o i. i) b (put_transaction t.id (at_time now b)) answer (with_answer (moment_of b now) t d)
     (moved_links b e now t d (all_find Linked transaction_id id b.transactions t h stands) how)
     (λ c k. all_put Linked transaction_id t.id c.item b.transactions k h) h)
 linked_both b e now p h (leaf_moves id l answer d stands how o f) =
-    subst (Both LinkedAfter) (sym f) (decision_both LinkedAfter b (put_leaf l.id (at_time now b)) answer d (λ c. h) h)
+    subst (Both LinkedAfter) (sym f) (decision_both LinkedAfter (λ r o i. i) b (put_leaf l.id (at_time now b)) answer d (λ c. h) h)
 linked_both b e now p h (activity_moves id a answer d stands how o f) =
-    subst (Both LinkedAfter) (sym f) (decision_both LinkedAfter b (put_activity a.id (at_time now b)) answer d (λ c. h) h)
+    subst (Both LinkedAfter) (sym f) (decision_both LinkedAfter (λ r o i. i) b (put_activity a.id (at_time now b)) answer d (λ c. h) h)
 linked_both b e now p h (transaction_registers id a r t stands came at says o f) =
     subst (Both LinkedAfter) (sym f)
     (plain_both LinkedAfter (registration_outcome b now (on_register (moment_of b now) a r t))
@@ -148,6 +151,7 @@ records_linked base (records.LeafCommitted id ∷ rest) = records_linked base re
 records_linked base (records.LeafAborted id ∷ rest) = records_linked base rest
 records_linked base (records.SubCommitted id ∷ rest) = records_linked base rest
 records_linked base (records.Ended id ∷ rest) = records_linked base rest
+records_linked base (records.Done id ∷ rest) = records_linked base rest
 
 pub links_follow_phases : LinksFollowPhases
 links_follow_phases = record {

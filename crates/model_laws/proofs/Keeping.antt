@@ -28,7 +28,7 @@ use Rattle.at_model.specs.Addresses.{register_id}
 use Rattle.at_model.specs.Moves.{Moving, Decision, Goes, begin, become, stays, forgotten, ignored}
 use Rattle.at_model.specs.Seats.{answered, all_left, in_state, is_prepared_durable, in_phase}
 use Rattle.at_model.specs.Abort.{Reason, Alone, Asked, until_rolled_back, abort}
-use Rattle.at_model.specs.Phases.{decided, root_answered, voted, sub_answered, durable_answered, if_durable_answered, prepare_seats, go_durable, volatile_answered, all_committed, advance_in, go_volatile}
+use Rattle.at_model.specs.Phases.{decided, committed, root_answered, voted, sub_answered, durable_answered, if_durable_answered, prepare_seats, go_durable, volatile_answered, all_committed, advance_in, go_volatile}
 use Rattle.at_model.specs.Arrivals.{seat_act, seat_notice, commit_voted, link_act, link_notice, completion_act, completion_notice, relates_to, link_registered, link_fault, on_link, on_seat, on_completion, with_answer}
 use Rattle.at_model.specs.Register.{Registration, accept, register_new, register_again, on_register, may_register, protocol_named, held_seat}
 use Rattle.at_model.specs.Leaves.{leaf_votes, leaf_records_vote, leaf_commit, leaf_roll_back, leaf_act, leaf_notice, answers_leaf, leaf_registered, drops_leaf, leaf_fault, on_leaf}
@@ -75,11 +75,14 @@ decided_kept : (id : Numbers) (m : Moment) (g : Moving Transaction) → g.item.i
 unfolding decided
 decided_kept id m g h = h
 
+committed_kept : (id : Numbers) (m : Moment) (g : Moving Transaction) → g.item.id ≡ id → HasId id (committed m g).item
+unfolding committed
+committed_kept id m g h =
+    either_change (HasId id) (list_any is_prepared_durable g.item.seats) (stays (decided m g)) (forgotten (decided m g)) (decided_kept id m g h) tt
+
 root_kept : (id : Numbers) (m : Moment) (g : Moving Transaction) → g.item.id ≡ id → Kept id (root_answered m g)
 unfolding root_answered
-root_kept id m g h =
-    either id (list_any is_prepared_durable g.item.seats) _ _
-    (record { entry = h; landed = decided_kept id m g h; otherwise = abort_kept id m Alone g h }) tt
+root_kept id m g h = record { entry = h; landed = committed_kept id m g h; otherwise = abort_kept id m Alone g h }
 
 voted_kept : (id : Numbers) (m : Moment) (s : Superior) (g : Moving Transaction) → g.item.id ≡ id → (voted m s g).item.id ≡ id
 unfolding voted
@@ -211,22 +214,23 @@ link_kept id m a kind t s (messages.RegisterResponse coordinator) h = link_regis
 link_kept id m a kind t s (messages.Fault name) h = link_fault_kept id m a.relates kind s t h
 link_kept id m a kind t s other h = h
 
-completion_act_kept : (id : Numbers) (m : Moment) (i : Option (List ℕ)) (c : Completion) (t : Transaction) (act : Act) → t.id ≡ id → Kept id (completion_act m i c t act)
+completion_act_kept : (id : Numbers) (m : Moment) (from : Option Epr) (i : Option (List ℕ)) (c : Completion) (t : Transaction) (act : Act) → t.id ≡ id → Kept id (completion_act m from i c t act)
 unfolding completion_act
-completion_act_kept id m i c t acts.FaultUnknownTransaction h = h
-completion_act_kept id m i c t acts.FaultInvalidState h = h
-completion_act_kept id m i c t acts.Complete h = go_volatile_kept id m _ h
-completion_act_kept id m i c t acts.AbortAndSendAborted h = abort_kept id m Alone (begin t) h
-completion_act_kept id m i c t other h = h
+completion_act_kept id m from i c t acts.SendCommitted h = h
+completion_act_kept id m from i c t acts.FaultUnknownTransaction h = h
+completion_act_kept id m from i c t acts.FaultInvalidState h = h
+completion_act_kept id m from i c t acts.Complete h = go_volatile_kept id m _ h
+completion_act_kept id m from i c t acts.AbortAndSendAborted h = abort_kept id m Alone (begin t) h
+completion_act_kept id m from i c t other h = h
 
-completion_notice_kept : (id : Numbers) (m : Moment) (i : Option (List ℕ)) (c : Completion) (t : Transaction) (cell : Option Cell) → t.id ≡ id → Kept id (completion_notice m i c t cell)
+completion_notice_kept : (id : Numbers) (m : Moment) (from : Option Epr) (i : Option (List ℕ)) (c : Completion) (t : Transaction) (cell : Option Cell) → t.id ≡ id → Kept id (completion_notice m from i c t cell)
 unfolding completion_notice
-completion_notice_kept id m i c t None h = h
-completion_notice_kept id m i c t (Some cell) h = completion_act_kept id m i c t cell.act h
+completion_notice_kept id m from i c t None h = h
+completion_notice_kept id m from i c t (Some cell) h = completion_act_kept id m from i c t cell.act h
 
 pub completion_kept : (id : Numbers) (m : Moment) (a : Arrived) (t : Transaction) (c : Completion) (x : Message) → t.id ≡ id → Kept id (on_completion m a t c x)
 unfolding on_completion
-completion_kept id m a t c (messages.Notice n) h = completion_notice_kept id m a.id c t (completion_of c.state n) h
+completion_kept id m a t c (messages.Notice n) h = completion_notice_kept id m a.from a.id c t (completion_of c.state n) h
 completion_kept id m a t c other h = h
 
 pub due_kept : (id : Numbers) (m : Moment) (t : Transaction) (reached : Reached) → t.id ≡ id → Kept id (transaction_reached m t reached)

@@ -2,6 +2,7 @@ pub mod Examples
 pub mod Recovering
 pub mod Deciding
 pub mod Keeping
+mod Keepsakes
 pub mod Shaping
 pub mod Drawing
 pub mod Living
@@ -32,3 +33,4 @@ pub mod Holding
 pub mod Seating
 pub mod Sorting
 pub mod Compacting
+pub mod Outcoming

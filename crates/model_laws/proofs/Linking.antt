@@ -20,14 +20,14 @@ use Rattle.at_model.specs.Book.{Completion, Enlistment, Phase, Superior, Transac
 use Rattle.at_model.specs.Moves.{Moving, Decision, begin, become, stays, forgotten}
 use Rattle.at_model.specs.Seats.{answered, all_left, in_state, is_prepared_durable, in_phase, under}
 use Rattle.at_model.specs.Abort.{Reason, Alone, Asked, until_rolled_back, abort}
-use Rattle.at_model.specs.Phases.{decided, root_answered, voted, sub_answered, durable_answered, if_durable_answered, prepare_seats, go_durable, volatile_answered, all_committed, advance_in, advance, go_volatile}
+use Rattle.at_model.specs.Phases.{decided, committed, root_answered, voted, sub_answered, durable_answered, if_durable_answered, prepare_seats, go_durable, volatile_answered, all_committed, advance_in, advance, go_volatile}
 use Rattle.at_model.specs.Arrivals.{seat_act, seat_notice, commit_voted, link_act, link_notice, completion_act, completion_notice, link_registered, link_fault, on_link, on_seat, on_completion, request_answered, with_answer}
 use Rattle.at_model.specs.Due.{Reached, Expired, Over, Unanswered, Nothing, transaction_reached}
 use Rattle.at_tables.specs.declared.cells.State.{State}
 use Rattle.at_model.specs.Seats.{seat_in}
 use Rattle.at_model.specs.Arrivals.{registered}
 use Rattle.std.proofs.Common.{inl, inr}
-use Rattle.at_model.specs.Seats.{set_link, link_of, completed}
+use Rattle.at_model.specs.Seats.{set_link, link_of, completion_in}
 use Rattle.at_model.specs.Abort.{without_links}
 use Rattle.model_laws.specs.Links.{IsJoining, IsIdle, AreIn, AreLinked}
 use Rattle.at_model.specs.Arrivals.{asked, relates_to}
@@ -114,9 +114,9 @@ no_initiator : (s : Option Superior) (c : Option Completion) → c ≡ None → 
 no_initiator None c e = tt
 no_initiator (Some s) c e = e
 
-aborted_links : (s : Option Superior) (c : Option Completion) → IsRootIf s c → AreLinked Phase.Aborting (without_links s) (completed c)
+aborted_links : (s : Option Superior) (c : Option Completion) → IsRootIf s c → AreLinked Phase.Aborting (without_links s) (completion_in states.None c)
 aborted_links None c h = tt
-aborted_links (Some s) c h = ((refl, refl), ap completed h)
+aborted_links (Some s) c h = ((refl, refl), ap (completion_in states.None) h)
 
 root_alone : (phase : Phase) (s : Option Superior) (c : Option Completion) (initiator : Completion) → AreLinked phase s c → c ≡ Some initiator → s ≡ None
 root_alone phase None c initiator h e = refl
@@ -173,12 +173,20 @@ root_only phase s c e = subst (λ x. AreLinked phase x c) (sym e) tt
 
 decided_links : (m : Moment) (g : Moving Transaction) → g.item.superior ≡ None → Linked (decided m g).item
 unfolding decided
-decided_links m g e = root_only Phase.Committing g.item.superior (completed g.item.completion) e
+decided_links m g e = root_only Phase.Committing g.item.superior (completion_in states.Done g.item.completion) e
+
+committed_links : (m : Moment) (g : Moving Transaction) → g.item.superior ≡ None → IfThere Linked (committed m g).item
+unfolding committed
+committed_links m g e =
+    either_change (IfThere Linked) (list_any is_prepared_durable g.item.seats) (stays (decided m g)) (forgotten (decided m g)) (decided_links m g e) tt
 
 root_links : (m : Moment) (g : Moving Transaction) → g.item.superior ≡ None → Links (root_answered m g)
 unfolding root_answered
-root_links m g e =
-    either (list_any is_prepared_durable g.item.seats) _ _ (λ k. record { entry = tt; landed = decided_links m g e; otherwise = abort_links m Alone g (root_if Phase.Committing g.item.superior g.item.completion (root_only Phase.Committing g.item.superior g.item.completion e)) }) (λ k. tt)
+root_links m g e = record {
+  entry = tt;
+  landed = committed_links m g e;
+  otherwise = abort_links m Alone g (root_if Phase.Committing g.item.superior g.item.completion (root_only Phase.Committing g.item.superior g.item.completion e));
+}
 
 voted_links : (m : Moment) (s : Superior) (g : Moving Transaction) → s.volatile.state ≡ states.None → g.item.completion ≡ None → Linked (voted m s g).item
 unfolding voted
@@ -338,24 +346,25 @@ link_links m a kind t s (messages.RegisterResponse coordinator) e h = link_regis
 link_links m a kind t s (messages.Fault name) e h = link_fault_links m a.relates kind s t h
 link_links m a kind t s other e h = h
 
-completion_act_links : (m : Moment) (i : Option (List ℕ)) (c : Completion) (t : Transaction) (act : Act) → t.completion ≡ Some c → Linked t → Links (completion_act m i c t act)
+completion_act_links : (m : Moment) (from : Option Epr) (i : Option (List ℕ)) (c : Completion) (t : Transaction) (act : Act) → t.completion ≡ Some c → Linked t → Links (completion_act m from i c t act)
 unfolding completion_act
-completion_act_links m i c t acts.FaultUnknownTransaction e h = h
-completion_act_links m i c t acts.FaultInvalidState e h = h
-completion_act_links m i c t acts.Complete e h =
+completion_act_links m from i c t acts.SendCommitted e h = h
+completion_act_links m from i c t acts.FaultUnknownTransaction e h = h
+completion_act_links m from i c t acts.FaultInvalidState e h = h
+completion_act_links m from i c t acts.Complete e h =
     go_volatile_links m (begin (record t { completion = Some (record c { state = states.Completing }) }))
     (root_only Phase.Volatile t.superior (Some (record c { state = states.Completing })) (root_alone t.phase t.superior t.completion c h e))
-completion_act_links m i c t acts.AbortAndSendAborted e h = abort_links m Alone (begin t) (root_if t.phase t.superior t.completion h)
-completion_act_links m i c t other e h = h
+completion_act_links m from i c t acts.AbortAndSendAborted e h = abort_links m Alone (begin t) (root_if t.phase t.superior t.completion h)
+completion_act_links m from i c t other e h = h
 
-completion_notice_links : (m : Moment) (i : Option (List ℕ)) (c : Completion) (t : Transaction) (cell : Option Cell) → t.completion ≡ Some c → Linked t → Links (completion_notice m i c t cell)
+completion_notice_links : (m : Moment) (from : Option Epr) (i : Option (List ℕ)) (c : Completion) (t : Transaction) (cell : Option Cell) → t.completion ≡ Some c → Linked t → Links (completion_notice m from i c t cell)
 unfolding completion_notice
-completion_notice_links m i c t None e h = h
-completion_notice_links m i c t (Some cell) e h = completion_act_links m i c t cell.act e h
+completion_notice_links m from i c t None e h = h
+completion_notice_links m from i c t (Some cell) e h = completion_act_links m from i c t cell.act e h
 
 pub completion_links : (m : Moment) (a : Arrived) (t : Transaction) (c : Completion) (x : Message) → t.completion ≡ Some c → Linked t → Links (on_completion m a t c x)
 unfolding on_completion
-completion_links m a t c (messages.Notice n) e h = completion_notice_links m a.id c t (completion_of c.state n) e h
+completion_links m a t c (messages.Notice n) e h = completion_notice_links m a.from a.id c t (completion_of c.state n) e h
 completion_links m a t c other e h = h
 
 pub due_links : (m : Moment) (t : Transaction) (reached : Reached) → Linked t → Links (transaction_reached m t reached)

@@ -1,5 +1,5 @@
 -- Ids stay drawn over steps and starts, so no node makes one twice.
-use Rattle.std.specs.Prelude.{ℕ, List, [], ◌∷◌, Some, None, Bool, true, false, ◌+◌, if◌then◌else◌, ◌≡◌, ◌≤◌, ◌<◌, ◌⊎◌, refl}
+use Rattle.std.specs.Prelude.{ℕ, List, [], ◌∷◌, Some, None, Bool, true, false, ◌||◌, ◌+◌, if◌then◌else◌, ◌≡◌, ◌≤◌, ◌<◌, ◌⊎◌, refl}
 use Rattle.std.specs.List.{list_any, AllByRecursion}
 use Rattle.std.proofs.Common.{inl, inr, sym, subst, ap, arith, ◌∙◌}
 use Rattle.at_base.specs.Numbers.{Numbers}
@@ -11,10 +11,10 @@ use Rattle.at_base.specs.declared.event.Event.{Event}
 use Rattle.at_model.specs.Book.{Book, Transaction, Leaf, Activity, transaction_id, leaf_id, next_id}
 use Rattle.at_model.specs.Arrivals.{with_answer}
 use Rattle.at_model.specs.Step.{Outcome, Plan, plain, at_time, moment_of, put_transaction, put_leaf, put_activity, make_transaction, make_leaf, make_activity, plan, step}
-use Rattle.at_model.specs.Recover.{live, kept, with_commit, last_incarnation, incarnation_of, ends_leaf, ends_transaction, is_sub_committed, transactions_of, leaves_of, is_before, insert_by, in_order, recover, recovered_voted}
+use Rattle.at_model.specs.Recover.{live, kept, with_commit, last_incarnation, incarnation_of, ends_leaf, ends_transaction, is_sub_committed, transactions_of, leaves_of, is_before, insert_by, in_order, recover, recovered_voted, no_seats}
 use Rattle.model_laws.specs.Laws.{IsDrawn, HasId, HasLeafId, KeepsPlace}
 use Rattle.model_laws.specs.Drawn.{AreDrawn, HoldsDrawn, IsDrawnRecord, restarted, IdsStayDrawn}
-use Rattle.model_laws.specs.Shapes.{Shape, nothing_moves, time_moves, transaction_moves, leaf_moves, activity_moves, transaction_registers, transaction_made, leaf_made, activity_made}
+use Rattle.model_laws.specs.Shapes.{Shape, nothing_moves, time_moves, time_passes, transaction_moves, leaf_moves, activity_moves, transaction_registers, transaction_made, leaf_made, activity_made}
 use Rattle.model_laws.proofs.Deciding.{decided_entry, all_find, all_if, all_join, all_more, all_both}
 use Rattle.model_laws.proofs.Keeping.{IsOfTransaction, IsOfLeaf, Names, NamesLeaf, HasBoth, NoRecord, with_answer_kept}
 use Rattle.model_laws.proofs.Drawing.{Holds, Leaves, as_before, one_transaction, one_leaf, one_activity, leaves, moved_kept, leaf_moved_kept, activity_moved_kept}
@@ -137,17 +137,18 @@ shape_about : (T L : Numbers → Type 0) (b : Book) (e : Event) (now : ℕ) (p :
     → Shape b e now p → p.entry ≡ Some r → IsAbout T L r
 shape_about T L b e now p r h i (nothing_moves f) k = absurd (no_entry p _ r f k)
 shape_about T L b e now p r h i (time_moves a os came why o f) k = absurd (no_entry p _ r f k)
+shape_about T L b e now p r h i (time_passes came f) k = absurd (no_entry p _ r f k)
 shape_about T L b e now p r h i (transaction_moves id t answer d stands how o f) k =
-    decided_entry (HasId t.id) (Names t.id) (λ s o. IsAbout T L s) b (put_transaction t.id (at_time now b)) answer (with_answer (moment_of b now) t d) r
+    decided_entry (HasId t.id) (Names t.id) (λ s o. IsAbout T L s) (λ s r o i. i) b (put_transaction t.id (at_time now b)) answer (with_answer (moment_of b now) t d) r
     (with_answer_kept t.id (moment_of b now) t d (moved_kept b e now t d how))
     (λ s c j m. about_transaction t.id (all_find (λ x. T x.id) transaction_id id b.transactions t h stands) m)
     (sym (ap (λ x. x.entry) f) ∙ k)
 shape_about T L b e now p r h i (leaf_moves id l answer d stands how o f) k =
-    decided_entry (HasLeafId l.id) (NamesLeaf l.id) (λ s o. IsAbout T L s) b (put_leaf l.id (at_time now b)) answer d r (leaf_moved_kept b e now l d how)
+    decided_entry (HasLeafId l.id) (NamesLeaf l.id) (λ s o. IsAbout T L s) (λ s r o i. i) b (put_leaf l.id (at_time now b)) answer d r (leaf_moved_kept b e now l d how)
     (λ s c j m. about_leaf l.id (all_find (λ x. L x.id) leaf_id id b.leaves l i stands) m)
     (sym (ap (λ x. x.entry) f) ∙ k)
 shape_about T L b e now p r h i (activity_moves id a answer d stands how o f) k =
-    decided_entry (HasBoth a) NoRecord (λ s o. IsAbout T L s) b (put_activity a.id (at_time now b)) answer d r (activity_moved_kept b e now a d how)
+    decided_entry (HasBoth a) NoRecord (λ s o. IsAbout T L s) (λ s r o i. i) b (put_activity a.id (at_time now b)) answer d r (activity_moved_kept b e now a d how)
     (λ s c j m. absurd m) (sym (ap (λ x. x.entry) f) ∙ k)
 shape_about T L b e now p r h i (transaction_registers id a c t stands came at says o f) k = absurd (no_entry p _ r f k)
 shape_about T L b e now p r h i (transaction_made a c id t os came at says next made sent o f) k = absurd (no_entry p _ r f k)
@@ -183,12 +184,13 @@ all_live P (r ∷ rest) commits (h, k) = all_join P (kept r rest) (live rest) (k
     kept_one P (records.Voted id s seats) rest commits h =
         maybe P (list_any (ends_transaction id) rest) (records.Voted id s seats ∷ with_commit id rest)
         (h, maybe_one P (list_any (is_sub_committed id) rest) (records.SubCommitted id) (commits id s seats h))
-    kept_one P (records.Decided id seats) rest commits h = maybe P (list_any (ends_transaction id) rest) (records.Decided id seats ∷ []) (h, tt)
+    kept_one P (records.Decided id seats) rest commits h = maybe P (no_seats seats || list_any (ends_transaction id) rest) (records.Decided id seats ∷ []) (h, tt)
     kept_one P (records.Start n) rest commits h = tt
     kept_one P (records.LeafCommitted id) rest commits h = tt
     kept_one P (records.LeafAborted id) rest commits h = tt
     kept_one P (records.SubCommitted id) rest commits h = tt
     kept_one P (records.Ended id) rest commits h = tt
+    kept_one P (records.Done id) rest commits h = tt
 
 pub all_insert : {A : Type 0} (P : A → Type 0) (key : A → Numbers) (x : A) (xs : List A) → P x → AllByRecursion P xs → AllByRecursion P (insert_by key x xs)
 all_insert P key x [] h k = (h, tt)
@@ -208,6 +210,7 @@ Earlier n (records.Voted id s seats) = id.incarnation < n
 Earlier n (records.Decided id seats) = id.incarnation < n
 Earlier n (records.SubCommitted id) = id.incarnation < n
 Earlier n (records.Ended id) = id.incarnation < n
+Earlier n (records.Done id) = id.incarnation < n
 
 earlier : (n : ℕ) (r : Record) → incarnation_of r < n → Earlier n r
 earlier n (records.Start i) h = tt
@@ -218,6 +221,7 @@ earlier n (records.Voted id s seats) h = h
 earlier n (records.Decided id seats) h = h
 earlier n (records.SubCommitted id) h = h
 earlier n (records.Ended id) h = h
+earlier n (records.Done id) h = h
 
 voted_id : (base : List ℕ) (n : ℕ) (id : Numbers) (s : Epr) (seats : List Seated) (committed : Bool) → id.incarnation < n → (recovered_voted id s seats committed).id.incarnation < n
 voted_id base n id s seats true h = h
@@ -234,6 +238,7 @@ transactions_earlier base n (records.LeafCommitted id ∷ rest) (h, k) = transac
 transactions_earlier base n (records.LeafAborted id ∷ rest) (h, k) = transactions_earlier base n rest k
 transactions_earlier base n (records.SubCommitted id ∷ rest) (h, k) = transactions_earlier base n rest k
 transactions_earlier base n (records.Ended id ∷ rest) (h, k) = transactions_earlier base n rest k
+transactions_earlier base n (records.Done id ∷ rest) (h, k) = transactions_earlier base n rest k
 
 leaves_earlier : (n : ℕ) (rs : List Record) → AllByRecursion (Earlier n) rs → AllByRecursion (λ l. l.id.incarnation < n) (leaves_of rs)
 leaves_earlier n [] h = tt
@@ -245,6 +250,7 @@ leaves_earlier n (records.LeafCommitted id ∷ rest) (h, k) = leaves_earlier n r
 leaves_earlier n (records.LeafAborted id ∷ rest) (h, k) = leaves_earlier n rest k
 leaves_earlier n (records.SubCommitted id ∷ rest) (h, k) = leaves_earlier n rest k
 leaves_earlier n (records.Ended id ∷ rest) (h, k) = leaves_earlier n rest k
+leaves_earlier n (records.Done id ∷ rest) (h, k) = leaves_earlier n rest k
 
 -- the records that are live behind a new Start
 live_earlier : (rs : List Record) → AllByRecursion (Earlier (last_incarnation (restarted rs))) (live (restarted rs))
@@ -280,6 +286,7 @@ record_before b n e (records.Voted id s seats) h = inl (omega (arith, e, h))
 record_before b n e (records.Decided id seats) h = inl (omega (arith, e, h))
 record_before b n e (records.SubCommitted id) h = inl (omega (arith, e, h))
 record_before b n e (records.Ended id) h = inl (omega (arith, e, h))
+record_before b n e (records.Done id) h = inl (omega (arith, e, h))
 
 at_most : (a b : ℕ) → b ≡ a → a ≤ b
 at_most a b e = omega (arith, e)

@@ -1,8 +1,8 @@
 -- The single steps, by computation.
 use Rattle.std.specs.Prelude.{refl}
-use Rattle.model_laws.specs.Singles.{VolatileRollbackAnswers, AbortedAtPrepared, RelatesToIsCompared, CommitIsUndone}
+use Rattle.model_laws.specs.Singles.{VolatileRollbackAnswers, AbortedAtPrepared, RelatesToIsCompared, OutcomeIsKept, CommitIsUndone}
 use Rattle.at_model.specs.Abort.{abort}
-use Rattle.at_model.specs.Phases.{decided, root_answered, voted, sub_answered, go_durable, volatile_answered, all_committed, advance_in, go_volatile}
+use Rattle.at_model.specs.Phases.{decided, committed, root_answered, voted, sub_answered, go_durable, volatile_answered, all_committed, advance_in, go_volatile}
 use Rattle.at_model.specs.Arrivals.{seat_act, seat_notice, commit_voted, link_act, link_notice, completion_act, completion_notice, link_registered, link_fault, on_link, on_seat, on_completion}
 use Rattle.at_model.specs.Register.{accept, register_new, register_again, on_register, register_unknown}
 use Rattle.at_model.specs.Create.{create_under, create_in, on_create}
@@ -16,17 +16,21 @@ use Rattle.uuid.specs.Text.{by_index}
 use Rattle.std.specs.Fmt.{digits}
 
 pub volatile_rollback_answers : VolatileRollbackAnswers
-unfolding abort decided root_answered voted sub_answered go_durable volatile_answered all_committed advance_in go_volatile seat_act seat_notice commit_voted link_act link_notice completion_act completion_notice link_registered link_fault on_link on_seat on_completion accept register_new register_again on_register register_unknown create_under create_in on_create leaf_votes leaf_commit leaf_roll_back leaf_act leaf_notice leaf_registered leaf_fault on_leaf on_work activity_act activity_notice activity_created activity_registered activity_fault on_activity on_begin on_interpose on_ask on_complete transaction_reached leaf_reached activity_reached activation_plan registration_plan completion_plan coordinator_plan participant_plan initiator_plan work_plan arrived_plan request_plan due_plan world_step sha1 first_words schedule rounds compress hash_after digest_bytes by_index digits
+unfolding abort decided committed root_answered voted sub_answered go_durable volatile_answered all_committed advance_in go_volatile seat_act seat_notice commit_voted link_act link_notice completion_act completion_notice link_registered link_fault on_link on_seat on_completion accept register_new register_again on_register register_unknown create_under create_in on_create leaf_votes leaf_commit leaf_roll_back leaf_act leaf_notice leaf_registered leaf_fault on_leaf on_work activity_act activity_notice activity_created activity_registered activity_fault on_activity on_begin on_interpose on_ask on_complete transaction_reached leaf_reached activity_reached activation_plan registration_plan completion_plan coordinator_plan participant_plan initiator_plan work_plan arrived_plan request_plan due_plan world_step sha1 first_words schedule rounds compress hash_after digest_bytes by_index digits
 volatile_rollback_answers = (record { transactions = refl; leaves = refl; posted = refl; quiet = refl }, record { transactions = refl; leaves = refl; posted = refl; quiet = refl })
 
 pub aborted_at_prepared : AbortedAtPrepared
-unfolding abort decided root_answered voted sub_answered go_durable volatile_answered all_committed advance_in go_volatile seat_act seat_notice commit_voted link_act link_notice completion_act completion_notice link_registered link_fault on_link on_seat on_completion accept register_new register_again on_register register_unknown create_under create_in on_create leaf_votes leaf_commit leaf_roll_back leaf_act leaf_notice leaf_registered leaf_fault on_leaf on_work activity_act activity_notice activity_created activity_registered activity_fault on_activity on_begin on_interpose on_ask on_complete transaction_reached leaf_reached activity_reached activation_plan registration_plan completion_plan coordinator_plan participant_plan initiator_plan work_plan arrived_plan request_plan due_plan world_step sha1 first_words schedule rounds compress hash_after digest_bytes by_index digits
+unfolding abort decided committed root_answered voted sub_answered go_durable volatile_answered all_committed advance_in go_volatile seat_act seat_notice commit_voted link_act link_notice completion_act completion_notice link_registered link_fault on_link on_seat on_completion accept register_new register_again on_register register_unknown create_under create_in on_create leaf_votes leaf_commit leaf_roll_back leaf_act leaf_notice leaf_registered leaf_fault on_leaf on_work activity_act activity_notice activity_created activity_registered activity_fault on_activity on_begin on_interpose on_ask on_complete transaction_reached leaf_reached activity_reached activation_plan registration_plan completion_plan coordinator_plan participant_plan initiator_plan work_plan arrived_plan request_plan due_plan world_step sha1 first_words schedule rounds compress hash_after digest_bytes by_index digits
 aborted_at_prepared = record { transactions = refl; leaves = refl; posted = refl; quiet = refl }
 
 pub relates_to_is_compared : RelatesToIsCompared
-unfolding abort decided root_answered voted sub_answered go_durable volatile_answered all_committed advance_in go_volatile seat_act seat_notice commit_voted link_act link_notice completion_act completion_notice link_registered link_fault on_link on_seat on_completion accept register_new register_again on_register register_unknown create_under create_in on_create leaf_votes leaf_commit leaf_roll_back leaf_act leaf_notice leaf_registered leaf_fault on_leaf on_work activity_act activity_notice activity_created activity_registered activity_fault on_activity on_begin on_interpose on_ask on_complete transaction_reached leaf_reached activity_reached activation_plan registration_plan completion_plan coordinator_plan participant_plan initiator_plan work_plan arrived_plan request_plan due_plan world_step sha1 first_words schedule rounds compress hash_after digest_bytes by_index digits
+unfolding abort decided committed root_answered voted sub_answered go_durable volatile_answered all_committed advance_in go_volatile seat_act seat_notice commit_voted link_act link_notice completion_act completion_notice link_registered link_fault on_link on_seat on_completion accept register_new register_again on_register register_unknown create_under create_in on_create leaf_votes leaf_commit leaf_roll_back leaf_act leaf_notice leaf_registered leaf_fault on_leaf on_work activity_act activity_notice activity_created activity_registered activity_fault on_activity on_begin on_interpose on_ask on_complete transaction_reached leaf_reached activity_reached activation_plan registration_plan completion_plan coordinator_plan participant_plan initiator_plan work_plan arrived_plan request_plan due_plan world_step sha1 first_words schedule rounds compress hash_after digest_bytes by_index digits
 relates_to_is_compared = (record { transactions = refl; leaves = refl; posted = refl; quiet = refl }, (record { transactions = refl; leaves = refl; posted = refl; quiet = refl }, record { transactions = refl; leaves = refl; posted = refl; quiet = refl }))
 
+pub outcome_is_kept : OutcomeIsKept
+unfolding abort decided committed root_answered voted sub_answered go_durable volatile_answered all_committed advance_in go_volatile seat_act seat_notice commit_voted link_act link_notice completion_act completion_notice link_registered link_fault on_link on_seat on_completion accept register_new register_again on_register register_unknown create_under create_in on_create leaf_votes leaf_commit leaf_roll_back leaf_act leaf_notice leaf_registered leaf_fault on_leaf on_work activity_act activity_notice activity_created activity_registered activity_fault on_activity on_begin on_interpose on_ask on_complete transaction_reached leaf_reached activity_reached activation_plan registration_plan completion_plan coordinator_plan participant_plan initiator_plan work_plan arrived_plan request_plan due_plan world_step sha1 first_words schedule rounds compress hash_after digest_bytes by_index digits
+outcome_is_kept = (record { transactions = refl; leaves = refl; posted = refl; quiet = refl }, (record { transactions = refl; leaves = refl; posted = refl; quiet = refl }, record { transactions = refl; leaves = refl; posted = refl; quiet = refl }))
+
 pub commit_is_undone : CommitIsUndone
-unfolding abort decided root_answered voted sub_answered go_durable volatile_answered all_committed advance_in go_volatile seat_act seat_notice commit_voted link_act link_notice completion_act completion_notice link_registered link_fault on_link on_seat on_completion accept register_new register_again on_register register_unknown create_under create_in on_create leaf_votes leaf_commit leaf_roll_back leaf_act leaf_notice leaf_registered leaf_fault on_leaf on_work activity_act activity_notice activity_created activity_registered activity_fault on_activity on_begin on_interpose on_ask on_complete transaction_reached leaf_reached activity_reached activation_plan registration_plan completion_plan coordinator_plan participant_plan initiator_plan work_plan arrived_plan request_plan due_plan world_step sha1 first_words schedule rounds compress hash_after digest_bytes by_index digits
+unfolding abort decided committed root_answered voted sub_answered go_durable volatile_answered all_committed advance_in go_volatile seat_act seat_notice commit_voted link_act link_notice completion_act completion_notice link_registered link_fault on_link on_seat on_completion accept register_new register_again on_register register_unknown create_under create_in on_create leaf_votes leaf_commit leaf_roll_back leaf_act leaf_notice leaf_registered leaf_fault on_leaf on_work activity_act activity_notice activity_created activity_registered activity_fault on_activity on_begin on_interpose on_ask on_complete transaction_reached leaf_reached activity_reached activation_plan registration_plan completion_plan coordinator_plan participant_plan initiator_plan work_plan arrived_plan request_plan due_plan world_step sha1 first_words schedule rounds compress hash_after digest_bytes by_index digits
 commit_is_undone = refl

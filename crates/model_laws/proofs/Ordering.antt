@@ -13,17 +13,19 @@ use Rattle.at_base.specs.declared.event.Event.{Event}
 use Rattle.at_base.specs.declared.event.Event.TheVariants as events
 use Rattle.at_base.specs.declared.event.Item.{Item}
 use Rattle.at_base.specs.declared.event.Item.TheVariants as items
+use Rattle.at_model.specs.Moves.{Change, Decision}
+use Rattle.at_model.specs.Posts.{accepted}
 use Rattle.at_model.specs.Book.{Book, Transaction, Leaf, Activity, is_id, put_by, transaction_id, leaf_id, activity_id, next_id, last_counter}
 use Rattle.at_model.specs.Arrivals.{with_answer}
 use Rattle.at_model.specs.Register.{on_register}
 use Rattle.at_model.specs.Due.{Reached, Expired, Over, Unanswered, Nothing, transaction_due, transaction_reached, leaf_due, leaf_reached, activity_due, activity_reached}
-use Rattle.at_model.specs.Step.{Outcome, Plan, still, at_time, moment_of, is_under, put_transaction, put_leaf, put_activity, put_activities, make_transaction, make_leaf, make_activity, registration_outcome, transaction_at, leaf_at, activity_at, transaction_due_plan, leaf_due_plan, activity_due_plan, due_plan, transaction_plan, leaf_plan, activity_plan, plan, step}
+use Rattle.at_model.specs.Step.{Outcome, Plan, still, at_time, moment_of, is_under, put_transaction, put_leaf, put_activity, put_activities, make_transaction, make_leaf, make_activity, registration_outcome, transaction_at, leaf_at, activity_at, transaction_due_plan, leaf_due_plan, activity_due_plan, due_plan, transaction_plan, leaf_plan, activity_plan, plan, step, plan_of}
 use Rattle.at_model.specs.Recover.{is_before, insert_by, in_order, live, with_commit, ends_leaf, ends_transaction, is_sub_committed, transactions_of, leaves_of, recovered_voted, last_incarnation, recover}
 use Rattle.model_laws.specs.Laws.{IsDrawn, HasId, HasLeafId}
 use Rattle.model_laws.specs.Drawn.{AreDrawn, restarted, Life, LifeEvent, Stepped, Stopped, Started, newborn, live_through, life_of}
 use Rattle.model_laws.specs.Order.{AreRising, IsRising, IsInOrder, IsInOrderWhileUp, AreOf, HoldsNoMore, IdsRise}
-use Rattle.model_laws.specs.Shapes.{Shape, nothing_moves, time_moves, transaction_moves, leaf_moves, activity_moves, transaction_registers, transaction_made, leaf_made, activity_made, MakesActivity, begins, interposes}
-use Rattle.model_laws.proofs.Deciding.{Both, in_branch, plain_both, IfThere, decided_both, all_join, all_more, all_map, first_true, second_true}
+use Rattle.model_laws.specs.Shapes.{Shape, nothing_moves, time_moves, time_passes, transaction_moves, leaf_moves, activity_moves, transaction_registers, transaction_made, leaf_made, activity_made, MakesActivity, begins, interposes}
+use Rattle.model_laws.proofs.Deciding.{Both, in_branch, plain_both, IfThere, decided_both, all_join, all_more, all_map, first_true, second_true, StaysOn, DecisionHas}
 use Rattle.model_laws.proofs.Keeping.{Names, NamesLeaf, HasBoth, NoRecord, with_answer_kept, due_kept, leaf_due_kept, activity_due_kept}
 use Rattle.model_laws.proofs.Drawing.{moved_kept, leaf_moved_kept, activity_moved_kept}
 use Rattle.model_laws.proofs.Making.{makes_under_the_next_id, next_numbers}
@@ -249,6 +251,15 @@ made_activity_id b e now id a os (begins coordinator ms came is sent) = ap (λ x
 made_activity_id b e now id a os (interposes coordinator named x came found is sent) =
     ap (λ x. x.id) is ∙ makes_under_the_next_id.interposed (moment_of b now) id coordinator x.root x.context
 
+more_on : (b : Book) → StaysOn (λ o. HoldsNoMore b o.book)
+more_on b r o h = record { transactions = h.transactions; leaves = h.leaves; activities = h.activities }
+
+moved_leaves : {X : Type 0} (P : Option X → Type 0) (Q : Record → Option X → Type 0) (b : Book) (now : ℕ) (put : Option X → Book) (answer : List Out)
+    (d : Decision X) → DecisionHas P Q d → ((c : Change X) → P c.item → HoldsNoMore b (put c.item)) → HoldsNoMore b b → Both (Leaves b now) (plan_of b put answer d)
+moved_leaves P Q b now put answer d has f h =
+    let k : Both (λ o. HoldsNoMore b o.book) (plan_of b put answer d) = decided_both P Q (λ o. HoldsNoMore b o.book) (more_on b) b put answer d has f h in
+    record { landed = as_before k.landed; absent = as_before k.absent }
+
 step_leaves : (b : Book) (e : Event) (now : ℕ) (p : Plan) → Shape b e now p → Both (Leaves b now) p
 step_leaves b e now p (nothing_moves f) = subst (Both (Leaves b now)) (sym f) (plain_both (Leaves b now) (still b []) (as_before (no_more b)))
 step_leaves b e now p (time_moves a os came why o f) =
@@ -256,18 +267,21 @@ step_leaves b e now p (time_moves a os came why o f) =
   where
     same_book : HoldsNoMore b (at_time now b)
     same_book = record { transactions = all_of (map transaction_id b.transactions); leaves = all_of (map leaf_id b.leaves); activities = all_of (map activity_id b.activities) }
+step_leaves b e now p (time_passes came f) =
+    subst (Both (Leaves b now)) (sym f) (plain_both (Leaves b now) (still (at_time now b) accepted)
+    (as_before (record { transactions = all_of (map transaction_id b.transactions); leaves = all_of (map leaf_id b.leaves); activities = all_of (map activity_id b.activities) })))
 step_leaves b e now p (transaction_moves id t answer d stands how o f) =
     subst (Both (Leaves b now)) (sym f)
-    (decided_both (HasId t.id) (Names t.id) (Leaves b now) b (put_transaction t.id (at_time now b)) answer (with_answer (moment_of b now) t d)
-    (with_answer_kept t.id (moment_of b now) t d (moved_kept b e now t d how)) (λ c k. as_before (put_no_more b now t.id c.item k)) (as_before (no_more b)))
+    (moved_leaves (HasId t.id) (Names t.id) b now (put_transaction t.id (at_time now b)) answer (with_answer (moment_of b now) t d)
+    (with_answer_kept t.id (moment_of b now) t d (moved_kept b e now t d how)) (λ c k. put_no_more b now t.id c.item k) (no_more b))
 step_leaves b e now p (leaf_moves id l answer d stands how o f) =
     subst (Both (Leaves b now)) (sym f)
-    (decided_both (HasLeafId l.id) (NamesLeaf l.id) (Leaves b now) b (put_leaf l.id (at_time now b)) answer d (leaf_moved_kept b e now l d how)
-    (λ c k. as_before (put_leaf_no_more b now l.id c.item k)) (as_before (no_more b)))
+    (moved_leaves (HasLeafId l.id) (NamesLeaf l.id) b now (put_leaf l.id (at_time now b)) answer d (leaf_moved_kept b e now l d how)
+    (λ c k. put_leaf_no_more b now l.id c.item k) (no_more b))
 step_leaves b e now p (activity_moves id a answer d stands how o f) =
     subst (Both (Leaves b now)) (sym f)
-    (decided_both (HasBoth a) NoRecord (Leaves b now) b (put_activity a.id (at_time now b)) answer d (activity_moved_kept b e now a d how)
-    (λ c k. as_before (put_activity_no_more b now a c.item k)) (as_before (no_more b)))
+    (moved_leaves (HasBoth a) NoRecord b now (put_activity a.id (at_time now b)) answer d (activity_moved_kept b e now a d how)
+    (λ c k. put_activity_no_more b now a c.item k) (no_more b))
 step_leaves b e now p (transaction_registers id a r t stands came at says o f) =
     subst (Both (Leaves b now)) (sym f)
     (plain_both (Leaves b now) (registration_outcome b now (on_register (moment_of b now) a r t))
@@ -322,7 +336,7 @@ due_no_more b now (items.Transaction id) = transaction_case (transaction_at b id
     transaction_case : (t : Option Transaction) → Both (λ o. HoldsNoMore b o.book) (transaction_due_plan b now t)
     transaction_case None = plain_both (λ o. HoldsNoMore b o.book) (still b []) (no_more b)
     transaction_case (Some t) =
-        decided_both (HasId t.id) (Names t.id) (λ o. HoldsNoMore b o.book) b (put_transaction t.id (at_time now b)) []
+        decided_both (HasId t.id) (Names t.id) (λ o. HoldsNoMore b o.book) (more_on b) b (put_transaction t.id (at_time now b)) []
         (with_answer (moment_of b now) t (transaction_reached (moment_of b now) t (transaction_due (moment_of b now) t)))
         (with_answer_kept t.id (moment_of b now) t _ (due_kept t.id (moment_of b now) t (transaction_due (moment_of b now) t) refl))
         (λ c k. put_no_more b now t.id c.item k) (no_more b)
@@ -331,7 +345,7 @@ due_no_more b now (items.Leaf id) = leaf_case (leaf_at b id)
     leaf_case : (l : Option Leaf) → Both (λ o. HoldsNoMore b o.book) (leaf_due_plan b now l)
     leaf_case None = plain_both (λ o. HoldsNoMore b o.book) (still b []) (no_more b)
     leaf_case (Some l) =
-        decided_both (HasLeafId l.id) (NamesLeaf l.id) (λ o. HoldsNoMore b o.book) b (put_leaf l.id (at_time now b)) []
+        decided_both (HasLeafId l.id) (NamesLeaf l.id) (λ o. HoldsNoMore b o.book) (more_on b) b (put_leaf l.id (at_time now b)) []
         (leaf_reached (moment_of b now) l (leaf_due (moment_of b now) l)) (leaf_due_kept l.id (moment_of b now) l (leaf_due (moment_of b now) l) refl)
         (λ c k. put_leaf_no_more b now l.id c.item k) (no_more b)
 due_no_more b now (items.Activity id) = activity_case (activity_at b id)
@@ -339,7 +353,7 @@ due_no_more b now (items.Activity id) = activity_case (activity_at b id)
     activity_case : (a : Option Activity) → Both (λ o. HoldsNoMore b o.book) (activity_due_plan b now a)
     activity_case None = plain_both (λ o. HoldsNoMore b o.book) (still b []) (no_more b)
     activity_case (Some a) =
-        decided_both (HasBoth a) NoRecord (λ o. HoldsNoMore b o.book) b (put_activity a.id (at_time now b)) []
+        decided_both (HasBoth a) NoRecord (λ o. HoldsNoMore b o.book) (more_on b) b (put_activity a.id (at_time now b)) []
         (activity_reached (moment_of b now) a (activity_due (moment_of b now) a)) (activity_due_kept (moment_of b now) a (activity_due (moment_of b now) a))
         (λ c k. put_activity_no_more b now a c.item k) (no_more b)
 
@@ -443,6 +457,8 @@ no_transaction base id (records.SubCommitted i ∷ rest) e =
     no_transaction base id rest (or_false (ends_transaction id (records.SubCommitted i)) (list_any (ends_transaction id) rest) e).1
 no_transaction base id (records.Ended i ∷ rest) e =
     no_transaction base id rest (or_false (ends_transaction id (records.Ended i)) (list_any (ends_transaction id) rest) e).1
+no_transaction base id (records.Done i ∷ rest) e =
+    no_transaction base id rest (or_false (ends_transaction id (records.Done i)) (list_any (ends_transaction id) rest) e).1
 
 no_leaf : (id : Numbers) (rs : List Record) → list_any (ends_leaf id) rs ≡ false → AllByRecursion (λ l. l.id ≡ id → ⊥) (leaves_of rs)
 no_leaf id [] e = tt
@@ -456,6 +472,7 @@ no_leaf id (records.LeafCommitted i ∷ rest) e = no_leaf id rest (or_false (end
 no_leaf id (records.LeafAborted i ∷ rest) e = no_leaf id rest (or_false (ends_leaf id (records.LeafAborted i)) (list_any (ends_leaf id) rest) e).1
 no_leaf id (records.SubCommitted i ∷ rest) e = no_leaf id rest (or_false (ends_leaf id (records.SubCommitted i)) (list_any (ends_leaf id) rest) e).1
 no_leaf id (records.Ended i ∷ rest) e = no_leaf id rest (or_false (ends_leaf id (records.Ended i)) (list_any (ends_leaf id) rest) e).1
+no_leaf id (records.Done i ∷ rest) e = no_leaf id rest (or_false (ends_leaf id (records.Done i)) (list_any (ends_leaf id) rest) e).1
 
 -- what a SubCommitted adds
 with_commit_passes : (P : List Transaction → Type 0) (base : List ℕ) (id : Numbers) (rest : List Record) (b : Bool) → P (transactions_of base rest)
@@ -477,10 +494,11 @@ transactions_different base (records.Voted i s seats ∷ rest) = by_case (transa
           (no_transaction base i (live rest) (none_live (ends_transaction i) rest e))),
       with_commit_passes (AreDifferent transaction_id) base i (live rest) (list_any (is_sub_committed i) rest) more,
     )
-transactions_different base (records.Decided i seats ∷ rest) = by_case (transactions_different base rest) (list_any (ends_transaction i) rest) refl
+transactions_different base (records.Decided i [] ∷ rest) = transactions_different base rest
+transactions_different base (records.Decided i (s ∷ seats) ∷ rest) = by_case (transactions_different base rest) (list_any (ends_transaction i) rest) refl
   where
     by_case : AreDifferent transaction_id (transactions_of base (live rest)) → (b : Bool) → list_any (ends_transaction i) rest ≡ b
-        → AreDifferent transaction_id (transactions_of base ((if b then [] else records.Decided i seats ∷ []) ++ live rest))
+        → AreDifferent transaction_id (transactions_of base ((if b then [] else records.Decided i (s ∷ seats) ∷ []) ++ live rest))
     by_case more true e = more
     by_case more false e = (no_transaction base i (live rest) (none_live (ends_transaction i) rest e), more)
 transactions_different base (records.LeafPrepared i c k v ∷ rest) = by_case (transactions_different base rest) (list_any (ends_leaf i) rest)
@@ -493,6 +511,7 @@ transactions_different base (records.LeafCommitted i ∷ rest) = transactions_di
 transactions_different base (records.LeafAborted i ∷ rest) = transactions_different base rest
 transactions_different base (records.SubCommitted i ∷ rest) = transactions_different base rest
 transactions_different base (records.Ended i ∷ rest) = transactions_different base rest
+transactions_different base (records.Done i ∷ rest) = transactions_different base rest
 
 leaf_commit_passes : (P : List Leaf → Type 0) (id : Numbers) (rest : List Record) (b : Bool) → P (leaves_of rest)
     → P (leaves_of ((if b then records.SubCommitted id ∷ [] else []) ++ rest))
@@ -511,9 +530,10 @@ leaves_different (records.Voted i s seats ∷ rest) = by_case (leaves_different 
     by_case : AreDifferent leaf_id (leaves_of (live rest)) → (b : Bool) → AreDifferent leaf_id (leaves_of ((if b then [] else records.Voted i s seats ∷ with_commit i rest) ++ live rest))
     by_case more true = more
     by_case more false = leaf_commit_passes (AreDifferent leaf_id) i (live rest) (list_any (is_sub_committed i) rest) more
-leaves_different (records.Decided i seats ∷ rest) = by_case (leaves_different rest) (list_any (ends_transaction i) rest)
+leaves_different (records.Decided i [] ∷ rest) = leaves_different rest
+leaves_different (records.Decided i (s ∷ seats) ∷ rest) = by_case (leaves_different rest) (list_any (ends_transaction i) rest)
   where
-    by_case : AreDifferent leaf_id (leaves_of (live rest)) → (b : Bool) → AreDifferent leaf_id (leaves_of ((if b then [] else records.Decided i seats ∷ []) ++ live rest))
+    by_case : AreDifferent leaf_id (leaves_of (live rest)) → (b : Bool) → AreDifferent leaf_id (leaves_of ((if b then [] else records.Decided i (s ∷ seats) ∷ []) ++ live rest))
     by_case more true = more
     by_case more false = more
 leaves_different (records.Start n ∷ rest) = leaves_different rest
@@ -521,6 +541,7 @@ leaves_different (records.LeafCommitted i ∷ rest) = leaves_different rest
 leaves_different (records.LeafAborted i ∷ rest) = leaves_different rest
 leaves_different (records.SubCommitted i ∷ rest) = leaves_different rest
 leaves_different (records.Ended i ∷ rest) = leaves_different rest
+leaves_different (records.Done i ∷ rest) = leaves_different rest
 
 recovered_rising : (base : List ℕ) (rs : List Record) → IsRising (recover base rs)
 recovered_rising base rs = record {

@@ -2,7 +2,7 @@
 use Rattle.std.specs.Prelude.{◌⊎◌, ℕ, List, [], ◌∷◌, ◌++◌, Option, Some, None, Bool, true, false, ◌≡◌, refl, if◌then◌else◌, not, ◌&&◌, ◌||◌, nat_eq, map}
 use Rattle.std.specs.List.{list_any, AllByRecursion}
 use Rattle.std.proofs.lemmas.Bool.{eqb-true}
-use Rattle.std.proofs.Common.{inl, inr, ap, sym, subst, ◌∙◌}
+use Rattle.std.proofs.Common.{inl, inr, ap, sym, subst, ◌∙◌, filter}
 use Rattle.at_base.specs.Numbers.{Numbers}
 use Rattle.at_base.specs.declared.epr.Epr.{Epr}
 use Rattle.at_base.specs.declared.notice.Kind.{Kind}
@@ -21,16 +21,16 @@ use Rattle.at_tables.specs.Names.{is_kind, is_state}
 use Rattle.at_tables.specs.Tables.{coordinator_of, completion_of}
 use Rattle.at_model.specs.Book.{Completion, Enlistment, Phase, Request, Superior, Transaction}
 use Rattle.at_model.specs.Moves.{Moving, Change, Decision, begin, become, stays, forgotten}
-use Rattle.at_model.specs.Seats.{answered, all_left, in_state, is_prepared_durable, in_phase, under, ending_of}
+use Rattle.at_model.specs.Seats.{answered, all_left, in_state, is_prepared_durable, in_phase, under, ending_of, seated}
 use Rattle.at_model.specs.Abort.{Reason, Alone, Asked, until_rolled_back, abort}
-use Rattle.at_model.specs.Phases.{decided, root_answered, voted, sub_answered, durable_answered, if_durable_answered, prepare_seats, go_durable, volatile_answered, all_committed, advance_in, advance, go_volatile}
+use Rattle.at_model.specs.Phases.{decided, committed, root_answered, voted, sub_answered, durable_answered, if_durable_answered, prepare_seats, go_durable, volatile_answered, all_committed, advance_in, advance, go_volatile}
 use Rattle.at_model.specs.Arrivals.{seat_act, seat_notice, commit_voted, link_act, link_notice, completion_act, completion_notice, link_registered, link_fault, on_link, on_seat, on_completion, request_answered, answer_request, request_of, with_answer}
 use Rattle.at_model.specs.Due.{Reached, Expired, Over, Unanswered, Nothing, transaction_reached}
 use Rattle.at_base.specs.declared.record.Seated.{Seated}
 use Rattle.at_tables.specs.declared.cells.State.{State}
 use Rattle.at_model.specs.Seats.{is_of, move_if, moved, prepared, seat_in}
 use Rattle.at_model.specs.Arrivals.{registered}
-use Rattle.model_laws.specs.Behind.{StandsBehind, IsUnanswered, accepted_as, AreAnswered, HasDecided, HasVoted}
+use Rattle.model_laws.specs.Behind.{StandsBehind, IsUnanswered, accepted_as, AreAnswered, HasDecided, HasVoted, IsCommitting}
 use Rattle.at_base.specs.declared.outs.Post.{Post}
 use Rattle.at_base.specs.declared.outs.Effect.{Effect}
 use Rattle.at_base.specs.declared.outs.Effect.TheVariants as effects
@@ -193,9 +193,16 @@ pub record Left (old : Transaction) (c : Change Transaction) : Type 0 where
   pub item : IfThere (Stands old) c.item
   pub told : AllByRecursion (IsTold old) c.effects
 
-abbrev pub AtDecided : Transaction → List Seated → Option Transaction → Type 0
-AtDecided old named None = ⊥
-AtDecided old named (Some new) = HasDecided old new named
+-- what a decision that names these seats leaves of the transaction
+abbrev pub IsLeft : List Seated → List Enlistment → Option Transaction → Type 0
+IsLeft [] at None = Unit {0}
+IsLeft [] at (Some t) = ⊥
+IsLeft (s ∷ named) at new = IsCommitting at new
+
+pub record AtDecided (old : Transaction) (named : List Seated) (new : Option Transaction) : Type 0 where
+  pub at : List Enlistment
+  pub behind : AreAnswered old.seats at named
+  pub decided : IsLeft named at new
 
 abbrev pub AtVoted : Transaction → List Seated → Option Transaction → Type 0
 AtVoted old named None = ⊥
@@ -210,6 +217,7 @@ IsBehind old (records.LeafCommitted id) new = Unit {0}
 IsBehind old (records.LeafAborted id) new = Unit {0}
 IsBehind old (records.SubCommitted id) new = Unit {0}
 IsBehind old (records.Ended id) new = Unit {0}
+IsBehind old (records.Done id) new = Unit {0}
 
 abbrev pub Fine : Transaction → Decision Transaction → Type 0
 Fine old d = DecisionSays (Left old) (λ r c. IsBehind old r c.item) d
@@ -274,20 +282,67 @@ decided_fine old m g h = record {
   behind = told_answered g.item.seats h.volatile h.durable;
 }
 
-decided_behind : (old : Transaction) (m : Moment) (g : Moving Transaction) → All old g → HasDecided old (decided m g).item (prepared g.item.seats)
+-- a record that names seats, and one that names none
+record IsSome (named : List Seated) : Type 0 where
+  first : Seated
+  others : List Seated
+  is : named ≡ first ∷ others
+
+some_prepared : (seats : List Enlistment) → list_any is_prepared_durable seats ≡ true → IsSome (prepared seats)
+some_prepared [] e = absurd cc
+some_prepared (s ∷ ss) e = by_test (is_prepared_durable s) (λ f. some_prepared ss f) e
+  where
+    by_test : (b : Bool) → (list_any is_prepared_durable ss ≡ true → IsSome (prepared ss)) → (b || list_any is_prepared_durable ss) ≡ true
+        → IsSome (map seated (if b then s ∷ filter is_prepared_durable ss else filter is_prepared_durable ss))
+    by_test true rest f = record { first = seated s; others = prepared ss; is = refl }
+    by_test false rest f = rest f
+
+none_prepared : (seats : List Enlistment) → list_any is_prepared_durable seats ≡ false → prepared seats ≡ []
+none_prepared [] e = refl
+none_prepared (s ∷ ss) e = by_test (is_prepared_durable s) (λ f. none_prepared ss f) e
+  where
+    by_test : (b : Bool) → (list_any is_prepared_durable ss ≡ false → prepared ss ≡ []) → (b || list_any is_prepared_durable ss) ≡ false
+        → map seated (if b then s ∷ filter is_prepared_durable ss else filter is_prepared_durable ss) ≡ []
+    by_test true rest f = absurd cc
+    by_test false rest f = rest f
+
+ended_as : (named : List Seated) (at : List Enlistment) (x : Moving Transaction) (b : Bool) → (b ≡ true → IsSome named) → (b ≡ false → named ≡ [])
+    → x.item.phase ≡ Phase.Committing → x.item.seats ≡ moved (in_state states.Prepared) states.Committing at → IsLeft named at (if b then stays x else forgotten x).item
+ended_as named at x true some none e f =
+    let s : IsSome named = some refl in
+    subst (λ l. IsLeft l at (Some x.item)) (sym s.is) (e, f)
+ended_as named at x false some none e f = subst (λ l. IsLeft l at None) (sym (none refl)) tt
+
+decided_phase : (m : Moment) (g : Moving Transaction) → (decided m g).item.phase ≡ Phase.Committing
 unfolding decided
-decided_behind old m g h = record { at = g.item.seats; behind = at_decision old g h; phase = refl; told = refl }
+decided_phase m g = refl
+
+decided_seats : (m : Moment) (g : Moving Transaction) → (decided m g).item.seats ≡ moved (in_state states.Prepared) states.Committing g.item.seats
+unfolding decided
+decided_seats m g = refl
+
+decided_behind : (old : Transaction) (m : Moment) (g : Moving Transaction) → All old g → AtDecided old (prepared g.item.seats) (committed m g).item
+unfolding committed
+decided_behind old m g h = record {
+  at = g.item.seats;
+  behind = at_decision old g h;
+  decided = ended_as (prepared g.item.seats) g.item.seats (decided m g) (list_any is_prepared_durable g.item.seats) (some_prepared g.item.seats) (none_prepared g.item.seats)
+      (decided_phase m g) (decided_seats m g);
+}
+
+committed_fine : (old : Transaction) (m : Moment) (g : Moving Transaction) → All old g → Left old (committed m g)
+unfolding committed
+committed_fine old m g h =
+    either_left (Left old) (list_any is_prepared_durable g.item.seats) (stays (decided m g)) (forgotten (decided m g))
+    (record { item = decided_fine old m g h; told = decided_told old m g h }) (record { item = tt; told = decided_told old m g h })
 
 root_fine : (old : Transaction) (m : Moment) (g : Moving Transaction) → All old g → Fine old (root_answered m g)
 unfolding root_answered
-root_fine old m g h =
-    either old (list_any is_prepared_durable g.item.seats) _ _
-    (λ e. record {
-      entry = (h.from.own, decided_behind old m g h);
-      landed = record { item = decided_fine old m g h; told = decided_told old m g h };
-      otherwise = abort_fine old m Alone g h.from;
-    })
-    (λ e. record { item = tt; told = decided_told old m g h })
+root_fine old m g h = record {
+  entry = (h.from.own, decided_behind old m g h);
+  landed = committed_fine old m g h;
+  otherwise = abort_fine old m Alone g h.from;
+}
 
 voted_fine : (old : Transaction) (m : Moment) (s : Superior) (g : Moving Transaction) → All old g → Left old (stays (voted m s g))
 unfolding voted
@@ -511,22 +566,23 @@ link_fine m a kind t s (messages.RegisterResponse coordinator) e l h = link_regi
 link_fine m a kind t s (messages.Fault name) e l h = link_fault_fine m a.relates kind s t h
 link_fine m a kind t s other e l h = unmoved_left t h
 
-completion_act_fine : (m : Moment) (i : Option (List ℕ)) (c : Completion) (t : Transaction) (act : Act) → StandsBehind t.phase t.seats → Fine t (completion_act m i c t act)
+completion_act_fine : (m : Moment) (from : Option Epr) (i : Option (List ℕ)) (c : Completion) (t : Transaction) (act : Act) → StandsBehind t.phase t.seats → Fine t (completion_act m from i c t act)
 unfolding completion_act
-completion_act_fine m i c t acts.FaultUnknownTransaction h = record { item = unmoved t h; told = tt }
-completion_act_fine m i c t acts.FaultInvalidState h = record { item = unmoved t h; told = tt }
-completion_act_fine m i c t acts.Complete h = go_volatile_fine t m _ (record { own = refl; accepted = refl; told = tt; last = 0; follows = follow_same 0 t.seats })
-completion_act_fine m i c t acts.AbortAndSendAborted h = abort_fine t m Alone (begin t) (same t [])
-completion_act_fine m i c t other h = unmoved_left t h
+completion_act_fine m from i c t acts.SendCommitted h = record { item = unmoved t h; told = tt }
+completion_act_fine m from i c t acts.FaultUnknownTransaction h = record { item = unmoved t h; told = tt }
+completion_act_fine m from i c t acts.FaultInvalidState h = record { item = unmoved t h; told = tt }
+completion_act_fine m from i c t acts.Complete h = go_volatile_fine t m _ (record { own = refl; accepted = refl; told = tt; last = 0; follows = follow_same 0 t.seats })
+completion_act_fine m from i c t acts.AbortAndSendAborted h = abort_fine t m Alone (begin t) (same t [])
+completion_act_fine m from i c t other h = unmoved_left t h
 
-completion_notice_fine : (m : Moment) (i : Option (List ℕ)) (c : Completion) (t : Transaction) (cell : Option Cell) → StandsBehind t.phase t.seats → Fine t (completion_notice m i c t cell)
+completion_notice_fine : (m : Moment) (from : Option Epr) (i : Option (List ℕ)) (c : Completion) (t : Transaction) (cell : Option Cell) → StandsBehind t.phase t.seats → Fine t (completion_notice m from i c t cell)
 unfolding completion_notice
-completion_notice_fine m i c t None h = unmoved_left t h
-completion_notice_fine m i c t (Some cell) h = completion_act_fine m i c t cell.act h
+completion_notice_fine m from i c t None h = unmoved_left t h
+completion_notice_fine m from i c t (Some cell) h = completion_act_fine m from i c t cell.act h
 
 pub completion_fine : (m : Moment) (a : Arrived) (t : Transaction) (c : Completion) (x : Message) → StandsBehind t.phase t.seats → Fine t (on_completion m a t c x)
 unfolding on_completion
-completion_fine m a t c (messages.Notice n) h = completion_notice_fine m a.id c t (completion_of c.state n) h
+completion_fine m a t c (messages.Notice n) h = completion_notice_fine m a.from a.id c t (completion_of c.state n) h
 completion_fine m a t c other h = unmoved_left t h
 
 pub due_fine : (m : Moment) (t : Transaction) (reached : Reached) → StandsBehind t.phase t.seats → Fine t (transaction_reached m t reached)
@@ -538,7 +594,11 @@ due_fine m t Nothing h = unmoved_left t h
 
 -- registration: only before the durable seats are asked
 behind_under : (old : Transaction) (r : Record) (s : Superior) (t : Transaction) → IsBehind old r (Some t) → IsBehind old r (Some (under s t))
-behind_under old (records.Decided id named) s t (e, h) = (e, record { at = h.at; behind = h.behind; phase = h.phase; told = h.told })
+behind_under old (records.Decided id named) s t (e, h) = (e, record { at = h.at; behind = h.behind; decided = left_under named h.decided })
+  where
+    left_under : (named : List Seated) → IsLeft named h.at (Some t) → IsLeft named h.at (Some (under s t))
+    left_under [] l = absurd l
+    left_under (first ∷ others) l = l
 behind_under old (records.Voted id superior named) s t (e, h) = (e, record { behind = h.behind; phase = h.phase })
 behind_under old (records.Start incarnation) s t h = tt
 behind_under old (records.LeafPrepared id coordinator key value) s t h = tt
@@ -546,6 +606,7 @@ behind_under old (records.LeafCommitted id) s t h = tt
 behind_under old (records.LeafAborted id) s t h = tt
 behind_under old (records.SubCommitted id) s t h = tt
 behind_under old (records.Ended id) s t h = tt
+behind_under old (records.Done id) s t h = tt
 
 stands_under : (old : Transaction) (s : Superior) (t : Transaction) → Stands old t → Stands old (under s t)
 stands_under old s t h = record { own = h.own; accepted = h.accepted; behind = h.behind }

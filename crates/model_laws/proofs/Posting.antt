@@ -34,9 +34,9 @@ use Rattle.at_model.specs.Book.{Transaction, Leaf, Activity, Enlistment, Complet
 use Rattle.at_model.specs.Addresses.{endpoint_of, register_id, create_id}
 use Rattle.at_model.specs.Posts.{notice_post, stranger_post, fault_post, reply_post, stored_or, to_each, invalid_state}
 use Rattle.at_model.specs.Moves.{Moving, Change, Decision, Goes, Records, begin, post, posts, effect, become, stays, forgotten, ignored}
-use Rattle.at_model.specs.Seats.{answered, all_left, is_open, is_of, in_state, is_prepared_durable, prepared, moved, seat_target, notices_to, send_each, seat_in, in_phase, set_link, link_of, link_in, under, ending, initiator_posts, completed}
+use Rattle.at_model.specs.Seats.{answered, all_left, is_open, is_of, in_state, is_prepared_durable, prepared, moved, seat_target, notices_to, send_each, seat_in, in_phase, set_link, link_of, link_in, under, ending, initiator_posts, completion_in}
 use Rattle.at_model.specs.Abort.{Reason, Alone, Asked, Faulted, link_aborted, links_aborted, from_of, without_links, until_rolled_back, abort}
-use Rattle.at_model.specs.Phases.{upwards, commit_seats, decided, root_answered, voted, sub_answered, durable_answered, if_durable_answered, prepare_seats, go_durable, volatile_answered, ended_posts, all_committed, advance_in, go_volatile}
+use Rattle.at_model.specs.Phases.{upwards, commit_seats, decided, committed, root_answered, voted, sub_answered, durable_answered, if_durable_answered, prepare_seats, go_durable, volatile_answered, ended_posts, all_committed, advance_in, go_volatile}
 use Rattle.at_model.specs.Arrivals.{answer_seat, answer_left_seat, seat_act, seat_notice, commit_voted, asked, link_act, link_notice, completion_act, completion_notice, relates_to, registered, link_registered, link_fault, on_link, on_seat, on_completion, refused_at, refused_request, request_answered, is_registering, request_stands, request_under, request_left, answer_request, request_of, with_answer, context_of}
 use Rattle.at_model.specs.Leaves.{leaf_target, leaf_says, leaf_faults, work_answer, leaf_aborts, leaf_commits, leaf_prepares, leaf_votes, leaf_records_vote, leaf_commit, leaf_roll_back, leaf_act, leaf_notice, answers_leaf, leaf_registered, leaf_refused, drops_leaf, leaf_fault, on_leaf}
 use Rattle.at_model.specs.Activities.{activity_target, is_begun, told, activity_act, activity_notice, with_context, activity_created, activity_registered, activity_fault, on_activity, activity_state, on_ask, on_complete}
@@ -116,9 +116,9 @@ moved_accepted : (test : Enlistment → Bool) (state : State) (seats : List Enli
 moved_accepted test state [] = refl
 moved_accepted test state (s ∷ seats) = ap (λ ss. accepted_as s ∷ ss) (moved_accepted test state seats)
 
-completed_initiator : (c : Option Completion) → option_map initiator_endpoint (completed c) ≡ option_map initiator_endpoint c
-completed_initiator None = refl
-completed_initiator (Some c) = refl
+completed_initiator : (state : State) (c : Option Completion) → option_map initiator_endpoint (completion_in state c) ≡ option_map initiator_endpoint c
+completed_initiator state None = refl
+completed_initiator state (Some c) = refl
 
 unlinked : (s : Option Superior) → request_of (without_links s) ≡ request_of s
 unlinked None = refl
@@ -156,14 +156,14 @@ abort_like Q q k z m reason g (h, (r, l, c)) =
       superior = without_links g.item.superior;
       phase = Phase.Aborting;
       aborted = Some m.now;
-      completion = completed g.item.completion;
+      completion = completion_in states.None g.item.completion;
     }) g2 in
     let g4 : Moving Transaction = send_each m notices.Rollback states.Aborting is_open g3 in
     rolled_back Q q k z (posts (initiator_posts m.base g.item.id notices.Aborted g.item.completion) g4)
     (posts_like Q q k z (initiator_posts m.base g.item.id notices.Aborted g.item.completion) g4
     (send_like Q q k z m notices.Rollback states.Aborting is_open g3 (
       all_join (IsFine Q) g.posts (links_aborted m.base g.item.id reason g.item.superior) h (links_aborted_fine Q m.base g.item.id reason g.item.superior),
-      (unlinked g.item.superior ∙ r, l, completed_initiator g.item.completion ∙ c),
+      (unlinked g.item.superior ∙ r, l, completed_initiator states.None g.item.completion ∙ c),
     ))
     (initiator_fine Q m.base g.item.id notices.Aborted g.item.completion))
 
@@ -177,15 +177,18 @@ decided_like Q q k z m g (h, i) =
     let (ps, (r, l, c)) = commit_like Q q k z m g (h, i) in
     let g2 : Moving Transaction = commit_seats m (effect (ending g.item endings.Committed) g) in (
       all_join (IsFine Q) g2.posts (initiator_posts m.base g.item.id notices.Committed g.item.completion) ps (initiator_fine Q m.base g.item.id notices.Committed g.item.completion),
-      (r, l, completed_initiator g.item.completion ∙ c),
+      (r, l, completed_initiator states.Done g.item.completion ∙ c),
     )
+
+committed_like : (Q : Epr → Option Epr → Type 0) (q : Option Request) (k : List Seating) (z : Option Epr) (m : Moment) (g : Moving Transaction) → LikeMoving Q q k z g → Like Q q k z (committed m g)
+unfolding committed
+committed_like Q q k z m g h =
+    either_left (Like Q q k z) (list_any is_prepared_durable g.item.seats) (stays (decided m g)) (forgotten (decided m g))
+    (decided_like Q q k z m g h) ((decided_like Q q k z m g h).0, tt)
 
 root_like : (Q : Epr → Option Epr → Type 0) (q : Option Request) (k : List Seating) (z : Option Epr) (m : Moment) (g : Moving Transaction) → LikeMoving Q q k z g → AreLike Q q k z (root_answered m g)
 unfolding root_answered
-root_like Q q k z m g h =
-    either Q q k z (list_any is_prepared_durable g.item.seats)
-    (Records (records.Decided g.item.id (prepared g.item.seats)) (stays (decided m g)) (Some (abort m Alone g))) (Goes (forgotten (decided m g)))
-    (record { entry = tt; landed = decided_like Q q k z m g h; otherwise = abort_like Q q k z m Alone g h }) ((decided_like Q q k z m g h).0, tt)
+root_like Q q k z m g h = record { entry = tt; landed = committed_like Q q k z m g h; otherwise = abort_like Q q k z m Alone g h }
 
 voted_like : (Q : Epr → Option Epr → Type 0) (q : Option Request) (k : List Seating) (z : Option Epr) (m : Moment) (s : Superior) (g : Moving Transaction) → s.request ≡ q → LikeMoving Q q k z g
     → LikeMoving Q q k z (voted m s g)
@@ -378,26 +381,28 @@ link_like Q q k z m a kind t s (messages.RegisterResponse coordinator) e h = lin
 link_like Q q k z m a kind t s (messages.Fault name) e h = link_fault_like Q q k z m a.relates kind s t h
 link_like Q q k z m a kind t s other e h = (tt, h)
 
-completion_act_like : (Q : Epr → Option Epr → Type 0) (q : Option Request) (k : List Seating) (z : Option Epr) (m : Moment) (i : Option (List ℕ)) (c : Completion) (t : Transaction) (act : Act)
-    → Some c.initiator ≡ z → IsLike q k z t → AreLike Q q k z (completion_act m i c t act)
+completion_act_like : (Q : Epr → Option Epr → Type 0) (q : Option Request) (k : List Seating) (z : Option Epr) (m : Moment) (from : Option Epr) (i : Option (List ℕ)) (c : Completion) (t : Transaction) (act : Act)
+    → Some c.initiator ≡ z → IsLike q k z t → AreLike Q q k z (completion_act m from i c t act)
 unfolding completion_act
-completion_act_like Q q k z m i c t acts.FaultUnknownTransaction e h = ((tt, tt), h)
-completion_act_like Q q k z m i c t acts.FaultInvalidState e h = ((tt, tt), h)
-completion_act_like Q q k z m i c t acts.Complete e (r, l, n) =
+completion_act_like Q q k z m from i c t acts.SendCommitted e h =
+    (to_each_fine Q from (λ to. notice_post m.base (targets.Completion t.id) to notices.Committed) (λ to. tt), h)
+completion_act_like Q q k z m from i c t acts.FaultUnknownTransaction e h = ((tt, tt), h)
+completion_act_like Q q k z m from i c t acts.FaultInvalidState e h = ((tt, tt), h)
+completion_act_like Q q k z m from i c t acts.Complete e (r, l, n) =
     go_volatile_like Q q k z m (begin (record t { completion = Some (record c { state = states.Completing }) })) (tt, (r, l, e))
-completion_act_like Q q k z m i c t acts.AbortAndSendAborted e h = abort_like Q q k z m Alone (begin t) (tt, h)
-completion_act_like Q q k z m i c t other e h = (tt, h)
+completion_act_like Q q k z m from i c t acts.AbortAndSendAborted e h = abort_like Q q k z m Alone (begin t) (tt, h)
+completion_act_like Q q k z m from i c t other e h = (tt, h)
 
-completion_notice_like : (Q : Epr → Option Epr → Type 0) (q : Option Request) (k : List Seating) (z : Option Epr) (m : Moment) (i : Option (List ℕ)) (c : Completion) (t : Transaction)
-    (cell : Option Cell) → Some c.initiator ≡ z → IsLike q k z t → AreLike Q q k z (completion_notice m i c t cell)
+completion_notice_like : (Q : Epr → Option Epr → Type 0) (q : Option Request) (k : List Seating) (z : Option Epr) (m : Moment) (from : Option Epr) (i : Option (List ℕ)) (c : Completion) (t : Transaction)
+    (cell : Option Cell) → Some c.initiator ≡ z → IsLike q k z t → AreLike Q q k z (completion_notice m from i c t cell)
 unfolding completion_notice
-completion_notice_like Q q k z m i c t None e h = (tt, h)
-completion_notice_like Q q k z m i c t (Some cell) e h = completion_act_like Q q k z m i c t cell.act e h
+completion_notice_like Q q k z m from i c t None e h = (tt, h)
+completion_notice_like Q q k z m from i c t (Some cell) e h = completion_act_like Q q k z m from i c t cell.act e h
 
 pub completion_like : (Q : Epr → Option Epr → Type 0) (q : Option Request) (k : List Seating) (z : Option Epr) (m : Moment) (a : Arrived) (t : Transaction) (c : Completion) (x : Message)
     → Some c.initiator ≡ z → IsLike q k z t → AreLike Q q k z (on_completion m a t c x)
 unfolding on_completion
-completion_like Q q k z m a t c (messages.Notice n) e h = completion_notice_like Q q k z m a.id c t (completion_of c.state n) e h
+completion_like Q q k z m a t c (messages.Notice n) e h = completion_notice_like Q q k z m a.from a.id c t (completion_of c.state n) e h
 completion_like Q q k z m a t c other e h = (tt, h)
 
 -- what is sent again

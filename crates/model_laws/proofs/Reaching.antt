@@ -400,9 +400,11 @@ input_reached : (c : Closed) (w : World) (n : ℕ) (x : Node) (b : Book) (input 
     → x.book ≡ Some b → c.Holds (turn n input fates until x b w)
 input_reached c w n x b (Deliver k) fates until h found up = delivered_reached c w n x b fates until k h found up (nth k w.posted) refl
 input_reached c w n x b (Tick ms) fates until h found up =
-    turn_reached c n (x.clock + ms) (answer_plan b 202) (turn_from (ticked n (later ms x) w) b fates until)
-    (answer_reached c n (turn_from (ticked n (later ms x) w) b fates until) 202
-    (turn_begins c (ticked n (later ms x) w) n (later ms x) b fates until (ticked_reached c w n x ms h found) (put_this w.nodes n x (later ms x) found) up))
+    turn_reached c n (x.clock + ms) (plan b events.Tick (x.clock + ms)) (turn_from (ticked n (later ms x) w) b fates until)
+    (take_reached c n (turn_from (ticked n (later ms x) w) b fates until) events.Tick (x.clock + ms) (record {
+      at = turn_begins c (ticked n (later ms x) w) n (later ms x) b fates until (ticked_reached c w n x ms h found) (put_this w.nodes n x (later ms x) found) up;
+      heard = tt;
+    }))
 input_reached c w n x b Raw fates until h found up =
     turn_reached c n x.clock (answer_plan b 400) (turn_from w b fates until)
     (answer_reached c n (turn_from w b fates until) 400 (turn_begins c w n x b fates until h found up))

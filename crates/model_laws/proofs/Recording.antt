@@ -70,9 +70,9 @@ leaf_recorded : (m : Moment) (from : Option Epr) (coordinator : Epr) (l : Leaf) 
 unfolding leaf_votes
 leaf_recorded m from coordinator l e = subst (λ o. IsRecorded (leaf_records_vote m o l)) (sym e) tt
 
-root_recorded : (m : Moment) (g : Moving Transaction) → list_any is_prepared_durable g.item.seats ≡ true → IsRecorded (root_answered m g)
+root_recorded : (m : Moment) (g : Moving Transaction) → IsRecorded (root_answered m g)
 unfolding root_answered
-root_recorded m g e = records_if (list_any is_prepared_durable g.item.seats) _ _ e tt
+root_recorded m g = tt
 
 sub_recorded : (m : Moment) (s : Superior) (superior : Epr) (g : Moving Transaction) → list_any is_prepared_durable g.item.seats ≡ true
     → IsRecorded (sub_answered m s (Some superior) g)

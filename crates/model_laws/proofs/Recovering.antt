@@ -9,7 +9,7 @@ use Rattle.at_base.specs.Numbers.{Numbers}
 use Rattle.at_base.specs.declared.record.Record.{Record}
 use Rattle.at_base.specs.declared.record.Record.TheVariants as records
 use Rattle.at_model.specs.Book.{transaction_id, leaf_id, is_id}
-use Rattle.at_model.specs.Recover.{live, kept, with_commit, last_incarnation, incarnation_of, ends_leaf, ends_transaction, is_sub_committed, transactions_of, leaves_of, in_order}
+use Rattle.at_model.specs.Recover.{live, kept, with_commit, last_incarnation, incarnation_of, ends_leaf, ends_transaction, is_sub_committed, transactions_of, leaves_of, in_order, no_seats}
 use Rattle.model_laws.specs.Laws.{RecoversTheLive, IncarnationsRise}
 
 at_most : (a b c : ℕ) → a ≤ c → b ≤ c → max a b ≤ c
@@ -93,6 +93,7 @@ sub_none p id (records.LeafAborted i ∷ rest) found none = sub_none p id rest f
 sub_none p id (records.Voted i s seats ∷ rest) found none = sub_none p id rest found (or_false (p (records.Voted i s seats)) (list_any p rest) none).1
 sub_none p id (records.Decided i seats ∷ rest) found none = sub_none p id rest found (or_false (p (records.Decided i seats)) (list_any p rest) none).1
 sub_none p id (records.Ended i ∷ rest) found none = sub_none p id rest found (or_false (p (records.Ended i)) (list_any p rest) none).1
+sub_none p id (records.Done i ∷ rest) found none = sub_none p id rest found (or_false (p (records.Done i)) (list_any p rest) none).1
 
 -- what a record keeps is itself, or nothing
 none_if : (p : Record → Bool) (b : Bool) (r : Record) → p r ≡ false → list_any p (if b then [] else r ∷ []) ≡ false
@@ -112,7 +113,7 @@ none_voted p r id rest false e none =
 
 none_kept : (p : Record → Bool) (r : Record) (rest : List Record) → p r ≡ false → list_any p rest ≡ false → list_any p (kept r rest) ≡ false
 none_kept p (records.LeafPrepared i c k v) rest e none = none_if p (list_any (ends_leaf i) rest) (records.LeafPrepared i c k v) e
-none_kept p (records.Decided i seats) rest e none = none_if p (list_any (ends_transaction i) rest) (records.Decided i seats) e
+none_kept p (records.Decided i seats) rest e none = none_if p (no_seats seats || list_any (ends_transaction i) rest) (records.Decided i seats) e
 none_kept p (records.Voted i s seats) rest e none =
     none_voted p (records.Voted i s seats) i rest (list_any (ends_transaction i) rest) e none
 none_kept p (records.Start n) rest e none = refl
@@ -120,6 +121,7 @@ none_kept p (records.LeafCommitted i) rest e none = refl
 none_kept p (records.LeafAborted i) rest e none = refl
 none_kept p (records.SubCommitted i) rest e none = refl
 none_kept p (records.Ended i) rest e none = refl
+none_kept p (records.Done i) rest e none = refl
 
 pub none_live : (p : Record → Bool) (rs : List Record) → list_any p rs ≡ false → list_any p (live rs) ≡ false
 none_live p [] e = refl
@@ -175,14 +177,16 @@ live_again : (rs : List Record) → live (live rs) ≡ live rs
 live_again [] = refl
 live_again (records.LeafPrepared i c k v ∷ rest) =
     kept_again (records.LeafPrepared i c k v) (ends_leaf i) rest (list_any (ends_leaf i) rest) (λ xs. refl) refl (live_again rest)
-live_again (records.Decided i seats ∷ rest) =
-    kept_again (records.Decided i seats) (ends_transaction i) rest (list_any (ends_transaction i) rest) (λ xs. refl) refl (live_again rest)
+live_again (records.Decided i [] ∷ rest) = live_again rest
+live_again (records.Decided i (s ∷ seats) ∷ rest) =
+    kept_again (records.Decided i (s ∷ seats)) (ends_transaction i) rest (list_any (ends_transaction i) rest) (λ xs. refl) refl (live_again rest)
 live_again (records.Voted i s seats ∷ rest) = voted_again i s seats rest (list_any (ends_transaction i) rest) refl (live_again rest)
 live_again (records.Start n ∷ rest) = live_again rest
 live_again (records.LeafCommitted i ∷ rest) = live_again rest
 live_again (records.LeafAborted i ∷ rest) = live_again rest
 live_again (records.SubCommitted i ∷ rest) = live_again rest
 live_again (records.Ended i ∷ rest) = live_again rest
+live_again (records.Done i ∷ rest) = live_again rest
 
 pub recovers_the_live : RecoversTheLive
 recovers_the_live base rs =

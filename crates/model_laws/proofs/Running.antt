@@ -324,8 +324,8 @@ input_ends : (n : ℕ) (base : List ℕ) (x : Node) (w : World) (b : Book) (inpu
 input_ends n base x w b (Deliver k) fates until up h e = delivered_ends n base x w b fates until (nth k w.posted) up h e
 input_ends n base x w b (Tick ms) fates until up h e =
     let r : Turning = turn_from (ticked n (later ms x) w) b fates until in
-    turn_ends n base x w (x.clock + ms) (answer_plan b 202) r up (later ms x) refl
-    (answer_goes n base (later ms x) r 202 (record { found = put_this w.nodes n x (later ms x) h; base_is = e })) (λ m i. put_other w.nodes m n (later ms x) i)
+    turn_ends n base x w (x.clock + ms) (plan b events.Tick (x.clock + ms)) r up (later ms x) refl
+    (take_goes n base (later ms x) r events.Tick (x.clock + ms) (record { found = put_this w.nodes n x (later ms x) h; base_is = e })) (λ m i. put_other w.nodes m n (later ms x) i)
 input_ends n base x w b Raw fates until up h e =
     let r : Turning = turn_from w b fates until in
     turn_ends n base x w x.clock (answer_plan b 400) r up x refl (answer_goes n base x r 400 (record { found = h; base_is = e })) (λ m i. refl)

@@ -102,6 +102,7 @@ named_on count w v n f (records.LeafCommitted id) h = tt
 named_on count w v n f (records.LeafAborted id) h = tt
 named_on count w v n f (records.SubCommitted id) h = tt
 named_on count w v n f (records.Ended id) h = tt
+named_on count w v n f (records.Done id) h = tt
 
 node_on : (count : ℕ) (w v : World) (n : ℕ) → ((acc : Accepted) → IsIn acc w.accepted → IsIn acc v.accepted) → (x : Node) → NodeSeated count w n x → NodeSeated count v n x
 node_on count w v n f x h = record {
@@ -201,14 +202,15 @@ record_named count w n b e now phase h (records.Voted id superior named) f =
     let p : Passed b (plan b e now).landed.book id (λ old new. HasVoted old new named) = decides_behind_every_answer.voted b e now id superior named phase f in
     answered_entered count w n id b p.old p.new.seats named h p.stood p.passed.behind
 record_named count w n b e now phase h (records.Decided id named) f =
-    let p : Passed b (plan b e now).landed.book id (λ old new. HasDecided old new named) = decides_behind_every_answer.decided b e now id named phase f in
-    answered_entered count w n id b p.old p.passed.at named h p.stood p.passed.behind
+    let p : HasDecided b (plan b e now).landed.book id named = decides_behind_every_answer.decided b e now id named phase f in
+    answered_entered count w n id b p.old p.at named h p.stood p.behind
 record_named count w n b e now phase h (records.Start i) f = tt
 record_named count w n b e now phase h (records.LeafPrepared id c key value) f = tt
 record_named count w n b e now phase h (records.LeafCommitted id) f = tt
 record_named count w n b e now phase h (records.LeafAborted id) f = tt
 record_named count w n b e now phase h (records.SubCommitted id) f = tt
 record_named count w n b e now phase h (records.Ended id) f = tt
+record_named count w n b e now phase h (records.Done id) f = tt
 
 -- a step
 steps_seated : (count : ℕ) (u : World) (n : ℕ) (x : Node) (b : Book) (e : Event) (now : ℕ) (landed : Bool) → count < 2 ^ 64 → Reached count u → nth n u.nodes ≡ Some x → x.book ≡ Some b
@@ -283,6 +285,7 @@ transactions_seated count w n base (records.LeafCommitted id ∷ rest) (h, k) = 
 transactions_seated count w n base (records.LeafAborted id ∷ rest) (h, k) = transactions_seated count w n base rest k
 transactions_seated count w n base (records.SubCommitted id ∷ rest) (h, k) = transactions_seated count w n base rest k
 transactions_seated count w n base (records.Ended id ∷ rest) (h, k) = transactions_seated count w n base rest k
+transactions_seated count w n base (records.Done id ∷ rest) (h, k) = transactions_seated count w n base rest k
 
 risen_seated : (count : ℕ) (w : World) (n : ℕ) (x : Node) (stop : Bool) → AllByRecursion (IsNamed count w n) x.journal
     → NodeSeated count w n (up_after (started (last_incarnation x.journal + 1) x) stop)

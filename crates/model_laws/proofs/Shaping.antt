@@ -28,7 +28,7 @@ use Rattle.at_base.specs.declared.outs.Out.{Out}
 use Rattle.at_base.specs.declared.outs.Out.TheVariants as outs
 use Rattle.at_tables.specs.declared.cells.State.TheVariants as states
 use Rattle.at_tables.specs.Names.{is_kind}
-use Rattle.at_tables.specs.Tables.{participant_of}
+use Rattle.at_tables.specs.Tables.{participant_of, completion_of}
 use Rattle.at_model.specs.Book.{Book, Transaction, Leaf, Activity, Enlistment, Completion, Superior, next_id, transaction_id, leaf_id, activity_id}
 use Rattle.at_model.specs.Addresses.{atomic}
 use Rattle.at_model.specs.Posts.{accepted, replied, faulted, invalid_protocol, invalid_parameters, cannot_create, cannot_register}
@@ -39,10 +39,10 @@ use Rattle.at_model.specs.Arrivals.{on_link, on_seat, on_completion, context_of,
 use Rattle.at_model.specs.Leaves.{on_leaf, Employment, refuse_work, work_for, on_work}
 use Rattle.at_model.specs.Activities.{on_activity, Refusal, on_begin, on_interpose, on_ask, on_complete}
 use Rattle.at_model.specs.Due.{transaction_due, transaction_reached, leaf_due, leaf_reached, activity_due, activity_reached}
-use Rattle.at_model.specs.Step.{Outcome, Plan, plain, still, at_time, moment_of, put_transaction, put_leaf, put_activity, make_transaction, make_leaf, make_activity, leaf_plan, stranger_cell, nothing, stranger_plan, created_plan, activation_plan, registration_plan, registration_outcome, completion_seat_plan, completion_plan, find_seat, seat_plan, coordinator_plan, leaf_or_stranger_plan, link_plan, participant_plan, initiator_plan, employed_plan, work_plan, transaction_at, leaf_at, activity_at, arrived_plan, refuses, begin_plan, interpose_plan, asking_plan, request_plan, local_plan, transaction_due_plan, leaf_due_plan, activity_due_plan, due_plan, plan}
+use Rattle.at_model.specs.Step.{Outcome, Plan, plain, still, at_time, moment_of, put_transaction, put_leaf, put_activity, make_transaction, make_leaf, make_activity, leaf_plan, stranger_cell, nothing, stranger_plan, created_plan, activation_plan, registration_plan, registration_outcome, completion_seat_plan, completion_plan, find_seat, seat_plan, coordinator_plan, leaf_or_stranger_plan, link_plan, participant_plan, initiator_plan, employed_plan, work_plan, transaction_at, leaf_at, activity_at, arrived_plan, refuses, begin_plan, interpose_plan, asking_plan, request_plan, local_plan, transaction_due_plan, leaf_due_plan, activity_due_plan, due_plan, plan, outcome_cell, outcome_plan, seatless_plan, has_committed}
 use Rattle.model_laws.specs.Laws.{ArePosts, IsOrdered, StepsAnswerFirst, KeepsPlace, StepsKeepPlace}
-use Rattle.model_laws.specs.Shapes.{IsAnswer, IfFound, NoParticipant, IsUnknownAt, unknown_cell, ignored, unknown, not_created, not_registered, not_employed, MovesActivity, at_seat, at_link, at_completion, when_due, at_leaf, leaf_when_due, at_activity, activity_when_due, works, completes, begins, interposes, Shape, StepsTouchOne, nothing_moves, time_moves, transaction_moves, leaf_moves, activity_moves, transaction_registers, transaction_made, leaf_made, activity_made}
-use Rattle.model_laws.proofs.Deciding.{found_id, same_kind, Both, in_branch, plain_both, decision_both}
+use Rattle.model_laws.specs.Shapes.{IsAnswer, IfFound, NoParticipant, IsUnknownAt, unknown_cell, ignored, unknown, committed, time_passes, not_created, not_registered, not_employed, MovesActivity, at_seat, at_link, at_completion, when_due, at_leaf, leaf_when_due, at_activity, activity_when_due, works, completes, begins, interposes, Shape, StepsTouchOne, nothing_moves, time_moves, transaction_moves, leaf_moves, activity_moves, transaction_registers, transaction_made, leaf_made, activity_made}
+use Rattle.model_laws.proofs.Deciding.{found_id, same_kind, Both, in_branch, plain_both, decision_both, StaysOn}
 use Rattle.std.proofs.Common.{sym, subst, ap, ◌∙◌, inl, inr, refl, arith}
 
 are_posts : (ps : List Post) → ArePosts (map outs.Post ps)
@@ -215,18 +215,31 @@ registration_shape b now a id other t e f g = nothing_shape b now a
 own_id : (b : Book) (id : Numbers) (t : Transaction) → transaction_at b id ≡ Some t → id ≡ t.id
 own_id b id t f = sym (found_id transaction_id id b.transactions t f)
 
+-- a message at the completion seat of a root that committed
+outcome_shape : (b : Book) (now : ℕ) (a : Arrived) (id : Numbers) (x : Message) → a.target ≡ targets.Completion id → a.message ≡ x → has_committed b id ≡ true
+    → Shape b (events.Arrived a) now (outcome_plan b now a x)
+outcome_shape b now a id (messages.Notice n) e f h =
+    time_moves a (accepted ++ map outs.Post (outcome_cell b.base a.target a.from a.id (completion_of states.Done n))) refl
+    (committed n id f e h refl) (behind_accepted (outcome_cell b.base a.target a.from a.id (completion_of states.Done n))) refl
+outcome_shape b now a id other e f h = nothing_shape b now a
+
+seatless_shape : (b : Book) (now : ℕ) (a : Arrived) (id : Numbers) (done : Bool) → a.target ≡ targets.Completion id → has_committed b id ≡ done
+    → IfFound (λ t. t.completion ≡ None) (transaction_at b id) → Shape b (events.Arrived a) now (seatless_plan b now a done)
+seatless_shape b now a id true e h f = outcome_shape b now a id a.message e refl h
+seatless_shape b now a id false e h f = stranger_shape b now a (targets.Completion id) a.message e refl (f, h)
+
 completion_seat_shape : (b : Book) (now : ℕ) (a : Arrived) (id : Numbers) (t : Transaction) (c : Option Completion) → a.target ≡ targets.Completion id → transaction_at b id ≡ Some t → t.completion ≡ c
-    → Shape b (events.Arrived a) now (completion_seat_plan b now a t c)
+    → Shape b (events.Arrived a) now (completion_seat_plan b now a (has_committed b id) t c)
 completion_seat_shape b now a id t None e f g =
-    stranger_shape b now a (targets.Completion id) a.message e refl (found_at (λ x. x.completion ≡ None) (transaction_at b id) (Some t) f g)
+    seatless_shape b now a id (has_committed b id) e refl (found_at (λ x. x.completion ≡ None) (transaction_at b id) (Some t) f g)
 completion_seat_shape b now a id t (Some c) e f g =
     transaction_moves id t accepted (on_completion (moment_of b now) a t c a.message) f (at_completion a c refl (e ∙ ap targets.Completion (own_id b id t f)) g refl) is_accepted refl
 
 completion_shape : (b : Book) (now : ℕ) (a : Arrived) (id : Numbers) (t : Option Transaction) → a.target ≡ targets.Completion id → transaction_at b id ≡ t
-    → Shape b (events.Arrived a) now (completion_plan b now a t)
+    → Shape b (events.Arrived a) now (completion_plan b now a (has_committed b id) t)
 unfolding completion_plan
 completion_shape b now a id None e f =
-    stranger_shape b now a (targets.Completion id) a.message e refl (found_at (λ x. x.completion ≡ None) (transaction_at b id) None f tt)
+    seatless_shape b now a id (has_committed b id) e refl (found_at (λ x. x.completion ≡ None) (transaction_at b id) None f tt)
 completion_shape b now a id (Some t) e f = completion_seat_shape b now a id t t.completion e f refl
 
 seat_shape : (b : Book) (now : ℕ) (a : Arrived) (id : Numbers) (seat : Seat) (t : Transaction) (s : Option Enlistment) → a.target ≡ targets.Coordinator id seat → transaction_at b id ≡ Some t
@@ -388,6 +401,7 @@ pub steps_touch_one : StepsTouchOne
 steps_touch_one b (events.Arrived a) now = arrived_shape b now a a.target refl
 steps_touch_one b (events.Local l) now = local_shape b now l (refuses b l)
 steps_touch_one b (events.Due item) now = due_shape b now item
+steps_touch_one b events.Tick now = time_passes refl refl
 
 -- what follows for each step
 le_self : (n : ℕ) → n ≤ n
@@ -413,12 +427,13 @@ ordered_both : (b : Book) (e : Event) (now : ℕ) (p : Plan) → Shape b e now p
 unfolding Ordered
 ordered_both b e now p (nothing_moves f) = subst (Both Ordered) (sym f) (plain_both Ordered (still b []) tt)
 ordered_both b e now p (time_moves a os came why h f) = subst (Both Ordered) (sym f) (plain_both Ordered (still (at_time now b) os) h)
+ordered_both b e now p (time_passes came f) = subst (Both Ordered) (sym f) (plain_both Ordered (still (at_time now b) accepted) tt)
 ordered_both b e now p (transaction_moves id t answer d stands how h f) =
-    subst (Both Ordered) (sym f) (decision_both Ordered b (put_transaction t.id (at_time now b)) answer (with_answer (moment_of b now) t d) (λ c. answered answer c.posts h) (answer_alone answer h))
+    subst (Both Ordered) (sym f) (decision_both Ordered (λ r o i. i) b (put_transaction t.id (at_time now b)) answer (with_answer (moment_of b now) t d) (λ c. answered answer c.posts h) (answer_alone answer h))
 ordered_both b e now p (leaf_moves id l answer d stands how h f) =
-    subst (Both Ordered) (sym f) (decision_both Ordered b (put_leaf l.id (at_time now b)) answer d (λ c. answered answer c.posts h) (answer_alone answer h))
+    subst (Both Ordered) (sym f) (decision_both Ordered (λ r o i. i) b (put_leaf l.id (at_time now b)) answer d (λ c. answered answer c.posts h) (answer_alone answer h))
 ordered_both b e now p (activity_moves id a answer d stands how h f) =
-    subst (Both Ordered) (sym f) (decision_both Ordered b (put_activity a.id (at_time now b)) answer d (λ c. answered answer c.posts h) (answer_alone answer h))
+    subst (Both Ordered) (sym f) (decision_both Ordered (λ r o i. i) b (put_activity a.id (at_time now b)) answer d (λ c. answered answer c.posts h) (answer_alone answer h))
 ordered_both b e now p (transaction_registers id a r t stands came at says h f) =
     subst (Both Ordered) (sym f) (plain_both Ordered (registration_outcome b now (on_register (moment_of b now) a r t)) h)
 ordered_both b e now p (transaction_made a c id t os came at says next made sent h f) = subst (Both Ordered) (sym f) (plain_both Ordered (still (make_transaction (at_time now b) t) os) h)
@@ -432,22 +447,28 @@ steps_answer_first b e now landed = in_branch Ordered (plan b e now) landed (ord
 as_it_was : (b : Book) → KeepsPlace b b
 as_it_was b = stays_put b b refl refl refl
 
+place_on : (b : Book) → StaysOn (KeepsPlaceIn b)
+unfolding KeepsPlaceIn
+place_on b r o h = record { base = h.base; incarnation = h.incarnation; counter = h.counter; one = h.one }
+
 place_both : (b : Book) (e : Event) (now : ℕ) (p : Plan) → Shape b e now p → Both (KeepsPlaceIn b) p
 unfolding KeepsPlaceIn
 place_both b e now p (nothing_moves f) = subst (Both (KeepsPlaceIn b)) (sym f) (plain_both (KeepsPlaceIn b) (still b []) (as_it_was b))
 place_both b e now p (time_moves a os came why h f) =
     subst (Both (KeepsPlaceIn b)) (sym f) (plain_both (KeepsPlaceIn b) (still (at_time now b) os) (stays_put b (at_time now b) refl refl refl))
+place_both b e now p (time_passes came f) =
+    subst (Both (KeepsPlaceIn b)) (sym f) (plain_both (KeepsPlaceIn b) (still (at_time now b) accepted) (stays_put b (at_time now b) refl refl refl))
 place_both b e now p (transaction_moves id t answer d stands how h f) =
     subst (Both (KeepsPlaceIn b)) (sym f)
-    (decision_both (KeepsPlaceIn b) b (put_transaction t.id (at_time now b)) answer (with_answer (moment_of b now) t d)
+    (decision_both (KeepsPlaceIn b) (place_on b) b (put_transaction t.id (at_time now b)) answer (with_answer (moment_of b now) t d)
     (λ c. stays_put b (put_transaction t.id (at_time now b) c.item) refl refl refl) (as_it_was b))
 place_both b e now p (leaf_moves id l answer d stands how h f) =
     subst (Both (KeepsPlaceIn b)) (sym f)
-    (decision_both (KeepsPlaceIn b) b (put_leaf l.id (at_time now b)) answer d
+    (decision_both (KeepsPlaceIn b) (place_on b) b (put_leaf l.id (at_time now b)) answer d
     (λ c. stays_put b (put_leaf l.id (at_time now b) c.item) refl refl refl) (as_it_was b))
 place_both b e now p (activity_moves id a answer d stands how h f) =
     subst (Both (KeepsPlaceIn b)) (sym f)
-    (decision_both (KeepsPlaceIn b) b (put_activity a.id (at_time now b)) answer d
+    (decision_both (KeepsPlaceIn b) (place_on b) b (put_activity a.id (at_time now b)) answer d
     (λ c. stays_put b (put_activity a.id (at_time now b) c.item) refl refl refl) (as_it_was b))
 place_both b e now p (transaction_registers id a r t stands came at says h f) =
     subst (Both (KeepsPlaceIn b)) (sym f)

@@ -78,6 +78,7 @@ IsSortedRecord s (records.Voted id superior seats) = s id ≡ OfTransaction
 IsSortedRecord s (records.Decided id seats) = s id ≡ OfTransaction
 IsSortedRecord s (records.SubCommitted id) = s id ≡ OfTransaction
 IsSortedRecord s (records.Ended id) = s id ≡ OfTransaction
+IsSortedRecord s (records.Done id) = s id ≡ OfTransaction
 IsSortedRecord s (records.Start i) = Unit {0}
 
 abbrev IsSorted : (Numbers → Sort) → Book → Type 0
@@ -108,6 +109,7 @@ record_on s id K n (records.Voted i superior seats) h = set_keeps s id K OfTrans
 record_on s id K n (records.Decided i seats) h = set_keeps s id K OfTransaction n tt i h
 record_on s id K n (records.SubCommitted i) h = set_keeps s id K OfTransaction n tt i h
 record_on s id K n (records.Ended i) h = set_keeps s id K OfTransaction n tt i h
+record_on s id K n (records.Done i) h = set_keeps s id K OfTransaction n tt i h
 record_on s id K n (records.Start i) h = tt
 
 about_sorted : (s : Numbers → Sort) (r : Record) → IsAbout (λ i. s i ≡ OfTransaction) (λ i. s i ≡ OfLeaf) r → IsSortedRecord s r
@@ -118,6 +120,7 @@ about_sorted s r (about_transaction id h k) = of_transaction r k
     of_transaction (records.Decided i seats) k = ap s k ∙ h
     of_transaction (records.SubCommitted i) k = ap s k ∙ h
     of_transaction (records.Ended i) k = ap s k ∙ h
+    of_transaction (records.Done i) k = absurd k
     of_transaction (records.Start i) k = absurd k
     of_transaction (records.LeafPrepared i c key value) k = absurd k
     of_transaction (records.LeafCommitted i) k = absurd k
@@ -132,6 +135,7 @@ about_sorted s r (about_leaf id h k) = of_leaf r k
     of_leaf (records.Decided i seats) k = absurd k
     of_leaf (records.SubCommitted i) k = absurd k
     of_leaf (records.Ended i) k = absurd k
+    of_leaf (records.Done i) k = absurd k
     of_leaf (records.Start i) k = absurd k
 
 held_on : (s : Numbers → Sort) (id : Numbers) (K : Sort) (b : Book) → s id ≡ Unmade → IsSorted s b → IsSorted (set s id K) b
@@ -225,6 +229,7 @@ transactions_sorted s base (records.LeafCommitted id ∷ rest) (h, k) = transact
 transactions_sorted s base (records.LeafAborted id ∷ rest) (h, k) = transactions_sorted s base rest k
 transactions_sorted s base (records.SubCommitted id ∷ rest) (h, k) = transactions_sorted s base rest k
 transactions_sorted s base (records.Ended id ∷ rest) (h, k) = transactions_sorted s base rest k
+transactions_sorted s base (records.Done id ∷ rest) (h, k) = transactions_sorted s base rest k
 
 leaves_sorted : (s : Numbers → Sort) (rs : List Record) → AllByRecursion (IsSortedRecord s) rs → AllByRecursion (λ l. s l.id ≡ OfLeaf) (leaves_of rs)
 leaves_sorted s [] h = tt
@@ -236,6 +241,7 @@ leaves_sorted s (records.LeafCommitted id ∷ rest) (h, k) = leaves_sorted s res
 leaves_sorted s (records.LeafAborted id ∷ rest) (h, k) = leaves_sorted s rest k
 leaves_sorted s (records.SubCommitted id ∷ rest) (h, k) = leaves_sorted s rest k
 leaves_sorted s (records.Ended id ∷ rest) (h, k) = leaves_sorted s rest k
+leaves_sorted s (records.Done id ∷ rest) (h, k) = leaves_sorted s rest k
 
 rises_up : (base : List ℕ) (rs : List Record) → IsDown rs → IsUp (restarted rs) (recover base (restarted rs))
 rises_up base rs h = record {

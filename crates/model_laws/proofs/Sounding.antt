@@ -19,6 +19,9 @@ use Rattle.at_base.specs.declared.event.Event.{Event}
 use Rattle.at_base.specs.declared.event.Event.TheVariants as events
 use Rattle.at_tables.specs.declared.cells.State.{State}
 use Rattle.at_tables.specs.declared.cells.State.TheVariants as states
+use Rattle.at_base.specs.declared.limits.TheConstants.{MOST_SEATS}
+use Rattle.at_model.specs.Posts.{accepted}
+use Rattle.at_model.specs.Outcomes.{noted}
 use Rattle.at_model.specs.Book.{Book, Transaction, Leaf, transaction_id, leaf_id, next_id, last_counter}
 use Rattle.at_model.specs.Moves.{Decision}
 use Rattle.at_model.specs.Arrivals.{with_answer}
@@ -27,8 +30,8 @@ use Rattle.at_model.specs.Step.{Outcome, Plan, still, at_time, moment_of, put_tr
 use Rattle.at_model.specs.Recover.{live, is_sub_committed, transactions_of, leaves_of, recovered_seat, recovered_voted, recovered_decided, recover, last_incarnation}
 use Rattle.model_laws.specs.Drawn.{restarted, Life, LifeEvent, Stepped, Stopped, Started, newborn, with_entry, live_through, life_of}
 use Rattle.model_laws.specs.Sound.{IsSoundMessage, IsSoundEvent, SeatsRise, IsSoundTransaction, IsSoundLeaf, IsSound, AreSoundEvents, RecordsAreWellFormed}
-use Rattle.model_laws.specs.Shapes.{MovesTransaction, MovesLeaf, Shape, at_seat, at_link, at_completion, when_due, at_leaf, leaf_when_due, nothing_moves, time_moves, transaction_moves, leaf_moves, activity_moves, transaction_registers, transaction_made, leaf_made, activity_made}
-use Rattle.model_laws.proofs.Deciding.{second_true, Both, in_branch, plain_both, decision_both, IfThere, decided_both, decided_entry, all_find, all_put, all_join}
+use Rattle.model_laws.specs.Shapes.{MovesTransaction, MovesLeaf, Shape, at_seat, at_link, at_completion, when_due, at_leaf, leaf_when_due, nothing_moves, time_moves, time_passes, transaction_moves, leaf_moves, activity_moves, transaction_registers, transaction_made, leaf_made, activity_made}
+use Rattle.model_laws.proofs.Deciding.{second_true, Both, in_branch, plain_both, decision_both, IfThere, decided_both, decided_entry, all_find, all_put, all_join, StaysOn}
 use Rattle.model_laws.proofs.Keeping.{HasBoth, NoRecord}
 use Rattle.model_laws.proofs.Drawing.{activity_moved_kept}
 use Rattle.model_laws.proofs.Living.{all_live, all_in_order, no_entry}
@@ -93,24 +96,30 @@ with_transactions b c h e ts ls = record {
 IsSoundAfter : Outcome → Type 0
 IsSoundAfter o = IsSound o.book
 
+sound_on : StaysOn IsSoundAfter
+unfolding IsSoundAfter
+sound_on r o h = with_transactions o.book (noted r o.book) h refl h.transactions h.leaves
+
 sound_both : (b : Book) (e : Event) (now : ℕ) (p : Plan) → IsSound b → IsSoundEvent e → Shape b e now p → Both IsSoundAfter p
 unfolding IsSoundAfter
 sound_both b e now p h w (nothing_moves f) = subst (Both IsSoundAfter) (sym f) (plain_both IsSoundAfter (still b []) h)
 sound_both b e now p h w (time_moves a os came why o f) =
     subst (Both IsSoundAfter) (sym f) (plain_both IsSoundAfter (still (at_time now b) os) (with_transactions b (at_time now b) h refl h.transactions h.leaves))
+sound_both b e now p h w (time_passes came f) =
+    subst (Both IsSoundAfter) (sym f) (plain_both IsSoundAfter (still (at_time now b) accepted) (with_transactions b (at_time now b) h refl h.transactions h.leaves))
 sound_both b e now p h w (transaction_moves id t answer d stands how o f) =
     subst (Both IsSoundAfter) (sym f)
-    (decided_both (IfThere IsSoundTransaction) WellFormed IsSoundAfter b (put_transaction t.id (at_time now b)) answer (with_answer (moment_of b now) t d)
+    (decided_both (IfThere IsSoundTransaction) WellFormed IsSoundAfter sound_on b (put_transaction t.id (at_time now b)) answer (with_answer (moment_of b now) t d)
     (moved_sound b e now t d w (all_find IsSoundTransaction transaction_id id b.transactions t h.transactions stands) how)
     (λ c k. with_transactions b (put_transaction t.id (at_time now b) c.item) h refl (all_put IsSoundTransaction transaction_id t.id c.item b.transactions k h.transactions) h.leaves) h)
 sound_both b e now p h w (leaf_moves id l answer d stands how o f) =
     subst (Both IsSoundAfter) (sym f)
-    (decided_both (IfThere IsSoundLeaf) LeafWell IsSoundAfter b (put_leaf l.id (at_time now b)) answer d
+    (decided_both (IfThere IsSoundLeaf) LeafWell IsSoundAfter sound_on b (put_leaf l.id (at_time now b)) answer d
     (leaf_moved_sound b e now l d w (all_find IsSoundLeaf leaf_id id b.leaves l h.leaves stands) how)
     (λ c k. with_transactions b (put_leaf l.id (at_time now b) c.item) h refl h.transactions (all_put IsSoundLeaf leaf_id l.id c.item b.leaves k h.leaves)) h)
 sound_both b e now p h w (activity_moves id a answer d stands how o f) =
     subst (Both IsSoundAfter) (sym f)
-    (decision_both IsSoundAfter b (put_activity a.id (at_time now b)) answer d
+    (decision_both IsSoundAfter sound_on b (put_activity a.id (at_time now b)) answer d
     (λ c. with_transactions b (put_activity a.id (at_time now b) c.item) h refl h.transactions h.leaves) h)
 sound_both b e now p h w (transaction_registers id a r t stands came at says o f) =
     subst (Both IsSoundAfter) (sym f)
@@ -141,14 +150,15 @@ step_sound b e now landed h w = in_branch IsSoundAfter (plan b e now) landed (so
 entry_well : (b : Book) (e : Event) (now : ℕ) (p : Plan) (r : Record) → IsSound b → IsSoundEvent e → Shape b e now p → p.entry ≡ Some r → IsWellFormed r
 entry_well b e now p r h w (nothing_moves f) k = absurd (no_entry p _ r f k)
 entry_well b e now p r h w (time_moves a os came why o f) k = absurd (no_entry p _ r f k)
+entry_well b e now p r h w (time_passes came f) k = absurd (no_entry p _ r f k)
 entry_well b e now p r h w (transaction_moves id t answer d stands how o f) k =
-    decided_entry (IfThere IsSoundTransaction) WellFormed (λ s x. IsWellFormed s) b (put_transaction t.id (at_time now b)) answer (with_answer (moment_of b now) t d) r
+    decided_entry (IfThere IsSoundTransaction) WellFormed (λ s x. IsWellFormed s) (λ s r o i. i) b (put_transaction t.id (at_time now b)) answer (with_answer (moment_of b now) t d) r
     (moved_sound b e now t d w (all_find IsSoundTransaction transaction_id id b.transactions t h.transactions stands) how) (λ s c i j. j) (sym (ap (λ x. x.entry) f) ∙ k)
 entry_well b e now p r h w (leaf_moves id l answer d stands how o f) k =
-    decided_entry (IfThere IsSoundLeaf) LeafWell (λ s x. IsWellFormed s) b (put_leaf l.id (at_time now b)) answer d r
+    decided_entry (IfThere IsSoundLeaf) LeafWell (λ s x. IsWellFormed s) (λ s r o i. i) b (put_leaf l.id (at_time now b)) answer d r
     (leaf_moved_sound b e now l d w (all_find IsSoundLeaf leaf_id id b.leaves l h.leaves stands) how) (λ s c i j. j) (sym (ap (λ x. x.entry) f) ∙ k)
 entry_well b e now p r h w (activity_moves id a answer d stands how o f) k =
-    decided_entry (HasBoth a) NoRecord (λ s x. IsWellFormed s) b (put_activity a.id (at_time now b)) answer d r (activity_moved_kept b e now a d how)
+    decided_entry (HasBoth a) NoRecord (λ s x. IsWellFormed s) (λ s r o i. i) b (put_activity a.id (at_time now b)) answer d r (activity_moved_kept b e now a d how)
     (λ s c i j. absurd j) (sym (ap (λ x. x.entry) f) ∙ k)
 entry_well b e now p r h w (transaction_registers id a c t stands came at says o f) k = absurd (no_entry p _ r f k)
 entry_well b e now p r h w (transaction_made a c id t os came at says next made sent o f) k = absurd (no_entry p _ r f k)
@@ -171,7 +181,7 @@ seats_endpoints : (state : State) (seats : List Seated) → AllByRecursion (λ s
 seats_endpoints state [] h = tt
 seats_endpoints state (s ∷ ss) (h, k) = (h, seats_endpoints state ss k)
 
-recovered_most : (state : State) (seats : List Seated) → length seats ≤ 64 → length (map (recovered_seat state) seats) ≤ 64
+recovered_most : (state : State) (seats : List Seated) → length seats ≤ MOST_SEATS → length (map (recovered_seat state) seats) ≤ MOST_SEATS
 recovered_most state seats h = omega (arith, seats_same state seats, h)
 
 voted_sound : (id : Numbers) (superior : Epr) (seats : List Seated) (committed : Bool) → IsId id → IsEndpoint superior → AreSeats seats
@@ -208,7 +218,7 @@ decided_sound base id seats i h = record {
 
 transactions_sound : (base : List ℕ) (rs : List Record) → AllByRecursion IsWellFormed rs → AllByRecursion IsSoundTransaction (transactions_of base rs)
 transactions_sound base [] h = tt
-transactions_sound base (records.Voted id superior seats ∷ rest) ((i, s, a), k) =
+transactions_sound base (records.Voted id superior seats ∷ rest) ((i, s, some, a), k) =
     (voted_sound id superior seats (list_any (is_sub_committed id) rest) i s a, transactions_sound base rest k)
 transactions_sound base (records.Decided id seats ∷ rest) ((i, a), k) = (decided_sound base id seats i a, transactions_sound base rest k)
 transactions_sound base (records.Start incarnation ∷ rest) (h, k) = transactions_sound base rest k
@@ -217,6 +227,7 @@ transactions_sound base (records.LeafCommitted id ∷ rest) (h, k) = transaction
 transactions_sound base (records.LeafAborted id ∷ rest) (h, k) = transactions_sound base rest k
 transactions_sound base (records.SubCommitted id ∷ rest) (h, k) = transactions_sound base rest k
 transactions_sound base (records.Ended id ∷ rest) (h, k) = transactions_sound base rest k
+transactions_sound base (records.Done id ∷ rest) (h, k) = transactions_sound base rest k
 
 leaves_sound : (rs : List Record) → AllByRecursion IsWellFormed rs → AllByRecursion IsSoundLeaf (leaves_of rs)
 leaves_sound [] h = tt
@@ -228,6 +239,7 @@ leaves_sound (records.LeafCommitted id ∷ rest) (h, k) = leaves_sound rest k
 leaves_sound (records.LeafAborted id ∷ rest) (h, k) = leaves_sound rest k
 leaves_sound (records.SubCommitted id ∷ rest) (h, k) = leaves_sound rest k
 leaves_sound (records.Ended id ∷ rest) (h, k) = leaves_sound rest k
+leaves_sound (records.Done id ∷ rest) (h, k) = leaves_sound rest k
 
 recovered_sound : (base : List ℕ) (rs : List Record) → AllByRecursion IsWellFormed rs → 1 ≤ last_incarnation rs → last_incarnation rs ≤ last_counter → IsSound (recover base rs)
 recovered_sound base rs h least most =

@@ -19,6 +19,9 @@ use Rattle.at_base.specs.declared.event.Event.{Event}
 use Rattle.at_base.specs.declared.event.Moment.{Moment}
 use Rattle.at_base.specs.declared.outs.Out.{Out}
 use Rattle.at_tables.specs.declared.cells.State.TheVariants as states
+use Rattle.at_base.specs.declared.limits.TheConstants.{MOST_SEATS}
+use Rattle.at_model.specs.Posts.{accepted}
+use Rattle.at_model.specs.Outcomes.{noted}
 use Rattle.at_model.specs.Book.{Book, Transaction, Enlistment, Phase, is_id, find_by, put_by, transaction_id}
 use Rattle.at_model.specs.Addresses.{atomic}
 use Rattle.at_model.specs.Moves.{Change, Decision}
@@ -28,9 +31,9 @@ use Rattle.at_model.specs.Register.{Registration, accepts, may_complete, may_reg
 use Rattle.at_model.specs.Create.{create_under, create_in, on_create, refuse_create}
 use Rattle.at_model.specs.Step.{Outcome, Plan, still, at_time, moment_of, put_transaction, put_leaf, put_activity, make_transaction, make_leaf, make_activity, outcome_of, registration_outcome, plan, step, transaction_at}
 use Rattle.at_model.specs.Recover.{live, is_sub_committed, transactions_of, recovered_seat, recovered_voted, recover}
-use Rattle.model_laws.specs.Behind.{StandsBehind, IsInPhase, HasDecided, HasVoted, HasCommitted, Passed, DecidesBehindEveryAnswer}
-use Rattle.model_laws.specs.Shapes.{MovesTransaction, Shape, at_seat, at_link, at_completion, when_due, nothing_moves, time_moves, transaction_moves, leaf_moves, activity_moves, transaction_registers, transaction_made, leaf_made, activity_made}
-use Rattle.model_laws.proofs.Deciding.{either_of, first_true, second_true, Both, in_branch, plain_both, decision_both, IfThere, decided_says, says_entry, decided_entry, all_find, all_put, all_join}
+use Rattle.model_laws.specs.Behind.{StandsBehind, IsInPhase, HasDecided, HasVoted, HasCommitted, Passed, DecidesBehindEveryAnswer, IsDecided, IsCommitting}
+use Rattle.model_laws.specs.Shapes.{MovesTransaction, Shape, at_seat, at_link, at_completion, when_due, nothing_moves, time_moves, time_passes, transaction_moves, leaf_moves, activity_moves, transaction_registers, transaction_made, leaf_made, activity_made}
+use Rattle.model_laws.proofs.Deciding.{either_of, first_true, second_true, Both, in_branch, plain_both, decision_both, IfThere, decided_says, says_entry, decided_entry, all_find, all_put, all_join, StaysOn}
 use Rattle.model_laws.proofs.Keeping.{IsOfLeaf, NamesLeaf, HasBoth, NoRecord}
 use Rattle.model_laws.proofs.Drawing.{leaf_moved_kept, activity_moved_kept}
 use Rattle.model_laws.proofs.Living.{all_in_order, no_entry}
@@ -38,7 +41,7 @@ use Rattle.at_tables.specs.declared.cells.State.{State}
 use Rattle.at_tables.specs.Names.{is_kind, is_state}
 use Rattle.model_laws.proofs.Linking.{Linked}
 use Rattle.model_laws.proofs.Following.{links_follow_phases}
-use Rattle.model_laws.proofs.Phasing.{is_unanswered, none_either, neither, IsTold, CommitsBehind, Left, Fine, Stands, IsBehind, AtDecided, AtVoted, seat_fine, link_fine, completion_fine, due_fine, with_answer_fine}
+use Rattle.model_laws.proofs.Phasing.{is_unanswered, none_either, neither, IsTold, CommitsBehind, Left, Fine, Stands, IsBehind, IsLeft, AtDecided, AtVoted, seat_fine, link_fine, completion_fine, due_fine, with_answer_fine}
 use Rattle.model_laws.proofs.Telling.{IsOther, Tells, Anything, leaf_moved_other, activity_moved_other}
 use Rattle.std.proofs.Common.{inl, inr}
 use Rattle.at_base.specs.declared.outs.Effect.{Effect}
@@ -75,11 +78,11 @@ accepting Phase.Aborting seats e = tt
 
 pub then_accepts : (t : Transaction) (kind : Option Kind) → may_register t kind ≡ true → accepts t.phase ≡ true
 then_accepts t kind e =
-    first_true (accepts t.phase) (nat_lt (length t.seats) 64) (first_true (accepts t.phase && nat_lt (length t.seats) 64) (may_complete t kind) e)
+    first_true (accepts t.phase) (nat_lt (length t.seats) MOST_SEATS) (first_true (accepts t.phase && nat_lt (length t.seats) MOST_SEATS) (may_complete t kind) e)
 
-pub then_room : (t : Transaction) (kind : Option Kind) → may_register t kind ≡ true → nat_lt (length t.seats) 64 ≡ true
+pub then_room : (t : Transaction) (kind : Option Kind) → may_register t kind ≡ true → nat_lt (length t.seats) MOST_SEATS ≡ true
 then_room t kind e =
-    second_true (accepts t.phase) (nat_lt (length t.seats) 64) (first_true (accepts t.phase && nat_lt (length t.seats) 64) (may_complete t kind) e)
+    second_true (accepts t.phase) (nat_lt (length t.seats) MOST_SEATS) (first_true (accepts t.phase && nat_lt (length t.seats) MOST_SEATS) (may_complete t kind) e)
 
 accept_stands : (m : Moment) (a : Arrived) (t : Transaction) (participant : Epr) (kind : Option Kind) → accepts t.phase ≡ true → InPhase t → InPhase (accept m a t participant kind).transaction
 unfolding accept
@@ -133,15 +136,16 @@ phase_both : (b : Book) (e : Event) (now : ℕ) (p : Plan) → IsInPhase b → S
 unfolding KeepsPhase
 phase_both b e now p h (nothing_moves f) = subst (Both KeepsPhase) (sym f) (plain_both KeepsPhase (still b []) h.answers)
 phase_both b e now p h (time_moves a os came why o f) = subst (Both KeepsPhase) (sym f) (plain_both KeepsPhase (still (at_time now b) os) h.answers)
+phase_both b e now p h (time_passes came f) = subst (Both KeepsPhase) (sym f) (plain_both KeepsPhase (still (at_time now b) accepted) h.answers)
 phase_both b e now p h (transaction_moves id t answer d stands how o f) =
     subst (Both KeepsPhase) (sym f)
-    (decided_says (Left t) (λ r c. IsBehind t r c.item) KeepsPhase b (put_transaction t.id (at_time now b)) answer (with_answer (moment_of b now) t d)
+    (decided_says (Left t) (λ r c. IsBehind t r c.item) KeepsPhase (λ r o i. i) b (put_transaction t.id (at_time now b)) answer (with_answer (moment_of b now) t d)
     (moved_fine b e now t d (all_find Linked transaction_id id b.transactions t h.links stands) (all_find InPhase transaction_id id b.transactions t h.answers stands) how)
     (λ c k. all_put InPhase transaction_id t.id c.item b.transactions (left_stands t c.item k.item) h.answers) h.answers)
 phase_both b e now p h (leaf_moves id l answer d stands how o f) =
-    subst (Both KeepsPhase) (sym f) (decision_both KeepsPhase b (put_leaf l.id (at_time now b)) answer d (λ c. h.answers) h.answers)
+    subst (Both KeepsPhase) (sym f) (decision_both KeepsPhase (λ r o i. i) b (put_leaf l.id (at_time now b)) answer d (λ c. h.answers) h.answers)
 phase_both b e now p h (activity_moves id a answer d stands how o f) =
-    subst (Both KeepsPhase) (sym f) (decision_both KeepsPhase b (put_activity a.id (at_time now b)) answer d (λ c. h.answers) h.answers)
+    subst (Both KeepsPhase) (sym f) (decision_both KeepsPhase (λ r o i. i) b (put_activity a.id (at_time now b)) answer d (λ c. h.answers) h.answers)
 phase_both b e now p h (transaction_registers id a r t stands came at says o f) =
     subst (Both KeepsPhase) (sym f)
     (plain_both KeepsPhase (registration_outcome b now (on_register (moment_of b now) a r t))
@@ -190,6 +194,7 @@ records_stand base (records.LeafCommitted id ∷ rest) = records_stand base rest
 records_stand base (records.LeafAborted id ∷ rest) = records_stand base rest
 records_stand base (records.SubCommitted id ∷ rest) = records_stand base rest
 records_stand base (records.Ended id ∷ rest) = records_stand base rest
+records_stand base (records.Done id ∷ rest) = records_stand base rest
 
 recovered_stands : (base : List ℕ) (rs : List Record) → IsInPhase (recover base rs)
 recovered_stands base rs = record {
@@ -232,14 +237,25 @@ passes P b now id i t new found e h p =
     (record { old = t; new = new; stood = there; stands = found_put t.id b.transactions t new is there; passed = p })
 
 abbrev IsPassed : Book → Record → Outcome → Type 0
-IsPassed b (records.Decided id named) o = Passed b o.book id (λ old new. HasDecided old new named)
+IsPassed b (records.Decided id named) o = HasDecided b o.book id named
 IsPassed b (records.Voted id superior named) o = Passed b o.book id (λ old new. HasVoted old new named)
 IsPassed b other o = Unit {0}
 
+decided_in : (b : Book) (now : ℕ) (named : List Seated) (at : List Enlistment) (t : Transaction) (new : Option Transaction) → transaction_at b t.id ≡ Some t → IfThere (Stands t) new
+    → IsLeft named at new → IsDecided named at t.id b (put_transaction t.id (at_time now b) new)
+decided_in b now [] at t None there h l = refl
+decided_in b now [] at t (Some x) there h l = absurd l
+decided_in b now (s ∷ named) at t None there h l = absurd l
+decided_in b now (s ∷ named) at t (Some x) there h l =
+    subst (IsCommitting at) (sym (found_put t.id b.transactions t x (subst (λ i. is_id i t.id ≡ true) (sym h.own) (self_id t.id)) there)) l
+
 decided_passes : (b : Book) (now : ℕ) (id i : Numbers) (named : List Seated) (t : Transaction) (new : Option Transaction) → transaction_at b id ≡ Some t → i ≡ t.id
-    → IfThere (Stands t) new → AtDecided t named new → Passed b (put_transaction t.id (at_time now b) new) i (λ old new. HasDecided old new named)
-decided_passes b now id i named t None found e h p = absurd p
-decided_passes b now id i named t (Some new) found e h p = passes (λ old new. HasDecided old new named) b now id i t new found e h p
+    → IfThere (Stands t) new → AtDecided t named new → HasDecided b (put_transaction t.id (at_time now b) new) i named
+decided_passes b now id i named t new found e h p =
+    let own : t.id ≡ id = found_id id b.transactions t found in
+    let there : transaction_at b t.id ≡ Some t = subst (λ x. transaction_at b x ≡ Some t) (sym own) found in
+    subst (λ x. HasDecided b (put_transaction t.id (at_time now b) new) x named) (sym e)
+    (record { old = t; stood = there; at = p.at; behind = p.behind; decided = decided_in b now named p.at t new there h p.decided })
 
 voted_passes : (b : Book) (now : ℕ) (id i : Numbers) (named : List Seated) (t : Transaction) (new : Option Transaction) → transaction_at b id ≡ Some t → i ≡ t.id
     → IfThere (Stands t) new → AtVoted t named new → Passed b (put_transaction t.id (at_time now b) new) i (λ old new. HasVoted old new named)
@@ -257,21 +273,44 @@ leaf_passes b id (records.Decided i named) o h = absurd h
 leaf_passes b id (records.Voted i superior named) o h = absurd h
 leaf_passes b id other o h = tt
 
+-- a kept outcome changes no transaction
+passed_on : (b : Book) (s : Record) → StaysOn (IsPassed b s)
+passed_on b (records.Decided id named) r o h = record {
+  old = h.old;
+  stood = h.stood;
+  at = h.at;
+  behind = h.behind;
+  decided = decided_on named h.decided;
+}
+  where
+    decided_on : (named : List Seated) → IsDecided named h.at id b o.book → IsDecided named h.at id b (noted r o.book)
+    decided_on [] d = d
+    decided_on (s ∷ rest) d = d
+passed_on b (records.Voted id superior named) r o h = record { old = h.old; new = h.new; stood = h.stood; stands = h.stands; passed = h.passed }
+passed_on b (records.Start i) r o h = tt
+passed_on b (records.LeafPrepared i c k v) r o h = tt
+passed_on b (records.LeafCommitted i) r o h = tt
+passed_on b (records.LeafAborted i) r o h = tt
+passed_on b (records.SubCommitted i) r o h = tt
+passed_on b (records.Ended i) r o h = tt
+passed_on b (records.Done i) r o h = tt
+
 shape_passes : (b : Book) (e : Event) (now : ℕ) (p : Plan) (r : Record) → IsInPhase b → Shape b e now p → p.entry ≡ Some r → IsPassed b r p.landed
 shape_passes b e now p r h (nothing_moves f) k = absurd (no_entry p _ r f k)
 shape_passes b e now p r h (time_moves a os came why o f) k = absurd (no_entry p _ r f k)
+shape_passes b e now p r h (time_passes came f) k = absurd (no_entry p _ r f k)
 shape_passes b e now p r h (transaction_moves id t answer d stands how o f) k =
     subst (λ x. IsPassed b r x.landed) (sym f)
-    (says_entry (Left t) (λ s c. IsBehind t s c.item) (IsPassed b) b (put_transaction t.id (at_time now b)) answer (with_answer (moment_of b now) t d) r
+    (says_entry (Left t) (λ s c. IsBehind t s c.item) (IsPassed b) (passed_on b) b (put_transaction t.id (at_time now b)) answer (with_answer (moment_of b now) t d) r
     (moved_fine b e now t d (all_find Linked transaction_id id b.transactions t h.links stands) (all_find InPhase transaction_id id b.transactions t h.answers stands) how)
     (λ s c i j. entry_passes b now id t answer stands s c i.item j) (sym (ap (λ x. x.entry) f) ∙ k))
 shape_passes b e now p r h (leaf_moves id l answer d stands how o f) k =
     subst (λ x. IsPassed b r x.landed) (sym f)
-    (decided_entry (HasLeafId l.id) (NamesLeaf l.id) (IsPassed b) b (put_leaf l.id (at_time now b)) answer d r (leaf_moved_kept b e now l d how)
+    (decided_entry (HasLeafId l.id) (NamesLeaf l.id) (IsPassed b) (passed_on b) b (put_leaf l.id (at_time now b)) answer d r (leaf_moved_kept b e now l d how)
     (λ s c i j. leaf_passes b l.id s (outcome_of (put_leaf l.id (at_time now b)) answer c) j) (sym (ap (λ x. x.entry) f) ∙ k))
 shape_passes b e now p r h (activity_moves id a answer d stands how o f) k =
     subst (λ x. IsPassed b r x.landed) (sym f)
-    (decided_entry (HasBoth a) NoRecord (IsPassed b) b (put_activity a.id (at_time now b)) answer d r (activity_moved_kept b e now a d how)
+    (decided_entry (HasBoth a) NoRecord (IsPassed b) (passed_on b) b (put_activity a.id (at_time now b)) answer d r (activity_moved_kept b e now a d how)
     (λ s c i j. absurd j) (sym (ap (λ x. x.entry) f) ∙ k))
 shape_passes b e now p r h (transaction_registers id a c t stands came at says o f) k = absurd (no_entry p _ r f k)
 shape_passes b e now p r h (transaction_made a c id t os came at says next made sent o f) k = absurd (no_entry p _ r f k)
@@ -307,18 +346,20 @@ unfolding TellsBehind
 tells_both b e now p h (nothing_moves f) = subst (Both (TellsBehind b)) (sym f) (plain_both (TellsBehind b) (still b []) (nothing_told b (still b []) refl))
 tells_both b e now p h (time_moves a os came why o f) =
     subst (Both (TellsBehind b)) (sym f) (plain_both (TellsBehind b) (still (at_time now b) os) (nothing_told b (still (at_time now b) os) refl))
+tells_both b e now p h (time_passes came f) =
+    subst (Both (TellsBehind b)) (sym f) (plain_both (TellsBehind b) (still (at_time now b) accepted) (nothing_told b (still (at_time now b) accepted) refl))
 tells_both b e now p h (transaction_moves id t answer d stands how o f) =
     subst (Both (TellsBehind b)) (sym f)
-    (decided_says (Left t) (λ r c. IsBehind t r c.item) (TellsBehind b) b (put_transaction t.id (at_time now b)) answer (with_answer (moment_of b now) t d)
+    (decided_says (Left t) (λ r c. IsBehind t r c.item) (TellsBehind b) (λ r o i. i) b (put_transaction t.id (at_time now b)) answer (with_answer (moment_of b now) t d)
     (moved_fine b e now t d (all_find Linked transaction_id id b.transactions t h.links stands) (all_find InPhase transaction_id id b.transactions t h.answers stands) how)
     (λ c k. told_behind b id t c.effects stands k.told) (nothing_told b (still b answer) refl))
 tells_both b e now p h (leaf_moves id l answer d stands how o f) =
     subst (Both (TellsBehind b)) (sym f)
-    (decided_says Tells Anything (TellsBehind b) b (put_leaf l.id (at_time now b)) answer d (leaf_moved_other b e now l d how)
+    (decided_says Tells Anything (TellsBehind b) (λ r o i. i) b (put_leaf l.id (at_time now b)) answer d (leaf_moved_other b e now l d how)
     (λ c k. other_behind b c.effects k) (nothing_told b (still b answer) refl))
 tells_both b e now p h (activity_moves id a answer d stands how o f) =
     subst (Both (TellsBehind b)) (sym f)
-    (decided_says Tells Anything (TellsBehind b) b (put_activity a.id (at_time now b)) answer d (activity_moved_other b e now a d how)
+    (decided_says Tells Anything (TellsBehind b) (λ r o i. i) b (put_activity a.id (at_time now b)) answer d (activity_moved_other b e now a d how)
     (λ c k. other_behind b c.effects k) (nothing_told b (still b answer) refl))
 tells_both b e now p h (transaction_registers id a r t stands came at says o f) =
     subst (Both (TellsBehind b)) (sym f)

@@ -1,5 +1,5 @@
 -- A root decides and a subordinate votes only behind every answer: over whole steps of a book.
-use Rattle.std.specs.Prelude.{ℕ, List, Some, Bool, true, map, ◌≡◌, ◌⊎◌}
+use Rattle.std.specs.Prelude.{ℕ, List, [], ◌∷◌, Option, Some, None, Bool, true, map, ◌≡◌, ◌⊎◌}
 use Rattle.std.specs.List.{AllByRecursion}
 use Rattle.at_base.specs.Numbers.{Numbers}
 use Rattle.at_base.specs.declared.epr.Epr.{Epr}
@@ -13,7 +13,7 @@ use Rattle.at_base.specs.declared.outs.Ending.TheVariants as endings
 use Rattle.at_base.specs.declared.outs.Effect.TheVariants as effects
 use Rattle.at_tables.specs.declared.cells.State.{State}
 use Rattle.at_tables.specs.declared.cells.State.TheVariants as states
-use Rattle.at_model.specs.Book.{Book, Transaction, Enlistment, Phase}
+use Rattle.at_model.specs.Book.{Book, Transaction, Enlistment, Phase, transaction_id, put_by}
 use Rattle.at_model.specs.Seats.{answered, in_state, moved, prepared}
 use Rattle.at_model.specs.Step.{plan, step, transaction_at}
 use Rattle.at_model.specs.Recover.{recover}
@@ -62,19 +62,30 @@ pub record AreAnswered (before at : List Enlistment) (named : List Seated) : Typ
   pub durable : answered kinds.Durable at ≡ true
   pub prepared : named ≡ prepared at
 
--- Where a Decided landed: the transaction is Committing, and every Prepared seat is told to commit.
-pub record HasDecided (before after : Transaction) (named : List Seated) : Type 0 where
+-- the transaction is Committing, and every Prepared seat is told to commit
+abbrev pub IsCommitting : List Enlistment → Option Transaction → Type 0
+IsCommitting at None = ⊥
+IsCommitting at (Some t) = (t.phase ≡ Phase.Committing) × (t.seats ≡ moved (in_state states.Prepared) states.Committing at)
+
+-- What a decision that names these seats leaves of the transaction: where it names none, the transaction is over.
+abbrev pub IsDecided : List Seated → List Enlistment → Numbers → Book → Book → Type 0
+IsDecided [] at id before after = after.transactions ≡ put_by transaction_id id None before.transactions
+IsDecided (s ∷ named) at id before after = IsCommitting at (transaction_at after id)
+
+-- Where a Decided landed.
+pub record HasDecided (before after : Book) (id : Numbers) (named : List Seated) : Type 0 where
+  pub old : Transaction
+  pub stood : transaction_at before id ≡ Some old
   pub at : List Enlistment
-  pub behind : AreAnswered before.seats at named
-  pub phase : after.phase ≡ Phase.Committing
-  pub told : after.seats ≡ moved (in_state states.Prepared) states.Committing at
+  pub behind : AreAnswered old.seats at named
+  pub decided : IsDecided named at id before after
 
 -- Where a Voted landed: the transaction has voted, and waits.
 pub record HasVoted (before after : Transaction) (named : List Seated) : Type 0 where
   pub behind : AreAnswered before.seats after.seats named
   pub phase : after.phase ≡ Phase.Voted
 
--- Where a root commits, whether that is recorded or not.
+-- Where a root commits.
 pub record HasCommitted (b : Book) (id : Numbers) : Type 0 where
   pub old : Transaction
   pub stood : transaction_at b id ≡ Some old
@@ -91,12 +102,12 @@ pub record Passed (before after : Book) (id : Numbers) (P : Transaction → Tran
 
 -- Over steps and recovery each transaction stays behind the answers of its phase; so a Decided or a Voted is made only
 -- behind every answer, volatile and durable; and a root commits only behind every answer, also where nobody waits for its
--- decision and nothing is recorded.
+-- decision.
 pub record DecidesBehindEveryAnswer : Type 0 where
   pub book : (b : Book) (e : Event) (now : ℕ) (landed : Bool) → IsInPhase b → IsInPhase (step b e now landed).book
   pub recovered : (base : List ℕ) (rs : List Record) → IsInPhase (recover base rs)
   pub decided : (b : Book) (e : Event) (now : ℕ) (id : Numbers) (named : List Seated) → IsInPhase b → (plan b e now).entry ≡ Some (records.Decided id named)
-      → Passed b (plan b e now).landed.book id (λ old new. HasDecided old new named)
+      → HasDecided b (plan b e now).landed.book id named
   pub voted : (b : Book) (e : Event) (now : ℕ) (id : Numbers) (superior : Epr) (named : List Seated) → IsInPhase b → (plan b e now).entry ≡ Some (records.Voted id superior named)
       → Passed b (plan b e now).landed.book id (λ old new. HasVoted old new named)
   pub committed : (b : Book) (e : Event) (now : ℕ) (landed : Bool) (id : Numbers) → IsInPhase b → IsIn (effects.Root id endings.Committed) (step b e now landed).effects → HasCommitted b id

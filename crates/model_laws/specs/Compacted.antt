@@ -1,9 +1,10 @@
 -- What a journal comes to when its dead records are left out.
-use Rattle.std.specs.Prelude.{ℕ, List, [], ◌∷◌, codes, ◌≡◌, refl}
+use Rattle.std.specs.Prelude.{ℕ, List, [], ◌∷◌, ◌++◌, map, codes, ◌≡◌, refl}
 use Rattle.at_base.specs.Numbers.{Numbers}
 use Rattle.at_base.specs.declared.epr.Epr.{Epr}
 use Rattle.at_base.specs.declared.record.Record.{Record}
 use Rattle.at_base.specs.declared.record.Record.TheVariants as records
+use Rattle.at_model.specs.Outcomes.{outcomes_after}
 use Rattle.at_model.specs.Recover.{in_order, last_incarnation, live, recover}
 
 -- the id that a record is about; a Start is about none
@@ -16,12 +17,13 @@ record_id (records.Voted id superior seats) = id
 record_id (records.Decided id seats) = id
 record_id (records.SubCommitted id) = id
 record_id (records.Ended id) = id
+record_id (records.Done id) = id
 
--- A Start of the last incarnation, and the live records by rising id, a SubCommitted behind its Voted.
+-- A Start of the last incarnation, the live records by rising id, a SubCommitted behind its Voted; and the kept outcomes.
 abbrev pub compacted : List Record → List Record
-compacted rs = records.Start (last_incarnation rs) ∷ in_order record_id (live rs)
+compacted rs = records.Start (last_incarnation rs) ∷ (in_order record_id (live rs) ++ map records.Done (outcomes_after [] rs))
 
--- The compacted records stand for the same book, and none of them is dead but the Start.
+-- The compacted records stand for the same book, and none of them is dead but the Start and the outcomes.
 pub record RecoversTheCompacted : Type 0 where
   pub book : (base : List ℕ) (rs : List Record) → recover base (compacted rs) ≡ recover base rs
   pub live : (rs : List Record) → live (compacted rs) ≡ in_order record_id (live rs)

@@ -38,6 +38,7 @@ IsDrawnRecord b (records.Voted id superior seats) = IsDrawn b id
 IsDrawnRecord b (records.Decided id seats) = IsDrawn b id
 IsDrawnRecord b (records.SubCommitted id) = IsDrawn b id
 IsDrawnRecord b (records.Ended id) = IsDrawn b id
+IsDrawnRecord b (records.Done id) = IsDrawn b id
 
 -- the journal of a node that starts behind these records
 abbrev pub restarted : List Record → List Record

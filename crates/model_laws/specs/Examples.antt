@@ -58,7 +58,7 @@ PlainPathEffects =
     ≡ at 2 (effects.Root first endings.Committed) ∷ at 3 (effects.Leaf first kinds.Durable endings.Committed)
     ∷ at 1 (effects.Told first tellings.Committed) ∷ []
 
--- No participant: the root commits at once, and records nothing.
+-- No participant: the root commits at once.
 abbrev pub no_participant : List WorldEvent
 no_participant =
     up 1 ∷ up 2 ∷ begin_at 1 2 0 ∷ deliver_to 2 1 ∷ deliver_to 1 2 ∷ deliver_to 2 3 ∷ deliver_to 1 4
@@ -270,7 +270,7 @@ DecisionRefusedEffects =
     ≡ at 2 (effects.Root first endings.Aborted) ∷ at 3 (effects.Leaf first kinds.Durable endings.Aborted)
     ∷ at 1 (effects.Told first tellings.Aborted) ∷ []
 
--- A halt right behind the decision: it holds, the participant is told, and the initiator finds the outcome unknown.
+-- A halt right behind the decision: it holds, the participant is told, and the initiator, which asks again, hears of it.
 abbrev pub halt_behind_decision : List WorldEvent
 halt_behind_decision =
     one_participant votes.Prepared
@@ -281,14 +281,14 @@ abbrev pub HaltBehindDecisionMessages : Type 0
 HaltBehindDecisionMessages =
     lines_from 12 (run_of 3 halt_behind_decision)
     ≡ line 2 3 (codes "Commit") (codes "/p/d/1-1") ∷ line 3 2 (codes "Committed") (codes "/c/d/1-1/1")
-    ∷ line 1 2 (codes "Commit") (codes "/completion/1-1") ∷ line 2 1 (codes "UnknownTransaction") (codes "/i/1-1")
+    ∷ line 1 2 (codes "Commit") (codes "/completion/1-1") ∷ line 2 1 (codes "Committed") (codes "/i/1-1")
     ∷ []
 
 abbrev pub HaltBehindDecisionEffects : Type 0
 HaltBehindDecisionEffects =
     (run_of 3 halt_behind_decision).happened
     ≡ at 2 (effects.Root first endings.Committed) ∷ at 3 (effects.Leaf first kinds.Durable endings.Committed)
-    ∷ at 1 (effects.Told first tellings.Unknown) ∷ []
+    ∷ at 1 (effects.Told first tellings.Committed) ∷ []
 
 -- A root that expires before its decision aborts.
 abbrev pub expiry : List WorldEvent
@@ -436,10 +436,16 @@ PlainPathJournals =
     (endpoint_of (base_of 2) (targets.Coordinator first (record { number = 1; kind = kinds.Durable }))) (codes "k") (codes "v")
     ∷ records.LeafCommitted first ∷ []
 
--- Without a prepared durable participant no decision is recorded.
-abbrev pub NoDecisionRecorded : Type 0
-NoDecisionRecorded =
-    journal_at 2 (run_of 2 no_participant) ++ journal_at 2 (run_of 3 read_only) ≡ records.Start 1 ∷ records.Start 1 ∷ []
+-- Without a prepared durable participant the decision is recorded with no seats.
+abbrev pub DecidesWithoutSeats : Type 0
+DecidesWithoutSeats =
+    journal_at 2 (run_of 2 no_participant) ++ journal_at 2 (run_of 3 read_only)
+    ≡ records.Start 1 ∷ records.Decided first [] ∷ records.Start 1 ∷ records.Decided first [] ∷ []
+
+-- The initiator's Commit comes once more, when the transaction is over: it hears of the commit again.
+abbrev pub CommitsAgain : Type 0
+CommitsAgain =
+    lines_from 15 (run_of 3 (plain_path ++ deliver_to 2 9 ∷ [])) ≡ line 2 1 (codes "Committed") (codes "/i/1-1") ∷ []
 
 -- A world in which every node is down behind a decision comes to rest.
 abbrev pub half_told : List WorldEvent

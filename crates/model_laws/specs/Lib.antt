@@ -3,6 +3,7 @@ pub mod Agreement
 pub mod Settle
 pub mod Laws
 pub mod Shapes
+pub mod Decided
 pub mod Drawn
 pub mod Order
 pub mod Made

@@ -37,7 +37,7 @@ made_by_delivery n x b fates until (Some p) w =
 abbrev pub made_by_input : ℕ → Input → List Bool → Option ℕ → Node → Book → World → List Numbers
 made_by_input n (Deliver k) fates until x b w = made_by_delivery n x b fates until (nth k w.posted) w
 made_by_input n (Tick ms) fates until x b w =
-    made_by_turn n (x.clock + ms) (answer_plan b 202) (turn_from (ticked n (later ms x) w) b fates until)
+    made_by_turn n (x.clock + ms) (plan b events.Tick (x.clock + ms)) (turn_from (ticked n (later ms x) w) b fates until)
 made_by_input n Raw fates until x b w = made_by_turn n x.clock (answer_plan b 400) (turn_from w b fates until)
 
 abbrev pub made_by_request : ℕ → Plan → Turning → List Numbers

@@ -18,6 +18,7 @@ abbrev pub Heard : World → ℕ → Node → Event → Type 0
 Heard u n x (events.Arrived a) = (p : Posted) × IsIn p u.posted × (p.receiver ≡ Some n) × (decoded x.base p.content ≡ Some a)
 Heard u n x (events.Local l) = Unit {0}
 Heard u n x (events.Due item) = Unit {0}
+Heard u n x events.Tick = Unit {0}
 
 -- posts, one behind the other
 abbrev pub post_all : ℕ → List Post → World → World

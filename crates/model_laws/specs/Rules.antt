@@ -48,9 +48,9 @@ pub record EndsAreUndone : Type 0 where
   pub leaf_roll_back : (m : Moment) (from : Option Epr) (l : Leaf) → IsUndone (leaf_roll_back m from l kinds.Durable)
   pub book : (b : Book) (put : Option Transaction → Book) (answer : List Out) (d : Decision Transaction) → IsUndone d → (plan_of b put answer d).absent ≡ still b answer
 
--- A durable leaf's vote Prepared, a subordinate's and a root's decision are recorded; a volatile leaf records nothing.
+-- A durable leaf's vote Prepared, a subordinate's, and each decision of a root are recorded; a volatile leaf records nothing.
 pub record VotesAreRecorded : Type 0 where
   pub leaf : (m : Moment) (from : Option Epr) (coordinator : Epr) (l : Leaf) → l.coordinator ≡ Some coordinator → IsRecorded (leaf_votes m from l kinds.Durable votes.Prepared)
   pub volatile : (m : Moment) (from : Option Epr) (l : Leaf) (vote : Vote) → IsRecorded (leaf_votes m from l kinds.Volatile vote) → ⊥
-  pub root : (m : Moment) (g : Moving Transaction) → list_any is_prepared_durable g.item.seats ≡ true → IsRecorded (root_answered m g)
+  pub root : (m : Moment) (g : Moving Transaction) → IsRecorded (root_answered m g)
   pub subordinate : (m : Moment) (s : Superior) (superior : Epr) (g : Moving Transaction) → list_any is_prepared_durable g.item.seats ≡ true → IsRecorded (sub_answered m s (Some superior) g)

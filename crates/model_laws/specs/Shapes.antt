@@ -1,5 +1,5 @@
 -- What a step may do to a book.
-use Rattle.std.specs.Prelude.{ℕ, List, [], Option, Some, None, false, length, map, ◌++◌, ◌≡◌, ◌⊎◌}
+use Rattle.std.specs.Prelude.{ℕ, List, [], Option, Some, None, true, false, length, map, ◌++◌, ◌≡◌, ◌⊎◌}
 use Rattle.at_base.specs.Numbers.{Numbers}
 use Rattle.at_base.specs.declared.notice.Kind.{Kind}
 use Rattle.at_base.specs.declared.notice.Vote.{Vote}
@@ -32,7 +32,7 @@ use Rattle.at_model.specs.Create.{on_create}
 use Rattle.at_model.specs.Leaves.{on_leaf, on_work}
 use Rattle.at_model.specs.Activities.{on_activity, on_begin, on_interpose, on_ask, on_complete}
 use Rattle.at_model.specs.Due.{transaction_due, transaction_reached, leaf_due, leaf_reached, activity_due, activity_reached}
-use Rattle.at_model.specs.Step.{Plan, plain, still, at_time, moment_of, make_transaction, make_leaf, make_activity, transaction_plan, leaf_plan, activity_plan, registration_outcome, stranger_cell, find_seat, transaction_at, leaf_at, activity_at, plan}
+use Rattle.at_model.specs.Step.{Plan, plain, still, at_time, moment_of, make_transaction, make_leaf, make_activity, transaction_plan, leaf_plan, activity_plan, registration_outcome, stranger_cell, find_seat, transaction_at, leaf_at, activity_at, plan, has_committed, outcome_cell}
 use Rattle.model_laws.specs.Laws.{IsOrdered}
 
 -- nothing, or that a one-way message was accepted
@@ -50,7 +50,7 @@ NoParticipant kind None l = IfFound (λ x. is_kind x.kind kind ≡ false) l
 
 -- The target names no seat, no participant of this kind, or no activity, of the book.
 abbrev pub IsUnknownAt : Book → Target → Type 0
-IsUnknownAt b (targets.Completion id) = IfFound (λ t. t.completion ≡ None) (transaction_at b id)
+IsUnknownAt b (targets.Completion id) = IfFound (λ t. t.completion ≡ None) (transaction_at b id) × (has_committed b id ≡ false)
 IsUnknownAt b (targets.Coordinator id seat) = IfFound (λ t. find_seat seat.number seat.kind t.seats ≡ None) (transaction_at b id)
 IsUnknownAt b (targets.Participant id kind) = NoParticipant kind (transaction_at b id) (leaf_at b id)
 IsUnknownAt b (targets.Initiator id) = activity_at b id ≡ None
@@ -65,11 +65,13 @@ unknown_cell (targets.Initiator id) = initiator_of states.None
 unknown_cell other = λ n. None
 
 -- What is answered to a message that moves nothing: that it was accepted; by the table's state None where it is for
--- nothing that is known; or why a transaction, a registration or a leaf is refused.
+-- nothing that is known; by the state Done where its root committed; or why a transaction, a registration or a leaf is refused.
 pub data Answers (b : Book) (now : ℕ) (a : Arrived) (os : List Out) : Type 0 where
   ignored : os ≡ accepted → Answers b now a os
   unknown : (n : Notice) → a.message ≡ messages.Notice n → IsUnknownAt b a.target
       → os ≡ accepted ++ map outs.Post (stranger_cell b.base a.target a.from a.id (unknown_cell a.target n)) → Answers b now a os
+  committed : (n : Notice) (id : Numbers) → a.message ≡ messages.Notice n → a.target ≡ targets.Completion id → has_committed b id ≡ true
+      → os ≡ accepted ++ map outs.Post (outcome_cell b.base a.target a.from a.id (completion_of states.Done n)) → Answers b now a os
   not_created : (c : Create) → a.target ≡ targets.Activation → a.message ≡ messages.Create c → (on_create (moment_of b now) (length b.transactions) a c (next_id b)).transaction ≡ None
       → os ≡ (on_create (moment_of b now) (length b.transactions) a c (next_id b)).outs → Answers b now a os
   not_registered : (id : Numbers) (r : Register) → a.target ≡ targets.Registration id → a.message ≡ messages.Register r → transaction_at b id ≡ None
@@ -121,11 +123,12 @@ pub data MakesActivity (b : Book) (e : Event) (now : ℕ) (id : Numbers) (a : Ac
       → a ≡ (on_interpose (moment_of b now) id coordinator x.root x.context).activity
       → os ≡ map outs.Post (on_interpose (moment_of b now) id coordinator x.root x.context).posts → MakesActivity b e now id a os
 
--- All that a step may do to a book: nothing; one item that stands in it moves by one of its rules; a transaction that
+-- All that a step may do to a book: nothing, or to note the time; one item that stands in it moves by one of its rules; a transaction that
 -- stands in it takes a registration; or one item is made, under the next id.
 pub data Shape (b : Book) (e : Event) (now : ℕ) (p : Plan) : Type 0 where
   nothing_moves : p ≡ plain (still b []) → Shape b e now p
   time_moves : (a : Arrived) (os : List Out) → e ≡ events.Arrived a → Answers b now a os → IsOrdered os → p ≡ plain (still (at_time now b) os) → Shape b e now p
+  time_passes : e ≡ events.Tick → p ≡ plain (still (at_time now b) accepted) → Shape b e now p
   transaction_moves : (id : Numbers) (t : Transaction) (answer : List Out) (d : Decision Transaction) → transaction_at b id ≡ Some t → MovesTransaction b e now t d
       → IsAnswer answer → p ≡ transaction_plan b now answer t d → Shape b e now p
   leaf_moves : (id : Numbers) (l : Leaf) (answer : List Out) (d : Decision Leaf) → leaf_at b id ≡ Some l → MovesLeaf b e now l d

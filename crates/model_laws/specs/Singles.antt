@@ -100,6 +100,7 @@ half_prepared = record {
   incarnation = 1;
   counter = 1;
   seen = 0;
+  outcomes = [];
   transactions = record {
     id = first;
     identifier = [];
@@ -129,6 +130,7 @@ registering_book = record {
   incarnation = 1;
   counter = 1;
   seen = 0;
+  outcomes = [];
   transactions = [];
   leaves = record {
     id = first;
@@ -156,6 +158,27 @@ RelatesToIsCompared =
     (messages.RegisterResponse (endpoint_of (base_of 2) (targets.Completion first)))) []
     × OnlyPosts registering_book
     (one_way (targets.Participant first kinds.Durable) None (Some (codes "urn:uuid:other")) (messages.Fault (codes "InvalidState"))) [])
+
+-- A root that committed and is over, and a node that knows of none.
+abbrev pub decided_book : Book
+decided_book = recover (base_of 2) (records.Start 1 ∷ records.Decided first [] ∷ [])
+
+abbrev pub started_book : Book
+started_book = recover (base_of 2) (records.Start 1 ∷ [])
+
+abbrev pub initiator_endpoint : Option Epr
+initiator_endpoint = Some (endpoint_of (base_of 1) (targets.Initiator first))
+
+-- An initiator that asks again hears of the commit, and can't roll back what committed; without an outcome the
+-- transaction is unknown.
+abbrev pub OutcomeIsKept : Type 0
+OutcomeIsKept =
+    OnlyPosts decided_book (notice_of (targets.Completion first) initiator_endpoint notices.Commit)
+    ((codes "Committed", codes "/i/1-1") ∷ [])
+    × (OnlyPosts decided_book (notice_of (targets.Completion first) initiator_endpoint notices.Rollback)
+    ((codes "InvalidState", codes "/i/1-1") ∷ [])
+    × OnlyPosts started_book (notice_of (targets.Completion first) initiator_endpoint notices.Commit)
+    ((codes "UnknownTransaction", codes "/i/1-1") ∷ []))
 
 -- Where the record of a subordinate's Commit is absent, the step is undone: the book is as it was, and all that is sent
 -- is that the message was accepted.

@@ -1,6 +1,7 @@
 -- Bounds of a book: what it holds may stand in a record, so a record that a step makes is well-formed.
 use Rattle.std.specs.Prelude.{ℕ, List, [], ◌∷◌, Option, Some, None, Bool, length, ◌+◌, ◌^◌, ◌≡◌, ◌≤◌, ◌<◌, ◌⊎◌}
 use Rattle.std.specs.List.{AllByRecursion}
+use Rattle.at_base.specs.declared.limits.TheConstants.{MOST_SEATS}
 use Rattle.at_base.specs.Numbers.{Numbers}
 use Rattle.at_base.specs.IdText.{IsId}
 use Rattle.at_base.specs.WellFormed.{IsEndpoint, IsField, IsWellFormed}
@@ -29,6 +30,7 @@ abbrev pub IsSoundEvent : Event → Type 0
 IsSoundEvent (events.Arrived a) = IsSoundMessage a.message
 IsSoundEvent (events.Local l) = Unit {0}
 IsSoundEvent (events.Due item) = Unit {0}
+IsSoundEvent events.Tick = Unit {0}
 
 -- an endpoint that is known
 abbrev pub IfKnown : Option Epr → Type 0
@@ -86,7 +88,7 @@ pub record IsSealed (phase : Phase) (superior : Option Superior) (completion : O
 pub record IsBounded (id : Numbers) (superior : Option Superior) (seats : List Enlistment) : Type 0 where
   pub own : IsId id
   pub known : KnowsSuperior superior
-  pub most : length seats ≤ 64
+  pub most : length seats ≤ MOST_SEATS
   pub participants : AllByRecursion (λ s. IsEndpoint s.participant) seats
 
 pub record IsSoundTransaction (t : Transaction) : Type 0 where

@@ -3,6 +3,7 @@
 ghost use Rattle.model_laws.specs.Laws.{StepsAnswerFirst, StepsKeepPlace, RecoversTheLive, IncarnationsRise, MakesUnderTheNextId};
 ghost use Rattle.model_laws.specs.Behind.{DecidesBehindEveryAnswer};
 ghost use Rattle.model_laws.specs.Compacted.{RecoversTheCompacted};
+ghost use Rattle.model_laws.specs.Decided.{KeepsOutcomes};
 ghost use Rattle.model_laws.specs.Drawn.{IdsStayDrawn, NoIdMadeTwice};
 ghost use Rattle.model_laws.specs.Enlisted.{EnlistsTheKnown, EnlistsUnderOne, HoldsTheEnlisted};
 ghost use Rattle.model_laws.specs.Grows.{TakesNothingBack};
@@ -145,4 +146,10 @@ pub fn runs_are_reached()
 #[tactic(auto, using(crate::proofs::Lasting::takes_nothing_back))]
 pub fn takes_nothing_back()
     ensures { TakesNothingBack }
+{}
+
+/// In every run a node's book keeps exactly the outcomes that its journal's records add.
+#[tactic(auto, using(crate::proofs::Outcoming::keeps_outcomes))]
+pub fn keeps_outcomes()
+    ensures { KeepsOutcomes }
 {}

@@ -1,6 +1,6 @@
 //! Worked examples: whole runs of a world, with the messages and the effects that they give.
 
-ghost use Rattle.model_laws.specs.Examples.{WaitsForAllMessages, PlainPathMessages, PlainPathEffects, NoParticipantMessages, NoParticipantEffects, VolatileFirstMessages, VolatileFirstEffects, ReadOnlyMessages, ReadOnlyEffects, OneAbortsMessages, OneAbortsEffects, LateRegisterMessages, LateRegisterEffects, RegisterTwiceMessages, RegisterTwiceEffects, NewIncarnationMessages, NewIncarnationEffects, PrepareAgainMessages, PrepareAgainEffects, StopBeforeVoteMessages, StopBeforeVoteEffects, StopBehindVoteMessages, StopBehindVoteEffects, DecisionRefusedMessages, DecisionRefusedEffects, HaltBehindDecisionMessages, HaltBehindDecisionEffects, ExpiryMessages, ExpiryEffects, NoExpiryBehindDecisionMessages, NoExpiryBehindDecisionEffects, EndStandsMessages, EndStandsEffects, RollbackOnVolatileLinkMessages, RollbackOnVolatileLinkEffects, InterpositionMessages, InterpositionEffects, SubordinateCrashesMessages, SubordinateCrashesEffects, RegisterTwiceSeats, PlainPathJournals, NoDecisionRecorded, HalfToldSettles, StillRegisteringSettles};
+ghost use Rattle.model_laws.specs.Examples.{WaitsForAllMessages, PlainPathMessages, PlainPathEffects, NoParticipantMessages, NoParticipantEffects, VolatileFirstMessages, VolatileFirstEffects, ReadOnlyMessages, ReadOnlyEffects, OneAbortsMessages, OneAbortsEffects, LateRegisterMessages, LateRegisterEffects, RegisterTwiceMessages, RegisterTwiceEffects, NewIncarnationMessages, NewIncarnationEffects, PrepareAgainMessages, PrepareAgainEffects, StopBeforeVoteMessages, StopBeforeVoteEffects, StopBehindVoteMessages, StopBehindVoteEffects, DecisionRefusedMessages, DecisionRefusedEffects, HaltBehindDecisionMessages, HaltBehindDecisionEffects, ExpiryMessages, ExpiryEffects, NoExpiryBehindDecisionMessages, NoExpiryBehindDecisionEffects, EndStandsMessages, EndStandsEffects, RollbackOnVolatileLinkMessages, RollbackOnVolatileLinkEffects, InterpositionMessages, InterpositionEffects, SubordinateCrashesMessages, SubordinateCrashesEffects, RegisterTwiceSeats, PlainPathJournals, DecidesWithoutSeats, CommitsAgain, HalfToldSettles, StillRegisteringSettles};
 
 /// The plain path: the participant votes Prepared, and both sides commit.
 #[tactic(auto, using(crate::proofs::Examples::plain_path_messages, crate::proofs::Examples::plain_path_effects))]
@@ -9,7 +9,7 @@ pub fn plain_path()
     ensures effects { PlainPathEffects }
 {}
 
-/// No participant: the root commits at once, and records nothing.
+/// No participant: the root commits at once.
 #[tactic(auto, using(crate::proofs::Examples::no_participant_messages, crate::proofs::Examples::no_participant_effects))]
 pub fn no_participant()
     ensures messages { NoParticipantMessages }
@@ -86,7 +86,7 @@ pub fn decision_refused()
     ensures effects { DecisionRefusedEffects }
 {}
 
-/// A halt right behind the decision: it holds, the participant is told, and the initiator finds the outcome unknown.
+/// A halt right behind the decision: it holds, the participant is told, and the initiator, which asks again, hears of it.
 #[tactic(auto, using(crate::proofs::Examples::halt_behind_decision_messages, crate::proofs::Examples::halt_behind_decision_effects))]
 pub fn halt_behind_decision()
     ensures messages { HaltBehindDecisionMessages }
@@ -147,10 +147,16 @@ pub fn plain_path_journals()
     ensures { PlainPathJournals }
 {}
 
-/// Without a prepared durable participant no decision is recorded.
-#[tactic(auto, using(crate::proofs::Examples::no_decision_recorded))]
-pub fn no_decision_recorded()
-    ensures { NoDecisionRecorded }
+/// Without a prepared durable participant the decision is recorded with no seats.
+#[tactic(auto, using(crate::proofs::Examples::decides_without_seats))]
+pub fn decides_without_seats()
+    ensures { DecidesWithoutSeats }
+{}
+
+/// An initiator's Commit that comes again, when the transaction is over, is answered with Committed.
+#[tactic(auto, using(crate::proofs::Examples::commits_again))]
+pub fn commits_again()
+    ensures { CommitsAgain }
 {}
 
 /// A decision that nobody was told of is carried out once the nodes are up again.

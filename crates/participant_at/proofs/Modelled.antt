@@ -103,3 +103,4 @@ pub plans_as_the_model : PlansAsTheModel
 plans_as_the_model b (events.Arrived a) now h = arrives b now a a.target h
 plans_as_the_model b (events.Due item) now h = due b now item h
 plans_as_the_model b (events.Local l) now h = absurd h
+plans_as_the_model b events.Tick now h = absurd h

@@ -57,6 +57,7 @@ abbrev pub leaves_plan : Moment → Event → List Leaf → Plan Leaf
 leaves_plan m (events.Arrived a) ls = arrived_at m a ls a.target
 leaves_plan m (events.Due item) ls = item_asked m ls item
 leaves_plan m (events.Local l) ls = nothing
+leaves_plan m events.Tick ls = nothing
 
 -- What going down loses: the leaves that haven't voted.
 abbrev pub leaf_lost : Leaf → Effect

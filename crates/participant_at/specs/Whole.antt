@@ -9,7 +9,7 @@ use Rattle.at_base.specs.declared.event.Item.TheVariants as items
 use Rattle.at_base.specs.declared.event.Event.{Event}
 use Rattle.at_base.specs.declared.event.Event.TheVariants as events
 use Rattle.at_model.specs.Book.{Book, Leaf, leaf_id}
-use Rattle.at_model.specs.Step.{Outcome, Plan, plain, plan, at_time, moment_of, transaction_at, leaf_at}
+use Rattle.at_model.specs.Step.{Outcome, Plan, plain, noting, plan, at_time, moment_of, transaction_at, leaf_at}
 use Rattle.by_id.specs.Lists.{altered}
 use Rattle.by_id.specs.declared.list.Alteration.{Alteration}
 use Rattle.by_id.specs.declared.list.Alteration.TheVariants as alterations
@@ -43,7 +43,7 @@ abbrev pub whole : Book → ℕ → Planned Leaf → Plan
 whole b now (plans.Plain branch) = plain (outcome_in (at_time now b) branch)
 whole b now (plans.Recorded entry landed absent) = record {
   entry = Some entry;
-  landed = outcome_in (at_time now b) landed;
+  landed = noting entry (outcome_in (at_time now b) landed);
   absent = outcome_in (noted_if_done b now absent.change) absent;
 }
 
@@ -67,6 +67,7 @@ abbrev pub IsForLeaves : Book → Event → Type 0
 IsForLeaves b (events.Arrived a) = IsForLeafAt b a.message a.target
 IsForLeaves b (events.Due item) = IsLeafIn b item
 IsForLeaves b (events.Local l) = ⊥
+IsForLeaves b events.Tick = ⊥
 
 abbrev pub PlansAsTheModel : Type 0
 PlansAsTheModel =

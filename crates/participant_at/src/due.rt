@@ -58,7 +58,8 @@ pub fn may_expire(state: State) -> bool
         | State::PreparedSuccess
         | State::Committing
         | State::Aborting
-        | State::Completing => false,
+        | State::Completing
+        | State::Done => false,
     }
 }
 
@@ -84,7 +85,8 @@ fn waits(leaf: &Leaf) -> bool
         | State::Prepared
         | State::Committing
         | State::Aborting
-        | State::Completing => false,
+        | State::Completing
+        | State::Done => false,
     }
 }
 
@@ -171,7 +173,8 @@ fn push_again(
         | State::Prepared
         | State::Committing
         | State::Aborting
-        | State::Completing => Ok(()),
+        | State::Completing
+        | State::Done => Ok(()),
     }
 }
 

@@ -440,7 +440,8 @@ pub fn is_registering(state: State) -> bool
         | State::PreparedSuccess
         | State::Committing
         | State::Aborting
-        | State::Completing => false,
+        | State::Completing
+        | State::Done => false,
     }
 }
 

@@ -205,7 +205,7 @@ fn abort_all(
         State::Aborting,
         Group::Open,
     )?;
-    tell_initiator(alloc, moving, moment, Notice::Aborted)
+    tell_initiator(alloc, moving, moment, Notice::Aborted, State::None)
 }
 
 /// Aborts. Nothing is recorded, since abort is presumed.

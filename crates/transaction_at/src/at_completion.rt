@@ -1,12 +1,14 @@
 //! What a message does at the completion seat of a transaction (WS-AtomicTransaction 1.2, section 3.2).
 
 ghost use Rattle.std.specs.Prelude.{◌≡◌, IfOk, Some};
+ghost use Rattle.at_base.specs.declared.notice.Notice.TheVariants as notices;
+ghost use Rattle.at_base.specs.declared.target.Target.TheVariants as targets;
 ghost use Rattle.at_tables.specs.Tables.{completion_of};
 ghost use Rattle.at_tables.specs.declared.cells.State.TheVariants as states;
 ghost use Rattle.at_model.specs.Arrivals.{completion_act, completion_notice, on_completion};
-ghost use Rattle.at_model.specs.Moves.{Goes, begin, post, stays};
+ghost use Rattle.at_model.specs.Moves.{Goes, begin, post, posts, stays};
 ghost use Rattle.at_model.specs.Phases.{go_volatile};
-ghost use Rattle.at_model.specs.Posts.{fault_post};
+ghost use Rattle.at_model.specs.Posts.{fault_post, notice_post, to_each};
 ghost use Rattle.by_id.specs.Decided.{decision_of};
 
 use crate::phases::{aborts, go_volatile};
@@ -15,8 +17,9 @@ use crate::transaction::{Completion, Transaction};
 use at_base::event::{Arrived, Moment};
 use at_base::message::Message;
 use at_base::notice::Notice;
+use at_base::target::Target;
 use at_posts::names::{invalid_state, unknown_transaction};
-use at_posts::posts::fault_post;
+use at_posts::posts::{fault_post, notice_post};
 use at_tables::cells::{Act, State, completion_cell};
 use by_id::moves::{Decision, Moving};
 use std::alloc::{AllocError, Global};
@@ -78,6 +81,42 @@ fn completes(
     go_volatile(alloc, moment, Moving::begin(alloc, next))
 }
 
+/// The transaction, with Committed to the message's From, where it has one.
+fn with_committed(
+    alloc: Global,
+    moment: &Moment,
+    arrived: &Arrived,
+    transaction: &Transaction,
+) -> Result<Moving<Transaction>, AllocError>
+    ensures { IfOk result
+        (λ moving. moving
+        ≡ posts (to_each arrived.now.from
+        (λ to. notice_post moment.entry.now.base (targets.Completion transaction.now.id) to notices.Committed)) (begin transaction.now)) }
+{
+    let Some(to) = &arrived.from else {
+        return still(alloc, transaction);
+    };
+    let own = Target::Completion(transaction.id);
+    let message = notice_post(alloc, &moment.base, &own, to, Notice::Committed)?;
+    let next = transaction.clone()?;
+    posting(alloc, next, message)
+}
+
+/// The initiator asks for commit once more, of a transaction that committed: it is told so.
+fn answers_committed(
+    alloc: Global,
+    moment: &Moment,
+    arrived: &Arrived,
+    transaction: &Transaction,
+) -> Result<Decision<Transaction>, AllocError>
+    ensures { IfOk result
+        (λ decision. decision_of decision
+        ≡ Goes (stays (posts (to_each arrived.now.from
+        (λ to. notice_post moment.entry.now.base (targets.Completion transaction.now.id) to notices.Committed)) (begin transaction.now)))) }
+{
+    Ok(Decision::Goes(with_committed(alloc, moment, arrived, transaction)?.stays()))
+}
+
 /// An act of the completion table.
 #[tactic(auto, unfolding(at_model::specs::Arrivals::completion_act))]
 fn acts(
@@ -90,9 +129,10 @@ fn acts(
 ) -> Result<Decision<Transaction>, AllocError>
     ensures { IfOk result
         (λ decision. decision_of decision
-        ≡ completion_act moment.entry.now arrived.now.id completion.now transaction.now act) }
+        ≡ completion_act moment.entry.now arrived.now.from arrived.now.id completion.now transaction.now act) }
 {
     match act {
+        Act::SendCommitted => answers_committed(alloc, moment, arrived, transaction),
         Act::FaultUnknownTransaction => faults(
             alloc,
             arrived,
@@ -107,7 +147,6 @@ fn acts(
         | Act::SendPrepared
         | Act::SendCommit
         | Act::SendRollback
-        | Act::SendCommitted
         | Act::SendAborted
         | Act::FaultInvalidStateAndAbort
         | Act::Leave
@@ -133,7 +172,7 @@ fn notified(
 ) -> Result<Decision<Transaction>, AllocError>
     ensures { IfOk result
         (λ decision. decision_of decision
-        ≡ completion_notice moment.entry.now arrived.now.id completion.now transaction.now
+        ≡ completion_notice moment.entry.now arrived.now.from arrived.now.id completion.now transaction.now
         (completion_of completion.now.state notice)) }
 {
     match completion_cell(completion.state, notice) {

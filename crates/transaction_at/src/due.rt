@@ -102,7 +102,8 @@ pub fn unanswered_seat(state: State) -> Option<Notice>
         | State::Active
         | State::Prepared
         | State::PreparedSuccess
-        | State::Completing => None,
+        | State::Completing
+        | State::Done => None,
     }
 }
 
@@ -131,7 +132,8 @@ fn does_link_wait(request: &Option<Request>, link: &Link) -> bool
         | State::Prepared
         | State::Committing
         | State::Aborting
-        | State::Completing => false,
+        | State::Completing
+        | State::Done => false,
     }
 }
 

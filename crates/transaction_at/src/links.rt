@@ -6,7 +6,7 @@ ghost use Rattle.at_tables.specs.declared.cells.State.TheVariants as states;
 ghost use Rattle.at_model.specs.Moves.{posts, become};
 ghost use Rattle.at_model.specs.Posts.{notice_post, to_each};
 ghost use Rattle.at_model.specs.Phases.{upwards};
-ghost use Rattle.at_model.specs.Seats.{link_of, link_in, set_link, ending, initiator_posts, completed};
+ghost use Rattle.at_model.specs.Seats.{link_of, link_in, set_link, ending, initiator_posts, completion_in};
 
 use crate::seats::is_state;
 use crate::transaction::{Completion, Link, Superior, Transaction};
@@ -137,26 +137,27 @@ fn push_to_initiator(
     posts.push(notice_post(alloc, &moment.base, &own, &completion.initiator, notice)?)
 }
 
-/// The initiator's seat is None from now on.
-fn complete(completion: &mut Option<Completion>)
-    ensures { completion.new ≡ completed completion.old }
+/// The initiator's seat is in this state from now on.
+fn complete(completion: &mut Option<Completion>, state: State)
+    ensures { completion.new ≡ completion_in state completion.old }
 {
     if let Some(completion) = completion {
-        completion.state = State::None;
+        completion.state = state;
     }
 }
 
-/// The initiator is told the outcome, and its seat is None.
+/// The initiator is told the outcome, and its seat is in this state from now on.
 pub fn tell_initiator(
     alloc: Global,
     moving: &mut Moving<Transaction>,
     moment: &Moment,
     notice: Notice,
+    state: State,
 ) -> Result<(), AllocError>
     ensures { OnOk result
         (moving.new
         ≡ posts (initiator_posts moment.entry.now.base moving.old.item.id notice moving.old.item.completion)
-        (become (record moving.old.item { completion = completed moving.old.item.completion }) moving.old)) }
+        (become (record moving.old.item { completion = completion_in state moving.old.item.completion }) moving.old)) }
 {
     push_to_initiator(
         alloc,
@@ -166,6 +167,6 @@ pub fn tell_initiator(
         notice,
         &moving.item.completion,
     )?;
-    complete(&mut moving.item.completion);
+    complete(&mut moving.item.completion, state);
     Ok(())
 }

@@ -9,7 +9,7 @@ ghost use Rattle.at_model.specs.Moves.{Goes, Records, become, forgotten, posts, 
 ghost use Rattle.at_model.specs.Seats.{link_in, prepared};
 ghost use Rattle.at_tables.specs.declared.cells.State.TheVariants as states;
 ghost use Rattle.at_base.specs.declared.notice.Kind.TheVariants as kinds;
-ghost use Rattle.at_model.specs.Phases.{commit_seats, decided, root_answered, voted, sub_answered, durable_answered, if_durable_answered, prepare_seats, go_durable, volatile_answered, ended_posts, all_committed, advance, advance_in, upwards, go_volatile};
+ghost use Rattle.at_model.specs.Phases.{commit_seats, committed, decided, root_answered, voted, sub_answered, durable_answered, if_durable_answered, prepare_seats, go_durable, volatile_answered, ended_posts, all_committed, advance, advance_in, upwards, go_volatile};
 ghost use Rattle.by_id.specs.Decided.{decision_of};
 
 use crate::abort::{Reason, abort, until_rolled_back};
@@ -45,7 +45,7 @@ pub fn commit_seats(
     )
 }
 
-/// A root's decision: Commit to every Prepared seat, then Committed to the initiator.
+/// A root's decision: Commit to every Prepared seat, then Committed to the initiator, whose seat is Done from then on.
 #[tactic(auto, unfolding(at_model::specs::Phases::decided))]
 fn decide(
     alloc: Global,
@@ -58,39 +58,44 @@ fn decide(
     moving.effect(what)?;
     commit_seats(alloc, moment, moving)?;
     moving.item.phase = Phase::Committing;
-    tell_initiator(alloc, moving, moment, Notice::Committed)
+    tell_initiator(alloc, moving, moment, Notice::Committed, State::Done)
 }
 
-/// A root's decision for which nobody waits: it is forgotten.
-fn decides_alone(
+/// A decided root waits for its durable seats; where none is Prepared nobody waits for it, and it is forgotten.
+#[tactic(auto, unfolding(at_model::specs::Phases::committed))]
+fn committed(
     alloc: Global,
     moment: &Moment,
     mut moving: Moving<Transaction>,
-) -> Result<Decision<Transaction>, AllocError>
-    ensures { IfOk result
-        (λ decision. decision_of decision ≡ Goes (forgotten (decided moment.entry.now moving))) }
+) -> Result<Change<Transaction>, AllocError>
+    ensures { IfOk result (λ change. change ≡ committed moment.entry.now moving) }
 {
+    let is_awaited = has_prepared(moving.item.seats.as_slice());
     decide(alloc, moment, &mut moving)?;
-    Ok(Decision::Goes(moving.forgotten()))
+    if is_awaited {
+        Ok(moving.stays())
+    } else {
+        Ok(moving.forgotten())
+    }
 }
 
 /// A root's decision behind its record.
 fn decides(
     alloc: Global,
     moment: &Moment,
-    mut moving: Moving<Transaction>,
+    moving: Moving<Transaction>,
     seats: Seats,
     absent: Change<Transaction>,
 ) -> Result<Decision<Transaction>, AllocError>
     ensures { IfOk result
         (λ decision. decision_of decision
-        ≡ Records (records.Decided moving.item.id seats) (stays (decided moment.entry.now moving)) (Some absent)) }
+        ≡ Records (records.Decided moving.item.id seats) (committed moment.entry.now moving) (Some absent)) }
 {
     let id = id_of(&moving);
-    decide(alloc, moment, &mut moving)?;
+    let stands = committed(alloc, moment, moving)?;
     Ok(Decision::Records {
         entry: Record::Decided { id, seats },
-        stands: moving.stays(),
+        stands,
         absent: Some(absent),
     })
 }
@@ -120,8 +125,8 @@ fn prepared_in(alloc: Global, moving: &Moving<Transaction>) -> Result<Seats, All
     prepared(alloc, moving.item.seats.as_slice())
 }
 
-/// Every durable seat of a root has answered: with one Prepared the decision is recorded first, and where that record is
-/// absent the transaction aborts; with none, nobody waits for the decision, and no record is made.
+/// Every durable seat of a root has answered: the decision is recorded first, with the seats that are Prepared, also
+/// where none is; where that record is absent the transaction aborts.
 #[tactic(auto, unfolding(at_model::specs::Phases::root_answered))]
 fn root_answered(
     alloc: Global,
@@ -130,9 +135,6 @@ fn root_answered(
 ) -> Result<Decision<Transaction>, AllocError>
     ensures { IfOk result (λ decision. decision_of decision ≡ root_answered moment.entry.now moving) }
 {
-    if !has_prepared(moving.item.seats.as_slice()) {
-        return decides_alone(alloc, moment, moving);
-    }
     let seats = prepared_in(alloc, &moving)?;
     let absent = absent_abort(alloc, moment, &moving)?;
     decides(alloc, moment, moving, seats, absent)

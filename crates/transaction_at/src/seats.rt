@@ -53,6 +53,7 @@ fn place(state: State) -> u8
         State::Committing => 6,
         State::Aborting => 7,
         State::Completing => 8,
+        State::Done => 9,
     }
 }
 

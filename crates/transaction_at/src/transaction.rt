@@ -17,7 +17,7 @@ use std::marker::Model;
 /// A participant that a transaction accepted, and its seat (WS-Coordination 1.2, section 3.2).
 #[derive(Debug, Drop)]
 pub struct Enlistment {
-    /// 1 to 64, in the order of registration.
+    /// 1 to 512, in the order of registration.
     pub number: u16,
     /// The protocol that it registered for.
     pub kind: Kind,
@@ -54,7 +54,7 @@ impl Clone for Enlistment {
     }
 }
 
-/// The seats of one transaction, in the order of registration, at most 64.
+/// The seats of one transaction, in the order of registration, at most 512.
 #[derive(Debug, Drop)]
 pub struct Seats {
     items: Vec<Enlistment>,

@@ -79,8 +79,8 @@ turn_at : Unrecorded → (n : ℕ) (input : Input) (w : World) (x : Node) (o : O
 turn_at none n (Deliver k) w x o h = delivered none n (nth k w.posted) w x o h
 turn_at none n (Tick ms) w x None h = quiet_shown n w x h
 turn_at none n (Tick ms) w x (Some b) h =
-    turn_shown none n (answer_plan b 202) (ticked n (later ms x) w) (later ms x) b (nth_put n w.nodes x (later ms x) h)
-    ∙ ticked_shown n w x (later ms x) (turn_move (x.clock + ms) x (answer_plan b 202)) h refl
+    turn_shown none n (plan b events.Tick (x.clock + ms)) (ticked n (later ms x) w) (later ms x) b (nth_put n w.nodes x (later ms x) h)
+    ∙ ticked_shown n w x (later ms x) (turn_move (x.clock + ms) x (plan b events.Tick (x.clock + ms))) h refl
 turn_at none n Raw w x None h = quiet_shown n w x h
 turn_at none n Raw w x (Some b) h = turn_shown none n (answer_plan b 400) w x b h
 

@@ -118,7 +118,8 @@ module _ (ids : IdsRise) where
       → IsNode (ticks + 1) (tick_move ms x o).node
   ticked_node ticks ms x None e short h = later ticks x h
   ticked_node ticks ms x (Some b) e short h =
-      turned_node ticks (x.clock + ms) x (answer_plan b 202) (let within = h.clock in omega (arith, within, short)) (h.order b e)
+      turned_node ticks (x.clock + ms) x (plan b events.Tick (x.clock + ms)) (let within = h.clock in omega (arith, within, short))
+      (ids.stays b events.Tick (x.clock + ms) true (h.order b e))
 
   raw_node : (ticks : ℕ) (x : Node) (o : Option Book) → x.book ≡ o → IsNode ticks x → IsNode (ticks + 1) (raw_move x o).node
   raw_node ticks x None e h = later ticks x h

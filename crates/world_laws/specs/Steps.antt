@@ -83,7 +83,7 @@ delivery_move n (Some p) x o =
 
 abbrev pub tick_move : ℕ → Node → Option Book → Move
 tick_move ms x None = quiet x
-tick_move ms x (Some b) = turn_move (x.clock + ms) x (answer_plan b 202)
+tick_move ms x (Some b) = turn_move (x.clock + ms) x (plan b events.Tick (x.clock + ms))
 
 abbrev pub raw_move : Node → Option Book → Move
 raw_move x None = quiet x

@@ -12,7 +12,7 @@ ghost use Rattle.world_laws.specs.Steps.{IsCalm, arrival_move, delivery_move, in
 use crate::arrivals::decoded;
 use crate::event::{Input, WorldEvent};
 use crate::posted::{Posted, Steps, posted_at};
-use crate::turn::{answered, arrive, take, take_behind};
+use crate::turn::{arrive, take, tick};
 use at_base::event::{Arrived, Event, Local};
 use at_base::record::Record;
 use at_base::text::Text;
@@ -127,8 +127,7 @@ impl Node {
             None => Ok(Steps::new(alloc)),
             Some(book) => {
                 self.clock += ms as u64;
-                let first = answered(alloc, 202)?;
-                take_behind(alloc, book, self.clock, first)
+                tick(alloc, book, &mut self.journal, self.clock)
             }
         }
     }

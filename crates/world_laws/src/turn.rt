@@ -1,6 +1,7 @@
 //! Steps of a node's book, each behind its record.
 
 ghost use Rattle.std.specs.Prelude.{ℕ, ◌≡◌, ◌++◌, ◌∷◌, [], IfOk, OnOk, map, None, option_copied, true};
+ghost use Rattle.at_base.specs.declared.event.Event.TheVariants as events;
 ghost use Rattle.at_base.specs.declared.outs.Out.TheVariants as given;
 ghost use Rattle.model_laws.specs.Order.{IsInOrder, IsRising};
 ghost use Rattle.at_model.specs.Step.{items_of, plan};
@@ -19,7 +20,7 @@ use model_laws::rules::ids_rise;
 use std::alloc::{AllocError, Global};
 
 /// The answer to what changes nothing.
-pub fn answered(alloc: Global, status: u16) -> Result<Outs, AllocError>
+fn answered(alloc: Global, status: u16) -> Result<Outs, AllocError>
     ensures { IfOk result (λ outs. outs ≡ record { outs = given.Answer status None ∷ []; effects = [] }) }
 {
     let mut outs = OutList::from_vec(Vec::new(alloc));
@@ -124,7 +125,7 @@ fn take_due(alloc: Global, book: &mut Book, now: u64, steps: &mut Steps) -> Resu
 }
 
 /// The steps of a turn, behind that of its input.
-pub fn take_behind(
+fn take_behind(
     alloc: Global,
     book: &mut Book,
     now: u64,
@@ -139,6 +140,23 @@ pub fn take_behind(
     steps.push(first)?;
     take_due(alloc, book, now, &mut steps)?;
     Ok(steps)
+}
+
+/// The turn of a tick.
+pub fn tick(
+    alloc: Global,
+    book: &mut Book,
+    journal: &mut Vec<Record>,
+    now: u64,
+) -> Result<Steps, AllocError>
+    requires { IsInOrder book.old }
+    ensures book { OnOk result
+        (book.new ≡ last_book book.old (turn_outcomes now (plan book.old events.Tick now).landed)) }
+    ensures journal { OnOk result (journal.new.items ≡ with_entry journal.old.items (plan book.old events.Tick now).entry) }
+    ensures steps { IfOk result (λ steps. steps ≡ map outs_of (turn_outcomes now (plan book.old events.Tick now).landed)) }
+{
+    let first = take(alloc, book, journal, &Event::Tick, now)?;
+    take_behind(alloc, book, now, first)
 }
 
 /// The step of a message as its target takes it.
