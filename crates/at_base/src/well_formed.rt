@@ -92,7 +92,10 @@ pub fn is_well_formed(entry: &Record) -> bool
             id,
             superior,
             seats,
-        } => is_id(*id) && is_endpoint(superior) && !seats.as_slice().is_empty() && are_seats(seats),
+        } => is_id(*id)
+            && is_endpoint(superior)
+            && !seats.as_slice().is_empty()
+            && are_seats(seats),
         Record::Decided { id, seats } => is_id(*id) && are_seats(seats),
         Record::LeafCommitted { id }
         | Record::LeafAborted { id }

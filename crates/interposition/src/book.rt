@@ -18,8 +18,8 @@ ghost use Rattle.interposition.specs.declared.plan.Part.TheVariants as parts;
 ghost use Rattle.transaction_at.specs.PhaseNames.{phase_of};
 ghost use Rattle.interposition.specs.Whole.{KeepsBounds, LosesAsTheModel, StepsAsTheModel};
 
-use crate::plan::{Part, Plan, draws, notes_time};
 use crate::outcomes::Outcomes;
+use crate::plan::{Part, Plan, draws, notes_time};
 use crate::strangers::{answered, committed, ignored, nothing, stranger};
 use at_base::event::{Arrived, Event, Item, Local, Moment};
 use at_base::id::Id;
@@ -38,9 +38,9 @@ use coordinator_at::register::register_unknown;
 use coordinator_at::transactions::{Transactions, plans_as_the_model as transactions_as_the_model};
 use model_laws::rules::{ids_rise, records_are_well_formed};
 use participant_at::leaves::{Leaves, plans_as_the_model as leaves_as_the_model};
-use transaction_at::transaction::{Phase, Transaction};
 use std::alloc::{AllocError, Global};
 use std::marker::Model;
+use transaction_at::transaction::{Phase, Transaction};
 
 /// What a book loses where its node goes down is what the model says that the node loses.
 #[tactic(auto, using(crate::proofs::Losing::loses_as_the_model))]

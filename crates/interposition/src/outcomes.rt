@@ -31,10 +31,23 @@ impl Model for Outcomes {
     ghost invariant = { λ o. (MOST_OUTCOMES ≤ vec_capacity o.ids) × (length o.ids.items ≤ MOST_OUTCOMES) };
 }
 
+/// Whether the id is one of these.
+fn has_id(ids: &[Id], id: Id) -> bool
+    ensures { result ≡ is_kept id ids.now }
+{
+    for kept in ids {
+        if is_same(*kept, id) {
+            return true;
+        }
+    }
+    false
+}
+
 /// Takes an id out.
 fn take_out(ids: &mut Vec<Id>, id: Id)
     ensures items { ids.new.items ≡ filter (λ i. not (is_id i id)) ids.old.items }
     ensures room { vec_capacity ids.old ≤ vec_capacity ids.new }
+    ensures few { length ids.new.items ≤ length ids.old.items }
 {
     ids.retain(|kept| !is_same(*kept, id));
 }
@@ -67,12 +80,7 @@ impl Outcomes {
     pub fn has(&self, id: Id) -> bool
         ensures { result ≡ is_kept id self.now }
     {
-        for kept in self.ids.as_slice() {
-            if is_same(*kept, id) {
-                return true;
-            }
-        }
-        false
+        has_id(self.ids.as_slice(), id)
     }
 
     /// The id stands last.

@@ -165,13 +165,7 @@ fn push_outcome_to(
 {
     match act {
         Act::SendCommitted => {
-            let post = notice_post(
-                alloc,
-                &moment.base,
-                &arrived.target,
-                to,
-                Notice::Committed,
-            )?;
+            let post = notice_post(alloc, &moment.base, &arrived.target, to, Notice::Committed)?;
             outs.push(Out::Post(post))
         }
         Act::FaultInvalidState => push_fault(alloc, outs, to, &arrived.id, invalid_state()),

@@ -2,7 +2,7 @@
 use Rattle.std.specs.Prelude.{[], ◌∷◌, ◌++◌, ◌≡◌, codes, refl}
 use Rattle.std.specs.Fmt.{digits}
 use Rattle.at_model.specs.Abort.{abort}
-use Rattle.at_model.specs.Phases.{decided, root_answered, voted, sub_answered, go_durable, volatile_answered, all_committed, advance_in, go_volatile}
+use Rattle.at_model.specs.Phases.{decided, committed, root_answered, voted, sub_answered, go_durable, volatile_answered, all_committed, advance_in, go_volatile}
 use Rattle.at_model.specs.Arrivals.{seat_act, seat_notice, commit_voted, link_act, link_notice, completion_act, completion_notice, link_registered, link_fault, on_link, on_seat, on_completion}
 use Rattle.at_model.specs.Register.{accept, register_new, register_again, on_register, register_unknown}
 use Rattle.at_model.specs.Create.{create_under, create_in, on_create}
@@ -50,7 +50,7 @@ pub no_participant :
     ++ (codes "deliver 4 1 202\nmsg 5 1>2 Commit /completion/1-1\n"
     ++ (codes "deliver 5 2 202\nroot 2 1-1 committed\nmsg 6 2>1 Committed /i/1-1\n"
     ++ codes "deliver 6 1 202\ntold 1 1-1 committed\nend messages 6 committed 0 aborted 0 lost 0\n"))))))
-unfolding abort decided root_answered voted sub_answered go_durable volatile_answered all_committed advance_in go_volatile seat_act seat_notice commit_voted link_act link_notice completion_act completion_notice link_registered link_fault on_link on_seat on_completion accept register_new register_again on_register register_unknown create_under create_in on_create leaf_votes leaf_commit leaf_roll_back leaf_act leaf_notice leaf_registered leaf_fault on_leaf on_work activity_act activity_notice activity_created activity_registered activity_fault on_activity on_begin on_interpose on_ask on_complete transaction_reached leaf_reached activity_reached activation_plan registration_plan completion_plan coordinator_plan participant_plan initiator_plan work_plan arrived_plan request_plan due_plan world_step sha1 first_words schedule rounds compress hash_after digest_bytes by_index digits outcomes_in steps_of up_line deliver_line item_line message_start end_line
+unfolding abort decided committed root_answered voted sub_answered go_durable volatile_answered all_committed advance_in go_volatile seat_act seat_notice commit_voted link_act link_notice completion_act completion_notice link_registered link_fault on_link on_seat on_completion accept register_new register_again on_register register_unknown create_under create_in on_create leaf_votes leaf_commit leaf_roll_back leaf_act leaf_notice leaf_registered leaf_fault on_leaf on_work activity_act activity_notice activity_created activity_registered activity_fault on_activity on_begin on_interpose on_ask on_complete transaction_reached leaf_reached activity_reached activation_plan registration_plan completion_plan coordinator_plan participant_plan initiator_plan work_plan arrived_plan request_plan due_plan world_step sha1 first_words schedule rounds compress hash_after digest_bytes by_index digits outcomes_in steps_of up_line deliver_line item_line message_start end_line
 no_participant = refl
 
 -- The plain path: a durable participant votes Prepared, and both sides commit.
@@ -76,5 +76,5 @@ pub plain_path :
     ++ (codes "msg 13 2>1 Committed /i/1-1\ndeliver 12 3 202\nleaf 3 1-1 d committed\n"
     ++ (codes "msg 14 3>2 Committed /c/d/1-1/1\ndeliver 13 1 202\ntold 1 1-1 committed\n"
     ++ codes "deliver 14 2 202\nend messages 14 committed 1 aborted 0 lost 0\n"))))))))))
-unfolding abort decided root_answered voted sub_answered go_durable volatile_answered all_committed advance_in go_volatile seat_act seat_notice commit_voted link_act link_notice completion_act completion_notice link_registered link_fault on_link on_seat on_completion accept register_new register_again on_register register_unknown create_under create_in on_create leaf_votes leaf_commit leaf_roll_back leaf_act leaf_notice leaf_registered leaf_fault on_leaf on_work activity_act activity_notice activity_created activity_registered activity_fault on_activity on_begin on_interpose on_ask on_complete transaction_reached leaf_reached activity_reached activation_plan registration_plan completion_plan coordinator_plan participant_plan initiator_plan work_plan arrived_plan request_plan due_plan world_step sha1 first_words schedule rounds compress hash_after digest_bytes by_index digits outcomes_in steps_of up_line deliver_line item_line leaf_words message_start end_line
+unfolding abort decided committed root_answered voted sub_answered go_durable volatile_answered all_committed advance_in go_volatile seat_act seat_notice commit_voted link_act link_notice completion_act completion_notice link_registered link_fault on_link on_seat on_completion accept register_new register_again on_register register_unknown create_under create_in on_create leaf_votes leaf_commit leaf_roll_back leaf_act leaf_notice leaf_registered leaf_fault on_leaf on_work activity_act activity_notice activity_created activity_registered activity_fault on_activity on_begin on_interpose on_ask on_complete transaction_reached leaf_reached activity_reached activation_plan registration_plan completion_plan coordinator_plan participant_plan initiator_plan work_plan arrived_plan request_plan due_plan world_step sha1 first_words schedule rounds compress hash_after digest_bytes by_index digits outcomes_in steps_of up_line deliver_line item_line leaf_words message_start end_line
 plain_path = refl

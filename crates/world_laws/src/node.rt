@@ -126,8 +126,10 @@ impl Node {
         match &mut self.book {
             None => Ok(Steps::new(alloc)),
             Some(book) => {
-                self.clock += ms as u64;
-                tick(alloc, book, &mut self.journal, self.clock)
+                let now = self.clock + ms as u64;
+                let steps = tick(alloc, book, &mut self.journal, now)?;
+                self.clock = now;
+                Ok(steps)
             }
         }
     }

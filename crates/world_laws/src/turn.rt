@@ -125,12 +125,7 @@ fn take_due(alloc: Global, book: &mut Book, now: u64, steps: &mut Steps) -> Resu
 }
 
 /// The steps of a turn, behind that of its input.
-fn take_behind(
-    alloc: Global,
-    book: &mut Book,
-    now: u64,
-    first: Outs,
-) -> Result<Steps, AllocError>
+fn take_behind(alloc: Global, book: &mut Book, now: u64, first: Outs) -> Result<Steps, AllocError>
     requires { IsRising book.old }
     ensures book { OnOk result (book.new ≡ last_book book.old (due_outcomes now (items_of book.old) book.old)) }
     ensures steps { IfOk result
