@@ -15,7 +15,7 @@ use Rattle.journal_at.specs.declared.scan.Both.{Both}
 use Rattle.journal_at.specs.Format.{AreListed, Closed, FileOf, Mark, frames, head_of, mark_of, marked, records_of, without}
 use Rattle.journal_at.specs.Loading.{Alike, Fails, IsBare, Lasts, Loads, Ready, Spent, shuts, shuts_if, syncs}
 use Rattle.journal_at.specs.Pairs.{FilesOf, Holds, IsLive}
-use Rattle.journal_at.specs.Reading.{listed_in}
+use Rattle.journal_at.specs.Reading.{ArePlaced, bodies_of, listed_in}
 use Rattle.journal_at.specs.Scanning.{IsOpened, IsPicked, IsScan, IsSeen, is_bare, mark_in, records_in, second_lives, starts}
 use Rattle.journal_at.specs.Standing.{Keeps, Laid, Spare, Stands}
 use Rattle.journal_at.proofs.Laying.{rose_later}
@@ -98,7 +98,7 @@ stands_of w bodies t settled k h = record { listed = k; files = h; images = λ c
 
 module _ (w limit : ℕ) (u : Bool) (s : Scan) (f : List ℕ) (journal : Journal) (records : Records) (scan : IsScan s f) (opened : IsOpened w limit u s journal records) where
   pub records_same : drop s.head.start (listed s) ≡ records_in records
-  records_same = (λ i. drop (sym opened.start i) (sym opened.items i))
+  records_same = (λ i. drop (sym opened.start i) (bodies_of (sym opened.items i)))
 
   pub keeps_of : (t : Told) → Stands w (listed s) t → Spare u w (listed s) t → Keeps journal (listed s) t
   keeps_of t h k =
@@ -119,6 +119,7 @@ module _ (w limit : ℕ) (u : Bool) (s : Scan) (f : List ℕ) (journal : Journal
       keeps = keeps_of new stands spare;
       version = sym (version_is s f scan) ∙ sym opened.version;
       records_are = records_from s f scan ∙ records_same;
+      placed = subst (ArePlaced 0) (sym opened.items) scan.gates;
       bare = bare;
       when = when;
       grown = grown;

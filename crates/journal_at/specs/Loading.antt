@@ -13,7 +13,7 @@ use Rattle.journal_at.specs.declared.scan.Both.{Both}
 use Rattle.journal_at.specs.declared.version.Version.{Version}
 use Rattle.journal_at.specs.Format.{FileOf, head_of, records_of}
 use Rattle.journal_at.specs.Pairs.{FilesOf}
-use Rattle.journal_at.specs.Reading.{IsBadAt}
+use Rattle.journal_at.specs.Reading.{ArePlaced, IsBadAt}
 use Rattle.journal_at.specs.Scanning.{IsSeen, records_in}
 use Rattle.journal_at.specs.Standing.{Keeps}
 
@@ -116,6 +116,7 @@ pub record Opens (journal : Journal) (records : Records) (old new : Told) : Type
   pub keeps : Keeps journal bodies new
   pub version : (head_of bodies).version ≡ records.version
   pub records_are : records_of bodies ≡ records_in records
+  pub placed : ArePlaced 0 records.items.items
   pub bare : Bool
   pub when : (f : Files) → Is old.files f → (bare ≡ true) ↔ IsBare journal f
   pub grown : new.calls ≡ option_map (λ l. l ++ map done (syncs ++ shuts_if bare)) old.calls
