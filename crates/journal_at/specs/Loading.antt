@@ -52,6 +52,10 @@ Alike f c = (version : Version) (records : List (List ℕ)) → FilesOf f versio
 abbrev pub Lasts : Told → Files → Type 0
 Lasts old c = old.images c ⊎ ((f : Files) × Is old.files f × Alike f c)
 
+-- what reads give stands for what they gave
+abbrev pub Rests : Told → Told → Type 0
+Rests old new = (f : Files) → Is new.files f → (g : Files) × Is old.files g × Alike g f
+
 abbrev pub syncs : List Call
 syncs = Sync 0 ∷ Sync 1 ∷ []
 
@@ -94,6 +98,7 @@ pub record Fails (e : LoadFault) (old new : Told) : Type 0 where
   pub made : List Made
   pub ends : Ends e made old new
   pub grown : new.calls ≡ option_map (λ l. l ++ made) old.calls
+  pub files : Rests old new
   pub images : (c : Files) → new.images c → Lasts old c
   pub time : Elapses old new (λ l c. Between old new l × Lasts old c)
   pub spent : Spent old new
