@@ -1,11 +1,12 @@
 -- How a file's bodies are read, one after another.
-use Rattle.std.proofs.Common.{ℕ, List, None, [], ◌∷◌, length, ◌≡◌, ◌++◌, ◌-◌, ◌<◌, ◌≤◌, ◌⊎◌, inl, inr, refl, sym, ◌∙◌, ap, subst, take, drop, arith}
+use Rattle.std.proofs.Common.{ℕ, List, None, [], ◌∷◌, length, ◌≡◌, ◌++◌, ◌+◌, ◌-◌, ◌<◌, ◌≤◌, ◌⊎◌, inl, inr, refl, sym, ◌∙◌, ap, subst, take, drop, arith}
 use Rattle.std.specs.Int.{from_be_bytes, to_be_bytes, w32}
 use Rattle.std.proofs.lemmas.List.{append_assoc, append-nil, length-append, take_at, drop_at}
 use Rattle.std.proofs.lemmas.Nat.{from_be_bytes-to_be_bytes_4}
 use Rattle.journal_at.specs.Format.{AreBodies, AreInPlace, AreUnmarked, Closed, FileOf, IsBody, behind, frames, mark_of}
-use Rattle.journal_at.specs.Reading.{Begins, Framed, IsBadAt, IsMisplaced, IsRead, IsShut, IsStray, IsWhy, NoFrame}
+use Rattle.journal_at.specs.Reading.{ArePlaced, Begins, Framed, IsBadAt, IsMisplaced, IsRead, IsShut, IsStray, IsWhy, NoFrame, bodies_of, body_of}
 use Rattle.journal_at.specs.declared.read.BodiesFault.{BodiesFault}
+use Rattle.journal_at.specs.declared.read.Placed.{Placed}
 use Rattle.journal_at.specs.declared.read.BodiesFault.TheVariants.{NoMemory, Bad as BadAt}
 use Rattle.journal_at.proofs.Framing.{four, head_of_list, tail_of}
 use Rattle.journal_at.proofs.Torn.{frames_push}
@@ -62,6 +63,17 @@ placed_push (x ∷ bodies) body h (inr e) = unmarked_push bodies body h e
 pub sized_push : (bodies : List (List ℕ)) (body : List ℕ) → AreBodies bodies → IsBody body → AreBodies (bodies ++ body ∷ [])
 sized_push [] body h b = (b, tt)
 sized_push (x ∷ bodies) body h b = (h.0, sized_push bodies body h.1 b)
+
+pub gates_push : (at : ℕ) (old : List Placed) (placed : Placed) → ArePlaced at old → placed.gate ≡ at + length (frames (bodies_of old)) → ArePlaced at (old ++ placed ∷ [])
+gates_push at [] placed h e = (omega (arith, e), tt)
+gates_push at (first ∷ old) placed h e =
+    let b = behind (body_of first) in
+    let k = length-append b (frames (bodies_of old)) in
+    let n = length-append (to_be_bytes w32 (length (body_of first))) (body_of first) in
+    (h.0, gates_push (at + (5 + length (body_of first))) old placed h.1 (omega (arith, e, k, n, four (length (body_of first)))))
+
+pub gates_more : (old new : List Placed) (placed : Placed) (gate : ℕ) → new ≡ old ++ placed ∷ [] → placed.gate ≡ gate → ArePlaced 0 old → gate ≡ length (frames (bodies_of old)) → ArePlaced 0 new
+gates_more old new placed gate e g h k = subst (ArePlaced 0) (sym e) (gates_push 0 old placed h (omega (arith, g, k)))
 
 pub one_more : (whole : List ℕ) (so_far : List (List ℕ)) (rest body after : List ℕ) → IsRead whole so_far rest → Begins body after rest → (so_far ≡ []) ⊎ (mark_of body ≡ None) → IsRead whole (so_far ++ body ∷ []) after
 one_more whole so_far rest body after r b u =

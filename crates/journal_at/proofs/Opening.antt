@@ -1,7 +1,7 @@
 -- What a journal is opened on.
-use Rattle.std.proofs.Common.{ℕ, List, Bool, Option, Some, None, Result, Ok, Err, zero, suc, true, false, not, ◌&&◌, [], ◌∷◌, length, ◌≡◌, ◌++◌, ◌-◌, ◌<◌, ◌≤◌, ◌↔◌, inl, inr, ⊎_elim, refl, sym, ◌∙◌, ap, subst, drop, replicate, map, option_map, OnOk, OnErr, arith}
+use Rattle.std.proofs.Common.{ℕ, List, Bool, Option, Some, None, Result, Ok, Err, zero, suc, true, false, not, ◌&&◌, [], ◌∷◌, length, ◌≡◌, ◌++◌, ◌-◌, ◌<◌, ◌≤◌, ◌⊎◌, ◌↔◌, inl, inr, ⊎_elim, refl, sym, ◌∙◌, ap, subst, drop, replicate, map, option_map, OnOk, OnErr, arith}
 use Rattle.std.proofs.lemmas.Bool.{ltb-true, ltb-false}
-use Rattle.std.proofs.lemmas.List.{length-append}
+use Rattle.std.proofs.lemmas.List.{length-append, length-drop}
 use Rattle.site_model.proofs.Past.{and_then, weaker}
 use Rattle.site_model.specs.Counts.{Rose}
 use Rattle.site_model.specs.Site.{Counts}
@@ -13,9 +13,9 @@ use Rattle.journal_at.specs.declared.records.Records.{Records}
 use Rattle.journal_at.specs.declared.scan.Scan.{Scan}
 use Rattle.journal_at.specs.declared.scan.Both.{Both}
 use Rattle.journal_at.specs.Format.{AreListed, Closed, FileOf, Mark, frames, head_of, mark_of, marked, records_of, without}
-use Rattle.journal_at.specs.Loading.{Alike, Fails, IsBare, Lasts, Loads, Ready, Spent, shuts, shuts_if, syncs}
+use Rattle.journal_at.specs.Loading.{Alike, Fails, IsBare, Lasts, Loads, Ready, Rests, Spent, shuts, shuts_if, syncs}
 use Rattle.journal_at.specs.Pairs.{FilesOf, Holds, IsLive}
-use Rattle.journal_at.specs.Reading.{listed_in}
+use Rattle.journal_at.specs.Reading.{ArePlaced, bodies_of, listed_in}
 use Rattle.journal_at.specs.Scanning.{IsOpened, IsPicked, IsScan, IsSeen, is_bare, mark_in, records_in, second_lives, starts}
 use Rattle.journal_at.specs.Standing.{Keeps, Laid, Spare, Stands}
 use Rattle.journal_at.proofs.Laying.{rose_later}
@@ -70,20 +70,26 @@ closed_long f bodies l h = ⊎_elim (λ k. absurd (omega (arith, l, k.0))) (λ k
 pub closed_marked : (f : List ℕ) (bodies : List (List ℕ)) → 0 < (head_of bodies).generation → FileOf f bodies → Closed bodies f
 closed_marked f bodies l h = ⊎_elim (λ k. absurd (omega (arith, l, ap (λ z. (head_of z).generation) k.1))) (λ k. k) h.is
 
--- a gate that is torn in a file of at most one byte changes nothing
-pub alike_torn : (d c : Files) → length d.first ≤ 1 → TornIn 0 0 1 d c → Alike d c
-alike_torn d c l t version records h =
+-- a file of at most one byte may be another
+pub alike_short : (d c : Files) → length d.first ≤ 1 → length c.first ≤ 1 → c.second ≡ d.second → Alike d c
+alike_short d c l short kept version records h =
     record { live = h.live; bodies = h.bodies; others = h.others; is = is h.live h.is; other = other h.live h.other; newer = h.newer; versions = h.versions; all = h.all } where
-      short : length c.first ≤ 1
-      short = omega (arith, l, t.torn.no_longer)
-
       is : (w : ℕ) → FileOf (file_of w d) h.bodies → FileOf (file_of w c) h.bodies
       is zero k = file_torn d.first c.first h.bodies l short k
-      is (suc n) k = subst (λ z. FileOf z h.bodies) (sym t.kept) k
+      is (suc n) k = subst (λ z. FileOf z h.bodies) (sym kept) k
 
       other : (w : ℕ) → FileOf (other_than w d) h.others → FileOf (other_than w c) h.others
-      other zero k = subst (λ z. FileOf z h.others) (sym t.kept) k
+      other zero k = subst (λ z. FileOf z h.others) (sym kept) k
       other (suc n) k = file_torn d.first c.first h.others l short k
+
+pub alike_torn : (d c : Files) → length d.first ≤ 1 → TornIn 0 0 1 d c → Alike d c
+alike_torn d c l t = alike_short d c l (omega (arith, l, t.torn.no_longer)) t.kept
+
+pub written_short : (f : List ℕ) → length f ≤ 1 → length (written 0 (0 ∷ []) f) ≤ 1
+written_short f l =
+    let none : 0 - length f ≡ 0 = omega arith in
+    let n : length (written 0 (0 ∷ []) f) ≡ suc (length (drop 1 f)) = (λ i. length (replicate (none i) 0 ++ (0 ∷ drop 1 f))) in
+    omega (arith, l, n, length-drop 1 f)
 
 -- the pair whose one file is live
 pub pair_of : (w : ℕ) (s o : Scan) (f : Files) → IsScan s (file_of w f) → IsScan o (other_than w f) → IsLive w (listed s) (listed o) → FilesOf f s.head.version (drop s.head.start (listed s))
@@ -98,7 +104,7 @@ stands_of w bodies t settled k h = record { listed = k; files = h; images = λ c
 
 module _ (w limit : ℕ) (u : Bool) (s : Scan) (f : List ℕ) (journal : Journal) (records : Records) (scan : IsScan s f) (opened : IsOpened w limit u s journal records) where
   pub records_same : drop s.head.start (listed s) ≡ records_in records
-  records_same = (λ i. drop (sym opened.start i) (sym opened.items i))
+  records_same = (λ i. drop (sym opened.start i) (bodies_of (sym opened.items i)))
 
   pub keeps_of : (t : Told) → Stands w (listed s) t → Spare u w (listed s) t → Keeps journal (listed s) t
   keeps_of t h k =
@@ -119,6 +125,7 @@ module _ (w limit : ℕ) (u : Bool) (s : Scan) (f : List ℕ) (journal : Journal
       keeps = keeps_of new stands spare;
       version = sym (version_is s f scan) ∙ sym opened.version;
       records_are = records_from s f scan ∙ records_same;
+      placed = subst (ArePlaced 0) (sym opened.items) scan.gates;
       bare = bare;
       when = when;
       grown = grown;
@@ -194,6 +201,19 @@ module _ (old mid : Told) (both : Both) (ready : Ready old mid) (a : IsSeen both
           apart = record { link = h.apart.link ∙ ready.spent.apart.link; clock = h.apart.clock ∙ ready.spent.apart.clock };
         }
 
+    pub shut_rests : {T E : Type 0} (r : Result T E) (x : E) → r ≡ Err x → Laid 0 0 (0 ∷ []) r mid new → Rests old new
+    shut_rests {T} {E} r x e h f is = ⊎_elim put torn (subst (λ z. OnErr z Either) e h.failed f is) where
+      Either : Type 0
+      Either = (f : Files) → Is new.files f → ((g : Files) × Is mid.files g × (f ≡ with_file 0 (written 0 (0 ∷ [])) g)) ⊎ TornFrom 0 0 1 (Is mid.files) f
+
+      put : (g : Files) × Is mid.files g × (f ≡ with_file 0 (written 0 (0 ∷ [])) g) → (g : Files) × Is old.files g × Alike g f
+      put (g, was, same) =
+          let short = (first_of g was).bare bare in
+          (g, sym ready.files ∙ was, subst (Alike g) (sym same) (alike_short g (with_file 0 (written 0 (0 ∷ [])) g) short (written_short g.first short) refl))
+
+      torn : TornFrom 0 0 1 (Is mid.files) f → (g : Files) × Is old.files g × Alike g f
+      torn (g, was, t) = (g, sym ready.files ∙ was, alike_torn g f ((first_of g was).bare bare) t)
+
     pub fails_shut : {T E : Type 0} (r : Result T E) (x : E) → r ≡ Err x → Laid 0 0 (0 ∷ []) r mid new → Fails Disk old new
     fails_shut r x e h =
         record {
@@ -201,6 +221,7 @@ module _ (old mid : Told) (both : Both) (ready : Ready old mid) (a : IsSeen both
           made = map done syncs ++ h.calls.made;
           ends = breaks_then syncs shuts (map done syncs) h.calls.made refl (subst (λ z. Outcome shuts z h.calls.made) e h.calls.outcome);
           grown = grown_then old.calls mid.calls new.calls (map done syncs) h.calls.made ready.grown h.calls.grown;
+          files = shut_rests r x e h;
           images = λ c im. lasts_torn c (h.images c im);
           time = shut_time r h;
           spent = shut_spent r h;

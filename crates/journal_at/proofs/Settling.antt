@@ -10,7 +10,7 @@ use Rattle.journal_at.specs.declared.load.LoadFault.{LoadFault}
 use Rattle.journal_at.specs.declared.load.LoadFault.TheVariants.{NoMemory, Disk, Bad}
 use Rattle.journal_at.specs.declared.scan.Both.{Both}
 use Rattle.journal_at.specs.declared.scan.Scan.{Scan}
-use Rattle.journal_at.specs.Loading.{Ends, Fails, IsCause, LoadCause, Quiet, Ready, Settles, Surveys, shuts, syncs}
+use Rattle.journal_at.specs.Loading.{Ends, Fails, IsCause, LoadCause, Quiet, Ready, Rests, Settles, Surveys, shuts, syncs}
 use Rattle.journal_at.specs.Scanning.{IsSeen}
 use Rattle.journal_at.proofs.Ran.{all_ran, breaks_more, grown_then, is_between, is_last, map_err, map_ok, on_err, runs_cut, runs_then}
 use Rattle.journal_at.proofs.Laying.{rose_later}
@@ -92,6 +92,9 @@ ready_of r x old mid new rx h q =
       all : h.calls.made ≡ map done syncs
       all = subst (λ z. Outcome syncs z h.calls.made) rx h.calls.outcome
 
+pub rests : (old new : Told) → new.files ≡ old.files → Rests old new
+rests old new e f is = (f, sym e ∙ is, λ version records h. h)
+
 pub fails_early : {T E : Type 0} (r : Result T E) (e : E) (old new : Told) → r ≡ Err e → Settles r old new → Fails Disk old new
 fails_early r e old new re h =
     record {
@@ -99,6 +102,7 @@ fails_early r e old new re h =
       made = h.calls.made;
       ends = breaks_more syncs shuts h.calls.made (subst (λ z. Outcome syncs z h.calls.made) re h.calls.outcome);
       grown = h.calls.grown;
+      files = rests old new h.files;
       images = λ c im. inl (h.images c im);
       time = weaker old new _ _ h.time (λ l c n. (n.0, inl n.1));
       spent = record { disk = h.counts.cause.later; others = h.counts.others; apart = h.apart };
@@ -111,6 +115,7 @@ fails_ready e old new cause h =
       made = map done syncs;
       ends = ends e;
       grown = h.grown;
+      files = rests old new h.files;
       images = λ c im. inl (h.images c im);
       time = weaker old new _ _ h.time (λ l c n. (n.0, inl n.1));
       spent = h.spent;

@@ -13,7 +13,7 @@ use Rattle.journal_at.specs.declared.scan.Both.{Both}
 use Rattle.journal_at.specs.declared.version.Version.{Version}
 use Rattle.journal_at.specs.Format.{FileOf, head_of, records_of}
 use Rattle.journal_at.specs.Pairs.{FilesOf}
-use Rattle.journal_at.specs.Reading.{IsBadAt}
+use Rattle.journal_at.specs.Reading.{ArePlaced, IsBadAt}
 use Rattle.journal_at.specs.Scanning.{IsSeen, records_in}
 use Rattle.journal_at.specs.Standing.{Keeps}
 
@@ -51,6 +51,10 @@ Alike f c = (version : Version) (records : List (List ℕ)) → FilesOf f versio
 -- what a crash might leave since: what it might have left before, or what stands for what reads gave
 abbrev pub Lasts : Told → Files → Type 0
 Lasts old c = old.images c ⊎ ((f : Files) × Is old.files f × Alike f c)
+
+-- what reads give stands for what they gave
+abbrev pub Rests : Told → Told → Type 0
+Rests old new = (f : Files) → Is new.files f → (g : Files) × Is old.files g × Alike g f
 
 abbrev pub syncs : List Call
 syncs = Sync 0 ∷ Sync 1 ∷ []
@@ -94,6 +98,7 @@ pub record Fails (e : LoadFault) (old new : Told) : Type 0 where
   pub made : List Made
   pub ends : Ends e made old new
   pub grown : new.calls ≡ option_map (λ l. l ++ made) old.calls
+  pub files : Rests old new
   pub images : (c : Files) → new.images c → Lasts old c
   pub time : Elapses old new (λ l c. Between old new l × Lasts old c)
   pub spent : Spent old new
@@ -116,6 +121,7 @@ pub record Opens (journal : Journal) (records : Records) (old new : Told) : Type
   pub keeps : Keeps journal bodies new
   pub version : (head_of bodies).version ≡ records.version
   pub records_are : records_of bodies ≡ records_in records
+  pub placed : ArePlaced 0 records.items.items
   pub bare : Bool
   pub when : (f : Files) → Is old.files f → (bare ≡ true) ↔ IsBare journal f
   pub grown : new.calls ≡ option_map (λ l. l ++ map done (syncs ++ shuts_if bare)) old.calls

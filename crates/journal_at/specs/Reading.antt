@@ -1,5 +1,5 @@
 -- How the bytes of a file begin.
-use Rattle.std.specs.Prelude.{ℕ, List, [], ◌∷◌, ◌++◌, ◌≡◌, ◌≢◌, ◌≤◌, ◌<◌, ◌⊎◌, None, length, map}
+use Rattle.std.specs.Prelude.{ℕ, List, [], ◌∷◌, ◌++◌, ◌+◌, ◌≡◌, ◌≢◌, ◌≤◌, ◌<◌, ◌⊎◌, None, length, map}
 use Rattle.journal_at.specs.declared.read.BodiesFault.{BodiesFault}
 use Rattle.journal_at.specs.declared.read.BodiesFault.TheVariants.{NoMemory, Bad as BadAt}
 use Rattle.journal_at.specs.declared.listed.Bodies.{Bodies}
@@ -41,6 +41,11 @@ body_of placed = placed.body.items
 
 abbrev pub bodies_of : List Placed → List (List ℕ)
 bodies_of placed = map body_of placed
+
+-- each gate stands at its place
+abbrev pub ArePlaced : ℕ → List Placed → Type 0
+ArePlaced at [] = Unit {0}
+ArePlaced at (placed ∷ rest) = (placed.gate ≡ at) × ArePlaced (at + (5 + length (body_of placed))) rest
 
 abbrev pub listed_in : Bodies → List (List ℕ)
 listed_in bodies = bodies_of bodies.items.items

@@ -7,7 +7,7 @@ use Rattle.journal_at.specs.declared.scan.Scan.{Scan}
 use Rattle.journal_at.specs.declared.scan.Both.{Both}
 use Rattle.journal_at.specs.declared.records.Records.{Records}
 use Rattle.journal_at.specs.Format.{FileOf, Mark, frames, mark_of, marked}
-use Rattle.journal_at.specs.Reading.{IsShut, bodies_of, listed_in}
+use Rattle.journal_at.specs.Reading.{ArePlaced, IsShut, bodies_of, listed_in}
 
 abbrev pub mark_in : List (List ℕ) → Option Mark
 mark_in [] = None
@@ -30,6 +30,7 @@ IsGate false f = IsShut f
 
 pub record IsScan (scan : Scan) (f : List ℕ) : Type 0 where
   pub is : FileOf f (listed_in scan.bodies)
+  pub gates : ArePlaced 0 scan.bodies.items.items
   pub end : scan.bodies.end ≡ length (frames (listed_in scan.bodies))
   pub head : IsHead scan.head (mark_in (listed_in scan.bodies))
   pub gate : IsGate scan.unshut f
@@ -63,7 +64,7 @@ pub record IsOpened (live limit : ℕ) (unshut : Bool) (scan : Scan) (journal : 
   pub sure : journal.unsure ≡ false
   pub version : records.version ≡ scan.head.version
   pub start : records.start ≡ scan.head.start
-  pub items : bodies_of records.items.items ≡ listed_in scan.bodies
+  pub items : records.items.items ≡ scan.bodies.items.items
 
 abbrev pub IsPicked : Bool → ℕ → Both → Journal → Records → Type 0
 IsPicked true limit both journal records = IsOpened 1 limit both.first.unshut both.second journal records

@@ -4,7 +4,7 @@ ghost use Rattle.std.specs.Prelude.{◌≡◌, ◌≢◌, ◌⊎◌, ◌++◌, �
 ghost use Rattle.journal_at.specs.declared.read.BodiesFault.TheVariants.{NoMemory};
 ghost use Rattle.journal_at.specs.Format.{FileOf, frames, mark_of};
 ghost use Rattle.std.specs.Int.{from_be_bytes, to_be_bytes, w32};
-ghost use Rattle.journal_at.specs.Reading.{Says, IsMisplaced, IsWhy, bodies_of, body_of, listed_in};
+ghost use Rattle.journal_at.specs.Reading.{ArePlaced, Says, IsMisplaced, IsWhy, bodies_of, body_of, listed_in};
 
 use crate::listed::Bodies;
 use std::alloc::{AllocError, Global};
@@ -116,6 +116,14 @@ fn is_mark(body: &[u8]) -> bool
     }
 }
 
+/// One more at the end.
+fn push_placed(bodies: &mut Vec<Placed>, next: Placed) -> Result<(), AllocError>
+    ensures { OnOk result (bodies.new.items ≡ bodies.old.items ++ next ∷ []) }
+{
+    bodies.push(next)?;
+    Ok(())
+}
+
 /// A body more, unless it is a mark behind others.
 fn take_body(
     alloc: Global,
@@ -124,21 +132,23 @@ fn take_body(
     gate: u64,
 ) -> Result<(), BodiesFault>
     ensures done { OnOk result ((bodies_of bodies.new.items ≡ bodies_of bodies.old.items ++ body.now ∷ []) × ((bodies_of bodies.old.items ≡ []) ⊎ (mark_of body.now ≡ None))) }
+    ensures placed { OnOk result (ArePlaced 0 bodies.old.items → gate ≡ length (frames (bodies_of bodies.old.items)) → ArePlaced 0 bodies.new.items) }
     ensures bad { IfErr result (λ e. IsMisplaced e gate (bodies_of bodies.old.items) body.now) }
 {
     if !bodies.is_empty() && is_mark(body) {
         return Err(BodiesFault::Bad(gate));
     }
     let next = copy_of(alloc, body, gate)?;
-    if bodies.push(next).is_err() {
-        return Err(BodiesFault::NoMemory);
+    match push_placed(bodies, next) {
+        Ok(()) => Ok(()),
+        Err(_) => Err(BodiesFault::NoMemory),
     }
-    Ok(())
 }
 
 /// All bodies of a file.
 pub fn read_bodies(alloc: Global, bytes: &[u8]) -> Result<Bodies, BodiesFault>
     ensures ok { IfOk result (λ v. FileOf bytes.now (listed_in v)) }
+    ensures placed { IfOk result (λ v. ArePlaced 0 v.items.items) }
     ensures end { IfOk result (λ v. v.end ≡ length (frames (listed_in v))) }
     ensures why { IfErr result (λ e. IsWhy e bytes.now) }
 {

@@ -1,6 +1,6 @@
 //! The records of a journal.
 
-ghost use Rattle.std.specs.Prelude.{◌≡◌};
+ghost use Rattle.std.specs.Prelude.{◌≡◌, drop};
 ghost use Rattle.journal_at.specs.Reading.{bodies_of};
 ghost use Rattle.journal_at.specs.Scanning.{records_in};
 
@@ -25,7 +25,8 @@ impl Records {
 
     /// The records, each with the place of its gate.
     pub fn items(&self) -> &[Placed]
-        ensures { bodies_of result.now ≡ records_in self.now }
+        ensures bodies { bodies_of result.now ≡ records_in self.now }
+        ensures is { result.now ≡ drop self.now.start self.now.items.items }
     {
         let all = self.items.as_slice();
         let start = self.start.min(all.len());

@@ -1,6 +1,6 @@
-use Rattle.std.proofs.Common.{sym, subst}
+use Rattle.std.proofs.Common.{sym, subst, ◌∙◌}
 use Rattle.journal_at.specs.Reading.{IsRead}
-use Rattle.journal_at.proofs.Bodies.{ended, one_more, why_misplaced}
+use Rattle.journal_at.proofs.Bodies.{before, ended, one_more, why_misplaced}
 use Rattle.journal_at.proofs.read.read_bodies.Goals as goal
 
 pub returns-in-End-clause-ok : goal.returns-in-End-clause-ok
@@ -10,6 +10,7 @@ pub loop-bodies-preserved : goal.loop-bodies-preserved
 loop-bodies-preserved c =
     record {
       long = c.loop-bodies.invariant.long;
+      gates = c.in-Ok.ensures.placed c.loop-bodies.invariant.gates (c.saturating_sub-gate.ensures ∙ before c.args.bytes.now _ c.loop-bodies.rest.now c.loop-bodies.invariant.read);
       read = subst (λ z. IsRead c.args.bytes.now z c.in-Body.after.now) (sym c.in-Ok.ensures.done.0) (one_more c.args.bytes.now _ c.loop-bodies.rest.now c.in-Body.body.now c.in-Body.after.now c.loop-bodies.invariant.read c.in-Body.ensures c.in-Ok.ensures.done.1);
     }
 

@@ -1,10 +1,11 @@
 use Rattle.std.proofs.Common.{length, ◌<◌}
-use Rattle.journal_at.specs.Reading.{IsRead, bodies_of}
+use Rattle.journal_at.specs.Reading.{ArePlaced, IsRead, bodies_of}
 use Rattle.journal_at.proofs.read.read_bodies.Given as goal
 
 abbrev pub invariant-loop-bodies : goal.invariant-loop-bodies
 invariant-loop-bodies l = record {
   long : 1 < length l.bytes;
+  gates : ArePlaced 0 l.bodies.items;
   read : IsRead l.bytes (bodies_of l.bodies.items) l.rest;
 }
 
