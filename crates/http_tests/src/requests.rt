@@ -22,6 +22,15 @@ const ROWS: &[(&str, &str)] = &[
         "/y ",
     ),
     ("\r\n\r\nPOST * HTTP/1.0\nContent-Length: 1\n\nx", "* x"),
+    // as posts are written
+    (
+        "POST /p/d/1-1?a HTTP/1.1\r\nHost: n3.example:8080\r\nContent-Type: text/xml; charset=utf-8\r\nSOAPAction: \"http://docs.oasis-open.org/ws-tx/wsat/2006/06/Prepare\"\r\nContent-Length: 4\r\nConnection: close\r\n\r\n<a/>",
+        "/p/d/1-1 <a/>",
+    ),
+    (
+        "POST /tick HTTP/1.1\r\nHost: n3.example\r\nContent-Length: 0\r\nConnection: close\r\n\r\n",
+        "/tick ",
+    ),
     // 400 by the head
     ("", "400"),
     (
