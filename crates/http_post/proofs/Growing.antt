@@ -25,7 +25,7 @@ pub grown : (a b c : Option (List ℕ)) (before after : List ℕ) (n : ℕ) → 
 grown a b c before after n h p = subst (Consumes a c) (sym p.behind) (joined a b c before p.piece h p.taken)
 
 -- the first n of xs and what follows, where xs isn't longer
-front : (n : ℕ) (xs ys : List ℕ) → length xs ≤ n → take n (xs ++ ys) ≡ xs ++ take (n - length xs) ys
+pub front : (n : ℕ) (xs ys : List ℕ) → length xs ≤ n → take n (xs ++ ys) ≡ xs ++ take (n - length xs) ys
 front n xs ys le = ap (λ k. take k (xs ++ ys)) (omega (arith, le)) ∙ take-append-add xs ys (n - length xs)
 
 pub holds : (left now : Option (List ℕ)) (bytes : List ℕ) (places : List HeaderSpan) (spans : RequestSpans) → Consumes left now bytes → length bytes ≤ 8192

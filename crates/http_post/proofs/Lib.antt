@@ -14,3 +14,4 @@ mod Receiving
 mod Conversing
 mod Concluding
 mod Deciding
+mod Returning

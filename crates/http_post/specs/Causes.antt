@@ -1,4 +1,4 @@
--- A failure of the source has its cause in its count of faults, which never falls.
+-- A failure of the connection has its cause in the count of receives that failed, which never falls.
 use Rattle.std.specs.Prelude.{ℕ, ◌≡◌, ◌≤◌, Result, Err}
 use Rattle.site_model.specs.Counts.{Rose}
 use Rattle.http_post.specs.declared.refusal.HttpRefusal.{HttpRefusal}

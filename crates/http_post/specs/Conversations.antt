@@ -1,11 +1,12 @@
 -- What taking a request does to a node's machine, and what is said on the connection meanwhile.
 use Rattle.std.specs.Prelude.{ℕ, List, [], ◌∷◌, ◌++◌, ◌≡◌, ◌⊎◌, ◌≤◌, Option, Some, Bool, true, false, Result, Ok, Err, ⊤, codes, drop, length, option_map, take}
+use Rattle.std.specs.Io.KnownBytes.{Consumes}
 use Rattle.httparse.specs.Grammar.{HasNoRequest, ReadsRequest, RequestHead, print_request}
 use Rattle.site_model.specs.Counts.{Rose}
 use Rattle.site_model.specs.Site.{Counts}
 use Rattle.site_model.specs.Told.{Elapses, Link, Made, Told, Within, done, failed}
 use Rattle.site_model.specs.Told.Call.{Send}
-use Rattle.http_post.specs.Connections.{waiting}
+use Rattle.http_post.specs.Connections.{Stays, left, waiting}
 use Rattle.http_post.specs.Heads.{expects, framing_of}
 use Rattle.http_post.specs.Raw.{IsRaw}
 use Rattle.http_post.specs.Requests.{Asks, most_head, path_of}
@@ -67,6 +68,25 @@ pub record HasCauses {T : Type 0} (old new : Counts) (result : Result T HttpRefu
   pub receive : old.receive ≤ new.receive
   pub link : old.link ≤ new.link
   pub failed : result ≡ Err refusals.Link → Rose old.receive new.receive ⊎ Rose old.link new.link
+
+-- no more was taken than a head may have
+abbrev pub TookHead : Option (List ℕ) → Option (List ℕ) → Type 0
+TookHead old now = (bytes : List ℕ) × (length bytes ≤ most_head × Consumes old now bytes)
+
+-- what was said was said before anything more was read
+pub record Speaks {S : Type 0} (told : S → Told) (old new : S) : Type 0 where
+  pub after : S
+  pub made : List Made
+  pub line : Hears made (told old) (told after)
+  pub same : left (told after) ≡ left (told old)
+  pub body : Stays (told after) (told new)
+
+-- at first the head was read, and no more than one may have
+pub record InOrder {S : Type 0} (told : S → Told) (old new : S) : Type 0 where
+  pub before : S
+  pub head : Stays (told old) (told before)
+  pub early : TookHead (left (told old)) (left (told before))
+  pub speaks : Speaks told before new
 
 -- a head was heard that draws no refusal, and these bytes with it
 pub record IsHeard (input : List ℕ) (now : Option (List ℕ)) (path : List ℕ) (framing : Framing) (waits : Bool) (rest : List ℕ) : Type 0 where

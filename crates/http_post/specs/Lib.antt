@@ -11,3 +11,4 @@ pub mod Kept
 pub mod Connections
 pub mod Conversations
 pub mod Laws
+pub mod Readable

@@ -1,10 +1,10 @@
--- The raw bytes of a body while they come: those that are held, and those that the source has left.
+-- The raw bytes of a body while they come: those that are held, and those that the connection still brings.
 use Rattle.std.specs.Prelude.{ℕ, List, ◌++◌, ◌≡◌, ◌<◌, Option, Some, None, length, take, ⊤, Bool, true, false}
 use Rattle.http_post.specs.declared.refusal.HttpRefusal.{HttpRefusal}
 use Rattle.http_post.specs.declared.refusal.HttpRefusal.TheVariants.{Link, NoMemory}
 use Rattle.http_post.specs.Chunks.{cut_at_end, most_raw}
 
--- these are all the bytes of the body and behind it, where the source tells
+-- these are all the bytes of the body and behind it, where the machine tells
 abbrev pub IsRaw : Option (List ℕ) → List ℕ → List ℕ → Type 0
 IsRaw None bytes raw = ⊥
 IsRaw (Some left) bytes raw = raw ≡ bytes ++ left

@@ -1,11 +1,11 @@
 //! A whole request, taken of a node's machine.
 
-ghost use Rattle.std.specs.Prelude.{ℕ, List, ◌≡◌, ◌≢◌, Err, IfErr, IfOk, Ok, Some, drop};
+ghost use Rattle.std.specs.Prelude.{ℕ, List, ◌≡◌, ◌≢◌, ◌⊎◌, Err, IfErr, IfOk, Ok, OnOk, Some, drop};
 ghost use Rattle.site_model.specs.Counts.{HasCause};
 ghost use Rattle.site_model.specs.Told.{Link, Made};
 ghost use Rattle.http_post.specs.Causes.{HasLinkCause};
 ghost use Rattle.http_post.specs.Connections.{Leaves, left};
-ghost use Rattle.http_post.specs.Conversations.{HasCauses, Hears, IsHeard, IsRefused, IsSaid, Says, SaysSo, interim};
+ghost use Rattle.http_post.specs.Conversations.{HasCauses, Hears, InOrder, IsHeard, IsRefused, IsSaid, Says, SaysSo, Speaks, TookHead, interim};
 ghost use Rattle.http_post.specs.Kept.{Draws, SaysOf};
 ghost use Rattle.http_post.specs.Known.{IsRead};
 ghost use Rattle.http_post.specs.Raw.{IsFault};
@@ -76,6 +76,7 @@ fn hear<S: Site>(alloc: Global, site: &mut S) -> Result<Heard, HttpRefusal>
     ensures err { IfErr result (λ e. IsFault e (λ r. (input : List ℕ) → left (S.told site.old) ≡ Some input → IsRefused input r)) }
     ensures cause { HasLinkCause (S.told site.old).counts.receive (S.told site.new).counts.receive result }
     ensures leaves { Leaves S.told site.old site.new }
+    ensures early { OnOk result (TookHead (left (S.told site.old)) (left (S.told site.new))) }
 {
     let head = match read_head(alloc, site) {
         Ok(head) => head,
@@ -109,6 +110,7 @@ fn hear_body<S: Site>(alloc: Global, site: &mut S, heard: Heard) -> Result<Reque
     ensures err { IfErr result (λ e. IsFault e (λ r. (input : List ℕ) → IsHeard input (left (S.told site.old)) heard.asking.path heard.asking.framing heard.asking.waits heard.rest.items → Asks input (Err r))) }
     ensures cause { HasCauses (S.told site.old).counts (S.told site.new).counts result }
     ensures hears { (made : List Made) × (Hears made (S.told site.old) (S.told site.new) × SaysSo heard.asking.waits result made) }
+    ensures order { Speaks S.told site.old site.new }
 {
     let Heard { asking, mut rest } = heard;
     match go_on(site, asking.waits) {
@@ -131,10 +133,11 @@ pub fn take_request<S: Site>(alloc: Global, site: &mut S) -> Result<Request, Htt
     ensures err { IfErr result (λ e. IsFault e (λ r. (link : Link) → (S.told site.old).link ≡ Some link → Asks link.open_bytes (Err r))) }
     ensures cause { HasCauses (S.told site.old).counts (S.told site.new).counts result }
     ensures hears { (made : List Made) × (Hears made (S.told site.old) (S.told site.new) × Says result (S.told site.old).link made) }
+    ensures order { ((S.told site.new).calls ≡ (S.told site.old).calls) ⊎ InOrder S.told site.old site.new }
 {
     let heard = match hear(alloc, site) {
         Ok(heard) => heard,
-        Err(refusal) => return Err(refusal),
+        Err(refused) => return Err(refused),
     };
     match hear_body(alloc, site, heard) {
         Ok(request) => Ok(request),

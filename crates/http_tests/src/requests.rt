@@ -1,12 +1,9 @@
 //! What the bytes of a connection ask: each refusal and its neighbour, both sides of each limit, chunks and trailers.
 
-ghost use Rattle.http_post.specs.Known.{IsRead};
-
-use http_post::asking::judge;
-use http_post::body::read_body;
-use http_post::head::{Head, HeadFault, read_head};
 use http_post::refusal::HttpRefusal;
-use site_model::memory::MemSource;
+use http_post::request::take_request;
+use site_memory::machine::MemSite;
+use site_model::site::Site;
 use std::alloc::{AllocError, Global};
 use std::test::Fail;
 
@@ -25,6 +22,15 @@ const ROWS: &[(&str, &str)] = &[
         "/y ",
     ),
     ("\r\n\r\nPOST * HTTP/1.0\nContent-Length: 1\n\nx", "* x"),
+    // as posts are written
+    (
+        "POST /p/d/1-1?a HTTP/1.1\r\nHost: n3.example:8080\r\nContent-Type: text/xml; charset=utf-8\r\nSOAPAction: \"http://docs.oasis-open.org/ws-tx/wsat/2006/06/Prepare\"\r\nContent-Length: 4\r\nConnection: close\r\n\r\n<a/>",
+        "/p/d/1-1 <a/>",
+    ),
+    (
+        "POST /tick HTTP/1.1\r\nHost: n3.example\r\nContent-Length: 0\r\nConnection: close\r\n\r\n",
+        "/tick ",
+    ),
     // 400 by the head
     ("", "400"),
     (
@@ -77,6 +83,47 @@ const ROWS: &[(&str, &str)] = &[
         "400",
     ),
     ("POST / HTTP/1.0\r\nContent-Length: 65536\r\n\r\na", "400"),
+    // the interim line, where it is expected, no refusal by the head stands, and the version is 1.1
+    (
+        "POST / HTTP/1.1\r\nHost: a\r\nExpect: 100-continue\r\nContent-Length: 2\r\n\r\nhe",
+        "100 / he",
+    ),
+    (
+        "POST / HTTP/1.1\r\nHost: a\r\nexpect: 100-Continue\r\nTransfer-Encoding: chunked\r\n\r\n1\r\na\r\n0\r\n\r\n",
+        "100 / a",
+    ),
+    (
+        "POST / HTTP/1.1\r\nHost: a\r\nExpect: 100-continue\r\nExpect: 100-continue\r\nContent-Length: 0\r\n\r\n",
+        "100 / ",
+    ),
+    (
+        "POST / HTTP/1.1\r\nHost: a\r\nExpect: 100-continue\r\nContent-Length: 2\r\n\r\nh",
+        "100 400",
+    ),
+    (
+        "POST / HTTP/1.1\r\nHost: a\r\nExpect: 101-continue\r\nContent-Length: 2\r\n\r\nhe",
+        "/ he",
+    ),
+    (
+        "POST / HTTP/1.0\r\nExpect: 100-continue\r\nContent-Length: 2\r\n\r\nhe",
+        "/ he",
+    ),
+    (
+        "POST / HTTP/1.1\r\nExpect: 100-continue\r\nContent-Length: 2\r\n\r\nhe",
+        "400",
+    ),
+    (
+        "GET / HTTP/1.1\r\nHost: a\r\nExpect: 100-continue\r\n\r\n",
+        "405",
+    ),
+    (
+        "POST / HTTP/1.1\r\nHost: a\r\nExpect: 100-continue\r\n\r\nhe",
+        "411",
+    ),
+    (
+        "POST / HTTP/1.1\r\nHost: a\r\nExpect: 100-continue\r\nContent-Length: 65537\r\n\r\n",
+        "413",
+    ),
     // chunks
     (
         "POST / HTTP/1.0\r\nTransfer-Encoding: chunked\r\n\r\n0\r\n\r\n",
@@ -144,23 +191,21 @@ fn status(refusal: HttpRefusal) -> &'static str {
     }
 }
 
-/// A path and a body, or the refusal.
-fn asked(alloc: Global, head: &Head, source: &mut MemSource) -> Result<String, HttpRefusal>
-    requires { IsRead head.now.bytes.items head.now.places head.now.spans }
-{
-    let asking = judge(alloc, head)?;
-    let Ok(mut rest) = Vec::from_slice(alloc, head.rest()) else {
-        return Err(HttpRefusal::NoMemory);
-    };
-    let body = read_body(alloc, source, &mut rest, asking.framing)?;
-    match said(alloc, asking.path.as_str(), body.as_slice()) {
-        Ok(text) => Ok(text),
-        Err(_) => Err(HttpRefusal::NoMemory),
+/// The bytes of the interim line, and of the empty line behind it.
+const INTERIM: &[u8] = b"HTTP/1.1 100 Continue\r\n\r\n";
+
+/// What was said on the connection.
+fn lines(site: &MemSite) -> &'static str {
+    match site.answers() {
+        [] => "",
+        [line] if line.as_slice() == INTERIM => "100 ",
+        _ => "other ",
     }
 }
 
-fn said(alloc: Global, path: &str, body: &[u8]) -> Result<String, AllocError> {
-    let mut text = String::from_str(alloc, path)?;
+fn said(alloc: Global, lines: &str, path: &str, body: &[u8]) -> Result<String, AllocError> {
+    let mut text = String::from_str(alloc, lines)?;
+    text.push_str(path)?;
     text.push(' ')?;
     for byte in body {
         text.push(*byte as char)?;
@@ -168,27 +213,86 @@ fn said(alloc: Global, path: &str, body: &[u8]) -> Result<String, AllocError> {
     Ok(text)
 }
 
-fn answer(alloc: Global, input: &[u8]) -> Result<String, AllocError> {
-    let mut source = MemSource::new(alloc, input)?;
-    let found = match read_head(alloc, &mut source) {
-        Ok(head) => asked(alloc, &head, &mut source),
-        Err(HeadFault::NoHead) => Err(HttpRefusal::BadRequest),
-        Err(HeadFault::Failed) => Err(HttpRefusal::Link),
-        Err(HeadFault::NoMemory) => Err(HttpRefusal::NoMemory),
-    };
-    match found {
-        Ok(text) => Ok(text),
-        Err(refusal) => String::from_str(alloc, status(refusal)),
+fn refused(alloc: Global, lines: &str, refusal: HttpRefusal) -> Result<String, AllocError> {
+    let mut text = String::from_str(alloc, lines)?;
+    text.push_str(status(refusal))?;
+    Ok(text)
+}
+
+/// What is taken of the connection that comes next.
+fn taken(alloc: Global, site: &mut MemSite) -> Result<String, AllocError> {
+    let _opened = site.take();
+    match take_request(alloc, site) {
+        Ok(request) => said(
+            alloc,
+            lines(site),
+            request.path.as_str(),
+            request.body.as_slice(),
+        ),
+        Err(refusal) => refused(alloc, lines(site), refusal),
     }
+}
+
+/// What is taken of these bytes, which come at most so many at once, or all at once where that is 0.
+fn answer(alloc: Global, input: &[u8], most: usize) -> Result<String, AllocError> {
+    let mut site = MemSite::new(alloc);
+    site.give_at_most(most);
+    site.connect(input)?;
+    taken(alloc, &mut site)
 }
 
 #[test]
 fn each_request_is_judged(rt: HostRuntime) -> Result<(), Fail> {
     for (input, wanted) in ROWS {
-        let text = answer(rt.alloc(), input.as_bytes())?;
+        let text = answer(rt.alloc(), input.as_bytes(), 0)?;
         let same = text.as_str() == *wanted;
         assert!(rt; same, "{text} for {wanted}: {input}");
     }
+    Ok(())
+}
+
+#[test]
+fn pieces_change_nothing(rt: HostRuntime) -> Result<(), Fail> {
+    for (input, wanted) in ROWS {
+        let text = answer(rt.alloc(), input.as_bytes(), 1)?;
+        let same = text.as_str() == *wanted;
+        assert!(rt; same, "{text} for {wanted}, byte by byte: {input}");
+    }
+    Ok(())
+}
+
+/// A request whose client waits.
+const WAITING: &[u8] =
+    b"POST / HTTP/1.1\r\nHost: a\r\nExpect: 100-continue\r\nContent-Length: 2\r\n\r\nhe";
+
+/// What is taken where the k-th call of the connection fails, of which opening it is the first.
+fn faulty(alloc: Global, k: u32, most: usize) -> Result<String, AllocError> {
+    let mut site = MemSite::new(alloc);
+    site.give_at_most(most);
+    site.connect(WAITING)?;
+    site.fail_link(k);
+    taken(alloc, &mut site)
+}
+
+/// What is taken where the interim line isn't sent.
+fn unheard(alloc: Global) -> Result<String, AllocError> {
+    let mut site = MemSite::new(alloc);
+    site.connect(WAITING)?;
+    site.fail(1);
+    taken(alloc, &mut site)
+}
+
+#[test]
+fn a_failure_is_of_the_link(rt: HostRuntime) -> Result<(), Fail> {
+    let alloc = rt.alloc();
+    let first = faulty(alloc, 2, 0)?;
+    assert_eq!(rt; first.as_str(), "link");
+    let in_head = faulty(alloc, 3, 20)?;
+    assert_eq!(rt; in_head.as_str(), "link");
+    let in_body = faulty(alloc, 5, 23)?;
+    assert_eq!(rt; in_body.as_str(), "100 link");
+    let line = unheard(alloc)?;
+    assert_eq!(rt; line.as_str(), "link");
     Ok(())
 }
 
@@ -205,9 +309,9 @@ fn long_head(alloc: Global, bytes: usize) -> Result<Vec<u8>, AllocError> {
 #[test]
 fn a_head_has_8192_bytes(rt: HostRuntime) -> Result<(), Fail> {
     let alloc = rt.alloc();
-    let last = answer(alloc, long_head(alloc, 8192)?.as_slice())?;
+    let last = answer(alloc, long_head(alloc, 8192)?.as_slice(), 1000)?;
     assert_eq!(rt; last.as_str(), "/ x");
-    let over = answer(alloc, long_head(alloc, 8193)?.as_slice())?;
+    let over = answer(alloc, long_head(alloc, 8193)?.as_slice(), 1000)?;
     assert_eq!(rt; over.as_str(), "400");
     Ok(())
 }
@@ -228,9 +332,35 @@ fn long_line(alloc: Global, extension: usize) -> Result<Vec<u8>, AllocError> {
 #[test]
 fn chunks_have_131072_raw_bytes(rt: HostRuntime) -> Result<(), Fail> {
     let alloc = rt.alloc();
-    let last = answer(alloc, long_line(alloc, 131066)?.as_slice())?;
+    let last = answer(alloc, long_line(alloc, 131066)?.as_slice(), 0)?;
     assert_eq!(rt; last.as_str(), "/ ");
-    let over = answer(alloc, long_line(alloc, 131067)?.as_slice())?;
+    let over = answer(alloc, long_line(alloc, 131067)?.as_slice(), 0)?;
+    assert_eq!(rt; over.as_str(), "413");
+    Ok(())
+}
+
+/// A body of so many bytes, of which the last is missing if it is cut.
+fn long_body(alloc: Global, bytes: u32, cut: bool) -> Result<Vec<u8>, AllocError> {
+    let mut post = Vec::from_slice(alloc, b"POST / HTTP/1.0\r\nContent-Length: ")?;
+    if bytes == 65536 {
+        post.extend_from_slice(b"65536\r\n\r\n")?;
+    } else {
+        post.extend_from_slice(b"65537\r\n\r\n")?;
+    }
+    for _ in u32::from(cut)..bytes {
+        post.push(b'b')?;
+    }
+    Ok(post)
+}
+
+#[test]
+fn content_has_65536_bytes(rt: HostRuntime) -> Result<(), Fail> {
+    let alloc = rt.alloc();
+    let last = answer(alloc, long_body(alloc, 65536, false)?.as_slice(), 0)?;
+    assert_eq!(rt; last.len(), 65538);
+    let short = answer(alloc, long_body(alloc, 65536, true)?.as_slice(), 0)?;
+    assert_eq!(rt; short.as_str(), "400");
+    let over = answer(alloc, long_body(alloc, 65537, false)?.as_slice(), 0)?;
     assert_eq!(rt; over.as_str(), "413");
     Ok(())
 }

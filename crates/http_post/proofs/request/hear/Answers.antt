@@ -15,3 +15,6 @@ returns-in-Ok-judged-clause-ok g c =
 pub returns-clause-err : goal.returns-clause-err
 returns-clause-err g c =
     drawn (left (g.S.Site.told c.args.site.now)) (left (g.S.Site.told c.read_head.new.site)) _ _ _ c.in-Ok.ensures.head c.in-Err.refusal c.in-Err.ensures.err
+
+pub returns-in-Ok-judged-clause-early : goal.returns-in-Ok-judged-clause-early
+returns-in-Ok-judged-clause-early g c = (_, (c.in-Ok.ensures.head.fits, c.in-Ok.ensures.taken))
