@@ -7,12 +7,14 @@ use Rattle.at_base.specs.Chars.{is_xml_char}
 use Rattle.xml_profile.specs.Spellable.{is_content, is_empty as is_nothing, is_tag, is_text, texts_apart}
 use Rattle.xml_profile.specs.Forest.{Forest}
 use Rattle.xml_profile.specs.Forest.Forest.{End, Text_then, Element_then}
-use Rattle.xml_roundtrip.proofs.Bools.{and_true}
+use Rattle.xml_roundtrip.proofs.Bools.{and_true, higher}
 use Rattle.xml_roundtrip.proofs.Kept.{Fine, XmlText, is_text as text_from, text_of, text_all, text_both, text_one}
 use Rattle.xml_roundtrip.proofs.Written.{high_bytes}
 use Rattle.soap_profile.specs.Values.{direct_text, is_empty, is_white, trim, trim_end, trim_start}
 use Rattle.addressing.specs.Writing.{IsTrimmed}
+use Rattle.wire_msgs.specs.Bodies.{has_colon, local_part}
 use Rattle.wire_msgs.specs.Whole.{IsClean}
+use Rattle.wire_msgs.proofs.Colons.{local_goes, local_stops}
 
 white_low : (b : ℕ) → is_white b ≡ true → b < 128
 white_low b w = grind (arith)
@@ -120,6 +122,44 @@ trimmed bytes = ap trim_end (start_stays bytes) ∙ end_again (trim_start bytes)
 
 pub trim_clean : (bytes : List ℕ) → XmlText bytes → IsClean (trim bytes)
 trim_clean bytes t = record { trimmed = trimmed bytes; spelled = text_from (trim bytes) (ended (trim_start bytes) (start_text bytes t)) }
+
+-- what stands behind the last colon
+
+high_without : (bs rest : List ℕ) → list_all (nat_le 128) bs ≡ true → has_colon (bs ++ rest) ≡ has_colon rest
+high_without [] rest h = refl
+high_without (b ∷ bs) rest h =
+    let parts = and_true (nat_le 128 b) (list_all (nat_le 128) bs) h in
+    rw (higher 58 b (omega arith) (leb-true 128 b parts.0), high_without bs rest parts.1) refl
+
+high_goes : (bs rest : List ℕ) → list_all (nat_le 128) bs ≡ true → has_colon (bs ++ rest) ≡ true → local_part (bs ++ rest) ≡ local_part rest
+high_goes [] rest h e = refl
+high_goes (b ∷ bs) rest h e =
+    let parts = and_true (nat_le 128 b) (list_all (nat_le 128) bs) h in
+    let more : has_colon (bs ++ rest) ≡ true = high_without bs rest parts.1 ∙ (sym (high_without (b ∷ bs) rest h) ∙ e) in
+    local_goes b (bs ++ rest) e ∙ high_goes bs rest parts.1 more
+
+local_text : (cs : List ℕ) → Fine cs → XmlText (local_part (encode_utf8_all cs))
+local_text [] f = empty_text
+local_text (c ∷ cs) f = by_colon (has_colon (encode_utf8 c ++ encode_utf8_all cs)) refl (local_text cs (and_true (is_xml_char c) (list_all is_xml_char cs) f).1)
+  where
+    rest : List ℕ
+    rest = encode_utf8_all cs
+
+    by_size : (low : Bool) → ltb c 128 ≡ low → has_colon (encode_utf8 c ++ rest) ≡ true → XmlText (local_part rest) → XmlText (local_part (encode_utf8 c ++ rest))
+    by_size true e h t =
+        let one : encode_utf8 c ≡ c ∷ [] = encode_ascii c (ltb-true c 128 e) in
+        let goes : local_part (c ∷ rest) ≡ local_part rest = local_goes c rest (subst (λ (w : List ℕ). has_colon (w ++ rest) ≡ true) one h) in
+        subst (λ (w : List ℕ). XmlText (local_part (w ++ rest))) (sym one) (subst XmlText (sym goes) t)
+    by_size false e h t = subst XmlText (sym (high_goes (encode_utf8 c) rest (high_bytes c (ltb-false c 128 e)) h)) t
+
+    by_colon : (b : Bool) → has_colon (encode_utf8 c ++ rest) ≡ b → XmlText (local_part rest) → XmlText (local_part (encode_utf8 c ++ rest))
+    by_colon true e t = by_size (ltb c 128) refl e t
+    by_colon false e t = subst XmlText (sym (local_stops (encode_utf8 c ++ rest) e)) (text_all (c ∷ cs) f)
+
+pub local_spelled : (code : List ℕ) → IsClean code → is_text (local_part code) ≡ true
+local_spelled code c =
+    let t : XmlText code = text_of code c.spelled in
+    text_from (local_part code) (subst (λ (w : List ℕ). XmlText (local_part w)) t.encoded (local_text t.characters t.fine))
 
 -- the texts in an element
 

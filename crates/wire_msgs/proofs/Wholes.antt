@@ -4,6 +4,7 @@ use Rattle.std.specs.Prelude.{codes}
 use Rattle.std.proofs.lemmas.Bool.{leb-true}
 use Rattle.xml_profile.specs.declared.tree.Tree.{Tree}
 use Rattle.xml_profile.specs.Prefixes.{soap as soap_space}
+use Rattle.xml_profile.specs.Spellable.{is_text}
 use Rattle.xml_grammar.specs.Refusals.{Reads}
 use Rattle.soap_profile.specs.declared.envelope.Envelope.{Envelope}
 use Rattle.soap_profile.specs.declared.envelope.SoapRefusal.{SoapRefusal}
@@ -27,13 +28,14 @@ use Rattle.wire_msgs.specs.declared.refusal.ParameterName.TheVariants.{Body}
 use Rattle.wire_msgs.specs.declared.refusal.Refusal.{Refusal}
 use Rattle.wire_msgs.specs.declared.refusal.Refusal.TheVariants.{Action, Parameters}
 use Rattle.wire_msgs.specs.Arrivals.{Arrives, arrival_of, arrival_in, arrival_under, arrived, fault_at, message_of, said_at, said_in, targeted}
-use Rattle.wire_msgs.specs.Bodies.{body_of, fault_of, kind_in, readable, required, short, short_in, text_in, vote_in, work_of}
+use Rattle.wire_msgs.specs.Bodies.{body_of, fault_of, kind_in, once, present, readable, required, short, short_in, text_in, vote_in, work_of}
 use Rattle.wire_msgs.specs.Forms.{action_of, form_at, local_of, space_of, takes_fault, takes_form}
 use Rattle.wire_msgs.specs.Parts.{child_in, parts_in}
 use Rattle.wire_msgs.specs.Refusals.{Answers, addressing, coordination, soap, ◌>>=◌}
 use Rattle.wire_msgs.specs.Targets.{target_at}
 use Rattle.wire_msgs.specs.Whole.{IsAskedWell, IsClean, IsWhole, IsWholeContext, IsWholeCreate, IsWholeEndpoint, IsWholeMessage, IsWholeRegister, IsWholeWork}
 use Rattle.wire_msgs.proofs.Asking.{asked_well, create_asks, register_asks, work_asks}
+use Rattle.wire_msgs.proofs.Clean.{local_spelled}
 use Rattle.wire_msgs.proofs.Fitting.{AllFit, Fit, IfOne, fit_elements, one_of, parts_fit, read_fit, value_clean}
 use Rattle.wire_msgs.proofs.Headed.{AreWhole, headers_whole}
 use Rattle.wire_msgs.proofs.Kept.{context_whole, create_response_whole, create_whole, register_response_whole, register_whole}
@@ -156,6 +158,16 @@ work_whole (Some header) t h f =
     (λ kind. any IsWholeWork (vote_in t) _
     (λ vote. record { context = w; key = a.clean; short_key = a.within; value = b.clean; short_value = b.within })))))
 
+-- a fault
+
+fault_name : (t : Tree) → Fit t → IfOk (fault_of t) (λ name. is_text name ≡ true)
+fault_name t f =
+    chain IsClean (λ name. is_text name ≡ true) (text_in t parts.FaultCode) _ (text_clean t parts.FaultCode f)
+    (λ code c. any (λ name. is_text name ≡ true) (present parts.FaultString (child_in t parts.FaultString)) _
+    (λ string. any (λ name. is_text name ≡ true) (once parts.FaultActor (child_in t parts.FaultActor)) _
+    (λ actor. any (λ name. is_text name ≡ true) (once parts.Detail (child_in t parts.Detail)) _
+    (λ detail. local_spelled code c))))
+
 -- a message, and what its action asks of the headers
 
 record IsSaid (headers : Headers) (target : Target) (m : Message) : Type 0 where
@@ -167,7 +179,8 @@ module _ (headers : Headers) (target : Target) (body : Tree) (w : AreWhole heade
   fault_said = by_target (takes_fault target)
     where
       by_target : (b : Bool) → IfOk {E = Refusal} (cond b (fault_of body >>= λ name. Ok (messages.Fault name)) (Err Action)) (IsSaid headers target)
-      by_target true = any (IsSaid headers target) (fault_of body) _ (λ name. record { whole = tt; request = tt })
+      by_target true =
+          chain (λ name. is_text name ≡ true) (IsSaid headers target) (fault_of body) _ (fault_name body f) (λ name h. record { whole = h; request = tt })
       by_target false = tt
 
   body_said : (form : Form) → headers.action ≡ action_of form → is_named body.name soap_space (codes "Fault") ≡ false

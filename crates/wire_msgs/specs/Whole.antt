@@ -57,7 +57,7 @@ pub record IsWholeWork (body : Work) : Type 0 where
   pub value : IsClean body.value
   pub short_value : length body.value ≤ 256
 
--- a fault may have any name
+-- a fault may have any name of such characters
 abbrev pub IsWholeMessage : Message → Type 0
 IsWholeMessage (messages.Create body) = IsWholeCreate body
 IsWholeMessage (messages.CreateResponse context) = IsWholeContext context
@@ -67,7 +67,7 @@ IsWholeMessage (messages.Notice notice) = Unit {0}
 IsWholeMessage (messages.Work body) = IsWholeWork body
 IsWholeMessage messages.WorkDone = Unit {0}
 IsWholeMessage messages.WorkRefused = Unit {0}
-IsWholeMessage (messages.Fault name) = Unit {0}
+IsWholeMessage (messages.Fault name) = is_text name ≡ true
 
 -- a request has an id, and its endpoints can be answered (WS-Addressing 1.0 Core, sections 3.2 to 3.4)
 pub record CanBeAnswered (arrival : Arrival) : Type 0 where
