@@ -18,7 +18,7 @@ spaced : (space : Option (List ℕ)) (wanted : List ℕ) → is_in space wanted 
 spaced None wanted h = absurd cc
 spaced (Some own) wanted h = ap Some ((bytes_eq-Decides own wanted).0 h)
 
-named_so : (name : QName) (space local : List ℕ) → is_named name space local ≡ true → name ≡ qualified space local
+pub named_so : (name : QName) (space local : List ℕ) → is_named name space local ≡ true → name ≡ qualified space local
 named_so name space local h =
     let parts : (is_in name.space space ≡ true) × (bytes_eq name.local local ≡ true) = both (is_in name.space space) (bytes_eq name.local local) h in
     let a : name.space ≡ Some space = spaced name.space space parts.0 in

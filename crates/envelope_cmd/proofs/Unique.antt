@@ -18,7 +18,7 @@ use Rattle.wire_msgs.specs.Arrivals.{Means, arrival_of}
 use Rattle.wire_msgs.specs.Refusals.{of_tree}
 use Rattle.wire_posts.specs.Envelopes.{IsTextOf}
 use Rattle.envelope_cmd.specs.declared.table.NoRow.{NoRow}
-use Rattle.envelope_cmd.specs.Cells.{IsCellOf, IsCellPrinted, IsCellTold, IsMetPrinted, IsPosted, cell_line, meets, no_row_line, posted}
+use Rattle.envelope_cmd.specs.Cells.{IsCellOf, IsCellTold, IsMetPrinted, IsPosted, cell_line, meets, posted}
 use Rattle.envelope_cmd.specs.Checks.{IsCheckOf, check_of}
 use Rattle.envelope_cmd.specs.Output.{Output, accepted, refused}
 use Rattle.envelope_cmd.specs.Refusals.{refusal_line}

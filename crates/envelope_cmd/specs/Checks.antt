@@ -1,5 +1,5 @@
 -- What `check` prints: the lines of the message that the bytes mean, or the line of the first refusal.
-use Rattle.std.specs.Prelude.{ℕ, List, [], ◌++◌, Option, Some, Result, Ok, Err, codes, decimal, true, false, ◌≡◌}
+use Rattle.std.specs.Prelude.{ℕ, List, [], ◌++◌, Option, Some, Result, Ok, Err, codes, decimal, ◌≡◌}
 use Rattle.std.specs.Option.{option_map}
 use Rattle.at_base.specs.declared.message.Message.{Message}
 use Rattle.at_base.specs.declared.message.Message.TheVariants as messages

@@ -18,11 +18,11 @@ colon_in : (front back : List ℕ) → has_colon (front ++ 58 ∷ back) ≡ true
 colon_in [] back = refl
 colon_in (c ∷ front) back = rw (colon_in front back) (or-true (nat_eq c 58))
 
-local_stops : (text : List ℕ) → has_colon text ≡ false → local_part text ≡ text
+pub local_stops : (text : List ℕ) → has_colon text ≡ false → local_part text ≡ text
 local_stops [] e = refl
 local_stops (c ∷ cs) e = rw e refl
 
-local_goes : (c : ℕ) (cs : List ℕ) → has_colon (c ∷ cs) ≡ true → local_part (c ∷ cs) ≡ local_part cs
+pub local_goes : (c : ℕ) (cs : List ℕ) → has_colon (c ∷ cs) ≡ true → local_part (c ∷ cs) ≡ local_part cs
 local_goes c cs e = rw e refl
 
 local_last : (front back : List ℕ) → Lacks 58 back → local_part (front ++ 58 ∷ back) ≡ back

@@ -1,7 +1,13 @@
 pub mod Ahead
+pub mod Asking
+pub mod Clean
 pub mod Colons
 pub mod Decoded
+pub mod Fitting
 pub mod Forms
+pub mod Headed
+pub mod Kept
 pub mod Refused
 pub mod Splitting
 pub mod Taken
+pub mod Wholes

@@ -18,7 +18,7 @@ use Rattle.wire_msgs.specs.declared.form.Form.TheVariants as forms
 use Rattle.wire_msgs.specs.declared.refusal.ParameterName.TheVariants.{Body}
 use Rattle.wire_msgs.specs.declared.refusal.Refusal.{Refusal}
 use Rattle.wire_msgs.specs.declared.refusal.Refusal.TheVariants.{Action, Parameters}
-use Rattle.wire_msgs.specs.Arrivals.{arrival_of, arrival_in, arrival_under, arrived, fault_at, message_of, named_at, said_at, said_in, targeted}
+use Rattle.wire_msgs.specs.Arrivals.{Arrives, arrival_of, arrival_in, arrival_under, arrived, fault_at, message_of, named_at, said_at, said_in, targeted}
 use Rattle.wire_msgs.specs.Bodies.{body_of, fault_of, work_of}
 use Rattle.wire_msgs.specs.Forms.{form_at, form_of, local_of, space_of, takes_any, takes_fault, takes_form}
 use Rattle.wire_msgs.specs.Refusals.{Answers, addressing, coordination, soap, ◌>>=◌}
@@ -98,3 +98,6 @@ pub is_taken : (t : Tree) (path : List ℕ) (result : Result Arrival Refusal) �
     → IfOk result (λ a. takes a.target a.message ≡ true)
 is_taken t path (Ok a) h = arrival_taken t path a h
 is_taken t path (Err r) h = tt
+
+pub arrives_taken : (bytes path : List ℕ) (a : Arrival) → Arrives bytes path a → takes a.target a.message ≡ true
+arrives_taken bytes path a m = arrival_taken m.tree path a m.means

@@ -7,6 +7,7 @@ ghost use Rattle.xml_profile.specs.declared.tree.Tree.{Tree};
 ghost use Rattle.wire_msgs.specs.Arrivals.{Arrives, IsRefused, arrival_in, arrival_of, arrival_under, arrived, fault_at, message_of, said_at, said_in, targeted};
 ghost use Rattle.wire_msgs.specs.Refusals.{Answers};
 ghost use Rattle.wire_msgs.specs.Targets.{target_at};
+ghost use Rattle.wire_msgs.specs.Whole.{IsWhole};
 
 use crate::body::{read_body, read_fault};
 use crate::form::{Form, takes, takes_fault};
@@ -42,10 +43,11 @@ pub struct Arrival {
 
 /// The message that the bytes of a request at this path mean, or the first refusal that holds, in the order of
 /// [`Refusal`].
-#[tactic(auto, using(crate::proofs::Decoded::tree_refused, crate::proofs::Decoded::no_tree, crate::proofs::Decoded::arrives, crate::proofs::Decoded::is_refused, crate::proofs::Taken::is_taken))]
+#[tactic(auto, using(crate::proofs::Decoded::tree_refused, crate::proofs::Decoded::no_tree, crate::proofs::Decoded::arrives, crate::proofs::Decoded::is_refused, crate::proofs::Taken::is_taken, crate::proofs::Wholes::is_whole))]
 pub fn decode(alloc: Global, bytes: &[u8], path: &str) -> Result<Arrival, Refusal>
     ensures ok { IfOk result (Arrives bytes.now path.now) }
     ensures taken { IfOk result (λ arrival. takes arrival.target arrival.message ≡ true) }
+    ensures whole { IfOk result IsWhole }
     ensures err { IfErr result (IsRefused bytes.now path.now) }
     ensures every { (t : Tree) → Reads bytes.now t → Answers (arrival_of t path.now) result }
 {

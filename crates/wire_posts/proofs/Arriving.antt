@@ -51,7 +51,8 @@ use Rattle.wire_posts.specs.declared.fault.WrittenFault.{WrittenFault}
 use Rattle.wire_posts.specs.declared.fault.WrittenFault.TheVariants.{NotProfileDocument, VersionMismatch, NotEnvelope, MustUnderstand, HeaderRequired, InvalidHeader, ActionNotSupported, InvalidState, InvalidProtocol, InvalidParameters, CannotCreateContext, CannotRegisterParticipant, UnknownTransaction, Other}
 use Rattle.wire_posts.specs.Envelopes.{AreBoth, AreHeadersOf, IsBodyOf, IsEnvelopeOf, IsReplyOf, IsTextOf, IsWorkContext, action_in, context_in, reply_epr}
 use Rattle.wire_posts.specs.Faults.{fault_action, fault_named}
-use Rattle.wire_posts.specs.Returning.{CanReturn, IsAnswerable, IsClean, IsRequest, IsSource, IsWholeMessage, IsWholeReply, Returns, returned, written_to}
+use Rattle.wire_msgs.specs.Whole.{IsClean, IsSource}
+use Rattle.wire_posts.specs.Returning.{CanBeWritten, CanReturn, IsAnswerable, IsRequest, IsWholeReply, Returns, returned, written_to}
 use Rattle.wire_posts.proofs.Bodies.{ContextRead, contexts_read, fault_message, named, said_body, said_message}
 use Rattle.wire_posts.proofs.Ends.{IsRead, is_read, is_spelled}
 use Rattle.wire_posts.proofs.Spelling.{Can}
@@ -318,14 +319,14 @@ asked_by message post out e h r = tt
 -- the message
 
 of_form : (message : Message) (form : Form) (headers : Headers) (target : Target) (body : Tree) → form_of message ≡ Some form
-    → headers.action ≡ action_of form → takes target message ≡ true → IsBodyOf message body → IsWholeMessage message
+    → headers.action ≡ action_of form → takes target message ≡ true → IsBodyOf message body → CanBeWritten message
     → ContextRead message headers.context → message_of headers target body ≡ Ok message
 of_form message form headers target body e a t h w k =
     said_message form headers target message body (said_body message form e headers.context body h w k) a
     (ap (takes_any target) (sym e) ∙ (sym (takes_as_modelled target message) ∙ t))
 
 message_read : (message : Message) (headers : Headers) (target : Target) (body : Tree) → headers.action ≡ action_in message
-    → takes target message ≡ true → IsBodyOf message body → IsWholeMessage message → ContextRead message headers.context
+    → takes target message ≡ true → IsBodyOf message body → CanBeWritten message → ContextRead message headers.context
     → message_of headers target body ≡ Ok message
 message_read (messages.Create create) headers target body a t h w k = of_form (messages.Create create) forms.Create headers target body refl a t h w k
 message_read (messages.CreateResponse context) headers target body a t h w k =

@@ -51,7 +51,8 @@ use Rattle.wire_posts.specs.declared.fault.WrittenFault.{WrittenFault}
 use Rattle.wire_posts.specs.declared.fault.WrittenFault.TheVariants.{InvalidState, InvalidProtocol, InvalidParameters, CannotCreateContext, CannotRegisterParticipant, UnknownTransaction}
 use Rattle.wire_posts.specs.Envelopes.{AreBoth, IsBodyOf, IsContextOf, IsCreateOf, IsRegisterOf, IsWorkContext, context_in, work_part, work_tree}
 use Rattle.wire_posts.specs.Faults.{detail_of, fault_body, fault_named, name_of}
-use Rattle.wire_posts.specs.Returning.{IsProtocolFault, IsWhole, IsWholeContext, IsWholeCreate, IsWholeMessage, IsWholeRegister, IsWholeWork}
+use Rattle.wire_msgs.specs.Whole.{IsWholeContext, IsWholeCreate, IsWholeEndpoint, IsWholeRegister, IsWholeWork}
+use Rattle.wire_posts.specs.Returning.{CanBeWritten, IsProtocolFault}
 use Rattle.wire_posts.proofs.Ends.{IsRead, is_read}
 
 abbrev IsContextRead : Context → Option Tree → Type 0
@@ -136,7 +137,7 @@ register_read body out h w =
     let same : register_in out ≡ body = λ i. record { protocol = h.protocol i; participant = read.same i } in
     register_returns out (endpoint_returns out.participant (parameter_name ParticipantProtocolService)) legible ∙ ap Ok same
 
-coordinator_read : (epr : Epr) (out : Endpoint) → IsEndpointOf epr out → IsWhole epr → register_response_of (register_response_tree out) ≡ Ok epr
+coordinator_read : (epr : Epr) (out : Endpoint) → IsEndpointOf epr out → IsWholeEndpoint epr → register_response_of (register_response_tree out) ≡ Ok epr
 coordinator_read epr out h w =
     let read : IsRead epr out = is_read epr out w.kept h in
     ap (context_readable CoordinatorProtocolService) (endpoint_returns out (parameter_name CoordinatorProtocolService) read.legible)
@@ -211,7 +212,7 @@ block_read context None h w = absurd h
 block_read context (Some t) h w =
     ap context_of h.whole ∙ context_read context h.out (qualified coordination_space (codes "CoordinationContext")) h.of w
 
-pub contexts_read : (message : Message) (out : Option Tree) → AreBoth IsWorkContext (context_in message) out → IsWholeMessage message
+pub contexts_read : (message : Message) (out : Option Tree) → AreBoth IsWorkContext (context_in message) out → CanBeWritten message
     → ContextRead message (option_map context_block out)
 contexts_read (messages.Work body) out h w = block_read body.context out h w.context
 contexts_read message out h w = tt
@@ -265,7 +266,7 @@ fault_message name headers target h t =
 
 -- what a form's body says
 pub said_body : (message : Message) (form : Form) → form_of message ≡ Some form → (context : Option Tree) (body : Tree) → IsBodyOf message body
-    → IsWholeMessage message → ContextRead message context → IsSaid form context message body
+    → CanBeWritten message → ContextRead message context → IsSaid form context message body
 said_body (messages.Create create) form e context body h w k =
     subst (λ f. IsSaid f context (messages.Create create) body) (some_form forms.Create form e)
     (record { named = ap named h.whole; said = ap (λ r. coordination r >>= λ b. Ok (messages.Create b)) (ap create_of h.whole ∙ create_read create h.out h.of w) })

@@ -49,7 +49,8 @@ use Rattle.wire_posts.specs.declared.fault.WrittenFault.{WrittenFault}
 use Rattle.wire_posts.specs.declared.fault.WrittenFault.TheVariants.{NotProfileDocument, VersionMismatch, NotEnvelope, MustUnderstand, HeaderRequired, InvalidHeader, ActionNotSupported, InvalidState, InvalidProtocol, InvalidParameters, CannotCreateContext, CannotRegisterParticipant, UnknownTransaction, Other}
 use Rattle.wire_posts.specs.Envelopes.{AreBoth, AreHeadersOf, IsBodyOf, IsContextOf, IsCreateOf, IsRegisterOf, IsReplyOf, IsWorkContext, action_in, context_in, empty_tree, kind_name, reply_epr, vote_name, work_part, work_tree}
 use Rattle.wire_posts.specs.Faults.{fault_action, fault_body, fault_named}
-use Rattle.wire_posts.specs.Returning.{CanReturn, IsClean, IsSource, IsWholeContext, IsWholeCreate, IsWholeMessage, IsWholeRegister, IsWholeReply, IsWholeWork}
+use Rattle.wire_msgs.specs.Whole.{IsClean, IsSource, IsWholeContext, IsWholeCreate, IsWholeRegister, IsWholeWork}
+use Rattle.wire_posts.specs.Returning.{CanBeWritten, CanReturn, IsWholeReply}
 use Rattle.wire_posts.proofs.Ends.{IsSpelled, is_spelled}
 use Rattle.wire_posts.proofs.Marking.{all_marked}
 use Rattle.wire_posts.proofs.Spelling.{AllCan, Can, all_can, decimal_text, element_can, elements_can, elements_of, text_can}
@@ -298,7 +299,7 @@ fault_can CannotRegisterParticipant = refl
 fault_can UnknownTransaction = refl
 fault_can Other = refl
 
-pub body_can : (message : Message) (body : Tree) → IsBodyOf message body → IsWholeMessage message → Can body
+pub body_can : (message : Message) (body : Tree) → IsBodyOf message body → CanBeWritten message → Can body
 body_can (messages.Create create) body h w = subst Can (sym h.whole) (create_can create h.out h.of w)
 body_can (messages.CreateResponse context) body h w =
     subst Can (sym h.whole)
@@ -399,7 +400,7 @@ message_can post path target out h c =
     (texts_can (codes "RelatesTo") out.relates relates_named (text_spelled post.relates out.relates h.relates c.relates))
 
 -- a Work has its context in the header
-context_whole : (message : Message) → IsWholeMessage message → IfSome (context_in message) IsWholeContext
+context_whole : (message : Message) → CanBeWritten message → IfSome (context_in message) IsWholeContext
 context_whole (messages.Work body) w = w.context
 context_whole message w = tt
 

@@ -1,32 +1,24 @@
 -- When a post is read as what was sent, and what arrives then.
-use Rattle.std.specs.Prelude.{◌≡◌, ◌≤◌, ◌||◌, ℕ, List, true, false, IfSome, is_some, length, Option, Some, None, if◌then◌else◌}
+use Rattle.std.specs.Prelude.{◌≡◌, ℕ, List, true, IfSome, is_some, Option, Some, None, if◌then◌else◌}
 use Rattle.std.specs.Option.{option_map}
 use Rattle.std.specs.Str.{bytes_eq}
 use Rattle.xml_profile.specs.declared.tree.Tree.{Tree}
-use Rattle.xml_profile.specs.Spellable.{is_text}
 use Rattle.xml_grammar.specs.Limits.{IsWithin}
 use Rattle.xml_grammar.specs.Refusals.{IsShort}
 use Rattle.at_base.specs.declared.epr.Epr.{Epr}
 use Rattle.at_base.specs.declared.epr.Reply.{Reply}
 use Rattle.at_base.specs.declared.epr.Reply.TheVariants as replies
-use Rattle.at_base.specs.declared.message.Context.{Context}
-use Rattle.at_base.specs.declared.message.Create.{Create}
-use Rattle.at_base.specs.declared.message.Register.{Register}
-use Rattle.at_base.specs.declared.message.Work.{Work}
 use Rattle.at_base.specs.declared.message.Message.{Message}
 use Rattle.at_base.specs.declared.message.Message.TheVariants as messages
 use Rattle.at_base.specs.declared.outs.Post.{Post}
 use Rattle.at_base.specs.declared.target.Target.{Target}
 use Rattle.at_model.specs.World.{takes}
-use Rattle.addressing.specs.Endpoints.{anonymous, is_anonymous, is_nobody}
+use Rattle.addressing.specs.Endpoints.{anonymous}
 use Rattle.addressing.specs.Requests.{is_answerable}
-use Rattle.addressing.specs.Stored.{IsKept}
-use Rattle.addressing.specs.Writing.{IsTrimmed}
-use Rattle.context.specs.Reading.{is_identifier}
-use Rattle.context.specs.Writing.{IsNarrow}
 use Rattle.wire_msgs.specs.declared.decode.Arrival.{Arrival}
 use Rattle.wire_msgs.specs.Arrivals.{Arrives}
 use Rattle.wire_msgs.specs.Targets.{target_at}
+use Rattle.wire_msgs.specs.Whole.{IsClean, IsSource, IsWholeEndpoint, IsWholeMessage}
 use Rattle.wire_posts.specs.declared.encode.Encoded.{Encoded}
 use Rattle.wire_posts.specs.declared.encode.Encoded.TheVariants as encoded
 use Rattle.wire_posts.specs.declared.encode.Outgoing.{Outgoing}
@@ -58,50 +50,10 @@ returned post target =
 
 -- when it does
 
--- a text of characters of XML, without white space at an end
-pub record IsClean (text : List ℕ) : Type 0 where
-  pub trimmed : IsTrimmed text
-  pub spelled : is_text text ≡ true
-
--- an endpoint as reading gives it
-pub record IsWhole (epr : Epr) : Type 0 where
-  pub kept : IsKept epr
-  pub spelled : is_text epr.address ≡ true
-
--- a source that something can be sent to: one that is anonymous or none counts as absent
-pub record IsSource (epr : Epr) : Type 0 where
-  pub whole : IsWhole epr
-  pub somewhere : (is_anonymous epr || is_nobody epr) ≡ false
-
 abbrev pub IsWholeReply : Reply → Type 0
 IsWholeReply replies.Anonymous = Unit {0}
 IsWholeReply replies.Nobody = Unit {0}
-IsWholeReply (replies.At epr) = IsWhole epr
-
--- an identifier has 1 to 2,048 bytes
-pub record IsWholeContext (context : Context) : Type 0 where
-  pub identifier : IsClean context.identifier
-  pub within : is_identifier context.identifier ≡ true
-  pub expires : IsNarrow context.expires
-  pub coordination : IsClean context.coordination
-  pub registration : IsWhole context.registration
-
-pub record IsWholeCreate (body : Create) : Type 0 where
-  pub expires : IsNarrow body.expires
-  pub current : IfSome body.current IsWholeContext
-  pub coordination : IsClean body.coordination
-
-pub record IsWholeRegister (body : Register) : Type 0 where
-  pub protocol : IsClean body.protocol
-  pub participant : IsWhole body.participant
-
--- a key and a value have at most 256 bytes
-pub record IsWholeWork (body : Work) : Type 0 where
-  pub context : IsWholeContext body.context
-  pub key : IsClean body.key
-  pub short_key : length body.key ≤ 256
-  pub value : IsClean body.value
-  pub short_value : length body.value ≤ 256
+IsWholeReply (replies.At epr) = IsWholeEndpoint epr
 
 -- the name of a fault of the protocols, which are those that have a detail
 pub record IsProtocolFault (name : List ℕ) : Type 0 where
@@ -109,16 +61,10 @@ pub record IsProtocolFault (name : List ℕ) : Type 0 where
   pub protocol : is_some (detail_of fault) ≡ true
   pub named : name ≡ name_of fault
 
-abbrev pub IsWholeMessage : Message → Type 0
-IsWholeMessage (messages.Create body) = IsWholeCreate body
-IsWholeMessage (messages.CreateResponse context) = IsWholeContext context
-IsWholeMessage (messages.Register body) = IsWholeRegister body
-IsWholeMessage (messages.RegisterResponse coordinator) = IsWhole coordinator
-IsWholeMessage (messages.Notice notice) = Unit {0}
-IsWholeMessage (messages.Work body) = IsWholeWork body
-IsWholeMessage messages.WorkDone = Unit {0}
-IsWholeMessage messages.WorkRefused = Unit {0}
-IsWholeMessage (messages.Fault name) = IsProtocolFault name
+-- what a body keeps when it is read; a fault that is written is one of the protocols'
+abbrev pub CanBeWritten : Message → Type 0
+CanBeWritten (messages.Fault name) = IsProtocolFault name
+CanBeWritten message = IsWholeMessage message
 
 -- a request has an id, and its reply endpoint can be answered (WS-Addressing 1.0 Core, sections 3.2 to 3.4)
 pub record IsAnswerable (post : Post) : Type 0 where
@@ -140,7 +86,7 @@ pub record CanReturn (post : Post) (path : List ℕ) (target : Target) : Type 0 
   pub relates : IfSome post.relates IsClean
   pub from : IfSome post.from IsSource
   pub reply : IfSome post.reply IsWholeReply
-  pub message : IsWholeMessage post.message
+  pub message : CanBeWritten post.message
   pub request : IsRequest post.message post
 
 -- its envelope is within the limits of what is read

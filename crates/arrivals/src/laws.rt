@@ -1,0 +1,37 @@
+//! Laws of what arrives.
+
+ghost use Rattle.std.specs.Prelude.{◌≡◌, ℕ, List, Some};
+ghost use Rattle.xml_grammar.specs.Refusals.{IsShort};
+ghost use Rattle.at_base.specs.declared.event.Arrived.{Arrived};
+ghost use Rattle.at_base.specs.declared.event.Event.TheVariants.{Arrived as AsEvent};
+ghost use Rattle.at_base.specs.declared.outs.Post.{Post};
+ghost use Rattle.at_base.specs.declared.target.Target.{Target};
+ghost use Rattle.at_model.specs.World.{decoded};
+ghost use Rattle.model_laws.specs.Sound.{IsSoundEvent, IsSoundMessage};
+ghost use Rattle.wire_msgs.specs.declared.decode.Arrival.{Arrival};
+ghost use Rattle.wire_msgs.specs.Arrivals.{Arrives};
+ghost use Rattle.wire_msgs.specs.Whole.{IsWhole};
+ghost use Rattle.wire_posts.specs.Envelopes.{IsTextOf};
+ghost use Rattle.wire_posts.specs.Returning.{CanReturn, IsInLimits, returned};
+ghost use Rattle.arrivals.specs.Reaching.{reaches};
+ghost use Rattle.arrivals.specs.Worlds.{CanArrive, HasProtocolFault, IsBase, IsProper, Reaches};
+
+/// A whole arrival keeps the bounds of what a node's book steps on, so that its records are well-formed.
+#[tactic(auto, using(crate::proofs::Soundness::message_sound))]
+pub fn what_is_whole_is_sound()
+    ensures message { (arrival : Arrival) → IsWhole arrival → IsSoundMessage arrival.message }
+    ensures event { (arrival : Arrival) → IsWhole arrival → IsSoundEvent (AsEvent (reaches arrival)) }
+{}
+
+/// A post that has arrived could be posted, if a fault in it is one of the protocols'.
+pub fn what_arrives_can_return()
+    ensures { (text : List ℕ) → (path : List ℕ) → (post : Post) → (target : Target) → HasProtocolFault post.message → Arrives text path (returned post target) → CanReturn post path target }
+{}
+
+/// A post whose endpoints can be posted to reaches the book as the world of the model says: where it can be read at the
+/// target that the world has for it, and at any path where the address of the node is a URL.
+#[tactic(auto, using(crate::proofs::Worldly::post_reaches, crate::proofs::Worldly::node_reaches))]
+pub fn what_is_posted_reaches_the_book()
+    ensures at { (base : List ℕ) → (post : Post) → (arrived : Arrived) → (text : List ℕ) → (path : List ℕ) → decoded base post ≡ Some arrived → IsTextOf post text → CanReturn post path arrived.target → IsInLimits post → IsShort text → IsProper post → Reaches text path arrived }
+    ensures addressed { (base : List ℕ) → (post : Post) → (arrived : Arrived) → (text : List ℕ) → (path : List ℕ) → IsBase base → decoded base post ≡ Some arrived → IsTextOf post text → CanArrive post → IsInLimits post → IsShort text → IsProper post → Reaches text path arrived }
+{}
