@@ -96,7 +96,7 @@ fn endpoint(alloc: Global, address: usize, params: usize) -> Result<Epr, AllocEr
     })
 }
 
-fn decided(alloc: Global, numbers: &[u16]) -> Result<Record, AllocError> {
+fn seats(alloc: Global, numbers: &[u16]) -> Result<Seats, AllocError> {
     let mut seats = Vec::new(alloc);
     for number in numbers {
         seats.push(Seated {
@@ -104,9 +104,22 @@ fn decided(alloc: Global, numbers: &[u16]) -> Result<Record, AllocError> {
             endpoint: endpoint(alloc, 1, 0)?,
         })?;
     }
+    Ok(Seats::from_vec(seats))
+}
+
+fn decided(alloc: Global, numbers: &[u16]) -> Result<Record, AllocError> {
     Ok(Record::Decided {
         id: Id::new(1, 1),
-        seats: Seats::from_vec(seats),
+        seats: seats(alloc, numbers)?,
+    })
+}
+
+fn voted(alloc: Global, numbers: &[u16]) -> Result<Record, AllocError> {
+    let superior = endpoint(alloc, 1, 0)?;
+    Ok(Record::Voted {
+        id: Id::new(1, 1),
+        superior,
+        seats: seats(alloc, numbers)?,
     })
 }
 
@@ -131,6 +144,11 @@ fn has_key(alloc: Global, key: &str, value: usize) -> Result<bool, AllocError> {
 
 fn has_seats(alloc: Global, numbers: &[u16]) -> Result<bool, AllocError> {
     let entry = decided(alloc, numbers)?;
+    Ok(is_well_formed(&entry))
+}
+
+fn has_voted(alloc: Global, numbers: &[u16]) -> Result<bool, AllocError> {
+    let entry = voted(alloc, numbers)?;
     Ok(is_well_formed(&entry))
 }
 
@@ -190,8 +208,13 @@ fn numbered(alloc: Global, first: u16, count: u16) -> Result<Vec<u16>, AllocErro
     Ok(numbers)
 }
 
-/// The first number and how many there are, and whether a record may have them.
-const RUNS: &[(u16, u16, bool)] = &[(1, 64, true), (64, 2, true), (1, 65, false), (1, 0, false)];
+/// The first number and how many there are, and whether a decision may have them.
+const RUNS: &[(u16, u16, bool)] = &[
+    (1, 512, true),
+    (512, 2, true),
+    (1, 513, false),
+    (1, 0, true),
+];
 
 /// Numbers that no record has.
 const DISORDERED: &[[u16; 2]] = &[[0, 1], [1, 1], [2, 1]];
@@ -207,5 +230,13 @@ fn seats_at_their_bounds(rt: HostRuntime) -> Result<(), Fail> {
         let found = has_seats(rt.alloc(), numbers.as_slice())?;
         assert!(rt; !found);
     }
+    Ok(())
+}
+
+#[test]
+fn a_vote_has_seats(rt: HostRuntime) -> Result<(), Fail> {
+    let with = has_voted(rt.alloc(), &[1])?;
+    let without = has_voted(rt.alloc(), &[])?;
+    assert!(rt; with && !without);
     Ok(())
 }

@@ -72,6 +72,8 @@ Active, Commit: complete -> Completing\n\
 Active, Rollback: abort send Aborted -> None\n\
 Completing, Commit: ignore -> Completing\n\
 Completing, Rollback: fault InvalidState -> Completing\n\
+Done, Commit: send Committed -> Done\n\
+Done, Rollback: fault InvalidState -> Done\n\
 ";
 
 const INITIATOR: &str = "\
@@ -93,6 +95,7 @@ const STATES: &[State] = &[
     State::Committing,
     State::Aborting,
     State::Completing,
+    State::Done,
 ];
 
 const NOTICES: &[Notice] = &[

@@ -44,17 +44,17 @@ root Active V:Active,D:Active Active 1 ReadOnly|-|Active None Active =Active\n\
 root Active V:Active,D:Active Active 1 Aborted|-|Aborting* None Aborting =None Rollback@p2 Aborted@initiator !Aborted\n\
 root Active V:Active,D:Active Active 1 Prepare|-|Active Active Active =Active\n\
 root Durable D:Preparing,D:Preparing Completing 1 Prepared|-|Durable Prepared Preparing =Completing\n\
-root Durable D:Preparing,D:Prepared Completing 1 Prepared|Decided 1 2|Committing* Committing Committing =None Commit@p1 Commit@p2 Committed@initiator !Committed|Aborting* Aborting Aborting =None Rollback@p1 Rollback@p2 Aborted@initiator !Aborted\n\
-root Durable V:Prepared,D:Prepared,D:Preparing Completing 3 ReadOnly|Decided 2|Committing* Committing Committing None =None Commit@p1 Commit@p2 Committed@initiator !Committed|Aborting* Aborting Aborting None =None Rollback@p1 Rollback@p2 Aborted@initiator !Aborted\n\
-root Durable D:Preparing,D:None Completing 1 ReadOnly|-|gone Committed@initiator !Committed\n\
-root Durable V:Prepared,D:Preparing Completing 2 ReadOnly|-|gone Commit@p1 Committed@initiator !Committed\n\
+root Durable D:Preparing,D:Prepared Completing 1 Prepared|Decided 1 2|Committing* Committing Committing =Done Commit@p1 Commit@p2 Committed@initiator !Committed|Aborting* Aborting Aborting =None Rollback@p1 Rollback@p2 Aborted@initiator !Aborted\n\
+root Durable V:Prepared,D:Prepared,D:Preparing Completing 3 ReadOnly|Decided 2|Committing* Committing Committing None =Done Commit@p1 Commit@p2 Committed@initiator !Committed|Aborting* Aborting Aborting None =None Rollback@p1 Rollback@p2 Aborted@initiator !Aborted\n\
+root Durable D:Preparing,D:None Completing 1 ReadOnly|Decided|gone Committed@initiator !Committed|gone Aborted@initiator !Aborted\n\
+root Durable V:Prepared,D:Preparing Completing 2 ReadOnly|Decided|gone Commit@p1 Committed@initiator !Committed|Aborting* Aborting None =None Rollback@p1 Aborted@initiator !Aborted\n\
 root Durable D:Preparing,D:Prepared Completing 1 Aborted|-|Aborting* None Aborting =None Rollback@p2 Aborted@initiator !Aborted\n\
 root Durable D:Preparing Completing 1 Aborted|-|gone Aborted@initiator !Aborted\n\
 root Durable D:Preparing,D:Prepared Completing 1 Committed|-|Aborting* Aborting Aborting =None InvalidState@p1 Rollback@p1 Rollback@p2 Aborted@initiator !Aborted\n\
 root Volatile V:Preparing,V:Preparing,D:Active Completing 1 Prepared|-|Volatile Prepared Preparing Active =Completing\n\
 root Volatile V:Preparing,V:Preparing Completing 1 ReadOnly|-|Volatile None Preparing =Completing\n\
 root Volatile V:Preparing,D:Active,D:None Completing 1 Prepared|-|Durable* Prepared Preparing None =Completing Prepare@p2\n\
-root Volatile V:Preparing,V:Prepared Completing 1 ReadOnly|-|gone Commit@p2 Committed@initiator !Committed\n\
+root Volatile V:Preparing,V:Prepared Completing 1 ReadOnly|Decided|gone Commit@p2 Committed@initiator !Committed|Aborting* None Aborting =None Rollback@p2 Aborted@initiator !Aborted\n\
 root Volatile V:Preparing,D:Active Completing 2 ReadOnly|-|Volatile Preparing None =Completing\n\
 root Volatile V:Preparing,D:Active Completing 1 Aborted|-|Aborting* None Aborting =None Rollback@p2 Aborted@initiator !Aborted\n\
 root Durable D:Prepared,D:Preparing Completing 1 Prepared|-|Durable Prepared Preparing =Completing\n\
@@ -62,12 +62,12 @@ root Durable D:Prepared,D:Preparing Completing 1 ReadOnly|-|Durable Prepared Pre
 root Durable D:Prepared,D:Preparing Completing 1 Aborted|-|Durable Prepared Preparing =Completing InvalidState@p1\n\
 root Durable D:Prepared,D:Preparing Completing 1 Committed|-|Durable Prepared Preparing =Completing InvalidState@p1\n\
 root Durable V:Prepared,D:Preparing Completing 1 Aborted|-|Durable Prepared Preparing =Completing InvalidState@p1\n\
-root Committing D:Committing,D:Committing None 1 Prepared|-|Committing* Committing Committing =None Commit@p1\n\
-root Committing D:Committing,D:Committing None 1 ReadOnly|-|Committing Committing Committing =None InvalidState@p1\n\
-root Committing D:Committing,D:Committing None 1 Aborted|-|Committing Committing Committing =None InvalidState@p1\n\
-root Committing D:Committing,D:Committing None 1 Committed|-|Committing None Committing =None\n\
-root Committing V:Committing,D:Committing None 1 Committed|-|Committing None Committing =None\n\
-root Committing V:Committing,D:Committing None 2 Committed|Ended|gone|undone\n\
+root Committing D:Committing,D:Committing Done 1 Prepared|-|Committing* Committing Committing =Done Commit@p1\n\
+root Committing D:Committing,D:Committing Done 1 ReadOnly|-|Committing Committing Committing =Done InvalidState@p1\n\
+root Committing D:Committing,D:Committing Done 1 Aborted|-|Committing Committing Committing =Done InvalidState@p1\n\
+root Committing D:Committing,D:Committing Done 1 Committed|-|Committing None Committing =Done\n\
+root Committing V:Committing,D:Committing Done 1 Committed|-|Committing None Committing =Done\n\
+root Committing V:Committing,D:Committing Done 2 Committed|Ended|gone|undone\n\
 None/Committing Committing D:Committing,D:None - 1 Committed|Ended|gone Committed@durable|undone\n\
 root Aborting D:Aborting,D:Aborting None 1 Prepared|-|Aborting* Aborting Aborting =None Rollback@p1\n\
 root Aborting D:Aborting,D:Aborting None 1 ReadOnly|-|Aborting None Aborting =None\n\
@@ -85,17 +85,20 @@ None/Preparing Durable D:Preparing,D:Prepared - 1 Aborted|-|Aborting* /None/None
 
 /// Likewise at a completion seat.
 const AT_COMPLETION: &str = "\
-root Committing D:Committing None c Commit|-|Committing Committing =None UnknownTransaction@initiator\n\
-root Committing D:Committing None c Rollback|-|Committing Committing =None UnknownTransaction@initiator\n\
+root Aborting D:Aborting None c Commit|-|Aborting Aborting =None UnknownTransaction@initiator\n\
+root Aborting D:Aborting None c Rollback|-|Aborting Aborting =None UnknownTransaction@initiator\n\
 root Active V:Active,D:Active Active c Commit|-|Volatile* Preparing Active =Completing Prepare@p1\n\
 root Active D:Active,V:None,D:None Active c Commit|-|Durable* Preparing None None =Completing Prepare@p1\n\
-root Active - Active c Commit|-|gone Committed@initiator !Committed\n\
+root Active - Active c Commit|Decided|gone Committed@initiator !Committed|gone Aborted@initiator !Aborted\n\
 root Active D:Active,V:Active Active c Rollback|-|Aborting* Aborting Aborting =None Rollback@p1 Rollback@p2 Aborted@initiator !Aborted\n\
 root Active - Active c Rollback|-|gone Aborted@initiator !Aborted\n\
 root Durable D:Preparing Completing c Commit|-|Durable Preparing =Completing\n\
 root Durable D:Preparing Completing c Rollback|-|Durable Preparing =Completing InvalidState@initiator\n\
 root Durable D:Preparing Completing c Prepared|-|Durable Preparing =Completing\n\
 root Durable D:Preparing Completing c Unknown|-|Durable Preparing =Completing\n\
+root Committing D:Committing Done c Commit|-|Committing Committing =Done Committed@from\n\
+root Committing D:Committing Done c Rollback|-|Committing Committing =Done InvalidState@initiator\n\
+root Committing D:Committing Done c Committed|-|Committing Committing =Done\n\
 ";
 
 /// Likewise at a link. One in Registering waits for its answer, and the transaction's own request does, too.

@@ -22,9 +22,9 @@ use transaction_at::transaction::{
 /// the completion seat.
 const REGISTERS: &str = "\
 Active root 0 Durable new yes| 202 http://n1/c/d/1-1/1@reply|1 Active -\n\
-Active root 63 Volatile new yes| 202 http://n1/c/v/1-1/64@reply|64 Active -\n\
-Active root 64 Volatile new yes| 202 CannotRegisterParticipant@fault|64 Active -\n\
-Active root 64 Durable p64 yes| 202 http://n1/c/d/1-1/64@reply|64 Active -\n\
+Active root 511 Volatile new yes| 202 http://n1/c/v/1-1/512@reply|512 Active -\n\
+Active root 512 Volatile new yes| 202 CannotRegisterParticipant@fault|512 Active -\n\
+Active root 512 Durable p512 yes| 202 http://n1/c/d/1-1/512@reply|512 Active -\n\
 Active root 1 Volatile p1 yes| 202 http://n1/c/v/1-1/2@reply|2 Active -\n\
 Volatile root 1 Durable new yes| 202 http://n1/c/d/1-1/2@reply|2 Active -\n\
 Volatile root 1 Volatile new yes| 202 http://n1/c/v/1-1/2@reply Prepare@new|2 Preparing -\n\
@@ -46,9 +46,9 @@ Active root 1 Durable new no| 202 InvalidParameters@fault|1 Active -\n\
 Active root 1 Unknown new yes| 202 InvalidProtocol@fault|1 Active -\n\
 Active root 1 Unknown new no| 202 InvalidProtocol@fault|1 Active -\n\
 Active root 0 Completion new yes| 202 http://n1/completion/1-1@reply|0 - Active\n\
-Active root 63 Completion new yes| 202 http://n1/completion/1-1@reply|63 Active Active\n\
-Active root 64 Completion new yes| 202 CannotRegisterParticipant@fault|64 Active -\n\
-Active begun 64 Completion initiator yes| 202 http://n1/completion/1-1@reply|64 Active Completing\n\
+Active root 511 Completion new yes| 202 http://n1/completion/1-1@reply|511 Active Active\n\
+Active root 512 Completion new yes| 202 CannotRegisterParticipant@fault|512 Active -\n\
+Active begun 512 Completion initiator yes| 202 http://n1/completion/1-1@reply|512 Active Completing\n\
 Active begun 0 Completion initiator yes| 202 http://n1/completion/1-1@reply|0 - Completing\n\
 Committing begun 0 Completion initiator yes| 202 http://n1/completion/1-1@reply|0 - Completing\n\
 Active begun 0 Completion new yes| 202 CannotRegisterParticipant@fault|0 - Completing\n\
@@ -134,7 +134,7 @@ fn seat(alloc: Global, number: u16, state: State) -> Result<Enlistment, AllocErr
 /// So many durable seats, of the participants p1, p2 and so on.
 fn seats(alloc: Global, count: u16, state: State) -> Result<Seats, AllocError> {
     let mut seats = Seats::new(alloc);
-    for place in 0..count.min(64) {
+    for place in 0..count.min(512) {
         seats.push(seat(alloc, place + 1, state)?)?;
     }
     Ok(seats)
