@@ -1,0 +1,4 @@
+//! Agreement over every run, layer by layer: laws of the model that lead to it.
+#![tactic(auto)]
+
+pub mod laws;
