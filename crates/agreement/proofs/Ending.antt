@@ -48,16 +48,16 @@ use Rattle.model_laws.proofs.Standing.{then_accepts}
 use Rattle.agreement.specs.Finished.{IsFinished, NamesRising}
 
 -- a finished transaction, said of its phase, its initiator and its seats alone
-abbrev AsksNobody : Phase → List Enlistment → Type 0
+abbrev pub AsksNobody : Phase → List Enlistment → Type 0
 AsksNobody phase seats = phase ≡ Phase.Aborting → (answered kinds.Volatile seats ≡ true) × (answered kinds.Durable seats ≡ true)
 
-abbrev MayComplete : Phase → Option Completion → Type 0
+abbrev pub MayComplete : Phase → Option Completion → Type 0
 MayComplete phase completion = (c : Completion) → completion ≡ Some c → c.state ≡ states.Active → may_expire phase ≡ true
 
-abbrev KeepsNumbers : Phase → List Enlistment → Type 0
+abbrev pub KeepsNumbers : Phase → List Enlistment → Type 0
 KeepsNumbers phase seats = AreNumbered 0 seats ⊎ ((may_expire phase ≡ false) × SeatsRise 0 seats)
 
-abbrev Finished : Transaction → Type 0
+abbrev pub Finished : Transaction → Type 0
 Finished t = AsksNobody t.phase t.seats × MayComplete t.phase t.completion × KeepsNumbers t.phase t.seats
 
 finished : (t : Transaction) → IsFinished t → Finished t
@@ -134,7 +134,7 @@ other_state phase state completion e c f g =
     absurd cc
 
 -- an initiator stands at a root alone
-abbrev IsRootIf : Option Superior → Option Completion → Type 0
+abbrev pub IsRootIf : Option Superior → Option Completion → Type 0
 IsRootIf None completion = Unit {0}
 IsRootIf (Some s) completion = completion ≡ None
 
@@ -146,23 +146,23 @@ no_initiator : (phase : Phase) (completion : Option Completion) → completion �
 no_initiator phase completion e c f g = absurd cc
 
 -- what is recorded, and, if G, what is left
-abbrev Names : Record → Option Transaction → Type 0
+abbrev pub Names : Record → Option Transaction → Type 0
 Names r left = NamesRising r
 
-abbrev FinishedIf : Type 0 → Transaction → Type 0
+abbrev pub FinishedIf : Type 0 → Transaction → Type 0
 FinishedIf G t = G → Finished t
 
-abbrev Ends : Type 0 → Decision Transaction → Type 0
+abbrev pub Ends : Type 0 → Decision Transaction → Type 0
 Ends G d = DecisionHas (IfThere (FinishedIf G)) Names d
 
 either : (G : Type 0) (b : Bool) (d e : Decision Transaction) → (b ≡ true → Ends G d) → (b ≡ false → Ends G e) → Ends G (if b then d else e)
 either G b d e h k = either_has (IfThere (FinishedIf G)) Names b d e h k
 
 -- a transaction on its way
-record Ready (G : Type 0) (t : Transaction) : Type 0 where
-  rise : SeatsRise 0 t.seats
-  root : G → IsRootIf t.superior t.completion
-  finished : G → Finished t
+pub record Ready (G : Type 0) (t : Transaction) : Type 0 where
+  pub rise : SeatsRise 0 t.seats
+  pub root : G → IsRootIf t.superior t.completion
+  pub finished : G → Finished t
 
 -- one whose seats are still numbered in order
 record Asks (G : Type 0) (t : Transaction) : Type 0 where
@@ -375,8 +375,8 @@ registered_finished s t Phase.Registering e h = by_case (is_state s.volatile.sta
     by_case : (b : Bool) → Finished (record t { superior = Some s; phase = if b then Phase.Registering else Phase.Active })
     by_case true = undecided Phase.Registering (record t { superior = Some s; phase = Phase.Registering }) refl refl in_order
     by_case false = undecided Phase.Active (record t { superior = Some s; phase = Phase.Active }) refl refl in_order
-registered_finished s t Phase.Active e h = rw (← e) h
-registered_finished s t other e h = rw (← e) h
+registered_finished s t Phase.Active e h = subst (λ p. Finished (record t { phase = p })) e h
+registered_finished s t other e h = subst (λ p. Finished (record t { phase = p })) e h
 
 link_registered_ends : (m : Moment) (relates : Option (List ℕ)) (coordinator : Epr) (kind : Kind) (s : Superior) (t : Transaction) → Ready (Linked t) t
     → Ends (Linked t) (link_registered m relates coordinator kind s t)
@@ -430,10 +430,118 @@ completes states.Completing other = tt
 completes states.Done notices.Commit = tt
 completes states.Done other = tt
 
-completing : (G : Type 0) (c x : Completion) (t : Transaction) → t.completion ≡ Some c → t.superior ≡ None → c.state ≡ states.Active → IsFinished t → Ready G t
-    → Asks G (record t { completion = Some x })
-completing G c x t e alone f i h = record {
+still_root : (s : Option Superior) (completion : Option Completion) (c x : Completion) → completion ≡ Some c → IsRootIf s completion → IsRootIf s (Some x)
+still_root None completion c x e h = tt
+still_root (Some s) completion c x e h = absurd cc
+
+completing : (G : Type 0) (c x : Completion) (t : Transaction) → t.completion ≡ Some c → c.state ≡ states.Active → Ready G t → Asks G (record t { completion = Some x })
+completing G c x t e f h = record {
   rise = h.rise;
-  root = λ y. subst (λ s. IsRootIf s (Some x)) (sym alone) tt;
-  numbered = λ y. in_sequence t.phase t.seats (i.initiator c e f) i.numbers;
+  root = λ y. still_root t.superior t.completion c x e (h.root y);
+  numbered = λ y. in_sequence t.phase t.seats ((h.finished y).1 c e f) (h.finished y).2;
 }
+
+completion_act_ends : (G : Type 0) (m : Moment) (from : Option Epr) (i : Option (List ℕ)) (c : Completion) (t : Transaction) (act : Act) → t.completion ≡ Some c → CompletesAt c.state act → Ready G t
+    → Ends G (completion_act m from i c t act)
+unfolding completion_act
+completion_act_ends G m from i c t acts.Complete e k h =
+    let x : Completion = record c { state = states.Completing } in
+    go_volatile_ends G m (begin (record t { completion = Some x })) (completing G c x t e k h)
+completion_act_ends G m from i c t acts.AbortAndSendAborted e k h = abort_ends G m Alone (begin t) h.rise
+completion_act_ends G m from i c t other e k h = h.finished
+
+completion_notice_ends : (G : Type 0) (m : Moment) (from : Option Epr) (i : Option (List ℕ)) (c : Completion) (t : Transaction) (cell : Option Cell) → t.completion ≡ Some c → CompletesIn c.state cell
+    → Ready G t → Ends G (completion_notice m from i c t cell)
+unfolding completion_notice
+completion_notice_ends G m from i c t None e k h = h.finished
+completion_notice_ends G m from i c t (Some cell) e k h = completion_act_ends G m from i c t cell.act e k h
+
+pub completion_ends : (G : Type 0) (m : Moment) (a : Arrived) (t : Transaction) (c : Completion) (x : Message) → t.completion ≡ Some c → Ready G t → Ends G (on_completion m a t c x)
+unfolding on_completion
+completion_ends G m a t c (messages.Notice n) e h = completion_notice_ends G m a.from a.id c t (completion_of c.state n) e (completes c.state n) h
+completion_ends G m a t c other e h = h.finished
+
+pub due_ends : (G : Type 0) (m : Moment) (t : Transaction) (reached : Reached) → Ready G t → Ends G (transaction_reached m t reached)
+unfolding transaction_reached
+due_ends G m t Expired h = abort_ends G m Alone (begin t) h.rise
+due_ends G m t Over h = tt
+due_ends G m t Unanswered h = h.finished
+due_ends G m t Nothing h = h.finished
+
+-- the answer to a request
+pub with_answer_ends : (G : Type 0) (m : Moment) (t : Transaction) (d : Decision Transaction) → Ends G d → Ends G (with_answer m t d)
+with_answer_ends G m t d h = with_answer_has (IfThere (FinishedIf G)) Names (λ s x e k. k) (λ r s x e k. k) m t d h
+
+-- how a transaction of a book begins its step
+pub ready : (t : Transaction) → IsFinished t → Ready (Linked t) t
+ready t h = record {
+  rise = kept_rise t.phase t.seats h.numbers;
+  root = λ x. root_if t.phase t.superior t.completion x;
+  finished = λ x. finished t h;
+}
+
+-- registration
+numbered_behind : (last : ℕ) (seats : List Enlistment) (s : Enlistment) → AreNumbered last seats → s.number ≡ last + length seats + 1 → AreNumbered last (seats ++ s ∷ [])
+numbered_behind last [] s h e = (omega (arith, e), tt)
+numbered_behind last (x ∷ xs) s (h, k) e = (h, numbered_behind (last + 1) xs s k (omega (arith, e)))
+
+accepting : (phase : Phase) → accepts phase ≡ true → may_expire phase ≡ true
+accepting Phase.Active e = refl
+accepting Phase.Volatile e = refl
+accepting Phase.Registering e = refl
+accepting Phase.Durable e = refl
+accepting Phase.Voted e = absurd cc
+accepting Phase.Committing e = absurd cc
+accepting Phase.Aborting e = absurd cc
+
+accept_finished : (m : Moment) (a : Arrived) (t : Transaction) (participant : Epr) (kind : Option Kind) → may_expire t.phase ≡ true → Finished t
+    → Finished (accept m a t participant kind).transaction
+unfolding accept
+accept_finished m a t participant (Some kind) e h =
+    let s : Enlistment = new_seat t participant kind in
+    undecided t.phase (record t { seats = t.seats ++ s ∷ [] }) refl e (numbered_behind 0 t.seats s (in_sequence t.phase t.seats e h.2) (omega arith))
+accept_finished m a t participant None e h =
+    undecided t.phase (record t { completion = Some (record { initiator = participant; state = states.Active }) }) refl e (in_sequence t.phase t.seats e h.2)
+
+register_new_finished : (m : Moment) (a : Arrived) (r : Register) (t : Transaction) (kind : Option (Option Kind)) → Finished t → Finished (register_new m a r t kind).transaction
+unfolding register_new
+register_new_finished m a r t None h = h
+register_new_finished m a r t (Some kind) h =
+    either_of (λ (x : Registration). Finished x.transaction) (not a.postable) _ _ (λ e. h)
+    (λ e. either_of (λ (x : Registration). Finished x.transaction) (may_register t kind) _ _
+    (λ f. accept_finished m a t r.participant kind (accepting t.phase (then_accepts t kind f)) h) (λ f. h))
+
+register_again_finished : (m : Moment) (a : Arrived) (r : Register) (t : Transaction) (kind : Option (Option Kind)) (held : Option Epr) → Finished t
+    → Finished (register_again m a r t kind held).transaction
+unfolding register_again
+register_again_finished m a r t kind (Some coordinator) h = h
+register_again_finished m a r t kind None h = register_new_finished m a r t kind h
+
+register_finished : (m : Moment) (a : Arrived) (r : Register) (t : Transaction) → Finished t → Finished (on_register m a r t).transaction
+unfolding on_register
+register_finished m a r t h = register_again_finished m a r t (protocol_named r.protocol) (held_seat m r t (protocol_named r.protocol)) h
+
+pub register_ends : (m : Moment) (a : Arrived) (r : Register) (t : Transaction) → IsFinished t → IsFinished (on_register m a r t).transaction
+register_ends m a r t h = is_finished (on_register m a r t).transaction (register_finished m a r t (finished t h))
+
+-- a transaction that is made
+under_finished : (m : Moment) (id : Numbers) (a : Arrived) (c : Create) (current : Context) (r : Reply) → IfThere Finished (create_under m id a c current r).transaction
+unfolding create_under
+under_finished m id a c current (replies.At reply) = ((λ e. absurd cc), (λ x e f. refl), inl tt)
+under_finished m id a c current replies.Anonymous = tt
+under_finished m id a c current replies.Nobody = tt
+
+in_finished : (m : Moment) (id : Numbers) (a : Arrived) (c : Create) (current : Option Context) → IfThere Finished (create_in m id a c current).transaction
+unfolding create_in
+in_finished m id a c None = ((λ e. absurd cc), (λ x e f. refl), inl tt)
+in_finished m id a c (Some current) = under_finished m id a c current a.reply
+
+created_finished : (m : Moment) (live : ℕ) (a : Arrived) (c : Create) (id : Numbers) (t : Transaction) → (on_create m live a c (Some id)).transaction ≡ Some t → Finished t
+unfolding on_create
+created_finished m live a c id t e =
+    subst (IfThere Finished) e
+    (either_of (λ x. IfThere Finished x.transaction) (bytes_eq c.coordination atomic && nat_lt live 1024) (create_in m id a c c.current) (refuse_create a)
+    (λ k. in_finished m id a c c.current) (λ k. tt))
+
+pub created_ends : (m : Moment) (live : ℕ) (a : Arrived) (c : Create) (id : Numbers) (t : Transaction) → (on_create m live a c (Some id)).transaction ≡ Some t → IsFinished t
+created_ends m live a c id t e = is_finished t (created_finished m live a c id t e)

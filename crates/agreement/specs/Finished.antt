@@ -14,6 +14,7 @@ use Rattle.at_model.specs.Recover.{recover}
 use Rattle.at_model.specs.Seats.{answered}
 use Rattle.at_model.specs.Step.{plan, step}
 use Rattle.at_model.specs.World.{Node, WorldEvent, nth, run_of}
+use Rattle.model_laws.specs.Behind.{IsInPhase}
 use Rattle.model_laws.specs.Sound.{AreNumbered, SeatsRise}
 
 pub record IsFinished (t : Transaction) : Type 0 where
@@ -33,9 +34,10 @@ NamesRising (records.Voted id superior seats) = Rises 0 seats
 NamesRising (records.Decided id seats) = Rises 0 seats
 NamesRising other = Unit {0}
 
--- So is each transaction, over each step and each start behind such records, and such is each record; so in every run.
+-- So is each transaction, over each step of a book in which links follow phases and over each start behind such records, and
+-- such is each record; so in every run.
 pub record FinishesAll : Type 0 where
-  pub book : (b : Book) (e : Event) (now : ℕ) (landed : Bool) → AreFinished b → AreFinished (step b e now landed).book
+  pub book : (b : Book) (e : Event) (now : ℕ) (landed : Bool) → IsInPhase b → AreFinished b → AreFinished (step b e now landed).book
   pub entry : (b : Book) (e : Event) (now : ℕ) (r : Record) → AreFinished b → (plan b e now).entry ≡ Some r → NamesRising r
   pub recovered : (base : List ℕ) (rs : List Record) → AllByRecursion NamesRising rs → AreFinished (recover base rs)
   pub journals : (count : ℕ) (es : List WorldEvent) (n : ℕ) (x : Node) → nth n (run_of count es).nodes ≡ Some x → AllByRecursion NamesRising x.journal
