@@ -17,7 +17,6 @@ use Rattle.at_base.specs.declared.message.Message.TheVariants as messages
 use Rattle.at_base.specs.declared.message.Context.{Context}
 use Rattle.at_base.specs.declared.message.Create.{Create}
 use Rattle.at_base.specs.declared.message.Register.{Register}
-use Rattle.at_base.specs.declared.record.Seated.{Seated}
 use Rattle.at_base.specs.declared.record.Record.{Record}
 use Rattle.at_base.specs.declared.event.Arrived.{Arrived}
 use Rattle.at_base.specs.declared.event.Moment.{Moment}
@@ -30,18 +29,18 @@ use Rattle.at_tables.specs.Names.{is_kind, is_state}
 use Rattle.at_tables.specs.Tables.{coordinator_of, participant_of, completion_of}
 use Rattle.at_model.specs.Book.{Completion, Enlistment, Phase, Superior, Transaction}
 use Rattle.at_model.specs.Addresses.{atomic, register_id}
-use Rattle.at_model.specs.Moves.{Moving, Decision, Goes, begin, become, stays, forgotten, ignored}
+use Rattle.at_model.specs.Moves.{Moving, Decision, begin, become, stays, forgotten}
 use Rattle.at_model.specs.Seats.{answered, all_left, completion_in, in_phase, in_state, is_of, is_open, is_prepared_durable, link_in, link_of, move_if, moved, prepared, seat_in, seated, set_link, under}
 use Rattle.at_model.specs.Abort.{Reason, Alone, Asked, until_rolled_back, abort}
 use Rattle.at_model.specs.Phases.{decided, committed, root_answered, voted, sub_answered, durable_answered, if_durable_answered, prepare_seats, go_durable, volatile_answered, all_committed, advance_in, advance, go_volatile}
-use Rattle.at_model.specs.Arrivals.{seat_act, seat_notice, commit_voted, asked, link_act, link_notice, completion_act, completion_notice, relates_to, registered, link_registered, link_fault, on_link, on_seat, on_completion, request_answered, with_answer}
+use Rattle.at_model.specs.Arrivals.{seat_act, seat_notice, commit_voted, asked, link_act, link_notice, completion_act, completion_notice, relates_to, registered, link_registered, link_fault, on_link, on_seat, on_completion, with_answer}
 use Rattle.at_model.specs.Register.{Registration, accepts, new_seat, may_register, accept, register_new, register_again, on_register, protocol_named, held_seat}
 use Rattle.at_model.specs.Create.{create_under, create_in, on_create, refuse_create}
 use Rattle.at_model.specs.Due.{Reached, Expired, Over, Unanswered, Nothing, may_expire, transaction_reached}
 use Rattle.model_laws.specs.Links.{AreIn, AreLinked}
 use Rattle.model_laws.specs.Sound.{AreNumbered, SeatsRise}
 use Rattle.model_laws.proofs.Asking.{ActsAt, CellAt, table_acts}
-use Rattle.model_laws.proofs.Deciding.{first_true, either_of, DecisionHas, IfThere, either_has, either_change, with_answer_has}
+use Rattle.model_laws.proofs.Deciding.{either_of, DecisionHas, IfThere, either_has, either_change, with_answer_has}
 use Rattle.model_laws.proofs.Linking.{Linked, known}
 use Rattle.model_laws.proofs.Phasing.{is_unanswered, none_either, neither, answered_moved}
 use Rattle.model_laws.proofs.Standing.{then_accepts}

@@ -1,5 +1,5 @@
 -- Each transaction is finished as its phase wants, and what is recorded names seats that rise.
-use Rattle.std.specs.Prelude.{ℕ, List, [], ◌∷◌, ◌++◌, Option, Some, None, Bool, true, false, length, map, ◌≡◌, ◌<◌, refl}
+use Rattle.std.specs.Prelude.{ℕ, List, [], ◌∷◌, Option, Some, None, Bool, true, false, length, map, ◌≡◌, refl}
 use Rattle.std.specs.List.{list_any, AllByRecursion}
 use Rattle.std.proofs.Common.{sym, subst, ap, inr, ◌∙◌}
 use Rattle.at_base.specs.Numbers.{Numbers}

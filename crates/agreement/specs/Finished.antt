@@ -1,6 +1,6 @@
 -- What a transaction has behind it in its later phases: an abort leaves nobody asked, an end leaves no initiator that may
 -- still ask, and its participants keep their numbers.
-use Rattle.std.specs.Prelude.{ℕ, List, Bool, Option, Some, true, false, ◌≡◌, ◌⊎◌}
+use Rattle.std.specs.Prelude.{ℕ, List, Bool, Some, true, false, ◌≡◌, ◌⊎◌}
 use Rattle.std.specs.List.{AllByRecursion}
 use Rattle.at_base.specs.WellFormed.{Rises}
 use Rattle.at_base.specs.declared.notice.Kind.TheVariants as kinds
@@ -34,8 +34,8 @@ NamesRising (records.Voted id superior seats) = Rises 0 seats
 NamesRising (records.Decided id seats) = Rises 0 seats
 NamesRising other = Unit {0}
 
--- So is each transaction, over each step of a book in which links follow phases and over each start behind such records, and
--- such is each record; so in every run.
+-- So is each transaction, over each start behind such records and over each step of a book whose subordinates have no
+-- initiator of their own, as in every run; and such is each record. So both hold in every run.
 pub record FinishesAll : Type 0 where
   pub book : (b : Book) (e : Event) (now : ℕ) (landed : Bool) → IsInPhase b → AreFinished b → AreFinished (step b e now landed).book
   pub entry : (b : Book) (e : Event) (now : ℕ) (r : Record) → AreFinished b → (plan b e now).entry ≡ Some r → NamesRising r
