@@ -1,7 +1,9 @@
-//! Tests of envelopes, headers, bodies, requests, posts and reports. They stand apart, since a crate with tests is proved
-//! twice.
+//! Tests of envelopes, headers, bodies, requests, arrivals, posts and reports. They stand apart, since a crate with tests
+//! is proved twice.
 #![tactic(auto)]
 
+#[cfg(test)]
+mod arriving;
 #[cfg(test)]
 mod bodies;
 #[cfg(test)]
