@@ -6,6 +6,8 @@ mod appends;
 #[cfg(test)]
 mod compacts;
 #[cfg(test)]
+mod files;
+#[cfg(test)]
 mod loads;
 #[cfg(test)]
 mod shared;
