@@ -1,5 +1,5 @@
 -- What is known of a head as pieces come.
-use Rattle.std.proofs.Common.{ℕ, List, Option, Some, None, [], ◌∷◌, ◌++◌, ◌≡◌, ◌≤◌, ◌-◌, length, take, drop, refl, sym, subst, ap, ◌∙◌, arith, append_assoc, append-nil}
+use Rattle.std.proofs.Common.{ℕ, List, Option, Some, None, [], ◌++◌, ◌≡◌, ◌≤◌, ◌-◌, ◌⊎◌, inl, inr, length, take, drop, refl, sym, subst, ap, ◌∙◌, arith, append_assoc, append-nil}
 use Rattle.std.proofs.lemmas.List.{length-append, length-take, take_all}
 use Rattle.std.proofs.Math.Seq.{take-append-add}
 use Rattle.std.specs.Prelude.{IfSome}
@@ -69,12 +69,27 @@ never (Some input) (Some more) bytes h fits bad =
     omega (arith, length-append bytes (take (8192 - length bytes) more), length-take (8192 - length bytes) more, fits) in
     subst HasNoRequest (sym e) (bad (take (8192 - length bytes) more) short)
 
-nothing : (xs : List ℕ) → length xs ≡ 0 → xs ≡ []
-nothing [] e = refl
-nothing (x ∷ xs) e = absurd (omega (arith, e))
+-- one piece more
+pub held : (left mid now : Option (List ℕ)) (before after seen : List ℕ) (n : ℕ) (places : List HeaderSpan) (spans : RequestSpans) → Consumes left mid before → IsPiece mid now before after n
+    → seen ≡ after → IsRequestOf seen places spans × IsRequestWithin seen places spans → HoldsHead left after places spans
+held left mid now before after seen n places spans h p same is =
+    holds left now after places spans (grown left mid now before after n h p) p.fits
+    (subst (λ z. IsRequestOf z places spans × IsRequestWithin z places spans) same is)
 
--- the connection ended
-pub none_at_zero : (left mid now : Option (List ℕ)) (before after : List ℕ) (n : ℕ) → Consumes left mid before → length before ≤ 8192 → IsPiece mid now before after n → n ≡ 0 → HasNoRequest before → HasNoHead left
-none_at_zero left mid now before after n h fits p zero_bytes none =
-    let same : before ++ p.piece ≡ before = ap (λ z. before ++ z) (nothing p.piece (p.count ∙ zero_bytes)) ∙ append-nil before in
-    none_at_end left now before (subst (Consumes left now) same (joined left mid now before p.piece h p.taken)) fits (p.end zero_bytes) none
+pub never_held : (left mid now : Option (List ℕ)) (before after seen : List ℕ) (n : ℕ) → Consumes left mid before → IsPiece mid now before after n → seen ≡ after → NeverHasHead seen → HasNoHead left
+never_held left mid now before after seen n h p same bad = never left now after (grown left mid now before after n h p) p.fits (subst NeverHasHead same bad)
+
+-- no more is wanted: the connection ended, or the limit is reached
+pub none_held : (left mid now : Option (List ℕ)) (before after : List ℕ) (n : ℕ) → Consumes left mid before → IsPiece mid now before after n → (n ≡ 0) ⊎ (8192 ≤ length after) → HasNoRequest after → HasNoHead left
+none_held left mid now before after n h p (inl end) none = none_at_end left now after (grown left mid now before after n h p) p.fits (p.end end) none
+none_held left mid now before after n h p (inr full) none =
+    none_at_most left now after (grown left mid now before after n h p) (omega (arith, full, p.fits)) none
+
+pub not_shorter : (left now : Option (List ℕ)) (before after : List ℕ) (n : ℕ) → IsPiece left now before after n → length before ≤ length after
+not_shorter left now before after n p = omega (arith, ap length p.behind, length-append before p.piece)
+
+-- whatever might follow, nothing does
+pub none_now : (bytes : List ℕ) → length bytes ≤ 8192 → NeverHasHead bytes → HasNoRequest bytes
+none_now bytes fits never =
+    let same : bytes ++ [] ≡ bytes = append-nil bytes in
+    subst HasNoRequest same (never [] (omega (arith, ap length same, fits)))

@@ -1,7 +1,9 @@
 //! The head of a request, read piece by piece.
 
-ghost use Rattle.std.specs.Prelude.{◌≡◌, ◌<◌, ◌≤◌, IfErr, IfOk, drop, length};
+ghost use Rattle.std.specs.Prelude.{◌≡◌, ◌<◌, ◌≤◌, IfErr, IfOk, IfSome, None, drop, length};
 ghost use Rattle.std.specs.Io.KnownBytes.{Consumes};
+ghost use Rattle.httparse.specs.Grammar.{HasNoRequest};
+ghost use Rattle.httparse.specs.Spans.{IsRequestOf, IsRequestWithin};
 ghost use Rattle.site_model.specs.Counts.{Rose};
 ghost use Rattle.http_post.specs.Connections.{Leaves, left};
 ghost use Rattle.http_post.specs.declared.head.HeadFault.TheVariants as faults;
@@ -11,6 +13,7 @@ ghost use Rattle.http_post.specs.Reading.{IfNoHead};
 
 use crate::connection::receive;
 use crate::places::{Places, Step};
+use crate::tail::{Tail, tail_behind};
 use httparse::spans::RequestSpans;
 use site_model::site::Site;
 use site_model::source::Failed;
@@ -82,8 +85,26 @@ fn read_piece<S: Site>(site: &mut S, bytes: &mut Vec<u8>) -> Result<usize, Piece
     }
 }
 
-/// The head that the connection begins with, and what came with it.
-#[tactic(auto, using(crate::proofs::Growing::nothing_yet, crate::proofs::Growing::grown, crate::proofs::Growing::holds, crate::proofs::Growing::none_at_most, crate::proofs::Growing::none_at_end, crate::proofs::Growing::never))]
+/// The head that the bytes begin with, of which no more are wanted.
+#[tactic(auto, using(crate::proofs::Growing::none_now))]
+fn last_head(mut places: Places, bytes: Vec<u8>) -> Option<Head>
+    requires { length bytes.items ≤ 8192 }
+    ensures some { IfSome result (λ h. (h.bytes.items ≡ bytes.items) × (IsRequestOf h.bytes.items h.places h.spans × IsRequestWithin h.bytes.items h.places h.spans)) }
+    ensures none { result ≡ None → HasNoRequest bytes.items }
+{
+    match places.try_head(bytes.as_slice()) {
+        Step::Whole(spans) => Some(Head {
+            bytes,
+            places,
+            spans,
+        }),
+        Step::More | Step::Never => None,
+    }
+}
+
+/// The head that the connection begins with, and what came with it. The bytes are parsed again only where an empty line
+/// ended, where they have doubled, and where no more are wanted: so a head that comes byte by byte is parsed a few times.
+#[tactic(auto, using(crate::proofs::Growing::nothing_yet, crate::proofs::Growing::grown, crate::proofs::Growing::not_shorter))]
 pub fn read_head<S: Site>(alloc: Global, site: &mut S) -> Result<Head, HeadFault>
     ensures head { IfOk result (λ h. HoldsHead (left (S.told site.old)) h.bytes.items h.places h.spans) }
     ensures read { IfOk result (λ h. IsRead h.bytes.items h.places h.spans) }
@@ -97,28 +118,34 @@ pub fn read_head<S: Site>(alloc: Global, site: &mut S) -> Result<Head, HeadFault
         return Err(HeadFault::NoMemory);
     };
     let mut bytes = Vec::new(alloc);
+    let mut tail = Tail::Blank;
+    let mut parsed = 0;
     loop {
-        match places.try_head(bytes.as_slice()) {
-            Step::Whole(spans) => {
-                return Ok(Head {
-                    bytes,
-                    places,
-                    spans,
-                });
-            }
-            Step::Never => return Err(HeadFault::NoHead),
-            Step::More => {}
-        }
-        if bytes.len() >= MOST_HEAD {
-            return Err(HeadFault::NoHead);
-        }
+        let before = bytes.len();
         let n = match read_piece(site, &mut bytes) {
             Ok(n) => n,
             Err(PieceFault::NoMemory) => return Err(HeadFault::NoMemory),
             Err(PieceFault::Failed) => return Err(HeadFault::Failed),
         };
-        if n == 0 {
-            return Err(HeadFault::NoHead);
+        if n == 0 || bytes.len() >= MOST_HEAD {
+            return match last_head(places, bytes) {
+                Some(head) => Ok(head),
+                None => Err(HeadFault::NoHead),
+            };
+        }
+        tail = tail_behind(tail, &bytes[before..]);
+        if tail == Tail::Ended || bytes.len() / 2 >= parsed {
+            match places.try_head(bytes.as_slice()) {
+                Step::Whole(spans) => {
+                    return Ok(Head {
+                        bytes,
+                        places,
+                        spans,
+                    });
+                }
+                Step::Never => return Err(HeadFault::NoHead),
+                Step::More => parsed = bytes.len(),
+            }
         }
     }
 }

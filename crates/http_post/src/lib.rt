@@ -16,5 +16,6 @@ mod raw;
 pub mod refusal;
 pub mod request;
 pub mod ruling;
+mod tail;
 mod trailers;
 pub mod writer;

@@ -296,6 +296,28 @@ fn a_failure_is_of_the_link(rt: HostRuntime) -> Result<(), Fail> {
     Ok(())
 }
 
+/// A request whose content comes right behind its head.
+const SHORT: &[u8] = b"\r\nPOST / HTTP/1.0\r\nContent-Length: 2\r\n\r\nhe";
+
+/// What is taken of it, where it comes at most so many bytes at once and reading on behind it fails.
+fn taken_in_time(alloc: Global, most: usize) -> Result<String, AllocError> {
+    let mut site = MemSite::new(alloc);
+    site.give_at_most(most);
+    site.connect(SHORT)?;
+    site.fail_link((2 + SHORT.len().div_ceil(most.max(1))) as u32);
+    taken(alloc, &mut site)
+}
+
+#[test]
+fn nothing_is_read_behind_a_whole_request(rt: HostRuntime) -> Result<(), Fail> {
+    for most in 1..=SHORT.len() {
+        let text = taken_in_time(rt.alloc(), most)?;
+        let same = text.as_str() == "/ he";
+        assert!(rt; same, "{text}, {most} bytes at once");
+    }
+    Ok(())
+}
+
 /// A head of so many bytes, and its body.
 fn long_head(alloc: Global, bytes: usize) -> Result<Vec<u8>, AllocError> {
     let mut head = Vec::from_slice(alloc, b"POST / HTTP/1.0\r\nContent-Length: 1\r\na: ")?;
