@@ -1,0 +1,100 @@
+//! A machine with files and no network.
+
+ghost use Rattle.site_model.specs.Told.{silent};
+
+use crate::disk::Disk;
+use crate::faults::counted;
+use site_model::site::{AttachFailed, Site, Taken};
+use site_model::source::Failed;
+use std::fs::File;
+use std::io::ErrorKind;
+use std::rt::{Clock, Files};
+
+/// A machine with the files of a journal and a clock, and with no network: each call of it fails.
+#[derive(Drop)]
+pub struct FileSite<R: Files<File = File> + Clock + Drop> {
+    rt: R,
+    disk: Disk,
+    accept: u64,
+    receive: u64,
+    link: u64,
+}
+
+impl<R: Files<File = File> + Clock + Drop> FileSite<R> {
+    /// No file is open, and nothing failed.
+    pub fn new(rt: R) -> FileSite<R> {
+        FileSite {
+            rt,
+            disk: Disk::new(),
+            accept: 0,
+            receive: 0,
+            link: 0,
+        }
+    }
+}
+
+impl<R: Files<File = File> + Clock + Drop> Site for FileSite<R> {
+    ghost told = { λ s. silent (record { disk = s.disk.disk; gate = s.disk.gate; accept = s.accept; receive = s.receive; link = s.link; taken = 0; closings = 0 }) };
+
+    ghost counts_now = { λ s l c is now. now };
+
+    ghost only_now = { λ s l m c is le past. absurd past };
+
+    /// Opens the files. There is no listener.
+    fn attach(&mut self, journal: &str, _listen: &str) -> Result<(), AttachFailed> {
+        match self.disk.open(&self.rt, journal) {
+            Ok(()) => Ok(()),
+            Err(_) => Err(AttachFailed::Disk),
+        }
+    }
+
+    fn size(&mut self, file: u8) -> Result<u64, Failed> {
+        self.disk.size(file)
+    }
+
+    fn read(&mut self, file: u8, at: u64, buf: &mut [u8]) -> Result<usize, Failed> {
+        self.disk.read(file, at, buf)
+    }
+
+    #[tactic(auto, using(crate::proofs::Silent::wrote))]
+    fn write_at(&mut self, file: u8, at: u64, bytes: &[u8]) -> Result<(), Failed> {
+        self.disk.write_at(file, at, bytes)
+    }
+
+    #[tactic(auto, using(crate::proofs::Silent::synced))]
+    fn sync(&mut self, file: u8) -> Result<(), Failed> {
+        self.disk.sync(file)
+    }
+
+    #[tactic(auto, using(crate::proofs::Silent::raised))]
+    fn raise_gate(&mut self, file: u8, at: u64) -> Result<(), Failed> {
+        self.disk.raise_gate(file, at)
+    }
+
+    fn take(&mut self) -> Result<Taken, Failed> {
+        counted(&mut self.accept, Err(ErrorKind::Unsupported.into()))
+    }
+
+    fn receive(&mut self, _buf: &mut [u8]) -> Result<usize, Failed> {
+        counted(&mut self.receive, Err(ErrorKind::Unsupported.into()))
+    }
+
+    #[tactic(auto, using(crate::proofs::Silent::gave))]
+    fn send(&mut self, _bytes: &[u8]) -> Result<(), Failed> {
+        counted(&mut self.link, Err(ErrorKind::Unsupported.into()))
+    }
+
+    fn close(&mut self) {}
+
+    #[tactic(auto, using(crate::proofs::Silent::gave))]
+    fn post(&mut self, _host: &str, _port: u16, _bytes: &[u8]) -> Result<(), Failed> {
+        counted(&mut self.link, Err(ErrorKind::Unsupported.into()))
+    }
+
+    fn now(&mut self) -> u64 {
+        match self.rt.monotonic() {
+            Ok(time) => u64::try_from(time.as_millis()).unwrap_or(u64::MAX),
+            Err(_) => 0,
+        }
+    }
+}
