@@ -1,6 +1,6 @@
 //! The two files of a journal.
 
-ghost use Rattle.std.specs.Prelude.{◌≡◌, ◌≤◌, true, false, length, IfOk, IsErr, OnOk, OnErr};
+ghost use Rattle.std.specs.Prelude.{◌≡◌, ◌≤◌, true, false, length, None, IfOk, IsErr, OnOk, OnErr};
 ghost use Rattle.site_model.specs.Counts.{HasCause};
 ghost use Rattle.atx_sites.specs.Disks.{Tallied, file_at, is_lost, other_at};
 
@@ -75,6 +75,7 @@ impl Disk {
     pub fn size(&mut self, file: u8) -> Result<u64, Failed>
         ensures cause { HasCause self.old.disk self.new.disk result }
         ensures counted { Tallied self.old.disk self.new.disk result }
+        ensures shut { file_at file self.old ≡ None → IsErr result }
         ensures same { self.new ≡ record self.old { disk = self.new.disk } }
     {
         let answer = match file {
@@ -89,6 +90,7 @@ impl Disk {
         ensures bound { IfOk result (λ n. n ≤ length buf.new) }
         ensures cause { HasCause self.old.disk self.new.disk result }
         ensures counted { Tallied self.old.disk self.new.disk result }
+        ensures shut { file_at file self.old ≡ None → IsErr result }
         ensures same { self.new ≡ record self.old { disk = self.new.disk } }
     {
         let answer = match file {
@@ -102,6 +104,7 @@ impl Disk {
     pub fn write_at(&mut self, file: u8, at: u64, bytes: &[u8]) -> Result<(), Failed>
         ensures cause { HasCause self.old.disk self.new.disk result }
         ensures counted { Tallied self.old.disk self.new.disk result }
+        ensures shut { file_at file self.old ≡ None → IsErr result }
         ensures same { self.new ≡ record self.old { disk = self.new.disk } }
     {
         let answer = match file {

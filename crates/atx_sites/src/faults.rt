@@ -1,6 +1,6 @@
 //! Counts of faults.
 
-ghost use Rattle.std.specs.Prelude.{◌≡◌, IfOk, Ok};
+ghost use Rattle.std.specs.Prelude.{◌≡◌, IfOk, IsErr, Ok};
 ghost use Rattle.site_model.specs.Counts.{HasCause};
 ghost use Rattle.atx_sites.specs.Disks.{Tallied};
 
@@ -21,4 +21,14 @@ pub(crate) fn counted<T: Drop>(count: &mut u64, answer: io::Result<T>) -> Result
             Err(Failed)
         }
     }
+}
+
+/// What a call gives that the machine doesn't have: a failure, which is counted.
+pub(crate) fn refused<T: Drop>(count: &mut u64) -> Result<T, Failed>
+    ensures fails { IsErr result }
+    ensures cause { HasCause count.old count.new result }
+    ensures exact { Tallied count.old count.new result }
+{
+    *count = count.saturating_add(1);
+    Err(Failed)
 }

@@ -1,13 +1,15 @@
 //! A machine with files and no network.
 
-ghost use Rattle.site_model.specs.Told.{silent};
+ghost use Rattle.std.specs.Prelude.{◌≡◌, length, IsErr};
+ghost use Rattle.site_model.specs.Calls.{Gave, Received, Takes};
+ghost use Rattle.site_model.specs.Told.Call.{Post, Send};
+ghost use Rattle.atx_sites.specs.Disks.{told_of};
 
 use crate::disk::Disk;
-use crate::faults::counted;
+use crate::faults::refused;
 use site_model::site::{AttachFailed, Site, Taken};
 use site_model::source::Failed;
 use std::fs::File;
-use std::io::ErrorKind;
 use std::rt::{Clock, Files};
 
 /// A machine with the files of a journal and a clock, and with no network: each call of it fails.
@@ -22,7 +24,10 @@ pub struct FileSite<R: Files<File = File> + Clock + Drop> {
 
 impl<R: Files<File = File> + Clock + Drop> FileSite<R> {
     /// No file is open, and nothing failed.
-    pub fn new(rt: R) -> FileSite<R> {
+    pub fn new(rt: R) -> FileSite<R>
+        ensures disk { (result.disk.disk ≡ 0) × (result.disk.gate ≡ 0) }
+        ensures network { (result.accept ≡ 0) × (result.receive ≡ 0) × (result.link ≡ 0) }
+    {
         FileSite {
             rt,
             disk: Disk::new(),
@@ -34,7 +39,7 @@ impl<R: Files<File = File> + Clock + Drop> FileSite<R> {
 }
 
 impl<R: Files<File = File> + Clock + Drop> Site for FileSite<R> {
-    ghost told = { λ s. silent (record { disk = s.disk.disk; gate = s.disk.gate; accept = s.accept; receive = s.receive; link = s.link; taken = 0; closings = 0 }) };
+    ghost told = { λ s. told_of s.disk s.accept s.receive s.link };
 
     ghost counts_now = { λ s l c is now. now };
 
@@ -71,24 +76,37 @@ impl<R: Files<File = File> + Clock + Drop> Site for FileSite<R> {
         self.disk.raise_gate(file, at)
     }
 
-    fn take(&mut self) -> Result<Taken, Failed> {
-        counted(&mut self.accept, Err(ErrorKind::Unsupported.into()))
+    fn take(&mut self) -> Result<Taken, Failed>
+        ensures fails { IsErr result }
+        ensures call { Takes result (told_of self.old.disk self.old.accept self.old.receive self.old.link) (told_of self.new.disk self.new.accept self.new.receive self.new.link) }
+    {
+        refused(&mut self.accept)
     }
 
-    fn receive(&mut self, _buf: &mut [u8]) -> Result<usize, Failed> {
-        counted(&mut self.receive, Err(ErrorKind::Unsupported.into()))
+    fn receive(&mut self, _buf: &mut [u8]) -> Result<usize, Failed>
+        ensures fails { IsErr result }
+        ensures same_length { length _buf.new ≡ length _buf.old }
+        ensures call { Received result _buf.new (told_of self.old.disk self.old.accept self.old.receive self.old.link) (told_of self.new.disk self.new.accept self.new.receive self.new.link) }
+    {
+        refused(&mut self.receive)
     }
 
     #[tactic(auto, using(crate::proofs::Silent::gave))]
-    fn send(&mut self, _bytes: &[u8]) -> Result<(), Failed> {
-        counted(&mut self.link, Err(ErrorKind::Unsupported.into()))
+    fn send(&mut self, _bytes: &[u8]) -> Result<(), Failed>
+        ensures fails { IsErr result }
+        ensures call { Gave (Send _bytes.now) result (told_of self.old.disk self.old.accept self.old.receive self.old.link) (told_of self.new.disk self.new.accept self.new.receive self.new.link) }
+    {
+        refused(&mut self.link)
     }
 
     fn close(&mut self) {}
 
     #[tactic(auto, using(crate::proofs::Silent::gave))]
-    fn post(&mut self, _host: &str, _port: u16, _bytes: &[u8]) -> Result<(), Failed> {
-        counted(&mut self.link, Err(ErrorKind::Unsupported.into()))
+    fn post(&mut self, _host: &str, _port: u16, _bytes: &[u8]) -> Result<(), Failed>
+        ensures fails { IsErr result }
+        ensures call { Gave (Post _host.now _port _bytes.now) result (told_of self.old.disk self.old.accept self.old.receive self.old.link) (told_of self.new.disk self.new.accept self.new.receive self.new.link) }
+    {
+        refused(&mut self.link)
     }
 
     fn now(&mut self) -> u64 {

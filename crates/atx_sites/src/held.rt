@@ -1,6 +1,6 @@
 //! An open file.
 
-ghost use Rattle.std.specs.Prelude.{◌≡◌, ◌≤◌, true, false, length, IfOk, IsErr, OnOk, OnErr};
+ghost use Rattle.std.specs.Prelude.{◌≡◌, ◌≤◌, true, false, length, None, IfOk, IsErr, OnOk, OnErr};
 ghost use Rattle.std.specs.Io.{ReadsAtMost};
 ghost use Rattle.atx_sites.specs.Disks.{is_lost};
 
@@ -60,7 +60,9 @@ pub(crate) fn open_alone<R: Files<File = File>>(rt: &R, name: &str) -> io::Resul
 }
 
 /// The bytes of a file.
-pub(crate) fn size(held: &Option<Held>) -> io::Result<u64> {
+pub(crate) fn size(held: &Option<Held>) -> io::Result<u64>
+    ensures { held.now ≡ None → IsErr result }
+{
     match held {
         Some(held) => Ok(held.file.metadata()?.len()),
         None => Err(ErrorKind::NotFound.into()),
@@ -69,7 +71,8 @@ pub(crate) fn size(held: &Option<Held>) -> io::Result<u64> {
 
 /// Reads from a place on, and says how many bytes. Zero into a nonempty buffer is the end of the file.
 pub(crate) fn read(held: &Option<Held>, at: u64, buf: &mut [u8]) -> io::Result<usize>
-    ensures { ReadsAtMost result buf.new }
+    ensures bound { ReadsAtMost result buf.new }
+    ensures shut { held.now ≡ None → IsErr result }
 {
     let Some(held) = held else {
         return Err(ErrorKind::NotFound.into());
@@ -84,7 +87,9 @@ pub(crate) fn read(held: &Option<Held>, at: u64, buf: &mut [u8]) -> io::Result<u
 }
 
 /// Writes all bytes from a place on.
-pub(crate) fn write(held: &Option<Held>, at: u64, bytes: &[u8]) -> io::Result<()> {
+pub(crate) fn write(held: &Option<Held>, at: u64, bytes: &[u8]) -> io::Result<()>
+    ensures { held.now ≡ None → IsErr result }
+{
     match held {
         Some(held) => held.file.write_all_at(bytes, at),
         None => Err(ErrorKind::NotFound.into()),
