@@ -1,9 +1,10 @@
 //! A machine with files and no network.
 
-ghost use Rattle.std.specs.Prelude.{◌≡◌, length, IsErr};
-ghost use Rattle.site_model.specs.Calls.{Gave, Received, Takes};
+ghost use Rattle.std.specs.Prelude.{◌≡◌, ◌≤◌, ◌<◌, true, false, length, take, drop, None, IfOk, IsErr, OnOk, OnErr};
+ghost use Rattle.site_model.specs.Calls.{Attaches, Gave, Looked, Raised, Received, Synced, Takes, Wrote};
+ghost use Rattle.site_model.specs.Told.{Files as Files_told, Is, file_of};
 ghost use Rattle.site_model.specs.Told.Call.{Post, Send};
-ghost use Rattle.atx_sites.specs.Disks.{told_of};
+ghost use Rattle.atx_sites.specs.Disks.{file_at, is_lost, other_at, told_of};
 
 use crate::disk::Disk;
 use crate::faults::refused;
@@ -46,33 +47,60 @@ impl<R: Files<File = File> + Clock + Drop> Site for FileSite<R> {
     ghost only_now = { λ s l m c is le past. absurd past };
 
     /// Opens the files. There is no listener.
-    fn attach(&mut self, journal: &str, _listen: &str) -> Result<(), AttachFailed> {
+    fn attach(&mut self, journal: &str, _listen: &str) -> Result<(), AttachFailed>
+        ensures sure { OnOk result ((is_lost self.new.disk.first ≡ false) × (is_lost self.new.disk.second ≡ false)) }
+        ensures shut { OnErr result ((is_lost self.new.disk.first ≡ true) × (is_lost self.new.disk.second ≡ true)) }
+        ensures call { Attaches result (told_of self.old.disk self.old.accept self.old.receive self.old.link) (told_of self.new.disk self.new.accept self.new.receive self.new.link) }
+    {
         match self.disk.open(&self.rt, journal) {
             Ok(()) => Ok(()),
             Err(_) => Err(AttachFailed::Disk),
         }
     }
 
-    fn size(&mut self, file: u8) -> Result<u64, Failed> {
+    fn size(&mut self, file: u8) -> Result<u64, Failed>
+        ensures shut { file_at file self.old.disk ≡ None → IsErr result }
+        ensures is { IfOk result (λ n. (f : Files_told) → Is (told_of self.old.disk self.old.accept self.old.receive self.old.link).files f → n ≡ length (file_of file f)) }
+        ensures call { Looked result (told_of self.old.disk self.old.accept self.old.receive self.old.link) (told_of self.new.disk self.new.accept self.new.receive self.new.link) }
+    {
         self.disk.size(file)
     }
 
-    fn read(&mut self, file: u8, at: u64, buf: &mut [u8]) -> Result<usize, Failed> {
+    fn read(&mut self, file: u8, at: u64, buf: &mut [u8]) -> Result<usize, Failed>
+        ensures shut { file_at file self.old.disk ≡ None → IsErr result }
+        ensures bound { IfOk result (λ n. n ≤ length buf.new) }
+        ensures same_length { length buf.new ≡ length buf.old }
+        ensures is { IfOk result (λ n. (f : Files_told) → Is (told_of self.old.disk self.old.accept self.old.receive self.old.link).files f → take n buf.new ≡ take n (drop at (file_of file f))) }
+        ensures end { IfOk result (λ n. (f : Files_told) → Is (told_of self.old.disk self.old.accept self.old.receive self.old.link).files f → n ≡ 0 → 0 < length buf.old → length (file_of file f) ≤ at) }
+        ensures call { Looked result (told_of self.old.disk self.old.accept self.old.receive self.old.link) (told_of self.new.disk self.new.accept self.new.receive self.new.link) }
+    {
         self.disk.read(file, at, buf)
     }
 
     #[tactic(auto, using(crate::proofs::Silent::wrote))]
-    fn write_at(&mut self, file: u8, at: u64, bytes: &[u8]) -> Result<(), Failed> {
+    fn write_at(&mut self, file: u8, at: u64, bytes: &[u8]) -> Result<(), Failed>
+        ensures shut { file_at file self.old.disk ≡ None → IsErr result }
+        ensures call { Wrote file at bytes.now result (told_of self.old.disk self.old.accept self.old.receive self.old.link) (told_of self.new.disk self.new.accept self.new.receive self.new.link) }
+    {
         self.disk.write_at(file, at, bytes)
     }
 
     #[tactic(auto, using(crate::proofs::Silent::synced))]
-    fn sync(&mut self, file: u8) -> Result<(), Failed> {
+    fn sync(&mut self, file: u8) -> Result<(), Failed>
+        ensures lost { is_lost (file_at file self.old.disk) ≡ true → IsErr result }
+        ensures failed { OnErr result (is_lost (file_at file self.new.disk) ≡ true) }
+        ensures other { other_at file self.new.disk ≡ other_at file self.old.disk }
+        ensures call { Synced file result (told_of self.old.disk self.old.accept self.old.receive self.old.link) (told_of self.new.disk self.new.accept self.new.receive self.new.link) }
+    {
         self.disk.sync(file)
     }
 
     #[tactic(auto, using(crate::proofs::Silent::raised))]
-    fn raise_gate(&mut self, file: u8, at: u64) -> Result<(), Failed> {
+    fn raise_gate(&mut self, file: u8, at: u64) -> Result<(), Failed>
+        ensures lost { is_lost (file_at file self.old.disk) ≡ true → IsErr result }
+        ensures other { other_at file self.new.disk ≡ other_at file self.old.disk }
+        ensures call { Raised file at result (told_of self.old.disk self.old.accept self.old.receive self.old.link) (told_of self.new.disk self.new.accept self.new.receive self.new.link) }
+    {
         self.disk.raise_gate(file, at)
     }
 
