@@ -1,0 +1,146 @@
+//! A machine with files and no network.
+
+ghost use Rattle.std.specs.Prelude.{◌≡◌, ◌≤◌, ◌<◌, true, false, length, take, drop, None, IfOk, IsErr, OnOk, OnErr};
+ghost use Rattle.site_model.specs.Calls.{Attaches, Gave, Looked, Raised, Received, Synced, Takes, Wrote};
+ghost use Rattle.site_model.specs.Told.{Files as Files_told, Is, file_of};
+ghost use Rattle.site_model.specs.Told.Call.{Post, Send};
+ghost use Rattle.atx_sites.specs.Disks.{file_at, is_lost, other_at, told_of};
+
+use crate::disk::Disk;
+use crate::faults::refused;
+use site_model::site::{AttachFailed, Site, Taken};
+use site_model::source::Failed;
+use std::fs::File;
+use std::rt::{Clock, Files};
+
+/// A machine with the files of a journal and a clock, and with no network: each call of it fails.
+#[derive(Drop)]
+pub struct FileSite<R: Files<File = File> + Clock + Drop> {
+    rt: R,
+    disk: Disk,
+    accept: u64,
+    receive: u64,
+    link: u64,
+}
+
+impl<R: Files<File = File> + Clock + Drop> FileSite<R> {
+    /// No file is open, and nothing failed.
+    pub fn new(rt: R) -> FileSite<R>
+        ensures disk { (result.disk.disk ≡ 0) × (result.disk.gate ≡ 0) }
+        ensures network { (result.accept ≡ 0) × (result.receive ≡ 0) × (result.link ≡ 0) }
+    {
+        FileSite {
+            rt,
+            disk: Disk::new(),
+            accept: 0,
+            receive: 0,
+            link: 0,
+        }
+    }
+}
+
+impl<R: Files<File = File> + Clock + Drop> Site for FileSite<R> {
+    ghost told = { λ s. told_of s.disk s.accept s.receive s.link };
+
+    ghost counts_now = { λ s l c is now. now };
+
+    ghost only_now = { λ s l m c is le past. absurd past };
+
+    /// Opens the files. There is no listener.
+    fn attach(&mut self, journal: &str, _listen: &str) -> Result<(), AttachFailed>
+        ensures sure { OnOk result ((is_lost self.new.disk.first ≡ false) × (is_lost self.new.disk.second ≡ false)) }
+        ensures shut { OnErr result ((is_lost self.new.disk.first ≡ true) × (is_lost self.new.disk.second ≡ true)) }
+        ensures call { Attaches result (told_of self.old.disk self.old.accept self.old.receive self.old.link) (told_of self.new.disk self.new.accept self.new.receive self.new.link) }
+    {
+        match self.disk.open(&self.rt, journal) {
+            Ok(()) => Ok(()),
+            Err(_) => Err(AttachFailed::Disk),
+        }
+    }
+
+    fn size(&mut self, file: u8) -> Result<u64, Failed>
+        ensures shut { file_at file self.old.disk ≡ None → IsErr result }
+        ensures is { IfOk result (λ n. (f : Files_told) → Is (told_of self.old.disk self.old.accept self.old.receive self.old.link).files f → n ≡ length (file_of file f)) }
+        ensures call { Looked result (told_of self.old.disk self.old.accept self.old.receive self.old.link) (told_of self.new.disk self.new.accept self.new.receive self.new.link) }
+    {
+        self.disk.size(file)
+    }
+
+    fn read(&mut self, file: u8, at: u64, buf: &mut [u8]) -> Result<usize, Failed>
+        ensures shut { file_at file self.old.disk ≡ None → IsErr result }
+        ensures bound { IfOk result (λ n. n ≤ length buf.new) }
+        ensures same_length { length buf.new ≡ length buf.old }
+        ensures is { IfOk result (λ n. (f : Files_told) → Is (told_of self.old.disk self.old.accept self.old.receive self.old.link).files f → take n buf.new ≡ take n (drop at (file_of file f))) }
+        ensures end { IfOk result (λ n. (f : Files_told) → Is (told_of self.old.disk self.old.accept self.old.receive self.old.link).files f → n ≡ 0 → 0 < length buf.old → length (file_of file f) ≤ at) }
+        ensures call { Looked result (told_of self.old.disk self.old.accept self.old.receive self.old.link) (told_of self.new.disk self.new.accept self.new.receive self.new.link) }
+    {
+        self.disk.read(file, at, buf)
+    }
+
+    #[tactic(auto, using(crate::proofs::Silent::wrote))]
+    fn write_at(&mut self, file: u8, at: u64, bytes: &[u8]) -> Result<(), Failed>
+        ensures shut { file_at file self.old.disk ≡ None → IsErr result }
+        ensures call { Wrote file at bytes.now result (told_of self.old.disk self.old.accept self.old.receive self.old.link) (told_of self.new.disk self.new.accept self.new.receive self.new.link) }
+    {
+        self.disk.write_at(file, at, bytes)
+    }
+
+    #[tactic(auto, using(crate::proofs::Silent::synced))]
+    fn sync(&mut self, file: u8) -> Result<(), Failed>
+        ensures lost { is_lost (file_at file self.old.disk) ≡ true → IsErr result }
+        ensures failed { OnErr result (is_lost (file_at file self.new.disk) ≡ true) }
+        ensures other { other_at file self.new.disk ≡ other_at file self.old.disk }
+        ensures call { Synced file result (told_of self.old.disk self.old.accept self.old.receive self.old.link) (told_of self.new.disk self.new.accept self.new.receive self.new.link) }
+    {
+        self.disk.sync(file)
+    }
+
+    #[tactic(auto, using(crate::proofs::Silent::raised))]
+    fn raise_gate(&mut self, file: u8, at: u64) -> Result<(), Failed>
+        ensures lost { is_lost (file_at file self.old.disk) ≡ true → IsErr result }
+        ensures other { other_at file self.new.disk ≡ other_at file self.old.disk }
+        ensures call { Raised file at result (told_of self.old.disk self.old.accept self.old.receive self.old.link) (told_of self.new.disk self.new.accept self.new.receive self.new.link) }
+    {
+        self.disk.raise_gate(file, at)
+    }
+
+    fn take(&mut self) -> Result<Taken, Failed>
+        ensures fails { IsErr result }
+        ensures call { Takes result (told_of self.old.disk self.old.accept self.old.receive self.old.link) (told_of self.new.disk self.new.accept self.new.receive self.new.link) }
+    {
+        refused(&mut self.accept)
+    }
+
+    fn receive(&mut self, _buf: &mut [u8]) -> Result<usize, Failed>
+        ensures fails { IsErr result }
+        ensures same_length { length _buf.new ≡ length _buf.old }
+        ensures call { Received result _buf.new (told_of self.old.disk self.old.accept self.old.receive self.old.link) (told_of self.new.disk self.new.accept self.new.receive self.new.link) }
+    {
+        refused(&mut self.receive)
+    }
+
+    #[tactic(auto, using(crate::proofs::Silent::gave))]
+    fn send(&mut self, _bytes: &[u8]) -> Result<(), Failed>
+        ensures fails { IsErr result }
+        ensures call { Gave (Send _bytes.now) result (told_of self.old.disk self.old.accept self.old.receive self.old.link) (told_of self.new.disk self.new.accept self.new.receive self.new.link) }
+    {
+        refused(&mut self.link)
+    }
+
+    fn close(&mut self) {}
+
+    #[tactic(auto, using(crate::proofs::Silent::gave))]
+    fn post(&mut self, _host: &str, _port: u16, _bytes: &[u8]) -> Result<(), Failed>
+        ensures fails { IsErr result }
+        ensures call { Gave (Post _host.now _port _bytes.now) result (told_of self.old.disk self.old.accept self.old.receive self.old.link) (told_of self.new.disk self.new.accept self.new.receive self.new.link) }
+    {
+        refused(&mut self.link)
+    }
+
+    fn now(&mut self) -> u64 {
+        match self.rt.monotonic() {
+            Ok(time) => u64::try_from(time.as_millis()).unwrap_or(u64::MAX),
+            Err(_) => 0,
+        }
+    }
+}
