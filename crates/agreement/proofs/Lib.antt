@@ -1,2 +1,4 @@
 pub mod Ending
 pub mod Finishing
+pub mod LeafStanding
+pub mod LeavesDo

@@ -1,10 +1,25 @@
 //! What leads to agreement.
 
 ghost use Rattle.agreement.specs.Finished.{FinishesAll};
+ghost use Rattle.agreement.specs.LeafDeeds.{LeafStates, LeavesDo};
 
 /// In every run a transaction that aborts asks nobody any more, one that is decided has no initiator that may still ask, and
 /// participants keep their numbers, in the book and in its records.
 #[tactic(auto, using(crate::proofs::Finishing::finishes_all))]
 pub fn finishes_all()
     ensures { FinishesAll }
+{}
+
+/// In every run a participant that does work of its own registers, works under a coordinator that it knows, or has voted
+/// Prepared to it.
+#[tactic(auto, using(crate::proofs::LeafStanding::leaf_states))]
+pub fn leaf_states()
+    ensures { LeafStates }
+{}
+
+/// Whatever comes to a participant that does work of its own, and whenever it is due, its step is one of a few deeds, each
+/// with its record, its effect, its messages and what is left of it.
+#[tactic(auto, using(crate::proofs::LeavesDo::leaves_do))]
+pub fn leaves_do()
+    ensures { LeavesDo }
 {}
