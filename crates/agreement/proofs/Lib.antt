@@ -1,3 +1,4 @@
+pub mod ActivitiesDo
 pub mod Ending
 pub mod Finishing
 pub mod LeafStanding

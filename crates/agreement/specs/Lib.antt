@@ -1,3 +1,4 @@
+pub mod ActivityDeeds
 pub mod Branches
 pub mod Finished
 pub mod LeafDeeds

@@ -1,5 +1,6 @@
 //! What leads to agreement.
 
+ghost use Rattle.agreement.specs.ActivityDeeds.{ActivitiesDo};
 ghost use Rattle.agreement.specs.Finished.{FinishesAll};
 ghost use Rattle.agreement.specs.LeafDeeds.{LeafStates, LeavesDo};
 
@@ -22,4 +23,11 @@ pub fn leaf_states()
 #[tactic(auto, using(crate::proofs::LeavesDo::leaves_do))]
 pub fn leaves_do()
     ensures { LeavesDo }
+{}
+
+/// Whatever comes to an initiator's activity, whenever it is due, and whatever its program asks that isn't refused, it goes on
+/// and posts one message at most, or is told how it ended.
+#[tactic(auto, using(crate::proofs::ActivitiesDo::activities_do))]
+pub fn activities_do()
+    ensures { ActivitiesDo }
 {}
