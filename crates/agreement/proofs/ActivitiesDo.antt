@@ -212,8 +212,6 @@ completing_due m e a n context to which came =
 
 -- requests of its program
 
-
-
 is_taken : (o : Option Activity) (a : Activity) (more : Option Refusal) → o ≡ Some a → refuses_named o more ≡ None → (is_active a.progress ≡ true) × (more ≡ None)
 is_taken o a more found e = by_case (is_active a.progress) refl (subst (λ x. refuses_named x more ≡ None) found e)
   where
@@ -292,12 +290,12 @@ outcome_does : (b : Book) (e : Event) (now : ℕ) (a : Activity) (n : Notice) (l
 outcome_does b e now a notices.Commit l found stands taken came why =
     let same : l ≡ locals.Commit a.id = cc in
     let ok : (is_active a.progress ≡ true) × (only_begun (activity_at b a.id) ≡ None) =
-        is_taken (activity_at b a.id) a (only_begun (activity_at b a.id)) found (taken (locals.Commit a.id) (came ∙ ap events.Local same)) in
+    is_taken (activity_at b a.id) a (only_begun (activity_at b a.id)) found (taken (locals.Commit a.id) (came ∙ ap events.Local same)) in
     asks_outcome (moment_of b now) e notices.Commit a stands ok.0 (is_ours (activity_at b a.id) a found ok.1) (inl (refl, came ∙ ap events.Local same))
 outcome_does b e now a notices.Rollback l found stands taken came why =
     let same : l ≡ locals.Rollback a.id = cc in
     let ok : (is_active a.progress ≡ true) × (only_begun (activity_at b a.id) ≡ None) =
-        is_taken (activity_at b a.id) a (only_begun (activity_at b a.id)) found (taken (locals.Rollback a.id) (came ∙ ap events.Local same)) in
+    is_taken (activity_at b a.id) a (only_begun (activity_at b a.id)) found (taken (locals.Rollback a.id) (came ∙ ap events.Local same)) in
     asks_outcome (moment_of b now) e notices.Rollback a stands ok.0 (is_ours (activity_at b a.id) a found ok.1) (inr (refl, came ∙ ap events.Local same))
 outcome_does b e now a other l found stands taken came why = absurd cc
 

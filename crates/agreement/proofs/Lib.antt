@@ -1,4 +1,5 @@
 pub mod ActivitiesDo
+pub mod ActivityStanding
 pub mod Ending
 pub mod Finishing
 pub mod LeafStanding

@@ -1,6 +1,6 @@
 //! What leads to agreement.
 
-ghost use Rattle.agreement.specs.ActivityDeeds.{ActivitiesDo};
+ghost use Rattle.agreement.specs.ActivityDeeds.{ActivitiesDo, ActivityStates};
 ghost use Rattle.agreement.specs.Finished.{FinishesAll};
 ghost use Rattle.agreement.specs.LeafDeeds.{LeafStates, LeavesDo};
 
@@ -23,6 +23,12 @@ pub fn leaf_states()
 #[tactic(auto, using(crate::proofs::LeavesDo::leaves_do))]
 pub fn leaves_do()
     ensures { LeavesDo }
+{}
+
+/// In every run an activity waits for its context, registers, runs or completes, and knows what it needs for that.
+#[tactic(auto, using(crate::proofs::ActivityStanding::activity_states))]
+pub fn activity_states()
+    ensures { ActivityStates }
 {}
 
 /// Whatever comes to an initiator's activity, whenever it is due, and whatever its program asks that isn't refused, it goes on
