@@ -2,6 +2,7 @@
 
 ghost use Rattle.agreement.specs.ActivityDeeds.{ActivitiesDo, ActivityStates};
 ghost use Rattle.agreement.specs.Finished.{FinishesAll};
+ghost use Rattle.agreement.specs.Journals.{JournalsLive};
 ghost use Rattle.agreement.specs.LeafDeeds.{LeafStates, LeavesDo};
 
 /// In every run a transaction that aborts asks nobody any more, one that is decided has no initiator that may still ask, and
@@ -36,4 +37,10 @@ pub fn activity_states()
 #[tactic(auto, using(crate::proofs::ActivitiesDo::activities_do))]
 pub fn activities_do()
     ensures { ActivitiesDo }
+{}
+
+/// A further record in a journal ends what is live of its id, as it says, and is live itself where it promises something.
+#[tactic(auto, using(crate::proofs::Journals::journals_live))]
+pub fn journals_live()
+    ensures { JournalsLive }
 {}
