@@ -28,12 +28,14 @@ use Rattle.at_model.specs.Activities.{activity_target, activity_act, activity_no
 use Rattle.at_model.specs.Addresses.{create_id, register_id}
 use Rattle.at_model.specs.Arrivals.{relates_to}
 use Rattle.at_model.specs.Due.{Reached, Expired, Over, Unanswered, Nothing, has_come, is_quiet, activity_due, activity_reached}
-use Rattle.at_model.specs.Step.{activity_at, moment_of, only_begun, refuses, refuses_named, works_left}
+use Rattle.at_model.specs.Step.{at_time, put_activity, activity_at, moment_of, only_begun, refuses, refuses_named, works_left}
 use Rattle.model_laws.specs.Shapes.{MovesActivity, at_activity, activity_when_due, works, completes, completion_request}
 use Rattle.model_laws.proofs.Deciding.{first_true, second_true}
 use Rattle.agreement.specs.Branches.{InBranches}
 use Rattle.agreement.specs.ActivityDeeds.{Completes, ActivityStands, creates, registers, runs, runs_under, CameToActivity, ActivityIdles, rests, misled, created, interposed, registered, registers_again, asks_again, asks, ActivityTells, committed, aborted, uncreated, unregistered, unknown, expired, ActivityDeed, idles, tells, IsTaken, NeverUndone, ActivitiesDo}
 use Rattle.agreement.specs.ActivityDeeds as deeds
+use Rattle.agreement.proofs.ActivitySaying.{deed_says}
+use Rattle.agreement.proofs.Branching.{became}
 
 abbrev pub Does : Moment → Event → Activity → Decision Activity → Type 0
 Does m e a d = InBranches (ActivityDeed m e a) NeverUndone d
@@ -309,4 +311,9 @@ moved_does b e now a d found stands taken (completes n l came why is) =
     subst (Does (moment_of b now) e a) (sym is) (outcome_does b e now a n l found stands taken came why)
 
 pub activities_do : ActivitiesDo
-activities_do = record { deed = moved_does }
+activities_do = record {
+  deed = moved_does;
+  step = λ b e now landed a answer d found stands taken how.
+      became (ActivityDeed (moment_of b now) e a) NeverUndone b (put_activity a.id (at_time now b)) answer d landed (moved_does b e now a d found stands taken how);
+  says = deed_says;
+}

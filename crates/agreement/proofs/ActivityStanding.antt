@@ -30,6 +30,7 @@ use Rattle.model_laws.proofs.Shaping.{steps_touch_one}
 use Rattle.agreement.specs.Branches.{InBranches}
 use Rattle.agreement.specs.ActivityDeeds.{ActivityStands, creates, registers, runs, runs_under, completes, ActivitiesStand, ActivityStates, ActivityDeed, ActivityIdles, rests, misled, created, interposed, registered, registers_again, asks_again, works, asks, idles, tells, IsTaken, NeverUndone}
 use Rattle.agreement.proofs.ActivitiesDo.{activities_do}
+use Rattle.agreement.proofs.ActivitySaying.{which}
 
 -- what is left stands
 again : (a : Activity) (sent : Option ℕ) → ActivityStands a → ActivityStands (record a { sent = sent })
@@ -67,10 +68,6 @@ is_asked m a n to (registers context o p x c) w e f = absurd cc
 is_asked m a n to (runs context other o p x c) w e f = completes n context other o w refl x c
 is_asked m a n to (runs_under context o p x c) w e f = absurd cc
 is_asked m a n to (completes k context other o v p x c) w e f = absurd cc
-
-which : {P Q : Type 0} (n : Notice) → ((n ≡ notices.Commit) × P) ⊎ ((n ≡ notices.Rollback) × Q) → (n ≡ notices.Commit) ⊎ (n ≡ notices.Rollback)
-which n (inl h) = inl h.0
-which n (inr h) = inr h.0
 
 idle_stands : (m : Moment) (e : Event) (a left : Activity) (c : Change Activity) → ActivityStands a → ActivityIdles m e a left c.posts → ActivityStands left
 idle_stands m e a left c h (rests is p) = subst ActivityStands (sym is) h

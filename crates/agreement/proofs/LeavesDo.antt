@@ -25,11 +25,13 @@ use Rattle.at_model.specs.Posts.{unknown_transaction}
 use Rattle.at_model.specs.Moves.{Decision, Goes, begin, forgotten, ignored}
 use Rattle.at_model.specs.Leaves.{leaf_target, leaf_votes, leaf_commit, leaf_roll_back, leaf_act, leaf_notice, answers_leaf, leaf_registered, drops_leaf, leaf_fault, on_leaf}
 use Rattle.at_model.specs.Due.{Expired, Unanswered, Nothing, has_come, is_quiet, leaf_due, leaf_reached}
-use Rattle.at_model.specs.Step.{moment_of}
+use Rattle.at_model.specs.Step.{at_time, moment_of, put_leaf}
 use Rattle.model_laws.specs.Shapes.{MovesLeaf, at_leaf, leaf_when_due}
 use Rattle.model_laws.proofs.Deciding.{first_true, second_true, same_kind}
 use Rattle.agreement.specs.Branches.{InBranches}
 use Rattle.agreement.specs.LeafDeeds.{LeafStands, registers, works, waits, CameTo, Notified, for_durable, rests, registered, registers_again, votes_again, asked, misled, unprepared, refused, expired, gave_up, LeafDeed, idles, aborts, prepares, leaves, dropped, commits, rolls_back, LeafWaitsOn, LeavesDo}
+use Rattle.agreement.proofs.Branching.{became}
+use Rattle.agreement.proofs.LeafSaying.{deed_says}
 
 abbrev pub Does : Moment → Event → Leaf → Decision Leaf → Type 0
 Does m e l d = InBranches (LeafDeed m e l) (LeafWaitsOn l) d
@@ -230,4 +232,9 @@ moved_does b e now l d stands (at_leaf a came why is) = subst (Does (moment_of b
 moved_does b e now l d stands (leaf_when_due came is) = subst (Does (moment_of b now) e l) (sym is) (due_does (moment_of b now) e l stands came)
 
 pub leaves_do : LeavesDo
-leaves_do = record { deed = moved_does }
+leaves_do = record {
+  deed = moved_does;
+  step = λ b e now landed l answer d stands how.
+      became (LeafDeed (moment_of b now) e l) (LeafWaitsOn l) b (put_leaf l.id (at_time now b)) answer d landed (moved_does b e now l d stands how);
+  says = deed_says;
+}

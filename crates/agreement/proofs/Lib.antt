@@ -1,7 +1,10 @@
 pub mod ActivitiesDo
+pub mod ActivitySaying
 pub mod ActivityStanding
+pub mod Branching
 pub mod Ending
 pub mod Finishing
 pub mod Journals
+pub mod LeafSaying
 pub mod LeafStanding
 pub mod LeavesDo

@@ -18,6 +18,7 @@ use Rattle.at_base.specs.declared.event.Local.TheVariants as locals
 use Rattle.at_base.specs.declared.event.Event.{Event}
 use Rattle.at_base.specs.declared.event.Event.TheVariants as events
 use Rattle.at_base.specs.declared.event.Moment.{Moment}
+use Rattle.at_base.specs.declared.outs.Out.{Out}
 use Rattle.at_base.specs.declared.outs.Post.{Post}
 use Rattle.at_base.specs.declared.outs.Told.{Told}
 use Rattle.at_base.specs.declared.outs.Told.TheVariants as tellings
@@ -30,10 +31,10 @@ use Rattle.at_model.specs.Arrivals.{relates_to}
 use Rattle.at_model.specs.Activities.{activity_target, completion_register, is_begun, work_post}
 use Rattle.at_model.specs.Due.{has_come}
 use Rattle.at_model.specs.Recover.{recover}
-use Rattle.at_model.specs.Step.{activity_at, moment_of, refuses, step}
+use Rattle.at_model.specs.Step.{activity_at, activity_plan, at_time, moment_of, put_activity, refuses, step}
 use Rattle.at_model.specs.World.{Node, WorldEvent, nth, run_of}
 use Rattle.model_laws.specs.Shapes.{MovesActivity}
-use Rattle.agreement.specs.Branches.{InBranches}
+use Rattle.agreement.specs.Branches.{Became, InBranches, IsNoNotice}
 
 -- what an initiator may ask of the coordinator
 abbrev pub Completes : Notice → Type 0
@@ -121,6 +122,13 @@ pub data ActivityDeed (m : Moment) (e : Event) (a : Activity) (entry : Option Re
   idles : (left : Activity) → ActivityIdles m e a left c.posts → entry ≡ None → c.item ≡ Some left → c.effects ≡ [] → ActivityDeed m e a entry c
   tells : (what : Told) → ActivityTells m e a what → entry ≡ None → c.item ≡ None → c.effects ≡ effects.Told a.id what ∷ [] → c.posts ≡ [] → ActivityDeed m e a entry c
 
+-- Why an activity posts a message, by what is left of it: Commit and Rollback go to the coordinator that it knows, from one
+-- that completes so.
+pub data ActivitySays (m : Moment) (a : Activity) (c : Change Activity) (p : Post) : Type 0 where
+  completing : (n : Notice) (to : Epr) (left : Activity) → Completes n → a.coordinator ≡ Some to → p ≡ notice_post m.base (activity_target a) to n → c.item ≡ Some left
+      → left.progress ≡ Progress.Completing n → ActivitySays m a c p
+  tells_nothing : IsNoNotice p.message → ActivitySays m a c p
+
 -- a request of a program is taken
 abbrev pub IsTaken : Book → Event → Type 0
 IsTaken b e = (l : Local) → e ≡ events.Local l → refuses b l ≡ None
@@ -132,3 +140,9 @@ NeverUndone r = ⊥
 pub record ActivitiesDo : Type 0 where
   pub deed : (b : Book) (e : Event) (now : ℕ) (a : Activity) (d : Decision Activity) → activity_at b a.id ≡ Some a → ActivityStands a → IsTaken b e → MovesActivity b e now a d
       → InBranches (ActivityDeed (moment_of b now) e a) NeverUndone d
+  -- so each step that moves an activity is one of these
+  pub step : (b : Book) (e : Event) (now : ℕ) (landed : Bool) (a : Activity) (answer : List Out) (d : Decision Activity) → activity_at b a.id ≡ Some a → ActivityStands a
+      → IsTaken b e → MovesActivity b e now a d
+      → Became (ActivityDeed (moment_of b now) e a) NeverUndone b (put_activity a.id (at_time now b)) answer (activity_plan b now answer a d) landed
+  -- and each message that it posts has its reason
+  pub says : (m : Moment) (e : Event) (a : Activity) (entry : Option Record) (c : Change Activity) → ActivityDeed m e a entry c → AllByRecursion (ActivitySays m a c) c.posts

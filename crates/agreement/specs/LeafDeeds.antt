@@ -17,6 +17,7 @@ use Rattle.at_base.specs.declared.event.Item.TheVariants as items
 use Rattle.at_base.specs.declared.event.Event.{Event}
 use Rattle.at_base.specs.declared.event.Event.TheVariants as events
 use Rattle.at_base.specs.declared.event.Moment.{Moment}
+use Rattle.at_base.specs.declared.outs.Out.{Out}
 use Rattle.at_base.specs.declared.outs.Post.{Post}
 use Rattle.at_base.specs.declared.outs.Ending.TheVariants as endings
 use Rattle.at_tables.specs.declared.cells.State.TheVariants as states
@@ -26,10 +27,10 @@ use Rattle.at_model.specs.Moves.{Change, Decision}
 use Rattle.at_model.specs.Leaves.{answers_leaf, leaf_ended, leaf_register, leaf_target}
 use Rattle.at_model.specs.Due.{has_come}
 use Rattle.at_model.specs.Recover.{recover}
-use Rattle.at_model.specs.Step.{moment_of, step}
+use Rattle.at_model.specs.Step.{at_time, leaf_plan, moment_of, put_leaf, step}
 use Rattle.at_model.specs.World.{Node, WorldEvent, nth, run_of}
 use Rattle.model_laws.specs.Shapes.{MovesLeaf}
-use Rattle.agreement.specs.Branches.{InBranches}
+use Rattle.agreement.specs.Branches.{Became, InBranches, IsNoNotice}
 
 -- A leaf registers, works under a coordinator that it knows, or has voted Prepared and waits for the outcome.
 pub data LeafStands (l : Leaf) : Type 0 where
@@ -125,7 +126,28 @@ pub data LeafDeed (m : Moment) (e : Event) (l : Leaf) (entry : Option Record) (c
 abbrev pub LeafWaitsOn : Leaf → Record → Type 0
 LeafWaitsOn l r = (r ≡ records.LeafCommitted l.id) ⊎ (r ≡ records.LeafAborted l.id)
 
+-- Why a leaf posts a message, by what happens to it then.
+pub data LeafSays (m : Moment) (e : Event) (l : Leaf) (c : Change Leaf) (p : Post) : Type 0 where
+  -- Prepared: it waits for the outcome
+  prepared : (to : Epr) (left : Leaf) → l.coordinator ≡ Some to → p ≡ leaf_notice_to m l to notices.Prepared → c.item ≡ Some left → left.state ≡ states.PreparedSuccess
+      → LeafSays m e l c p
+  -- ReadOnly: it leaves without a trace
+  read_only : (to : Epr) → l.coordinator ≡ Some to → p ≡ leaf_notice_to m l to notices.ReadOnly → l.state ≡ states.Active → c.item ≡ None → c.effects ≡ [] → LeafSays m e l c p
+  -- Committed: it commits
+  committed : (to : Epr) → l.coordinator ≡ Some to → p ≡ leaf_notice_to m l to notices.Committed → c.item ≡ None → c.effects ≡ leaf_ended l endings.Committed ∷ []
+      → LeafSays m e l c p
+  -- Aborted: it aborts; while it knows no coordinator, it says so to the From of the Rollback that came
+  aborted : (to : Epr) → (l.coordinator ≡ Some to) ⊎ ((came : Notified e l notices.Rollback) × (came.arrived.from ≡ Some to)) → p ≡ leaf_notice_to m l to notices.Aborted
+      → c.item ≡ None → c.effects ≡ leaf_ended l endings.Aborted ∷ [] → LeafSays m e l c p
+  -- no notification
+  tells_nothing : IsNoNotice p.message → LeafSays m e l c p
+
 -- Whatever comes to a leaf and whenever it is due, one of these happens, with the record and without.
 pub record LeavesDo : Type 0 where
   pub deed : (b : Book) (e : Event) (now : ℕ) (l : Leaf) (d : Decision Leaf) → LeafStands l → MovesLeaf b e now l d
       → InBranches (LeafDeed (moment_of b now) e l) (LeafWaitsOn l) d
+  -- so each step that moves a leaf is one of these, or undone
+  pub step : (b : Book) (e : Event) (now : ℕ) (landed : Bool) (l : Leaf) (answer : List Out) (d : Decision Leaf) → LeafStands l → MovesLeaf b e now l d
+      → Became (LeafDeed (moment_of b now) e l) (LeafWaitsOn l) b (put_leaf l.id (at_time now b)) answer (leaf_plan b now answer l d) landed
+  -- and each message that it posts has its reason
+  pub says : (m : Moment) (e : Event) (l : Leaf) (entry : Option Record) (c : Change Leaf) → LeafDeed m e l entry c → AllByRecursion (LeafSays m e l c) c.posts
