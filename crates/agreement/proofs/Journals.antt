@@ -15,10 +15,10 @@ use Rattle.model_laws.specs.Agreement.{IsIn}
 use Rattle.model_laws.proofs.Deciding.{in_front}
 use Rattle.model_laws.proofs.Recovering.{or_false, same_id, self_id}
 use Rattle.model_laws.proofs.Seating.{in_back}
-use Rattle.agreement.specs.Journals.{drops, is_of_transaction, IsNoSubCommit, Confirms, IsRecovered, JournalsLive}
+use Rattle.agreement.specs.Journals.{drops, is_of_transaction, IsNoSubCommit, Confirms, JournalsLive}
 
 -- tests of one more
-or_nothing : (b : Bool) → (b || false) ≡ b
+pub or_nothing : (b : Bool) → (b || false) ≡ b
 or_nothing true = refl
 or_nothing false = refl
 
@@ -31,10 +31,10 @@ any_more p [] r = or_nothing (p r)
 any_more p (x ∷ rs) r = ap (λ b. p x || b) (any_more p rs r) ∙ or_more (p x) (list_any p rs) (p r)
 
 -- what one record keeps alive
-abbrev unless : Bool → Record → List Record
+abbrev pub unless : Bool → Record → List Record
 unless a x = if a then [] else x ∷ []
 
-abbrev vote : Bool → Bool → Record → Record → List Record
+abbrev pub vote : Bool → Bool → Record → Record → List Record
 vote a c v s = if a then [] else v ∷ (if c then s ∷ [] else [])
 
 one_kept : (a b : Bool) (p : Record → Bool) (x : Record) → p x ≡ not b → unless (a || b) x ≡ filter p (unless a x)
@@ -102,7 +102,7 @@ live_start rs i =
     ∙ all_pass (λ x. not (drops (records.Start i) x)) (live rs) (λ x h. start_drops i x)
 
 -- membership
-in_either : {A : Type 0} (x : A) (xs ys : List A) → IsIn x (xs ++ ys) → IsIn x xs ⊎ IsIn x ys
+pub in_either : {A : Type 0} (x : A) (xs ys : List A) → IsIn x (xs ++ ys) → IsIn x xs ⊎ IsIn x ys
 in_either x [] ys h = inr h
 in_either x (y ∷ xs) ys (inl e) = inl (inl e)
 in_either x (y ∷ xs) ys (inr h) = further (in_either x xs ys h)
@@ -217,7 +217,7 @@ commit_was id x (records.Voted i s seats) rest h =
     was_kept id i s seats (list_any (ends_transaction i) rest) (is_id id i) (list_any (is_sub_committed i) rest) x refl (subst (IsIn x) (kept_confirmed id i s seats rest) h)
 commit_was id x other rest h = absurd h
 
-any_front : (p : Record → Bool) (xs ys : List Record) → list_any p xs ≡ true → list_any p (xs ++ ys) ≡ true
+pub any_front : (p : Record → Bool) (xs ys : List Record) → list_any p xs ≡ true → list_any p (xs ++ ys) ≡ true
 any_front p [] ys e = absurd cc
 any_front p (x ∷ xs) ys e = by_case (p x) (any_front p xs ys) e
   where
@@ -225,7 +225,7 @@ any_front p (x ∷ xs) ys e = by_case (p x) (any_front p xs ys) e
     by_case true f e = refl
     by_case false f e = f e
 
-any_back : (p : Record → Bool) (xs ys : List Record) → list_any p ys ≡ true → list_any p (xs ++ ys) ≡ true
+pub any_back : (p : Record → Bool) (xs ys : List Record) → list_any p ys ≡ true → list_any p (xs ++ ys) ≡ true
 any_back p [] ys e = e
 any_back p (x ∷ xs) ys e = by_case (p x) (any_back p xs ys e)
   where
@@ -312,7 +312,7 @@ confirmed (y ∷ rest) id e = sorted (any_either (is_voted id) (kept y rest) (li
     sorted (inr f) g = in_back (records.SubCommitted id) (kept y (rest ++ records.SubCommitted id ∷ [])) (live (rest ++ records.SubCommitted id ∷ [])) (g f)
 
 -- the first promise of an id
-both_ways : (b : Bool) → b ≡ true → b ≡ false → ⊥
+pub both_ways : (b : Bool) → b ≡ true → b ≡ false → ⊥
 both_ways b e f = cc
 
 apart : (i j id : Numbers) → is_id i id ≡ true → is_id j id ≡ false → is_id i j ≡ false
@@ -394,7 +394,7 @@ over rs id =
     subst (λ xs. list_any (is_of_transaction id) xs ≡ false) (sym (live_more rs (records.Ended id) tt ∙ append-nil (filter (λ x. not (drops (records.Ended id) x)) (live rs))))
     (none_left (is_of_transaction id) (λ x. not (drops (records.Ended id) x)) (live rs) (ended_over id))
 
--- recovered leaves
+-- lists in the order of making
 in_inserted : {A : Type 0} (key : A → Numbers) (x y : A) (ys : List A) → (x ≡ y) ⊎ IsIn x ys → IsIn x (insert_by key y ys)
 in_inserted key x y [] (inl e) = inl e
 in_inserted key x y [] (inr h) = absurd h
@@ -422,58 +422,18 @@ inserted_in key x y (z ∷ zs) h = by_case (is_before (key z) (key y)) h (insert
     by_case false (inl e) f = inl e
     by_case false (inr k) f = inr k
 
-in_ordered : {A : Type 0} (key : A → Numbers) (x : A) (xs : List A) → IsIn x xs → IsIn x (in_order key xs)
+pub in_ordered : {A : Type 0} (key : A → Numbers) (x : A) (xs : List A) → IsIn x xs → IsIn x (in_order key xs)
 in_ordered key x [] h = absurd h
 in_ordered key x (y ∷ ys) (inl e) = in_inserted key x y (in_order key ys) (inl e)
 in_ordered key x (y ∷ ys) (inr h) = in_inserted key x y (in_order key ys) (inr (in_ordered key x ys h))
 
-ordered_in : {A : Type 0} (key : A → Numbers) (x : A) (xs : List A) → IsIn x (in_order key xs) → IsIn x xs
+pub ordered_in : {A : Type 0} (key : A → Numbers) (x : A) (xs : List A) → IsIn x (in_order key xs) → IsIn x xs
 ordered_in key x [] h = absurd h
 ordered_in key x (y ∷ ys) h = sorted (inserted_in key x y (in_order key ys) h) (ordered_in key x ys)
   where
     sorted : (x ≡ y) ⊎ IsIn x (in_order key ys) → (IsIn x (in_order key ys) → IsIn x ys) → IsIn x (y ∷ ys)
     sorted (inl e) f = inl e
     sorted (inr k) f = inr (f k)
-
-abbrev leaf_from : Record → List Leaf
-leaf_from (records.LeafPrepared id coordinator key value) = recovered_leaf id coordinator key value ∷ []
-leaf_from other = []
-
-leaf_first : (r : Record) (rest : List Record) → leaves_of (r ∷ rest) ≡ leaf_from r ++ leaves_of rest
-leaf_first (records.LeafPrepared id c key value) rest = refl
-leaf_first (records.Start i) rest = refl
-leaf_first (records.LeafCommitted id) rest = refl
-leaf_first (records.LeafAborted id) rest = refl
-leaf_first (records.Voted id s seats) rest = refl
-leaf_first (records.Decided id seats) rest = refl
-leaf_first (records.SubCommitted id) rest = refl
-leaf_first (records.Ended id) rest = refl
-leaf_first (records.Done id) rest = refl
-
-leaf_found : (id : Numbers) (c : Epr) (key value : List ℕ) (xs : List Record) → IsIn (records.LeafPrepared id c key value) xs → IsIn (recovered_leaf id c key value) (leaves_of xs)
-leaf_found id c key value [] h = absurd h
-leaf_found id c key value (r ∷ rest) (inl e) =
-    subst (IsIn (recovered_leaf id c key value)) (sym (leaf_first r rest))
-    (in_front (recovered_leaf id c key value) (leaf_from r) (leaves_of rest) (subst (λ x. IsIn (recovered_leaf id c key value) (leaf_from x)) e (inl refl)))
-leaf_found id c key value (r ∷ rest) (inr h) =
-    subst (IsIn (recovered_leaf id c key value)) (sym (leaf_first r rest))
-    (in_back (recovered_leaf id c key value) (leaf_from r) (leaves_of rest) (leaf_found id c key value rest h))
-
-further_leaf : (r : Record) (rest : List Record) (l : Leaf) → IsRecovered rest l → IsRecovered (r ∷ rest) l
-further_leaf r rest l h = record { id = h.id; coordinator = h.coordinator; key = h.key; value = h.value; stands = inr h.stands; is = h.is }
-
-leaf_is : (xs : List Record) (l : Leaf) → IsIn l (leaves_of xs) → IsRecovered xs l
-leaf_is [] l h = absurd h
-leaf_is (records.LeafPrepared id c key value ∷ rest) l (inl e) = record { id = id; coordinator = c; key = key; value = value; stands = inl refl; is = e }
-leaf_is (records.LeafPrepared id c key value ∷ rest) l (inr h) = further_leaf (records.LeafPrepared id c key value) rest l (leaf_is rest l h)
-leaf_is (records.Start i ∷ rest) l h = further_leaf (records.Start i) rest l (leaf_is rest l h)
-leaf_is (records.LeafCommitted id ∷ rest) l h = further_leaf (records.LeafCommitted id) rest l (leaf_is rest l h)
-leaf_is (records.LeafAborted id ∷ rest) l h = further_leaf (records.LeafAborted id) rest l (leaf_is rest l h)
-leaf_is (records.Voted id s seats ∷ rest) l h = further_leaf (records.Voted id s seats) rest l (leaf_is rest l h)
-leaf_is (records.Decided id seats ∷ rest) l h = further_leaf (records.Decided id seats) rest l (leaf_is rest l h)
-leaf_is (records.SubCommitted id ∷ rest) l h = further_leaf (records.SubCommitted id) rest l (leaf_is rest l h)
-leaf_is (records.Ended id ∷ rest) l h = further_leaf (records.Ended id) rest l (leaf_is rest l h)
-leaf_is (records.Done id ∷ rest) l h = further_leaf (records.Done id) rest l (leaf_is rest l h)
 
 pub journals_live : JournalsLive
 journals_live = record {
@@ -485,6 +445,4 @@ journals_live = record {
   confirmed = confirmed;
   leaf_over = leaf_over;
   over = over;
-  found = λ base rs id c key value h. in_ordered leaf_id (recovered_leaf id c key value) (leaves_of (live rs)) (leaf_found id c key value (live rs) h);
-  leaves = λ base rs l h. leaf_is (live rs) l (ordered_in leaf_id l (leaves_of (live rs)) h);
 }

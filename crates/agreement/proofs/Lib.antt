@@ -8,3 +8,4 @@ pub mod Journals
 pub mod LeafSaying
 pub mod LeafStanding
 pub mod LeavesDo
+pub mod Recoveries

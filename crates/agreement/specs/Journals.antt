@@ -2,12 +2,10 @@
 use Rattle.std.specs.Prelude.{ℕ, List, [], ◌∷◌, ◌++◌, Bool, true, false, not, ◌||◌, filter, ◌≡◌, ◌⊎◌}
 use Rattle.std.specs.List.{list_any}
 use Rattle.at_base.specs.Numbers.{Numbers}
-use Rattle.at_base.specs.declared.epr.Epr.{Epr}
 use Rattle.at_base.specs.declared.record.Seated.{Seated}
 use Rattle.at_base.specs.declared.record.Record.{Record}
 use Rattle.at_base.specs.declared.record.Record.TheVariants as records
-use Rattle.at_model.specs.Book.{Leaf}
-use Rattle.at_model.specs.Recover.{ends_leaf, ends_transaction, is_decided, is_ended, is_leaf_ended, is_leaf_prepared, is_promise, is_sub_committed, is_voted, kept, live, recover, recovered_leaf}
+use Rattle.at_model.specs.Recover.{ends_leaf, ends_transaction, is_decided, is_ended, is_leaf_ended, is_leaf_prepared, is_promise, is_sub_committed, is_voted, kept, live}
 use Rattle.model_laws.specs.Agreement.{IsIn}
 
 -- The further record r ends this live one: it is the end of its id, or another promise of it.
@@ -34,15 +32,6 @@ pub record Confirms (rs : List Record) (r x : Record) : Type 0 where
 abbrev pub is_of_transaction : Numbers → Record → Bool
 is_of_transaction id r = is_voted id r || (is_decided id r || is_sub_committed id r)
 
--- a leaf that one of these records stands for
-pub record IsRecovered (rs : List Record) (l : Leaf) : Type 0 where
-  pub id : Numbers
-  pub coordinator : Epr
-  pub key : List ℕ
-  pub value : List ℕ
-  pub stands : IsIn (records.LeafPrepared id coordinator key value) rs
-  pub is : l ≡ recovered_leaf id coordinator key value
-
 pub record JournalsLive : Type 0 where
   -- a start changes nothing
   pub start : (rs : List Record) (incarnation : ℕ) → live (rs ++ records.Start incarnation ∷ []) ≡ live rs
@@ -58,7 +47,3 @@ pub record JournalsLive : Type 0 where
   -- an end leaves no promise of its id
   pub leaf_over : (rs : List Record) (id : Numbers) (r : Record) → is_leaf_ended id r ≡ true → list_any (is_leaf_prepared id) (live (rs ++ r ∷ [])) ≡ false
   pub over : (rs : List Record) (id : Numbers) → list_any (is_of_transaction id) (live (rs ++ records.Ended id ∷ [])) ≡ false
-  -- recovery finds each live leaf, and no other
-  pub found : (base : List ℕ) (rs : List Record) (id : Numbers) (coordinator : Epr) (key value : List ℕ) → IsIn (records.LeafPrepared id coordinator key value) (live rs)
-      → IsIn (recovered_leaf id coordinator key value) (recover base rs).leaves
-  pub leaves : (base : List ℕ) (rs : List Record) (l : Leaf) → IsIn l (recover base rs).leaves → IsRecovered (live rs) l

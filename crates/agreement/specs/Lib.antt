@@ -3,3 +3,4 @@ pub mod Branches
 pub mod Finished
 pub mod Journals
 pub mod LeafDeeds
+pub mod Recoveries

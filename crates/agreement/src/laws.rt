@@ -4,6 +4,7 @@ ghost use Rattle.agreement.specs.ActivityDeeds.{ActivitiesDo, ActivityStates};
 ghost use Rattle.agreement.specs.Finished.{FinishesAll};
 ghost use Rattle.agreement.specs.Journals.{JournalsLive};
 ghost use Rattle.agreement.specs.LeafDeeds.{LeafStates, LeavesDo};
+ghost use Rattle.agreement.specs.Recoveries.{RecoversEach};
 
 /// In every run a transaction that aborts asks nobody any more, one that is decided has no initiator that may still ask, and
 /// participants keep their numbers, in the book and in its records.
@@ -43,4 +44,10 @@ pub fn activities_do()
 #[tactic(auto, using(crate::proofs::Journals::journals_live))]
 pub fn journals_live()
     ensures { JournalsLive }
+{}
+
+/// Recovery finds each transaction and each leaf that a live record promises, by its id, and no other.
+#[tactic(auto, using(crate::proofs::Recoveries::recovers_each))]
+pub fn recovers_each()
+    ensures { RecoversEach }
 {}
