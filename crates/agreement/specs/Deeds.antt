@@ -1,0 +1,191 @@
+-- What one step may do to one transaction: where it stood, what is recorded, what happened, and what becomes of it.
+use Rattle.std.specs.Prelude.{ℕ, List, [], ◌∷◌, Option, Some, None, Bool, true, false, ◌≡◌, ◌⊎◌, map, option_map, is_none}
+use Rattle.std.specs.List.{list_any}
+use Rattle.at_base.specs.Numbers.{Numbers}
+use Rattle.at_base.specs.declared.epr.Epr.{Epr}
+use Rattle.at_base.specs.declared.notice.Kind.TheVariants as kinds
+use Rattle.at_base.specs.declared.notice.Notice.{Notice}
+use Rattle.at_base.specs.declared.notice.Notice.TheVariants as notices
+use Rattle.at_base.specs.declared.target.Target.TheVariants as targets
+use Rattle.at_base.specs.declared.message.Message.TheVariants as messages
+use Rattle.at_base.specs.declared.event.Arrived.{Arrived}
+use Rattle.at_base.specs.declared.event.Event.{Event}
+use Rattle.at_base.specs.declared.event.Event.TheVariants as events
+use Rattle.at_base.specs.declared.record.Record.{Record}
+use Rattle.at_base.specs.declared.record.Record.TheVariants as records
+use Rattle.at_base.specs.declared.outs.Effect.{Effect}
+use Rattle.at_base.specs.declared.outs.Ending.TheVariants as endings
+use Rattle.at_tables.specs.declared.cells.State.TheVariants as states
+use Rattle.at_model.specs.Book.{Book, Completion, Enlistment, Phase, Superior, Transaction}
+use Rattle.at_model.specs.Moves.{Change, Decision, Goes, Records}
+use Rattle.at_model.specs.Seats.{all_left, answered, ending, in_state, is_open, is_prepared_durable, moved, prepared}
+use Rattle.at_model.specs.Arrivals.{with_answer}
+use Rattle.at_model.specs.Due.{may_expire}
+use Rattle.at_model.specs.Step.{moment_of, transaction_at}
+use Rattle.model_laws.specs.Behind.{IsInPhase, accepted_as}
+use Rattle.model_laws.specs.Shapes.{MovesTransaction}
+use Rattle.agreement.specs.Finished.{AreFinished}
+
+-- A transaction is undecided in Registering, Active, Volatile and Durable, as `may_expire` says. One step lets it
+pub data How : Type 0 where
+  -- stay undecided, or stay in its phase
+  Idles : How
+  -- abort while it is undecided
+  Aborts : How
+  -- vote Prepared, as a subordinate
+  Votes : How
+  -- commit as a root that waits for its durable participants
+  Decides : How
+  -- commit as a root with nobody to wait for
+  DecidesAlone : How
+  -- vote ReadOnly, as a subordinate
+  Leaves : How
+  -- commit since its superior said Commit
+  Commits : How
+  -- abort behind its vote, since its superior said Rollback
+  RollsBack : How
+  -- be over once every durable participant has committed
+  Ends : How
+  -- be over behind an abort
+  Forgets : How
+
+-- where a subordinate votes, once it knows
+abbrev pub superior_at : Option Superior → Option Epr
+superior_at None = None
+superior_at (Some s) = s.durable.coordinator
+
+-- where it stood
+abbrev pub StoodFor : How → Transaction → Type 0
+StoodFor Idles t = Unit {0}
+StoodFor Aborts t = may_expire t.phase ≡ true
+StoodFor Votes t = (may_expire t.phase ≡ true) × (is_none (superior_at t.superior) ≡ false)
+StoodFor Decides t = (may_expire t.phase ≡ true) × (t.superior ≡ None)
+StoodFor DecidesAlone t = (may_expire t.phase ≡ true) × (t.superior ≡ None)
+StoodFor Leaves t = (may_expire t.phase ≡ true) × (is_none (superior_at t.superior) ≡ false)
+StoodFor Commits t = (t.phase ≡ Phase.Voted) × (is_none t.superior ≡ false)
+StoodFor RollsBack t = (t.phase ≡ Phase.Voted) × (is_none t.superior ≡ false)
+StoodFor Ends t = t.phase ≡ Phase.Committing
+StoodFor Forgets t = t.phase ≡ Phase.Aborting
+
+-- the superior's notification on the durable link
+pub record SuperiorSaid (n : Notice) (e : Event) (t : Transaction) : Type 0 where
+  pub message : Arrived
+  pub came : e ≡ events.Arrived message
+  pub target : message.target ≡ targets.Participant t.id kinds.Durable
+  pub says : message.message ≡ messages.Notice n
+
+-- behind its vote it is its superior that decides (WS-AtomicTransaction 1.2, section 3.3.3)
+abbrev pub IsHeard : How → Event → Transaction → Type 0
+IsHeard Commits e t = SuperiorSaid notices.Commit e t
+IsHeard RollsBack e t = SuperiorSaid notices.Rollback e t
+IsHeard other e t = Unit {0}
+
+-- every participant has voted or has left
+abbrev pub AllAnswered : List Enlistment → Type 0
+AllAnswered at = (answered kinds.Volatile at ≡ true) × (answered kinds.Durable at ≡ true)
+
+-- what its participants have answered, of the seats as they stand once the message is counted, before anybody is told
+abbrev pub StandsOn : How → List Enlistment → Type 0
+StandsOn Votes at = AllAnswered at × (list_any is_prepared_durable at ≡ true)
+StandsOn Decides at = AllAnswered at × (list_any is_prepared_durable at ≡ true)
+StandsOn DecidesAlone at = AllAnswered at × (list_any is_prepared_durable at ≡ false)
+StandsOn Leaves at = AllAnswered at × (list_any is_prepared_durable at ≡ false)
+StandsOn Commits at = AllAnswered at
+StandsOn Ends at = all_left at ≡ true
+StandsOn other at = Unit {0}
+
+-- what is recorded: a vote and a decision name the durable participants that are Prepared
+abbrev pub recorded : How → Transaction → List Enlistment → Option Record
+recorded Votes t at = option_map (λ superior. records.Voted t.id superior (prepared at)) (superior_at t.superior)
+recorded Decides t at = Some (records.Decided t.id (prepared at))
+recorded DecidesAlone t at = Some (records.Decided t.id (prepared at))
+recorded Commits t at = Some (records.SubCommitted t.id)
+recorded RollsBack t at = Some (records.Ended t.id)
+recorded Ends t at = Some (records.Ended t.id)
+recorded other t at = None
+
+-- what happened
+abbrev pub happens : How → Transaction → List Effect
+happens Aborts t = ending t endings.Aborted ∷ []
+happens RollsBack t = ending t endings.Aborted ∷ []
+happens Decides t = ending t endings.Committed ∷ []
+happens DecidesAlone t = ending t endings.Committed ∷ []
+happens Commits t = ending t endings.Committed ∷ []
+happens other t = []
+
+-- who is told: an abort rolls back every open seat, a commit reaches every Prepared one
+abbrev pub rolled_back : List Enlistment → List Enlistment
+rolled_back at = moved is_open states.Aborting at
+
+abbrev pub told_to_commit : List Enlistment → List Enlistment
+told_to_commit at = moved (in_state states.Prepared) states.Committing at
+
+-- it goes on undecided, or stays in its phase
+abbrev pub KeepsOn : Phase → Phase → Type 0
+KeepsOn before after = ((may_expire before ≡ true) × (may_expire after ≡ true)) ⊎ (after ≡ before)
+
+abbrev pub IsLeftIn : Phase → List Enlistment → Option Transaction → Type 0
+IsLeftIn phase seats None = ⊥
+IsLeftIn phase seats (Some t) = (t.phase ≡ phase) × (t.seats ≡ seats)
+
+abbrev pub IsLeftOn : Phase → List Enlistment → Option Transaction → Type 0
+IsLeftOn before seats None = ⊥
+IsLeftOn before seats (Some t) = KeepsOn before t.phase × (t.seats ≡ seats)
+
+-- it waits for who rolls back, and is over where nobody does
+abbrev pub IsRolledBack : List Enlistment → Option Transaction → Type 0
+IsRolledBack seats None = list_any (in_state states.Aborting) seats ≡ false
+IsRolledBack seats (Some t) = (t.phase ≡ Phase.Aborting) × (t.seats ≡ seats) × (list_any (in_state states.Aborting) seats ≡ true)
+
+-- what becomes of it, none where it is forgotten
+abbrev pub Becomes : How → Transaction → List Enlistment → Option Transaction → Type 0
+Becomes Idles t at new = IsLeftOn t.phase at new
+Becomes Aborts t at new = IsRolledBack (rolled_back at) new
+Becomes Votes t at new = IsLeftIn Phase.Voted at new
+Becomes Decides t at new = IsLeftIn Phase.Committing (told_to_commit at) new
+Becomes DecidesAlone t at new = new ≡ None
+Becomes Leaves t at new = new ≡ None
+Becomes Commits t at new = IsLeftIn Phase.Committing (told_to_commit at) new
+Becomes RollsBack t at new = IsRolledBack (rolled_back at) new
+Becomes Ends t at new = new ≡ None
+Becomes Forgets t at new = new ≡ None
+
+abbrev pub initiator : Option Completion → Option Epr
+initiator completion = option_map (λ c. c.initiator) completion
+
+-- what no step changes
+pub record IsSame (old new : Transaction) : Type 0 where
+  pub id : new.id ≡ old.id
+  pub identifier : new.identifier ≡ old.identifier
+  pub deadline : new.deadline ≡ old.deadline
+  pub root : is_none new.superior ≡ is_none old.superior
+  pub initiator : initiator new.completion ≡ initiator old.completion
+
+abbrev pub IsSameIfLeft : Transaction → Option Transaction → Type 0
+IsSameIfLeft old None = Unit {0}
+IsSameIfLeft old (Some new) = IsSame old new
+
+-- One step of a transaction: this is recorded, this happened, and this is left of it.
+pub record Deed (e : Event) (t : Transaction) (entry : Option Record) (effects : List Effect) (new : Option Transaction) : Type 0 where
+  pub how : How
+  -- the seats once the message is counted, before anybody is told
+  pub at : List Enlistment
+  pub accepted : map accepted_as at ≡ map accepted_as t.seats
+  pub stood : StoodFor how t
+  pub heard : IsHeard how e t
+  pub behind : StandsOn how at
+  pub records : entry ≡ recorded how t at
+  pub happened : effects ≡ happens how t
+  pub becomes : Becomes how t at new
+  pub same : IsSameIfLeft t new
+
+-- both branches of a decision: with its record, and where that is certainly absent
+abbrev pub Deeds : {A : Type 0} → (Option Record → Change A → Type 0) → Decision A → Type 0
+Deeds P (Goes c) = P None c
+Deeds P (Records r c None) = P (Some r) c
+Deeds P (Records r c (Some d)) = P (Some r) c × P None d
+
+-- Whatever moves a transaction of a book does one of these deeds, where the record landed and where it didn't.
+abbrev pub TransactionsDo : Type 0
+TransactionsDo = (b : Book) (e : Event) (now : ℕ) (id : Numbers) (t : Transaction) (d : Decision Transaction) → IsInPhase b → AreFinished b → transaction_at b id ≡ Some t
+    → MovesTransaction b e now t d → Deeds (λ r c. Deed e t r c.effects c.item) (with_answer (moment_of b now) t d)
