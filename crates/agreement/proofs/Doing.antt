@@ -1,5 +1,5 @@
 -- What one step does to a transaction, rule by rule.
-use Rattle.std.specs.Prelude.{ℕ, List, [], ◌∷◌, ◌++◌, Option, Some, None, Bool, true, false, ◌≡◌, refl, if◌then◌else◌, not, ◌&&◌, ◌||◌, nat_eq, map, option_map, is_none, ◌⊎◌}
+use Rattle.std.specs.Prelude.{List, [], ◌∷◌, ◌++◌, Option, Some, None, Bool, true, false, ◌≡◌, refl, if◌then◌else◌, not, ◌&&◌, ◌||◌, map, option_map, is_none}
 use Rattle.std.specs.List.{list_any}
 use Rattle.std.proofs.Common.{sym, subst, ap, inl, inr, ◌∙◌}
 use Rattle.at_base.specs.Numbers.{Numbers}
@@ -7,11 +7,9 @@ use Rattle.at_base.specs.declared.epr.Epr.{Epr}
 use Rattle.at_base.specs.declared.notice.Kind.{Kind}
 use Rattle.at_base.specs.declared.notice.Kind.TheVariants as kinds
 use Rattle.at_base.specs.declared.notice.Notice.TheVariants as notices
-use Rattle.at_base.specs.declared.record.Record.{Record}
 use Rattle.at_base.specs.declared.record.Record.TheVariants as records
 use Rattle.at_base.specs.declared.event.Event.{Event}
 use Rattle.at_base.specs.declared.event.Moment.{Moment}
-use Rattle.at_base.specs.declared.outs.Post.{Post}
 use Rattle.at_base.specs.declared.outs.Effect.{Effect}
 use Rattle.at_base.specs.declared.outs.Effect.TheVariants as effects
 use Rattle.at_base.specs.declared.outs.Ending.{Ending}
@@ -20,14 +18,14 @@ use Rattle.at_tables.specs.declared.cells.State.{State}
 use Rattle.at_tables.specs.declared.cells.State.TheVariants as states
 use Rattle.at_tables.specs.Names.{is_kind, is_state}
 use Rattle.at_model.specs.Book.{Completion, Enlistment, Phase, Superior, Transaction}
-use Rattle.at_model.specs.Moves.{Moving, Change, Decision, Goes, Records, begin, posts, effect, become, stays, forgotten, in_both}
+use Rattle.at_model.specs.Moves.{Moving, Change, Decision, Goes, posts, effect, become, stays, forgotten}
 use Rattle.at_model.specs.Seats.{answered, all_left, completion_in, ending, ending_of, in_phase, in_state, initiator_posts, is_of, is_open, is_prepared_durable, link_in, moved, prepared, send_each}
 use Rattle.at_model.specs.Abort.{Reason, Alone, links_aborted, without_links, until_rolled_back, abort}
-use Rattle.at_model.specs.Phases.{upwards, decided, committed, root_answered, voted, sub_answered, durable_answered, if_durable_answered, prepare_seats, go_durable, volatile_answered, all_committed, advance_in, advance, go_volatile}
+use Rattle.at_model.specs.Phases.{decided, committed, root_answered, voted, sub_answered, durable_answered, if_durable_answered, prepare_seats, go_durable, volatile_answered, all_committed, advance_in, go_volatile}
 use Rattle.at_model.specs.Due.{may_expire}
 use Rattle.model_laws.specs.Behind.{StandsBehind, accepted_as}
 use Rattle.model_laws.proofs.Phasing.{accepted_moved}
-use Rattle.agreement.specs.Deeds.{How, superior_at, StoodFor, IsHeard, AllAnswered, StandsOn, recorded, happens, rolled_back, told_to_commit, KeepsOn, IsLeftIn, IsLeftOn, IsRolledBack, Becomes, initiator, IsSame, IsSameIfLeft, Deed, Deeds}
+use Rattle.agreement.specs.Deeds.{How, superior_at, AllAnswered, rolled_back, told_to_commit, KeepsOn, IsLeftIn, IsRolledBack, initiator, IsSame, IsSameIfLeft, Deed, Deeds}
 
 abbrev pub Done : Event → Transaction → Decision Transaction → Type 0
 Done e t d = Deeds (λ r c. Deed e t r c.effects c.item) d
@@ -127,8 +125,8 @@ abort_undoes e t m reason g h =
       completion = completion_in states.None g.item.completion;
     } in
     let y : Moving Transaction =
-        posts (initiator_posts m.base g.item.id notices.Aborted g.item.completion)
-        (send_each m notices.Rollback states.Aborting is_open (become x (posts (links_aborted m.base g.item.id reason g.item.superior) (effect (ending g.item endings.Aborted) g)))) in
+    posts (initiator_posts m.base g.item.id notices.Aborted g.item.completion)
+    (send_each m notices.Rollback states.Aborting is_open (become x (posts (links_aborted m.base g.item.id reason g.item.superior) (effect (ending g.item endings.Aborted) g)))) in
     until_undone t g.item.seats y (only_ends t g.item g.effects endings.Aborted h.same h.quiet) refl refl
     (same_as t g.item y.item refl refl refl (none_without g.item.superior) (same_initiator states.None g.item.completion) h.same)
 
@@ -323,7 +321,7 @@ ends e t m g p left h = record {
   same = tt;
 }
 
-forgets : (e : Event) (t : Transaction) (at : List Enlistment) (effects : List Effect) → t.phase ≡ Phase.Aborting → map accepted_as at ≡ map accepted_as t.seats → effects ≡ [] → Deed e t None effects None
+pub forgets : (e : Event) (t : Transaction) (at : List Enlistment) (effects : List Effect) → t.phase ≡ Phase.Aborting → map accepted_as at ≡ map accepted_as t.seats → effects ≡ [] → Deed e t None effects None
 forgets e t at effects p a q = record {
   how = How.Forgets;
   at = at;

@@ -1,5 +1,5 @@
 -- What one step may do to one transaction: where it stood, what is recorded, what happened, and what becomes of it.
-use Rattle.std.specs.Prelude.{ℕ, List, [], ◌∷◌, Option, Some, None, Bool, true, false, ◌≡◌, ◌⊎◌, map, option_map, is_none}
+use Rattle.std.specs.Prelude.{ℕ, List, [], ◌∷◌, Option, Some, None, true, false, ◌≡◌, ◌⊎◌, map, option_map, is_none}
 use Rattle.std.specs.List.{list_any}
 use Rattle.at_base.specs.Numbers.{Numbers}
 use Rattle.at_base.specs.declared.epr.Epr.{Epr}
@@ -186,6 +186,6 @@ Deeds P (Records r c None) = P (Some r) c
 Deeds P (Records r c (Some d)) = P (Some r) c × P None d
 
 -- Whatever moves a transaction of a book does one of these deeds, where the record landed and where it didn't.
-abbrev pub TransactionsDo : Type 0
-TransactionsDo = (b : Book) (e : Event) (now : ℕ) (id : Numbers) (t : Transaction) (d : Decision Transaction) → IsInPhase b → AreFinished b → transaction_at b id ≡ Some t
-    → MovesTransaction b e now t d → Deeds (λ r c. Deed e t r c.effects c.item) (with_answer (moment_of b now) t d)
+pub record TransactionsDo : Type 0 where
+  pub deeds : (b : Book) (e : Event) (now : ℕ) (id : Numbers) (t : Transaction) (d : Decision Transaction) → IsInPhase b → AreFinished b → transaction_at b id ≡ Some t
+      → MovesTransaction b e now t d → Deeds (λ r c. Deed e t r c.effects c.item) (with_answer (moment_of b now) t d)

@@ -1,5 +1,6 @@
 //! What leads to agreement.
 
+ghost use Rattle.agreement.specs.Deeds.{TransactionsDo};
 ghost use Rattle.agreement.specs.Finished.{FinishesAll};
 
 /// In every run a transaction that aborts asks nobody any more, one that is decided has no initiator that may still ask, and
@@ -7,4 +8,12 @@ ghost use Rattle.agreement.specs.Finished.{FinishesAll};
 #[tactic(auto, using(crate::proofs::Finishing::finishes_all))]
 pub fn finishes_all()
     ensures { FinishesAll }
+{}
+
+/// Whatever moves a transaction, where its record landed and where it didn't, does one deed of a short table: it stays
+/// undecided or in its phase, aborts while it is undecided, votes or decides behind every answer, ends as its superior said
+/// behind its vote, or is over.
+#[tactic(auto, using(crate::proofs::Acting::transactions_do))]
+pub fn transactions_do()
+    ensures { TransactionsDo }
 {}

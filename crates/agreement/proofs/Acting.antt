@@ -1,0 +1,576 @@
+-- What a message, or its time, does to a transaction.
+use Rattle.std.specs.Prelude.{ℕ, List, [], ◌∷◌, Option, Some, None, Bool, true, false, ◌≡◌, refl, if◌then◌else◌, ◌&&◌, ◌||◌, not, nat_eq, is_none, map}
+use Rattle.std.specs.List.{list_any}
+use Rattle.std.proofs.Common.{sym, subst, ap, inl, inr, ◌∙◌}
+use Rattle.at_base.specs.Numbers.{Numbers}
+use Rattle.at_base.specs.declared.epr.Epr.{Epr}
+use Rattle.at_base.specs.declared.notice.Kind.{Kind}
+use Rattle.at_base.specs.declared.notice.Kind.TheVariants as kinds
+use Rattle.at_base.specs.declared.notice.Notice.{Notice}
+use Rattle.at_base.specs.declared.notice.Notice.TheVariants as notices
+use Rattle.at_base.specs.declared.target.Target.TheVariants as targets
+use Rattle.at_base.specs.declared.message.Message.{Message}
+use Rattle.at_base.specs.declared.message.Message.TheVariants as messages
+use Rattle.at_base.specs.declared.record.Record.{Record}
+use Rattle.at_base.specs.declared.record.Record.TheVariants as records
+use Rattle.at_base.specs.declared.event.Arrived.{Arrived}
+use Rattle.at_base.specs.declared.event.Event.{Event}
+use Rattle.at_base.specs.declared.event.Event.TheVariants as events
+use Rattle.at_base.specs.declared.event.Moment.{Moment}
+use Rattle.at_base.specs.declared.outs.Effect.{Effect}
+use Rattle.at_base.specs.declared.outs.Post.{Post}
+use Rattle.at_tables.specs.declared.cells.State.{State}
+use Rattle.at_tables.specs.declared.cells.State.TheVariants as states
+use Rattle.at_tables.specs.declared.cells.Act.{Act}
+use Rattle.at_tables.specs.declared.cells.Act.TheVariants as acts
+use Rattle.at_tables.specs.declared.cells.Cell.{Cell}
+use Rattle.at_tables.specs.Names.{is_kind, is_state}
+use Rattle.at_tables.specs.Tables.{coordinator_of, participant_of, completion_of}
+use Rattle.at_model.specs.Addresses.{register_id}
+use Rattle.at_model.specs.Book.{Book, Completion, Enlistment, Phase, Request, Superior, Transaction, transaction_id}
+use Rattle.at_model.specs.Moves.{Change, Decision, Goes, Records, begin, in_both}
+use Rattle.at_model.specs.Seats.{answered, in_state, link_of, seat_in, set_link, under}
+use Rattle.at_model.specs.Abort.{Reason, Alone, Asked, Faulted, abort}
+use Rattle.at_model.specs.Phases.{advance}
+use Rattle.at_model.specs.Arrivals.{seat_act, seat_notice, commit_voted, asked, link_act, link_notice, completion_act, completion_notice, relates_to, registered, link_registered, link_fault, on_link, on_seat, on_completion, request_answered, answer_request, request_of, with_answer}
+use Rattle.at_model.specs.Due.{Reached, Expired, Over, Unanswered, Nothing, has_come, is_aborting, is_over, is_quiet, is_some_post, may_expire, transaction_again, transaction_due, transaction_reached}
+use Rattle.at_model.specs.Step.{find_seat, moment_of, transaction_at}
+use Rattle.model_laws.specs.Behind.{IsInPhase, IsUnanswered, StandsBehind, accepted_as}
+use Rattle.model_laws.specs.Links.{AreIn, IsIdle, IsJoining}
+use Rattle.model_laws.specs.Shapes.{MovesTransaction, at_seat, at_link, at_completion, when_due}
+use Rattle.model_laws.proofs.Deciding.{all_find, answer_effects, answer_has, either_of, first_true}
+use Rattle.model_laws.proofs.Linking.{Linked, known}
+use Rattle.model_laws.proofs.Phasing.{accepted_moved, behind_moved, is_unanswered}
+use Rattle.agreement.specs.Finished.{AreFinished, IsFinished}
+use Rattle.agreement.specs.Deeds.{How, AllAnswered, Becomes, Deed, KeepsOn, SuperiorSaid, TransactionsDo, initiator, superior_at}
+use Rattle.agreement.proofs.Doing.{Done, From, Undone, abort_undoes, aborts, advance_in_does, either, forgets, go_volatile_does, idles, itself, same_as}
+
+-- A transaction as it stands in a book.
+record Standing (t : Transaction) : Type 0 where
+  behind : StandsBehind t.phase t.seats
+  linked : Linked t
+  finished : IsFinished t
+
+begins : (e : Event) (t : Transaction) (ps : List Post) → Standing t → From e t (record { item = t; posts = ps; effects = [] })
+begins e t ps h = record { same = itself t; above = refl; accepted = refl; quiet = refl; on = inr refl; behind = h.behind }
+
+stays_same : (e : Event) (t : Transaction) → Deed e t None [] (Some t)
+stays_same e t = idles e t t [] (itself t) refl (inr refl) refl
+
+-- A seat that hasn't answered keeps the transaction undecided.
+has_answered : (kind : Kind) (seats : List Enlistment) (number : ℕ) (s : Enlistment) → find_seat number kind seats ≡ Some s → answered kind seats ≡ true → is_unanswered kind s ≡ false
+has_answered kind [] number s e h = absurd cc
+has_answered kind (x ∷ xs) number s e h = by_test (nat_eq x.number number && is_kind x.kind kind) (is_unanswered kind x) refl (λ f g. has_answered kind xs number s f g) e h
+  where
+    by_test : (b c : Bool) → is_unanswered kind x ≡ c → (find_seat number kind xs ≡ Some s → answered kind xs ≡ true → is_unanswered kind s ≡ false)
+        → (if b then Some x else find_seat number kind xs) ≡ Some s → not (c || list_any (is_unanswered kind) xs) ≡ true → is_unanswered kind s ≡ false
+    by_test b true u rest f g = absurd cc
+    by_test true false u rest f g = let same : x ≡ s = cc in subst (λ y. is_unanswered kind y ≡ false) same u
+    by_test false false u rest f g = rest f g
+
+of_kind : (kind : Kind) (seats : List Enlistment) (number : ℕ) (s : Enlistment) → find_seat number kind seats ≡ Some s → is_kind s.kind kind ≡ true
+of_kind kind [] number s e = absurd cc
+of_kind kind (x ∷ xs) number s e = by_test (nat_eq x.number number) (is_kind x.kind kind) refl (λ f. of_kind kind xs number s f) e
+  where
+    by_test : (a b : Bool) → is_kind x.kind kind ≡ b → (find_seat number kind xs ≡ Some s → is_kind s.kind kind ≡ true)
+        → (if a && b then Some x else find_seat number kind xs) ≡ Some s → is_kind s.kind kind ≡ true
+    by_test true true k rest f = let same : x ≡ s = cc in subst (λ y. is_kind y.kind kind ≡ true) same k
+    by_test true false k rest f = rest f
+    by_test false b k rest f = rest f
+
+no_answer : (b : Bool) (state : State) → b ≡ true → IsUnanswered state → ((b && is_state state states.Active) || (b && is_state state states.Preparing)) ≡ false → ⊥
+no_answer true states.Active e h f = cc
+no_answer true states.Preparing e h f = cc
+no_answer true other e h f = h
+no_answer false state e h f = cc
+
+unanswered_in : (number : ℕ) (kind : Kind) (t : Transaction) (s : Enlistment) → find_seat number kind t.seats ≡ Some s → IsUnanswered s.state → answered kind t.seats ≡ true → ⊥
+unanswered_in number kind t s e h a = no_answer (is_kind s.kind kind) s.state (of_kind kind t.seats number s e) h (has_answered kind t.seats number s e a)
+
+of_both : (kind : Kind) (seats : List Enlistment) → AllAnswered seats → answered kind seats ≡ true
+of_both kinds.Volatile seats h = h.0
+of_both kinds.Durable seats h = h.1
+
+is_undecided : (phase : Phase) (t : Transaction) → t.phase ≡ phase → (AllAnswered t.seats → ⊥) → Standing t → may_expire phase ≡ true
+is_undecided Phase.Registering t e k h = refl
+is_undecided Phase.Active t e k h = refl
+is_undecided Phase.Volatile t e k h = refl
+is_undecided Phase.Durable t e k h = refl
+is_undecided Phase.Voted t e k h = absurd (k (subst (λ p. StandsBehind p t.seats) e h.behind))
+is_undecided Phase.Committing t e k h = absurd (k (subst (λ p. StandsBehind p t.seats) e h.behind))
+is_undecided Phase.Aborting t e k h = absurd (k (h.finished.asked e))
+
+asks_still : (number : ℕ) (kind : Kind) (t : Transaction) (s : Enlistment) → find_seat number kind t.seats ≡ Some s → IsUnanswered s.state → Standing t → may_expire t.phase ≡ true
+asks_still number kind t s e u h = is_undecided t.phase t refl (λ a. unanswered_in number kind t s e u (of_both kind t.seats a)) h
+
+-- where the coordinator's table aborts, the seat hasn't answered
+abbrev SeatActs : State → Act → Type 0
+SeatActs state acts.FaultInvalidStateAndAbort = IsUnanswered state
+SeatActs state acts.LeaveAndAbort = IsUnanswered state
+SeatActs state other = Unit {0}
+
+abbrev SeatCell : State → Option Cell → Type 0
+SeatCell state None = Unit {0}
+SeatCell state (Some c) = SeatActs state c.act
+
+seat_table : (kind : Kind) (state : State) (n : Notice) → SeatCell state (coordinator_of kind state n)
+seat_table kinds.Volatile states.None notices.Prepared = tt
+seat_table kinds.Volatile states.None other = tt
+seat_table kinds.Volatile states.Registering notices.Prepared = tt
+seat_table kinds.Volatile states.Registering other = tt
+seat_table kinds.Volatile states.Active notices.Prepared = tt
+seat_table kinds.Volatile states.Active other = tt
+seat_table kinds.Volatile states.Preparing notices.Prepared = tt
+seat_table kinds.Volatile states.Preparing other = tt
+seat_table kinds.Volatile states.Prepared notices.Prepared = tt
+seat_table kinds.Volatile states.Prepared other = tt
+seat_table kinds.Volatile states.PreparedSuccess notices.Prepared = tt
+seat_table kinds.Volatile states.PreparedSuccess other = tt
+seat_table kinds.Volatile states.Committing notices.Prepared = tt
+seat_table kinds.Volatile states.Committing other = tt
+seat_table kinds.Volatile states.Aborting notices.Prepared = tt
+seat_table kinds.Volatile states.Aborting other = tt
+seat_table kinds.Volatile states.Completing notices.Prepared = tt
+seat_table kinds.Volatile states.Completing other = tt
+seat_table kinds.Volatile states.Done notices.Prepared = tt
+seat_table kinds.Volatile states.Done other = tt
+seat_table kinds.Durable states.None notices.Prepared = tt
+seat_table kinds.Durable states.None other = tt
+seat_table kinds.Durable states.Registering notices.Prepared = tt
+seat_table kinds.Durable states.Registering other = tt
+seat_table kinds.Durable states.Active notices.Prepared = tt
+seat_table kinds.Durable states.Active other = tt
+seat_table kinds.Durable states.Preparing notices.Prepared = tt
+seat_table kinds.Durable states.Preparing other = tt
+seat_table kinds.Durable states.Prepared notices.Prepared = tt
+seat_table kinds.Durable states.Prepared other = tt
+seat_table kinds.Durable states.PreparedSuccess notices.Prepared = tt
+seat_table kinds.Durable states.PreparedSuccess other = tt
+seat_table kinds.Durable states.Committing notices.Prepared = tt
+seat_table kinds.Durable states.Committing other = tt
+seat_table kinds.Durable states.Aborting notices.Prepared = tt
+seat_table kinds.Durable states.Aborting other = tt
+seat_table kinds.Durable states.Completing notices.Prepared = tt
+seat_table kinds.Durable states.Completing other = tt
+seat_table kinds.Durable states.Done notices.Prepared = tt
+seat_table kinds.Durable states.Done other = tt
+
+-- a seat that has answered or left
+stays_sent : (e : Event) (t x : Transaction) → x.id ≡ t.id → x.identifier ≡ t.identifier → x.deadline ≡ t.deadline → x.superior ≡ t.superior → x.completion ≡ t.completion → x.phase ≡ t.phase
+    → x.seats ≡ t.seats → Deed e t None [] (Some x)
+stays_sent e t x i n d u c p s =
+    idles e t x [] (same_as t t x i n d (ap (λ y. is_none y) u) (ap (λ y. initiator y) c) (itself t)) (ap (λ l. map accepted_as l) s) (inr p) refl
+
+seat_from : (e : Event) (t : Transaction) (number : ℕ) (state : State) → is_state state states.Active ≡ false → is_state state states.Preparing ≡ false → Standing t
+    → From e t (begin (seat_in number state t))
+seat_from e t number state a p h = record {
+  same = same_as t t (seat_in number state t) refl refl refl refl refl (itself t);
+  above = refl;
+  accepted = accepted_moved (λ s. nat_eq s.number number) state t.seats t.seats refl;
+  quiet = refl;
+  on = inr refl;
+  behind = behind_moved t.phase (λ s. nat_eq s.number number) state t.seats a p h.behind;
+}
+
+seat_advances : (e : Event) (m : Moment) (t : Transaction) (number : ℕ) (state : State) → is_state state states.Active ≡ false → is_state state states.Preparing ≡ false → Standing t
+    → Done e t (advance m (begin (seat_in number state t)))
+seat_advances e m t number state a p h = advance_in_does e t m t.phase (begin (seat_in number state t)) refl (seat_from e t number state a p h)
+
+seat_act_does : (e : Event) (m : Moment) (i : Option (List ℕ)) (t : Transaction) (s : Enlistment) (act : Act) → (IsUnanswered s.state → may_expire t.phase ≡ true) → SeatActs s.state act
+    → Standing t → Done e t (seat_act m i t s act)
+unfolding seat_act
+seat_act_does e m i t s acts.SendCommit o k h = stays_sent e t _ refl refl refl refl refl refl refl
+seat_act_does e m i t s acts.SendRollback o k h =
+    either e t (in_state states.None s) _ _ (λ f. stays_same e t) (λ f. stays_sent e t _ refl refl refl refl refl refl refl)
+seat_act_does e m i t s acts.FaultInvalidStateAndAbort o k h = aborts e t m Alone _ (o k) (begins e t _ h)
+seat_act_does e m i t s acts.Leave o k h = seat_advances e m t s.number states.None refl refl h
+seat_act_does e m i t s acts.LeaveAndAbort o k h = aborts e t m Alone _ (o k) (seat_from e t s.number states.None refl refl h)
+seat_act_does e m i t s acts.Vote o k h = seat_advances e m t s.number states.Prepared refl refl h
+seat_act_does e m i t s other o k h = stays_same e t
+
+seat_notice_does : (e : Event) (m : Moment) (i : Option (List ℕ)) (t : Transaction) (s : Enlistment) (c : Option Cell) → (IsUnanswered s.state → may_expire t.phase ≡ true) → SeatCell s.state c
+    → Standing t → Done e t (seat_notice m i t s c)
+unfolding seat_notice
+seat_notice_does e m i t s None o k h = stays_same e t
+seat_notice_does e m i t s (Some c) o k h = seat_act_does e m i t s c.act o k h
+
+seat_does : (e : Event) (m : Moment) (a : Arrived) (t : Transaction) (s : Enlistment) (x : Message) → (IsUnanswered s.state → may_expire t.phase ≡ true) → Standing t → Done e t (on_seat m a t s x)
+unfolding on_seat
+seat_does e m a t s (messages.Notice n) o h = seat_notice_does e m a.id t s (coordinator_of s.kind s.state n) o (seat_table s.kind s.state n) h
+seat_does e m a t s other o h = stays_same e t
+
+-- a subordinate's links
+abbrev MayAbort : State → Type 0
+MayAbort states.Registering = Unit {0}
+MayAbort states.Active = Unit {0}
+MayAbort states.Preparing = Unit {0}
+MayAbort other = ⊥
+
+abbrev HasVoted : State → Type 0
+HasVoted states.Prepared = Unit {0}
+HasVoted states.PreparedSuccess = Unit {0}
+HasVoted other = ⊥
+
+may_abort : (phase : Phase) (kind : Kind) (s : Superior) → AreIn phase s.volatile.state s.durable.state → MayAbort (link_of kind s).state → may_expire phase ≡ true
+may_abort Phase.Registering kind s h k = refl
+may_abort Phase.Active kind s h k = refl
+may_abort Phase.Volatile kind s h k = refl
+may_abort Phase.Durable kind s h k = refl
+may_abort Phase.Voted kinds.Volatile s (v, d) k = absurd (subst MayAbort v k)
+may_abort Phase.Voted kinds.Durable s (v, d) k = absurd (subst MayAbort d k)
+may_abort Phase.Committing kinds.Volatile s (v, d) k = absurd (subst MayAbort v k)
+may_abort Phase.Committing kinds.Durable s (v, d) k = absurd (subst MayAbort d k)
+may_abort Phase.Aborting kinds.Volatile s (v, d) k = absurd (subst MayAbort v k)
+may_abort Phase.Aborting kinds.Durable s (v, d) k = absurd (subst MayAbort d k)
+
+no_joining : (state : State) → IsJoining state → HasVoted state → ⊥
+no_joining states.Registering h k = k
+no_joining states.Active h k = k
+no_joining other h k = h
+
+no_idle : (state : State) → IsIdle state → HasVoted state → ⊥
+no_idle states.None h k = k
+no_idle states.Active h k = k
+no_idle other h k = h
+
+has_voted : (phase : Phase) (kind : Kind) (s : Superior) → AreIn phase s.volatile.state s.durable.state → HasVoted (link_of kind s).state → (phase ≡ Phase.Voted) × (kind ≡ kinds.Durable)
+has_voted Phase.Registering kinds.Volatile s (v, d) k = absurd (no_joining s.volatile.state v k)
+has_voted Phase.Registering kinds.Durable s (v, d) k = absurd (no_joining s.durable.state d k)
+has_voted Phase.Active kinds.Volatile s (v, d) k = absurd (no_idle s.volatile.state v k)
+has_voted Phase.Active kinds.Durable s (v, d) k = absurd (no_joining s.durable.state d k)
+has_voted Phase.Volatile kinds.Volatile s (inl (v, d)) k = absurd (subst HasVoted v k)
+has_voted Phase.Volatile kinds.Volatile s (inr (v, d)) k = absurd (subst HasVoted v k)
+has_voted Phase.Volatile kinds.Durable s (inl (v, d)) k = absurd (no_joining s.durable.state d k)
+has_voted Phase.Volatile kinds.Durable s (inr (v, d)) k = absurd (subst HasVoted d k)
+has_voted Phase.Durable kinds.Volatile s (v, d) k = absurd (subst HasVoted v k)
+has_voted Phase.Durable kinds.Durable s (v, d) k = absurd (subst HasVoted d k)
+has_voted Phase.Voted kinds.Volatile s (v, d) k = absurd (subst HasVoted v k)
+has_voted Phase.Voted kinds.Durable s (v, d) k = (refl, refl)
+has_voted Phase.Committing kinds.Volatile s (v, d) k = absurd (subst HasVoted v k)
+has_voted Phase.Committing kinds.Durable s (v, d) k = absurd (subst HasVoted d k)
+has_voted Phase.Aborting kinds.Volatile s (v, d) k = absurd (subst HasVoted v k)
+has_voted Phase.Aborting kinds.Durable s (v, d) k = absurd (subst HasVoted d k)
+
+-- which acts the participant's table has in a state, and at which notification
+abbrev LinkActs : State → Notice → Act → Type 0
+LinkActs state n acts.FaultInvalidStateAndAbort = MayAbort state
+LinkActs state n acts.AbortAndSendAborted = MayAbort state
+LinkActs state n acts.Gather = MayAbort state
+LinkActs state n acts.Commit = HasVoted state × (n ≡ notices.Commit)
+LinkActs state n acts.RecordAndSendAborted = HasVoted state × (n ≡ notices.Rollback)
+LinkActs state n other = Unit {0}
+
+abbrev LinkCell : State → Notice → Option Cell → Type 0
+LinkCell state n None = Unit {0}
+LinkCell state n (Some c) = LinkActs state n c.act
+
+link_table : (kind : Kind) (state : State) (n : Notice) → LinkCell state n (participant_of kind state n)
+link_table kind states.None notices.Prepare = tt
+link_table kind states.None notices.Commit = tt
+link_table kind states.None notices.Rollback = tt
+link_table kind states.None other = tt
+link_table kind states.Registering notices.Prepare = tt
+link_table kind states.Registering notices.Commit = tt
+link_table kind states.Registering notices.Rollback = tt
+link_table kind states.Registering other = tt
+link_table kind states.Active notices.Prepare = tt
+link_table kind states.Active notices.Commit = tt
+link_table kind states.Active notices.Rollback = tt
+link_table kind states.Active other = tt
+link_table kind states.Preparing notices.Prepare = tt
+link_table kind states.Preparing notices.Commit = tt
+link_table kind states.Preparing notices.Rollback = tt
+link_table kind states.Preparing other = tt
+link_table kind states.Prepared notices.Prepare = tt
+link_table kind states.Prepared notices.Commit = tt
+link_table kind states.Prepared notices.Rollback = (tt, refl)
+link_table kind states.Prepared other = tt
+link_table kind states.PreparedSuccess notices.Prepare = tt
+link_table kind states.PreparedSuccess notices.Commit = (tt, refl)
+link_table kind states.PreparedSuccess notices.Rollback = (tt, refl)
+link_table kind states.PreparedSuccess other = tt
+link_table kind states.Committing notices.Prepare = tt
+link_table kind states.Committing notices.Commit = tt
+link_table kind states.Committing notices.Rollback = tt
+link_table kind states.Committing other = tt
+link_table kind states.Aborting notices.Prepare = tt
+link_table kind states.Aborting notices.Commit = tt
+link_table kind states.Aborting notices.Rollback = tt
+link_table kind states.Aborting other = tt
+link_table kind states.Completing notices.Prepare = tt
+link_table kind states.Completing notices.Commit = tt
+link_table kind states.Completing notices.Rollback = tt
+link_table kind states.Completing other = tt
+link_table kind states.Done notices.Prepare = tt
+link_table kind states.Done notices.Commit = tt
+link_table kind states.Done notices.Rollback = tt
+link_table kind states.Done other = tt
+
+asked_above : (kind : Kind) (s : Superior) → superior_at (Some (asked kind s)) ≡ superior_at (Some s)
+asked_above kinds.Volatile s = refl
+asked_above kinds.Durable s = refl
+
+link_asks : (e : Event) (kind : Kind) (s : Superior) (t : Transaction) → t.superior ≡ Some s → Standing t → From e t (begin (under (asked kind s) t))
+link_asks e kind s t u h = record {
+  same = same_as t t (under (asked kind s) t) refl refl refl (sym (ap (λ x. is_none x) u)) refl (itself t);
+  above = asked_above kind s ∙ sym (ap superior_at u);
+  accepted = refl;
+  quiet = refl;
+  on = inr refl;
+  behind = h.behind;
+}
+
+commits : (e : Event) (m : Moment) (s : Superior) (t : Transaction) → t.superior ≡ Some s → t.phase ≡ Phase.Voted → SuperiorSaid notices.Commit e t → Standing t → Done e t (commit_voted m s t)
+unfolding commit_voted
+commits e m s t u p said h = record {
+  how = How.Commits;
+  at = t.seats;
+  accepted = refl;
+  stood = (p, subst (λ x. is_none x ≡ false) (sym u) refl);
+  heard = said;
+  behind = subst (λ q. StandsBehind q t.seats) p h.behind;
+  records = refl;
+  happened = refl;
+  becomes = (refl, refl);
+  same = same_as t t _ refl refl refl (sym (ap (λ x. is_none x) u)) refl (itself t);
+}
+
+rolls_back : (e : Event) (m : Moment) (reason : Reason) (s : Superior) (t : Transaction) → t.superior ≡ Some s → t.phase ≡ Phase.Voted → SuperiorSaid notices.Rollback e t → Standing t
+    → Deed e t (Some (records.Ended t.id)) (abort m reason (begin t)).effects (abort m reason (begin t)).item
+rolls_back e m reason s t u p said h =
+    let a : Undone t t.seats (abort m reason (begin t)) = abort_undoes e t m reason (begin t) (begins e t [] h) in
+    record {
+      how = How.RollsBack;
+      at = t.seats;
+      accepted = refl;
+      stood = (p, subst (λ x. is_none x ≡ false) (sym u) refl);
+      heard = said;
+      behind = tt;
+      records = refl;
+      happened = a.happened;
+      becomes = a.becomes;
+      same = a.same;
+    }
+
+link_act_does : (e : Event) (m : Moment) (from : Option Epr) (i : Option (List ℕ)) (kind : Kind) (s : Superior) (t : Transaction) (n : Notice) (act : Act) → t.superior ≡ Some s
+    → (kind ≡ kinds.Durable → SuperiorSaid n e t) → LinkActs (link_of kind s).state n act → Standing t → Done e t (link_act m from i kind s t act)
+unfolding link_act
+link_act_does e m from i kind s t n acts.SendPrepared u said k h = stays_sent e t _ refl refl refl refl refl refl refl
+link_act_does e m from i kind s t n acts.FaultInvalidStateAndAbort u said k h =
+    aborts e t m (Faulted kind) _ (may_abort t.phase kind s (known t s u h.linked).0 k) (begins e t _ h)
+link_act_does e m from i kind s t n acts.Gather u said k h =
+    go_volatile_does e t m (begin (under (asked kind s) t)) (may_abort t.phase kind s (known t s u h.linked).0 k) (link_asks e kind s t u h)
+link_act_does e m from i kind s t n acts.Commit u said (k, c) h =
+    let v : (t.phase ≡ Phase.Voted) × (kind ≡ kinds.Durable) = has_voted t.phase kind s (known t s u h.linked).0 k in
+    commits e m s t u v.0 (subst (λ x. SuperiorSaid x e t) c (said v.1)) h
+link_act_does e m from i kind s t n acts.AbortAndSendAborted u said k h =
+    aborts e t m (Asked kind from) (begin t) (may_abort t.phase kind s (known t s u h.linked).0 k) (begins e t [] h)
+link_act_does e m from i kind s t n acts.RecordAndSendAborted u said (k, c) h =
+    let v : (t.phase ≡ Phase.Voted) × (kind ≡ kinds.Durable) = has_voted t.phase kind s (known t s u h.linked).0 k in
+    rolls_back e m (Asked kind from) s t u v.0 (subst (λ x. SuperiorSaid x e t) c (said v.1)) h
+link_act_does e m from i kind s t n other u said k h = stays_same e t
+
+link_notice_does : (e : Event) (m : Moment) (from : Option Epr) (i : Option (List ℕ)) (kind : Kind) (s : Superior) (t : Transaction) (n : Notice) (c : Option Cell) → t.superior ≡ Some s
+    → (kind ≡ kinds.Durable → SuperiorSaid n e t) → LinkCell (link_of kind s).state n c → Standing t → Done e t (link_notice m from i kind s t c)
+unfolding link_notice
+link_notice_does e m from i kind s t n None u said k h = stays_same e t
+link_notice_does e m from i kind s t n (Some c) u said k h = link_act_does e m from i kind s t n c.act u said k h
+
+registered_on : (s : Superior) (phase : Phase) → KeepsOn phase (registered s phase)
+registered_on s Phase.Registering = by_test (is_state s.volatile.state states.Registering || is_state s.durable.state states.Registering)
+  where
+    by_test : (b : Bool) → KeepsOn Phase.Registering (if b then Phase.Registering else Phase.Active)
+    by_test true = inr refl
+    by_test false = inl (refl, refl)
+registered_on s Phase.Active = inr refl
+registered_on s other = inr refl
+
+link_registered_does : (e : Event) (m : Moment) (relates : Option (List ℕ)) (coordinator : Epr) (kind : Kind) (s : Superior) (t : Transaction) → t.superior ≡ Some s
+    → Done e t (link_registered m relates coordinator kind s t)
+unfolding link_registered
+link_registered_does e m relates coordinator kind s t u =
+    let after : Superior = set_link kind (record { state = states.Active; coordinator = Some coordinator }) s in
+    let x : Transaction = record t { superior = Some after; phase = registered after t.phase } in
+    either e t (is_state (link_of kind s).state states.Registering && relates_to relates (register_id m.base (targets.Participant t.id kind))) _ _
+    (λ f. idles e t x [] (same_as t t x refl refl refl (sym (ap (λ y. is_none y) u)) refl (itself t)) refl (registered_on after t.phase) refl) (λ f. stays_same e t)
+
+registering : (state : State) → is_state state states.Registering ≡ true → MayAbort state
+registering states.Registering e = tt
+registering states.Active e = tt
+registering states.Preparing e = tt
+registering other e = absurd cc
+
+link_fault_does : (e : Event) (m : Moment) (relates : Option (List ℕ)) (kind : Kind) (s : Superior) (t : Transaction) → t.superior ≡ Some s → Standing t → Done e t (link_fault m relates kind s t)
+unfolding link_fault
+link_fault_does e m relates kind s t u h =
+    let own : Bool = relates_to relates (register_id m.base (targets.Participant t.id kind)) in
+    either e t (is_state (link_of kind s).state states.Registering && own) _ _
+    (λ f. aborts e t m Alone (begin t)
+    (may_abort t.phase kind s (known t s u h.linked).0 (registering (link_of kind s).state (first_true (is_state (link_of kind s).state states.Registering) own f))) (begins e t [] h))
+    (λ f. stays_same e t)
+
+link_does : (e : Event) (m : Moment) (a : Arrived) (kind : Kind) (t : Transaction) (s : Superior) (x : Message) → e ≡ events.Arrived a → a.target ≡ targets.Participant t.id kind → a.message ≡ x
+    → t.superior ≡ Some s → Standing t → Done e t (on_link m a kind t s x)
+unfolding on_link
+link_does e m a kind t s (messages.Notice n) came at says u h =
+    link_notice_does e m a.from a.id kind s t n (participant_of kind (link_of kind s).state n) u
+    (λ d. record { message = a; came = came; target = at ∙ ap (λ k. targets.Participant t.id k) d; says = says }) (link_table kind (link_of kind s).state n) h
+link_does e m a kind t s (messages.RegisterResponse coordinator) came at says u h = link_registered_does e m a.relates coordinator kind s t u
+link_does e m a kind t s (messages.Fault name) came at says u h = link_fault_does e m a.relates kind s t u h
+link_does e m a kind t s other came at says u h = stays_same e t
+
+-- the initiator completes, or aborts, only while its seat is Active
+abbrev CompletionActs : State → Act → Type 0
+CompletionActs state acts.Complete = state ≡ states.Active
+CompletionActs state acts.AbortAndSendAborted = state ≡ states.Active
+CompletionActs state other = Unit {0}
+
+abbrev CompletionCell : State → Option Cell → Type 0
+CompletionCell state None = Unit {0}
+CompletionCell state (Some c) = CompletionActs state c.act
+
+completion_table : (state : State) (n : Notice) → CompletionCell state (completion_of state n)
+completion_table states.None notices.Commit = tt
+completion_table states.None notices.Rollback = tt
+completion_table states.None other = tt
+completion_table states.Active notices.Commit = refl
+completion_table states.Active notices.Rollback = refl
+completion_table states.Active other = tt
+completion_table states.Completing notices.Commit = tt
+completion_table states.Completing notices.Rollback = tt
+completion_table states.Completing other = tt
+completion_table states.Done notices.Commit = tt
+completion_table states.Done notices.Rollback = tt
+completion_table states.Done other = tt
+completion_table states.Registering notices.Commit = tt
+completion_table states.Registering other = tt
+completion_table states.Preparing notices.Commit = tt
+completion_table states.Preparing other = tt
+completion_table states.Prepared notices.Commit = tt
+completion_table states.Prepared other = tt
+completion_table states.PreparedSuccess notices.Commit = tt
+completion_table states.PreparedSuccess other = tt
+completion_table states.Committing notices.Commit = tt
+completion_table states.Committing other = tt
+completion_table states.Aborting notices.Commit = tt
+completion_table states.Aborting other = tt
+
+completing : (e : Event) (t : Transaction) (c : Completion) → t.completion ≡ Some c → Standing t → From e t (begin (record t { completion = Some (record c { state = states.Completing }) }))
+completing e t c u h = record {
+  same = same_as t t _ refl refl refl refl (sym (ap (λ x. initiator x) u)) (itself t);
+  above = refl;
+  accepted = refl;
+  quiet = refl;
+  on = inr refl;
+  behind = h.behind;
+}
+
+completion_act_does : (e : Event) (m : Moment) (from : Option Epr) (i : Option (List ℕ)) (c : Completion) (t : Transaction) (act : Act) → t.completion ≡ Some c → CompletionActs c.state act
+    → Standing t → Done e t (completion_act m from i c t act)
+unfolding completion_act
+completion_act_does e m from i c t acts.SendCommitted u k h = stays_same e t
+completion_act_does e m from i c t acts.FaultUnknownTransaction u k h = stays_same e t
+completion_act_does e m from i c t acts.FaultInvalidState u k h = stays_same e t
+completion_act_does e m from i c t acts.Complete u k h = go_volatile_does e t m _ (h.finished.initiator c u k) (completing e t c u h)
+completion_act_does e m from i c t acts.AbortAndSendAborted u k h = aborts e t m Alone (begin t) (h.finished.initiator c u k) (begins e t [] h)
+completion_act_does e m from i c t other u k h = stays_same e t
+
+completion_notice_does : (e : Event) (m : Moment) (from : Option Epr) (i : Option (List ℕ)) (c : Completion) (t : Transaction) (cell : Option Cell) → t.completion ≡ Some c
+    → CompletionCell c.state cell → Standing t → Done e t (completion_notice m from i c t cell)
+unfolding completion_notice
+completion_notice_does e m from i c t None u k h = stays_same e t
+completion_notice_does e m from i c t (Some cell) u k h = completion_act_does e m from i c t cell.act u k h
+
+completion_does : (e : Event) (m : Moment) (a : Arrived) (t : Transaction) (c : Completion) (x : Message) → t.completion ≡ Some c → Standing t → Done e t (on_completion m a t c x)
+unfolding on_completion
+completion_does e m a t c (messages.Notice n) u h = completion_notice_does e m a.from a.id c t (completion_of c.state n) u (completion_table c.state n) h
+completion_does e m a t c other u h = stays_same e t
+
+-- what is due
+abbrev DueSays : Transaction → Reached → Type 0
+DueSays t Expired = may_expire t.phase ≡ true
+DueSays t Over = t.phase ≡ Phase.Aborting
+DueSays t Unanswered = Unit {0}
+DueSays t Nothing = Unit {0}
+
+only_aborting : (phase : Phase) → is_aborting phase ≡ true → phase ≡ Phase.Aborting
+only_aborting Phase.Aborting e = refl
+only_aborting Phase.Registering e = absurd cc
+only_aborting Phase.Active e = absurd cc
+only_aborting Phase.Volatile e = absurd cc
+only_aborting Phase.Durable e = absurd cc
+only_aborting Phase.Voted e = absurd cc
+only_aborting Phase.Committing e = absurd cc
+
+due_says : (m : Moment) (t : Transaction) → DueSays t (transaction_due m t)
+due_says m t =
+    either_of (DueSays t) (may_expire t.phase && has_come m.now t.deadline) _ _ (λ e. first_true (may_expire t.phase) (has_come m.now t.deadline) e)
+    (λ e. either_of (DueSays t) (is_aborting t.phase && is_over m.now t.aborted) _ _ (λ f. only_aborting t.phase (first_true (is_aborting t.phase) (is_over m.now t.aborted) f))
+    (λ f. either_of (DueSays t) (is_quiet m.now t.sent && is_some_post (transaction_again m.base t)) _ _ (λ g. tt) (λ g. tt)))
+
+due_does : (e : Event) (m : Moment) (t : Transaction) (reached : Reached) → DueSays t reached → Standing t → Done e t (transaction_reached m t reached)
+unfolding transaction_reached
+due_does e m t Expired k h = aborts e t m Alone (begin t) k (begins e t [] h)
+due_does e m t Over k h = forgets e t t.seats [] k refl refl
+due_does e m t Unanswered k h = stays_sent e t _ refl refl refl refl refl refl refl
+due_does e m t Nothing k h = stays_same e t
+
+-- the answer to a request leaves the deed as it is
+becomes_under : (how : How) (t : Transaction) (at : List Enlistment) (s : Superior) (x : Transaction) → Becomes how t at (Some x) → Becomes how t at (Some (under s x))
+becomes_under How.Idles t at s x h = h
+becomes_under How.Aborts t at s x h = h
+becomes_under How.Votes t at s x h = h
+becomes_under How.Decides t at s x h = h
+becomes_under How.DecidesAlone t at s x h = absurd cc
+becomes_under How.Leaves t at s x h = absurd cc
+becomes_under How.Commits t at s x h = h
+becomes_under How.RollsBack t at s x h = h
+becomes_under How.Ends t at s x h = absurd cc
+becomes_under How.Forgets t at s x h = absurd cc
+
+deed_under : (e : Event) (t : Transaction) (r : Option Record) (effects : List Effect) (s old : Superior) (x : Transaction) → x.superior ≡ Some old → Deed e t r effects (Some x)
+    → Deed e t r effects (Some (under s x))
+deed_under e t r effects s old x u h = record {
+  how = h.how;
+  at = h.at;
+  accepted = h.accepted;
+  stood = h.stood;
+  heard = h.heard;
+  behind = h.behind;
+  records = h.records;
+  happened = h.happened;
+  becomes = becomes_under h.how t h.at s x h.becomes;
+  same = same_as t x (under s x) refl refl refl (sym (ap (λ y. is_none y) u)) refl h.same;
+}
+
+answer_deed : (e : Event) (t : Transaction) (r : Option Record) (m : Moment) (q : Option Request) (c : Change Transaction) → Deed e t r c.effects c.item
+    → Deed e t r (answer_request m q c).effects (answer_request m q c).item
+answer_deed e t r m q c h =
+    subst (λ l. Deed e t r l (answer_request m q c).item) (sym (answer_effects m q c))
+    (answer_has (λ x. Deed e t r c.effects x) (λ s x u k. deed_under e t r c.effects (request_answered s) s x u k) m q c h)
+
+with_answer_does : (e : Event) (m : Moment) (t : Transaction) (q : Option Request) (d : Decision Transaction) → Done e t d → Done e t (in_both (answer_request m q) d)
+with_answer_does e m t q (Goes c) h = answer_deed e t None m q c h
+with_answer_does e m t q (Records r c None) h = answer_deed e t (Some r) m q c h
+with_answer_does e m t q (Records r c (Some d)) (h, k) = (answer_deed e t (Some r) m q c h, answer_deed e t None m q d k)
+
+-- each way to move
+moved_does : (b : Book) (e : Event) (now : ℕ) (t : Transaction) (d : Decision Transaction) → Standing t → MovesTransaction b e now t d → Done e t d
+moved_does b e now t d h (at_seat a s came why is) =
+    subst (Done e t) (sym is) (seat_does e (moment_of b now) a t s a.message (λ u. asks_still why.number why.kind t s why.found u h) h)
+moved_does b e now t d h (at_link a kind s came why under is) = subst (Done e t) (sym is) (link_does e (moment_of b now) a kind t s a.message came why refl under h)
+moved_does b e now t d h (at_completion a c came why there is) = subst (Done e t) (sym is) (completion_does e (moment_of b now) a t c a.message there h)
+moved_does b e now t d h (when_due came is) = subst (Done e t) (sym is) (due_does e (moment_of b now) t _ (due_says (moment_of b now) t) h)
+
+does : (b : Book) (e : Event) (now : ℕ) (id : Numbers) (t : Transaction) (d : Decision Transaction) → IsInPhase b → AreFinished b → transaction_at b id ≡ Some t → MovesTransaction b e now t d
+    → Done e t (with_answer (moment_of b now) t d)
+does b e now id t d l f stands how =
+    let h : Standing t = record {
+      behind = all_find (λ x. StandsBehind x.phase x.seats) transaction_id id b.transactions t l.answers stands;
+      linked = all_find Linked transaction_id id b.transactions t l.links stands;
+      finished = all_find IsFinished transaction_id id b.transactions t f stands;
+    } in
+    with_answer_does e (moment_of b now) t (request_of t.superior) d (moved_does b e now t d h how)
+
+pub transactions_do : TransactionsDo
+transactions_do = record { deeds = does }
