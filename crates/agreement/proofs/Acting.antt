@@ -1,7 +1,8 @@
 -- What a message, or its time, does to a transaction.
-use Rattle.std.specs.Prelude.{ℕ, List, [], ◌∷◌, Option, Some, None, Bool, true, false, ◌≡◌, refl, if◌then◌else◌, ◌&&◌, ◌||◌, not, nat_eq, is_none, map}
-use Rattle.std.specs.List.{list_any}
-use Rattle.std.proofs.Common.{sym, subst, ap, inl, inr, ◌∙◌}
+use Rattle.std.specs.Prelude.{ℕ, List, [], ◌∷◌, Option, Some, None, Bool, true, false, ◌≡◌, refl, if◌then◌else◌, ◌&&◌, ◌||◌, not, nat_eq, is_none, ◌<◌, ◌≤◌}
+use Rattle.std.specs.List.{list_any, AllByRecursion}
+use Rattle.std.proofs.lemmas.Bool.{eqb-true}
+use Rattle.std.proofs.Common.{sym, subst, ap, inl, inr, arith, ◌∙◌}
 use Rattle.at_base.specs.Numbers.{Numbers}
 use Rattle.at_base.specs.declared.epr.Epr.{Epr}
 use Rattle.at_base.specs.declared.notice.Kind.{Kind}
@@ -29,21 +30,23 @@ use Rattle.at_tables.specs.Tables.{coordinator_of, participant_of, completion_of
 use Rattle.at_model.specs.Addresses.{register_id}
 use Rattle.at_model.specs.Book.{Book, Completion, Enlistment, Phase, Request, Superior, Transaction, transaction_id}
 use Rattle.at_model.specs.Moves.{Change, Decision, Goes, Records, begin, in_both}
-use Rattle.at_model.specs.Seats.{answered, in_state, link_of, seat_in, set_link, under}
+use Rattle.at_model.specs.Seats.{answered, in_state, link_of, moved, seat_in, set_link, under}
 use Rattle.at_model.specs.Abort.{Reason, Alone, Asked, Faulted, abort}
 use Rattle.at_model.specs.Phases.{advance}
 use Rattle.at_model.specs.Arrivals.{seat_act, seat_notice, commit_voted, asked, link_act, link_notice, completion_act, completion_notice, relates_to, registered, link_registered, link_fault, on_link, on_seat, on_completion, request_answered, answer_request, request_of, with_answer}
 use Rattle.at_model.specs.Due.{Reached, Expired, Over, Unanswered, Nothing, has_come, is_aborting, is_over, is_quiet, is_some_post, may_expire, transaction_again, transaction_due, transaction_reached}
 use Rattle.at_model.specs.Step.{find_seat, moment_of, transaction_at}
-use Rattle.model_laws.specs.Behind.{IsInPhase, IsUnanswered, StandsBehind, accepted_as}
+use Rattle.model_laws.specs.Behind.{IsInPhase, IsUnanswered, StandsBehind}
 use Rattle.model_laws.specs.Links.{AreIn, IsIdle, IsJoining}
-use Rattle.model_laws.specs.Shapes.{MovesTransaction, at_seat, at_link, at_completion, when_due}
-use Rattle.model_laws.proofs.Deciding.{all_find, answer_effects, answer_has, either_of, first_true}
+use Rattle.model_laws.specs.Sound.{SeatsRise}
+use Rattle.model_laws.specs.Shapes.{IsAtSeat, MovesTransaction, at_seat, at_link, at_completion, when_due}
+use Rattle.model_laws.proofs.Deciding.{all_find, answer_effects, answer_has, either_of, first_true, same_kind}
 use Rattle.model_laws.proofs.Linking.{Linked, known}
-use Rattle.model_laws.proofs.Phasing.{accepted_moved, behind_moved, is_unanswered}
+use Rattle.model_laws.proofs.Phasing.{behind_moved, is_unanswered}
 use Rattle.agreement.specs.Finished.{AreFinished, IsFinished}
-use Rattle.agreement.specs.Deeds.{How, AllAnswered, Becomes, Deed, KeepsOn, SuperiorSaid, TransactionsDo, initiator, superior_at}
-use Rattle.agreement.proofs.Doing.{Done, From, Undone, abort_undoes, aborts, advance_in_does, either, forgets, go_volatile_does, idles, itself, same_as}
+use Rattle.agreement.specs.Deeds.{How, AreCounted, Counted, IsCounted, ParticipantSaid, has_said, is_still, AllAnswered, Becomes, Deed, KeepsOn, SuperiorSaid, TransactionsDo, initiator, superior_at}
+use Rattle.agreement.proofs.Ending.{kept_rise}
+use Rattle.agreement.proofs.Doing.{Done, From, Undone, abort_undoes, aborts, advance_in_does, count_same, either, forgets, go_volatile_does, idles, itself, same_as}
 
 -- A transaction as it stands in a book.
 record Standing (t : Transaction) : Type 0 where
@@ -52,10 +55,10 @@ record Standing (t : Transaction) : Type 0 where
   finished : IsFinished t
 
 begins : (e : Event) (t : Transaction) (ps : List Post) → Standing t → From e t (record { item = t; posts = ps; effects = [] })
-begins e t ps h = record { same = itself t; above = refl; accepted = refl; quiet = refl; on = inr refl; behind = h.behind }
+begins e t ps h = record { same = itself t; above = refl; counted = count_same e t t.seats; quiet = refl; on = inr refl; behind = h.behind }
 
 stays_same : (e : Event) (t : Transaction) → Deed e t None [] (Some t)
-stays_same e t = idles e t t [] (itself t) refl (inr refl) refl
+stays_same e t = idles e t t [] (itself t) (count_same e t t.seats) (inr refl) refl
 
 -- A seat that hasn't answered keeps the transaction undecided.
 has_answered : (kind : Kind) (seats : List Enlistment) (number : ℕ) (s : Enlistment) → find_seat number kind seats ≡ Some s → answered kind seats ≡ true → is_unanswered kind s ≡ false
@@ -67,6 +70,16 @@ has_answered kind (x ∷ xs) number s e h = by_test (nat_eq x.number number && i
     by_test b true u rest f g = absurd cc
     by_test true false u rest f g = let same : x ≡ s = cc in subst (λ y. is_unanswered kind y ≡ false) same u
     by_test false false u rest f g = rest f g
+
+of_number : (kind : Kind) (seats : List Enlistment) (number : ℕ) (s : Enlistment) → find_seat number kind seats ≡ Some s → s.number ≡ number
+of_number kind [] number s e = absurd cc
+of_number kind (x ∷ xs) number s e = by_test (nat_eq x.number number) (is_kind x.kind kind) refl (λ f. of_number kind xs number s f) e
+  where
+    by_test : (a b : Bool) → nat_eq x.number number ≡ a → (find_seat number kind xs ≡ Some s → s.number ≡ number) → (if a && b then Some x else find_seat number kind xs) ≡ Some s
+        → s.number ≡ number
+    by_test true true k rest f = let same : x ≡ s = cc in subst (λ y. y.number ≡ number) same (eqb-true x.number number k)
+    by_test true false k rest f = rest f
+    by_test false b k rest f = rest f
 
 of_kind : (kind : Kind) (seats : List Enlistment) (number : ℕ) (s : Enlistment) → find_seat number kind seats ≡ Some s → is_kind s.kind kind ≡ true
 of_kind kind [] number s e = absurd cc
@@ -103,32 +116,46 @@ is_undecided Phase.Aborting t e k h = absurd (k (h.finished.asked e))
 asks_still : (number : ℕ) (kind : Kind) (t : Transaction) (s : Enlistment) → find_seat number kind t.seats ≡ Some s → IsUnanswered s.state → Standing t → may_expire t.phase ≡ true
 asks_still number kind t s e u h = is_undecided t.phase t refl (λ a. unanswered_in number kind t s e u (of_both kind t.seats a)) h
 
--- where the coordinator's table aborts, the seat hasn't answered
-abbrev SeatActs : State → Act → Type 0
-SeatActs state acts.FaultInvalidStateAndAbort = IsUnanswered state
-SeatActs state acts.LeaveAndAbort = IsUnanswered state
-SeatActs state other = Unit {0}
+-- what the coordinator's table does to a seat, and that it aborts only where the seat hasn't answered
+abbrev SeatActs : State → Notice → Act → Type 0
+SeatActs state n acts.FaultInvalidStateAndAbort = IsUnanswered state
+SeatActs state n acts.LeaveAndAbort = IsUnanswered state × IsCounted n state states.None
+SeatActs state n acts.Leave = IsCounted n state states.None
+SeatActs state n acts.Vote = IsCounted n state states.Prepared
+SeatActs state n other = Unit {0}
 
-abbrev SeatCell : State → Option Cell → Type 0
-SeatCell state None = Unit {0}
-SeatCell state (Some c) = SeatActs state c.act
+abbrev SeatCell : State → Notice → Option Cell → Type 0
+SeatCell state n None = Unit {0}
+SeatCell state n (Some c) = SeatActs state n c.act
 
-seat_table : (kind : Kind) (state : State) (n : Notice) → SeatCell state (coordinator_of kind state n)
+seat_table : (kind : Kind) (state : State) (n : Notice) → SeatCell state n (coordinator_of kind state n)
 seat_table kinds.Volatile states.None notices.Prepared = tt
 seat_table kinds.Volatile states.None other = tt
 seat_table kinds.Volatile states.Registering notices.Prepared = tt
 seat_table kinds.Volatile states.Registering other = tt
 seat_table kinds.Volatile states.Active notices.Prepared = tt
+seat_table kinds.Volatile states.Active notices.ReadOnly = (tt, refl)
+seat_table kinds.Volatile states.Active notices.Aborted = (tt, (tt, refl))
+seat_table kinds.Volatile states.Active notices.Committed = tt
 seat_table kinds.Volatile states.Active other = tt
-seat_table kinds.Volatile states.Preparing notices.Prepared = tt
+seat_table kinds.Volatile states.Preparing notices.Prepared = (refl, refl)
+seat_table kinds.Volatile states.Preparing notices.ReadOnly = (tt, refl)
+seat_table kinds.Volatile states.Preparing notices.Aborted = (tt, (tt, refl))
+seat_table kinds.Volatile states.Preparing notices.Committed = tt
 seat_table kinds.Volatile states.Preparing other = tt
 seat_table kinds.Volatile states.Prepared notices.Prepared = tt
 seat_table kinds.Volatile states.Prepared other = tt
 seat_table kinds.Volatile states.PreparedSuccess notices.Prepared = tt
 seat_table kinds.Volatile states.PreparedSuccess other = tt
 seat_table kinds.Volatile states.Committing notices.Prepared = tt
+seat_table kinds.Volatile states.Committing notices.ReadOnly = tt
+seat_table kinds.Volatile states.Committing notices.Aborted = tt
+seat_table kinds.Volatile states.Committing notices.Committed = (refl, refl)
 seat_table kinds.Volatile states.Committing other = tt
 seat_table kinds.Volatile states.Aborting notices.Prepared = tt
+seat_table kinds.Volatile states.Aborting notices.ReadOnly = (tt, refl)
+seat_table kinds.Volatile states.Aborting notices.Aborted = (tt, refl)
+seat_table kinds.Volatile states.Aborting notices.Committed = tt
 seat_table kinds.Volatile states.Aborting other = tt
 seat_table kinds.Volatile states.Completing notices.Prepared = tt
 seat_table kinds.Volatile states.Completing other = tt
@@ -139,65 +166,123 @@ seat_table kinds.Durable states.None other = tt
 seat_table kinds.Durable states.Registering notices.Prepared = tt
 seat_table kinds.Durable states.Registering other = tt
 seat_table kinds.Durable states.Active notices.Prepared = tt
+seat_table kinds.Durable states.Active notices.ReadOnly = (tt, refl)
+seat_table kinds.Durable states.Active notices.Aborted = (tt, (tt, refl))
+seat_table kinds.Durable states.Active notices.Committed = tt
 seat_table kinds.Durable states.Active other = tt
-seat_table kinds.Durable states.Preparing notices.Prepared = tt
+seat_table kinds.Durable states.Preparing notices.Prepared = (refl, refl)
+seat_table kinds.Durable states.Preparing notices.ReadOnly = (tt, refl)
+seat_table kinds.Durable states.Preparing notices.Aborted = (tt, (tt, refl))
+seat_table kinds.Durable states.Preparing notices.Committed = tt
 seat_table kinds.Durable states.Preparing other = tt
 seat_table kinds.Durable states.Prepared notices.Prepared = tt
 seat_table kinds.Durable states.Prepared other = tt
 seat_table kinds.Durable states.PreparedSuccess notices.Prepared = tt
 seat_table kinds.Durable states.PreparedSuccess other = tt
 seat_table kinds.Durable states.Committing notices.Prepared = tt
+seat_table kinds.Durable states.Committing notices.ReadOnly = tt
+seat_table kinds.Durable states.Committing notices.Aborted = tt
+seat_table kinds.Durable states.Committing notices.Committed = (refl, refl)
 seat_table kinds.Durable states.Committing other = tt
 seat_table kinds.Durable states.Aborting notices.Prepared = tt
+seat_table kinds.Durable states.Aborting notices.ReadOnly = (tt, refl)
+seat_table kinds.Durable states.Aborting notices.Aborted = (tt, refl)
+seat_table kinds.Durable states.Aborting notices.Committed = tt
 seat_table kinds.Durable states.Aborting other = tt
 seat_table kinds.Durable states.Completing notices.Prepared = tt
 seat_table kinds.Durable states.Completing other = tt
 seat_table kinds.Durable states.Done notices.Prepared = tt
 seat_table kinds.Durable states.Done other = tt
 
+-- a number names one seat
+found_above : (last number : ℕ) (kind : Kind) (seats : List Enlistment) (s : Enlistment) → SeatsRise last seats → find_seat number kind seats ≡ Some s → last < s.number
+found_above last number kind [] s h e = absurd cc
+found_above last number kind (x ∷ xs) s (h, k) e = by_test (nat_eq x.number number && is_kind x.kind kind) (λ f. found_above x.number number kind xs s k f) e
+  where
+    by_test : (b : Bool) → (find_seat number kind xs ≡ Some s → x.number < s.number) → (if b then Some x else find_seat number kind xs) ≡ Some s → last < s.number
+    by_test true rest f = let same : x ≡ s = cc in subst (λ y. last < y.number) same h
+    by_test false rest f = omega (arith, h, rest f)
+
+all_above : (last : ℕ) (seats : List Enlistment) (number : ℕ) (s : Enlistment) → SeatsRise last seats → number ≤ last → AllByRecursion (λ x. x.number ≡ number → x ≡ s) seats
+all_above last [] number s h e = tt
+all_above last (x ∷ xs) number s (h, k) e = ((λ f. absurd (omega (arith, h, e, f))), all_above x.number xs number s k (omega (arith, h, e)))
+
+only_one : (last number : ℕ) (kind : Kind) (seats : List Enlistment) (s : Enlistment) → SeatsRise last seats → find_seat number kind seats ≡ Some s
+    → AllByRecursion (λ x. x.number ≡ s.number → x ≡ s) seats
+only_one last number kind [] s h e = tt
+only_one last number kind (x ∷ xs) s (h, k) e = by_test (nat_eq x.number number && is_kind x.kind kind) (λ f. only_one x.number number kind xs s k f) e
+  where
+    by_test : (b : Bool) → (find_seat number kind xs ≡ Some s → AllByRecursion (λ y. y.number ≡ s.number → y ≡ s) xs) → (if b then Some x else find_seat number kind xs) ≡ Some s
+        → AllByRecursion (λ y. y.number ≡ s.number → y ≡ s) (x ∷ xs)
+    by_test true rest f =
+        let same : x ≡ s = cc in
+        let low : s.number ≤ x.number = subst (λ y. y.number ≤ x.number) same (omega arith) in
+        ((λ g. same), all_above x.number xs s.number s k low)
+    by_test false rest f = ((λ g. let above : x.number < s.number = found_above x.number number kind xs s k f in absurd (omega (arith, above, g))), rest f)
+
+-- a notification at a seat
+record AtSeat (e : Event) (t : Transaction) (s : Enlistment) (n : Notice) : Type 0 where
+  said : ParticipantSaid n e t s
+  only : AllByRecursion (λ x. x.number ≡ s.number → x ≡ s) t.seats
+  asks : IsUnanswered s.state → may_expire t.phase ≡ true
+
+moved_one : (e : Event) (t : Transaction) (s : Enlistment) (state : State) (x : Enlistment) (b : Bool) → nat_eq x.number s.number ≡ b → (x.number ≡ s.number → x ≡ s)
+    → Counted e t s (record s { state = state }) → Counted e t x (record x { state = if b then state else x.state })
+moved_one e t s state x true f h k = subst (λ y. Counted e t y (record y { state = state })) (sym (h (eqb-true x.number s.number f))) k
+moved_one e t s state x false f h k = record { seat = refl; why = is_still refl }
+
+moved_seats : (e : Event) (t : Transaction) (s : Enlistment) (state : State) (seats : List Enlistment) → AllByRecursion (λ x. x.number ≡ s.number → x ≡ s) seats
+    → Counted e t s (record s { state = state }) → AreCounted e t seats (moved (λ x. nat_eq x.number s.number) state seats)
+moved_seats e t s state [] h k = tt
+moved_seats e t s state (x ∷ xs) (h, i) k = (moved_one e t s state x (nat_eq x.number s.number) refl h k, moved_seats e t s state xs i k)
+
+seat_counted : (e : Event) (t : Transaction) (s : Enlistment) (n : Notice) (state : State) → AtSeat e t s n → IsCounted n s.state state
+    → AreCounted e t t.seats (moved (λ x. nat_eq x.number s.number) state t.seats)
+seat_counted e t s n state h c = moved_seats e t s state t.seats h.only (record { seat = refl; why = has_said n h.said c })
+
 -- a seat that has answered or left
 stays_sent : (e : Event) (t x : Transaction) → x.id ≡ t.id → x.identifier ≡ t.identifier → x.deadline ≡ t.deadline → x.superior ≡ t.superior → x.completion ≡ t.completion → x.phase ≡ t.phase
     → x.seats ≡ t.seats → Deed e t None [] (Some x)
 stays_sent e t x i n d u c p s =
-    idles e t x [] (same_as t t x i n d (ap (λ y. is_none y) u) (ap (λ y. initiator y) c) (itself t)) (ap (λ l. map accepted_as l) s) (inr p) refl
+    idles e t x [] (same_as t t x i n d (ap (λ y. is_none y) u) (ap (λ y. initiator y) c) (itself t)) (subst (AreCounted e t t.seats) (sym s) (count_same e t t.seats)) (inr p) refl
 
-seat_from : (e : Event) (t : Transaction) (number : ℕ) (state : State) → is_state state states.Active ≡ false → is_state state states.Preparing ≡ false → Standing t
-    → From e t (begin (seat_in number state t))
-seat_from e t number state a p h = record {
-  same = same_as t t (seat_in number state t) refl refl refl refl refl (itself t);
+seat_from : (e : Event) (t : Transaction) (s : Enlistment) (n : Notice) (state : State) → is_state state states.Active ≡ false → is_state state states.Preparing ≡ false → IsCounted n s.state state
+    → AtSeat e t s n → Standing t → From e t (begin (seat_in s.number state t))
+seat_from e t s n state a p c at h = record {
+  same = same_as t t (seat_in s.number state t) refl refl refl refl refl (itself t);
   above = refl;
-  accepted = accepted_moved (λ s. nat_eq s.number number) state t.seats t.seats refl;
+  counted = seat_counted e t s n state at c;
   quiet = refl;
   on = inr refl;
-  behind = behind_moved t.phase (λ s. nat_eq s.number number) state t.seats a p h.behind;
+  behind = behind_moved t.phase (λ x. nat_eq x.number s.number) state t.seats a p h.behind;
 }
 
-seat_advances : (e : Event) (m : Moment) (t : Transaction) (number : ℕ) (state : State) → is_state state states.Active ≡ false → is_state state states.Preparing ≡ false → Standing t
-    → Done e t (advance m (begin (seat_in number state t)))
-seat_advances e m t number state a p h = advance_in_does e t m t.phase (begin (seat_in number state t)) refl (seat_from e t number state a p h)
+seat_advances : (e : Event) (m : Moment) (t : Transaction) (s : Enlistment) (n : Notice) (state : State) → is_state state states.Active ≡ false → is_state state states.Preparing ≡ false
+    → IsCounted n s.state state → AtSeat e t s n → Standing t → Done e t (advance m (begin (seat_in s.number state t)))
+seat_advances e m t s n state a p c at h = advance_in_does e t m t.phase (begin (seat_in s.number state t)) refl (seat_from e t s n state a p c at h)
 
-seat_act_does : (e : Event) (m : Moment) (i : Option (List ℕ)) (t : Transaction) (s : Enlistment) (act : Act) → (IsUnanswered s.state → may_expire t.phase ≡ true) → SeatActs s.state act
-    → Standing t → Done e t (seat_act m i t s act)
+seat_act_does : (e : Event) (m : Moment) (i : Option (List ℕ)) (t : Transaction) (s : Enlistment) (n : Notice) (act : Act) → AtSeat e t s n → SeatActs s.state n act → Standing t
+    → Done e t (seat_act m i t s act)
 unfolding seat_act
-seat_act_does e m i t s acts.SendCommit o k h = stays_sent e t _ refl refl refl refl refl refl refl
-seat_act_does e m i t s acts.SendRollback o k h =
+seat_act_does e m i t s n acts.SendCommit at k h = stays_sent e t _ refl refl refl refl refl refl refl
+seat_act_does e m i t s n acts.SendRollback at k h =
     either e t (in_state states.None s) _ _ (λ f. stays_same e t) (λ f. stays_sent e t _ refl refl refl refl refl refl refl)
-seat_act_does e m i t s acts.FaultInvalidStateAndAbort o k h = aborts e t m Alone _ (o k) (begins e t _ h)
-seat_act_does e m i t s acts.Leave o k h = seat_advances e m t s.number states.None refl refl h
-seat_act_does e m i t s acts.LeaveAndAbort o k h = aborts e t m Alone _ (o k) (seat_from e t s.number states.None refl refl h)
-seat_act_does e m i t s acts.Vote o k h = seat_advances e m t s.number states.Prepared refl refl h
-seat_act_does e m i t s other o k h = stays_same e t
+seat_act_does e m i t s n acts.FaultInvalidStateAndAbort at k h = aborts e t m Alone _ (at.asks k) (begins e t _ h)
+seat_act_does e m i t s n acts.Leave at k h = seat_advances e m t s n states.None refl refl k at h
+seat_act_does e m i t s n acts.LeaveAndAbort at (u, k) h = aborts e t m Alone _ (at.asks u) (seat_from e t s n states.None refl refl k at h)
+seat_act_does e m i t s n acts.Vote at k h = seat_advances e m t s n states.Prepared refl refl k at h
+seat_act_does e m i t s n other at k h = stays_same e t
 
-seat_notice_does : (e : Event) (m : Moment) (i : Option (List ℕ)) (t : Transaction) (s : Enlistment) (c : Option Cell) → (IsUnanswered s.state → may_expire t.phase ≡ true) → SeatCell s.state c
-    → Standing t → Done e t (seat_notice m i t s c)
+seat_notice_does : (e : Event) (m : Moment) (i : Option (List ℕ)) (t : Transaction) (s : Enlistment) (n : Notice) (c : Option Cell) → AtSeat e t s n → SeatCell s.state n c → Standing t
+    → Done e t (seat_notice m i t s c)
 unfolding seat_notice
-seat_notice_does e m i t s None o k h = stays_same e t
-seat_notice_does e m i t s (Some c) o k h = seat_act_does e m i t s c.act o k h
+seat_notice_does e m i t s n None at k h = stays_same e t
+seat_notice_does e m i t s n (Some c) at k h = seat_act_does e m i t s n c.act at k h
 
-seat_does : (e : Event) (m : Moment) (a : Arrived) (t : Transaction) (s : Enlistment) (x : Message) → (IsUnanswered s.state → may_expire t.phase ≡ true) → Standing t → Done e t (on_seat m a t s x)
+seat_does : (e : Event) (m : Moment) (a : Arrived) (t : Transaction) (s : Enlistment) (x : Message) → ((n : Notice) → x ≡ messages.Notice n → AtSeat e t s n) → Standing t → Done e t (on_seat m a t s x)
 unfolding on_seat
-seat_does e m a t s (messages.Notice n) o h = seat_notice_does e m a.id t s (coordinator_of s.kind s.state n) o (seat_table s.kind s.state n) h
-seat_does e m a t s other o h = stays_same e t
+seat_does e m a t s (messages.Notice n) at h = seat_notice_does e m a.id t s n (coordinator_of s.kind s.state n) (at n refl) (seat_table s.kind s.state n) h
+seat_does e m a t s other at h = stays_same e t
 
 -- a subordinate's links
 abbrev MayAbort : State → Type 0
@@ -314,7 +399,7 @@ link_asks : (e : Event) (kind : Kind) (s : Superior) (t : Transaction) → t.sup
 link_asks e kind s t u h = record {
   same = same_as t t (under (asked kind s) t) refl refl refl (sym (ap (λ x. is_none x) u)) refl (itself t);
   above = asked_above kind s ∙ sym (ap superior_at u);
-  accepted = refl;
+  counted = count_same e t t.seats;
   quiet = refl;
   on = inr refl;
   behind = h.behind;
@@ -325,7 +410,7 @@ unfolding commit_voted
 commits e m s t u p said h = record {
   how = How.Commits;
   at = t.seats;
-  accepted = refl;
+  counted = count_same e t t.seats;
   stood = (p, subst (λ x. is_none x ≡ false) (sym u) refl);
   heard = said;
   behind = subst (λ q. StandsBehind q t.seats) p h.behind;
@@ -342,7 +427,7 @@ rolls_back e m reason s t u p said h =
     record {
       how = How.RollsBack;
       at = t.seats;
-      accepted = refl;
+      counted = count_same e t t.seats;
       stood = (p, subst (λ x. is_none x ≡ false) (sym u) refl);
       heard = said;
       behind = tt;
@@ -392,7 +477,7 @@ link_registered_does e m relates coordinator kind s t u =
     let after : Superior = set_link kind (record { state = states.Active; coordinator = Some coordinator }) s in
     let x : Transaction = record t { superior = Some after; phase = registered after t.phase } in
     either e t (is_state (link_of kind s).state states.Registering && relates_to relates (register_id m.base (targets.Participant t.id kind))) _ _
-    (λ f. idles e t x [] (same_as t t x refl refl refl (sym (ap (λ y. is_none y) u)) refl (itself t)) refl (registered_on after t.phase) refl) (λ f. stays_same e t)
+    (λ f. idles e t x [] (same_as t t x refl refl refl (sym (ap (λ y. is_none y) u)) refl (itself t)) (count_same e t t.seats) (registered_on after t.phase) refl) (λ f. stays_same e t)
 
 registering : (state : State) → is_state state states.Registering ≡ true → MayAbort state
 registering states.Registering e = tt
@@ -459,7 +544,7 @@ completing : (e : Event) (t : Transaction) (c : Completion) → t.completion ≡
 completing e t c u h = record {
   same = same_as t t _ refl refl refl refl (sym (ap (λ x. initiator x) u)) (itself t);
   above = refl;
-  accepted = refl;
+  counted = count_same e t t.seats;
   quiet = refl;
   on = inr refl;
   behind = h.behind;
@@ -511,7 +596,7 @@ due_says m t =
 due_does : (e : Event) (m : Moment) (t : Transaction) (reached : Reached) → DueSays t reached → Standing t → Done e t (transaction_reached m t reached)
 unfolding transaction_reached
 due_does e m t Expired k h = aborts e t m Alone (begin t) k (begins e t [] h)
-due_does e m t Over k h = forgets e t t.seats [] k refl refl
+due_does e m t Over k h = forgets e t t.seats [] k (count_same e t t.seats) refl
 due_does e m t Unanswered k h = stays_sent e t _ refl refl refl refl refl refl refl
 due_does e m t Nothing k h = stays_same e t
 
@@ -533,7 +618,7 @@ deed_under : (e : Event) (t : Transaction) (r : Option Record) (effects : List E
 deed_under e t r effects s old x u h = record {
   how = h.how;
   at = h.at;
-  accepted = h.accepted;
+  counted = h.counted;
   stood = h.stood;
   heard = h.heard;
   behind = h.behind;
@@ -555,9 +640,26 @@ with_answer_does e m t q (Records r c None) h = answer_deed e t (Some r) m q c h
 with_answer_does e m t q (Records r c (Some d)) (h, k) = (answer_deed e t (Some r) m q c h, answer_deed e t None m q d k)
 
 -- each way to move
+same_seat : (id : Numbers) (number : ℕ) (kind : Kind) (s : Enlistment) → s.number ≡ number → s.kind ≡ kind
+    → targets.Coordinator id (record { number = number; kind = kind }) ≡ targets.Coordinator id (record { number = s.number; kind = s.kind })
+same_seat id number kind s e f = rw (e, f) refl
+
+at_its_seat : (e : Event) (a : Arrived) (t : Transaction) (s : Enlistment) (n : Notice) → e ≡ events.Arrived a → IsAtSeat a t s → a.message ≡ messages.Notice n → Standing t → AtSeat e t s n
+at_its_seat e a t s n came why says h = record {
+  said = record {
+    message = a;
+    came = came;
+    target = why.target
+        ∙ same_seat t.id why.number why.kind s (of_number why.kind t.seats why.number s why.found) (same_kind s.kind why.kind (of_kind why.kind t.seats why.number s why.found));
+    says = says;
+  };
+  only = only_one 0 why.number why.kind t.seats s (kept_rise t.phase t.seats h.finished.numbers) why.found;
+  asks = λ u. asks_still why.number why.kind t s why.found u h;
+}
+
 moved_does : (b : Book) (e : Event) (now : ℕ) (t : Transaction) (d : Decision Transaction) → Standing t → MovesTransaction b e now t d → Done e t d
 moved_does b e now t d h (at_seat a s came why is) =
-    subst (Done e t) (sym is) (seat_does e (moment_of b now) a t s a.message (λ u. asks_still why.number why.kind t s why.found u h) h)
+    subst (Done e t) (sym is) (seat_does e (moment_of b now) a t s a.message (λ n says. at_its_seat e a t s n came why says h) h)
 moved_does b e now t d h (at_link a kind s came why under is) = subst (Done e t) (sym is) (link_does e (moment_of b now) a kind t s a.message came why refl under h)
 moved_does b e now t d h (at_completion a c came why there is) = subst (Done e t) (sym is) (completion_does e (moment_of b now) a t c a.message there h)
 moved_does b e now t d h (when_due came is) = subst (Done e t) (sym is) (due_does e (moment_of b now) t _ (due_says (moment_of b now) t) h)

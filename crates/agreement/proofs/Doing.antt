@@ -1,11 +1,12 @@
 -- What one step does to a transaction, rule by rule.
-use Rattle.std.specs.Prelude.{List, [], ◌∷◌, ◌++◌, Option, Some, None, Bool, true, false, ◌≡◌, refl, if◌then◌else◌, not, ◌&&◌, ◌||◌, map, option_map, is_none}
+use Rattle.std.specs.Prelude.{List, [], ◌∷◌, ◌++◌, Option, Some, None, Bool, true, false, ◌≡◌, refl, if◌then◌else◌, not, ◌&&◌, ◌||◌, option_map, is_none}
 use Rattle.std.specs.List.{list_any}
 use Rattle.std.proofs.Common.{sym, subst, ap, inl, inr, ◌∙◌}
 use Rattle.at_base.specs.Numbers.{Numbers}
 use Rattle.at_base.specs.declared.epr.Epr.{Epr}
 use Rattle.at_base.specs.declared.notice.Kind.{Kind}
 use Rattle.at_base.specs.declared.notice.Kind.TheVariants as kinds
+use Rattle.at_base.specs.declared.notice.Notice.{Notice}
 use Rattle.at_base.specs.declared.notice.Notice.TheVariants as notices
 use Rattle.at_base.specs.declared.record.Record.TheVariants as records
 use Rattle.at_base.specs.declared.event.Event.{Event}
@@ -23,9 +24,9 @@ use Rattle.at_model.specs.Seats.{answered, all_left, completion_in, ending, endi
 use Rattle.at_model.specs.Abort.{Reason, Alone, links_aborted, without_links, until_rolled_back, abort}
 use Rattle.at_model.specs.Phases.{decided, committed, root_answered, voted, sub_answered, durable_answered, if_durable_answered, prepare_seats, go_durable, volatile_answered, all_committed, advance_in, go_volatile}
 use Rattle.at_model.specs.Due.{may_expire}
-use Rattle.model_laws.specs.Behind.{StandsBehind, accepted_as}
-use Rattle.model_laws.proofs.Phasing.{accepted_moved}
-use Rattle.agreement.specs.Deeds.{How, superior_at, AllAnswered, rolled_back, told_to_commit, KeepsOn, IsLeftIn, IsRolledBack, initiator, IsSame, IsSameIfLeft, Deed, Deeds}
+use Rattle.model_laws.specs.Behind.{StandsBehind}
+use Rattle.model_laws.proofs.Deciding.{second_true}
+use Rattle.agreement.specs.Deeds.{How, AreCounted, Counted, IsCounted, IsWhy, has_said, is_asked, is_still, superior_at, AllAnswered, rolled_back, told_to_commit, KeepsOn, IsLeftIn, IsRolledBack, initiator, IsSame, IsSameIfLeft, Deed, Deeds}
 
 abbrev pub Done : Event → Transaction → Decision Transaction → Type 0
 Done e t d = Deeds (λ r c. Deed e t r c.effects c.item) d
@@ -42,11 +43,50 @@ same_as t x y i n d r c h = record { id = i ∙ h.id; identifier = n ∙ h.ident
 pub itself : (t : Transaction) → IsSame t t
 itself t = record { id = refl; identifier = refl; deadline = refl; root = refl; initiator = refl }
 
+-- seats that stay, and seats that are asked
+count_one : (e : Event) (t : Transaction) (s : Enlistment) → Counted e t s s
+count_one e t s = record { seat = refl; why = is_still refl }
+
+pub count_same : (e : Event) (t : Transaction) (seats : List Enlistment) → AreCounted e t seats seats
+count_same e t [] = tt
+count_same e t (s ∷ ss) = (count_one e t s, count_same e t ss)
+
+only_active : (state : State) → is_state state states.Active ≡ true → state ≡ states.Active
+only_active states.Active e = refl
+only_active states.None e = absurd cc
+only_active other e = absurd cc
+
+never_active : (n : Notice) (before after : State) → IsCounted n before after → after ≡ states.Active → ⊥
+never_active notices.Prepared before after (h, k) e = cc
+never_active notices.ReadOnly before after (h, k) e = cc
+never_active notices.Aborted before after (h, k) e = cc
+never_active notices.Committed before after (h, k) e = cc
+never_active notices.Prepare before after h e = h
+never_active other before after h e = h
+
+asked_why : (e : Event) (t : Transaction) (o : Enlistment) (state : State) → may_expire t.phase ≡ true → state ≡ states.Active → IsWhy e t o state → IsWhy e t o states.Preparing
+asked_why e t o state u a (is_still f) = is_asked u (sym f ∙ a) refl
+asked_why e t o state u a (is_asked v f g) = is_asked v f refl
+asked_why e t o state u a (has_said n said c) = absurd (never_active n o.state state c a)
+
+asked_counts : (b : Bool) (e : Event) (t : Transaction) (o n : Enlistment) → may_expire t.phase ≡ true → (b ≡ true → n.state ≡ states.Active) → Counted e t o n
+    → Counted e t o (record n { state = if b then states.Preparing else n.state })
+asked_counts true e t o n u a h = record { seat = h.seat; why = asked_why e t o n.state u (a refl) h.why }
+asked_counts false e t o n u a h = record { seat = h.seat; why = h.why }
+
+count_asked : (e : Event) (t : Transaction) (kind : Kind) → may_expire t.phase ≡ true → (olds news : List Enlistment) → AreCounted e t olds news
+    → AreCounted e t olds (moved (is_of kind states.Active) states.Preparing news)
+count_asked e t kind u [] [] h = tt
+count_asked e t kind u [] (n ∷ ns) h = absurd h
+count_asked e t kind u (o ∷ os) [] h = absurd h
+count_asked e t kind u (o ∷ os) (n ∷ ns) (h, k) =
+    (asked_counts (is_of kind states.Active n) e t o n u (λ f. only_active n.state (second_true (is_kind n.kind kind) (is_state n.state states.Active) f)) h, count_asked e t kind u os ns k)
+
 -- a transaction on its way through a step
 pub record From (e : Event) (t : Transaction) (g : Moving Transaction) : Type 0 where
   pub same : IsSame t g.item
   pub above : superior_at g.item.superior ≡ superior_at t.superior
-  pub accepted : map accepted_as g.item.seats ≡ map accepted_as t.seats
+  pub counted : AreCounted e t t.seats g.item.seats
   pub quiet : g.effects ≡ []
   pub on : KeepsOn t.phase g.item.phase
   pub behind : StandsBehind g.item.phase g.item.seats
@@ -64,12 +104,12 @@ was_there before after (inl h) e = absurd (both_ways (may_expire after) h.1 e)
 was_there before after (inr h) e = sym h
 
 -- a step that leaves it undecided, or in its phase
-pub idles : (e : Event) (t x : Transaction) (effects : List Effect) → IsSame t x → map accepted_as x.seats ≡ map accepted_as t.seats → KeepsOn t.phase x.phase → effects ≡ []
+pub idles : (e : Event) (t x : Transaction) (effects : List Effect) → IsSame t x → AreCounted e t t.seats x.seats → KeepsOn t.phase x.phase → effects ≡ []
     → Deed e t None effects (Some x)
 idles e t x effects s a k q = record {
   how = How.Idles;
   at = x.seats;
-  accepted = a;
+  counted = a;
   stood = tt;
   heard = tt;
   behind = tt;
@@ -80,7 +120,7 @@ idles e t x effects s a k q = record {
 }
 
 stays_so : (e : Event) (t : Transaction) (g : Moving Transaction) → From e t g → Deed e t None g.effects (Some g.item)
-stays_so e t g h = idles e t g.item g.effects h.same h.accepted h.on h.quiet
+stays_so e t g h = idles e t g.item g.effects h.same h.counted h.on h.quiet
 
 -- what happens
 ends_alike : (s u : Option Superior) (i j : Numbers) (what : Ending) → is_none s ≡ is_none u → i ≡ j → ending_of s i what ≡ ending_of u j what
@@ -137,7 +177,7 @@ aborts e t m reason g o h =
     record {
       how = How.Aborts;
       at = g.item.seats;
-      accepted = h.accepted;
+      counted = h.counted;
       stood = o;
       heard = tt;
       behind = tt;
@@ -174,7 +214,7 @@ decides e t m g o root all h = by_test (list_any is_prepared_durable g.item.seat
     by_test true f = record {
       how = How.Decides;
       at = g.item.seats;
-      accepted = h.accepted;
+      counted = h.counted;
       stood = (o, root);
       heard = tt;
       behind = (all, f);
@@ -186,7 +226,7 @@ decides e t m g o root all h = by_test (list_any is_prepared_durable g.item.seat
     by_test false f = record {
       how = How.DecidesAlone;
       at = g.item.seats;
-      accepted = h.accepted;
+      counted = h.counted;
       stood = (o, root);
       heard = tt;
       behind = (all, f);
@@ -208,7 +248,7 @@ unfolding voted
 votes e t m s superior g o under above all some h = record {
   how = How.Votes;
   at = g.item.seats;
-  accepted = h.accepted;
+  counted = h.counted;
   stood = (o, subst (λ x. is_none x ≡ false) (sym above) refl);
   heard = tt;
   behind = (all, some);
@@ -224,7 +264,7 @@ leaves : (e : Event) (t : Transaction) (superior : Epr) (g : Moving Transaction)
 leaves e t superior g o above all none h = record {
   how = How.Leaves;
   at = g.item.seats;
-  accepted = h.accepted;
+  counted = h.counted;
   stood = (o, subst (λ x. is_none x ≡ false) (sym above) refl);
   heard = tt;
   behind = (all, none);
@@ -281,7 +321,7 @@ from_asked : (e : Event) (t : Transaction) (g x : Moving Transaction) (phase : P
 from_asked e t g x phase kind o p i s q u same behind h = record {
   same = same;
   above = ap superior_at u ∙ h.above;
-  accepted = rw s (accepted_moved (is_of kind states.Active) states.Preparing g.item.seats t.seats h.accepted);
+  counted = rw s (count_asked e t kind o t.seats g.item.seats h.counted);
   quiet = q ∙ h.quiet;
   on = inl (o, rw i p);
   behind = rw (i, s) behind;
@@ -302,7 +342,7 @@ volatile_does e t m None g o under v h = go_durable_does e t m g o v h
 volatile_does e t m (Some s) g o under v h =
     let x : Transaction = record g.item { superior = Some (link_in kinds.Volatile states.None s); phase = Phase.Active } in
     either e t (is_state s.volatile.state states.Preparing) _ _
-    (λ f. idles e t x g.effects (same_as t g.item x refl refl refl (sym (ap (λ y. is_none y) under)) refl h.same) h.accepted (inl (o, refl)) h.quiet)
+    (λ f. idles e t x g.effects (same_as t g.item x refl refl refl (sym (ap (λ y. is_none y) under)) refl h.same) h.counted (inl (o, refl)) h.quiet)
     (λ f. either e t (is_state s.durable.state states.Preparing) _ _ (λ k. go_durable_does e t m g o v h) (λ k. stays_so e t g h))
 
 -- the end
@@ -311,7 +351,7 @@ unfolding all_committed
 ends e t m g p left h = record {
   how = How.Ends;
   at = g.item.seats;
-  accepted = h.accepted;
+  counted = h.counted;
   stood = p;
   heard = tt;
   behind = left;
@@ -321,11 +361,11 @@ ends e t m g p left h = record {
   same = tt;
 }
 
-pub forgets : (e : Event) (t : Transaction) (at : List Enlistment) (effects : List Effect) → t.phase ≡ Phase.Aborting → map accepted_as at ≡ map accepted_as t.seats → effects ≡ [] → Deed e t None effects None
+pub forgets : (e : Event) (t : Transaction) (at : List Enlistment) (effects : List Effect) → t.phase ≡ Phase.Aborting → AreCounted e t t.seats at → effects ≡ [] → Deed e t None effects None
 forgets e t at effects p a q = record {
   how = How.Forgets;
   at = at;
-  accepted = a;
+  counted = a;
   stood = p;
   heard = tt;
   behind = tt;
@@ -340,7 +380,7 @@ aborting_does e t g p h = by_test (list_any (in_state states.Aborting) g.item.se
   where
     by_test : (b : Bool) → Done e t (Goes (if b then stays g else forgotten g))
     by_test true = stays_so e t g h
-    by_test false = forgets e t g.item.seats g.effects p h.accepted h.quiet
+    by_test false = forgets e t g.item.seats g.effects p h.counted h.quiet
 
 -- what a phase waits for, and what follows
 pub advance_in_does : (e : Event) (t : Transaction) (m : Moment) (phase : Phase) (g : Moving Transaction) → g.item.phase ≡ phase → From e t g → Done e t (advance_in m phase g)

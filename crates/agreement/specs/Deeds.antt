@@ -1,5 +1,5 @@
 -- What one step may do to one transaction: where it stood, what is recorded, what happened, and what becomes of it.
-use Rattle.std.specs.Prelude.{ℕ, List, [], ◌∷◌, Option, Some, None, true, false, ◌≡◌, ◌⊎◌, map, option_map, is_none}
+use Rattle.std.specs.Prelude.{ℕ, List, [], ◌∷◌, Option, Some, None, true, false, ◌≡◌, ◌⊎◌, option_map, is_none}
 use Rattle.std.specs.List.{list_any}
 use Rattle.at_base.specs.Numbers.{Numbers}
 use Rattle.at_base.specs.declared.epr.Epr.{Epr}
@@ -15,6 +15,7 @@ use Rattle.at_base.specs.declared.record.Record.{Record}
 use Rattle.at_base.specs.declared.record.Record.TheVariants as records
 use Rattle.at_base.specs.declared.outs.Effect.{Effect}
 use Rattle.at_base.specs.declared.outs.Ending.TheVariants as endings
+use Rattle.at_tables.specs.declared.cells.State.{State}
 use Rattle.at_tables.specs.declared.cells.State.TheVariants as states
 use Rattle.at_model.specs.Book.{Book, Completion, Enlistment, Phase, Superior, Transaction}
 use Rattle.at_model.specs.Moves.{Change, Decision, Goes, Records}
@@ -94,6 +95,45 @@ StandsOn Commits at = AllAnswered at
 StandsOn Ends at = all_left at ≡ true
 StandsOn other at = Unit {0}
 
+-- the notification of a seat's participant
+pub record ParticipantSaid (n : Notice) (e : Event) (t : Transaction) (s : Enlistment) : Type 0 where
+  pub message : Arrived
+  pub came : e ≡ events.Arrived message
+  pub target : message.target ≡ targets.Coordinator t.id (record { number = s.number; kind = s.kind })
+  pub says : message.message ≡ messages.Notice n
+
+-- a participant may leave before it has voted, and while it is told to roll back
+abbrev pub MayLeave : State → Type 0
+MayLeave states.Active = Unit {0}
+MayLeave states.Preparing = Unit {0}
+MayLeave states.Aborting = Unit {0}
+MayLeave other = ⊥
+
+-- how a participant's notification changes the state of its seat
+abbrev pub IsCounted : Notice → State → State → Type 0
+IsCounted notices.Prepared before after = (before ≡ states.Preparing) × (after ≡ states.Prepared)
+IsCounted notices.ReadOnly before after = MayLeave before × (after ≡ states.None)
+IsCounted notices.Aborted before after = MayLeave before × (after ≡ states.None)
+IsCounted notices.Committed before after = (before ≡ states.Committing) × (after ≡ states.None)
+IsCounted other before after = ⊥
+
+-- Why a seat is in this state once the message is counted: it was, it is asked now, or its own participant said so.
+pub data IsWhy (e : Event) (t : Transaction) (old : Enlistment) (state : State) : Type 0 where
+  is_still : state ≡ old.state → IsWhy e t old state
+  is_asked : may_expire t.phase ≡ true → old.state ≡ states.Active → state ≡ states.Preparing → IsWhy e t old state
+  has_said : (n : Notice) → ParticipantSaid n e t old → IsCounted n old.state state → IsWhy e t old state
+
+-- it is the seat of the same participant, with a reason for its state
+pub record Counted (e : Event) (t : Transaction) (old new : Enlistment) : Type 0 where
+  pub seat : accepted_as new ≡ accepted_as old
+  pub why : IsWhy e t old new.state
+
+-- seat by seat
+abbrev pub AreCounted : Event → Transaction → List Enlistment → List Enlistment → Type 0
+AreCounted e t [] [] = Unit {0}
+AreCounted e t (o ∷ os) (n ∷ ns) = Counted e t o n × AreCounted e t os ns
+AreCounted e t olds news = ⊥
+
 -- what is recorded: a vote and a decision name the durable participants that are Prepared
 abbrev pub recorded : How → Transaction → List Enlistment → Option Record
 recorded Votes t at = option_map (λ superior. records.Voted t.id superior (prepared at)) (superior_at t.superior)
@@ -170,7 +210,7 @@ pub record Deed (e : Event) (t : Transaction) (entry : Option Record) (effects :
   pub how : How
   -- the seats once the message is counted, before anybody is told
   pub at : List Enlistment
-  pub accepted : map accepted_as at ≡ map accepted_as t.seats
+  pub counted : AreCounted e t t.seats at
   pub stood : StoodFor how t
   pub heard : IsHeard how e t
   pub behind : StandsOn how at
