@@ -2,3 +2,4 @@ pub mod Acting
 pub mod Doing
 pub mod Ending
 pub mod Finishing
+pub mod Posted

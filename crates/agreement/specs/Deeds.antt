@@ -1,29 +1,34 @@
 -- What one step may do to one transaction: where it stood, what is recorded, what happened, and what becomes of it.
 use Rattle.std.specs.Prelude.{ℕ, List, [], ◌∷◌, Option, Some, None, true, false, ◌≡◌, ◌⊎◌, option_map, is_none}
-use Rattle.std.specs.List.{list_any}
+use Rattle.std.specs.List.{list_any, AllByRecursion}
 use Rattle.at_base.specs.Numbers.{Numbers}
 use Rattle.at_base.specs.declared.epr.Epr.{Epr}
+use Rattle.at_base.specs.declared.notice.Kind.{Kind}
 use Rattle.at_base.specs.declared.notice.Kind.TheVariants as kinds
 use Rattle.at_base.specs.declared.notice.Notice.{Notice}
 use Rattle.at_base.specs.declared.notice.Notice.TheVariants as notices
+use Rattle.at_base.specs.declared.target.Target.{Target}
 use Rattle.at_base.specs.declared.target.Target.TheVariants as targets
+use Rattle.at_base.specs.declared.message.Message.{Message}
 use Rattle.at_base.specs.declared.message.Message.TheVariants as messages
 use Rattle.at_base.specs.declared.event.Arrived.{Arrived}
 use Rattle.at_base.specs.declared.event.Event.{Event}
 use Rattle.at_base.specs.declared.event.Event.TheVariants as events
 use Rattle.at_base.specs.declared.record.Record.{Record}
 use Rattle.at_base.specs.declared.record.Record.TheVariants as records
+use Rattle.at_base.specs.declared.outs.Post.{Post}
 use Rattle.at_base.specs.declared.outs.Effect.{Effect}
 use Rattle.at_base.specs.declared.outs.Ending.TheVariants as endings
 use Rattle.at_tables.specs.declared.cells.State.{State}
 use Rattle.at_tables.specs.declared.cells.State.TheVariants as states
 use Rattle.at_model.specs.Book.{Book, Completion, Enlistment, Phase, Superior, Transaction}
 use Rattle.at_model.specs.Moves.{Change, Decision, Goes, Records}
-use Rattle.at_model.specs.Seats.{all_left, answered, ending, in_state, is_open, is_prepared_durable, moved, prepared}
+use Rattle.at_model.specs.Seats.{all_left, answered, ending, in_state, is_open, is_prepared_durable, link_of, moved, prepared, seat_target}
 use Rattle.at_model.specs.Arrivals.{with_answer}
 use Rattle.at_model.specs.Due.{may_expire}
 use Rattle.at_model.specs.Step.{moment_of, transaction_at}
-use Rattle.model_laws.specs.Behind.{IsInPhase, accepted_as}
+use Rattle.model_laws.specs.Behind.{IsInPhase, IsUnanswered, accepted_as}
+use Rattle.model_laws.specs.Agreement.{IsIn}
 use Rattle.model_laws.specs.Shapes.{MovesTransaction}
 use Rattle.agreement.specs.Finished.{AreFinished}
 
@@ -50,10 +55,13 @@ pub data How : Type 0 where
   -- be over behind an abort
   Forgets : How
 
--- where a subordinate votes, once it knows
+-- who a subordinate's link leads to, once it knows
+abbrev pub coordinator_at : Kind → Option Superior → Option Epr
+coordinator_at kind None = None
+coordinator_at kind (Some s) = (link_of kind s).coordinator
+
 abbrev pub superior_at : Option Superior → Option Epr
-superior_at None = None
-superior_at (Some s) = s.durable.coordinator
+superior_at s = coordinator_at kinds.Durable s
 
 -- where it stood
 abbrev pub StoodFor : How → Transaction → Type 0
@@ -68,17 +76,17 @@ StoodFor RollsBack t = (t.phase ≡ Phase.Voted) × (is_none t.superior ≡ fals
 StoodFor Ends t = t.phase ≡ Phase.Committing
 StoodFor Forgets t = t.phase ≡ Phase.Aborting
 
--- the superior's notification on the durable link
-pub record SuperiorSaid (n : Notice) (e : Event) (t : Transaction) : Type 0 where
+-- the superior's notification on a link
+pub record SuperiorSaid (kind : Kind) (n : Notice) (e : Event) (t : Transaction) : Type 0 where
   pub message : Arrived
   pub came : e ≡ events.Arrived message
-  pub target : message.target ≡ targets.Participant t.id kinds.Durable
+  pub target : message.target ≡ targets.Participant t.id kind
   pub says : message.message ≡ messages.Notice n
 
 -- behind its vote it is its superior that decides (WS-AtomicTransaction 1.2, section 3.3.3)
 abbrev pub IsHeard : How → Event → Transaction → Type 0
-IsHeard Commits e t = SuperiorSaid notices.Commit e t
-IsHeard RollsBack e t = SuperiorSaid notices.Rollback e t
+IsHeard Commits e t = SuperiorSaid kinds.Durable notices.Commit e t
+IsHeard RollsBack e t = SuperiorSaid kinds.Durable notices.Rollback e t
 IsHeard other e t = Unit {0}
 
 -- every participant has voted or has left
@@ -205,8 +213,76 @@ abbrev pub IsSameIfLeft : Transaction → Option Transaction → Type 0
 IsSameIfLeft old None = Unit {0}
 IsSameIfLeft old (Some new) = IsSame old new
 
--- One step of a transaction: this is recorded, this happened, and this is left of it.
-pub record Deed (e : Event) (t : Transaction) (entry : Option Record) (effects : List Effect) (new : Option Transaction) : Type 0 where
+-- the deeds that abort, and those that commit
+abbrev pub IsAbort : How → Type 0
+IsAbort Aborts = Unit {0}
+IsAbort RollsBack = Unit {0}
+IsAbort other = ⊥
+
+abbrev pub IsCommit : How → Type 0
+IsCommit Decides = Unit {0}
+IsCommit DecidesAlone = Unit {0}
+IsCommit Commits = Unit {0}
+IsCommit other = ⊥
+
+-- a notification with this sender of its own, to this endpoint
+pub record IsNotice (own : Option Target) (to : Epr) (n : Notice) (p : Post) : Type 0 where
+  pub owned : p.own ≡ own
+  pub sent : p.to ≡ Some to
+  pub says : p.message ≡ messages.Notice n
+
+abbrev pub IsNoNotice : Message → Type 0
+IsNoNotice (messages.Notice n) = ⊥
+IsNoNotice other = Unit {0}
+
+-- Why a participant is notified. Commit goes to who has voted Prepared, where this step commits; and whoever has not
+-- answered is asked again.
+abbrev pub WhySeat : Event → Transaction → How → Enlistment → Notice → Type 0
+WhySeat e t how s notices.Prepare = IsUnanswered s.state
+WhySeat e t how s notices.Commit = (s.state ≡ states.Committing) ⊎ (IsCommit how × IsWhy e t s states.Prepared)
+WhySeat e t how s notices.Rollback = (s.state ≡ states.Aborting) ⊎ IsAbort how
+WhySeat e t how s other = ⊥
+
+-- why a superior is notified on this link
+abbrev pub WhySuperior : Transaction → How → List Enlistment → Kind → Notice → Type 0
+WhySuperior t how at kinds.Durable notices.Prepared = (how ≡ Votes) ⊎ (t.phase ≡ Phase.Voted)
+WhySuperior t how at kinds.Durable notices.ReadOnly = how ≡ Leaves
+WhySuperior t how at kinds.Durable notices.Committed = how ≡ Ends
+WhySuperior t how at kinds.Volatile notices.ReadOnly = (may_expire t.phase ≡ true) × (answered kinds.Volatile at ≡ true)
+WhySuperior t how at kind other = ⊥
+
+-- what a link in None answers
+abbrev pub WhyLeft : Event → Transaction → Kind → Notice → Type 0
+WhyLeft e t kind notices.Committed = SuperiorSaid kind notices.Commit e t
+WhyLeft e t kind notices.Aborted = Unit {0}
+WhyLeft e t kind other = ⊥
+
+-- how the initiator hears of the outcome
+abbrev pub WhyInitiator : How → Notice → Type 0
+WhyInitiator Decides notices.Committed = Unit {0}
+WhyInitiator DecidesAlone notices.Committed = Unit {0}
+WhyInitiator how notices.Aborted = IsAbort how
+WhyInitiator how other = ⊥
+
+-- Why a message is posted: it is no notification, or it is one of these.
+pub data IsPosted (e : Event) (t : Transaction) (how : How) (at : List Enlistment) (p : Post) : Type 0 where
+  is_no_notice : IsNoNotice p.message → IsPosted e t how at p
+  to_seat : (s : Enlistment) (n : Notice) → IsIn s t.seats → WhySeat e t how s n → IsNotice (Some (seat_target t.id s)) s.participant n p → IsPosted e t how at p
+  -- abort is presumed (section 3.3.4)
+  to_left_seat : (s : Enlistment) → IsIn s t.seats → s.kind ≡ kinds.Durable → s.state ≡ states.None → ParticipantSaid notices.Prepared e t s → IsNotice None s.participant notices.Rollback p
+      → IsPosted e t how at p
+  to_superior : (kind : Kind) (n : Notice) (to : Epr) → coordinator_at kind t.superior ≡ Some to → WhySuperior t how at kind n → IsNotice (Some (targets.Participant t.id kind)) to n p
+      → IsPosted e t how at p
+  -- a Rollback is answered even where the link doesn't know its coordinator
+  says_aborted : (kind : Kind) (to : Epr) → is_none t.superior ≡ false → IsAbort how → IsNotice (Some (targets.Participant t.id kind)) to notices.Aborted p → IsPosted e t how at p
+  from_left_link : (kind : Kind) (s : Superior) (n : Notice) (to : Epr) → t.superior ≡ Some s → (link_of kind s).state ≡ states.None → WhyLeft e t kind n → IsNotice None to n p
+      → IsPosted e t how at p
+  to_initiator : (n : Notice) (to : Epr) → initiator t.completion ≡ Some to → WhyInitiator how n → IsNotice (Some (targets.Completion t.id)) to n p → IsPosted e t how at p
+  -- an initiator that asks again hears of the commit at its message's From
+  to_asking : (c : Completion) (to : Epr) → t.completion ≡ Some c → c.state ≡ states.Done → IsNotice (Some (targets.Completion t.id)) to notices.Committed p → IsPosted e t how at p
+
+-- One step of a transaction: this is recorded, and this is left of it, posted and happened.
+pub record Deed (e : Event) (t : Transaction) (entry : Option Record) (c : Change Transaction) : Type 0 where
   pub how : How
   -- the seats once the message is counted, before anybody is told
   pub at : List Enlistment
@@ -215,9 +291,10 @@ pub record Deed (e : Event) (t : Transaction) (entry : Option Record) (effects :
   pub heard : IsHeard how e t
   pub behind : StandsOn how at
   pub records : entry ≡ recorded how t at
-  pub happened : effects ≡ happens how t
-  pub becomes : Becomes how t at new
-  pub same : IsSameIfLeft t new
+  pub happened : c.effects ≡ happens how t
+  pub becomes : Becomes how t at c.item
+  pub same : IsSameIfLeft t c.item
+  pub posts : AllByRecursion (IsPosted e t how at) c.posts
 
 -- both branches of a decision: with its record, and where that is certainly absent
 abbrev pub Deeds : {A : Type 0} → (Option Record → Change A → Type 0) → Decision A → Type 0
@@ -228,4 +305,4 @@ Deeds P (Records r c (Some d)) = P (Some r) c × P None d
 -- Whatever moves a transaction of a book does one of these deeds, where the record landed and where it didn't.
 pub record TransactionsDo : Type 0 where
   pub deeds : (b : Book) (e : Event) (now : ℕ) (id : Numbers) (t : Transaction) (d : Decision Transaction) → IsInPhase b → AreFinished b → transaction_at b id ≡ Some t
-      → MovesTransaction b e now t d → Deeds (λ r c. Deed e t r c.effects c.item) (with_answer (moment_of b now) t d)
+      → MovesTransaction b e now t d → Deeds (Deed e t) (with_answer (moment_of b now) t d)
