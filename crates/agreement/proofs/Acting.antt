@@ -47,10 +47,10 @@ use Rattle.model_laws.proofs.Deciding.{all_find, all_join, all_more, either_left
 use Rattle.model_laws.proofs.Linking.{Linked, known}
 use Rattle.model_laws.proofs.Phasing.{behind_moved, is_unanswered}
 use Rattle.agreement.specs.Finished.{AreFinished, IsFinished}
-use Rattle.agreement.specs.Deeds.{How, AreCounted, Counted, IsCounted, IsNoNotice, IsPosted, IsSameIfLeft, IsWhy, ParticipantSaid, WhyLeft, WhySuperior, from_left_link, has_said, is_no_notice, is_still, to_asking, to_left_seat, to_seat, to_superior, AllAnswered, Becomes, Deed, KeepsOn, SuperiorSaid, TransactionsDo, coordinator_at, initiator}
+use Rattle.agreement.specs.Deeds.{How, AreCounted, Counted, IsCounted, IsNoNotice, IsPosted, IsSameIfLeft, IsJoined, KeepsLink, KeepsLinksIfLeft, IsWhy, ParticipantSaid, WhyLeft, WhySuperior, from_left_link, has_said, is_no_notice, is_still, to_asking, to_left_seat, to_seat, to_superior, AllAnswered, Becomes, Deed, KeepsOn, SuperiorSaid, TransactionsDo, coordinator_at, initiator}
 use Rattle.agreement.proofs.Ending.{kept_rise}
 use Rattle.agreement.proofs.Posted.{initiator_notice_of, link_notice_of, notices_all, seat_notice_of, to_each_all}
-use Rattle.agreement.proofs.Doing.{Always, Done, From, OnAbort, Undone, abort_undoes, aborts, advance_in_does, count_same, either, forgets, go_volatile_does, idles, itself, only_prepared, same_as}
+use Rattle.agreement.proofs.Doing.{Always, Done, From, OnAbort, Undone, above_in, abort_undoes, aborts, advance_in_does, count_same, either, forgets, go_volatile_does, idles, itself, only_prepared, same_as}
 
 -- A transaction as it stands in a book.
 record Standing (t : Transaction) : Type 0 where
@@ -62,7 +62,7 @@ begins : (e : Event) (t : Transaction) (ps : List Post) → AllByRecursion (Alwa
 begins e t ps o h = record { same = itself t; above = λ k. refl; counted = count_same e t t.seats; quiet = refl; on = inr refl; behind = h.behind; posts = o }
 
 stays_same : (e : Event) (t : Transaction) (ps : List Post) → AllByRecursion (IsPosted e t How.Idles t.seats) ps → Deed e t None (record { item = Some t; posts = ps; effects = [] })
-stays_same e t ps o = idles e t t ps [] (itself t) (count_same e t t.seats) (inr refl) refl o
+stays_same e t ps o = idles e t t ps [] (itself t) (λ k. inl refl) (count_same e t t.seats) (inr refl) refl o
 
 ignores : (e : Event) (t : Transaction) → Deed e t None (record { item = Some t; posts = []; effects = [] })
 ignores e t = stays_same e t [] tt
@@ -269,7 +269,7 @@ seat_counted e t s n state h c = moved_seats e t s state t.seats h.only (record 
 stays_sent : (e : Event) (t x : Transaction) (ps : List Post) → x.id ≡ t.id → x.identifier ≡ t.identifier → x.deadline ≡ t.deadline → x.superior ≡ t.superior → x.completion ≡ t.completion
     → x.phase ≡ t.phase → x.seats ≡ t.seats → AllByRecursion (IsPosted e t How.Idles t.seats) ps → Deed e t None (record { item = Some x; posts = ps; effects = [] })
 stays_sent e t x ps i n d u c p s o =
-    idles e t x ps [] (same_as t t x i n d (ap (λ y. is_none y) u) (ap (λ y. initiator y) c) (itself t)) (subst (AreCounted e t t.seats) (sym s) (count_same e t t.seats)) (inr p) refl
+    idles e t x ps [] (same_as t t x i n d (ap (λ y. is_none y) u) (ap (λ y. initiator y) c) (itself t)) (λ k. inl (ap (coordinator_at k) u)) (subst (AreCounted e t t.seats) (sym s) (count_same e t t.seats)) (inr p) refl
     (subst (λ l. AllByRecursion (IsPosted e t How.Idles l) ps) (sym s) o)
 
 seat_from : (e : Event) (t : Transaction) (s : Enlistment) (n : Notice) (state : State) → is_state state states.Active ≡ false → is_state state states.Preparing ≡ false → IsCounted n s.state state
@@ -474,6 +474,7 @@ commits e m s t u p said h = record {
   happened = refl;
   becomes = (refl, refl);
   same = same_as t t _ refl refl refl (sym (ap (λ x. is_none x) u)) refl (itself t);
+  links = λ k. inl (above_in kinds.Durable k states.Committing s ∙ sym (ap (coordinator_at k) u));
   posts = notices_all (IsPosted e t How.Commits t.seats) e t m.base t.id notices.Commit (in_state states.Prepared) t.seats t.seats refl (count_same e t t.seats)
       (λ o x q i k y z. to_seat o notices.Commit i (inr (tt, subst (IsWhy e t o) (only_prepared x.state y) k.why)) z);
 }
@@ -493,6 +494,7 @@ rolls_back e m reason s t u p said h =
       happened = a.happened;
       becomes = a.becomes;
       same = a.same;
+      links = a.links;
       posts = all_more (OnAbort e t) (IsPosted e t How.RollsBack t.seats) (abort m reason (begin t)).posts (λ q k. k How.RollsBack t.seats tt) a.posts;
     }
 
@@ -557,14 +559,24 @@ registered_on s Phase.Registering = by_test (is_state s.volatile.state states.Re
 registered_on s Phase.Active = inr refl
 registered_on s other = inr refl
 
+joins : (e : Event) (kind own : Kind) (state : State) (coordinator : Epr) (s : Superior) (t x : Transaction) → t.superior ≡ Some s
+    → x.superior ≡ Some (set_link kind (record { state = state; coordinator = Some coordinator }) s)
+    → (coordinator_at kind x.superior ≡ Some coordinator → IsJoined kind e t x) → KeepsLink e t x own
+joins e kinds.Volatile kinds.Volatile state coordinator s t x u v f = inr (f (ap (coordinator_at kinds.Volatile) v))
+joins e kinds.Durable kinds.Durable state coordinator s t x u v f = inr (f (ap (coordinator_at kinds.Durable) v))
+joins e kinds.Volatile kinds.Durable state coordinator s t x u v f = inl (ap (coordinator_at kinds.Durable) v ∙ sym (ap (coordinator_at kinds.Durable) u))
+joins e kinds.Durable kinds.Volatile state coordinator s t x u v f = inl (ap (coordinator_at kinds.Volatile) v ∙ sym (ap (coordinator_at kinds.Volatile) u))
+
 link_registered_does : (e : Event) (m : Moment) (relates : Option (List ℕ)) (coordinator : Epr) (kind : Kind) (s : Superior) (t : Transaction) → t.superior ≡ Some s
+    → ((x : Transaction) → coordinator_at kind x.superior ≡ Some coordinator → IsJoined kind e t x)
     → Done e t (link_registered m relates coordinator kind s t)
 unfolding link_registered
-link_registered_does e m relates coordinator kind s t u =
+link_registered_does e m relates coordinator kind s t u joined =
     let after : Superior = set_link kind (record { state = states.Active; coordinator = Some coordinator }) s in
     let x : Transaction = record t { superior = Some after; phase = registered after t.phase } in
     either e t (is_state (link_of kind s).state states.Registering && relates_to relates (register_id m.base (targets.Participant t.id kind))) _ _
-    (λ f. idles e t x [] [] (same_as t t x refl refl refl (sym (ap (λ y. is_none y) u)) refl (itself t)) (count_same e t t.seats) (registered_on after t.phase) refl tt) (λ f. ignores e t)
+    (λ f. idles e t x [] [] (same_as t t x refl refl refl (sym (ap (λ y. is_none y) u)) refl (itself t))
+    (λ k. joins e kind k states.Active coordinator s t x u refl (joined x)) (count_same e t t.seats) (registered_on after t.phase) refl tt) (λ f. ignores e t)
 
 registering : (state : State) → is_state state states.Registering ≡ true → MayAbort state
 registering states.Registering e = tt
@@ -587,7 +599,9 @@ unfolding on_link
 link_does e m a kind t s (messages.Notice n) came at says u h =
     link_notice_does e m a.from a.id kind s t n (participant_of kind (link_of kind s).state n) u
     (record { message = a; came = came; target = at; says = says }) (link_table kind (link_of kind s).state n) h
-link_does e m a kind t s (messages.RegisterResponse coordinator) came at says u h = link_registered_does e m a.relates coordinator kind s t u
+link_does e m a kind t s (messages.RegisterResponse coordinator) came at says u h =
+    link_registered_does e m a.relates coordinator kind s t u
+    (λ y k. record { coordinator = coordinator; message = a; came = came; target = at; says = says; known = k })
 link_does e m a kind t s (messages.Fault name) came at says u h = link_fault_does e m a.relates kind s t u h
 link_does e m a kind t s other came at says u h = ignores e t
 
@@ -786,6 +800,21 @@ answer_posts : (P : Post → Type 0) (m : Moment) (q : Option Request) (c : Chan
 answer_posts P m None c f h = h
 answer_posts P m (Some r) c f h = left_posts P m r c.item c f h
 
+above_answered : (kind : Kind) (s : Superior) → coordinator_at kind (Some (request_answered s)) ≡ coordinator_at kind (Some s)
+above_answered kinds.Volatile s = refl
+above_answered kinds.Durable s = refl
+
+still_linked : (e : Event) (t x : Transaction) (s : Superior) (kind : Kind) → x.superior ≡ Some s → KeepsLink e t x kind → KeepsLink e t (under (request_answered s) x) kind
+still_linked e t x s kind u (inl k) = inl (above_answered kind s ∙ sym (ap (coordinator_at kind) u) ∙ k)
+still_linked e t x s kind u (inr k) = inr (record {
+  coordinator = k.coordinator;
+  message = k.message;
+  came = k.came;
+  target = k.target;
+  says = k.says;
+  known = above_answered kind s ∙ sym (ap (coordinator_at kind) u) ∙ k.known;
+})
+
 answer_deed : (e : Event) (t : Transaction) (r : Option Record) (m : Moment) (q : Option Request) (c : Change Transaction) → Deed e t r c → Deed e t r (answer_request m q c)
 answer_deed e t r m q c h = record {
   how = h.how;
@@ -798,6 +827,7 @@ answer_deed e t r m q c h = record {
   happened = answer_effects m q c ∙ h.happened;
   becomes = answer_has (Becomes h.how t h.at) (λ s x u k. becomes_under h.how t h.at (request_answered s) x k) m q c h.becomes;
   same = answer_has (IsSameIfLeft t) (λ s x u k. same_as t x (under (request_answered s) x) refl refl refl (sym (ap (λ y. is_none y) u)) refl k) m q c h.same;
+  links = answer_has (KeepsLinksIfLeft e t) (λ s x u k own. still_linked e t x s own u (k own)) m q c h.links;
   posts = answer_posts (IsPosted e t h.how h.at) m q c (λ p k. is_no_notice k) h.posts;
 }
 

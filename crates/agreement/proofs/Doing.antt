@@ -27,7 +27,7 @@ use Rattle.at_model.specs.Phases.{upwards, ended_posts, decided, committed, root
 use Rattle.at_model.specs.Due.{may_expire}
 use Rattle.model_laws.specs.Behind.{IsUnanswered, StandsBehind}
 use Rattle.model_laws.proofs.Deciding.{all_join, all_more, second_true}
-use Rattle.agreement.specs.Deeds.{How, AreCounted, Counted, IsAbort, IsCommit, IsCounted, IsPosted, IsWhy, WhyInitiator, WhySuperior, has_said, is_asked, is_still, says_aborted, to_initiator, to_seat, to_superior, coordinator_at, superior_at, AllAnswered, rolled_back, told_to_commit, KeepsOn, IsLeftIn, IsRolledBack, initiator, IsSame, IsSameIfLeft, Deed, Deeds}
+use Rattle.agreement.specs.Deeds.{How, AreCounted, Counted, IsAbort, IsCommit, IsCounted, IsPosted, IsWhy, WhyInitiator, WhySuperior, has_said, is_asked, is_still, says_aborted, to_initiator, to_seat, to_superior, coordinator_at, superior_at, AllAnswered, rolled_back, told_to_commit, KeepsOn, IsLeftIn, IsRolledBack, initiator, IsSame, IsSameIfLeft, KeepsLink, KeepsLinksIfLeft, Deed, Deeds}
 use Rattle.agreement.proofs.Posted.{initiator_all, link_notice_of, links_aborted_all, notices_all, to_each_all}
 
 abbrev pub Done : Event → Transaction → Decision Transaction → Type 0
@@ -117,9 +117,9 @@ was_there before after (inl h) e = absurd (both_ways (may_expire after) h.1 e)
 was_there before after (inr h) e = sym h
 
 -- a step that leaves it undecided, or in its phase
-pub idles : (e : Event) (t x : Transaction) (ps : List Post) (effects : List Effect) → IsSame t x → AreCounted e t t.seats x.seats → KeepsOn t.phase x.phase → effects ≡ []
+pub idles : (e : Event) (t x : Transaction) (ps : List Post) (effects : List Effect) → IsSame t x → ((kind : Kind) → KeepsLink e t x kind) → AreCounted e t t.seats x.seats → KeepsOn t.phase x.phase → effects ≡ []
     → AllByRecursion (IsPosted e t How.Idles x.seats) ps → Deed e t None (record { item = Some x; posts = ps; effects = effects })
-idles e t x ps effects s a k q p = record {
+idles e t x ps effects s l a k q p = record {
   how = How.Idles;
   at = x.seats;
   counted = a;
@@ -130,11 +130,12 @@ idles e t x ps effects s a k q p = record {
   happened = q;
   becomes = (k, refl);
   same = s;
+  links = l;
   posts = p;
 }
 
 stays_so : (e : Event) (t : Transaction) (g : Moving Transaction) → From e t g → Deed e t None (stays g)
-stays_so e t g h = idles e t g.item g.posts g.effects h.same h.counted h.on h.quiet (always_so e t How.Idles g.item.seats g.posts h.posts)
+stays_so e t g h = idles e t g.item g.posts g.effects h.same (λ k. inl (h.above k)) h.counted h.on h.quiet (always_so e t How.Idles g.item.seats g.posts h.posts)
 
 -- what happens
 ends_alike : (s u : Option Superior) (i j : Numbers) (what : Ending) → is_none s ≡ is_none u → i ≡ j → ending_of s i what ≡ ending_of u j what
@@ -160,15 +161,32 @@ pub record Undone (e : Event) (t : Transaction) (at : List Enlistment) (c : Chan
   pub happened : c.effects ≡ ending t endings.Aborted ∷ []
   pub becomes : IsRolledBack (rolled_back at) c.item
   pub same : IsSameIfLeft t c.item
+  pub links : KeepsLinksIfLeft e t c.item
   pub posts : AllByRecursion (OnAbort e t) c.posts
 
 until_undone : (e : Event) (t : Transaction) (at : List Enlistment) (x : Moving Transaction) → x.effects ≡ ending t endings.Aborted ∷ [] → x.item.phase ≡ Phase.Aborting
-    → x.item.seats ≡ rolled_back at → IsSame t x.item → AllByRecursion (OnAbort e t) x.posts → Undone e t at (until_rolled_back x)
-until_undone e t at x f p s h o = by_test (list_any (in_state states.Aborting) x.item.seats) refl
+    → x.item.seats ≡ rolled_back at → IsSame t x.item → ((kind : Kind) → KeepsLink e t x.item kind) → AllByRecursion (OnAbort e t) x.posts → Undone e t at (until_rolled_back x)
+until_undone e t at x f p s h l o = by_test (list_any (in_state states.Aborting) x.item.seats) refl
   where
     by_test : (b : Bool) → list_any (in_state states.Aborting) x.item.seats ≡ b → Undone e t at (if b then stays x else forgotten x)
-    by_test true u = record { happened = f; becomes = (p, s, subst (λ l. list_any (in_state states.Aborting) l ≡ true) s u); same = h; posts = o }
-    by_test false u = record { happened = f; becomes = subst (λ l. list_any (in_state states.Aborting) l ≡ false) s u; same = tt; posts = o }
+    by_test true u = record { happened = f; becomes = (p, s, subst (λ y. list_any (in_state states.Aborting) y ≡ true) s u); same = h; links = l; posts = o }
+    by_test false u = record { happened = f; becomes = subst (λ y. list_any (in_state states.Aborting) y ≡ false) s u; same = tt; links = tt; posts = o }
+
+above_without : (kind : Kind) (s : Option Superior) → coordinator_at kind (without_links s) ≡ coordinator_at kind s
+above_without kind None = refl
+above_without kinds.Volatile (Some s) = refl
+above_without kinds.Durable (Some s) = refl
+
+-- a link in another state leads where it led
+pub above_in : (kind own : Kind) (state : State) (s : Superior) → coordinator_at own (Some (link_in kind state s)) ≡ coordinator_at own (Some s)
+above_in kinds.Volatile kinds.Volatile state s = refl
+above_in kinds.Volatile kinds.Durable state s = refl
+above_in kinds.Durable kinds.Volatile state s = refl
+above_in kinds.Durable kinds.Durable state s = refl
+
+link_moved : (e : Event) (t : Transaction) (g : Moving Transaction) (kind own : Kind) (state : State) (s : Superior) → From e t g → g.item.superior ≡ Some s
+    → coordinator_at own (Some (link_in kind state s)) ≡ coordinator_at own t.superior
+link_moved e t g kind own state s h under = above_in kind own state s ∙ sym (ap (coordinator_at own) under) ∙ h.above own
 
 why_aborted : (how : How) → IsAbort how → WhyInitiator how notices.Aborted
 why_aborted How.Aborts h = h
@@ -201,7 +219,8 @@ abort_undoes e t m reason g h =
     posts (initiator_posts m.base g.item.id notices.Aborted g.item.completion)
     (send_each m notices.Rollback states.Aborting is_open (become x (posts (links_aborted m.base g.item.id reason g.item.superior) (effect (ending g.item endings.Aborted) g)))) in
     until_undone e t g.item.seats y (only_ends t g.item g.effects endings.Aborted h.same h.quiet) refl refl
-    (same_as t g.item y.item refl refl refl (none_without g.item.superior) (same_initiator states.None g.item.completion) h.same) (abort_posts e t m reason g h)
+    (same_as t g.item y.item refl refl refl (none_without g.item.superior) (same_initiator states.None g.item.completion) h.same)
+    (λ k. inl (above_without k g.item.superior ∙ h.above k)) (abort_posts e t m reason g h)
 
 pub aborts : (e : Event) (t : Transaction) (m : Moment) (reason : Reason) (g : Moving Transaction) → may_expire t.phase ≡ true → From e t g → Deed e t None (abort m reason g)
 aborts e t m reason g o h =
@@ -217,6 +236,7 @@ aborts e t m reason g o h =
       happened = u.happened;
       becomes = u.becomes;
       same = u.same;
+      links = u.links;
       posts = all_more (OnAbort e t) (IsPosted e t How.Aborts g.item.seats) (abort m reason g).posts (λ p k. k How.Aborts g.item.seats tt) u.posts;
     }
 
@@ -228,6 +248,10 @@ decided_same t m g h = same_as t g.item (decided m g).item refl refl refl refl (
 decided_ends : (t : Transaction) (m : Moment) (g : Moving Transaction) → IsSame t g.item → g.effects ≡ [] → (decided m g).effects ≡ ending t endings.Committed ∷ []
 unfolding decided
 decided_ends t m g h e = only_ends t g.item g.effects endings.Committed h e
+
+decided_links : (e : Event) (t : Transaction) (m : Moment) (g : Moving Transaction) → From e t g → (kind : Kind) → KeepsLink e t (decided m g).item kind
+unfolding decided
+decided_links e t m g h kind = inl (h.above kind)
 
 decided_left : (m : Moment) (g : Moving Transaction) → IsLeftIn Phase.Committing (told_to_commit g.item.seats) (Some (decided m g).item)
 unfolding decided
@@ -270,6 +294,7 @@ decides e t m g o root all h = by_test (list_any is_prepared_durable g.item.seat
       happened = decided_ends t m g h.same h.quiet;
       becomes = decided_left m g;
       same = decided_same t m g h.same;
+      links = decided_links e t m g h;
       posts = decided_posts e t m g How.Decides tt tt h;
     }
     by_test false f = record {
@@ -283,6 +308,7 @@ decides e t m g o root all h = by_test (list_any is_prepared_durable g.item.seat
       happened = decided_ends t m g h.same h.quiet;
       becomes = refl;
       same = tt;
+      links = tt;
       posts = decided_posts e t m g How.DecidesAlone tt tt h;
     }
 
@@ -319,6 +345,7 @@ votes e t m s superior g o under above all some h = record {
   happened = h.quiet;
   becomes = (refl, refl);
   same = same_as t g.item (voted m s g).item refl refl refl (sym (ap (λ x. is_none x) under)) refl h.same;
+  links = λ k. inl (link_moved e t g kinds.Durable k states.PreparedSuccess s h under);
   posts = upwards_all e t m g How.Votes kinds.Durable notices.Prepared s h under (inl refl);
 }
 
@@ -336,6 +363,7 @@ leaves e t m s superior g o under above all none h = record {
   happened = h.quiet;
   becomes = refl;
   same = tt;
+  links = tt;
   posts = upwards_all e t m g How.Leaves kinds.Durable notices.ReadOnly s h under refl;
 }
 
@@ -422,7 +450,8 @@ volatile_does e t m None g o under v h = go_durable_does e t m g o v h
 volatile_does e t m (Some s) g o under v h =
     let x : Transaction = record g.item { superior = Some (link_in kinds.Volatile states.None s); phase = Phase.Active } in
     either e t (is_state s.volatile.state states.Preparing) _ _
-    (λ f. idles e t x _ g.effects (same_as t g.item x refl refl refl (sym (ap (λ y. is_none y) under)) refl h.same) h.counted (inl (o, refl)) h.quiet
+    (λ f. idles e t x _ g.effects (same_as t g.item x refl refl refl (sym (ap (λ y. is_none y) under)) refl h.same)
+    (λ k. inl (link_moved e t g kinds.Volatile k states.None s h under)) h.counted (inl (o, refl)) h.quiet
     (upwards_all e t m g How.Idles kinds.Volatile notices.ReadOnly s h under (o, v)))
     (λ f. either e t (is_state s.durable.state states.Preparing) _ _ (λ k. go_durable_does e t m g o v h) (λ k. stays_so e t g h))
 
@@ -445,6 +474,7 @@ ends e t m g p left h = record {
   happened = h.quiet;
   becomes = refl;
   same = tt;
+  links = tt;
   posts = ended_all e t m g g.item.superior h refl;
 }
 
@@ -461,6 +491,7 @@ forgets e t at ps effects p a q o = record {
   happened = q;
   becomes = refl;
   same = tt;
+  links = tt;
   posts = o;
 }
 

@@ -213,6 +213,23 @@ abbrev pub IsSameIfLeft : Transaction → Option Transaction → Type 0
 IsSameIfLeft old None = Unit {0}
 IsSameIfLeft old (Some new) = IsSame old new
 
+-- a link knows its coordinator from the answer to its Register (WS-Coordination 1.2, section 3.2)
+pub record IsJoined (kind : Kind) (e : Event) (old new : Transaction) : Type 0 where
+  pub coordinator : Epr
+  pub message : Arrived
+  pub came : e ≡ events.Arrived message
+  pub target : message.target ≡ targets.Participant old.id kind
+  pub says : message.message ≡ messages.RegisterResponse coordinator
+  pub known : coordinator_at kind new.superior ≡ Some coordinator
+
+-- and keeps it
+abbrev pub KeepsLink : Event → Transaction → Transaction → Kind → Type 0
+KeepsLink e old new kind = (coordinator_at kind new.superior ≡ coordinator_at kind old.superior) ⊎ IsJoined kind e old new
+
+abbrev pub KeepsLinksIfLeft : Event → Transaction → Option Transaction → Type 0
+KeepsLinksIfLeft e old None = Unit {0}
+KeepsLinksIfLeft e old (Some new) = (kind : Kind) → KeepsLink e old new kind
+
 -- the deeds that abort, and those that commit
 abbrev pub IsAbort : How → Type 0
 IsAbort Aborts = Unit {0}
@@ -294,6 +311,7 @@ pub record Deed (e : Event) (t : Transaction) (entry : Option Record) (c : Chang
   pub happened : c.effects ≡ happens how t
   pub becomes : Becomes how t at c.item
   pub same : IsSameIfLeft t c.item
+  pub links : KeepsLinksIfLeft e t c.item
   pub posts : AllByRecursion (IsPosted e t how at) c.posts
 
 -- both branches of a decision: with its record, and where that is certainly absent
