@@ -1,5 +1,6 @@
 pub mod ActivityDeeds
 pub mod Branches
+pub mod Deeds
 pub mod Finished
 pub mod Journals
 pub mod LeafDeeds

@@ -1,6 +1,7 @@
 //! What leads to agreement.
 
 ghost use Rattle.agreement.specs.ActivityDeeds.{ActivitiesDo, ActivityStates};
+ghost use Rattle.agreement.specs.Deeds.{TransactionsDo};
 ghost use Rattle.agreement.specs.Finished.{FinishesAll};
 ghost use Rattle.agreement.specs.Journals.{JournalsLive};
 ghost use Rattle.agreement.specs.LeafDeeds.{LeafStates, LeavesDo};
@@ -50,4 +51,10 @@ pub fn journals_live()
 #[tactic(auto, using(crate::proofs::Recoveries::recovers_each))]
 pub fn recovers_each()
     ensures { RecoversEach }
+/// Whatever moves a transaction, where its record landed and where it didn't, does one deed of a short table: it stays
+/// undecided or in its phase, aborts while it is undecided, votes or decides behind every answer, ends as its superior said
+/// behind its vote, or is over.
+#[tactic(auto, using(crate::proofs::Acting::transactions_do))]
+pub fn transactions_do()
+    ensures { TransactionsDo }
 {}
