@@ -51,6 +51,8 @@ pub fn journals_live()
 #[tactic(auto, using(crate::proofs::Recoveries::recovers_each))]
 pub fn recovers_each()
     ensures { RecoversEach }
+{}
+
 /// Whatever moves a transaction, where its record landed and where it didn't, does one deed of a short table: it stays
 /// undecided or in its phase, aborts while it is undecided, votes or decides behind every answer, ends as its superior said
 /// behind its vote, or is over.
