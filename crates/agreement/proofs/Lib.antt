@@ -3,3 +3,4 @@ pub mod Doing
 pub mod Ending
 pub mod Finishing
 pub mod Posted
+pub mod Stepping

@@ -1,6 +1,7 @@
 //! What leads to agreement.
 
 ghost use Rattle.agreement.specs.Deeds.{TransactionsDo};
+ghost use Rattle.agreement.specs.Done.{StepsDo};
 ghost use Rattle.agreement.specs.Finished.{FinishesAll};
 
 /// In every run a transaction that aborts asks nobody any more, one that is decided has no initiator that may still ask, and
@@ -16,4 +17,11 @@ pub fn finishes_all()
 #[tactic(auto, using(crate::proofs::Acting::transactions_do))]
 pub fn transactions_do()
     ensures { TransactionsDo }
+{}
+
+/// Each step of a book does one such deed to one transaction, is undone since its record is absent, takes a registration,
+/// makes a transaction, or leaves the transactions as they were.
+#[tactic(auto, using(crate::proofs::Stepping::steps_do))]
+pub fn steps_do()
+    ensures { StepsDo }
 {}
