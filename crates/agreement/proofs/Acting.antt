@@ -559,6 +559,14 @@ registered_on s Phase.Registering = by_test (is_state s.volatile.state states.Re
 registered_on s Phase.Active = inr refl
 registered_on s other = inr refl
 
+one_superior : (t : Transaction) (s z : Superior) → t.superior ≡ Some s → t.superior ≡ Some z → s ≡ z
+one_superior t s z u v = let same : Some s ≡ Some z = sym u ∙ v in cc
+
+only_registering : (state : State) → is_state state states.Registering ≡ true → state ≡ states.Registering
+only_registering states.Registering e = refl
+only_registering states.None e = absurd cc
+only_registering other e = absurd cc
+
 joins : (e : Event) (kind own : Kind) (state : State) (coordinator : Epr) (s : Superior) (t x : Transaction) → t.superior ≡ Some s
     → x.superior ≡ Some (set_link kind (record { state = state; coordinator = Some coordinator }) s)
     → (coordinator_at kind x.superior ≡ Some coordinator → IsJoined kind e t x) → KeepsLink e t x own
@@ -568,15 +576,17 @@ joins e kinds.Volatile kinds.Durable state coordinator s t x u v f = inl (ap (co
 joins e kinds.Durable kinds.Volatile state coordinator s t x u v f = inl (ap (coordinator_at kinds.Volatile) v ∙ sym (ap (coordinator_at kinds.Volatile) u))
 
 link_registered_does : (e : Event) (m : Moment) (relates : Option (List ℕ)) (coordinator : Epr) (kind : Kind) (s : Superior) (t : Transaction) → t.superior ≡ Some s
-    → ((x : Transaction) → coordinator_at kind x.superior ≡ Some coordinator → IsJoined kind e t x)
+    → ((x : Transaction) → (link_of kind s).state ≡ states.Registering → coordinator_at kind x.superior ≡ Some coordinator → IsJoined kind e t x)
     → Done e t (link_registered m relates coordinator kind s t)
 unfolding link_registered
 link_registered_does e m relates coordinator kind s t u joined =
     let after : Superior = set_link kind (record { state = states.Active; coordinator = Some coordinator }) s in
     let x : Transaction = record t { superior = Some after; phase = registered after t.phase } in
-    either e t (is_state (link_of kind s).state states.Registering && relates_to relates (register_id m.base (targets.Participant t.id kind))) _ _
+    let own : Bool = relates_to relates (register_id m.base (targets.Participant t.id kind)) in
+    either e t (is_state (link_of kind s).state states.Registering && own) _ _
     (λ f. idles e t x [] [] (same_as t t x refl refl refl (sym (ap (λ y. is_none y) u)) refl (itself t))
-    (λ k. joins e kind k states.Active coordinator s t x u refl (joined x)) (count_same e t t.seats) (registered_on after t.phase) refl tt) (λ f. ignores e t)
+    (λ k. joins e kind k states.Active coordinator s t x u refl
+    (joined x (only_registering (link_of kind s).state (first_true (is_state (link_of kind s).state states.Registering) own f)))) (count_same e t t.seats) (registered_on after t.phase) refl tt) (λ f. ignores e t)
 
 registering : (state : State) → is_state state states.Registering ≡ true → MayAbort state
 registering states.Registering e = tt
@@ -601,7 +611,15 @@ link_does e m a kind t s (messages.Notice n) came at says u h =
     (record { message = a; came = came; target = at; says = says }) (link_table kind (link_of kind s).state n) h
 link_does e m a kind t s (messages.RegisterResponse coordinator) came at says u h =
     link_registered_does e m a.relates coordinator kind s t u
-    (λ y k. record { coordinator = coordinator; message = a; came = came; target = at; says = says; known = k })
+    (λ y w k. record {
+      coordinator = coordinator;
+      message = a;
+      came = came;
+      target = at;
+      says = says;
+      waited = λ z v. let same : s ≡ z = one_superior t s z u v in subst (λ l. (link_of kind l).state ≡ states.Registering) same w;
+      known = k;
+    })
 link_does e m a kind t s (messages.Fault name) came at says u h = link_fault_does e m a.relates kind s t u h
 link_does e m a kind t s other came at says u h = ignores e t
 
@@ -812,6 +830,7 @@ still_linked e t x s kind u (inr k) = inr (record {
   came = k.came;
   target = k.target;
   says = k.says;
+  waited = k.waited;
   known = above_answered kind s ∙ sym (ap (coordinator_at kind) u) ∙ k.known;
 })
 

@@ -221,6 +221,7 @@ pub record IsJoined (kind : Kind) (e : Event) (old new : Transaction) : Type 0 w
   pub target : message.target ≡ targets.Participant old.id kind
   pub says : message.message ≡ messages.RegisterResponse coordinator
   pub known : coordinator_at kind new.superior ≡ Some coordinator
+  pub waited : (s : Superior) → old.superior ≡ Some s → (link_of kind s).state ≡ states.Registering
 
 -- and keeps it
 abbrev pub KeepsLink : Event → Transaction → Transaction → Kind → Type 0
