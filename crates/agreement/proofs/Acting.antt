@@ -47,7 +47,7 @@ use Rattle.model_laws.proofs.Deciding.{all_find, all_join, all_more, either_left
 use Rattle.model_laws.proofs.Linking.{Linked, known}
 use Rattle.model_laws.proofs.Phasing.{behind_moved, is_unanswered}
 use Rattle.agreement.specs.Finished.{AreFinished, IsFinished}
-use Rattle.agreement.specs.Deeds.{How, AreCounted, Counted, IsCounted, IsNoNotice, IsPosted, IsSameIfLeft, IsJoined, KeepsLink, KeepsLinksIfLeft, IsWhy, ParticipantSaid, WhyLeft, WhySuperior, from_left_link, has_said, is_no_notice, is_still, to_asking, to_left_seat, to_seat, to_superior, AllAnswered, Becomes, Deed, KeepsOn, SuperiorSaid, TransactionsDo, coordinator_at, initiator}
+use Rattle.agreement.specs.Deeds.{How, AreCounted, Counted, InitiatorAsked, IsCounted, IsNoNotice, IsPosted, IsSameIfLeft, IsJoined, KeepsLink, KeepsLinksIfLeft, IsWhy, ParticipantSaid, WhyLeft, WhySuperior, from_left_link, has_said, is_no_notice, is_still, to_asking, to_left_seat, to_seat, to_superior, AllAnswered, Becomes, Deed, KeepsOn, SuperiorSaid, TransactionsDo, coordinator_at, initiator}
 use Rattle.agreement.proofs.Ending.{kept_rise}
 use Rattle.agreement.proofs.Posted.{initiator_notice_of, link_notice_of, notices_all, seat_notice_of, to_each_all}
 use Rattle.agreement.proofs.Doing.{Always, Done, From, OnAbort, Undone, above_in, abort_undoes, aborts, advance_in_does, count_same, either, forgets, go_volatile_does, idles, itself, only_prepared, same_as}
@@ -624,17 +624,17 @@ link_does e m a kind t s (messages.Fault name) came at says u h = link_fault_doe
 link_does e m a kind t s other came at says u h = ignores e t
 
 -- the initiator completes, or aborts, only while its seat is Active
-abbrev CompletionActs : State → Act → Type 0
-CompletionActs state acts.SendCommitted = state ≡ states.Done
-CompletionActs state acts.Complete = state ≡ states.Active
-CompletionActs state acts.AbortAndSendAborted = state ≡ states.Active
-CompletionActs state other = Unit {0}
+abbrev CompletionActs : State → Notice → Act → Type 0
+CompletionActs state n acts.SendCommitted = (state ≡ states.Done) × (n ≡ notices.Commit)
+CompletionActs state n acts.Complete = state ≡ states.Active
+CompletionActs state n acts.AbortAndSendAborted = state ≡ states.Active
+CompletionActs state n other = Unit {0}
 
-abbrev CompletionCell : State → Option Cell → Type 0
-CompletionCell state None = Unit {0}
-CompletionCell state (Some c) = CompletionActs state c.act
+abbrev CompletionCell : State → Notice → Option Cell → Type 0
+CompletionCell state n None = Unit {0}
+CompletionCell state n (Some c) = CompletionActs state n c.act
 
-completion_table : (state : State) (n : Notice) → CompletionCell state (completion_of state n)
+completion_table : (state : State) (n : Notice) → CompletionCell state n (completion_of state n)
 completion_table states.None notices.Commit = tt
 completion_table states.None notices.Rollback = tt
 completion_table states.None other = tt
@@ -644,7 +644,7 @@ completion_table states.Active other = tt
 completion_table states.Completing notices.Commit = tt
 completion_table states.Completing notices.Rollback = tt
 completion_table states.Completing other = tt
-completion_table states.Done notices.Commit = refl
+completion_table states.Done notices.Commit = (refl, refl)
 completion_table states.Done notices.Rollback = tt
 completion_table states.Done other = tt
 completion_table states.Registering notices.Commit = tt
@@ -671,27 +671,31 @@ completing e t c u h = record {
   posts = tt;
 }
 
-completion_act_does : (e : Event) (m : Moment) (from : Option Epr) (i : Option (List ℕ)) (c : Completion) (t : Transaction) (act : Act) → t.completion ≡ Some c → CompletionActs c.state act
-    → Standing t → Done e t (completion_act m from i c t act)
+completion_act_does : (e : Event) (m : Moment) (from : Option Epr) (i : Option (List ℕ)) (c : Completion) (t : Transaction) (n : Notice) (act : Act) → t.completion ≡ Some c
+    → (n ≡ notices.Commit → (to : Epr) → from ≡ Some to → InitiatorAsked e t to) → CompletionActs c.state n act → Standing t → Done e t (completion_act m from i c t act)
 unfolding completion_act
-completion_act_does e m from i c t acts.SendCommitted u k h =
-    stays_same e t _ (to_each_all (IsPosted e t How.Idles t.seats) from _ (λ to f. to_asking c to u k (initiator_notice_of m.base t.id t.id to notices.Committed refl)))
-completion_act_does e m from i c t acts.FaultUnknownTransaction u k h = stays_same e t _ (is_no_notice tt, tt)
-completion_act_does e m from i c t acts.FaultInvalidState u k h = stays_same e t _ (is_no_notice tt, tt)
-completion_act_does e m from i c t acts.Complete u k h = go_volatile_does e t m _ (h.finished.initiator c u k) (completing e t c u h)
-completion_act_does e m from i c t acts.AbortAndSendAborted u k h = aborts e t m Alone (begin t) (h.finished.initiator c u k) (begins e t [] tt h)
-completion_act_does e m from i c t other u k h = ignores e t
+completion_act_does e m from i c t n acts.SendCommitted u asked (k, l) h =
+    stays_same e t _
+    (to_each_all (IsPosted e t How.Idles t.seats) from _ (λ to f. to_asking c to u k (asked l to f) (initiator_notice_of m.base t.id t.id to notices.Committed refl)))
+completion_act_does e m from i c t n acts.FaultUnknownTransaction u asked k h = stays_same e t _ (is_no_notice tt, tt)
+completion_act_does e m from i c t n acts.FaultInvalidState u asked k h = stays_same e t _ (is_no_notice tt, tt)
+completion_act_does e m from i c t n acts.Complete u asked k h = go_volatile_does e t m _ (h.finished.initiator c u k) (completing e t c u h)
+completion_act_does e m from i c t n acts.AbortAndSendAborted u asked k h = aborts e t m Alone (begin t) (h.finished.initiator c u k) (begins e t [] tt h)
+completion_act_does e m from i c t n other u asked k h = ignores e t
 
-completion_notice_does : (e : Event) (m : Moment) (from : Option Epr) (i : Option (List ℕ)) (c : Completion) (t : Transaction) (cell : Option Cell) → t.completion ≡ Some c
-    → CompletionCell c.state cell → Standing t → Done e t (completion_notice m from i c t cell)
+completion_notice_does : (e : Event) (m : Moment) (from : Option Epr) (i : Option (List ℕ)) (c : Completion) (t : Transaction) (n : Notice) (cell : Option Cell) → t.completion ≡ Some c
+    → (n ≡ notices.Commit → (to : Epr) → from ≡ Some to → InitiatorAsked e t to) → CompletionCell c.state n cell → Standing t → Done e t (completion_notice m from i c t cell)
 unfolding completion_notice
-completion_notice_does e m from i c t None u k h = ignores e t
-completion_notice_does e m from i c t (Some cell) u k h = completion_act_does e m from i c t cell.act u k h
+completion_notice_does e m from i c t n None u asked k h = ignores e t
+completion_notice_does e m from i c t n (Some cell) u asked k h = completion_act_does e m from i c t n cell.act u asked k h
 
-completion_does : (e : Event) (m : Moment) (a : Arrived) (t : Transaction) (c : Completion) (x : Message) → t.completion ≡ Some c → Standing t → Done e t (on_completion m a t c x)
+completion_does : (e : Event) (m : Moment) (a : Arrived) (t : Transaction) (c : Completion) (x : Message) → e ≡ events.Arrived a → a.target ≡ targets.Completion t.id → a.message ≡ x
+    → t.completion ≡ Some c → Standing t → Done e t (on_completion m a t c x)
 unfolding on_completion
-completion_does e m a t c (messages.Notice n) u h = completion_notice_does e m a.from a.id c t (completion_of c.state n) u (completion_table c.state n) h
-completion_does e m a t c other u h = ignores e t
+completion_does e m a t c (messages.Notice n) came at says u h =
+    completion_notice_does e m a.from a.id c t n (completion_of c.state n) u
+    (λ k to f. record { message = a; came = came; target = at; says = says ∙ ap (λ y. messages.Notice y) k; from = f }) (completion_table c.state n) h
+completion_does e m a t c other came at says u h = ignores e t
 
 -- what is due
 abbrev DueSays : Transaction → Reached → Type 0
@@ -878,7 +882,7 @@ moved_does : (b : Book) (e : Event) (now : ℕ) (t : Transaction) (d : Decision 
 moved_does b e now t d h (at_seat a s came why is) =
     subst (Done e t) (sym is) (seat_does e (moment_of b now) a t s a.message (λ n says. at_its_seat e a t s n came why says h) h)
 moved_does b e now t d h (at_link a kind s came why under is) = subst (Done e t) (sym is) (link_does e (moment_of b now) a kind t s a.message came why refl under h)
-moved_does b e now t d h (at_completion a c came why there is) = subst (Done e t) (sym is) (completion_does e (moment_of b now) a t c a.message there h)
+moved_does b e now t d h (at_completion a c came why there is) = subst (Done e t) (sym is) (completion_does e (moment_of b now) a t c a.message came why refl there h)
 moved_does b e now t d h (when_due came is) = subst (Done e t) (sym is) (due_does e (moment_of b now) t _ (due_says (moment_of b now) t) h)
 
 does : (b : Book) (e : Event) (now : ℕ) (id : Numbers) (t : Transaction) (d : Decision Transaction) → IsInPhase b → AreFinished b → transaction_at b id ≡ Some t → MovesTransaction b e now t d

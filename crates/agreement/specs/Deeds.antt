@@ -282,6 +282,14 @@ WhyInitiator DecidesAlone notices.Committed = Unit {0}
 WhyInitiator how notices.Aborted = IsAbort how
 WhyInitiator how other = ⊥
 
+-- the initiator's Commit, with this From
+pub record InitiatorAsked (e : Event) (t : Transaction) (to : Epr) : Type 0 where
+  pub message : Arrived
+  pub came : e ≡ events.Arrived message
+  pub target : message.target ≡ targets.Completion t.id
+  pub says : message.message ≡ messages.Notice notices.Commit
+  pub from : message.from ≡ Some to
+
 -- Why a message is posted: it is no notification, or it is one of these.
 pub data IsPosted (e : Event) (t : Transaction) (how : How) (at : List Enlistment) (p : Post) : Type 0 where
   is_no_notice : IsNoNotice p.message → IsPosted e t how at p
@@ -297,7 +305,7 @@ pub data IsPosted (e : Event) (t : Transaction) (how : How) (at : List Enlistmen
       → IsPosted e t how at p
   to_initiator : (n : Notice) (to : Epr) → initiator t.completion ≡ Some to → WhyInitiator how n → IsNotice (Some (targets.Completion t.id)) to n p → IsPosted e t how at p
   -- an initiator that asks again hears of the commit at its message's From
-  to_asking : (c : Completion) (to : Epr) → t.completion ≡ Some c → c.state ≡ states.Done → IsNotice (Some (targets.Completion t.id)) to notices.Committed p → IsPosted e t how at p
+  to_asking : (c : Completion) (to : Epr) → t.completion ≡ Some c → c.state ≡ states.Done → InitiatorAsked e t to → IsNotice (Some (targets.Completion t.id)) to notices.Committed p → IsPosted e t how at p
 
 -- One step of a transaction: this is recorded, and this is left of it, posted and happened.
 pub record Deed (e : Event) (t : Transaction) (entry : Option Record) (c : Change Transaction) : Type 0 where
