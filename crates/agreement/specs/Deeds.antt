@@ -323,6 +323,34 @@ pub record Deed (e : Event) (t : Transaction) (entry : Option Record) (c : Chang
   pub links : KeepsLinksIfLeft e t c.item
   pub posts : AllByRecursion (IsPosted e t how at) c.posts
 
+-- Why a seat is in this state behind the step: who is told to commit has voted Prepared, and who is told to roll back is
+-- told so by an abort.
+abbrev pub WhyAfter : Event → Transaction → How → Enlistment → State → Type 0
+WhyAfter e t how old states.Active = old.state ≡ states.Active
+WhyAfter e t how old states.Preparing = IsUnanswered old.state
+WhyAfter e t how old states.Prepared = IsWhy e t old states.Prepared
+WhyAfter e t how old states.Committing = (old.state ≡ states.Committing) ⊎ (IsCommit how × IsWhy e t old states.Prepared)
+WhyAfter e t how old states.Aborting = (old.state ≡ states.Aborting) ⊎ IsAbort how
+WhyAfter e t how old states.None = IsWhy e t old states.None
+WhyAfter e t how old other = old.state ≡ other
+
+pub record IsSeatAfter (e : Event) (t : Transaction) (how : How) (old new : Enlistment) : Type 0 where
+  pub seat : accepted_as new ≡ accepted_as old
+  pub why : WhyAfter e t how old new.state
+
+abbrev pub AreSeatsAfter : Event → Transaction → How → List Enlistment → List Enlistment → Type 0
+AreSeatsAfter e t how [] [] = Unit {0}
+AreSeatsAfter e t how (o ∷ os) (n ∷ ns) = IsSeatAfter e t how o n × AreSeatsAfter e t how os ns
+AreSeatsAfter e t how olds news = ⊥
+
+abbrev pub AreSeatsIfLeft : Event → Transaction → How → Option Transaction → Type 0
+AreSeatsIfLeft e t how None = Unit {0}
+AreSeatsIfLeft e t how (Some new) = AreSeatsAfter e t how t.seats new.seats
+
+-- Behind each deed every seat is its participant's still, and its state has its reason.
+pub record DeedsMoveSeats : Type 0 where
+  pub seats : (e : Event) (t : Transaction) (entry : Option Record) (c : Change Transaction) (d : Deed e t entry c) → AreSeatsIfLeft e t d.how c.item
+
 -- both branches of a decision: with its record, and where that is certainly absent
 abbrev pub Deeds : {A : Type 0} → (Option Record → Change A → Type 0) → Decision A → Type 0
 Deeds P (Goes c) = P None c

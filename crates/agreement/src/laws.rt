@@ -1,6 +1,6 @@
 //! What leads to agreement.
 
-ghost use Rattle.agreement.specs.Deeds.{TransactionsDo};
+ghost use Rattle.agreement.specs.Deeds.{DeedsMoveSeats, TransactionsDo};
 ghost use Rattle.agreement.specs.Done.{StepsDo};
 ghost use Rattle.agreement.specs.Finished.{FinishesAll};
 
@@ -24,4 +24,11 @@ pub fn transactions_do()
 #[tactic(auto, using(crate::proofs::Stepping::steps_do))]
 pub fn steps_do()
     ensures { StepsDo }
+{}
+
+/// Behind each deed every seat is its participant's still, and its state has its reason: it was so, its participant said
+/// so, or the deed committed or aborted.
+#[tactic(auto, using(crate::proofs::Seats::deeds_move_seats))]
+pub fn deeds_move_seats()
+    ensures { DeedsMoveSeats }
 {}
