@@ -1,6 +1,6 @@
 -- From the seats before a deed to those behind it.
 use Rattle.std.specs.Prelude.{List, [], ◌∷◌, Option, Some, None, Bool, true, false, ◌≡◌, refl, if◌then◌else◌, ◌⊎◌}
-use Rattle.std.proofs.Common.{sym, subst, inl, inr, ◌∙◌}
+use Rattle.std.proofs.Common.{sym, subst, inl, inr}
 use Rattle.at_base.specs.declared.event.Event.{Event}
 use Rattle.at_base.specs.declared.notice.Notice.{Notice}
 use Rattle.at_base.specs.declared.notice.Notice.TheVariants as notices
@@ -9,7 +9,7 @@ use Rattle.at_tables.specs.declared.cells.State.TheVariants as states
 use Rattle.at_model.specs.Book.{Enlistment, Transaction}
 use Rattle.at_model.specs.Seats.{in_state, is_open}
 use Rattle.model_laws.specs.Behind.{IsUnanswered}
-use Rattle.agreement.specs.Deeds.{How, AreCounted, AreSeatsAfter, AreSeatsIfLeft, Becomes, Counted, DeedsMoveSeats, IsAbort, IsCommit, IsCounted, IsLeftIn, IsLeftOn, IsRolledBack, IsSeatAfter, IsWhy, WhyAfter, has_said, is_asked, is_still, rolled_back, told_to_commit}
+use Rattle.agreement.specs.Deeds.{How, AreCounted, AreSeatsAfter, AreSeatsIfLeft, Becomes, Counted, DeedsMoveSeats, IsAbort, IsCommit, IsCounted, IsSeatAfter, IsWhy, WhyAfter, has_said, is_asked, is_still, rolled_back, told_to_commit}
 use Rattle.agreement.proofs.Doing.{only_prepared}
 
 -- a message puts a seat into Prepared or None
