@@ -25,7 +25,7 @@ use Rattle.model_laws.specs.Laws.{HasLeafId}
 use Rattle.model_laws.proofs.Shaping.{steps_touch_one}
 use Rattle.model_laws.proofs.Telling.{IsOther, Other, leaf_moved_other, activity_moved_other}
 use Rattle.agreement.specs.Deeds.{Deed, Deeds}
-use Rattle.agreement.specs.Done.{Done, IsNoRoot, IsOfNoTransaction, StepsDo, standing, did, undone, registered, made, elsewhere}
+use Rattle.agreement.specs.Done.{Done, IsNoEnd, IsOfNoTransaction, StepsDo, standing, did, undone, registered, made, elsewhere}
 use Rattle.agreement.specs.Finished.{AreFinished}
 use Rattle.agreement.proofs.Acting.{transactions_do}
 
@@ -46,20 +46,21 @@ deeds_done b e now true t answer (Records r c (Some d)) s o (h, k) = did t c ans
 deeds_done b e now false t answer (Records r c (Some d)) s o (h, k) = did t d answer s k o refl refl refl
 
 -- leaves and activities
-no_root : (es : List Effect) → AllByRecursion IsOther es → AllByRecursion IsNoRoot es
-no_root es h = all_more IsOther IsNoRoot es one h
+no_end : (es : List Effect) → AllByRecursion IsOther es → AllByRecursion IsNoEnd es
+no_end es h = all_more IsOther IsNoEnd es one h
   where
-    one : (x : Effect) → IsOther x → IsNoRoot x
+    one : (x : Effect) → IsOther x → IsNoEnd x
     one (effects.Root id what) h = h
+    one (effects.Sub id what) h = h
     one other h = tt
 
 others_done : {A : Type 0} (P : Option A → Type 0) (Q : Record → Option A → Type 0) (b : Book) (e : Event) (now : ℕ) (landed : Bool) (put : Option A → Book) (answer : List Out) (d : Decision A)
     → ((x : Option A) → (put x).transactions ≡ b.transactions) → ((r : Record) (x : Option A) → Q r x → IsOfNoTransaction (Some r)) → DecisionHas P Q d → Other d
     → Does b e now landed (plan_of b put answer d)
-others_done P Q b e now landed put answer (Goes c) f g h k = plain_done b e now landed _ (elsewhere tt (f c.item) (no_root c.effects k))
-others_done P Q b e now true put answer (Records r c absent) f g h k = elsewhere (g r c.item h.entry) (f c.item) (no_root c.effects k.landed)
+others_done P Q b e now landed put answer (Goes c) f g h k = plain_done b e now landed _ (elsewhere tt (f c.item) (no_end c.effects k))
+others_done P Q b e now true put answer (Records r c absent) f g h k = elsewhere (g r c.item h.entry) (f c.item) (no_end c.effects k.landed)
 others_done P Q b e now false put answer (Records r c None) f g h k = elsewhere tt refl tt
-others_done P Q b e now false put answer (Records r c (Some d)) f g h k = elsewhere tt (f d.item) (no_root d.effects k.otherwise)
+others_done P Q b e now false put answer (Records r c (Some d)) f g h k = elsewhere tt (f d.item) (no_end d.effects k.otherwise)
 
 of_leaf : (id : Numbers) (r : Record) → IsOfLeaf id r → IsOfNoTransaction (Some r)
 of_leaf id (records.LeafPrepared i coordinator key value) h = tt

@@ -30,10 +30,11 @@ abbrev pub standing : Bool → Option Record → Option Record
 standing true entry = entry
 standing false entry = None
 
--- no root ends
-abbrev pub IsNoRoot : Effect → Type 0
-IsNoRoot (effects.Root id what) = ⊥
-IsNoRoot other = Unit {0}
+-- no transaction ends
+abbrev pub IsNoEnd : Effect → Type 0
+IsNoEnd (effects.Root id what) = ⊥
+IsNoEnd (effects.Sub id what) = ⊥
+IsNoEnd other = Unit {0}
 
 -- nothing of a transaction is recorded
 abbrev pub IsOfNoTransaction : Option Record → Type 0
@@ -59,7 +60,7 @@ pub data Done (b : Book) (e : Event) (now : ℕ) (entry : Option Record) (o : Ou
   made : (t : Transaction) (a : Arrived) (c : Create) (id : Numbers) → e ≡ events.Arrived a → a.target ≡ targets.Activation → a.message ≡ messages.Create c → next_id b ≡ Some id
       → (on_create (moment_of b now) (length b.transactions) a c (Some id)).transaction ≡ Some t → entry ≡ None → o.book.transactions ≡ b.transactions ++ t ∷ []
       → o.outs ≡ (on_create (moment_of b now) (length b.transactions) a c (Some id)).outs → o.effects ≡ [] → Done b e now entry o
-  elsewhere : IsOfNoTransaction entry → o.book.transactions ≡ b.transactions → AllByRecursion IsNoRoot o.effects → Done b e now entry o
+  elsewhere : IsOfNoTransaction entry → o.book.transactions ≡ b.transactions → AllByRecursion IsNoEnd o.effects → Done b e now entry o
 
 -- So is each step, where its record landed and where it didn't.
 pub record StepsDo : Type 0 where

@@ -1,4 +1,4 @@
--- What happens at a leaf and at an activity is no root's end.
+-- What happens at a leaf and at an activity is no transaction's end.
 use Rattle.std.specs.Prelude.{ℕ, List, Option, Some, None, Bool, if◌then◌else◌}
 use Rattle.at_base.specs.declared.epr.Epr.{Epr}
 use Rattle.at_base.specs.declared.notice.Kind.{Kind}
@@ -40,6 +40,7 @@ use Rattle.model_laws.proofs.Deciding.{DecisionSays, either_says, either_left}
 
 abbrev pub IsOther : Effect → Type 0
 IsOther (effects.Root id what) = ⊥
+IsOther (effects.Sub id what) = ⊥
 IsOther other = Unit {0}
 
 abbrev pub Tells : {A : Type 0} → Change A → Type 0
