@@ -253,8 +253,8 @@ abbrev pub IsNoNotice : Message → Type 0
 IsNoNotice (messages.Notice n) = ⊥
 IsNoNotice other = Unit {0}
 
--- Why a participant is notified. Commit goes to who has voted Prepared, where this step commits; and whoever has not
--- answered is asked again.
+-- Why a participant is notified: it has not answered, this step commits and it has voted Prepared, this step aborts, or it is
+-- told the outcome again.
 abbrev pub WhySeat : Event → Transaction → How → Enlistment → Notice → Type 0
 WhySeat e t how s notices.Prepare = IsUnanswered s.state
 WhySeat e t how s notices.Commit = (s.state ≡ states.Committing) ⊎ (IsCommit how × IsWhy e t s states.Prepared)
@@ -294,7 +294,7 @@ pub record InitiatorAsked (e : Event) (t : Transaction) (to : Epr) : Type 0 wher
 pub data IsPosted (e : Event) (t : Transaction) (how : How) (at : List Enlistment) (p : Post) : Type 0 where
   is_no_notice : IsNoNotice p.message → IsPosted e t how at p
   to_seat : (s : Enlistment) (n : Notice) → IsIn s t.seats → WhySeat e t how s n → IsNotice (Some (seat_target t.id s)) s.participant n p → IsPosted e t how at p
-  -- abort is presumed (section 3.3.4)
+  -- abort is presumed (WS-AtomicTransaction 1.2, section 3.3.4)
   to_left_seat : (s : Enlistment) → IsIn s t.seats → s.kind ≡ kinds.Durable → s.state ≡ states.None → ParticipantSaid notices.Prepared e t s → IsNotice None s.participant notices.Rollback p
       → IsPosted e t how at p
   to_superior : (kind : Kind) (n : Notice) (to : Epr) → coordinator_at kind t.superior ≡ Some to → WhySuperior t how at kind n → IsNotice (Some (targets.Participant t.id kind)) to n p
