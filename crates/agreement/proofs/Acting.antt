@@ -47,7 +47,8 @@ use Rattle.model_laws.proofs.Deciding.{all_find, all_join, all_more, either_left
 use Rattle.model_laws.proofs.Linking.{Linked, known}
 use Rattle.model_laws.proofs.Phasing.{behind_moved, is_unanswered}
 use Rattle.agreement.specs.Finished.{AreFinished, IsFinished}
-use Rattle.agreement.specs.Deeds.{How, AreCounted, Counted, IsCounted, IsNoNotice, IsPosted, IsSameIfLeft, IsJoined, KeepsLink, KeepsLinksIfLeft, IsWhy, ParticipantSaid, WhyLeft, WhySuperior, from_left_link, has_said, is_no_notice, is_still, to_asking, to_left_seat, to_seat, to_superior, AllAnswered, Becomes, Deed, KeepsOn, SuperiorSaid, TransactionsDo, coordinator_at, initiator}
+use Rattle.agreement.specs.Branches.{IsNoNotice}
+use Rattle.agreement.specs.Deeds.{How, AreCounted, Counted, InitiatorAsked, IsCounted, IsPosted, IsSameIfLeft, IsJoined, KeepsLink, KeepsLinksIfLeft, IsWhy, ParticipantSaid, WhyLeft, WhySuperior, from_left_link, has_said, is_no_notice, is_still, to_asking, to_left_seat, to_seat, to_superior, AllAnswered, Becomes, Deed, KeepsOn, SuperiorSaid, TransactionsDo, coordinator_at, initiator}
 use Rattle.agreement.proofs.Ending.{kept_rise}
 use Rattle.agreement.proofs.Posted.{initiator_notice_of, link_notice_of, notices_all, seat_notice_of, to_each_all}
 use Rattle.agreement.proofs.Doing.{Always, Done, From, OnAbort, Undone, above_in, abort_undoes, aborts, advance_in_does, count_same, either, forgets, go_volatile_does, idles, itself, only_prepared, same_as}
@@ -559,6 +560,14 @@ registered_on s Phase.Registering = by_test (is_state s.volatile.state states.Re
 registered_on s Phase.Active = inr refl
 registered_on s other = inr refl
 
+one_superior : (t : Transaction) (s z : Superior) → t.superior ≡ Some s → t.superior ≡ Some z → s ≡ z
+one_superior t s z u v = let same : Some s ≡ Some z = sym u ∙ v in cc
+
+only_registering : (state : State) → is_state state states.Registering ≡ true → state ≡ states.Registering
+only_registering states.Registering e = refl
+only_registering states.None e = absurd cc
+only_registering other e = absurd cc
+
 joins : (e : Event) (kind own : Kind) (state : State) (coordinator : Epr) (s : Superior) (t x : Transaction) → t.superior ≡ Some s
     → x.superior ≡ Some (set_link kind (record { state = state; coordinator = Some coordinator }) s)
     → (coordinator_at kind x.superior ≡ Some coordinator → IsJoined kind e t x) → KeepsLink e t x own
@@ -568,15 +577,17 @@ joins e kinds.Volatile kinds.Durable state coordinator s t x u v f = inl (ap (co
 joins e kinds.Durable kinds.Volatile state coordinator s t x u v f = inl (ap (coordinator_at kinds.Volatile) v ∙ sym (ap (coordinator_at kinds.Volatile) u))
 
 link_registered_does : (e : Event) (m : Moment) (relates : Option (List ℕ)) (coordinator : Epr) (kind : Kind) (s : Superior) (t : Transaction) → t.superior ≡ Some s
-    → ((x : Transaction) → coordinator_at kind x.superior ≡ Some coordinator → IsJoined kind e t x)
+    → ((x : Transaction) → (link_of kind s).state ≡ states.Registering → coordinator_at kind x.superior ≡ Some coordinator → IsJoined kind e t x)
     → Done e t (link_registered m relates coordinator kind s t)
 unfolding link_registered
 link_registered_does e m relates coordinator kind s t u joined =
     let after : Superior = set_link kind (record { state = states.Active; coordinator = Some coordinator }) s in
     let x : Transaction = record t { superior = Some after; phase = registered after t.phase } in
-    either e t (is_state (link_of kind s).state states.Registering && relates_to relates (register_id m.base (targets.Participant t.id kind))) _ _
+    let own : Bool = relates_to relates (register_id m.base (targets.Participant t.id kind)) in
+    either e t (is_state (link_of kind s).state states.Registering && own) _ _
     (λ f. idles e t x [] [] (same_as t t x refl refl refl (sym (ap (λ y. is_none y) u)) refl (itself t))
-    (λ k. joins e kind k states.Active coordinator s t x u refl (joined x)) (count_same e t t.seats) (registered_on after t.phase) refl tt) (λ f. ignores e t)
+    (λ k. joins e kind k states.Active coordinator s t x u refl
+    (joined x (only_registering (link_of kind s).state (first_true (is_state (link_of kind s).state states.Registering) own f)))) (count_same e t t.seats) (registered_on after t.phase) refl tt) (λ f. ignores e t)
 
 registering : (state : State) → is_state state states.Registering ≡ true → MayAbort state
 registering states.Registering e = tt
@@ -601,22 +612,30 @@ link_does e m a kind t s (messages.Notice n) came at says u h =
     (record { message = a; came = came; target = at; says = says }) (link_table kind (link_of kind s).state n) h
 link_does e m a kind t s (messages.RegisterResponse coordinator) came at says u h =
     link_registered_does e m a.relates coordinator kind s t u
-    (λ y k. record { coordinator = coordinator; message = a; came = came; target = at; says = says; known = k })
+    (λ y w k. record {
+      coordinator = coordinator;
+      message = a;
+      came = came;
+      target = at;
+      says = says;
+      waited = λ z v. let same : s ≡ z = one_superior t s z u v in subst (λ l. (link_of kind l).state ≡ states.Registering) same w;
+      known = k;
+    })
 link_does e m a kind t s (messages.Fault name) came at says u h = link_fault_does e m a.relates kind s t u h
 link_does e m a kind t s other came at says u h = ignores e t
 
 -- the initiator completes, or aborts, only while its seat is Active
-abbrev CompletionActs : State → Act → Type 0
-CompletionActs state acts.SendCommitted = state ≡ states.Done
-CompletionActs state acts.Complete = state ≡ states.Active
-CompletionActs state acts.AbortAndSendAborted = state ≡ states.Active
-CompletionActs state other = Unit {0}
+abbrev CompletionActs : State → Notice → Act → Type 0
+CompletionActs state n acts.SendCommitted = (state ≡ states.Done) × (n ≡ notices.Commit)
+CompletionActs state n acts.Complete = state ≡ states.Active
+CompletionActs state n acts.AbortAndSendAborted = state ≡ states.Active
+CompletionActs state n other = Unit {0}
 
-abbrev CompletionCell : State → Option Cell → Type 0
-CompletionCell state None = Unit {0}
-CompletionCell state (Some c) = CompletionActs state c.act
+abbrev CompletionCell : State → Notice → Option Cell → Type 0
+CompletionCell state n None = Unit {0}
+CompletionCell state n (Some c) = CompletionActs state n c.act
 
-completion_table : (state : State) (n : Notice) → CompletionCell state (completion_of state n)
+completion_table : (state : State) (n : Notice) → CompletionCell state n (completion_of state n)
 completion_table states.None notices.Commit = tt
 completion_table states.None notices.Rollback = tt
 completion_table states.None other = tt
@@ -626,7 +645,7 @@ completion_table states.Active other = tt
 completion_table states.Completing notices.Commit = tt
 completion_table states.Completing notices.Rollback = tt
 completion_table states.Completing other = tt
-completion_table states.Done notices.Commit = refl
+completion_table states.Done notices.Commit = (refl, refl)
 completion_table states.Done notices.Rollback = tt
 completion_table states.Done other = tt
 completion_table states.Registering notices.Commit = tt
@@ -653,27 +672,31 @@ completing e t c u h = record {
   posts = tt;
 }
 
-completion_act_does : (e : Event) (m : Moment) (from : Option Epr) (i : Option (List ℕ)) (c : Completion) (t : Transaction) (act : Act) → t.completion ≡ Some c → CompletionActs c.state act
-    → Standing t → Done e t (completion_act m from i c t act)
+completion_act_does : (e : Event) (m : Moment) (from : Option Epr) (i : Option (List ℕ)) (c : Completion) (t : Transaction) (n : Notice) (act : Act) → t.completion ≡ Some c
+    → (n ≡ notices.Commit → (to : Epr) → from ≡ Some to → InitiatorAsked e t to) → CompletionActs c.state n act → Standing t → Done e t (completion_act m from i c t act)
 unfolding completion_act
-completion_act_does e m from i c t acts.SendCommitted u k h =
-    stays_same e t _ (to_each_all (IsPosted e t How.Idles t.seats) from _ (λ to f. to_asking c to u k (initiator_notice_of m.base t.id t.id to notices.Committed refl)))
-completion_act_does e m from i c t acts.FaultUnknownTransaction u k h = stays_same e t _ (is_no_notice tt, tt)
-completion_act_does e m from i c t acts.FaultInvalidState u k h = stays_same e t _ (is_no_notice tt, tt)
-completion_act_does e m from i c t acts.Complete u k h = go_volatile_does e t m _ (h.finished.initiator c u k) (completing e t c u h)
-completion_act_does e m from i c t acts.AbortAndSendAborted u k h = aborts e t m Alone (begin t) (h.finished.initiator c u k) (begins e t [] tt h)
-completion_act_does e m from i c t other u k h = ignores e t
+completion_act_does e m from i c t n acts.SendCommitted u asked (k, l) h =
+    stays_same e t _
+    (to_each_all (IsPosted e t How.Idles t.seats) from _ (λ to f. to_asking c to u k (asked l to f) (initiator_notice_of m.base t.id t.id to notices.Committed refl)))
+completion_act_does e m from i c t n acts.FaultUnknownTransaction u asked k h = stays_same e t _ (is_no_notice tt, tt)
+completion_act_does e m from i c t n acts.FaultInvalidState u asked k h = stays_same e t _ (is_no_notice tt, tt)
+completion_act_does e m from i c t n acts.Complete u asked k h = go_volatile_does e t m _ (h.finished.initiator c u k) (completing e t c u h)
+completion_act_does e m from i c t n acts.AbortAndSendAborted u asked k h = aborts e t m Alone (begin t) (h.finished.initiator c u k) (begins e t [] tt h)
+completion_act_does e m from i c t n other u asked k h = ignores e t
 
-completion_notice_does : (e : Event) (m : Moment) (from : Option Epr) (i : Option (List ℕ)) (c : Completion) (t : Transaction) (cell : Option Cell) → t.completion ≡ Some c
-    → CompletionCell c.state cell → Standing t → Done e t (completion_notice m from i c t cell)
+completion_notice_does : (e : Event) (m : Moment) (from : Option Epr) (i : Option (List ℕ)) (c : Completion) (t : Transaction) (n : Notice) (cell : Option Cell) → t.completion ≡ Some c
+    → (n ≡ notices.Commit → (to : Epr) → from ≡ Some to → InitiatorAsked e t to) → CompletionCell c.state n cell → Standing t → Done e t (completion_notice m from i c t cell)
 unfolding completion_notice
-completion_notice_does e m from i c t None u k h = ignores e t
-completion_notice_does e m from i c t (Some cell) u k h = completion_act_does e m from i c t cell.act u k h
+completion_notice_does e m from i c t n None u asked k h = ignores e t
+completion_notice_does e m from i c t n (Some cell) u asked k h = completion_act_does e m from i c t n cell.act u asked k h
 
-completion_does : (e : Event) (m : Moment) (a : Arrived) (t : Transaction) (c : Completion) (x : Message) → t.completion ≡ Some c → Standing t → Done e t (on_completion m a t c x)
+completion_does : (e : Event) (m : Moment) (a : Arrived) (t : Transaction) (c : Completion) (x : Message) → e ≡ events.Arrived a → a.target ≡ targets.Completion t.id → a.message ≡ x
+    → t.completion ≡ Some c → Standing t → Done e t (on_completion m a t c x)
 unfolding on_completion
-completion_does e m a t c (messages.Notice n) u h = completion_notice_does e m a.from a.id c t (completion_of c.state n) u (completion_table c.state n) h
-completion_does e m a t c other u h = ignores e t
+completion_does e m a t c (messages.Notice n) came at says u h =
+    completion_notice_does e m a.from a.id c t n (completion_of c.state n) u
+    (λ k to f. record { message = a; came = came; target = at; says = says ∙ ap (λ y. messages.Notice y) k; from = f }) (completion_table c.state n) h
+completion_does e m a t c other came at says u h = ignores e t
 
 -- what is due
 abbrev DueSays : Transaction → Reached → Type 0
@@ -812,6 +835,7 @@ still_linked e t x s kind u (inr k) = inr (record {
   came = k.came;
   target = k.target;
   says = k.says;
+  waited = k.waited;
   known = above_answered kind s ∙ sym (ap (coordinator_at kind) u) ∙ k.known;
 })
 
@@ -859,7 +883,7 @@ moved_does : (b : Book) (e : Event) (now : ℕ) (t : Transaction) (d : Decision 
 moved_does b e now t d h (at_seat a s came why is) =
     subst (Done e t) (sym is) (seat_does e (moment_of b now) a t s a.message (λ n says. at_its_seat e a t s n came why says h) h)
 moved_does b e now t d h (at_link a kind s came why under is) = subst (Done e t) (sym is) (link_does e (moment_of b now) a kind t s a.message came why refl under h)
-moved_does b e now t d h (at_completion a c came why there is) = subst (Done e t) (sym is) (completion_does e (moment_of b now) a t c a.message there h)
+moved_does b e now t d h (at_completion a c came why there is) = subst (Done e t) (sym is) (completion_does e (moment_of b now) a t c a.message came why refl there h)
 moved_does b e now t d h (when_due came is) = subst (Done e t) (sym is) (due_does e (moment_of b now) t _ (due_says (moment_of b now) t) h)
 
 does : (b : Book) (e : Event) (now : ℕ) (id : Numbers) (t : Transaction) (d : Decision Transaction) → IsInPhase b → AreFinished b → transaction_at b id ≡ Some t → MovesTransaction b e now t d

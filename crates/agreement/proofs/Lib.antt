@@ -12,3 +12,5 @@ pub mod LeafStanding
 pub mod LeavesDo
 pub mod Posted
 pub mod Recoveries
+pub mod Seats
+pub mod Stepping

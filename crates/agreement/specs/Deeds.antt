@@ -9,7 +9,6 @@ use Rattle.at_base.specs.declared.notice.Notice.{Notice}
 use Rattle.at_base.specs.declared.notice.Notice.TheVariants as notices
 use Rattle.at_base.specs.declared.target.Target.{Target}
 use Rattle.at_base.specs.declared.target.Target.TheVariants as targets
-use Rattle.at_base.specs.declared.message.Message.{Message}
 use Rattle.at_base.specs.declared.message.Message.TheVariants as messages
 use Rattle.at_base.specs.declared.event.Arrived.{Arrived}
 use Rattle.at_base.specs.declared.event.Event.{Event}
@@ -30,6 +29,7 @@ use Rattle.at_model.specs.Step.{moment_of, transaction_at}
 use Rattle.model_laws.specs.Behind.{IsInPhase, IsUnanswered, accepted_as}
 use Rattle.model_laws.specs.Agreement.{IsIn}
 use Rattle.model_laws.specs.Shapes.{MovesTransaction}
+use Rattle.agreement.specs.Branches.{IsNoNotice}
 use Rattle.agreement.specs.Finished.{AreFinished}
 
 -- A transaction is undecided in Registering, Active, Volatile and Durable, as `may_expire` says. One step lets it
@@ -221,6 +221,7 @@ pub record IsJoined (kind : Kind) (e : Event) (old new : Transaction) : Type 0 w
   pub target : message.target ≡ targets.Participant old.id kind
   pub says : message.message ≡ messages.RegisterResponse coordinator
   pub known : coordinator_at kind new.superior ≡ Some coordinator
+  pub waited : (s : Superior) → old.superior ≡ Some s → (link_of kind s).state ≡ states.Registering
 
 -- and keeps it
 abbrev pub KeepsLink : Event → Transaction → Transaction → Kind → Type 0
@@ -248,12 +249,8 @@ pub record IsNotice (own : Option Target) (to : Epr) (n : Notice) (p : Post) : T
   pub sent : p.to ≡ Some to
   pub says : p.message ≡ messages.Notice n
 
-abbrev pub IsNoNotice : Message → Type 0
-IsNoNotice (messages.Notice n) = ⊥
-IsNoNotice other = Unit {0}
-
--- Why a participant is notified. Commit goes to who has voted Prepared, where this step commits; and whoever has not
--- answered is asked again.
+-- Why a participant is notified: it has not answered, this step commits and it has voted Prepared, this step aborts, or it is
+-- told the outcome again.
 abbrev pub WhySeat : Event → Transaction → How → Enlistment → Notice → Type 0
 WhySeat e t how s notices.Prepare = IsUnanswered s.state
 WhySeat e t how s notices.Commit = (s.state ≡ states.Committing) ⊎ (IsCommit how × IsWhy e t s states.Prepared)
@@ -281,11 +278,19 @@ WhyInitiator DecidesAlone notices.Committed = Unit {0}
 WhyInitiator how notices.Aborted = IsAbort how
 WhyInitiator how other = ⊥
 
+-- the initiator's Commit, with this From
+pub record InitiatorAsked (e : Event) (t : Transaction) (to : Epr) : Type 0 where
+  pub message : Arrived
+  pub came : e ≡ events.Arrived message
+  pub target : message.target ≡ targets.Completion t.id
+  pub says : message.message ≡ messages.Notice notices.Commit
+  pub from : message.from ≡ Some to
+
 -- Why a message is posted: it is no notification, or it is one of these.
 pub data IsPosted (e : Event) (t : Transaction) (how : How) (at : List Enlistment) (p : Post) : Type 0 where
   is_no_notice : IsNoNotice p.message → IsPosted e t how at p
   to_seat : (s : Enlistment) (n : Notice) → IsIn s t.seats → WhySeat e t how s n → IsNotice (Some (seat_target t.id s)) s.participant n p → IsPosted e t how at p
-  -- abort is presumed (section 3.3.4)
+  -- abort is presumed (WS-AtomicTransaction 1.2, section 3.3.4)
   to_left_seat : (s : Enlistment) → IsIn s t.seats → s.kind ≡ kinds.Durable → s.state ≡ states.None → ParticipantSaid notices.Prepared e t s → IsNotice None s.participant notices.Rollback p
       → IsPosted e t how at p
   to_superior : (kind : Kind) (n : Notice) (to : Epr) → coordinator_at kind t.superior ≡ Some to → WhySuperior t how at kind n → IsNotice (Some (targets.Participant t.id kind)) to n p
@@ -296,7 +301,7 @@ pub data IsPosted (e : Event) (t : Transaction) (how : How) (at : List Enlistmen
       → IsPosted e t how at p
   to_initiator : (n : Notice) (to : Epr) → initiator t.completion ≡ Some to → WhyInitiator how n → IsNotice (Some (targets.Completion t.id)) to n p → IsPosted e t how at p
   -- an initiator that asks again hears of the commit at its message's From
-  to_asking : (c : Completion) (to : Epr) → t.completion ≡ Some c → c.state ≡ states.Done → IsNotice (Some (targets.Completion t.id)) to notices.Committed p → IsPosted e t how at p
+  to_asking : (c : Completion) (to : Epr) → t.completion ≡ Some c → c.state ≡ states.Done → InitiatorAsked e t to → IsNotice (Some (targets.Completion t.id)) to notices.Committed p → IsPosted e t how at p
 
 -- One step of a transaction: this is recorded, and this is left of it, posted and happened.
 pub record Deed (e : Event) (t : Transaction) (entry : Option Record) (c : Change Transaction) : Type 0 where
@@ -313,6 +318,34 @@ pub record Deed (e : Event) (t : Transaction) (entry : Option Record) (c : Chang
   pub same : IsSameIfLeft t c.item
   pub links : KeepsLinksIfLeft e t c.item
   pub posts : AllByRecursion (IsPosted e t how at) c.posts
+
+-- Why a seat is in this state behind the step: who is told to commit has voted Prepared, and who is told to roll back is
+-- told so by an abort.
+abbrev pub WhyAfter : Event → Transaction → How → Enlistment → State → Type 0
+WhyAfter e t how old states.Active = old.state ≡ states.Active
+WhyAfter e t how old states.Preparing = IsUnanswered old.state
+WhyAfter e t how old states.Prepared = IsWhy e t old states.Prepared
+WhyAfter e t how old states.Committing = (old.state ≡ states.Committing) ⊎ (IsCommit how × IsWhy e t old states.Prepared)
+WhyAfter e t how old states.Aborting = (old.state ≡ states.Aborting) ⊎ IsAbort how
+WhyAfter e t how old states.None = IsWhy e t old states.None
+WhyAfter e t how old other = old.state ≡ other
+
+pub record IsSeatAfter (e : Event) (t : Transaction) (how : How) (old new : Enlistment) : Type 0 where
+  pub seat : accepted_as new ≡ accepted_as old
+  pub why : WhyAfter e t how old new.state
+
+abbrev pub AreSeatsAfter : Event → Transaction → How → List Enlistment → List Enlistment → Type 0
+AreSeatsAfter e t how [] [] = Unit {0}
+AreSeatsAfter e t how (o ∷ os) (n ∷ ns) = IsSeatAfter e t how o n × AreSeatsAfter e t how os ns
+AreSeatsAfter e t how olds news = ⊥
+
+abbrev pub AreSeatsIfLeft : Event → Transaction → How → Option Transaction → Type 0
+AreSeatsIfLeft e t how None = Unit {0}
+AreSeatsIfLeft e t how (Some new) = AreSeatsAfter e t how t.seats new.seats
+
+-- Behind each deed every seat is its participant's still, and its state has its reason.
+pub record DeedsMoveSeats : Type 0 where
+  pub seats : (e : Event) (t : Transaction) (entry : Option Record) (c : Change Transaction) (d : Deed e t entry c) → AreSeatsIfLeft e t d.how c.item
 
 -- both branches of a decision: with its record, and where that is certainly absent
 abbrev pub Deeds : {A : Type 0} → (Option Record → Change A → Type 0) → Decision A → Type 0

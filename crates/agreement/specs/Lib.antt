@@ -1,6 +1,7 @@
 pub mod ActivityDeeds
 pub mod Branches
 pub mod Deeds
+pub mod Done
 pub mod Finished
 pub mod Journals
 pub mod LeafDeeds

@@ -1,7 +1,8 @@
 //! What leads to agreement.
 
 ghost use Rattle.agreement.specs.ActivityDeeds.{ActivitiesDo, ActivityStates};
-ghost use Rattle.agreement.specs.Deeds.{TransactionsDo};
+ghost use Rattle.agreement.specs.Deeds.{DeedsMoveSeats, TransactionsDo};
+ghost use Rattle.agreement.specs.Done.{StepsDo};
 ghost use Rattle.agreement.specs.Finished.{FinishesAll};
 ghost use Rattle.agreement.specs.Journals.{JournalsLive};
 ghost use Rattle.agreement.specs.LeafDeeds.{LeafStates, LeavesDo};
@@ -59,4 +60,18 @@ pub fn recovers_each()
 #[tactic(auto, using(crate::proofs::Acting::transactions_do))]
 pub fn transactions_do()
     ensures { TransactionsDo }
+{}
+
+/// Each step of a book does one such deed to one transaction, is undone since its record is absent, takes a registration,
+/// makes a transaction, or leaves the transactions as they were.
+#[tactic(auto, using(crate::proofs::Stepping::steps_do))]
+pub fn steps_do()
+    ensures { StepsDo }
+{}
+
+/// Behind each deed every seat is its participant's still, and its state has its reason: it was so, its participant said
+/// so, or the deed committed or aborted.
+#[tactic(auto, using(crate::proofs::Seats::deeds_move_seats))]
+pub fn deeds_move_seats()
+    ensures { DeedsMoveSeats }
 {}
