@@ -78,7 +78,7 @@ rise_from : (last : ℕ) (seats : List Enlistment) → AreNumbered last seats �
 rise_from last [] h = tt
 rise_from last (s ∷ ss) (h, k) = (omega (arith, h), subst (λ n. SeatsRise n ss) (sym h) (rise_from (last + 1) ss k))
 
-kept_rise : (phase : Phase) (seats : List Enlistment) → KeepsNumbers phase seats → SeatsRise 0 seats
+pub kept_rise : (phase : Phase) (seats : List Enlistment) → KeepsNumbers phase seats → SeatsRise 0 seats
 kept_rise phase seats (inl h) = rise_from 0 seats h
 kept_rise phase seats (inr h) = h.1
 

@@ -1,2 +1,16 @@
+pub mod Acting
+pub mod ActivitiesDo
+pub mod ActivitySaying
+pub mod ActivityStanding
+pub mod Branching
+pub mod Doing
 pub mod Ending
 pub mod Finishing
+pub mod Journals
+pub mod LeafSaying
+pub mod LeafStanding
+pub mod LeavesDo
+pub mod Posted
+pub mod Recoveries
+pub mod Seats
+pub mod Stepping

@@ -1,1 +1,8 @@
+pub mod ActivityDeeds
+pub mod Branches
+pub mod Deeds
+pub mod Done
 pub mod Finished
+pub mod Journals
+pub mod LeafDeeds
+pub mod Recoveries

@@ -1,10 +1,77 @@
 //! What leads to agreement.
 
+ghost use Rattle.agreement.specs.ActivityDeeds.{ActivitiesDo, ActivityStates};
+ghost use Rattle.agreement.specs.Deeds.{DeedsMoveSeats, TransactionsDo};
+ghost use Rattle.agreement.specs.Done.{StepsDo};
 ghost use Rattle.agreement.specs.Finished.{FinishesAll};
+ghost use Rattle.agreement.specs.Journals.{JournalsLive};
+ghost use Rattle.agreement.specs.LeafDeeds.{LeafStates, LeavesDo};
+ghost use Rattle.agreement.specs.Recoveries.{RecoversEach};
 
 /// In every run a transaction that aborts asks nobody any more, one that is decided has no initiator that may still ask, and
 /// participants keep their numbers, in the book and in its records.
 #[tactic(auto, using(crate::proofs::Finishing::finishes_all))]
 pub fn finishes_all()
     ensures { FinishesAll }
+{}
+
+/// In every run a participant that does work of its own registers, works under a coordinator that it knows, or has voted
+/// Prepared to it.
+#[tactic(auto, using(crate::proofs::LeafStanding::leaf_states))]
+pub fn leaf_states()
+    ensures { LeafStates }
+{}
+
+/// Whatever comes to a participant that does work of its own, and whenever it is due, its step is one of a few deeds, each
+/// with its record, its effect, its messages and what is left of it.
+#[tactic(auto, using(crate::proofs::LeavesDo::leaves_do))]
+pub fn leaves_do()
+    ensures { LeavesDo }
+{}
+
+/// In every run an activity waits for its context, registers, runs or completes, and knows what it needs for that.
+#[tactic(auto, using(crate::proofs::ActivityStanding::activity_states))]
+pub fn activity_states()
+    ensures { ActivityStates }
+{}
+
+/// Whatever comes to an initiator's activity, whenever it is due, and whatever its program asks that isn't refused, it goes on
+/// and posts one message at most, or is told how it ended.
+#[tactic(auto, using(crate::proofs::ActivitiesDo::activities_do))]
+pub fn activities_do()
+    ensures { ActivitiesDo }
+{}
+
+/// A further record in a journal ends what is live of its id, as it says, and is live itself where it promises something.
+#[tactic(auto, using(crate::proofs::Journals::journals_live))]
+pub fn journals_live()
+    ensures { JournalsLive }
+{}
+
+/// Recovery finds each transaction and each leaf that a live record promises, by its id, and no other.
+#[tactic(auto, using(crate::proofs::Recoveries::recovers_each))]
+pub fn recovers_each()
+    ensures { RecoversEach }
+{}
+
+/// Whatever moves a transaction, where its record landed and where it didn't, does one deed of a short table: it stays
+/// undecided or in its phase, aborts while it is undecided, votes or decides behind every answer, ends as its superior said
+/// behind its vote, or is over.
+#[tactic(auto, using(crate::proofs::Acting::transactions_do))]
+pub fn transactions_do()
+    ensures { TransactionsDo }
+{}
+
+/// Each step of a book does one such deed to one transaction, is undone since its record is absent, takes a registration,
+/// makes a transaction, or leaves the transactions as they were.
+#[tactic(auto, using(crate::proofs::Stepping::steps_do))]
+pub fn steps_do()
+    ensures { StepsDo }
+{}
+
+/// Behind each deed every seat is its participant's still, and its state has its reason: it was so, its participant said
+/// so, or the deed committed or aborted.
+#[tactic(auto, using(crate::proofs::Seats::deeds_move_seats))]
+pub fn deeds_move_seats()
+    ensures { DeedsMoveSeats }
 {}
