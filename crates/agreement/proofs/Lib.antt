@@ -1,6 +1,7 @@
 pub mod ActivitiesDo
 pub mod ActivitySaying
 pub mod ActivityStanding
+pub mod Backing
 pub mod Branching
 pub mod Ending
 pub mod Finishing

@@ -1,4 +1,5 @@
 pub mod ActivityDeeds
+pub mod Backed
 pub mod Branches
 pub mod Finished
 pub mod Journals

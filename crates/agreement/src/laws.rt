@@ -1,6 +1,7 @@
 //! What leads to agreement.
 
 ghost use Rattle.agreement.specs.ActivityDeeds.{ActivitiesDo, ActivityStates};
+ghost use Rattle.agreement.specs.Backed.{LeavesAreBacked};
 ghost use Rattle.agreement.specs.Finished.{FinishesAll};
 ghost use Rattle.agreement.specs.Journals.{JournalsLive};
 ghost use Rattle.agreement.specs.LeafDeeds.{LeafStates, LeavesDo};
@@ -50,4 +51,10 @@ pub fn journals_live()
 #[tactic(auto, using(crate::proofs::Recoveries::recovers_each))]
 pub fn recovers_each()
     ensures { RecoversEach }
+{}
+
+/// In every run the vote of a durable participant that waits for the outcome stands in its node's journal, and is live.
+#[tactic(auto, using(crate::proofs::Backing::leaves_are_backed))]
+pub fn leaves_are_backed()
+    ensures { LeavesAreBacked }
 {}
