@@ -53,7 +53,7 @@ vote_unless r v s false true (inr (inl e)) = (inr e, refl)
 vote_unless r v s false true (inr (inr h)) = absurd h
 vote_unless r v s false false (inr h) = absurd h
 
-promise_kept : (id : Numbers) (r y : Record) (rest : List Record) → IsIn r (kept y rest) → is_promise id r ≡ true → IsKept id r y rest
+pub promise_kept : (id : Numbers) (r y : Record) (rest : List Record) → IsIn r (kept y rest) → is_promise id r ≡ true → IsKept id r y rest
 promise_kept id r (records.LeafPrepared i c key value) rest h e =
     let (same, none) = one_unless r (records.LeafPrepared i c key value) (list_any (ends_leaf i) rest) h in
     let own : is_id i id ≡ true = sym (or_nothing (is_id i id)) ∙ ap (is_promise id) (sym same) ∙ e in

@@ -23,6 +23,20 @@ IsBacked rs id coordinator key value kind state = list_any (is_promise id) rs �
 abbrev pub LeafBacked : List Record → Leaf → Type 0
 LeafBacked rs l = IsBacked rs l.id l.coordinator l.key l.value l.kind l.state
 
+-- a durable leaf of the book that waits for the outcome, with what its record names
+pub record Waiting (b : Book) (id : Numbers) (to : Epr) (name value : List ℕ) : Type 0 where
+  pub leaf : Leaf
+  pub there : IsIn leaf b.leaves
+  pub own : leaf.id ≡ id
+  pub durable : leaf.kind ≡ kinds.Durable
+  pub waits : leaf.state ≡ states.PreparedSuccess
+  pub coordinator : leaf.coordinator ≡ Some to
+  pub named : leaf.key ≡ name
+  pub valued : leaf.value ≡ value
+
 -- So it is in every run (WS-AtomicTransaction 1.2, section 3.3.2): what a durable leaf votes survives a crash.
 pub record LeavesAreBacked : Type 0 where
   pub backed : (count : ℕ) (es : List WorldEvent) (n : ℕ) (x : Node) (b : Book) → nth n (run_of count es).nodes ≡ Some x → x.book ≡ Some b → AllByRecursion (LeafBacked x.journal) b.leaves
+  -- and each such record has its leaf
+  pub waiting : (count : ℕ) (es : List WorldEvent) (n : ℕ) (x : Node) (b : Book) → nth n (run_of count es).nodes ≡ Some x → x.book ≡ Some b
+      → (id : Numbers) (to : Epr) (key value : List ℕ) → IsIn (records.LeafPrepared id to key value) (live x.journal) → Waiting b id to key value
