@@ -18,14 +18,14 @@ use Rattle.at_base.specs.declared.event.Moment.{Moment}
 use Rattle.at_base.specs.declared.outs.Out.{Out}
 use Rattle.at_tables.specs.declared.cells.State.{State}
 use Rattle.at_tables.specs.declared.cells.State.TheVariants as states
-use Rattle.at_model.specs.Book.{find_by, Book, Activity, Leaf, Transaction, is_id, leaf_id, next_id, put_by, transaction_id}
-use Rattle.at_model.specs.Moves.{Change, Decision}
+use Rattle.at_model.specs.Book.{find_by, Book, Leaf, Transaction, is_id, leaf_id, next_id, put_by, transaction_id}
+use Rattle.at_model.specs.Moves.{Change}
 use Rattle.at_model.specs.Arrivals.{with_answer}
 use Rattle.at_model.specs.Posts.{accepted}
 use Rattle.at_model.specs.Register.{on_register}
 use Rattle.at_model.specs.Leaves.{on_work, refuse_work, work_for}
-use Rattle.at_model.specs.Recover.{kept, ends_leaf, is_before, is_leaf_ended, is_promise, leaves_of, live, recover, recovered_leaf}
-use Rattle.at_model.specs.Step.{Outcome, Plan, activity_plan, at_time, branch, leaf_plan, make_activity, make_leaf, make_transaction, moment_of, plain, plan, plan_of, put_activity, put_leaf, put_transaction, registration_outcome, step, still, transaction_at, transaction_plan}
+use Rattle.at_model.specs.Recover.{kept, ends_leaf, is_before, is_leaf_ended, is_promise, live, recover, recovered_leaf}
+use Rattle.at_model.specs.Step.{Outcome, Plan, activity_plan, at_time, branch, leaf_plan, make_activity, make_leaf, make_transaction, moment_of, plain, plan, put_activity, put_leaf, put_transaction, registration_outcome, step, still, transaction_at, transaction_plan}
 use Rattle.at_model.specs.World.{Node, WorldEvent, nth, run_of}
 use Rattle.model_laws.specs.Agreement.{IsIn}
 use Rattle.model_laws.specs.Drawn.{IsDrawnRecord, restarted, with_entry}
@@ -33,7 +33,7 @@ use Rattle.model_laws.specs.Laws.{HasLeafId, IsDrawn, KeepsPlace}
 use Rattle.model_laws.specs.Order.{AreRising, IsInOrder}
 use Rattle.model_laws.specs.Shapes.{Shape, nothing_moves, time_moves, time_passes, transaction_moves, leaf_moves, activity_moves, transaction_registers, transaction_made, leaf_made, activity_made}
 use Rattle.model_laws.proofs.Deciding.{Both, in_branch, plain_both, decision_both, either_of, decided_entry, IfThere, all_find, all_join, all_more, in_front}
-use Rattle.model_laws.proofs.Drawing.{Holds, Leaves, as_before, one_transaction, one_leaf, one_activity, leaves, moved_kept, activity_moved_kept}
+use Rattle.model_laws.proofs.Drawing.{Leaves, as_before, one_transaction, one_leaf, one_activity, leaves, moved_kept, activity_moved_kept}
 use Rattle.model_laws.proofs.Keeping.{IsOfTransaction, IsOfLeaf, HasBoth, Names, NoRecord, with_answer_kept}
 use Rattle.model_laws.specs.Laws.{HasId}
 use Rattle.model_laws.proofs.Living.{drawn_on, ids_stay_drawn}
