@@ -6,7 +6,9 @@ pub mod Branching
 pub mod Ending
 pub mod Finishing
 pub mod Journals
+pub mod LeafSafety
 pub mod LeafSaying
 pub mod LeafStanding
+pub mod LeafWaiting
 pub mod LeavesDo
 pub mod Recoveries

@@ -54,7 +54,7 @@ pub fn recovers_each()
 {}
 
 /// In every run the vote of a durable participant that waits for the outcome stands in its node's journal, and is live.
-#[tactic(auto, using(crate::proofs::Backing::leaves_are_backed))]
+#[tactic(auto, using(crate::proofs::LeafSafety::leaves_are_backed))]
 pub fn leaves_are_backed()
     ensures { LeavesAreBacked }
 {}
