@@ -53,7 +53,8 @@ pub fn recovers_each()
     ensures { RecoversEach }
 {}
 
-/// In every run the vote of a durable participant that waits for the outcome stands in its node's journal, and is live.
+/// In every run the vote of a durable participant that waits for the outcome stands in its node's journal, and is live; and
+/// each such vote has its participant, which waits.
 #[tactic(auto, using(crate::proofs::LeafSafety::leaves_are_backed))]
 pub fn leaves_are_backed()
     ensures { LeavesAreBacked }
