@@ -2,13 +2,16 @@ pub mod Acting
 pub mod ActivitiesDo
 pub mod ActivitySaying
 pub mod ActivityStanding
+pub mod Backing
 pub mod Branching
 pub mod Doing
 pub mod Ending
 pub mod Finishing
 pub mod Journals
+pub mod LeafSafety
 pub mod LeafSaying
 pub mod LeafStanding
+pub mod LeafWaiting
 pub mod LeavesDo
 pub mod Posted
 pub mod Recoveries

@@ -3,12 +3,10 @@ use Rattle.std.specs.Prelude.{ℕ, List, [], ◌∷◌, ◌++◌, Option, Some, 
 use Rattle.std.specs.List.{list_any}
 use Rattle.std.proofs.Common.{inl, inr, sym, subst, ap, ◌∙◌}
 use Rattle.at_base.specs.Numbers.{Numbers}
-use Rattle.at_base.specs.declared.epr.Epr.{Epr}
-use Rattle.at_base.specs.declared.record.Seated.{Seated}
 use Rattle.at_base.specs.declared.record.Record.{Record}
 use Rattle.at_base.specs.declared.record.Record.TheVariants as records
 use Rattle.at_model.specs.Book.{Leaf, Transaction, find_by, is_id, leaf_id, transaction_id}
-use Rattle.at_model.specs.Recover.{ends_leaf, ends_transaction, in_order, is_promise, is_sub_committed, is_voted, kept, leaves_of, live, no_seats, recover, recovered_decided, recovered_leaf, recovered_voted, transactions_of, with_commit}
+use Rattle.at_model.specs.Recover.{ends_leaf, ends_transaction, is_promise, is_sub_committed, is_voted, kept, leaves_of, live, no_seats, recover, recovered_decided, recovered_leaf, recovered_voted, transactions_of, with_commit}
 use Rattle.at_model.specs.Step.{leaf_at, transaction_at}
 use Rattle.model_laws.specs.Agreement.{IsIn}
 use Rattle.model_laws.proofs.Deciding.{in_front}
@@ -55,7 +53,7 @@ vote_unless r v s false true (inr (inl e)) = (inr e, refl)
 vote_unless r v s false true (inr (inr h)) = absurd h
 vote_unless r v s false false (inr h) = absurd h
 
-promise_kept : (id : Numbers) (r y : Record) (rest : List Record) → IsIn r (kept y rest) → is_promise id r ≡ true → IsKept id r y rest
+pub promise_kept : (id : Numbers) (r y : Record) (rest : List Record) → IsIn r (kept y rest) → is_promise id r ≡ true → IsKept id r y rest
 promise_kept id r (records.LeafPrepared i c key value) rest h e =
     let (same, none) = one_unless r (records.LeafPrepared i c key value) (list_any (ends_leaf i) rest) h in
     let own : is_id i id ≡ true = sym (or_nothing (is_id i id)) ∙ ap (is_promise id) (sym same) ∙ e in
@@ -151,7 +149,7 @@ none_in_front p (x ∷ xs) ys e =
     ap (λ b. b || list_any p (xs ++ ys)) here ∙ none_in_front p xs ys behind
 
 -- what a record stands for is promised by it
-from_promise : (base : List ℕ) (rs : List Record) (r : Record) (t : Transaction) → transaction_from base rs r ≡ Some t → is_promise t.id r ≡ true
+pub from_promise : (base : List ℕ) (rs : List Record) (r : Record) (t : Transaction) → transaction_from base rs r ≡ Some t → is_promise t.id r ≡ true
 from_promise base rs (records.Voted id s seats) t e = or_nothing (is_id id t.id) ∙ subst (λ k. is_id id k ≡ true) (voted_id (list_any (is_sub_committed id) rs) e) (self_id id)
   where
     voted_id : (b : Bool) → Some (recovered_voted id s seats b) ≡ Some t → id ≡ t.id
@@ -162,7 +160,7 @@ from_promise base rs (records.Decided id seats) t e =
     subst (λ k. is_id id k ≡ true) (ap (λ (x : Transaction). x.id) same) (self_id id)
 from_promise base rs other t e = absurd cc
 
-from_leaf_promise : (r : Record) (l : Leaf) → leaf_from r ≡ Some l → is_promise l.id r ≡ true
+pub from_leaf_promise : (r : Record) (l : Leaf) → leaf_from r ≡ Some l → is_promise l.id r ≡ true
 from_leaf_promise (records.LeafPrepared id c key value) l e =
     let same : recovered_leaf id c key value ≡ l = cc in
     or_nothing (is_id id l.id) ∙ subst (λ k. is_id id k ≡ true) (ap (λ (x : Leaf). x.id) same) (self_id id)

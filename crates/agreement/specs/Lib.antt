@@ -1,4 +1,5 @@
 pub mod ActivityDeeds
+pub mod Backed
 pub mod Branches
 pub mod Deeds
 pub mod Done

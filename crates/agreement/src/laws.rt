@@ -1,6 +1,7 @@
 //! What leads to agreement.
 
 ghost use Rattle.agreement.specs.ActivityDeeds.{ActivitiesDo, ActivityStates};
+ghost use Rattle.agreement.specs.Backed.{LeavesAreBacked};
 ghost use Rattle.agreement.specs.Deeds.{DeedsMoveSeats, TransactionsDo};
 ghost use Rattle.agreement.specs.Done.{StepsDo};
 ghost use Rattle.agreement.specs.Finished.{FinishesAll};
@@ -52,6 +53,13 @@ pub fn journals_live()
 #[tactic(auto, using(crate::proofs::Recoveries::recovers_each))]
 pub fn recovers_each()
     ensures { RecoversEach }
+{}
+
+/// In every run the vote of a durable participant that waits for the outcome stands in its node's journal, and is live; and
+/// each such vote has its participant, which waits.
+#[tactic(auto, using(crate::proofs::LeafSafety::leaves_are_backed))]
+pub fn leaves_are_backed()
+    ensures { LeavesAreBacked }
 {}
 
 /// Whatever moves a transaction, where its record landed and where it didn't, does one deed of a short table: it stays
