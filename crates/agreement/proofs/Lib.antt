@@ -12,5 +12,8 @@ pub mod LeafStanding
 pub mod LeavesDo
 pub mod Posted
 pub mod Recoveries
+pub mod SeatedBooks
+pub mod SeatedEntries
+pub mod SeatedNames
 pub mod Seats
 pub mod Stepping
