@@ -12,8 +12,10 @@ pub mod LeafStanding
 pub mod LeavesDo
 pub mod Posted
 pub mod Recoveries
+pub mod Seated
 pub mod SeatedBooks
 pub mod SeatedEntries
 pub mod SeatedNames
+pub mod SeatedSteps
 pub mod Seats
 pub mod Stepping

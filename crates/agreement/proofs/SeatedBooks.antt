@@ -1,5 +1,5 @@
 -- The books of a world that is reached, and where each transaction of a step's book comes from.
-use Rattle.std.specs.Prelude.{ℕ, List, [], ◌∷◌, ◌++◌, Option, Some, None, Bool, true, false, if◌then◌else◌, not, length, map, ◌+◌, ◌≡◌, ◌≤◌, ◌⊎◌, refl}
+use Rattle.std.specs.Prelude.{ℕ, List, [], ◌∷◌, Option, Some, None, Bool, true, false, if◌then◌else◌, not, length, map, ◌+◌, ◌≡◌, ◌≤◌, ◌⊎◌, refl}
 use Rattle.std.specs.List.{AllByRecursion}
 use Rattle.std.proofs.Common.{inl, inr, suc, sym, subst, ap, arith, ◌∙◌}
 use Rattle.at_base.specs.Numbers.{Numbers}
@@ -11,28 +11,26 @@ use Rattle.at_base.specs.declared.event.Moment.{Moment}
 use Rattle.at_base.specs.declared.message.Register.{Register}
 use Rattle.at_base.specs.declared.record.Record.{Record}
 use Rattle.at_base.specs.declared.record.Record.TheVariants as records
-use Rattle.at_tables.specs.declared.cells.State.TheVariants as states
-use Rattle.at_model.specs.Book.{Book, Completion, Enlistment, Phase, Transaction, find_by, is_id, next_id, put_by, transaction_id}
+use Rattle.at_model.specs.Book.{Book, Enlistment, Phase, Transaction, find_by, transaction_id}
 use Rattle.at_model.specs.Due.{may_expire}
-use Rattle.at_model.specs.Moves.{Change}
-use Rattle.at_model.specs.Recover.{is_before, last_incarnation, recover}
+use Rattle.at_model.specs.Recover.{is_before, last_incarnation}
 use Rattle.at_model.specs.Register.{Registration, accept, accepts, held_seat, may_register, on_register, protocol_named, register_again, register_new}
-use Rattle.at_model.specs.Step.{Outcome, moment_of, plan, registration_outcome, step, still, transaction_at}
+use Rattle.at_model.specs.Step.{Outcome, moment_of, plan, step, transaction_at}
 use Rattle.at_model.specs.World.{Node, World, nth}
 use Rattle.model_laws.specs.Behind.{IsInPhase}
 use Rattle.model_laws.specs.Drawn.{restarted, with_entry}
 use Rattle.model_laws.specs.Laws.{HasId, IsDrawn}
 use Rattle.model_laws.specs.Order.{AreRising, IsInOrder}
 use Rattle.model_laws.specs.Reached.{Reached}
-use Rattle.model_laws.proofs.Deciding.{IfThere, all_find, all_join, all_more, all_put, either_of, found_id}
+use Rattle.model_laws.proofs.Deciding.{IfThere, all_join, all_more, all_put, either_of}
 use Rattle.model_laws.proofs.Making.{makes_under_the_next_id}
 use Rattle.model_laws.proofs.Once.{entry_rises}
 use Rattle.model_laws.proofs.Ordering.{ids_rise, other_id, unmapped}
 use Rattle.model_laws.proofs.Reaching.{NodeLaw, nodes_hold}
-use Rattle.model_laws.proofs.Recovering.{incarnations_rise, self_id}
+use Rattle.model_laws.proofs.Recovering.{self_id}
 use Rattle.model_laws.proofs.Shaping.{steps_keep_place}
 use Rattle.model_laws.proofs.Standing.{decides_behind_every_answer, then_accepts}
-use Rattle.agreement.specs.Deeds.{AreSeatsAfter, AreSeatsIfLeft, Becomes, Deed, How, IsSameIfLeft, StoodFor}
+use Rattle.agreement.specs.Deeds.{AreSeatsAfter, AreSeatsIfLeft, Becomes, How, IsSameIfLeft, StoodFor}
 use Rattle.agreement.specs.Done.{Done, did, elsewhere, made, registered, standing, undone}
 use Rattle.agreement.specs.Finished.{AreFinished, NamesRising}
 use Rattle.agreement.proofs.Finishing.{finishes_all}
@@ -217,7 +215,6 @@ done_came b e now entry o h (made t a c id came at says next makes none is sent 
     not_drawn k =
         makes_under_the_next_id.next b id next
         (subst (IsDrawn b) (subst (IfThere (λ (y : Transaction). y.id ≡ id)) makes (is_made _ (makes_under_the_next_id.transaction (moment_of b now) (length b.transactions) a c id))) k)
-
 done_came b e now entry o h (elsewhere none is roots) = subst (AllByRecursion (Came b)) (sym is) (came_all b h)
 
 pub step_came : (b : Book) (e : Event) (now : ℕ) (landed : Bool) → IsInPhase b → AreFinished b → IsInOrder b → AllByRecursion (Came b) (step b e now landed).book.transactions

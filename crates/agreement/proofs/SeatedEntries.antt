@@ -1,5 +1,5 @@
 -- Registrations by their seats: what a step accepts, and that seats in order have a number each.
-use Rattle.std.specs.Prelude.{ℕ, List, [], ◌∷◌, ◌++◌, Option, Some, None, length, map, take, drop, ◌+◌, ◌≡◌, ◌≤◌, ◌<◌, ◌⊎◌, refl}
+use Rattle.std.specs.Prelude.{ℕ, List, [], ◌∷◌, ◌++◌, Option, Some, None, length, map, take, drop, ◌+◌, ◌≡◌, ◌<◌, ◌⊎◌, refl}
 use Rattle.std.specs.List.{AllByRecursion}
 use Rattle.std.proofs.Common.{inl, inr, sym, subst, ap, arith, ◌∙◌}
 use Rattle.std.proofs.lemmas.List.{map-append, take-append-drop}

@@ -1,5 +1,5 @@
 -- What a record names, and what recovery makes of it, was accepted.
-use Rattle.std.specs.Prelude.{ℕ, List, [], ◌∷◌, ◌++◌, Option, Some, None, Bool, true, false, ◌&&◌, if◌then◌else◌, map, filter, ◌+◌, ◌≡◌, refl}
+use Rattle.std.specs.Prelude.{ℕ, List, [], ◌∷◌, Option, Some, None, Bool, true, false, ◌&&◌, if◌then◌else◌, map, filter, ◌+◌, ◌≡◌, refl}
 use Rattle.std.specs.List.{list_any, AllByRecursion}
 use Rattle.std.proofs.Common.{sym, subst}
 use Rattle.at_base.specs.Numbers.{Numbers}
@@ -15,7 +15,7 @@ use Rattle.at_tables.specs.declared.cells.State.TheVariants as states
 use Rattle.at_tables.specs.Names.{is_kind, is_state}
 use Rattle.at_model.specs.Book.{Book, Enlistment, Transaction, transaction_id}
 use Rattle.at_model.specs.Due.{may_expire}
-use Rattle.at_model.specs.Recover.{is_sub_committed, last_incarnation, live, recover, recovered_decided, recovered_seat, recovered_voted, transactions_of}
+use Rattle.at_model.specs.Recover.{is_sub_committed, last_incarnation, live, recover, recovered_seat, recovered_voted, transactions_of}
 use Rattle.at_model.specs.Seats.{is_prepared_durable, prepared, seated}
 use Rattle.at_model.specs.Step.{plan, transaction_at}
 use Rattle.at_model.specs.World.{Accepted, who_of}
