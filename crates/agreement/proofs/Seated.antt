@@ -13,10 +13,11 @@ use Rattle.at_model.specs.Book.{Book, Transaction, transaction_id}
 use Rattle.at_model.specs.Due.{may_expire}
 use Rattle.at_model.specs.Recover.{last_incarnation, recover}
 use Rattle.at_model.specs.Step.{plan, step, transaction_at}
-use Rattle.at_model.specs.World.{Accepted, Node, Who, World, accepted_in, accepted_seat, base_of, goes_down, lost_in, nth, opening, put_book, put_nth, run_of, started, up_after}
+use Rattle.at_model.specs.World.{Accepted, Node, Who, World, accepted_completion, accepted_in, accepted_seat, base_of, goes_down, lost_in, nth, opening, put_book, put_nth, run_of, started, up_after}
 use Rattle.model_laws.specs.Agreement.{IsIn}
 use Rattle.model_laws.specs.Behind.{accepted_as}
 use Rattle.model_laws.specs.Drawn.{restarted, with_entry}
+use Rattle.model_laws.specs.Enlisted.{IsEnlisted}
 use Rattle.model_laws.specs.Laws.{IsDrawn}
 use Rattle.model_laws.specs.Reached.{Reached, counts}
 use Rattle.model_laws.proofs.Accepting.{step_gives}
@@ -25,17 +26,17 @@ use Rattle.model_laws.proofs.Enrolled.{IsKnown, IsUp, WorldGood, nodes_of, world
 use Rattle.model_laws.proofs.Holding.{Law, OutFine, holds}
 use Rattle.model_laws.proofs.Living.{ids_stay_drawn}
 use Rattle.model_laws.proofs.Naming.{HaveBases}
-use Rattle.model_laws.proofs.Nodes.{accepted_same, each_put, seats_same, who_same}
+use Rattle.model_laws.proofs.Nodes.{accepted_same, completion_same, each_put, seats_same, who_same}
 use Rattle.model_laws.proofs.Ordering.{ids_rise}
 use Rattle.model_laws.proofs.Reaching.{run_reached}
 use Rattle.model_laws.proofs.Recovering.{incarnations_rise}
 use Rattle.model_laws.proofs.Running.{opening_node}
-use Rattle.agreement.specs.Seated.{IsSeated, NamesAccepted, SeatsAll, SeatsAccepted, SeatsAreRegistered, WasDrawn, accepted_named}
+use Rattle.agreement.specs.Seated.{IsSeated, NamesAccepted, SeatsEach, SeatsAreRegistered, WasDrawn, accepted_named}
 use Rattle.agreement.proofs.Finishing.{finishes_all}
 use Rattle.agreement.proofs.SeatedBooks.{IsSoundBook, book_sound, finds_each, step_came}
 use Rattle.agreement.proofs.SeatedEntries.{IsNew, all_mapped, are_entries, entries, entry, in_either, is_new, of_transaction, one_of}
 use Rattle.agreement.proofs.SeatedNames.{IsEntered, IsNamed, IsRecovered, all_named_on, book_recovered, entered_on, journal_named, named_as, restart_named}
-use Rattle.agreement.proofs.SeatedSteps.{HasAll, HasOneEach, IsHeld, Steps, step_complete, step_entered, step_one_each, with_new}
+use Rattle.agreement.proofs.SeatedSteps.{HasAll, HasOneEach, IsHeld, Steps, step_begun, step_complete, step_entered, step_one_each, with_new}
 
 abbrev IsHeldBook : ℕ → List Accepted → ℕ → Book → Type 0
 IsHeldBook count all n b = AllByRecursion (IsHeld count all n) b.transactions
@@ -67,9 +68,13 @@ other_node count m n all b new y other h = record {
         absurd (f (sym e ∙ ap (λ (w : Who). w.node) (of_transaction n (nodes_of count) (transaction_at b x.by.id) x.by a x.there)))
 
     held_on : (t : Transaction) → IsHeld count all m t → IsHeld count now m t
-    held_on t (k, l) = (
+    held_on t (k, (l, begun)) = (
       entered_on count all now m t.id (map accepted_as t.seats) (λ a i. in_front a all (accepted_in n (nodes_of count) b new) i) k,
-      λ undecided a s i f g. l undecided a s (old_one a m (ap (λ (w : Who). w.node) f) (in_either a all (accepted_in n (nodes_of count) b new) i) other) f g,
+      (
+        λ undecided a s i f g. l undecided a s (old_one a m (ap (λ (w : Who). w.node) f) (in_either a all (accepted_in n (nodes_of count) b new) i) other) f g,
+        all_more (λ a. IsIn a all) (λ a. IsIn a now) (accepted_completion m (nodes_of count) t.id None t.completion)
+            (λ a i. in_front a all (accepted_in n (nodes_of count) b new) i) begun,
+      ),
     )
 
     book_on : (o : Option Book) → IfThere (IsHeldBook count all m) o → IfThere (IsHeldBook count now m) o
@@ -123,7 +128,7 @@ this_node : (count : ℕ) (u : World) (n : ℕ) (x : Node) (b : Book) (e : Event
     → IsHeldNode count (with_new count n u.accepted b (step b e now landed).book.transactions) n
     (record x { book = Some (step b e now landed).book; journal = with_entry (plan b e now).entry landed x.journal })
 this_node count u n x b e now landed p h = record {
-  book = all_held new (λ t i. (step_entered count n u.accepted b new t p.steps i, step_complete count n u.accepted b new t p.steps i));
+  book = all_held new (λ t i. (step_entered count n u.accepted b new t p.steps i, (step_complete count n u.accepted b new t p.steps i, step_begun count n u.accepted b new t p.steps i)));
   journal = journal_named count all n b e now landed x.journal p.sound.phases
       (all_more (IsHeld count u.accepted n) (IsEntered count all n) b.transactions
       (λ t k. entered_on count u.accepted all n t.id (map accepted_as t.seats) (λ a i. in_front a u.accepted more i) k.0) p.steps.held)
@@ -201,7 +206,13 @@ rises_held count u n x stop found down h =
     both b e f = cc
 
     decided : (t : Transaction) → IsRecovered count u.accepted n t → IsHeld count u.accepted n t
-    decided t (k, closed) = (k, λ undecided. absurd (both (may_expire t.phase) undecided closed))
+    decided t (k, (closed, none)) = (
+      k,
+      (
+        λ undecided. absurd (both (may_expire t.phase) undecided closed),
+        subst (λ c. AllByRecursion (λ a. IsIn a u.accepted) (accepted_completion n (nodes_of count) t.id None c)) (sym none) tt,
+      ),
+    )
 
     by_stop : (s : Bool) → IfThere (IsHeldBook count u.accepted n) (up_after (started (last_incarnation x.journal + 1) x) s).book
     by_stop true = tt
@@ -247,13 +258,15 @@ world_held count w small reached = holds count (held_law count small) w reached
 as_entries : (count n : ℕ) (w : World) (id : Numbers) (t : Transaction) → HaveBases w.nodes (nodes_of count) → map (accepted_seat n w.nodes id) t.seats ≡ entries count n id t.seats
 as_entries count n w id t bases = seats_same n w.nodes (nodes_of count) id t.seats bases ∙ are_entries count n id t.seats
 
-held_complete : (count n : ℕ) (w : World) (t : Transaction) → HaveBases w.nodes (nodes_of count) → HasAll count w.accepted n t → SeatsAll w n t
+held_complete : (count n : ℕ) (w : World) (t : Transaction) → HaveBases w.nodes (nodes_of count) → HasAll count w.accepted n t → SeatsEach w n t
 held_complete count n w t bases h a s i f g = subst (IsIn a) (sym (as_entries count n w t.id t bases)) (h a s i f g)
 
-held_seats : (count n : ℕ) (w : World) (t : Transaction) → HaveBases w.nodes (nodes_of count) → IsHeld count w.accepted n t → SeatsAccepted w n t
-held_seats count n w t bases (h, k) =
-    all_mapped (λ a. IsIn a w.accepted) (accepted_seat n w.nodes t.id) t.seats
-    (subst (AllByRecursion (λ a. IsIn a w.accepted)) (sym (as_entries count n w t.id t bases)) (all_map (λ a. IsIn a w.accepted) (entry count n t.id) (map accepted_as t.seats) h))
+held_enlisted : (count n : ℕ) (w : World) (t : Transaction) → HaveBases w.nodes (nodes_of count) → IsHeld count w.accepted n t → IsEnlisted w n t
+held_enlisted count n w t bases (h, (k, begun)) = (
+  all_mapped (λ a. IsIn a w.accepted) (accepted_seat n w.nodes t.id) t.seats
+      (subst (AllByRecursion (λ a. IsIn a w.accepted)) (sym (as_entries count n w t.id t bases)) (all_map (λ a. IsIn a w.accepted) (entry count n t.id) (map accepted_as t.seats) h)),
+  subst (AllByRecursion (λ a. IsIn a w.accepted)) (sym (completion_same n w.nodes (nodes_of count) t.id None t.completion bases)) begun,
+)
 
 held_names : (count n : ℕ) (w : World) (id : Numbers) (seats : List Seated) → HaveBases w.nodes (nodes_of count) → AllByRecursion (λ a. IsIn (entry count n id a) w.accepted) (map named_as seats)
     → AllByRecursion (λ s. IsIn (accepted_named n w.nodes id s) w.accepted) seats
@@ -276,8 +289,8 @@ held_record count n w bases (records.Done id) h = tt
 pub world_seated : (count : ℕ) (w : World) → count < 2 ^ 64 → Reached count w → IsSeated w
 world_seated count w small reached = record {
   one_each = held.one_each;
-  complete = λ n x b t found up i undecided. held_complete count n w t bases ((one_of (IsHeld count w.accepted n) b.transactions t (book n x b found up) i).1 undecided);
-  seats = λ n x b found up. all_more (IsHeld count w.accepted n) (SeatsAccepted w n) b.transactions (λ t h. held_seats count n w t bases h) (book n x b found up);
+  complete = λ n x b t found up i undecided. held_complete count n w t bases ((one_of (IsHeld count w.accepted n) b.transactions t (book n x b found up) i).1.0 undecided);
+  enlisted = λ n x b found up. all_more (IsHeld count w.accepted n) (IsEnlisted w n) b.transactions (λ t h. held_enlisted count n w t bases h) (book n x b found up);
   named = λ n x found. all_more (IsNamed count w.accepted n) (NamesAccepted w n) x.journal (held_record count n w bases) (held.nodes_held n x found).journal;
   drawn = λ a x i found. (held.nodes_held a.transaction.node x found).drawn a i refl;
 }

@@ -121,9 +121,9 @@ journal_named count all n b e now landed rs phase h k = by_entry (plan b e now).
     by_entry (Some r) false f = k
     by_entry (Some r) true f = all_join (IsNamed count all n) rs (r ∷ []) k (record_named count all n b e now phase h r f, tt)
 
--- recovery: seats of records, and nothing undecided
+-- recovery: seats of records, nothing undecided, and no initiator
 abbrev pub IsRecovered : ℕ → List Accepted → ℕ → Transaction → Type 0
-IsRecovered count all n t = IsEntered count all n t × (may_expire t.phase ≡ false)
+IsRecovered count all n t = IsEntered count all n t × ((may_expire t.phase ≡ false) × (t.completion ≡ None))
 
 recovered_entered : (count : ℕ) (all : List Accepted) (n : ℕ) (id : Numbers) (state : State) (seats : List Seated) → AreEntered count all n id (map named_as seats)
     → AreEntered count all n id (map accepted_as (map (recovered_seat state) seats))
@@ -132,8 +132,8 @@ recovered_entered count all n id state (s ∷ seats) (h, k) = (h, recovered_ente
 
 voted_recovered : (count : ℕ) (all : List Accepted) (n : ℕ) (id : Numbers) (superior : Epr) (seats : List Seated) (committed : Bool) → AreEntered count all n id (map named_as seats)
     → IsRecovered count all n (recovered_voted id superior seats committed)
-voted_recovered count all n id superior seats true h = (recovered_entered count all n id states.Committing seats h, refl)
-voted_recovered count all n id superior seats false h = (recovered_entered count all n id states.Prepared seats h, refl)
+voted_recovered count all n id superior seats true h = (recovered_entered count all n id states.Committing seats h, (refl, refl))
+voted_recovered count all n id superior seats false h = (recovered_entered count all n id states.Prepared seats h, (refl, refl))
 
 transactions_recovered : (count : ℕ) (all : List Accepted) (n : ℕ) (base : List ℕ) (rs : List Record) → AllByRecursion (IsNamed count all n) rs
     → AllByRecursion (IsRecovered count all n) (transactions_of base rs)
@@ -141,7 +141,7 @@ transactions_recovered count all n base [] h = tt
 transactions_recovered count all n base (records.Voted id superior seats ∷ rest) (h, k) =
     (voted_recovered count all n id superior seats (list_any (is_sub_committed id) rest) h, transactions_recovered count all n base rest k)
 transactions_recovered count all n base (records.Decided id seats ∷ rest) (h, k) =
-    ((recovered_entered count all n id states.Committing seats h, refl), transactions_recovered count all n base rest k)
+    ((recovered_entered count all n id states.Committing seats h, (refl, refl)), transactions_recovered count all n base rest k)
 transactions_recovered count all n base (records.Start i ∷ rest) (h, k) = transactions_recovered count all n base rest k
 transactions_recovered count all n base (records.LeafPrepared id c key value ∷ rest) (h, k) = transactions_recovered count all n base rest k
 transactions_recovered count all n base (records.LeafCommitted id ∷ rest) (h, k) = transactions_recovered count all n base rest k

@@ -4,17 +4,17 @@ use Rattle.std.specs.List.{AllByRecursion}
 use Rattle.std.proofs.Common.{inl, inr, sym, subst, ap, ◌∙◌}
 use Rattle.at_base.specs.Numbers.{Numbers}
 use Rattle.at_base.specs.declared.target.Seat.{Seat}
-use Rattle.at_model.specs.Book.{Book, Enlistment, Transaction, transaction_id}
+use Rattle.at_model.specs.Book.{Book, Completion, Enlistment, Transaction, transaction_id}
 use Rattle.at_model.specs.Due.{may_expire}
 use Rattle.at_model.specs.Step.{transaction_at}
-use Rattle.at_model.specs.World.{Accepted, Who, accepted_by, accepted_in}
+use Rattle.at_model.specs.World.{Accepted, Node, Who, accepted_by, accepted_completion, accepted_in, accepted_seat, who_of}
 use Rattle.model_laws.specs.Agreement.{IsIn}
 use Rattle.model_laws.specs.Behind.{accepted_as}
 use Rattle.model_laws.specs.Laws.{IsDrawn}
 use Rattle.model_laws.specs.Order.{IsInOrder}
 use Rattle.model_laws.specs.Sound.{AreNumbered, SeatsRise}
-use Rattle.model_laws.proofs.Deciding.{all_find, all_join, all_map, found_id, in_front}
-use Rattle.model_laws.proofs.Enlisting.{AreGrown, Grown, dropped}
+use Rattle.model_laws.proofs.Deciding.{all_find, all_join, all_map, all_more, found_id, in_front}
+use Rattle.model_laws.proofs.Enlisting.{AreGrown, Grown, HasInitiator, dropped}
 use Rattle.model_laws.proofs.Enrolled.{nodes_of}
 use Rattle.model_laws.proofs.Seating.{in_back}
 use Rattle.agreement.specs.Finished.{IsFinished}
@@ -27,8 +27,12 @@ abbrev pub HasAll : ℕ → List Accepted → ℕ → Transaction → Type 0
 HasAll count all n t =
     (a : Accepted) (s : Seat) → IsIn a all → a.transaction ≡ record { node = n; id = t.id } → a.seat ≡ Some s → IsIn a (entries count n t.id t.seats)
 
+-- its initiator was accepted
+abbrev pub HasBegun : ℕ → List Accepted → ℕ → Transaction → Type 0
+HasBegun count all n t = AllByRecursion (λ a. IsIn a all) (accepted_completion n (nodes_of count) t.id None t.completion)
+
 abbrev pub IsHeld : ℕ → List Accepted → ℕ → Transaction → Type 0
-IsHeld count all n t = IsEntered count all n t × (may_expire t.phase ≡ true → HasAll count all n t)
+IsHeld count all n t = IsEntered count all n t × ((may_expire t.phase ≡ true → HasAll count all n t) × HasBegun count all n t)
 
 abbrev pub HasOneEach : List Accepted → Type 0
 HasOneEach all = (a c : Accepted) (s r : Seat) → IsIn a all → IsIn c all → a.transaction ≡ c.transaction → a.seat ≡ Some s → c.seat ≡ Some r → s.number ≡ r.number → a ≡ c
@@ -83,6 +87,41 @@ step_entered count n all b new t p i = by_old (transaction_at b t.id) refl (one_
         (subst (AllByRecursion (λ y. IsIn y now)) (sym (grown_entries count n t.id old.seats t.seats g))
         (all_join (λ y. IsIn y now) (entries count n t.id old.seats) (entries count n t.id (drop (length old.seats) t.seats)) (before old e) (further old e)))
 
+-- its initiator is accepted
+initiator_stays : (all : List Accepted) (n : ℕ) (nodes : List Node) (id : Numbers) (old new : Option Completion) → HasInitiator old new
+    → AllByRecursion (λ a. IsIn a all) (accepted_completion n nodes id None old) → AllByRecursion (λ a. IsIn a all) (accepted_completion n nodes id old new)
+    → AllByRecursion (λ a. IsIn a all) (accepted_completion n nodes id None new)
+initiator_stays all n nodes id None new f h k = k
+initiator_stays all n nodes id (Some c) None f h k = absurd cc
+initiator_stays all n nodes id (Some c) (Some d) f (h, i) k =
+    let same : d.initiator ≡ c.initiator = cc in
+    (subst (λ e. IsIn (record { transaction = record { node = n; id = id }; seat = None; participant = who_of nodes e }) all) (sym same) h, tt)
+
+pub step_begun : (count n : ℕ) (all : List Accepted) (b : Book) (new : List Transaction) (t : Transaction) → Steps count n all b new → IsIn t new
+    → HasBegun count (with_new count n all b new) n t
+step_begun count n all b new t p i = by_old (transaction_at b t.id) refl (one_of (λ (y : Transaction). Grown (transaction_at b y.id) y) new t p.grown i)
+  where
+    now : List Accepted
+    now = with_new count n all b new
+
+    before : (old : Transaction) → transaction_at b t.id ≡ Some old → AllByRecursion (λ a. IsIn a now) (accepted_completion n (nodes_of count) t.id None old.completion)
+    before old e =
+        all_more (λ a. IsIn a all) (λ a. IsIn a now) (accepted_completion n (nodes_of count) t.id None old.completion) (λ a j. in_front a all (accepted_in n (nodes_of count) b new) j)
+        (subst (λ id. AllByRecursion (λ a. IsIn a all) (accepted_completion n (nodes_of count) id None old.completion)) (found_id transaction_id t.id b.transactions old e)
+        (all_find (IsHeld count all n) transaction_id t.id b.transactions old p.held e).1.1)
+
+    further : (old : Transaction) → transaction_at b t.id ≡ Some old → AllByRecursion (λ a. IsIn a now) (accepted_completion n (nodes_of count) t.id old.completion t.completion)
+    further old e =
+        all_of (λ a. IsIn a now) (accepted_completion n (nodes_of count) t.id old.completion t.completion)
+        (λ a j. in_back a all (accepted_in n (nodes_of count) b new)
+        (new_in n (nodes_of count) b new t a i
+        (subst (λ o. IsIn a (accepted_by n (nodes_of count) o t)) (sym e)
+        (in_back a (map (accepted_seat n (nodes_of count) t.id) (drop (length old.seats) t.seats)) (accepted_completion n (nodes_of count) t.id old.completion t.completion) j))))
+
+    by_old : (o : Option Transaction) → transaction_at b t.id ≡ o → Grown o t → HasBegun count now n t
+    by_old None e (no_seats, none) = subst (λ c. AllByRecursion (λ a. IsIn a now) (accepted_completion n (nodes_of count) t.id None c)) (sym none) tt
+    by_old (Some old) e (g, keeps) = initiator_stays now n (nodes_of count) t.id old.completion t.completion keeps (before old e) (further old e)
+
 -- what is accepted is accepted by the transaction that it is of
 by_this : (count n : ℕ) (all : List Accepted) (b : Book) (new : List Transaction) (t : Transaction) (a : Accepted) → Steps count n all b new → IsIn t new
     → IsIn a (accepted_in n (nodes_of count) b new) → a.transaction ≡ record { node = n; id = t.id } → IsIn a (accepted_by n (nodes_of count) (transaction_at b t.id) t)
@@ -116,7 +155,7 @@ step_complete count n all b new t p i undecided a s j f g = by_came (one_of (Cam
         subst (IsIn a) (sym (grown_entries count n t.id old.seats t.seats seats))
         (in_front a (entries count n t.id old.seats) (entries count n t.id (drop (length old.seats) t.seats))
         (subst (λ id. IsIn a (entries count n id old.seats)) same
-        ((all_find (IsHeld count all n) transaction_id t.id b.transactions old p.held e).1 was a s k (f ∙ ap (λ id. record { node = n; id = id }) (sym same)) g)))
+        ((all_find (IsHeld count all n) transaction_id t.id b.transactions old p.held e).1.0 was a s k (f ∙ ap (λ id. record { node = n; id = id }) (sym same)) g)))
     by_old old e was (seats, c) (inr k) =
         subst (IsIn a) (sym (grown_entries count n t.id old.seats t.seats seats))
         (in_back a (entries count n t.id old.seats) (entries count n t.id (drop (length old.seats) t.seats))

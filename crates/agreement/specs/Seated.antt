@@ -12,6 +12,7 @@ use Rattle.at_model.specs.Due.{may_expire}
 use Rattle.at_model.specs.Recover.{last_incarnation}
 use Rattle.at_model.specs.World.{Accepted, Node, World, WorldEvent, accepted_seat, nth, run_of, who_of}
 use Rattle.model_laws.specs.Agreement.{IsIn}
+use Rattle.model_laws.specs.Enlisted.{IsEnlisted}
 use Rattle.model_laws.specs.Laws.{IsDrawn}
 use Rattle.model_laws.specs.Reached.{Reached}
 
@@ -29,13 +30,9 @@ NamesAccepted w n (records.Voted id superior seats) = AllByRecursion (λ s. IsIn
 NamesAccepted w n (records.Decided id seats) = AllByRecursion (λ s. IsIn (accepted_named n w.nodes id s) w.accepted) seats
 NamesAccepted w n other = Unit {0}
 
--- each seat of the transaction is a registration that was accepted
-abbrev pub SeatsAccepted : World → ℕ → Transaction → Type 0
-SeatsAccepted w n t = AllByRecursion (λ s. IsIn (accepted_seat n w.nodes t.id s) w.accepted) t.seats
-
 -- each registration of the transaction, but its initiator's, has its seat
-abbrev pub SeatsAll : World → ℕ → Transaction → Type 0
-SeatsAll w n t =
+abbrev pub SeatsEach : World → ℕ → Transaction → Type 0
+SeatsEach w n t =
     (a : Accepted) (s : Seat) → IsIn a w.accepted → a.transaction ≡ record { node = n; id = t.id } → a.seat ≡ Some s → IsIn a (map (accepted_seat n w.nodes t.id) t.seats)
 
 -- the id was drawn at the node with this journal, and by its book while it is up
@@ -47,10 +44,12 @@ pub record IsSeated (w : World) : Type 0 where
   -- a transaction gives a seat's number to one registration
   pub one_each : (a c : Accepted) (s r : Seat) → IsIn a w.accepted → IsIn c w.accepted → a.transaction ≡ c.transaction → a.seat ≡ Some s → c.seat ≡ Some r → s.number ≡ r.number → a ≡ c
   -- while it is undecided it has a seat for each
-  pub complete : (n : ℕ) (x : Node) (b : Book) (t : Transaction) → nth n w.nodes ≡ Some x → x.book ≡ Some b → IsIn t b.transactions → may_expire t.phase ≡ true → SeatsAll w n t
-  pub seats : (n : ℕ) (x : Node) (b : Book) → nth n w.nodes ≡ Some x → x.book ≡ Some b → AllByRecursion (SeatsAccepted w n) b.transactions
+  pub complete : (n : ℕ) (x : Node) (b : Book) (t : Transaction) → nth n w.nodes ≡ Some x → x.book ≡ Some b → IsIn t b.transactions → may_expire t.phase ≡ true → SeatsEach w n t
+  -- each seat, and each initiator, is a registration that was accepted
+  pub enlisted : (n : ℕ) (x : Node) (b : Book) → nth n w.nodes ≡ Some x → x.book ≡ Some b → AllByRecursion (IsEnlisted w n) b.transactions
+  -- and so is each durable participant that a record names
   pub named : (n : ℕ) (x : Node) → nth n w.nodes ≡ Some x → AllByRecursion (NamesAccepted w n) x.journal
-  -- what is made anew has no registration
+  -- each is of an id that its node drew, so what is made anew has none
   pub drawn : (a : Accepted) (x : Node) → IsIn a w.accepted → nth a.transaction.node w.nodes ≡ Some x → WasDrawn x.journal x.book a.transaction.id
 
 -- So it is in every world that is reached, and in every run.
