@@ -15,5 +15,10 @@ pub mod LeafWaiting
 pub mod LeavesDo
 pub mod Posted
 pub mod Recoveries
+pub mod Seated
+pub mod SeatedBooks
+pub mod SeatedEntries
+pub mod SeatedNames
+pub mod SeatedSteps
 pub mod Seats
 pub mod Stepping

@@ -7,3 +7,4 @@ pub mod Finished
 pub mod Journals
 pub mod LeafDeeds
 pub mod Recoveries
+pub mod Seated

@@ -8,6 +8,7 @@ ghost use Rattle.agreement.specs.Finished.{FinishesAll};
 ghost use Rattle.agreement.specs.Journals.{JournalsLive};
 ghost use Rattle.agreement.specs.LeafDeeds.{LeafStates, LeavesDo};
 ghost use Rattle.agreement.specs.Recoveries.{RecoversEach};
+ghost use Rattle.agreement.specs.Seated.{SeatsAreRegistered};
 
 /// In every run a transaction that aborts asks nobody any more, one that is decided has no initiator that may still ask, and
 /// participants keep their numbers, in the book and in its records.
@@ -82,4 +83,11 @@ pub fn steps_do()
 #[tactic(auto, using(crate::proofs::Seats::deeds_move_seats))]
 pub fn deeds_move_seats()
     ensures { DeedsMoveSeats }
+{}
+
+/// In every run a seat is the registration of one participant: no two registrations of a transaction have one number, an
+/// undecided transaction has a seat for each, and its votes and decisions name such participants alone.
+#[tactic(auto, using(crate::proofs::Seated::seats_are_registered))]
+pub fn seats_are_registered()
+    ensures { SeatsAreRegistered }
 {}
