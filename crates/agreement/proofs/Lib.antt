@@ -10,5 +10,6 @@ pub mod Journals
 pub mod LeafSaying
 pub mod LeafStanding
 pub mod LeavesDo
+pub mod Placing
 pub mod Posted
 pub mod Recoveries

@@ -4,4 +4,5 @@ pub mod Deeds
 pub mod Finished
 pub mod Journals
 pub mod LeafDeeds
+pub mod Places
 pub mod Recoveries

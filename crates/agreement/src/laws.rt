@@ -5,6 +5,7 @@ ghost use Rattle.agreement.specs.Deeds.{TransactionsDo};
 ghost use Rattle.agreement.specs.Finished.{FinishesAll};
 ghost use Rattle.agreement.specs.Journals.{JournalsLive};
 ghost use Rattle.agreement.specs.LeafDeeds.{LeafStates, LeavesDo};
+ghost use Rattle.agreement.specs.Places.{AddressesLeadHome};
 ghost use Rattle.agreement.specs.Recoveries.{RecoversEach};
 
 /// In every run a transaction that aborts asks nobody any more, one that is decided has no initiator that may still ask, and
@@ -59,4 +60,11 @@ pub fn recovers_each()
 #[tactic(auto, using(crate::proofs::Acting::transactions_do))]
 pub fn transactions_do()
     ensures { TransactionsDo }
+{}
+
+/// Where an endpoint that a node writes leads anywhere, it leads to that node and to the target that it was written for: to no
+/// other node, and to no other of the seven kinds of target, item or seat.
+#[tactic(auto, using(crate::proofs::Placing::addresses_lead_home))]
+pub fn addresses_lead_home()
+    ensures { AddressesLeadHome }
 {}
