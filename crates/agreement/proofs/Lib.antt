@@ -13,3 +13,5 @@ pub mod LeavesDo
 pub mod Placing
 pub mod Posted
 pub mod Recoveries
+pub mod Registered
+pub mod Registering

@@ -6,3 +6,4 @@ pub mod Journals
 pub mod LeafDeeds
 pub mod Places
 pub mod Recoveries
+pub mod Registers

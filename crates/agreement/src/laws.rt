@@ -7,6 +7,7 @@ ghost use Rattle.agreement.specs.Journals.{JournalsLive};
 ghost use Rattle.agreement.specs.LeafDeeds.{LeafStates, LeavesDo};
 ghost use Rattle.agreement.specs.Places.{AddressesLeadHome};
 ghost use Rattle.agreement.specs.Recoveries.{RecoversEach};
+ghost use Rattle.agreement.specs.Registers.{RegistersNameTheirSender};
 
 /// In every run a transaction that aborts asks nobody any more, one that is decided has no initiator that may still ask, and
 /// participants keep their numbers, in the book and in its records.
@@ -60,6 +61,13 @@ pub fn recovers_each()
 #[tactic(auto, using(crate::proofs::Acting::transactions_do))]
 pub fn transactions_do()
     ensures { TransactionsDo }
+{}
+
+/// In every run each Register that was posted is one of an item of its sender: it names that item's own endpoint, as the
+/// participant and for the answer, and asks for the protocol of a participant of its kind, or an initiator's.
+#[tactic(auto, using(crate::proofs::Registered::registers_name_their_sender))]
+pub fn registers_name_their_sender()
+    ensures { RegistersNameTheirSender }
 {}
 
 /// Where an endpoint that a node writes leads anywhere, it leads to that node and to the target that it was written for: to no
