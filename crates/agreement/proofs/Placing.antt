@@ -1,5 +1,5 @@
 -- Where an endpoint that a node writes leads anywhere, it leads home.
-use Rattle.std.specs.Prelude.{ℕ, List, [], ◌∷◌, ◌++◌, ◌≡◌, ◌≢◌, ◌<◌, ◌≤◌, ◌^◌, ◌+◌, Option, Bool, true, false, cond, Some, None, nat_eq, bytes_eq, codes, decimal, length, take, drop, option_and_then, refl}
+use Rattle.std.specs.Prelude.{ℕ, List, [], ◌∷◌, ◌++◌, ◌≡◌, ◌≢◌, ◌<◌, ◌≤◌, ◌^◌, Option, Bool, true, false, cond, Some, None, nat_eq, bytes_eq, codes, decimal, length, take, drop, option_and_then, refl}
 use Rattle.std.specs.Str.Parse.{AllDigits, digits_value_after}
 use Rattle.std.proofs.Common.{sym, ap, subst, ◌∙◌, arith}
 use Rattle.std.proofs.lemmas.Bool.{eqb-true, eqb-false, eq-eqb, ne_eqb}

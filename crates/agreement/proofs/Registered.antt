@@ -6,7 +6,6 @@ use Rattle.std.proofs.lemmas.Bool.{eqb-true, eqb-false, ltb-true}
 use Rattle.at_base.specs.Numbers.{Numbers}
 use Rattle.at_base.specs.IdText.{IsId}
 use Rattle.at_base.specs.declared.epr.Epr.{Epr}
-use Rattle.at_base.specs.declared.notice.Notice.{Notice}
 use Rattle.at_base.specs.declared.notice.Notice.TheVariants as notices
 use Rattle.at_base.specs.declared.message.Message.{Message}
 use Rattle.at_base.specs.declared.message.Message.TheVariants as messages
@@ -14,7 +13,6 @@ use Rattle.at_base.specs.declared.message.Register.{Register}
 use Rattle.at_base.specs.declared.target.Target.{Target}
 use Rattle.at_base.specs.declared.record.Record.{Record}
 use Rattle.at_base.specs.declared.event.Arrived.{Arrived}
-use Rattle.at_base.specs.declared.event.Moment.{Moment}
 use Rattle.at_base.specs.declared.event.Event.{Event}
 use Rattle.at_base.specs.declared.outs.Post.{Post}
 use Rattle.at_base.specs.declared.outs.Out.{Out}
@@ -24,20 +22,18 @@ use Rattle.at_tables.specs.declared.cells.Act.TheVariants as acts
 use Rattle.at_tables.specs.declared.cells.Cell.{Cell}
 use Rattle.at_model.specs.Book.{Book, Transaction, Leaf, Activity, Request, WorkRequest, transaction_id, leaf_id, activity_id, next_id, last_counter}
 use Rattle.at_model.specs.Posts.{accepted, stranger_post, fault_post, notice_post, invalid_state, unknown_transaction}
-use Rattle.at_model.specs.Moves.{Change, Decision, Goes}
+use Rattle.at_model.specs.Moves.{Decision}
 use Rattle.at_model.specs.Arrivals.{request_of, with_answer}
-use Rattle.at_model.specs.Activities.{Beginning, on_begin, on_interpose, on_ask, on_complete}
-use Rattle.at_model.specs.Create.{on_create}
-use Rattle.at_model.specs.Leaves.{on_work}
-use Rattle.at_model.specs.Register.{on_register, register_unknown, protocol_named}
-use Rattle.at_model.specs.Due.{transaction_due, transaction_reached, leaf_due, leaf_reached, activity_due, activity_reached}
+use Rattle.at_model.specs.Activities.{on_begin, on_interpose}
+use Rattle.at_model.specs.Register.{on_register, protocol_named}
+use Rattle.at_model.specs.Due.{transaction_due, leaf_due, activity_due}
 use Rattle.at_model.specs.Recover.{last_incarnation, recover}
-use Rattle.at_model.specs.Step.{Outcome, Plan, plain, still, at_time, moment_of, make_transaction, make_leaf, make_activity, put_transaction, put_leaf, put_activity, outcome_of, plan_of, transaction_plan, leaf_plan, activity_plan, registration_outcome, stranger_act, stranger_cell, outcome_act, outcome_cell, transaction_at, leaf_at, activity_at, branch, plan, step}
-use Rattle.at_model.specs.World.{Node, Posted, World, WorldEvent, nth, put_nth, put_book, base_of, opening, with_post, lost_in, goes_down, started, up_after, run_of}
+use Rattle.at_model.specs.Step.{Outcome, Plan, plain, still, at_time, moment_of, make_transaction, make_leaf, make_activity, put_transaction, put_leaf, put_activity, plan_of, registration_outcome, stranger_act, stranger_cell, outcome_act, outcome_cell, transaction_at, leaf_at, activity_at, branch, plan, step}
+use Rattle.at_model.specs.World.{Node, Posted, World, nth, put_nth, put_book, base_of, with_post, lost_in, goes_down, started, up_after, run_of}
 use Rattle.model_laws.specs.Agreement.{IsIn}
 use Rattle.model_laws.specs.Drawn.{AreDrawn, restarted, with_entry}
 use Rattle.model_laws.specs.Laws.{IsDrawn}
-use Rattle.model_laws.specs.Reached.{Heard, counts, Reached}
+use Rattle.model_laws.specs.Reached.{counts, Reached}
 use Rattle.model_laws.specs.Shapes.{IsAnswer, Answers, ignored, unknown, committed, not_created, not_registered, not_employed, unknown_cell, MovesTransaction, at_seat, at_link, at_completion, when_due, MovesLeaf, at_leaf, leaf_when_due, MovesActivity, at_activity, activity_when_due, works, completes, MakesActivity, begins, interposes, Shape, nothing_moves, time_moves, time_passes, transaction_moves, leaf_moves, activity_moves, transaction_registers, transaction_made, leaf_made, activity_made}
 use Rattle.model_laws.specs.Behind.{accepted_as}
 use Rattle.model_laws.proofs.Deciding.{Both, plain_both, decided_says, in_branch, all_find, all_join, all_more}
@@ -53,8 +49,8 @@ use Rattle.model_laws.proofs.Reaching.{NodeLaw, nodes_hold, run_reached}
 use Rattle.model_laws.proofs.Recovering.{incarnations_rise}
 use Rattle.model_laws.proofs.Running.{put_this, put_other}
 use Rattle.model_laws.proofs.Shaping.{steps_touch_one, steps_keep_place}
-use Rattle.agreement.specs.Registers.{IsOwnRegister, RegistersFor, HasDrawn, WasDrawn, IsOwnId, RegistersNameTheirSender}
-use Rattle.agreement.proofs.Registering.{Whose, IsWhose, AreWhose, OutWhose, OutsWhose, Says, fine_whose, outs_whose, to_each_whose, like_says, with_answer_whose, due_whose, on_leaf_whose, leaf_due_whose, on_activity_whose, activity_due_whose, asks_whose, completes_whose, register_none, unknown_none, create_whose, work_whose}
+use Rattle.agreement.specs.Registers.{IsOwnRegister, HasDrawn, WasDrawn, IsOwnId, RegistersNameTheirSender}
+use Rattle.agreement.proofs.Registering.{Whose, IsWhose, AreWhose, OutWhose, OutsWhose, Says, outs_whose, to_each_whose, like_says, with_answer_whose, due_whose, on_leaf_whose, leaf_due_whose, on_activity_whose, activity_due_whose, asks_whose, completes_whose, register_none, unknown_none, create_whose, work_whose}
 
 posts_whose : (P : Numbers → Type 0) (base : List ℕ) (ps : List Post) → AreWhose P base ps → OutsWhose P base (map outs.Post ps)
 posts_whose P base [] h = tt
@@ -294,8 +290,7 @@ drawn_put u v n x z found is more m id (y, there, h) = by_number (nat_eq m n) re
 
     by_number : (c : Bool) → nat_eq m n ≡ c → WasDrawn v m id
     by_number true c =
-        let here : m ≡ n = eqb-true m n c in
-        (
+        let here : m ≡ n = eqb-true m n c in (
           z,
           ap (nth m) is ∙ ap (λ k. nth k (put_nth n z u.nodes)) here ∙ put_this u.nodes n x z found,
           more id (subst (λ (k : Node). HasDrawn k.journal k.book id) (same_node (nth n u.nodes) (subst (λ k. nth k u.nodes ≡ Some y) here there) found) h),
@@ -341,8 +336,7 @@ steps_whose : (count : ℕ) (u : World) (n : ℕ) (x : Node) (b : Book) (e : Eve
 steps_whose count u n x b e now landed small reached found up h =
     let v : World = counts u n x b e now landed in
     let g : WorldGood count u = world_good count u small reached in
-    let known : IsUp (base_of n) (g.choices n) x.journal b = subst (IsKnown (base_of n) (g.choices n) x.journal) up (g.nodes n x found) in
-    (
+    let known : IsUp (base_of n) (g.choices n) x.journal b = subst (IsKnown (base_of n) (g.choices n) x.journal) up (g.nodes n x found) in (
       whose_on u v (drawn_put u v n x z found refl (λ id k. drawn_step x b e now landed x.book refl up id k)) u.posted h,
       outs_on (IsKept (step b e now landed).book) (IsOwnId v n) (base_of n) (step b e now landed).outs (λ id k. (k.0, (z, put_this u.nodes n x z found, k.1)))
           (subst (λ base. OutsWhose (IsKept (step b e now landed).book) base (step b e now landed).outs) known.says.base_is

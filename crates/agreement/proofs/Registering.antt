@@ -1,11 +1,9 @@
 -- Each Register that is posted is one of an item of its sender, and names that item.
-use Rattle.std.specs.Prelude.{ℕ, List, [], ◌∷◌, ◌++◌, Option, Some, None, Bool, true, false, not, nat_lt, ◌&&◌, ◌+◌, ◌^◌, if◌then◌else◌, bytes_eq, length, map, option_map, ◌≡◌, ◌≤◌, ◌<◌, refl}
+use Rattle.std.specs.Prelude.{ℕ, List, [], ◌∷◌, ◌++◌, Option, Some, None, Bool, true, false, not, nat_lt, ◌&&◌, if◌then◌else◌, bytes_eq, map, option_map, ◌≡◌, refl}
 use Rattle.std.specs.List.{AllByRecursion}
-use Rattle.std.proofs.Common.{inl, inr, sym, subst, ap, arith, ◌∙◌}
-use Rattle.std.proofs.lemmas.Bool.{ltb-true}
+use Rattle.std.proofs.Common.{subst}
 use Rattle.std.proofs.lemmas.Slice.Eq.{bytes_eq-Decides}
 use Rattle.at_base.specs.Numbers.{Numbers}
-use Rattle.at_base.specs.IdText.{IsId}
 use Rattle.at_base.specs.declared.epr.Epr.{Epr}
 use Rattle.at_base.specs.declared.epr.Reply.{Reply}
 use Rattle.at_base.specs.declared.epr.Reply.TheVariants as replies
@@ -22,10 +20,8 @@ use Rattle.at_base.specs.declared.message.Register.{Register}
 use Rattle.at_base.specs.declared.message.Work.{Work}
 use Rattle.at_base.specs.declared.target.Target.{Target}
 use Rattle.at_base.specs.declared.target.Target.TheVariants as targets
-use Rattle.at_base.specs.declared.record.Record.{Record}
 use Rattle.at_base.specs.declared.event.Arrived.{Arrived}
 use Rattle.at_base.specs.declared.event.Moment.{Moment}
-use Rattle.at_base.specs.declared.event.Event.{Event}
 use Rattle.at_base.specs.declared.outs.Post.{Post}
 use Rattle.at_base.specs.declared.outs.Out.{Out}
 use Rattle.at_base.specs.declared.outs.Out.TheVariants as outs
@@ -36,22 +32,22 @@ use Rattle.at_tables.specs.declared.cells.Act.TheVariants as acts
 use Rattle.at_tables.specs.declared.cells.Cell.{Cell}
 use Rattle.at_tables.specs.Names.{is_state}
 use Rattle.at_tables.specs.Tables.{initiator_of}
-use Rattle.at_model.specs.Book.{Book, Transaction, Leaf, Activity, Enlistment, Superior, Link, Request, WorkRequest, Phase, Progress, transaction_id, leaf_id, activity_id, next_id, last_counter}
-use Rattle.at_model.specs.Addresses.{endpoint_of, atomic, register_id, create_id, protocol_of, completion_protocol}
-use Rattle.at_model.specs.Posts.{notice_post, stranger_post, fault_post, reply_post, register_post, replied, faulted, stored_or, to_each, invalid_state, unknown_transaction, invalid_protocol, invalid_parameters, cannot_create, cannot_register}
-use Rattle.at_model.specs.Moves.{Change, Decision, Goes, Records, begin, post, posts, stays, forgotten, ignored}
+use Rattle.at_model.specs.Book.{Transaction, Leaf, Activity, Enlistment, Superior, Link, Request, WorkRequest, Phase, Progress}
+use Rattle.at_model.specs.Addresses.{atomic, register_id, create_id, protocol_of, completion_protocol}
+use Rattle.at_model.specs.Posts.{notice_post, fault_post, reply_post, register_post, replied, stored_or, to_each, invalid_state, invalid_protocol, invalid_parameters, cannot_create, cannot_register}
+use Rattle.at_model.specs.Moves.{Change, Decision, Goes, Records, begin, ignored}
 use Rattle.at_model.specs.Seats.{under}
 use Rattle.at_model.specs.Abort.{Alone, abort}
 use Rattle.at_model.specs.Phases.{upwards}
-use Rattle.at_model.specs.Arrivals.{relates_to, link_fault, on_link, on_seat, on_completion, refused_at, refused_request, request_answered, is_registering, request_stands, request_under, request_left, answer_request, request_of, with_answer, context_of}
-use Rattle.at_model.specs.Register.{Registration, seat_endpoint, completion_endpoint, may_register, is_late, new_seat, late_prepare, accept, refuse_register, register_new, register_again, held_seat, on_register, register_unknown, protocol_named}
-use Rattle.at_model.specs.Create.{new_root, Creation, refuse_create, create_under, create_in, on_create}
-use Rattle.at_model.specs.Leaves.{leaf_target, leaf_says, leaf_register, work_answer, leaf_refused, leaf_aborts, on_leaf, Employment, refuse_work, work_for, on_work}
-use Rattle.at_model.specs.Activities.{activity_target, is_begun, told, activity_act, activity_notice, with_context, activity_created, activity_registered, activity_fault, on_activity, activity_state, on_begin, on_interpose, on_ask, on_complete, complete_posts}
-use Rattle.at_model.specs.Due.{Reached, Expired, Over, Unanswered, Nothing, register_again_at, link_again, links_again, seat_again, seats_again, unanswered_seat, transaction_due, transaction_reached, leaf_register_again, leaf_due, leaf_reached, completion_register_again, activity_again, activity_due, activity_reached}
+use Rattle.at_model.specs.Arrivals.{relates_to, link_fault, on_link, refused_at, refused_request, request_answered, is_registering, request_stands, request_under, request_left, answer_request, request_of, with_answer, context_of}
+use Rattle.at_model.specs.Register.{seat_endpoint, completion_endpoint, may_register, is_late, new_seat, late_prepare, accept, refuse_register, register_new, register_again, held_seat, on_register, register_unknown, protocol_named}
+use Rattle.at_model.specs.Create.{new_root, refuse_create, create_under, create_in, on_create}
+use Rattle.at_model.specs.Leaves.{leaf_target, leaf_says, work_answer, leaf_refused, leaf_aborts, on_leaf, refuse_work, work_for, on_work}
+use Rattle.at_model.specs.Activities.{activity_target, is_begun, told, activity_act, activity_notice, with_context, activity_created, activity_registered, activity_fault, on_activity, activity_state, on_ask, on_complete}
+use Rattle.at_model.specs.Due.{Reached, Expired, Over, Unanswered, Nothing, register_again_at, link_again, links_again, seat_again, seats_again, unanswered_seat, transaction_reached, leaf_register_again, leaf_reached, completion_register_again, activity_again, activity_reached}
 use Rattle.model_laws.proofs.Deciding.{DecisionSays, both_say, either_says, either_left, all_join, all_if}
 use Rattle.model_laws.proofs.Telling.{Anything}
-use Rattle.model_laws.proofs.Posting.{Fine, AreFine, to_each_fine, initiator_endpoint, seat_like, link_like, completion_like, AreLike, leaf_like}
+use Rattle.model_laws.proofs.Posting.{Fine, AreFine, initiator_endpoint, link_like, AreLike, leaf_like}
 use Rattle.model_laws.proofs.Enlisting.{NoRegister, OutSays, AreOuts, replied_says, faulted_says}
 use Rattle.model_laws.specs.Behind.{accepted_as}
 use Rattle.agreement.specs.Registers.{IsOwnRegister, RegistersFor}

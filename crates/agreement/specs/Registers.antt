@@ -4,7 +4,6 @@ use Rattle.at_base.specs.Numbers.{Numbers}
 use Rattle.at_base.specs.IdText.{IsId}
 use Rattle.at_base.specs.declared.epr.Epr.{Epr}
 use Rattle.at_base.specs.declared.epr.Reply.TheVariants as replies
-use Rattle.at_base.specs.declared.message.Message.{Message}
 use Rattle.at_base.specs.declared.message.Message.TheVariants as messages
 use Rattle.at_base.specs.declared.message.Register.{Register}
 use Rattle.at_base.specs.declared.target.Target.{Target}
