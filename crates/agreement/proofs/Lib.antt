@@ -15,3 +15,5 @@ pub mod Posted
 pub mod Recoveries
 pub mod Registered
 pub mod Registering
+pub mod Sorted
+pub mod Sorting

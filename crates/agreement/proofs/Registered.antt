@@ -263,7 +263,7 @@ step_whose base s b e now landed h =
         subst (λ (p : Plan). IsDrawn (branch p landed).book id) (sym is) (in_either c os id (made_drawn b c i k id id next refl) landed)
 
 -- the incarnation of a book is one of its node's records
-abbrev IsOfRecords : List Record → Option Book → Type 0
+abbrev pub IsOfRecords : List Record → Option Book → Type 0
 IsOfRecords rs None = Unit {0}
 IsOfRecords rs (Some b) = b.incarnation ≤ last_incarnation rs
 
@@ -276,12 +276,12 @@ records_law = record {
   rises = λ base rs small h. omega arith;
 }
 
-of_records : (count : ℕ) (w : World) → Reached count w → (n : ℕ) (x : Node) → nth n w.nodes ≡ Some x → IsOfRecords x.journal x.book
+pub of_records : (count : ℕ) (w : World) → Reached count w → (n : ℕ) (x : Node) → nth n w.nodes ≡ Some x → IsOfRecords x.journal x.book
 unfolding records_law
 of_records count w reached n x found = nodes_hold records_law count w reached n x found
 
 -- what was drawn stays drawn
-drawn_put : (u v : World) (n : ℕ) (x z : Node) → nth n u.nodes ≡ Some x → v.nodes ≡ put_nth n z u.nodes → ((id : Numbers) → HasDrawn x.journal x.book id → HasDrawn z.journal z.book id)
+pub drawn_put : (u v : World) (n : ℕ) (x z : Node) → nth n u.nodes ≡ Some x → v.nodes ≡ put_nth n z u.nodes → ((id : Numbers) → HasDrawn x.journal x.book id → HasDrawn z.journal z.book id)
     → (m : ℕ) (id : Numbers) → WasDrawn u m id → WasDrawn v m id
 drawn_put u v n x z found is more m id (y, there, h) = by_number (nat_eq m n) refl
   where
@@ -304,12 +304,12 @@ drawn_step x b e now landed (Some c) up is id h =
     let same : c ≡ b = cc in
     drawn_on b (step b e now landed).book (steps_keep_place b e now landed) id (subst (λ (k : Book). IsDrawn k id) same h)
 
-drawn_down : (rs : List Record) (o : Option Book) → IsOfRecords rs o → (id : Numbers) → HasDrawn rs o id → HasDrawn rs None id
+pub drawn_down : (rs : List Record) (o : Option Book) → IsOfRecords rs o → (id : Numbers) → HasDrawn rs o id → HasDrawn rs None id
 drawn_down rs None k id h = h
 drawn_down rs (Some b) k id (inl h) = omega (arith, h, k)
 drawn_down rs (Some b) k id (inr (e, h)) = omega (arith, e, k)
 
-drawn_up : (base : List ℕ) (rs : List Record) (stop : Bool) (id : Numbers) → HasDrawn rs None id
+pub drawn_up : (base : List ℕ) (rs : List Record) (stop : Bool) (id : Numbers) → HasDrawn rs None id
     → HasDrawn (restarted rs) (if stop then None else Some (recover base (restarted rs))) id
 drawn_up base rs true id h = omega (arith, h, (incarnations_rise rs).0)
 drawn_up base rs false id h = inl (omega (arith, h, (incarnations_rise rs).0))

@@ -7,3 +7,4 @@ pub mod LeafDeeds
 pub mod Places
 pub mod Recoveries
 pub mod Registers
+pub mod Sorts

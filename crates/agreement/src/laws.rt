@@ -8,6 +8,7 @@ ghost use Rattle.agreement.specs.LeafDeeds.{LeafStates, LeavesDo};
 ghost use Rattle.agreement.specs.Places.{AddressesLeadHome};
 ghost use Rattle.agreement.specs.Recoveries.{RecoversEach};
 ghost use Rattle.agreement.specs.Registers.{RegistersNameTheirSender};
+ghost use Rattle.agreement.specs.Sorts.{SortsAgree};
 
 /// In every run a transaction that aborts asks nobody any more, one that is decided has no initiator that may still ask, and
 /// participants keep their numbers, in the book and in its records.
@@ -75,4 +76,11 @@ pub fn registers_name_their_sender()
 #[tactic(auto, using(crate::proofs::Placing::addresses_lead_home))]
 pub fn addresses_lead_home()
     ensures { AddressesLeadHome }
+{}
+
+/// In every run each id names an item of one sort for good: a root, a subordinate, a participant of one kind that does work of
+/// its own, or an activity. What is in the books and in the records, and what happened, agrees with it.
+#[tactic(auto, using(crate::proofs::Sorted::sorts_agree))]
+pub fn sorts_agree()
+    ensures { SortsAgree }
 {}
