@@ -1,5 +1,5 @@
 -- Each Register that a node posted names an item that the node made, in every run.
-use Rattle.std.specs.Prelude.{ℕ, List, [], ◌∷◌, ◌++◌, Option, Some, None, Bool, true, false, nat_eq, nat_lt, ◌+◌, ◌^◌, if◌then◌else◌, length, map, option_map, ◌≡◌, ◌≤◌, ◌<◌, refl}
+use Rattle.std.specs.Prelude.{ℕ, List, [], ◌∷◌, ◌++◌, Option, Some, None, Bool, true, false, nat_eq, nat_lt, ◌+◌, ◌^◌, if◌then◌else◌, length, map, option_map, ◌≡◌, ◌≤◌, ◌<◌, is_none, refl}
 use Rattle.std.specs.List.{AllByRecursion}
 use Rattle.std.proofs.Common.{inl, inr, sym, subst, ap, arith, ◌∙◌}
 use Rattle.std.proofs.lemmas.Bool.{eqb-true, eqb-false, ltb-true}
@@ -11,6 +11,12 @@ use Rattle.at_base.specs.declared.message.Message.{Message}
 use Rattle.at_base.specs.declared.message.Message.TheVariants as messages
 use Rattle.at_base.specs.declared.message.Register.{Register}
 use Rattle.at_base.specs.declared.target.Target.{Target}
+use Rattle.at_base.specs.declared.target.Target.TheVariants as targets
+use Rattle.at_base.specs.declared.notice.Kind.{Kind}
+use Rattle.at_model.specs.Leaves.{leaf_target}
+use Rattle.at_model.specs.Activities.{activity_target}
+use Rattle.model_laws.proofs.Making.{makes_under_the_next_id}
+use Rattle.model_laws.specs.Laws.{HasId, HasLeafId}
 use Rattle.at_base.specs.declared.record.Record.{Record}
 use Rattle.at_base.specs.declared.event.Arrived.{Arrived}
 use Rattle.at_base.specs.declared.event.Event.{Event}
@@ -52,77 +58,83 @@ use Rattle.model_laws.proofs.Shaping.{steps_touch_one, steps_keep_place}
 use Rattle.agreement.specs.Registers.{IsOwnRegister, HasDrawn, WasDrawn, IsOwnId, RegistersNameTheirSender}
 use Rattle.agreement.proofs.Registering.{Whose, IsWhose, AreWhose, OutWhose, OutsWhose, Says, outs_whose, to_each_whose, like_says, with_answer_whose, due_whose, on_leaf_whose, leaf_due_whose, on_activity_whose, activity_due_whose, asks_whose, completes_whose, register_none, unknown_none, create_whose, work_whose}
 
-posts_whose : (P : Numbers → Type 0) (base : List ℕ) (ps : List Post) → AreWhose P base ps → OutsWhose P base (map outs.Post ps)
+posts_whose : (P : Target → Numbers → Type 0) (base : List ℕ) (ps : List Post) → AreWhose P base ps → OutsWhose P base (map outs.Post ps)
 posts_whose P base [] h = tt
 posts_whose P base (p ∷ ps) (h, k) = (h, posts_whose P base ps k)
 
-answered_whose : (P : Numbers → Type 0) (base : List ℕ) (answer : List Out) → IsAnswer answer → OutsWhose P base answer
+answered_whose : (P : Target → Numbers → Type 0) (base : List ℕ) (answer : List Out) → IsAnswer answer → OutsWhose P base answer
 answered_whose P base answer (inl e) = subst (OutsWhose P base) (sym e) tt
 answered_whose P base answer (inr e) = subst (OutsWhose P base) (sym e) (tt, tt)
 
-abbrev SaysOuts : (Numbers → Type 0) → List ℕ → Outcome → Type 0
+abbrev SaysOuts : (Target → Numbers → Type 0) → List ℕ → Outcome → Type 0
 SaysOuts P base o = OutsWhose P base o.outs
 
-abbrev BothSay : (Numbers → Type 0) → List ℕ → Plan → Type 0
+abbrev BothSay : (Target → Numbers → Type 0) → List ℕ → Plan → Type 0
 BothSay P base p = Both (SaysOuts P base) p
 
-decision_says : {A : Type 0} (P : Numbers → Type 0) (base : List ℕ) (b : Book) (put : Option A → Book) (answer : List Out) (d : Decision A) → IsAnswer answer → Says P base d
+decision_says : {A : Type 0} (P : Target → Numbers → Type 0) (base : List ℕ) (b : Book) (put : Option A → Book) (answer : List Out) (d : Decision A) → IsAnswer answer → Says P base d
     → BothSay P base (plan_of b put answer d)
 decision_says P base b put answer d a h =
     decided_says (λ c. AreWhose P base c.posts) Anything (SaysOuts P base) (λ r o k. k) b put answer d h
     (λ c k. all_join (OutWhose P base) answer (map outs.Post c.posts) (answered_whose P base answer a) (posts_whose P base c.posts k)) (answered_whose P base answer a)
 
-still_says : (P : Numbers → Type 0) (base : List ℕ) (b : Book) (os : List Out) → OutsWhose P base os → BothSay P base (plain (still b os))
+still_says : (P : Target → Numbers → Type 0) (base : List ℕ) (b : Book) (os : List Out) → OutsWhose P base os → BothSay P base (plain (still b os))
 still_says P base b os h = plain_both (SaysOuts P base) (still b os) h
 
 -- strangers
-stranger_act_whose : (P : Numbers → Type 0) (base : List ℕ) (own : Target) (from : Option Epr) (id : Option (List ℕ)) (act : Act) → AreWhose P base (stranger_act base own from id act)
+stranger_act_whose : (P : Target → Numbers → Type 0) (base : List ℕ) (own : Target) (from : Option Epr) (id : Option (List ℕ)) (act : Act) → AreWhose P base (stranger_act base own from id act)
 stranger_act_whose P base own from id acts.SendRollback = to_each_whose P base from (λ to. stranger_post base own to notices.Rollback) (λ to. tt)
 stranger_act_whose P base own from id acts.SendCommitted = to_each_whose P base from (λ to. stranger_post base own to notices.Committed) (λ to. tt)
 stranger_act_whose P base own from id acts.SendAborted = to_each_whose P base from (λ to. stranger_post base own to notices.Aborted) (λ to. tt)
 stranger_act_whose P base own from id acts.FaultUnknownTransaction = to_each_whose P base from (λ to. fault_post (Some to) id unknown_transaction) (λ to. tt)
 stranger_act_whose P base own from id other = tt
 
-stranger_whose : (P : Numbers → Type 0) (base : List ℕ) (own : Target) (from : Option Epr) (id : Option (List ℕ)) (c : Option Cell) → AreWhose P base (stranger_cell base own from id c)
+stranger_whose : (P : Target → Numbers → Type 0) (base : List ℕ) (own : Target) (from : Option Epr) (id : Option (List ℕ)) (c : Option Cell) → AreWhose P base (stranger_cell base own from id c)
 stranger_whose P base own from id None = tt
 stranger_whose P base own from id (Some c) = stranger_act_whose P base own from id c.act
 
-outcome_act_whose : (P : Numbers → Type 0) (base : List ℕ) (own : Target) (from : Option Epr) (id : Option (List ℕ)) (act : Act) → AreWhose P base (outcome_act base own from id act)
+outcome_act_whose : (P : Target → Numbers → Type 0) (base : List ℕ) (own : Target) (from : Option Epr) (id : Option (List ℕ)) (act : Act) → AreWhose P base (outcome_act base own from id act)
 outcome_act_whose P base own from id acts.SendCommitted = to_each_whose P base from (λ to. notice_post base own to notices.Committed) (λ to. tt)
 outcome_act_whose P base own from id acts.FaultInvalidState = to_each_whose P base from (λ to. fault_post (Some to) id invalid_state) (λ to. tt)
 outcome_act_whose P base own from id other = tt
 
-outcome_whose : (P : Numbers → Type 0) (base : List ℕ) (own : Target) (from : Option Epr) (id : Option (List ℕ)) (c : Option Cell) → AreWhose P base (outcome_cell base own from id c)
+outcome_whose : (P : Target → Numbers → Type 0) (base : List ℕ) (own : Target) (from : Option Epr) (id : Option (List ℕ)) (c : Option Cell) → AreWhose P base (outcome_cell base own from id c)
 outcome_whose P base own from id None = tt
 outcome_whose P base own from id (Some c) = outcome_act_whose P base own from id c.act
 
 -- what is known of the ids of a book: those that register, and the next one where it is drawn
-record Knows (P : Numbers → Type 0) (b : Book) : Type 0 where
-  transactions : (id : Numbers) (t : Transaction) (r : Request) → transaction_at b id ≡ Some t → request_of t.superior ≡ Some r → P t.id
-  leaves : (id : Numbers) (l : Leaf) (r : WorkRequest) → leaf_at b id ≡ Some l → l.request ≡ Some r → P l.id
-  activities : (id : Numbers) (a : Activity) → activity_at b id ≡ Some a → P a.id
+pub record Knows (P : Target → Numbers → Type 0) (b : Book) : Type 0 where
+  pub transactions : (id : Numbers) (t : Transaction) (r : Request) → transaction_at b id ≡ Some t → request_of t.superior ≡ Some r → (kind : Kind) → P (targets.Participant t.id kind) t.id
+  pub leaves : (id : Numbers) (l : Leaf) (r : WorkRequest) → leaf_at b id ≡ Some l → l.request ≡ Some r → P (leaf_target l) l.id
+  pub activities : (id : Numbers) (a : Activity) → activity_at b id ≡ Some a → P (activity_target a) a.id
 
-abbrev Draws : (Numbers → Type 0) → Book → Plan → Type 0
-Draws P b p = (c : Book) (os : List Out) → p ≡ plain (still c os) → c.incarnation ≡ b.incarnation → c.counter ≡ b.counter + 1 → (id : Numbers) → next_id b ≡ Some id → P id
+-- what is known of an item that is made
+pub record Draws (P : Target → Numbers → Type 0) (b : Book) (now : ℕ) (p : Plan) : Type 0 where
+  pub transaction : (t : Transaction) (os : List Out) → p ≡ plain (still (make_transaction (at_time now b) t) os) → next_id b ≡ Some t.id → is_none t.superior ≡ false → (kind : Kind)
+      → P (targets.Participant t.id kind) t.id
+  pub leaf : (l : Leaf) (os : List Out) → p ≡ plain (still (make_leaf (at_time now b) l) os) → next_id b ≡ Some l.id → P (leaf_target l) l.id
+
+one_item : {A : Type 0} (o : Option A) (x y : A) → o ≡ Some x → o ≡ Some y → x ≡ y
+one_item o x y e f = cc
 
 no_item : {A : Type 0} (o : Option A) (x : A) → o ≡ None → o ≡ Some x → ⊥
 no_item o x e f = cc
 
 -- an answer
-answers_whose : (P : Numbers → Type 0) (b : Book) (now : ℕ) (a : Arrived) (os : List Out) → Answers b now a os → OutsWhose P b.base os
+answers_whose : (P : Target → Numbers → Type 0) (b : Book) (now : ℕ) (a : Arrived) (os : List Out) → Answers b now a os → OutsWhose P b.base os
 answers_whose P b now a os (ignored e) = subst (OutsWhose P b.base) (sym e) (tt, tt)
 answers_whose P b now a os (unknown n says at e) =
     subst (OutsWhose P b.base) (sym e) (tt, posts_whose P b.base _ (stranger_whose P b.base a.target a.from a.id (unknown_cell a.target n)))
 answers_whose P b now a os (committed n id says at kept e) =
     subst (OutsWhose P b.base) (sym e) (tt, posts_whose P b.base _ (outcome_whose P b.base a.target a.from a.id _))
 answers_whose P b now a os (not_created c at says none e) =
-    subst (OutsWhose P b.base) (sym e) (create_whose P (moment_of b now) (length b.transactions) a c (next_id b) (λ id t next made. absurd (no_item _ t none made)))
+    subst (OutsWhose P b.base) (sym e) (create_whose P (moment_of b now) (length b.transactions) a c (next_id b) (λ id t next made superior kind. absurd (no_item _ t none made)))
 answers_whose P b now a os (not_registered id r at says none e) = subst (OutsWhose P b.base) (sym e) (outs_whose P b.base _ (unknown_none a r (protocol_named r.protocol)))
 answers_whose P b now a os (not_employed w at says none e) =
     subst (OutsWhose P b.base) (sym e) (work_whose P (moment_of b now) (length b.leaves) a w (next_id b) (λ id l next made. absurd (no_item _ l none made)))
 
 -- moves
-transaction_whose : (P : Numbers → Type 0) (b : Book) (e : Event) (now : ℕ) (id : Numbers) (t : Transaction) (d : Decision Transaction) → Knows P b → transaction_at b id ≡ Some t
+transaction_whose : (P : Target → Numbers → Type 0) (b : Book) (e : Event) (now : ℕ) (id : Numbers) (t : Transaction) (d : Decision Transaction) → Knows P b → transaction_at b id ≡ Some t
     → MovesTransaction b e now t d → Says P b.base d
 transaction_whose P b e now id t d k found (at_seat a s came here is) =
     subst (Says P b.base) (sym is) (like_says P b.base t _ (seat_like NoRegister (request_of t.superior) (map accepted_as t.seats) (option_map initiator_endpoint t.completion) (moment_of b now) a t s a.message (refl, refl, refl)))
@@ -133,14 +145,14 @@ transaction_whose P b e now id t d k found (at_completion a c came target comple
     subst (Says P b.base) (sym is)
     (like_says P b.base t _ (completion_like NoRegister (request_of t.superior) (map accepted_as t.seats) (option_map initiator_endpoint t.completion) (moment_of b now) a t c a.message (sym (ap (option_map initiator_endpoint) completion)) (refl, refl, refl)))
 transaction_whose P b e now id t d k found (when_due came is) =
-    subst (Says P b.base) (sym is) (due_whose P (moment_of b now) t (transaction_due (moment_of b now) t) (λ r f. k.transactions id t r found f))
+    subst (Says P b.base) (sym is) (due_whose P (moment_of b now) t (transaction_due (moment_of b now) t) (λ kind r f. k.transactions id t r found f kind))
 
-leaf_whose : (P : Numbers → Type 0) (b : Book) (e : Event) (now : ℕ) (id : Numbers) (l : Leaf) (d : Decision Leaf) → Knows P b → leaf_at b id ≡ Some l → MovesLeaf b e now l d → Says P b.base d
+leaf_whose : (P : Target → Numbers → Type 0) (b : Book) (e : Event) (now : ℕ) (id : Numbers) (l : Leaf) (d : Decision Leaf) → Knows P b → leaf_at b id ≡ Some l → MovesLeaf b e now l d → Says P b.base d
 leaf_whose P b e now id l d k found (at_leaf a came target is) = subst (Says P b.base) (sym is) (on_leaf_whose P b.base (moment_of b now) a l a.message)
 leaf_whose P b e now id l d k found (leaf_when_due came is) =
     subst (Says P b.base) (sym is) (leaf_due_whose P (moment_of b now) l (leaf_due (moment_of b now) l) (λ r f. k.leaves id l r found f))
 
-activity_whose : (P : Numbers → Type 0) (b : Book) (e : Event) (now : ℕ) (id : Numbers) (a : Activity) (d : Decision Activity) → Knows P b → activity_at b id ≡ Some a → MovesActivity b e now a d
+activity_whose : (P : Target → Numbers → Type 0) (b : Book) (e : Event) (now : ℕ) (id : Numbers) (a : Activity) (d : Decision Activity) → Knows P b → activity_at b id ≡ Some a → MovesActivity b e now a d
     → Says P b.base d
 activity_whose P b e now id a d k found (at_activity r came target is) = subst (Says P b.base) (sym is) (on_activity_whose P (moment_of b now) r a r.message (k.activities id a found))
 activity_whose P b e now id a d k found (activity_when_due came is) =
@@ -148,13 +160,13 @@ activity_whose P b e now id a d k found (activity_when_due came is) =
 activity_whose P b e now id a d k found (works url kind vote key value came is) = subst (Says P b.base) (sym is) (asks_whose P b.base (moment_of b now) url kind vote key value a a.context)
 activity_whose P b e now id a d k found (completes n l came asked is) = subst (Says P b.base) (sym is) (completes_whose P b.base (moment_of b now) n a)
 
-made_whose : (P : Numbers → Type 0) (b : Book) (e : Event) (now : ℕ) (id : Numbers) (a : Activity) (os : List Out) → MakesActivity b e now id a os → OutsWhose P b.base os
+made_whose : (P : Target → Numbers → Type 0) (b : Book) (e : Event) (now : ℕ) (id : Numbers) (a : Activity) (os : List Out) → MakesActivity b e now id a os → OutsWhose P b.base os
 unfolding on_begin on_interpose
 made_whose P b e now id a os (begins coordinator ms came is e2) = subst (OutsWhose P b.base) (sym e2) (tt, tt)
 made_whose P b e now id a os (interposes coordinator named x came found is e2) = subst (OutsWhose P b.base) (sym e2) (tt, tt)
 
 -- a step
-by_shape : (P : Numbers → Type 0) (b : Book) (e : Event) (now : ℕ) (p : Plan) → Knows P b → Draws P b p → Shape b e now p → BothSay P b.base p
+by_shape : (P : Target → Numbers → Type 0) (b : Book) (e : Event) (now : ℕ) (p : Plan) → Knows P b → Draws P b now p → Shape b e now p → BothSay P b.base p
 by_shape P b e now p k draws (nothing_moves is) = subst (BothSay P b.base) (sym is) (still_says P b.base b [] tt)
 by_shape P b e now p k draws (time_moves a os came answers ordered is) = subst (BothSay P b.base) (sym is) (still_says P b.base (at_time now b) os (answers_whose P b now a os answers))
 by_shape P b e now p k draws (time_passes came is) = subst (BothSay P b.base) (sym is) (still_says P b.base (at_time now b) accepted (tt, tt))
@@ -173,12 +185,20 @@ by_shape P b e now p k draws (transaction_made a c id t os came target says next
     subst (BothSay P b.base) (sym is)
     (still_says P b.base (make_transaction (at_time now b) t) os
     (subst (OutsWhose P b.base) (sym sent) (create_whose P (moment_of b now) (length b.transactions) a c (Some id)
-    (λ i x f g. draws (make_transaction (at_time now b) t) os is refl refl i (next ∙ f)))))
+    (λ i x f g superior kind.
+    let same : x ≡ t = one_item _ x t g makes in
+    let here : t.id ≡ i = subst (HasId id) makes (makes_under_the_next_id.transaction (moment_of b now) (length b.transactions) a c id) ∙ one_item (Some id) id i refl f in
+    subst (λ j. P (targets.Participant j kind) j) here
+    (draws.transaction t os is (next ∙ f ∙ ap Some (sym here)) (subst (λ (y : Transaction). is_none y.superior ≡ false) same superior) kind)))))
 by_shape P b e now p k draws (leaf_made a w id l os came target says next makes sent ordered is) =
     subst (BothSay P b.base) (sym is)
     (still_says P b.base (make_leaf (at_time now b) l) os
     (subst (OutsWhose P b.base) (sym sent) (work_whose P (moment_of b now) (length b.leaves) a w (Some id)
-    (λ i x f g. draws (make_leaf (at_time now b) l) os is refl refl i (next ∙ f)))))
+    (λ i x f g.
+    let same : x ≡ l = one_item _ x l g makes in
+    let here : l.id ≡ i = subst (HasLeafId id) makes (makes_under_the_next_id.leaf (moment_of b now) (length b.leaves) a w id) ∙ one_item (Some id) id i refl f in
+    subst (λ (y : Leaf). P (targets.Participant i y.kind) i) (sym same)
+    (subst (λ j. P (targets.Participant j l.kind) j) here (draws.leaf l os is (next ∙ f ∙ ap Some (sym here))))))))
 by_shape P b e now p k draws (activity_made id a os next makes ordered is) =
     subst (BothSay P b.base) (sym is) (still_says P b.base (make_activity (at_time now b) a) os (made_whose P b e now id a os makes))
 
@@ -198,12 +218,12 @@ next_small b id l h e =
     by_test true f e = ltb-true b.counter last_counter f
     by_test false f e = absurd cc
 
-abbrev IsKept : Book → Numbers → Type 0
-IsKept b id = IsId id × IsDrawn b id
+abbrev IsKept : Book → Target → Numbers → Type 0
+IsKept b own id = IsId id × IsDrawn b id
 
 knows : (base : List ℕ) (s : Numbers → Standing) (b : Book) → Standings base s b → Knows (IsKept b) b
 knows base s b h = record {
-  transactions = λ id t r found asks. (
+  transactions = λ id t r found asks kind. (
     h.small t.id r.registration
         (meets_at (s t.id) (transaction_standing t) r.registration
         (all_find (λ y. Meets (s y.id) (transaction_standing y)) transaction_id id b.transactions t h.fits.transactions found) (ap by_request asks)),
@@ -221,9 +241,9 @@ knows base s b h = record {
   );
 }
 
-whose_more : (P Q : Numbers → Type 0) (base : List ℕ) (p : Post) (x : Message) → ((id : Numbers) → P id → Q id) → Whose P base p x → Whose Q base p x
+whose_more : (P Q : Target → Numbers → Type 0) (base : List ℕ) (p : Post) (x : Message) → ((own : Target) (id : Numbers) → P own id → Q own id) → Whose P base p x → Whose Q base p x
 whose_more P Q base p (messages.Register r) f h =
-    record { own = h.own; id = h.id; registers = h.registers; known = f h.id h.known; participant = h.participant; reply = h.reply; to = h.to; whole = h.whole }
+    record { own = h.own; id = h.id; registers = h.registers; known = f h.own h.id h.known; participant = h.participant; reply = h.reply; to = h.to; whole = h.whole }
 whose_more P Q base p (messages.Create c) f h = tt
 whose_more P Q base p (messages.CreateResponse c) f h = tt
 whose_more P Q base p (messages.RegisterResponse c) f h = tt
@@ -233,22 +253,26 @@ whose_more P Q base p messages.WorkDone f h = tt
 whose_more P Q base p messages.WorkRefused f h = tt
 whose_more P Q base p (messages.Fault name) f h = tt
 
+-- the Registers of a step
+pub step_says : (P : Target → Numbers → Type 0) (b : Book) (e : Event) (now : ℕ) (landed : Bool) → Knows P b → Draws P b now (plan b e now) → OutsWhose P b.base (step b e now landed).outs
+step_says P b e now landed k draws = in_branch (SaysOuts P b.base) (plan b e now) landed (by_shape P b e now (plan b e now) k draws (steps_touch_one b e now))
+
 step_whose : (base : List ℕ) (s : Numbers → Standing) (b : Book) (e : Event) (now : ℕ) (landed : Bool) → Standings base s b
     → OutsWhose (IsKept (step b e now landed).book) b.base (step b e now landed).outs
 step_whose base s b e now landed h =
-    in_branch (SaysOuts P b.base) (plan b e now) landed (by_shape P b e now (plan b e now) known (λ c os is i k id next. (next_small b id h.least h.most next, drawn c os is i k id next)) (steps_touch_one b e now))
+    step_says (IsKept (step b e now landed).book) b e now landed known (record {
+      transaction = λ t os is next superior kind. (next_small b t.id h.least h.most next, drawn (make_transaction (at_time now b) t) os is refl refl t.id next);
+      leaf = λ l os is next. (next_small b l.id h.least h.most next, drawn (make_leaf (at_time now b) l) os is refl refl l.id next);
+    })
   where
-    P : Numbers → Type 0
-    P = IsKept (step b e now landed).book
-
-    more : (id : Numbers) → IsKept b id → P id
+    more : (id : Numbers) → IsId id × IsDrawn b id → IsId id × IsDrawn (step b e now landed).book id
     more id (small, d) = (small, drawn_on b (step b e now landed).book (steps_keep_place b e now landed) id d)
 
-    known : Knows P b
+    known : Knows (IsKept (step b e now landed).book) b
     known =
         let k : Knows (IsKept b) b = knows base s b h in
         record {
-          transactions = λ id t r found asks. more t.id (k.transactions id t r found asks);
+          transactions = λ id t r found asks kind. more t.id (k.transactions id t r found asks kind);
           leaves = λ id l r found asks. more l.id (k.leaves id l r found asks);
           activities = λ id a found. more a.id (k.activities id a found);
         }
@@ -324,9 +348,9 @@ AllWhose w = AllByRecursion (PostedWhose w) w.posted
 whose_on : (u v : World) → ((m : ℕ) (id : Numbers) → WasDrawn u m id → WasDrawn v m id) → (ps : List Posted) → AllByRecursion (PostedWhose u) ps → AllByRecursion (PostedWhose v) ps
 whose_on u v f ps h =
     all_more (PostedWhose u) (PostedWhose v) ps
-    (λ p k. whose_more (IsOwnId u p.sender) (IsOwnId v p.sender) (base_of p.sender) p.content p.content.message (λ id i. (i.0, f p.sender id i.1)) k) h
+    (λ p k. whose_more (IsOwnId u p.sender) (IsOwnId v p.sender) (base_of p.sender) p.content p.content.message (λ own id i. (i.0, f p.sender id i.1)) k) h
 
-outs_on : (P Q : Numbers → Type 0) (base : List ℕ) (os : List Out) → ((id : Numbers) → P id → Q id) → OutsWhose P base os → AllByRecursion (OutFine (IsWhose Q base)) os
+outs_on : (P Q : Target → Numbers → Type 0) (base : List ℕ) (os : List Out) → ((own : Target) (id : Numbers) → P own id → Q own id) → OutsWhose P base os → AllByRecursion (OutFine (IsWhose Q base)) os
 outs_on P Q base [] f h = tt
 outs_on P Q base (outs.Post p ∷ os) f (h, k) = (whose_more P Q base p p.message f h, outs_on P Q base os f k)
 outs_on P Q base (outs.Answer status reply ∷ os) f (h, k) = (tt, outs_on P Q base os f k)
@@ -338,7 +362,7 @@ steps_whose count u n x b e now landed small reached found up h =
     let g : WorldGood count u = world_good count u small reached in
     let known : IsUp (base_of n) (g.choices n) x.journal b = subst (IsKnown (base_of n) (g.choices n) x.journal) up (g.nodes n x found) in (
       whose_on u v (drawn_put u v n x z found refl (λ id k. drawn_step x b e now landed x.book refl up id k)) u.posted h,
-      outs_on (IsKept (step b e now landed).book) (IsOwnId v n) (base_of n) (step b e now landed).outs (λ id k. (k.0, (z, put_this u.nodes n x z found, k.1)))
+      outs_on (IsKept (step b e now landed).book) (IsOwnId v n) (base_of n) (step b e now landed).outs (λ own id k. (k.0, (z, put_this u.nodes n x z found, k.1)))
           (subst (λ base. OutsWhose (IsKept (step b e now landed).book) base (step b e now landed).outs) known.says.base_is
           (step_whose (base_of n) (g.choices n) b e now landed known.says)),
     )

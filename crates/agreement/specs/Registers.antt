@@ -27,11 +27,11 @@ RegistersFor other id protocol = ⊥
 
 -- A Register that one of a node's own items posts: what it asks for, and whom it names, is the item itself, and so is the
 -- endpoint for its answer.
-pub record IsOwnRegister (P : Numbers → Type 0) (base : List ℕ) (p : Post) (r : Register) : Type 0 where
+pub record IsOwnRegister (P : Target → Numbers → Type 0) (base : List ℕ) (p : Post) (r : Register) : Type 0 where
   pub own : Target
   pub id : Numbers
   pub registers : RegistersFor own id r.protocol
-  pub known : P id
+  pub known : P own id
   pub participant : r.participant ≡ endpoint_of base own
   pub reply : p.reply ≡ Some (replies.At r.participant)
   -- it is the same message each time it is sent, wherever it goes
@@ -47,8 +47,8 @@ abbrev pub WasDrawn : World → ℕ → Numbers → Type 0
 WasDrawn w n id = (x : Node) × (nth n w.nodes ≡ Some x) × HasDrawn x.journal x.book id
 
 -- an id that this node made, and that a path can name
-abbrev pub IsOwnId : World → ℕ → Numbers → Type 0
-IsOwnId w n id = IsId id × WasDrawn w n id
+abbrev pub IsOwnId : World → ℕ → Target → Numbers → Type 0
+IsOwnId w n own id = IsId id × WasDrawn w n id
 
 -- In every run each Register that was posted is one of an item of its sender, and names that item.
 abbrev pub RegistersNameTheirSender : Type 0
