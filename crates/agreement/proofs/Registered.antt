@@ -55,8 +55,8 @@ use Rattle.model_laws.proofs.Reaching.{NodeLaw, nodes_hold, run_reached}
 use Rattle.model_laws.proofs.Recovering.{incarnations_rise}
 use Rattle.model_laws.proofs.Running.{put_this, put_other}
 use Rattle.model_laws.proofs.Shaping.{steps_touch_one, steps_keep_place}
-use Rattle.agreement.specs.Registers.{IsOwnRegister, HasDrawn, WasDrawn, IsOwnId, RegistersNameTheirSender}
-use Rattle.agreement.proofs.Registering.{Whose, IsWhose, AreWhose, OutWhose, OutsWhose, Says, outs_whose, to_each_whose, like_says, with_answer_whose, due_whose, on_leaf_whose, leaf_due_whose, on_activity_whose, activity_due_whose, asks_whose, completes_whose, register_none, unknown_none, create_whose, work_whose}
+use Rattle.agreement.specs.Registers.{IsOwnRegister, Whose, IsWhose, HasDrawn, WasDrawn, IsOwnId, RegistersNameTheirSender}
+use Rattle.agreement.proofs.Registering.{AreWhose, OutWhose, OutsWhose, Says, outs_whose, to_each_whose, like_says, with_answer_whose, due_whose, on_leaf_whose, leaf_due_whose, on_activity_whose, activity_due_whose, asks_whose, completes_whose, register_none, unknown_none, create_whose, work_whose}
 
 posts_whose : (P : Target → Numbers → Type 0) (base : List ℕ) (ps : List Post) → AreWhose P base ps → OutsWhose P base (map outs.Post ps)
 posts_whose P base [] h = tt
@@ -241,7 +241,7 @@ knows base s b h = record {
   );
 }
 
-whose_more : (P Q : Target → Numbers → Type 0) (base : List ℕ) (p : Post) (x : Message) → ((own : Target) (id : Numbers) → P own id → Q own id) → Whose P base p x → Whose Q base p x
+pub whose_more : (P Q : Target → Numbers → Type 0) (base : List ℕ) (p : Post) (x : Message) → ((own : Target) (id : Numbers) → P own id → Q own id) → Whose P base p x → Whose Q base p x
 whose_more P Q base p (messages.Register r) f h =
     record { own = h.own; id = h.id; registers = h.registers; known = f h.own h.id h.known; participant = h.participant; reply = h.reply; to = h.to; whole = h.whole }
 whose_more P Q base p (messages.Create c) f h = tt
@@ -350,7 +350,7 @@ whose_on u v f ps h =
     all_more (PostedWhose u) (PostedWhose v) ps
     (λ p k. whose_more (IsOwnId u p.sender) (IsOwnId v p.sender) (base_of p.sender) p.content p.content.message (λ own id i. (i.0, f p.sender id i.1)) k) h
 
-outs_on : (P Q : Target → Numbers → Type 0) (base : List ℕ) (os : List Out) → ((own : Target) (id : Numbers) → P own id → Q own id) → OutsWhose P base os → AllByRecursion (OutFine (IsWhose Q base)) os
+pub outs_on : (P Q : Target → Numbers → Type 0) (base : List ℕ) (os : List Out) → ((own : Target) (id : Numbers) → P own id → Q own id) → OutsWhose P base os → AllByRecursion (OutFine (IsWhose Q base)) os
 outs_on P Q base [] f h = tt
 outs_on P Q base (outs.Post p ∷ os) f (h, k) = (whose_more P Q base p p.message f h, outs_on P Q base os f k)
 outs_on P Q base (outs.Answer status reply ∷ os) f (h, k) = (tt, outs_on P Q base os f k)

@@ -50,15 +50,7 @@ use Rattle.model_laws.proofs.Telling.{Anything}
 use Rattle.model_laws.proofs.Posting.{Fine, AreFine, initiator_endpoint, link_like, AreLike, leaf_like}
 use Rattle.model_laws.proofs.Enlisting.{NoRegister, OutSays, AreOuts, replied_says, faulted_says}
 use Rattle.model_laws.specs.Behind.{accepted_as}
-use Rattle.agreement.specs.Registers.{IsOwnRegister, RegistersFor}
-
--- a post that is one of an item's own where it is a Register
-abbrev pub Whose : (Target → Numbers → Type 0) → List ℕ → Post → Message → Type 0
-Whose P base p (messages.Register r) = IsOwnRegister P base p r
-Whose P base p other = Unit {0}
-
-abbrev pub IsWhose : (Target → Numbers → Type 0) → List ℕ → Post → Type 0
-IsWhose P base p = Whose P base p p.message
+use Rattle.agreement.specs.Registers.{IsOwnRegister, RegistersFor, Whose, IsWhose}
 
 abbrev pub AreWhose : (Target → Numbers → Type 0) → List ℕ → List Post → Type 0
 AreWhose P base ps = AllByRecursion (IsWhose P base) ps

@@ -4,6 +4,7 @@ use Rattle.at_base.specs.Numbers.{Numbers}
 use Rattle.at_base.specs.IdText.{IsId}
 use Rattle.at_base.specs.declared.epr.Epr.{Epr}
 use Rattle.at_base.specs.declared.epr.Reply.TheVariants as replies
+use Rattle.at_base.specs.declared.message.Message.{Message}
 use Rattle.at_base.specs.declared.message.Message.TheVariants as messages
 use Rattle.at_base.specs.declared.message.Register.{Register}
 use Rattle.at_base.specs.declared.target.Target.{Target}
@@ -37,6 +38,14 @@ pub record IsOwnRegister (P : Target → Numbers → Type 0) (base : List ℕ) (
   -- it is the same message each time it is sent, wherever it goes
   pub to : Epr
   pub whole : p ≡ register_post base own r.protocol to
+
+-- A post that is one of an item's own where it is a Register.
+abbrev pub Whose : (Target → Numbers → Type 0) → List ℕ → Post → Message → Type 0
+Whose P base p (messages.Register r) = IsOwnRegister P base p r
+Whose P base p other = Unit {0}
+
+abbrev pub IsWhose : (Target → Numbers → Type 0) → List ℕ → Post → Type 0
+IsWhose P base p = Whose P base p p.message
 
 -- the node made the id: while it is down, in one of the incarnations of its records
 abbrev pub HasDrawn : List Record → Option Book → Numbers → Type 0

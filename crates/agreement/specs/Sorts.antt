@@ -4,13 +4,15 @@ use Rattle.std.specs.List.{AllByRecursion}
 use Rattle.at_base.specs.Numbers.{Numbers}
 use Rattle.at_base.specs.declared.notice.Kind.{Kind}
 use Rattle.at_base.specs.declared.notice.Kind.TheVariants as kinds
+use Rattle.at_base.specs.declared.target.Target.{Target}
+use Rattle.at_base.specs.declared.target.Target.TheVariants as targets
 use Rattle.at_base.specs.declared.record.Record.{Record}
 use Rattle.at_base.specs.declared.record.Record.TheVariants as records
 use Rattle.at_base.specs.declared.outs.Effect.{Effect}
 use Rattle.at_base.specs.declared.outs.Effect.TheVariants as effects
 use Rattle.at_model.specs.Book.{Book, Superior}
-use Rattle.at_model.specs.World.{Node, Happened, World, WorldEvent, nth, run_of}
-use Rattle.agreement.specs.Registers.{HasDrawn}
+use Rattle.at_model.specs.World.{Node, Happened, base_of, World, WorldEvent, nth, run_of}
+use Rattle.agreement.specs.Registers.{HasDrawn, IsWhose}
 
 -- What an id names: nothing yet; a root transaction or a subordinate one; a participant of this kind that does work of its
 -- own; or an initiator's activity, begun or interposed.
@@ -28,6 +30,16 @@ sort_under (Some s) = Subordinate
 
 abbrev pub IsTransaction : Sort → Type 0
 IsTransaction S = (S ≡ Root) ⊎ (S ≡ Subordinate)
+
+-- a participant of this kind, which registers: a subordinate on one of its links, or one that does work of its own
+abbrev pub IsParticipant : Kind → Sort → Type 0
+IsParticipant kind S = (S ≡ Subordinate) ⊎ (S ≡ LeafOf kind)
+
+-- whose a target is that registers
+abbrev pub FitsTarget : (Numbers → Sort) → Target → Type 0
+FitsTarget s (targets.Participant id kind) = IsParticipant kind (s id)
+FitsTarget s (targets.Initiator id) = s id ≡ Begun
+FitsTarget s other = Unit {0}
 
 -- what is in a book
 pub record FitsBook (s : Numbers → Sort) (b : Book) : Type 0 where
@@ -65,13 +77,15 @@ pub record FitsNode (s : Numbers → Sort) (x : Node) : Type 0 where
   pub book : FitsIfUp s x.book
   pub undrawn : (id : Numbers) → (HasDrawn x.journal x.book id → ⊥) → s id ≡ Unmade
 
--- the sorts of the ids of each node, with which all agrees that is in the books and in the records, and that happened
+-- the sorts of the ids of each node, with which all agrees that is in the books and in the records, that happened, and
+-- that registers
 pub record AreSorted (w : World) : Type 0 where
   pub sort : ℕ → Numbers → Sort
   pub nodes : (n : ℕ) (x : Node) → nth n w.nodes ≡ Some x → FitsNode (sort n) x
   pub happened : AllByRecursion (λ h. FitsEffect (sort h.node) h.what) w.happened
+  pub posted : AllByRecursion (λ p. IsWhose (λ own id. FitsTarget (sort p.sender) own) (base_of p.sender) p.content) w.posted
 
 -- In every run each id names an item of one sort, over every crash and start: a root is never a subordinate, and no
 -- transaction is a participant that does work of its own, or an activity.
 abbrev pub SortsAgree : Type 0
-SortsAgree = (count : ℕ) (es : List WorldEvent) → AreSorted (run_of count es)
+SortsAgree = (count : ℕ) (es : List WorldEvent) → count < 2 ^ 64 → AreSorted (run_of count es)
