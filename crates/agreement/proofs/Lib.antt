@@ -2,6 +2,7 @@ pub mod Acting
 pub mod ActivitiesDo
 pub mod ActivitySaying
 pub mod ActivityStanding
+pub mod Admitting
 pub mod Branching
 pub mod Doing
 pub mod Ending

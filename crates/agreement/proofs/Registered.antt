@@ -203,7 +203,7 @@ by_shape P b e now p k draws (activity_made id a os next makes ordered is) =
     subst (BothSay P b.base) (sym is) (still_says P b.base (make_activity (at_time now b) a) os (made_whose P b e now id a os makes))
 
 -- what an item that registers is known to be
-next_small : (b : Book) (id : Numbers) → 1 ≤ b.incarnation → b.incarnation ≤ last_counter → next_id b ≡ Some id → IsId id
+pub next_small : (b : Book) (id : Numbers) → 1 ≤ b.incarnation → b.incarnation ≤ last_counter → next_id b ≡ Some id → IsId id
 next_small b id l h e =
     let (i, c) = next_numbers b id e in
     record {
@@ -218,10 +218,10 @@ next_small b id l h e =
     by_test true f e = ltb-true b.counter last_counter f
     by_test false f e = absurd cc
 
-abbrev IsKept : Book → Target → Numbers → Type 0
+abbrev pub IsKept : Book → Target → Numbers → Type 0
 IsKept b own id = IsId id × IsDrawn b id
 
-knows : (base : List ℕ) (s : Numbers → Standing) (b : Book) → Standings base s b → Knows (IsKept b) b
+pub knows : (base : List ℕ) (s : Numbers → Standing) (b : Book) → Standings base s b → Knows (IsKept b) b
 knows base s b h = record {
   transactions = λ id t r found asks kind. (
     h.small t.id r.registration

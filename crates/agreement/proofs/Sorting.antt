@@ -150,7 +150,7 @@ pub ending_fits : (s : Numbers → Sort) (id : Numbers) (o : Option Superior) (w
 ending_fits s id None what h = h
 ending_fits s id (Some x) what h = h
 
-either_sort : (S : Sort) (o : Option Superior) → S ≡ sort_under o → IsTransaction S
+pub either_sort : (S : Sort) (o : Option Superior) → S ≡ sort_under o → IsTransaction S
 either_sort S None e = inl e
 either_sort S (Some x) e = inr e
 

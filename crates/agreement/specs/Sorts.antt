@@ -4,6 +4,8 @@ use Rattle.std.specs.List.{AllByRecursion}
 use Rattle.at_base.specs.Numbers.{Numbers}
 use Rattle.at_base.specs.declared.notice.Kind.{Kind}
 use Rattle.at_base.specs.declared.notice.Kind.TheVariants as kinds
+use Rattle.at_base.specs.IdText.{IsId}
+use Rattle.at_base.specs.declared.target.Seat.{Seat}
 use Rattle.at_base.specs.declared.target.Target.{Target}
 use Rattle.at_base.specs.declared.target.Target.TheVariants as targets
 use Rattle.at_base.specs.declared.record.Record.{Record}
@@ -11,7 +13,7 @@ use Rattle.at_base.specs.declared.record.Record.TheVariants as records
 use Rattle.at_base.specs.declared.outs.Effect.{Effect}
 use Rattle.at_base.specs.declared.outs.Effect.TheVariants as effects
 use Rattle.at_model.specs.Book.{Book, Superior}
-use Rattle.at_model.specs.World.{Node, Happened, base_of, World, WorldEvent, nth, run_of}
+use Rattle.at_model.specs.World.{Node, Who, Accepted, Happened, base_of, World, WorldEvent, nth, run_of}
 use Rattle.agreement.specs.Registers.{HasDrawn, IsWhose}
 
 -- What an id names: nothing yet; a root transaction or a subordinate one; a participant of this kind that does work of its
@@ -40,6 +42,15 @@ abbrev pub FitsTarget : (Numbers → Sort) → Target → Type 0
 FitsTarget s (targets.Participant id kind) = IsParticipant kind (s id)
 FitsTarget s (targets.Initiator id) = s id ≡ Begun
 FitsTarget s other = Unit {0}
+
+-- who is accepted, where its endpoint leads anywhere: a participant of the seat's kind, or an initiator at the completion seat
+abbrev pub FitsParticipant : (ℕ → Numbers → Sort) → Option Who → Option Seat → Type 0
+FitsParticipant sort None seat = Unit {0}
+FitsParticipant sort (Some x) (Some s) = IsParticipant s.kind (sort x.node x.id)
+FitsParticipant sort (Some x) None = sort x.node x.id ≡ Begun
+
+abbrev pub FitsAccepted : (ℕ → Numbers → Sort) → Accepted → Type 0
+FitsAccepted sort acc = IsTransaction (sort acc.transaction.node acc.transaction.id) × FitsParticipant sort acc.participant acc.seat
 
 -- what is in a book
 pub record FitsBook (s : Numbers → Sort) (b : Book) : Type 0 where
@@ -77,13 +88,14 @@ pub record FitsNode (s : Numbers → Sort) (x : Node) : Type 0 where
   pub book : FitsIfUp s x.book
   pub undrawn : (id : Numbers) → (HasDrawn x.journal x.book id → ⊥) → s id ≡ Unmade
 
--- the sorts of the ids of each node, with which all agrees that is in the books and in the records, that happened, and
--- that registers
+-- the sorts of the ids of each node, with which all agrees that is in the books and in the records, that happened,
+-- that registers, and that was accepted
 pub record AreSorted (w : World) : Type 0 where
   pub sort : ℕ → Numbers → Sort
   pub nodes : (n : ℕ) (x : Node) → nth n w.nodes ≡ Some x → FitsNode (sort n) x
   pub happened : AllByRecursion (λ h. FitsEffect (sort h.node) h.what) w.happened
-  pub posted : AllByRecursion (λ p. IsWhose (λ own id. FitsTarget (sort p.sender) own) (base_of p.sender) p.content) w.posted
+  pub posted : AllByRecursion (λ p. IsWhose (λ own id. FitsTarget (sort p.sender) own × (IsId id × (p.sender < 2 ^ 64))) (base_of p.sender) p.content) w.posted
+  pub accepted : AllByRecursion (FitsAccepted sort) w.accepted
 
 -- In every run each id names an item of one sort, over every crash and start: a root is never a subordinate, and no
 -- transaction is a participant that does work of its own, or an activity.
