@@ -1,5 +1,5 @@
 -- Whose registrations a step accepts.
-use Rattle.std.specs.Prelude.{ℕ, List, [], ◌∷◌, ◌++◌, Option, Some, None, Bool, true, false, not, nat_eq, ◌-◌, ◌+◌, ◌^◌, if◌then◌else◌, drop, length, map, option_map, ◌≡◌, ◌<◌, refl}
+use Rattle.std.specs.Prelude.{ℕ, List, [], ◌∷◌, ◌++◌, Option, Some, None, Bool, true, false, not, ◌+◌, if◌then◌else◌, drop, length, map, ◌≡◌, refl}
 use Rattle.std.specs.List.{AllByRecursion}
 use Rattle.std.proofs.Common.{sym, subst, ap, ◌∙◌}
 use Rattle.std.proofs.lemmas.Option.{option_and_then_some}
@@ -27,7 +27,7 @@ use Rattle.at_model.specs.Register.{Registration, accept, refuse_register, regis
 use Rattle.at_model.specs.Step.{Plan, plain, still, at_time, moment_of, registration_outcome, transaction_at, branch, plan, step}
 use Rattle.at_model.specs.World.{Node, Accepted, who_of, target_at, takes, arrival_of, decoded_at, decoded, accepted_seat, accepted_completion, accepted_by, accepted_in}
 use Rattle.model_laws.specs.Order.{IsInOrder}
-use Rattle.model_laws.specs.Shapes.{IsAtSeat, MovesTransaction, at_seat, at_link, at_completion, when_due, MovesLeaf, at_leaf, leaf_when_due, MovesActivity, at_activity, activity_when_due, works, completes, MakesActivity, begins, interposes, Shape, nothing_moves, time_moves, time_passes, transaction_moves, leaf_moves, activity_moves, transaction_registers, transaction_made, leaf_made, activity_made}
+use Rattle.model_laws.specs.Shapes.{MovesTransaction, at_seat, at_link, at_completion, when_due, MovesLeaf, at_leaf, leaf_when_due, MovesActivity, at_activity, activity_when_due, works, completes, MakesActivity, begins, interposes, Shape, nothing_moves, time_moves, time_passes, transaction_moves, leaf_moves, activity_moves, transaction_registers, transaction_made, leaf_made, activity_made}
 use Rattle.model_laws.proofs.Deciding.{found_id, all_more, all_put}
 use Rattle.model_laws.proofs.Enlisting.{AcceptedBy, accepted_all, dropped, no_completion, nothing_new, unchanged, none_new}
 use Rattle.model_laws.proofs.Keeping.{register_kept}

@@ -50,7 +50,7 @@ use Rattle.model_laws.proofs.Telling.{Anything}
 use Rattle.model_laws.proofs.Posting.{Fine, AreFine, initiator_endpoint, link_like, AreLike, leaf_like}
 use Rattle.model_laws.proofs.Enlisting.{NoRegister, OutSays, AreOuts, replied_says, faulted_says}
 use Rattle.model_laws.specs.Behind.{accepted_as}
-use Rattle.agreement.specs.Registers.{IsOwnRegister, RegistersFor, Whose, IsWhose}
+use Rattle.agreement.specs.Registers.{RegistersFor, Whose, IsWhose}
 
 abbrev pub AreWhose : (Target → Numbers → Type 0) → List ℕ → List Post → Type 0
 AreWhose P base ps = AllByRecursion (IsWhose P base) ps

@@ -2,7 +2,7 @@
 use Rattle.std.specs.Prelude.{ℕ, List, [], ◌∷◌, ◌++◌, Option, Some, None, Bool, true, false, nat_eq, ◌+◌, if◌then◌else◌, filter, map, ◌≡◌, ◌<◌, ◌≤◌, ◌-◌, ◌^◌, is_none, length, zero, suc, refl}
 use Rattle.std.specs.List.{list_any, AllByRecursion}
 use Rattle.std.proofs.Common.{arith, inl, inr, sym, subst, ap, ◌∙◌}
-use Rattle.std.proofs.lemmas.Bool.{eqb-true, eqb-false, eq-eqb, ne_eqb}
+use Rattle.std.proofs.lemmas.Bool.{eqb-true, eq-eqb, ne_eqb}
 use Rattle.at_base.specs.Numbers.{Numbers}
 use Rattle.at_base.specs.declared.epr.Epr.{Epr}
 use Rattle.at_base.specs.declared.record.Seated.{Seated}
@@ -30,14 +30,13 @@ use Rattle.at_base.specs.declared.target.Target.TheVariants as targets
 use Rattle.at_model.specs.Arrivals.{request_of}
 use Rattle.model_laws.proofs.Enrolled.{WorldGood, IsKnown, IsUp, world_good}
 use Rattle.at_base.specs.declared.outs.Out.{Out}
-use Rattle.at_base.specs.declared.outs.Out.TheVariants as outs
 use Rattle.at_base.specs.declared.outs.Ending.TheVariants as endings
 use Rattle.at_base.specs.declared.outs.Effect.{Effect}
 use Rattle.at_base.specs.declared.outs.Effect.TheVariants as effects
-use Rattle.at_model.specs.Book.{Book, Transaction, Leaf, Superior, Request, transaction_id, leaf_id, activity_id, next_id}
+use Rattle.at_model.specs.Book.{Book, Transaction, Superior, Request, transaction_id, leaf_id, activity_id, next_id}
 use Rattle.at_model.specs.Recover.{last_incarnation, live, is_sub_committed, recover, recovered_voted, transactions_of, leaves_of}
 use Rattle.at_model.specs.Step.{Plan, plain, still, at_time, make_transaction, make_leaf, branch, plan, step}
-use Rattle.at_model.specs.World.{Node, Happened, Posted, Accepted, Who, World, base_of, new_nodes, place_of, who_at, who_of, accepted_in, nth, put_nth, put_book, new_node, opening, with_post, happened_at, is_lost_root, is_lost_subordinate, is_lost_leaf, transaction_lost, leaf_lost, lost_in, goes_down, started, up_after, run_of}
+use Rattle.at_model.specs.World.{Node, Happened, Posted, Accepted, Who, World, base_of, new_nodes, place_of, who_at, who_of, accepted_in, nth, put_nth, put_book, new_node, opening, happened_at, is_lost_root, is_lost_subordinate, is_lost_leaf, transaction_lost, leaf_lost, lost_in, goes_down, started, up_after, run_of}
 use Rattle.model_laws.specs.Drawn.{restarted, with_entry}
 use Rattle.model_laws.specs.Laws.{IsDrawn}
 use Rattle.model_laws.specs.Reached.{Heard, counts, Reached}
@@ -328,9 +327,11 @@ one_posted sorts (q ∷ ps) p (h, k) (inl e) = subst (FitsPosted sorts) (sym e) 
 one_posted sorts (q ∷ ps) p (h, k) (inr i) = one_posted sorts ps p k i
 
 came_from : (u : World) (n : ℕ) (x : Node) (e : Event) (g : AreSorted u) → Heard u n x e → CameFrom g.sort e
-came_from u n x (events.Arrived a) g (p, posted, received, decodes) c r came says =
-    (p, subst (Whose (Fitting (g.sort p.sender) p.sender) (base_of p.sender) p.content) (sym (decoded_says x.base p.content a decodes) ∙ ap (λ (y : Arrived). y.message) (same_arrival a c (events.Arrived a) refl came) ∙ says)
-    (one_posted g.sort u.posted p g.posted posted))
+came_from u n x (events.Arrived a) g (p, posted, received, decodes) c r came says = (
+  p,
+  subst (Whose (Fitting (g.sort p.sender) p.sender) (base_of p.sender) p.content) (sym (decoded_says x.base p.content a decodes) ∙ ap (λ (y : Arrived). y.message) (same_arrival a c (events.Arrived a) refl came) ∙ says)
+      (one_posted g.sort u.posted p g.posted posted),
+)
 came_from u n x (events.Local l) g h c r came says = absurd (no_local (events.Local l) l c refl came)
 came_from u n x (events.Due i) g h c r came says = absurd (no_due (events.Due i) i c refl came)
 came_from u n x events.Tick g h c r came says = absurd cc
@@ -367,8 +368,7 @@ steps_sorted count u n x b e now landed small reached found up heard g =
     let w : WorldGood count u = world_good count u small reached in
     let known : IsUp (base_of n) (w.choices n) x.journal b = subst (IsKnown (base_of n) (w.choices n) x.journal) up (w.nodes n x found) in
     let book : FitsBook (g.sort n) b = subst (FitsIfUp (g.sort n)) up fits.book in
-    let low : n < 2 ^ 64 = number_small count n u.nodes x small w.world.bases found in
-    (
+    let low : n < 2 ^ 64 = number_small count n u.nodes x small w.world.bases found in (
       record {
         sort = new;
         accepted = all_join (FitsAccepted new) u.accepted (accepted_in n u.nodes b (step b e now landed).book.transactions)
@@ -384,9 +384,10 @@ steps_sorted count u n x b e now landed small reached found up heard g =
             (happened_fit new n (step b e now landed).effects (subst (λ s. AllByRecursion (FitsEffect s) (step b e now landed).effects) (sym (put_here g.sort n r.after)) r.effects));
       },
       outs_on (Fitting r.after n) (Fitting (new n) n) (base_of n) (step b e now landed).outs (λ own id k. (subst (λ s. FitsTarget s own) (sym (put_here g.sort n r.after)) k.0, k.1))
-        (subst (λ base. OutsWhose (Fitting r.after n) base (step b e now landed).outs) known.says.base_is
-        (step_says (Fitting r.after n) b e now landed (fits_known (g.sort n) r.after n b low (knows (base_of n) (w.choices n) b known.says) r.keeps book)
-        (fits_drawn r.after n b now (plan b e now) landed low (λ id next. next_small b id known.says.least known.says.most next) r.book))))
+          (subst (λ base. OutsWhose (Fitting r.after n) base (step b e now landed).outs) known.says.base_is
+          (step_says (Fitting r.after n) b e now landed (fits_known (g.sort n) r.after n b low (knows (base_of n) (w.choices n) b known.says) r.keeps book)
+          (fits_drawn r.after n b now (plan b e now) landed low (λ id next. next_small b id known.says.least known.says.most next) r.book))),
+    )
   where
     z : Node
     z = record x { book = Some (step b e now landed).book; journal = with_entry (plan b e now).entry landed x.journal }

@@ -1,7 +1,7 @@
 -- What a step leaves, records and brings about is of the sort of its id.
-use Rattle.std.specs.Prelude.{ℕ, List, [], ◌∷◌, ◌++◌, Option, Some, None, Bool, true, false, not, nat_lt, ◌&&◌, ◌+◌, if◌then◌else◌, bytes_eq, is_none, length, option_map, ◌≡◌, ◌⊎◌, refl}
+use Rattle.std.specs.Prelude.{ℕ, List, [], ◌∷◌, Option, Some, None, Bool, true, false, not, if◌then◌else◌, is_none, length, option_map, ◌≡◌, ◌⊎◌, refl}
 use Rattle.std.specs.List.{AllByRecursion}
-use Rattle.std.proofs.Common.{inl, inr, sym, subst, ap, arith, ◌∙◌}
+use Rattle.std.proofs.Common.{inl, inr, sym, subst, ap, ◌∙◌}
 use Rattle.at_base.specs.Numbers.{Numbers}
 use Rattle.at_base.specs.declared.epr.Epr.{Epr}
 use Rattle.at_base.specs.declared.notice.Kind.{Kind}
@@ -19,14 +19,11 @@ use Rattle.at_base.specs.declared.outs.Ending.TheVariants as endings
 use Rattle.at_base.specs.declared.outs.Effect.{Effect}
 use Rattle.at_model.specs.Book.{Book, Transaction, Leaf, Activity, Enlistment, Superior, is_id, put_by, transaction_id, leaf_id, activity_id, next_id}
 use Rattle.at_model.specs.Moves.{Change, Decision, Goes, Records}
-use Rattle.at_model.specs.Seats.{ending, ending_of}
+use Rattle.at_model.specs.Seats.{ending_of}
 use Rattle.at_model.specs.Posts.{accepted, invalid_parameters, cannot_register}
-use Rattle.at_model.specs.Leaves.{on_work}
-use Rattle.at_model.specs.Create.{on_create}
-use Rattle.at_model.specs.Activities.{on_begin, on_interpose}
 use Rattle.at_model.specs.Arrivals.{with_answer}
-use Rattle.at_model.specs.Register.{Registration, accept, refuse_register, register_new, register_again, held_seat, on_register, protocol_named, may_register}
-use Rattle.at_model.specs.Step.{Outcome, Plan, plain, still, at_time, moment_of, is_under, make_transaction, make_leaf, make_activity, put_transaction, put_leaf, put_activity, put_activities, outcome_of, plan_of, transaction_plan, leaf_plan, activity_plan, registration_outcome, transaction_at, leaf_at, activity_at, branch, plan, step, noting}
+use Rattle.at_model.specs.Register.{accept, refuse_register, register_new, register_again, held_seat, on_register, protocol_named, may_register}
+use Rattle.at_model.specs.Step.{Outcome, Plan, plain, still, at_time, moment_of, is_under, make_transaction, make_leaf, make_activity, put_transaction, put_leaf, put_activity, put_activities, outcome_of, plan_of, transaction_plan, leaf_plan, activity_plan, registration_outcome, transaction_at, leaf_at, activity_at, branch, plan, noting}
 use Rattle.model_laws.specs.Behind.{IsInPhase}
 use Rattle.model_laws.specs.Laws.{IsDrawn, HasId, HasLeafId}
 use Rattle.model_laws.specs.Shapes.{MovesTransaction, MovesLeaf, MovesActivity, MakesActivity, begins, interposes, Shape, nothing_moves, time_moves, time_passes, transaction_moves, leaf_moves, activity_moves, transaction_registers, transaction_made, leaf_made, activity_made}
@@ -38,7 +35,7 @@ use Rattle.model_laws.proofs.Recovering.{same_id, self_id}
 use Rattle.model_laws.proofs.Shaping.{steps_touch_one}
 use Rattle.agreement.specs.Branches.{InBranches}
 use Rattle.agreement.specs.Finished.{AreFinished}
-use Rattle.agreement.specs.Deeds.{How, Idles, Aborts, Votes, Decides, DecidesAlone, Leaves, Commits, RollsBack, Ends, Forgets, Deed, Deeds, IsSame, IsSameIfLeft, StoodFor, recorded, happens, superior_at}
+use Rattle.agreement.specs.Deeds.{How, Idles, Aborts, Votes, Decides, DecidesAlone, Leaves, Commits, RollsBack, Ends, Forgets, Deed, Deeds, IsSameIfLeft, StoodFor, recorded, happens, superior_at}
 use Rattle.agreement.specs.LeafDeeds.{LeafStands, LeavesStand, LeafDeed, idles as leaf_idles, aborts, prepares, leaves, dropped, commits, rolls_back, LeafIdles, rests, registered, registers_again, votes_again, LeafWaitsOn, for_durable}
 use Rattle.agreement.specs.ActivityDeeds.{ActivityStands, ActivitiesStand, ActivityDeed, idles as activity_idles, tells, ActivityIdles, rests as activity_rests, misled, created, interposed, registered as activity_registered, registers_again as activity_registers_again, asks_again, works, asks, IsTaken, NeverUndone}
 use Rattle.agreement.specs.Sorts.{Sort, Unmade, Root, Subordinate, LeafOf, Begun, sort_under, IsTransaction, FitsBook, FitsRecord, FitsEffect}

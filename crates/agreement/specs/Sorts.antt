@@ -13,7 +13,7 @@ use Rattle.at_base.specs.declared.record.Record.TheVariants as records
 use Rattle.at_base.specs.declared.outs.Effect.{Effect}
 use Rattle.at_base.specs.declared.outs.Effect.TheVariants as effects
 use Rattle.at_model.specs.Book.{Book, Superior}
-use Rattle.at_model.specs.World.{Node, Who, Accepted, Happened, base_of, World, WorldEvent, nth, run_of}
+use Rattle.at_model.specs.World.{Node, Who, Accepted, base_of, World, WorldEvent, nth, run_of}
 use Rattle.agreement.specs.Registers.{HasDrawn, IsWhose}
 
 -- What an id names: nothing yet; a root transaction or a subordinate one; a participant of this kind that does work of its
