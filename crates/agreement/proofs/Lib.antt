@@ -2,6 +2,7 @@ pub mod Acting
 pub mod ActivitiesDo
 pub mod ActivitySaying
 pub mod ActivityStanding
+pub mod Admitting
 pub mod Backing
 pub mod Branching
 pub mod Doing
@@ -13,12 +14,17 @@ pub mod LeafSaying
 pub mod LeafStanding
 pub mod LeafWaiting
 pub mod LeavesDo
+pub mod Placing
 pub mod Posted
 pub mod Recoveries
+pub mod Registered
+pub mod Registering
 pub mod Seated
 pub mod SeatedBooks
 pub mod SeatedEntries
 pub mod SeatedNames
 pub mod SeatedSteps
 pub mod Seats
+pub mod Sorted
+pub mod Sorting
 pub mod Stepping

@@ -6,5 +6,8 @@ pub mod Done
 pub mod Finished
 pub mod Journals
 pub mod LeafDeeds
+pub mod Places
 pub mod Recoveries
+pub mod Registers
 pub mod Seated
+pub mod Sorts

@@ -7,8 +7,11 @@ ghost use Rattle.agreement.specs.Done.{StepsDo};
 ghost use Rattle.agreement.specs.Finished.{FinishesAll};
 ghost use Rattle.agreement.specs.Journals.{JournalsLive};
 ghost use Rattle.agreement.specs.LeafDeeds.{LeafStates, LeavesDo};
+ghost use Rattle.agreement.specs.Places.{AddressesLeadHome};
 ghost use Rattle.agreement.specs.Recoveries.{RecoversEach};
+ghost use Rattle.agreement.specs.Registers.{RegistersNameTheirSender};
 ghost use Rattle.agreement.specs.Seated.{SeatsAreRegistered};
+ghost use Rattle.agreement.specs.Sorts.{SortsAgree};
 
 /// In every run a transaction that aborts asks nobody any more, one that is decided has no initiator that may still ask, and
 /// participants keep their numbers, in the book and in its records.
@@ -90,4 +93,26 @@ pub fn deeds_move_seats()
 #[tactic(auto, using(crate::proofs::Seated::seats_are_registered))]
 pub fn seats_are_registered()
     ensures { SeatsAreRegistered }
+{}
+
+/// In every run each Register that was posted is one of an item of its sender: it names that item's own endpoint, as the
+/// participant and for the answer, and asks for the protocol of a participant of its kind, or an initiator's.
+#[tactic(auto, using(crate::proofs::Registered::registers_name_their_sender))]
+pub fn registers_name_their_sender()
+    ensures { RegistersNameTheirSender }
+{}
+
+/// Where an endpoint that a node writes leads anywhere, it leads to that node and to the target that it was written for: to no
+/// other node, and to no other of the seven kinds of target, item or seat.
+#[tactic(auto, using(crate::proofs::Placing::addresses_lead_home))]
+pub fn addresses_lead_home()
+    ensures { AddressesLeadHome }
+{}
+
+/// In every run each id names an item of one sort for good: a root, a subordinate, a participant of one kind that does work of
+/// its own, or an activity. What is in the books and in the records, what happened, who registers, and who was accepted, agrees
+/// with it: an accepted participant is a subordinate, or does work of the kind of its seat, and an initiator is an activity.
+#[tactic(auto, using(crate::proofs::Sorted::sorts_agree))]
+pub fn sorts_agree()
+    ensures { SortsAgree }
 {}
