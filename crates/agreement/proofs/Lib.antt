@@ -12,3 +12,4 @@ pub mod LeafStanding
 pub mod LeavesDo
 pub mod Posted
 pub mod Recoveries
+pub mod Undoing

@@ -5,3 +5,4 @@ pub mod Finished
 pub mod Journals
 pub mod LeafDeeds
 pub mod Recoveries
+pub mod TransactionSteps

@@ -6,6 +6,7 @@ ghost use Rattle.agreement.specs.Finished.{FinishesAll};
 ghost use Rattle.agreement.specs.Journals.{JournalsLive};
 ghost use Rattle.agreement.specs.LeafDeeds.{LeafStates, LeavesDo};
 ghost use Rattle.agreement.specs.Recoveries.{RecoversEach};
+ghost use Rattle.agreement.specs.TransactionSteps.{TransactionsStep};
 
 /// In every run a transaction that aborts asks nobody any more, one that is decided has no initiator that may still ask, and
 /// participants keep their numbers, in the book and in its records.
@@ -59,4 +60,11 @@ pub fn recovers_each()
 #[tactic(auto, using(crate::proofs::Acting::transactions_do))]
 pub fn transactions_do()
     ensures { TransactionsDo }
+{}
+
+/// Each step that moves a transaction is one of those deeds; or it is undone, where a subordinate's outcome or an end isn't
+/// recorded, which is waited for as before.
+#[tactic(auto, using(crate::proofs::Undoing::transactions_step))]
+pub fn transactions_step()
+    ensures { TransactionsStep }
 {}
