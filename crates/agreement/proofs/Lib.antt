@@ -13,3 +13,4 @@ pub mod LeavesDo
 pub mod Posted
 pub mod Recoveries
 pub mod Undoing
+pub mod Still

@@ -4,5 +4,6 @@ pub mod Deeds
 pub mod Finished
 pub mod Journals
 pub mod LeafDeeds
+pub mod Lives
 pub mod Recoveries
 pub mod TransactionSteps
