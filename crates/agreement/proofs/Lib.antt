@@ -14,3 +14,5 @@ pub mod Posted
 pub mod Recoveries
 pub mod Undoing
 pub mod Still
+pub mod TransactionLives
+pub mod LeafLives
