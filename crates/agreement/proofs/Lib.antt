@@ -16,3 +16,4 @@ pub mod Undoing
 pub mod Still
 pub mod TransactionLives
 pub mod LeafLives
+pub mod LivesOn

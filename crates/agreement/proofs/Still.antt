@@ -172,12 +172,11 @@ more_same id rs r fx new other e = record {
     was_written x own (inr (inl e)) = absurd (other (ap id_of (sym e) ∙ own))
     was_written x own (inr (inr h)) = absurd h
 
-pub AboutOther : Numbers → Option Record → Type 0
+abbrev pub AboutOther : Numbers → Option Record → Type 0
 AboutOther id None = Unit {0}
 AboutOther id (Some r) = id_of r ≡ id → ⊥
 
 pub other_same : (id : Numbers) (rs : List Record) (entry : Option Record) (fx gx : List Effect) → AboutOther id entry → ends id gx ≡ [] → Same id rs (rs ++ recorded entry) fx (fx ++ gx)
-unfolding AboutOther
 other_same id rs None fx gx other e =
     subst (λ ys. Same id rs ys fx (fx ++ gx)) (sym (append-nil rs))
     (record { ended = ends_join id fx gx ∙ ap (λ ys. ends id fx ++ ys) e ∙ append-nil (ends id fx); stays = λ x f h. h; was = λ x f h. h; written = λ x f h. h })
