@@ -17,3 +17,4 @@ pub mod Still
 pub mod TransactionLives
 pub mod LeafLives
 pub mod LivesOn
+pub mod Falling

@@ -65,7 +65,7 @@ AllLive b rs fx = (id : Numbers) → Life rs fx id (transaction_at b id) (leaf_a
 
 -- nothing is recorded or happened of it
 abbrev pub IsFresh : Numbers → List Record → List Effect → Type 0
-IsFresh id rs fx = ((r : Record) → IsIn r rs → id_of r ≡ id → ⊥) × (ends id fx ≡ [])
+IsFresh id rs fx = PromisesNothing id rs × (ends id fx ≡ [])
 
 -- what a step leaves
 pub record StepsOn (b : Book) (rs : List Record) (fx : List Effect) (c : Book) (after : List Record) (new : List Effect) : Type 0 where
@@ -346,22 +346,19 @@ work_working : (m : Moment) (live : ℕ) (a : Arrived) (w : Work) (id : Numbers)
 unfolding on_work
 work_working m live a w id = either_working id (nat_lt live 1024) (work_for m id a w a.reply) (refuse_work a) (employed_working m id a w a.reply) tt
 
-unfound : {A : Type 0} (key : A → Numbers) (b : Book) (id : Numbers) (xs : List A) → AllByRecursion (λ x. IsDrawn b (key x)) xs → (IsDrawn b id → ⊥) → find_by key id xs ≡ None
+pub unfound : {A : Type 0} (key : A → Numbers) (b : Book) (id : Numbers) (xs : List A) → AllByRecursion (λ x. IsDrawn b (key x)) xs → (IsDrawn b id → ⊥) → find_by key id xs ≡ None
 unfound {A = A} key b id xs h new = by_case (find_by key id xs) refl
   where
     by_case : (o : Option A) → find_by key id xs ≡ o → o ≡ None
     by_case None e = refl
     by_case (Some x) e = absurd (new (subst (IsDrawn b) (found_id key id xs x e) (all_find (λ y. IsDrawn b (key y)) key id xs x h e)))
 
-fresh_promises : (id : Numbers) (rs : List Record) (fx : List Effect) → IsFresh id rs fx → PromisesNothing id rs
-fresh_promises id rs fx (none, k) r h p = none r h (promise_id id r p)
-
 transaction_made_on : (b : Book) (now : ℕ) (rs : List Record) (fx : List Effect) (t : Transaction) → IsInOrder b → AllLive b rs fx → (IsDrawn b t.id → ⊥) → IsFresh t.id rs fx
     → may_expire t.phase ≡ true → StepsOn b rs fx (make_transaction (at_time now b) t) rs fx
 transaction_made_on b now rs fx t order l new fresh o = record {
   lives = by_id (λ i. Life rs fx i (transaction_at (make_transaction (at_time now b) t) i) (leaf_at b i)) t.id
       (is_undecided t (joined_this transaction_id t.id t b.transactions refl (unfound transaction_id b t.id b.transactions order.drawn.transactions new))
-      (unfound leaf_id b t.id b.leaves order.drawn.leaves new) o (fresh_promises t.id rs fx fresh) fresh.1)
+      (unfound leaf_id b t.id b.leaves order.drawn.leaves new) o fresh.0 fresh.1)
       (λ i e. subst (λ x. Life rs fx i x (leaf_at b i)) (sym (joined_other transaction_id i t b.transactions e)) (l i));
   others = λ i. inr (same_all i rs fx);
 }
@@ -371,7 +368,7 @@ leaf_made_on : (b : Book) (now : ℕ) (rs : List Record) (fx : List Effect) (x :
 leaf_made_on b now rs fx x order l new fresh o = record {
   lives = by_id (λ i. Life rs fx i (transaction_at b i) (leaf_at (make_leaf (at_time now b) x) i)) x.id
       (works x (unfound transaction_id b x.id b.transactions order.drawn.transactions new)
-      (joined_this leaf_id x.id x b.leaves refl (unfound leaf_id b x.id b.leaves order.drawn.leaves new)) (inl o) (fresh_promises x.id rs fx fresh) fresh.1)
+      (joined_this leaf_id x.id x b.leaves refl (unfound leaf_id b x.id b.leaves order.drawn.leaves new)) (inl o) fresh.0 fresh.1)
       (λ i e. subst (λ y. Life rs fx i (transaction_at b i) y) (sym (joined_other leaf_id i x b.leaves e)) (l i));
   others = λ i. inr (same_all i rs fx);
 }

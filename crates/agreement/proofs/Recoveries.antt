@@ -151,7 +151,7 @@ none_in_front p (x ∷ xs) ys e =
     ap (λ b. b || list_any p (xs ++ ys)) here ∙ none_in_front p xs ys behind
 
 -- what a record stands for is promised by it
-from_promise : (base : List ℕ) (rs : List Record) (r : Record) (t : Transaction) → transaction_from base rs r ≡ Some t → is_promise t.id r ≡ true
+pub from_promise : (base : List ℕ) (rs : List Record) (r : Record) (t : Transaction) → transaction_from base rs r ≡ Some t → is_promise t.id r ≡ true
 from_promise base rs (records.Voted id s seats) t e = or_nothing (is_id id t.id) ∙ subst (λ k. is_id id k ≡ true) (voted_id (list_any (is_sub_committed id) rs) e) (self_id id)
   where
     voted_id : (b : Bool) → Some (recovered_voted id s seats b) ≡ Some t → id ≡ t.id
@@ -162,7 +162,7 @@ from_promise base rs (records.Decided id seats) t e =
     subst (λ k. is_id id k ≡ true) (ap (λ (x : Transaction). x.id) same) (self_id id)
 from_promise base rs other t e = absurd cc
 
-from_leaf_promise : (r : Record) (l : Leaf) → leaf_from r ≡ Some l → is_promise l.id r ≡ true
+pub from_leaf_promise : (r : Record) (l : Leaf) → leaf_from r ≡ Some l → is_promise l.id r ≡ true
 from_leaf_promise (records.LeafPrepared id c key value) l e =
     let same : recovered_leaf id c key value ≡ l = cc in
     or_nothing (is_id id l.id) ∙ subst (λ k. is_id id k ≡ true) (ap (λ (x : Leaf). x.id) same) (self_id id)

@@ -131,22 +131,22 @@ pub record Same (id : Numbers) (rs after : List Record) (fx new : List Effect) :
   pub ended : ends id new ≡ ends id fx
   pub stays : (x : Record) → id_of x ≡ id → IsIn x (live rs) → IsIn x (live after)
   pub was : (x : Record) → id_of x ≡ id → IsIn x (live after) → IsIn x (live rs)
-  pub written : (x : Record) → id_of x ≡ id → IsIn x after → IsIn x rs
+  pub written : (x : Record) → is_promise id x ≡ true → IsIn x after → IsIn x rs
 
 pub same_all : (id : Numbers) (rs : List Record) (fx : List Effect) → Same id rs rs fx fx
 same_all id rs fx = record { ended = refl; stays = λ x e h. h; was = λ x e h. h; written = λ x e h. h }
 
 pub still : (id : Numbers) (rs after : List Record) (fx new : List Effect) (t : Option Transaction) (l : Option Leaf) → Same id rs after fx new → Life rs fx id t l → Life after new id t l
 still id rs after fx new t l s (is_gone e f none over one) =
-    is_gone e f (λ r h p. none r (s.was r (promise_id id r p) h) p) (λ r h p k. over r (s.written r (promise_id id r p) h) p (sym s.ended ∙ k)) (subst (λ es. length es ≤ 1) (sym s.ended) one)
-still id rs after fx new t l s (is_undecided x e f o none k) = is_undecided x e f o (λ r h p. none r (s.written r (promise_id id r p) h) p) (s.ended ∙ k)
+    is_gone e f (λ r h p. none r (s.was r (promise_id id r p) h) p) (λ r h p k. over r (s.written r p h) p (sym s.ended ∙ k)) (subst (λ es. length es ≤ 1) (sym s.ended) one)
+still id rs after fx new t l s (is_undecided x e f o none k) = is_undecided x e f o (λ r h p. none r (s.written r p h) p) (s.ended ∙ k)
 still id rs after fx new t l s (has_voted x superior seats e f o u h none k) =
     has_voted x superior seats e f o u (s.stays (records.Voted id superior seats) refl h) (λ i. none (s.was (records.SubCommitted id) refl i)) (s.ended ∙ k)
 still id rs after fx new t l s (has_decided x seats e f o u h k) = has_decided x seats e f o u (s.stays (records.Decided id seats) refl h) (s.ended ∙ k)
 still id rs after fx new t l s (has_committed x superior seats e f o u h i k) =
     has_committed x superior seats e f o u (s.stays (records.Voted id superior seats) refl h) (s.stays (records.SubCommitted id) refl i) (s.ended ∙ k)
 still id rs after fx new t l s (has_aborted x e f o none k) = has_aborted x e f o (λ r h p. none r (s.was r (promise_id id r p) h) p) (s.ended ∙ k)
-still id rs after fx new t l s (works x e f o none k) = works x e f o (λ r h p. none r (s.written r (promise_id id r p) h) p) (s.ended ∙ k)
+still id rs after fx new t l s (works x e f o none k) = works x e f o (λ r h p. none r (s.written r p h) p) (s.ended ∙ k)
 still id rs after fx new t l s (waits x coordinator key value e f d o h k) =
     waits x coordinator key value e f d o (s.stays (records.LeafPrepared id coordinator key value) refl h) (s.ended ∙ k)
 
@@ -155,7 +155,7 @@ more_same id rs r fx new other e = record {
   ended = e;
   stays = λ x own h. journals_live.stays rs r x h (not_dropped x own (drops r x) refl);
   was = λ x own h. was_so x own (journals_live.was rs r x h);
-  written = λ x own h. was_written x own (in_either x rs (r ∷ []) h);
+  written = λ x own h. was_written x (promise_id id x own) (in_either x rs (r ∷ []) h);
 }
   where
     not_dropped : (x : Record) → id_of x ≡ id → (b : Bool) → drops r x ≡ b → b ≡ false
@@ -201,7 +201,7 @@ find_other {A = A} key id i (Some y) (x ∷ xs) h f = by_case (is_id (key x) id)
         ∙ sym (ap (λ c. if c then Some x else find_by key i xs) (ap (λ j. is_id j i) (same_id (key x) id e) ∙ f))
     by_case false e k = ap (λ o. if is_id (key x) i then Some x else o) k
 
-none_behind : {A : Type 0} (key : A → Numbers) (i : Numbers) (xs : List A) → AllByRecursion (λ j. is_before i j ≡ true) (map key xs) → find_by key i xs ≡ None
+pub none_behind : {A : Type 0} (key : A → Numbers) (i : Numbers) (xs : List A) → AllByRecursion (λ j. is_before i j ≡ true) (map key xs) → find_by key i xs ≡ None
 none_behind key i [] h = refl
 none_behind {A = A} key i (x ∷ xs) (h, k) = by_case (is_id (key x) i) refl (none_behind key i xs k)
   where
