@@ -18,3 +18,4 @@ pub mod TransactionLives
 pub mod LeafLives
 pub mod LivesOn
 pub mod Falling
+pub mod Lives
