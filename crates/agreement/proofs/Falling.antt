@@ -232,7 +232,7 @@ falls_as base rs fx gx id t l h (waits x coordinator key value e f d o v k) =
     (h ∙ (λ j. lost_as (e j) (f j)) ∙ ap (λ s. if is_state s states.Registering || is_state s states.Active then leaf_ended x endings.Lost ∷ [] else []) o) ∙ k)
 
 -- and as it rises
-start_same : (rs : List Record) (fx : List Effect) (id : Numbers) → Same id rs (restarted rs) fx fx
+pub start_same : (rs : List Record) (fx : List Effect) (id : Numbers) → Same id rs (restarted rs) fx fx
 start_same rs fx id = record {
   ended = refl;
   stays = λ x e h. subst (IsIn x) (sym (journals_live.start rs (last_incarnation rs + 1))) h;

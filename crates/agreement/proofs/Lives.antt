@@ -36,7 +36,7 @@ use Rattle.model_laws.proofs.Standing.{decides_behind_every_answer}
 use Rattle.agreement.specs.Finished.{NamesRising}
 use Rattle.agreement.specs.Lives.{Life, LivesAgree, PromisesNothing, book_of, ends, happened_on, has_aborted, has_committed, has_decided, has_voted, is_gone, is_undecided, standing, waits, works}
 use Rattle.agreement.proofs.ActivityStanding.{activity_states}
-use Rattle.agreement.proofs.Falling.{Recovered, ends_lost, falls_as, lost, lost_as, rises_as}
+use Rattle.agreement.proofs.Falling.{Recovered, ends_lost, falls_as, lost, lost_as, rises_as, start_same}
 use Rattle.agreement.proofs.Finishing.{finishes_all}
 use Rattle.agreement.proofs.Journals.{in_either}
 use Rattle.agreement.proofs.LeafStanding.{leaf_states}
@@ -213,3 +213,89 @@ lost_there m n b differ =
     ∙ (λ i. on_there m n (λ t. ending t endings.Lost) differ (filter is_lost_root b.transactions) i
     ++ on_join m (map (λ t. happened_at n (ending t endings.Lost)) (filter is_lost_subordinate b.transactions)) (map (λ l. happened_at n (leaf_ended l endings.Lost)) (filter is_lost_leaf b.leaves)) i)
     ∙ (λ i. on_there m n (λ t. ending t endings.Lost) differ (filter is_lost_subordinate b.transactions) i ++ on_there m n (λ l. leaf_ended l endings.Lost) differ (filter is_lost_leaf b.leaves) i)
+
+-- a start that stops at once
+start_fresh : (rs : List Record) (fx : List Effect) (id : Numbers) → IsFresh id rs fx → IsFresh id (restarted rs) fx
+start_fresh rs fx id h = still_fresh id rs (restarted rs) fx fx (start_same rs fx id) h
+
+-- every reached world
+posted_happened : (n : ℕ) (ps : List Post) (w : World) → (post_all n ps w).happened ≡ w.happened
+posted_happened n [] w = refl
+posted_happened n (p ∷ ps) w = posted_happened n ps (with_post n p w)
+
+posted_nodes : (n : ℕ) (ps : List Post) (w : World) → (post_all n ps w).nodes ≡ w.nodes
+posted_nodes n [] w = refl
+posted_nodes n (p ∷ ps) w = posted_nodes n ps (with_post n p w)
+
+unpromised : (id : Numbers) → PromisesNothing id []
+unpromised id r h p = h
+
+new_down : IsDown [] []
+new_down = record {
+  names = tt;
+  fresh = λ id later. (unpromised id, refl);
+  lives = λ base id. is_gone refl refl (unpromised id) (λ r h p e. h) (omega arith);
+}
+
+abbrev NodeIs : List Happened → ℕ → Node → Type 0
+NodeIs hs n x = AsItIs x.journal x.book (happened_on n hs)
+
+gone_down : (n : ℕ) (b : Book) (u : World) (x : Node) → nth n u.nodes ≡ Some x
+    → goes_down n b u ≡ record u { nodes = put_nth n (record x { book = None }) u.nodes; happened = u.happened ++ lost_in n b }
+gone_down n b u x found = ap (put_book n None (record u { happened = u.happened ++ lost_in n b })) found
+
+node_is : (count : ℕ) (w : World) → Reached count w → (n : ℕ) (x : Node) → nth n w.nodes ≡ Some x → NodeIs w.happened n x
+node_is count w (opened is) n x found =
+    subst (λ hs. NodeIs hs n x) (sym (ap (λ (v : World). v.happened) is))
+    (subst (NodeIs [] n) (sym (opening_node count n x (ap (λ (v : World). nth n v.nodes) (sym is) ∙ found))) new_down)
+node_is count w (stepped u n x b e now landed ps reached found up heard posts is) m y f =
+    subst (λ hs. NodeIs hs m y) (sym (ap (λ (v : World). v.happened) is ∙ posted_happened n ps (counts u n x b e now landed)))
+    (each_put (NodeIs (u.happened ++ map (happened_at n) (step b e now landed).effects)) u.nodes n x
+    (record x { book = Some (step b e now landed).book; journal = with_entry (plan b e now).entry landed x.journal }) found
+    (subst (IsUp (step b e now landed).book (with_entry (plan b e now).entry landed x.journal)) (sym (step_here n u.happened (step b e now landed).effects))
+    (goes_on x.journal (happened_on n u.happened) b e now landed (subst (λ o. AsItIs x.journal o (happened_on n u.happened)) up (node_is count u reached n x found))))
+    (λ k z differ r. subst (AsItIs z.journal z.book) (sym (step_there k n u.happened (step b e now landed).effects differ)) (node_is count u reached k z r)) m y
+    (sym (ap (nth m) (ap (λ (v : World). v.nodes) is ∙ posted_nodes n ps (counts u n x b e now landed))) ∙ f))
+node_is count w (fell u n x b reached found up is) m y f =
+    subst (λ hs. NodeIs hs m y) (sym (ap (λ (v : World). v.happened) (is ∙ gone_down n b u x found)))
+    (each_put (NodeIs (u.happened ++ lost_in n b)) u.nodes n x (record x { book = None }) found
+    (subst (IsDown x.journal) (sym (on_join n u.happened (lost_in n b) ∙ ap (λ zs. happened_on n u.happened ++ zs) (lost_here n b)))
+    (falls x.journal (happened_on n u.happened) b (subst (λ o. AsItIs x.journal o (happened_on n u.happened)) up (node_is count u reached n x found))))
+    (λ k z differ r. subst (AsItIs z.journal z.book)
+    (sym (on_join k u.happened (lost_in n b) ∙ ap (λ zs. happened_on k u.happened ++ zs) (lost_there k n b differ) ∙ append-nil (happened_on k u.happened)))
+    (node_is count u reached k z r)) m y
+    (sym (ap (λ (v : World). nth m v.nodes) (is ∙ gone_down n b u x found)) ∙ f))
+node_is count w (rose u n x stop reached found down small is) m y f =
+    subst (λ hs. NodeIs hs m y) (sym (ap (λ (v : World). v.happened) is))
+    (each_put (NodeIs u.happened) u.nodes n x (up_after (started (last_incarnation x.journal + 1) x) stop) found
+    (by_stop stop (subst (λ o. AsItIs x.journal o (happened_on n u.happened)) down (node_is count u reached n x found))) (λ k z differ r. node_is count u reached k z r) m y
+    (sym (ap (λ (v : World). nth m v.nodes) is) ∙ f))
+  where
+    stopped : IsDown x.journal (happened_on n u.happened) → IsDown (restarted x.journal) (happened_on n u.happened)
+    stopped h = record {
+      names = all_join NamesRising x.journal _ h.names (tt, tt);
+      fresh = λ id later. start_fresh x.journal (happened_on n u.happened) id (h.fresh id (omega (arith, later, (incarnations_rise x.journal).0)));
+      lives = λ base id. rises_as base x.journal (happened_on n u.happened) id (h.lives base id);
+    }
+
+    by_stop : (s : Bool) → IsDown x.journal (happened_on n u.happened)
+        → AsItIs (restarted x.journal) (up_after (started (last_incarnation x.journal + 1) x) s).book (happened_on n u.happened)
+    by_stop true h = stopped h
+    by_stop false h = rises x.base x.journal (happened_on n u.happened) h
+node_is count w (waited u n x clock reached found is) m y f =
+    subst (λ hs. NodeIs hs m y) (sym (ap (λ (v : World). v.happened) is))
+    (each_put (NodeIs u.happened) u.nodes n x (record x { clock = clock }) found (node_is count u reached n x found) (λ k z differ r. node_is count u reached k z r) m y
+    (sym (ap (λ (v : World). nth m v.nodes) is) ∙ f))
+
+-- the standing book
+stands : (base : List ℕ) (rs : List Record) (o : Option Book) (fx : List Effect) → AsItIs rs o fx → (id : Numbers)
+    → Life rs fx id (transaction_at (standing base rs o) id) (leaf_at (standing base rs o) id)
+stands base rs None fx h id = h.lives base id
+stands base rs (Some b) fx h id = h.good.lives id
+
+run_lives : (count : ℕ) (es : List WorldEvent) (n : ℕ) (x : Node) → nth n (run_of count es).nodes ≡ Some x → (id : Numbers)
+    → Life x.journal (happened_on n (run_of count es).happened) id (transaction_at (book_of x) id) (leaf_at (book_of x) id)
+run_lives count es n x found id = stands x.base x.journal x.book (happened_on n (run_of count es).happened) (node_is count (run_of count es) (run_reached count es) n x found) id
+
+pub lives_agree : LivesAgree
+lives_agree = record { lives = run_lives }

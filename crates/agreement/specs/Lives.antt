@@ -69,10 +69,7 @@ standing base rs (Some b) = b
 abbrev pub book_of : Node → Book
 book_of x = standing x.base x.journal x.book
 
--- So it is in every run, of each node and each id. An item that has committed never aborts and isn't lost, and each ends
--- once at most.
+-- So it is in every run, of each node and each id.
 pub record LivesAgree : Type 0 where
   pub lives : (count : ℕ) (es : List WorldEvent) (n : ℕ) (x : Node) → nth n (run_of count es).nodes ≡ Some x → (id : Numbers)
       → Life x.journal (happened_on n (run_of count es).happened) id (transaction_at (book_of x) id) (leaf_at (book_of x) id)
-  pub one : (count : ℕ) (es : List WorldEvent) (x : Who) → HasCommitted (run_of count es) x → HasAborted (run_of count es) x → ⊥
-  pub once : (count : ℕ) (es : List WorldEvent) (x : Who) → length (filter (is_end_of x) (run_of count es).happened) ≤ 1

@@ -5,6 +5,7 @@ ghost use Rattle.agreement.specs.Deeds.{TransactionsDo};
 ghost use Rattle.agreement.specs.Finished.{FinishesAll};
 ghost use Rattle.agreement.specs.Journals.{JournalsLive};
 ghost use Rattle.agreement.specs.LeafDeeds.{LeafStates, LeavesDo};
+ghost use Rattle.agreement.specs.Lives.{LivesAgree};
 ghost use Rattle.agreement.specs.Recoveries.{RecoversEach};
 ghost use Rattle.agreement.specs.TransactionSteps.{TransactionsStep};
 
@@ -67,4 +68,12 @@ pub fn transactions_do()
 #[tactic(auto, using(crate::proofs::Undoing::transactions_step))]
 pub fn transactions_step()
     ensures { TransactionsStep }
+{}
+
+/// In every run a node's book, or while it is down the book that its records stand for, its journal and what happened at it
+/// agree: what is undecided has promised nothing and hasn't ended, what has promised has its promise recorded, what has
+/// decided has its decision recorded and has ended so, and what is gone is over.
+#[tactic(auto, using(crate::proofs::Lives::lives_agree))]
+pub fn lives_agree()
+    ensures { LivesAgree }
 {}
