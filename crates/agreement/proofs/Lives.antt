@@ -14,7 +14,7 @@ use Rattle.at_base.specs.declared.outs.Effect.TheVariants as effects
 use Rattle.at_base.specs.declared.outs.Ending.{Ending}
 use Rattle.at_base.specs.declared.outs.Ending.TheVariants as endings
 use Rattle.at_base.specs.declared.outs.Post.{Post}
-use Rattle.at_model.specs.Book.{Book, is_id, leaf_id, transaction_id}
+use Rattle.at_model.specs.Book.{Book, Leaf, Transaction, is_id, leaf_id, transaction_id}
 use Rattle.at_model.specs.Recover.{incarnation_of, is_promise, last_incarnation, recover}
 use Rattle.at_model.specs.Leaves.{leaf_ended}
 use Rattle.at_model.specs.Seats.{ending}
@@ -297,5 +297,86 @@ run_lives : (count : ℕ) (es : List WorldEvent) (n : ℕ) (x : Node) → nth n 
     → Life x.journal (happened_on n (run_of count es).happened) id (transaction_at (book_of x) id) (leaf_at (book_of x) id)
 run_lives count es n x found id = stands x.base x.journal x.book (happened_on n (run_of count es).happened) (node_is count (run_of count es) (run_reached count es) n x found) id
 
+-- it ends once
+at_most_one : (es : List Effect) (e : Effect) → es ≡ e ∷ [] → length es ≤ 1
+at_most_one es e k = subst (λ (fs : List Effect). length fs ≤ 1) (sym k) (omega arith)
+
+unended : (es : List Effect) → es ≡ [] → length es ≤ 1
+unended es k = subst (λ (fs : List Effect). length fs ≤ 1) (sym k) (omega arith)
+
+life_once : (rs : List Record) (fx : List Effect) (id : Numbers) (t : Option Transaction) (l : Option Leaf) → Life rs fx id t l → length (ends id fx) ≤ 1
+life_once rs fx id t l (is_gone e f dead over once) = once
+life_once rs fx id t l (is_undecided x e f o nothing k) = unended (ends id fx) k
+life_once rs fx id t l (has_voted x superior seats e f o u h out k) = unended (ends id fx) k
+life_once rs fx id t l (has_decided x seats e f o u h k) = at_most_one (ends id fx) (effects.Root id endings.Committed) k
+life_once rs fx id t l (has_committed x superior seats e f o u h i k) = at_most_one (ends id fx) (effects.Sub id endings.Committed) k
+life_once rs fx id t l (has_aborted x e f o dead k) = at_most_one (ends id fx) (ending x endings.Aborted) k
+life_once rs fx id t l (works x e f o nothing k) = unended (ends id fx) k
+life_once rs fx id t l (waits x coordinator key value e f d o h k) = unended (ends id fx) k
+
+passes : (p : Effect → Bool) (x : Effect) (xs : List Effect) → IsIn x xs → p x ≡ true → IsIn x (filter p xs)
+passes p x [] h e = absurd h
+passes p x (y ∷ ys) (inl f) e = subst (IsIn x) (sym (ap (λ b. if b then y ∷ filter p ys else filter p ys) (ap p (sym f) ∙ e))) (inl f)
+passes p x (y ∷ ys) (inr h) e = by_case (p y) (passes p x ys h e)
+  where
+    by_case : (b : Bool) → IsIn x (filter p ys) → IsIn x (if b then y ∷ filter p ys else filter p ys)
+    by_case true k = inr k
+    by_case false k = k
+
+one_only : (xs : List Effect) (x y : Effect) → length xs ≤ 1 → IsIn x xs → IsIn y xs → x ≡ y
+one_only [] x y l h k = absurd h
+one_only (z ∷ []) x y l (inl e) (inl f) = e ∙ sym f
+one_only (z ∷ []) x y l (inr h) k = absurd h
+one_only (z ∷ []) x y l (inl e) (inr k) = absurd k
+one_only (z ∷ v ∷ zs) x y l h k = absurd (omega (arith, l))
+
+in_there : (n : ℕ) (e : Effect) (hs : List Happened) → IsIn (happened_at n e) hs → IsIn e (happened_on n hs)
+in_there n e [] i = absurd i
+in_there n e (h ∷ hs) (inl f) =
+    subst (IsIn e) (sym (ap (λ b. if b then h.what ∷ happened_on n hs else happened_on n hs) (ap (λ (x : Happened). nat_eq x.node n) (sym f) ∙ eq-eqb n n refl))) (inl (ap (λ (x : Happened). x.what) f))
+in_there n e (h ∷ hs) (inr i) = by_case (nat_eq h.node n) (in_there n e hs i)
+  where
+    by_case : (b : Bool) → IsIn e (happened_on n hs) → IsIn e (if b then h.what ∷ happened_on n hs else happened_on n hs)
+    by_case true k = inr k
+    by_case false k = k
+
+abbrev as_what : Effect → Option Ending
+as_what (effects.Root i what) = Some what
+as_what (effects.Sub i what) = Some what
+as_what (effects.Leaf i kind what) = Some what
+as_what (effects.Told i what) = None
+
+record EndedAs (fx : List Effect) (id : Numbers) (what : Ending) : Type 0 where
+  effect : Effect
+  ended : IsIn effect (ends id fx)
+  so : as_what effect ≡ Some what
+
+ended_as : (w : World) (n : ℕ) (id : Numbers) (what : Ending) → HasEnded w (record { node = n; id = id }) what → EndedAs (happened_on n w.happened) id what
+ended_as w n id what (inl i) =
+    record { effect = effects.Root id what; ended = passes (ends_as id) (effects.Root id what) (happened_on n w.happened) (in_there n (effects.Root id what) w.happened i) (self_id id); so = refl }
+ended_as w n id what (inr (inl i)) =
+    record { effect = effects.Sub id what; ended = passes (ends_as id) (effects.Sub id what) (happened_on n w.happened) (in_there n (effects.Sub id what) w.happened i) (self_id id); so = refl }
+ended_as w n id what (inr (inr i)) = record {
+  effect = effects.Leaf id kinds.Durable what;
+  ended = passes (ends_as id) (effects.Leaf id kinds.Durable what) (happened_on n w.happened) (in_there n (effects.Leaf id kinds.Durable what) w.happened i) (self_id id);
+  so = refl;
+}
+
+both_ended : (fx : List Effect) (id : Numbers) (one other : Ending) → length (ends id fx) ≤ 1 → EndedAs fx id one → EndedAs fx id other → Some one ≡ Some other
+both_ended fx id one other l h k = sym h.so ∙ ap as_what (one_only (ends id fx) h.effect k.effect l h.ended k.ended) ∙ k.so
+
+run_once : (count : ℕ) (es : List WorldEvent) (n : ℕ) (x : Node) → nth n (run_of count es).nodes ≡ Some x → (id : Numbers) → length (ends id (happened_on n (run_of count es).happened)) ≤ 1
+run_once count es n x found id =
+    life_once x.journal (happened_on n (run_of count es).happened) id (transaction_at (book_of x) id) (leaf_at (book_of x) id) (run_lives count es n x found id)
+
+run_one : (count : ℕ) (es : List WorldEvent) (n : ℕ) (x : Node) → nth n (run_of count es).nodes ≡ Some x → (id : Numbers)
+    → HasCommitted (run_of count es) (record { node = n; id = id }) → HasAborted (run_of count es) (record { node = n; id = id }) → ⊥
+run_one count es n x found id c (inl a) =
+    let e : Some endings.Committed ≡ Some endings.Aborted = both_ended (happened_on n (run_of count es).happened) id endings.Committed endings.Aborted (run_once count es n x found id)
+        (ended_as (run_of count es) n id endings.Committed c) (ended_as (run_of count es) n id endings.Aborted a) in cc
+run_one count es n x found id c (inr a) =
+    let e : Some endings.Committed ≡ Some endings.Lost = both_ended (happened_on n (run_of count es).happened) id endings.Committed endings.Lost (run_once count es n x found id)
+        (ended_as (run_of count es) n id endings.Committed c) (ended_as (run_of count es) n id endings.Lost a) in cc
+
 pub lives_agree : LivesAgree
-lives_agree = record { lives = run_lives }
+lives_agree = record { lives = run_lives; one = run_one; once = run_once }

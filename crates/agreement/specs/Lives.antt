@@ -73,3 +73,9 @@ book_of x = standing x.base x.journal x.book
 pub record LivesAgree : Type 0 where
   pub lives : (count : ℕ) (es : List WorldEvent) (n : ℕ) (x : Node) → nth n (run_of count es).nodes ≡ Some x → (id : Numbers)
       → Life x.journal (happened_on n (run_of count es).happened) id (transaction_at (book_of x) id) (leaf_at (book_of x) id)
+  -- an item that has committed never aborts, and isn't lost
+  pub one : (count : ℕ) (es : List WorldEvent) (n : ℕ) (x : Node) → nth n (run_of count es).nodes ≡ Some x → (id : Numbers)
+      → HasCommitted (run_of count es) (record { node = n; id = id }) → HasAborted (run_of count es) (record { node = n; id = id }) → ⊥
+  -- and each ends once at most
+  pub once : (count : ℕ) (es : List WorldEvent) (n : ℕ) (x : Node) → nth n (run_of count es).nodes ≡ Some x → (id : Numbers)
+      → length (ends id (happened_on n (run_of count es).happened)) ≤ 1

@@ -72,7 +72,7 @@ pub fn transactions_step()
 
 /// In every run a node's book, or while it is down the book that its records stand for, its journal and what happened at it
 /// agree: what is undecided has promised nothing and hasn't ended, what has promised has its promise recorded, what has
-/// decided has its decision recorded and has ended so, and what is gone is over.
+/// decided has its decision recorded and has ended so, and what is gone is over. Nothing ends twice.
 #[tactic(auto, using(crate::proofs::Lives::lives_agree))]
 pub fn lives_agree()
     ensures { LivesAgree }
