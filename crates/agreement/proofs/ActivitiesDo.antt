@@ -1,5 +1,5 @@
 -- Each rule of activities is one of the deeds.
-use Rattle.std.specs.Prelude.{ℕ, List, [], ◌∷◌, ◌++◌, ◌+◌, Option, Some, None, Bool, true, false, ◌≡◌, ◌⊎◌, refl, ◌&&◌, ◌||◌, if◌then◌else◌, bytes_eq}
+use Rattle.std.specs.Prelude.{ℕ, List, ◌+◌, Option, Some, None, Bool, true, false, ◌≡◌, ◌⊎◌, refl, ◌&&◌, if◌then◌else◌, bytes_eq}
 use Rattle.std.proofs.Common.{inl, inr, sym, subst, ap, ◌∙◌}
 use Rattle.std.proofs.lemmas.Slice.Eq.{bytes_eq-Decides}
 use Rattle.at_base.specs.declared.epr.Epr.{Epr}
@@ -27,8 +27,8 @@ use Rattle.at_model.specs.Moves.{Decision, Goes, ignored}
 use Rattle.at_model.specs.Activities.{activity_target, activity_act, activity_notice, activity_created, activity_fault, activity_registered, is_active, is_begun, on_activity, on_ask, on_complete, told, Refusal, Stale}
 use Rattle.at_model.specs.Addresses.{create_id, register_id}
 use Rattle.at_model.specs.Arrivals.{relates_to}
-use Rattle.at_model.specs.Due.{Reached, Expired, Over, Unanswered, Nothing, has_come, is_quiet, activity_due, activity_reached}
-use Rattle.at_model.specs.Step.{at_time, put_activity, activity_at, moment_of, only_begun, refuses, refuses_named, works_left}
+use Rattle.at_model.specs.Due.{Expired, Unanswered, Nothing, has_come, is_quiet, activity_due, activity_reached}
+use Rattle.at_model.specs.Step.{at_time, put_activity, activity_at, moment_of, only_begun, refuses_named, works_left}
 use Rattle.model_laws.specs.Shapes.{MovesActivity, at_activity, activity_when_due, works, completes, completion_request}
 use Rattle.model_laws.proofs.Deciding.{first_true, second_true}
 use Rattle.agreement.specs.Branches.{InBranches}

@@ -1,15 +1,13 @@
 -- In every run an activity stands as far as it came.
-use Rattle.std.specs.Prelude.{ℕ, List, [], ◌∷◌, Option, Some, None, Bool, true, false, not, length, ◌+◌, ◌≡◌, ◌⊎◌, refl, if◌then◌else◌, nat_lt}
+use Rattle.std.specs.Prelude.{ℕ, List, [], ◌∷◌, Option, Some, None, Bool, not, ◌+◌, ◌≡◌, ◌⊎◌, refl}
 use Rattle.std.specs.List.{AllByRecursion}
-use Rattle.std.proofs.Common.{inl, inr, sym, subst, ap, ◌∙◌}
+use Rattle.std.proofs.Common.{inl, inr, sym, subst, ap}
 use Rattle.at_base.specs.Numbers.{Numbers}
 use Rattle.at_base.specs.declared.epr.Epr.{Epr}
 use Rattle.at_base.specs.declared.notice.Notice.{Notice}
 use Rattle.at_base.specs.declared.notice.Notice.TheVariants as notices
-use Rattle.at_base.specs.declared.message.Context.{Context}
 use Rattle.at_base.specs.declared.outs.Out.{Out}
 use Rattle.at_base.specs.declared.record.Record.{Record}
-use Rattle.at_base.specs.declared.event.Local.{Local}
 use Rattle.at_base.specs.declared.event.Event.{Event}
 use Rattle.at_base.specs.declared.event.Event.TheVariants as events
 use Rattle.at_base.specs.declared.event.Moment.{Moment}
@@ -17,12 +15,10 @@ use Rattle.at_model.specs.Posts.{accepted}
 use Rattle.at_model.specs.Book.{Book, Activity, Progress, activity_id, put_by}
 use Rattle.at_model.specs.Moves.{Change, Decision, Goes, Records}
 use Rattle.at_model.specs.Arrivals.{with_answer}
-use Rattle.at_model.specs.Activities.{Refusal, is_begun, new_activity, on_begin, on_interpose}
+use Rattle.at_model.specs.Activities.{Refusal, on_begin, on_interpose}
 use Rattle.at_model.specs.Register.{on_register}
 use Rattle.at_model.specs.Step.{Outcome, Plan, plain, still, activity_at, at_time, moment_of, is_under, local_plan, put_transaction, put_leaf, put_activities, put_activity, make_transaction, make_leaf, make_activity, refuses, registration_outcome, plan, step}
-use Rattle.at_model.specs.Recover.{recover}
 use Rattle.at_model.specs.World.{Node, WorldEvent, nth, run_of}
-use Rattle.model_laws.specs.Drawn.{restarted}
 use Rattle.model_laws.specs.Shapes.{MakesActivity, Shape, begins, interposes, nothing_moves, time_moves, time_passes, transaction_moves, leaf_moves, activity_moves, transaction_registers, transaction_made, leaf_made, activity_made}
 use Rattle.model_laws.proofs.Deciding.{Both, in_branch, plain_both, decision_both, DecisionHas, IfThere, decided_both, all_filter, all_find, all_put, all_join, found_id}
 use Rattle.model_laws.proofs.Reaching.{NodeLaw, nodes_hold, run_reached}

@@ -1,5 +1,5 @@
 -- What the step of a decision gives.
-use Rattle.std.specs.Prelude.{List, [], ◌∷◌, ◌++◌, Option, Some, None, Bool, true, false, ◌≡◌, refl}
+use Rattle.std.specs.Prelude.{List, Option, Some, None, Bool, true, false, refl}
 use Rattle.std.proofs.Common.{sym}
 use Rattle.std.proofs.lemmas.List.{append-nil}
 use Rattle.at_base.specs.declared.outs.Out.{Out}

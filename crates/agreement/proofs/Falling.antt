@@ -1,18 +1,16 @@
 -- What is undecided is lost where a node goes down, and what is promised is recovered as it was.
 use Rattle.std.specs.Prelude.{ℕ, List, [], ◌∷◌, ◌++◌, Option, Some, None, Bool, true, false, if◌then◌else◌, ◌&&◌, ◌||◌, ◌+◌, is_none, is_some, length, map, filter, ◌≡◌, ◌⊎◌, ◌≤◌, refl}
 use Rattle.std.specs.List.{list_any, AllByRecursion}
-use Rattle.std.proofs.Common.{arith, inl, inr, sym, subst, ap, ◌∙◌}
+use Rattle.std.proofs.Common.{inl, inr, sym, subst, ap, ◌∙◌}
 use Rattle.std.proofs.lemmas.List.{append-nil}
 use Rattle.at_base.specs.Numbers.{Numbers}
-use Rattle.at_base.specs.declared.epr.Epr.{Epr}
 use Rattle.at_base.specs.declared.record.Record.{Record}
 use Rattle.at_base.specs.declared.record.Record.TheVariants as records
-use Rattle.at_base.specs.declared.record.Seated.{Seated}
 use Rattle.at_base.specs.declared.outs.Effect.{Effect}
 use Rattle.at_base.specs.declared.outs.Ending.TheVariants as endings
 use Rattle.at_tables.specs.declared.cells.State.TheVariants as states
 use Rattle.at_tables.specs.Names.{is_state}
-use Rattle.at_model.specs.Book.{Book, Leaf, Phase, Superior, Transaction, find_by, is_id, leaf_id, transaction_id}
+use Rattle.at_model.specs.Book.{Book, Leaf, Superior, Transaction, find_by, is_id, leaf_id, transaction_id}
 use Rattle.at_model.specs.Due.{may_expire}
 use Rattle.at_model.specs.Leaves.{leaf_ended}
 use Rattle.at_model.specs.Recover.{in_order, is_before, is_promise, is_sub_committed, last_incarnation, leaves_of, live, recover, recovered_decided, recovered_leaf, recovered_voted, transactions_of}
@@ -26,7 +24,7 @@ use Rattle.model_laws.proofs.Deciding.{found_id}
 use Rattle.model_laws.proofs.Recovering.{same_id, self_id}
 use Rattle.agreement.specs.Lives.{Life, PromisesNothing, ends, has_aborted, has_committed, has_decided, has_voted, is_gone, is_undecided, waits, works}
 use Rattle.agreement.specs.Recoveries.{StandsFor, StandsForLeaf, leaf_from, transaction_from}
-use Rattle.agreement.proofs.Journals.{both_ways, in_either, journals_live}
+use Rattle.agreement.proofs.Journals.{in_either, journals_live}
 use Rattle.agreement.proofs.Recoveries.{from_leaf_promise, from_promise, recovers_each}
 use Rattle.agreement.proofs.Still.{Same, any_in, ending_as, ends_join, none_any, none_behind, nothing_live, still}
 use Rattle.agreement.proofs.TransactionLives.{IsGone, gone_ended, gone_unended}

@@ -9,8 +9,8 @@ use Rattle.at_base.specs.declared.epr.Epr.{Epr}
 use Rattle.at_base.specs.declared.record.Seated.{Seated}
 use Rattle.at_base.specs.declared.record.Record.{Record}
 use Rattle.at_base.specs.declared.record.Record.TheVariants as records
-use Rattle.at_model.specs.Book.{Leaf, is_id, leaf_id}
-use Rattle.at_model.specs.Recover.{ends_leaf, ends_transaction, is_decided, in_order, insert_by, is_before, is_ended, is_leaf_ended, is_leaf_prepared, is_promise, is_sub_committed, is_voted, kept, leaves_of, live, no_seats, recover, recovered_leaf, with_commit}
+use Rattle.at_model.specs.Book.{is_id}
+use Rattle.at_model.specs.Recover.{ends_leaf, ends_transaction, in_order, insert_by, is_before, is_leaf_ended, is_leaf_prepared, is_promise, is_sub_committed, is_voted, kept, live, no_seats}
 use Rattle.model_laws.specs.Agreement.{IsIn}
 use Rattle.model_laws.proofs.Deciding.{in_front}
 use Rattle.model_laws.proofs.Recovering.{or_false, same_id, self_id}

@@ -20,7 +20,7 @@ use Rattle.at_model.specs.Book.{Leaf, Transaction}
 use Rattle.at_model.specs.Leaves.{leaf_ended}
 use Rattle.at_model.specs.Moves.{Change}
 use Rattle.at_model.specs.Recover.{is_promise, kept, live}
-use Rattle.model_laws.specs.Agreement.{IsIn, ends_as}
+use Rattle.model_laws.specs.Agreement.{IsIn}
 use Rattle.model_laws.proofs.Recovering.{self_id}
 use Rattle.agreement.specs.Branches.{recorded as written}
 use Rattle.agreement.specs.Journals.{IsNoSubCommit, drops}

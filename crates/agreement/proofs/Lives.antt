@@ -1,5 +1,5 @@
 -- In every reached world a node's book, its journal and what happened at it agree.
-use Rattle.std.specs.Prelude.{ℕ, List, [], ◌∷◌, ◌++◌, Option, Some, None, Bool, true, false, if◌then◌else◌, ◌&&◌, ◌+◌, nat_eq, nat_lt, length, map, max, filter, ◌≡◌, ◌⊎◌, ◌≤◌, ◌<◌, refl}
+use Rattle.std.specs.Prelude.{ℕ, List, [], ◌∷◌, ◌++◌, Option, Some, None, Bool, true, false, if◌then◌else◌, ◌+◌, nat_eq, nat_lt, length, map, max, filter, ◌≡◌, ◌⊎◌, ◌≤◌, ◌<◌, refl}
 use Rattle.std.specs.List.{AllByRecursion}
 use Rattle.std.proofs.Common.{arith, inl, inr, sym, subst, ap, ◌∙◌}
 use Rattle.std.proofs.lemmas.Bool.{eq-eqb, eqb-true, ltb-true, ltb-false}
@@ -14,23 +14,23 @@ use Rattle.at_base.specs.declared.outs.Effect.TheVariants as effects
 use Rattle.at_base.specs.declared.outs.Ending.{Ending}
 use Rattle.at_base.specs.declared.outs.Ending.TheVariants as endings
 use Rattle.at_base.specs.declared.outs.Post.{Post}
-use Rattle.at_model.specs.Book.{Book, Leaf, Transaction, is_id, leaf_id, transaction_id}
+use Rattle.at_model.specs.Book.{Book, Leaf, Transaction, leaf_id, transaction_id}
 use Rattle.at_model.specs.Recover.{incarnation_of, is_promise, last_incarnation, recover}
 use Rattle.at_model.specs.Leaves.{leaf_ended}
 use Rattle.at_model.specs.Seats.{ending}
-use Rattle.at_model.specs.Step.{branch, leaf_at, plan, step, transaction_at}
-use Rattle.at_model.specs.World.{Happened, Node, Who, World, WorldEvent, goes_down, happened_at, is_lost_leaf, is_lost_root, is_lost_subordinate, lost_in, nth, opening, put_book, put_nth, run_of, started, up_after, with_post}
-use Rattle.model_laws.specs.Agreement.{HasAborted, HasCommitted, HasEnded, IsIn, ends_as, is_end_of}
+use Rattle.at_model.specs.Step.{leaf_at, plan, step, transaction_at}
+use Rattle.at_model.specs.World.{Happened, Node, World, WorldEvent, goes_down, happened_at, is_lost_leaf, is_lost_root, is_lost_subordinate, lost_in, nth, put_book, put_nth, run_of, started, up_after, with_post}
+use Rattle.model_laws.specs.Agreement.{HasAborted, HasCommitted, HasEnded, IsIn, ends_as}
 use Rattle.model_laws.specs.Drawn.{restarted, with_entry}
 use Rattle.model_laws.specs.Laws.{IsDrawn}
 use Rattle.model_laws.specs.Reached.{Reached, counts, fell, opened, post_all, rose, stepped, waited}
-use Rattle.model_laws.proofs.Deciding.{IfThere, all_join}
+use Rattle.model_laws.proofs.Deciding.{all_join}
 use Rattle.model_laws.proofs.Living.{ids_stay_drawn}
 use Rattle.model_laws.proofs.Nodes.{each_put}
 use Rattle.model_laws.proofs.Ordering.{ids_rise}
 use Rattle.model_laws.proofs.Reaching.{run_reached}
 use Rattle.model_laws.proofs.Recovering.{incarnations_rise, self_id}
-use Rattle.model_laws.proofs.Running.{opening_node, put_other, put_this}
+use Rattle.model_laws.proofs.Running.{opening_node}
 use Rattle.model_laws.proofs.Shaping.{steps_keep_place}
 use Rattle.model_laws.proofs.Standing.{decides_behind_every_answer}
 use Rattle.agreement.specs.Finished.{NamesRising}
@@ -40,7 +40,7 @@ use Rattle.agreement.proofs.Falling.{Recovered, ends_lost, falls_as, lost, lost_
 use Rattle.agreement.proofs.Finishing.{finishes_all}
 use Rattle.agreement.proofs.Journals.{in_either}
 use Rattle.agreement.proofs.LeafStanding.{leaf_states}
-use Rattle.agreement.proofs.LivesOn.{AllLive, IsFresh, IsGood, StepsOn, steps_on, unfound}
+use Rattle.agreement.proofs.LivesOn.{IsFresh, IsGood, StepsOn, steps_on, unfound}
 use Rattle.agreement.proofs.Still.{Same, ends_join}
 
 -- a node that is up, and one that is down
@@ -373,10 +373,10 @@ run_one : (count : ℕ) (es : List WorldEvent) (n : ℕ) (x : Node) → nth n (r
     → HasCommitted (run_of count es) (record { node = n; id = id }) → HasAborted (run_of count es) (record { node = n; id = id }) → ⊥
 run_one count es n x found id c (inl a) =
     let e : Some endings.Committed ≡ Some endings.Aborted = both_ended (happened_on n (run_of count es).happened) id endings.Committed endings.Aborted (run_once count es n x found id)
-        (ended_as (run_of count es) n id endings.Committed c) (ended_as (run_of count es) n id endings.Aborted a) in cc
+    (ended_as (run_of count es) n id endings.Committed c) (ended_as (run_of count es) n id endings.Aborted a) in cc
 run_one count es n x found id c (inr a) =
     let e : Some endings.Committed ≡ Some endings.Lost = both_ended (happened_on n (run_of count es).happened) id endings.Committed endings.Lost (run_once count es n x found id)
-        (ended_as (run_of count es) n id endings.Committed c) (ended_as (run_of count es) n id endings.Lost a) in cc
+    (ended_as (run_of count es) n id endings.Committed c) (ended_as (run_of count es) n id endings.Lost a) in cc
 
 pub lives_agree : LivesAgree
 lives_agree = record { lives = run_lives; one = run_one; once = run_once }

@@ -1,5 +1,5 @@
 -- Each step of a book keeps what is said of its items.
-use Rattle.std.specs.Prelude.{ℕ, List, [], ◌∷◌, ◌++◌, Option, Some, None, Bool, true, false, if◌then◌else◌, not, ◌&&◌, is_none, length, map, option_map, bytes_eq, nat_lt, ◌≡◌, ◌⊎◌, refl}
+use Rattle.std.specs.Prelude.{ℕ, List, [], ◌∷◌, ◌++◌, Option, Some, None, Bool, true, false, if◌then◌else◌, not, ◌&&◌, is_none, length, option_map, bytes_eq, nat_lt, ◌≡◌, ◌⊎◌, refl}
 use Rattle.std.specs.List.{AllByRecursion}
 use Rattle.std.proofs.Common.{inl, inr, sym, subst, ap, ◌∙◌}
 use Rattle.std.proofs.lemmas.List.{append-nil}
@@ -19,13 +19,12 @@ use Rattle.at_base.specs.declared.event.Arrived.{Arrived}
 use Rattle.at_base.specs.declared.event.Event.{Event}
 use Rattle.at_base.specs.declared.event.Event.TheVariants as events
 use Rattle.at_base.specs.declared.event.Moment.{Moment}
-use Rattle.at_base.specs.declared.event.Local.{Local}
 use Rattle.at_base.specs.declared.outs.Effect.{Effect}
 use Rattle.at_base.specs.declared.outs.Ending.{Ending}
 use Rattle.at_base.specs.declared.outs.Ending.TheVariants as endings
 use Rattle.at_base.specs.declared.outs.Out.{Out}
 use Rattle.at_tables.specs.declared.cells.State.TheVariants as states
-use Rattle.at_model.specs.Book.{Activity, Book, Leaf, Phase, Transaction, Enlistment, activity_id, find_by, is_id, leaf_id, next_id, transaction_id}
+use Rattle.at_model.specs.Book.{Activity, Book, Leaf, Transaction, Enlistment, activity_id, find_by, is_id, leaf_id, transaction_id}
 use Rattle.at_model.specs.Create.{Creation, create_in, create_under, on_create, refuse_create}
 use Rattle.at_model.specs.Due.{may_expire}
 use Rattle.at_model.specs.Leaves.{Employment, leaf_ended, on_work, refuse_work, work_for}
@@ -35,11 +34,10 @@ use Rattle.at_model.specs.Moves.{Change}
 use Rattle.at_model.specs.Posts.{accepted}
 use Rattle.at_model.specs.Register.{Registration, accept, held_seat, may_register, on_register, protocol_named, register_again, register_new}
 use Rattle.at_model.specs.Seats.{ending, ending_of, prepared}
-use Rattle.at_model.specs.Step.{Outcome, Plan, activity_at, activity_plan, leaf_plan, local_plan, transaction_plan, at_time, branch, leaf_at, make_activity, make_leaf, make_transaction, moment_of, plain, plan, put_activity, put_leaf, put_transaction, refuses, registration_outcome, still, transaction_at}
-use Rattle.model_laws.specs.Agreement.{IsIn, ends_as}
+use Rattle.at_model.specs.Step.{Outcome, Plan, activity_at, activity_plan, leaf_plan, local_plan, transaction_plan, at_time, branch, leaf_at, make_activity, make_leaf, make_transaction, moment_of, plain, plan, put_activity, put_leaf, put_transaction, refuses, still, transaction_at}
 use Rattle.model_laws.specs.Behind.{IsInPhase}
-use Rattle.model_laws.specs.Drawn.{HoldsDrawn, with_entry}
-use Rattle.model_laws.specs.Laws.{HasId, HasLeafId, IsDrawn}
+use Rattle.model_laws.specs.Drawn.{with_entry}
+use Rattle.model_laws.specs.Laws.{IsDrawn}
 use Rattle.model_laws.specs.Order.{IsInOrder}
 use Rattle.model_laws.specs.Shapes.{Shape, nothing_moves, time_moves, time_passes, transaction_moves, leaf_moves, activity_moves, transaction_registers, transaction_made, leaf_made, activity_made}
 use Rattle.model_laws.proofs.Deciding.{IfThere, all_find, found_id}
@@ -56,7 +54,7 @@ use Rattle.agreement.specs.TransactionSteps.{WaitsOn}
 use Rattle.agreement.proofs.ActivitiesDo.{activities_do}
 use Rattle.agreement.proofs.LeafLives.{LeafAlone, leaf_alone, leaf_by_deed, leaf_left_life}
 use Rattle.agreement.proofs.LeavesDo.{leaves_do}
-use Rattle.agreement.proofs.Still.{AboutOther, Same, ending_as, ends_one, find_other, find_this, id_of, joined_other, joined_this, other_same, promise_id, same_all, still as keep}
+use Rattle.agreement.proofs.Still.{AboutOther, Same, ending_as, ends_one, find_other, find_this, id_of, joined_other, joined_this, other_same, same_all, still as keep}
 use Rattle.agreement.proofs.TransactionLives.{Alone, TransactionLeft, TransactionLife, aborted, alone, by_how, committed, decided, left_life, undecided, voted}
 use Rattle.agreement.proofs.Undoing.{transactions_step}
 

@@ -3,12 +3,10 @@ use Rattle.std.specs.Prelude.{ℕ, List, [], ◌∷◌, ◌++◌, Option, Some, 
 use Rattle.std.specs.List.{list_any}
 use Rattle.std.proofs.Common.{inl, inr, sym, subst, ap, ◌∙◌}
 use Rattle.at_base.specs.Numbers.{Numbers}
-use Rattle.at_base.specs.declared.epr.Epr.{Epr}
-use Rattle.at_base.specs.declared.record.Seated.{Seated}
 use Rattle.at_base.specs.declared.record.Record.{Record}
 use Rattle.at_base.specs.declared.record.Record.TheVariants as records
 use Rattle.at_model.specs.Book.{Leaf, Transaction, find_by, is_id, leaf_id, transaction_id}
-use Rattle.at_model.specs.Recover.{ends_leaf, ends_transaction, in_order, is_promise, is_sub_committed, is_voted, kept, leaves_of, live, no_seats, recover, recovered_decided, recovered_leaf, recovered_voted, transactions_of, with_commit}
+use Rattle.at_model.specs.Recover.{ends_leaf, ends_transaction, is_promise, is_sub_committed, is_voted, kept, leaves_of, live, no_seats, recover, recovered_decided, recovered_leaf, recovered_voted, transactions_of, with_commit}
 use Rattle.at_model.specs.Step.{leaf_at, transaction_at}
 use Rattle.model_laws.specs.Agreement.{IsIn}
 use Rattle.model_laws.proofs.Deciding.{in_front}

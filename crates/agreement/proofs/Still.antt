@@ -1,5 +1,5 @@
 -- What a further record and further effects leave as it is: all that is of another id.
-use Rattle.std.specs.Prelude.{ℕ, List, [], ◌∷◌, ◌++◌, Option, Some, None, Bool, true, false, if◌then◌else◌, ◌||◌, length, map, filter, is_none, ◌≡◌, ◌⊎◌, ◌≤◌, refl}
+use Rattle.std.specs.Prelude.{List, [], ◌∷◌, ◌++◌, Option, Some, None, Bool, true, false, if◌then◌else◌, ◌||◌, length, map, filter, ◌≡◌, ◌⊎◌, ◌≤◌, refl}
 use Rattle.std.specs.List.{list_any, AllByRecursion}
 use Rattle.std.proofs.Common.{inl, inr, sym, subst, ap, ◌∙◌}
 use Rattle.std.proofs.lemmas.List.{append-nil}
@@ -10,7 +10,7 @@ use Rattle.at_base.specs.declared.outs.Ending.{Ending}
 use Rattle.at_base.specs.declared.outs.Effect.{Effect}
 use Rattle.at_model.specs.Book.{Leaf, Superior, Transaction, find_by, is_id, put_by}
 use Rattle.at_model.specs.Recover.{ends_leaf, ends_transaction, is_before, is_promise, kept, live}
-use Rattle.at_model.specs.Seats.{ending, ending_of}
+use Rattle.at_model.specs.Seats.{ending_of}
 use Rattle.model_laws.specs.Agreement.{IsIn, ends_as}
 use Rattle.model_laws.specs.Order.{AreRising}
 use Rattle.model_laws.proofs.Deciding.{IfThere}
@@ -18,7 +18,7 @@ use Rattle.model_laws.proofs.Ordering.{other_id}
 use Rattle.model_laws.proofs.Recovering.{none_live, same_id, self_id}
 use Rattle.agreement.specs.Branches.{recorded}
 use Rattle.agreement.specs.Journals.{Confirms, drops}
-use Rattle.agreement.specs.Lives.{IsUnrecorded, Life, PromisesNothing, ends, has_aborted, has_committed, has_decided, has_voted, is_gone, is_undecided, waits, works}
+use Rattle.agreement.specs.Lives.{Life, PromisesNothing, ends, has_aborted, has_committed, has_decided, has_voted, is_gone, is_undecided, waits, works}
 use Rattle.agreement.proofs.Journals.{both_ways, in_either, journals_live, or_nothing}
 
 -- what a record is about

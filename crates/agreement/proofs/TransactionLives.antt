@@ -1,5 +1,5 @@
 -- Each deed of a transaction keeps what its phase, its records and its effects say of it.
-use Rattle.std.specs.Prelude.{ℕ, List, [], ◌∷◌, ◌++◌, Option, Some, None, Bool, true, false, if◌then◌else◌, ◌||◌, length, map, filter, is_none, option_map, ◌≡◌, ◌⊎◌, ◌≤◌, refl}
+use Rattle.std.specs.Prelude.{List, [], ◌∷◌, ◌++◌, Option, Some, None, Bool, true, false, if◌then◌else◌, ◌||◌, length, map, filter, is_none, option_map, ◌≡◌, ◌⊎◌, ◌≤◌, refl}
 use Rattle.std.specs.List.{list_any}
 use Rattle.std.proofs.Common.{arith, inl, inr, sym, subst, ap, ◌∙◌}
 use Rattle.std.proofs.lemmas.List.{append-nil}
@@ -19,7 +19,7 @@ use Rattle.at_model.specs.Seats.{ending, ending_of, is_prepared_durable, prepare
 use Rattle.model_laws.specs.Agreement.{IsIn, ends_as}
 use Rattle.model_laws.proofs.Recovering.{self_id}
 use Rattle.agreement.specs.Branches.{recorded as written}
-use Rattle.agreement.specs.Deeds.{Becomes, Deed, How, IsSame, IsSameIfLeft, KeepsOn, StandsOn, StoodFor, happens, recorded, superior_at}
+use Rattle.agreement.specs.Deeds.{Becomes, How, IsSame, IsSameIfLeft, KeepsOn, StandsOn, StoodFor, happens, recorded, superior_at}
 use Rattle.agreement.specs.Journals.{Confirms, IsNoSubCommit, drops}
 use Rattle.agreement.specs.Lives.{Life, PromisesNothing, ends, has_aborted, has_committed, has_decided, has_voted, is_gone, is_undecided, waits, works}
 use Rattle.agreement.proofs.Journals.{both_ways, in_either, journals_live}

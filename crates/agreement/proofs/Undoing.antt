@@ -18,18 +18,16 @@ use Rattle.at_tables.specs.declared.cells.Act.{Act}
 use Rattle.at_tables.specs.declared.cells.Act.TheVariants as acts
 use Rattle.at_tables.specs.declared.cells.Cell.{Cell}
 use Rattle.at_tables.specs.Names.{is_state}
-use Rattle.at_tables.specs.Tables.{coordinator_of, participant_of, completion_of}
-use Rattle.at_model.specs.Book.{Book, Transaction, Enlistment, Completion, Superior, Phase, Request}
-use Rattle.at_model.specs.Addresses.{register_id}
+use Rattle.at_tables.specs.Tables.{coordinator_of, completion_of}
+use Rattle.at_model.specs.Book.{Book, Transaction, Enlistment, Completion, Superior, Phase}
 use Rattle.at_model.specs.Moves.{Change, Moving, Decision, Goes, Records, become, in_both}
-use Rattle.at_model.specs.Seats.{answered, all_left, in_state, is_prepared_durable, in_phase, link_of}
+use Rattle.at_model.specs.Seats.{answered, all_left, in_state, is_prepared_durable, in_phase}
 use Rattle.at_model.specs.Phases.{root_answered, sub_answered, durable_answered, if_durable_answered, prepare_seats, go_durable, volatile_answered, all_committed, advance_in, go_volatile}
-use Rattle.at_model.specs.Arrivals.{seat_act, seat_notice, commit_voted, link_act, link_notice, completion_act, completion_notice, link_registered, link_fault, on_link, on_seat, on_completion, with_answer, answer_request, relates_to}
-use Rattle.at_base.specs.declared.target.Target.TheVariants as targets
+use Rattle.at_model.specs.Arrivals.{seat_act, seat_notice, commit_voted, link_act, link_notice, completion_act, completion_notice, link_registered, link_fault, on_link, on_seat, on_completion, with_answer}
 use Rattle.at_model.specs.Due.{Reached, Expired, Over, Unanswered, Nothing, transaction_reached}
-use Rattle.at_model.specs.Step.{at_time, moment_of, put_transaction, transaction_plan}
+use Rattle.at_model.specs.Step.{at_time, moment_of, put_transaction}
 use Rattle.model_laws.specs.Shapes.{MovesTransaction, at_seat, at_link, at_completion, when_due}
-use Rattle.agreement.specs.Branches.{InBranches, Became}
+use Rattle.agreement.specs.Branches.{InBranches}
 use Rattle.agreement.specs.Deeds.{Deed, Deeds}
 use Rattle.agreement.specs.TransactionSteps.{WaitsOn, TransactionsStep}
 use Rattle.agreement.proofs.Acting.{transactions_do}

@@ -1,6 +1,6 @@
 -- What a node's book, its journal and what happened at it say of each item: they agree, also where the node is down and
 -- its records stand for its book.
-use Rattle.std.specs.Prelude.{ℕ, List, [], ◌∷◌, Option, Some, None, Bool, true, false, nat_eq, if◌then◌else◌, length, filter, is_none, ◌≡◌, ◌⊎◌, ◌≤◌}
+use Rattle.std.specs.Prelude.{ℕ, List, [], ◌∷◌, Option, Some, None, true, false, nat_eq, if◌then◌else◌, length, filter, is_none, ◌≡◌, ◌⊎◌, ◌≤◌}
 use Rattle.at_base.specs.Numbers.{Numbers}
 use Rattle.at_base.specs.declared.epr.Epr.{Epr}
 use Rattle.at_base.specs.declared.notice.Kind.TheVariants as kinds
@@ -16,8 +16,8 @@ use Rattle.at_model.specs.Due.{may_expire}
 use Rattle.at_model.specs.Recover.{is_promise, live, recover}
 use Rattle.at_model.specs.Seats.{ending}
 use Rattle.at_model.specs.Step.{leaf_at, transaction_at}
-use Rattle.at_model.specs.World.{Happened, Node, Who, WorldEvent, nth, run_of}
-use Rattle.model_laws.specs.Agreement.{HasAborted, HasCommitted, IsIn, ends_as, is_end_of}
+use Rattle.at_model.specs.World.{Happened, Node, WorldEvent, nth, run_of}
+use Rattle.model_laws.specs.Agreement.{HasAborted, HasCommitted, IsIn, ends_as}
 
 -- what happened at a node
 abbrev pub happened_on : ℕ → List Happened → List Effect

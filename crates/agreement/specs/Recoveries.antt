@@ -1,5 +1,5 @@
 -- What recovery makes of the live records of a journal (WS-AtomicTransaction 1.2, section 3.3.4).
-use Rattle.std.specs.Prelude.{ℕ, List, Option, Some, None, Bool, true, ◌≡◌}
+use Rattle.std.specs.Prelude.{ℕ, List, Option, Some, None, true, ◌≡◌}
 use Rattle.std.specs.List.{list_any}
 use Rattle.at_base.specs.Numbers.{Numbers}
 use Rattle.at_base.specs.declared.record.Record.{Record}
