@@ -7,13 +7,17 @@ pub mod Backing
 pub mod Branching
 pub mod Doing
 pub mod Ending
+pub mod Falling
 pub mod Finishing
 pub mod Journals
+pub mod LeafLives
 pub mod LeafSafety
 pub mod LeafSaying
 pub mod LeafStanding
 pub mod LeafWaiting
 pub mod LeavesDo
+pub mod Lives
+pub mod LivesOn
 pub mod Placing
 pub mod Posted
 pub mod Recoveries
@@ -28,3 +32,6 @@ pub mod Seats
 pub mod Sorted
 pub mod Sorting
 pub mod Stepping
+pub mod Still
+pub mod TransactionLives
+pub mod Undoing

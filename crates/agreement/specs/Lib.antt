@@ -6,8 +6,10 @@ pub mod Done
 pub mod Finished
 pub mod Journals
 pub mod LeafDeeds
+pub mod Lives
 pub mod Places
 pub mod Recoveries
 pub mod Registers
 pub mod Seated
 pub mod Sorts
+pub mod TransactionSteps

@@ -7,11 +7,13 @@ ghost use Rattle.agreement.specs.Done.{StepsDo};
 ghost use Rattle.agreement.specs.Finished.{FinishesAll};
 ghost use Rattle.agreement.specs.Journals.{JournalsLive};
 ghost use Rattle.agreement.specs.LeafDeeds.{LeafStates, LeavesDo};
+ghost use Rattle.agreement.specs.Lives.{LivesAgree};
 ghost use Rattle.agreement.specs.Places.{AddressesLeadHome};
 ghost use Rattle.agreement.specs.Recoveries.{RecoversEach};
 ghost use Rattle.agreement.specs.Registers.{RegistersNameTheirSender};
 ghost use Rattle.agreement.specs.Seated.{SeatsAreRegistered};
 ghost use Rattle.agreement.specs.Sorts.{SortsAgree};
+ghost use Rattle.agreement.specs.TransactionSteps.{TransactionsStep};
 
 /// In every run a transaction that aborts asks nobody any more, one that is decided has no initiator that may still ask, and
 /// participants keep their numbers, in the book and in its records.
@@ -115,4 +117,19 @@ pub fn addresses_lead_home()
 #[tactic(auto, using(crate::proofs::Sorted::sorts_agree))]
 pub fn sorts_agree()
     ensures { SortsAgree }
+{}
+
+/// Each step that moves a transaction is one of those deeds; or it is undone, where a subordinate's outcome or an end isn't
+/// recorded, which is waited for as before.
+#[tactic(auto, using(crate::proofs::Undoing::transactions_step))]
+pub fn transactions_step()
+    ensures { TransactionsStep }
+{}
+
+/// In every run a node's book, or while it is down the book that its records stand for, its journal and what happened at it
+/// agree: what is undecided has promised nothing and hasn't ended, what has promised has its promise recorded, what has
+/// decided has its decision recorded and has ended so, and what is gone is over. Nothing ends twice.
+#[tactic(auto, using(crate::proofs::Lives::lives_agree))]
+pub fn lives_agree()
+    ensures { LivesAgree }
 {}
