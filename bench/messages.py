@@ -10,7 +10,6 @@ installed. Each figure is the least of ROUNDS runs (default 5), net of a run of 
 import os
 import subprocess
 import sys
-import time
 from xml.parsers import expat
 
 try:
@@ -18,21 +17,11 @@ try:
 except ImportError:
     etree = None
 
-from envelopes import envelope
+from envelopes import envelope, least
 
 TOP = os.path.dirname(os.path.dirname(os.path.abspath(__file__)))
 PROGRAM = os.environ.get("MESSAGE_LOOP", os.path.join(TOP, "crates", "message_loop", "out", "message_loop"))
 BYTES = 600
-
-
-def least(rounds, call):
-    best = None
-    for _ in range(rounds):
-        start = time.perf_counter()
-        call()
-        spent = time.perf_counter() - start
-        best = spent if best is None else min(best, spent)
-    return best
 
 
 def looped(words, data):

@@ -12,8 +12,9 @@ import io
 import os
 import subprocess
 import sys
-import time
 from http.server import BaseHTTPRequestHandler
+
+from envelopes import least
 
 TOP = os.path.dirname(os.path.dirname(os.path.abspath(__file__)))
 PROGRAM = os.environ.get("REQUEST_LOOP", os.path.join(TOP, "crates", "request_loop", "out", "request_loop"))
@@ -64,16 +65,6 @@ class Handler(BaseHTTPRequestHandler):
         if not self.parse_request():
             raise ValueError("not taken")
         self.body = self.rfile.read(int(self.headers["Content-Length"]))
-
-
-def least(rounds, call):
-    best = None
-    for _ in range(rounds):
-        start = time.perf_counter()
-        call()
-        spent = time.perf_counter() - start
-        best = spent if best is None else min(best, spent)
-    return best
 
 
 def looped(words, data):
