@@ -31,7 +31,8 @@ use Rattle.model_laws.proofs.Ordering.{ids_rise}
 use Rattle.model_laws.proofs.Reaching.{run_reached}
 use Rattle.model_laws.proofs.Recovering.{incarnations_rise}
 use Rattle.model_laws.proofs.Running.{opening_node}
-use Rattle.agreement.specs.Seated.{IsSeated, NamesAccepted, SeatsEach, SeatsAreRegistered, WasDrawn, accepted_named}
+use Rattle.agreement.specs.Registers.{HasDrawn}
+use Rattle.agreement.specs.Seated.{IsSeated, NamesAccepted, SeatsEach, SeatsAreRegistered, accepted_named}
 use Rattle.agreement.proofs.Finishing.{finishes_all}
 use Rattle.agreement.proofs.SeatedBooks.{IsSoundBook, book_sound, finds_each, step_came}
 use Rattle.agreement.proofs.SeatedEntries.{IsNew, all_mapped, are_entries, entries, entry, in_either, is_new, of_transaction, one_of}
@@ -44,7 +45,7 @@ IsHeldBook count all n b = AllByRecursion (IsHeld count all n) b.transactions
 record IsHeldNode (count : ℕ) (all : List Accepted) (n : ℕ) (x : Node) : Type 0 where
   book : IfThere (IsHeldBook count all n) x.book
   journal : AllByRecursion (IsNamed count all n) x.journal
-  drawn : (a : Accepted) → IsIn a all → a.transaction.node ≡ n → WasDrawn x.journal x.book a.transaction.id
+  drawn : (a : Accepted) → IsIn a all → a.transaction.node ≡ n → HasDrawn x.journal x.book a.transaction.id
 
 record AreHeld (count : ℕ) (nodes : List Node) (all : List Accepted) : Type 0 where
   one_each : HasOneEach all
@@ -101,7 +102,7 @@ premises count u n x b e now landed small reached found up h = record {
     grown = (step_gives (base_of n) (good.choices n) b e now landed known.says).grown;
     finished = finishes_all.book b e now landed sound.phases sound.finished;
     held = subst (IfThere (IsHeldBook count u.accepted n)) up (h.nodes_held n x found).book;
-    drawn = λ a i f. subst (λ o. WasDrawn x.journal o a.transaction.id) up ((h.nodes_held n x found).drawn a i f);
+    drawn = λ a i f. subst (λ o. HasDrawn x.journal o a.transaction.id) up ((h.nodes_held n x found).drawn a i f);
   };
   bases = good.world.bases;
 }
@@ -184,7 +185,7 @@ falls_held : (count : ℕ) (u : World) (n : ℕ) (x : Node) (b : Book) → Reach
 falls_held count u n x b reached found up h =
     subst (λ (w : World). AreHeld count w.nodes w.accepted) (sym (ap (put_book n None (record u { happened = u.happened ++ lost_in n b })) found))
     (put_held count n u.nodes u.accepted x (record x { book = None }) found h
-    (record { book = tt; journal = (h.nodes_held n x found).journal; drawn = λ a i f. down a.transaction.id (subst (λ o. WasDrawn x.journal o a.transaction.id) up ((h.nodes_held n x found).drawn a i f)) }))
+    (record { book = tt; journal = (h.nodes_held n x found).journal; drawn = λ a i f. down a.transaction.id (subst (λ o. HasDrawn x.journal o a.transaction.id) up ((h.nodes_held n x found).drawn a i f)) }))
   where
     sound : IsSoundBook x.journal b
     sound = book_sound count u reached n x b found up
@@ -200,7 +201,7 @@ rises_held count u n x stop found down h =
     (record { book = by_stop stop; journal = restart_named count u.accepted n x.journal (h.nodes_held n x found).journal; drawn = λ a i f. drawn_after stop a.transaction.id (was a i f) })
   where
     was : (a : Accepted) → IsIn a u.accepted → a.transaction.node ≡ n → a.transaction.id.incarnation ≤ last_incarnation x.journal
-    was a i f = subst (λ o. WasDrawn x.journal o a.transaction.id) down ((h.nodes_held n x found).drawn a i f)
+    was a i f = subst (λ o. HasDrawn x.journal o a.transaction.id) down ((h.nodes_held n x found).drawn a i f)
 
     both : (b : Bool) → b ≡ true → b ≡ false → ⊥
     both b e f = cc
@@ -221,7 +222,7 @@ rises_held count u n x stop found down h =
         (book_recovered count u.accepted n x.base (restarted x.journal) (restart_named count u.accepted n x.journal (h.nodes_held n x found).journal))
 
     drawn_after : (s : Bool) (id : Numbers) → id.incarnation ≤ last_incarnation x.journal
-        → WasDrawn (restarted x.journal) (up_after (started (last_incarnation x.journal + 1) x) s).book id
+        → HasDrawn (restarted x.journal) (up_after (started (last_incarnation x.journal + 1) x) s).book id
     drawn_after true id i = omega (arith, i, (incarnations_rise x.journal).0)
     drawn_after false id i = inl (omega (arith, i, (incarnations_rise x.journal).0))
 

@@ -1,5 +1,5 @@
 -- Whom a transaction accepted: its seats are its registrations (WS-Coordination 1.2, section 3.2).
-use Rattle.std.specs.Prelude.{ℕ, List, Option, Some, None, true, map, ◌≡◌, ◌≤◌, ◌<◌, ◌^◌}
+use Rattle.std.specs.Prelude.{ℕ, List, Some, true, map, ◌≡◌, ◌<◌, ◌^◌}
 use Rattle.std.specs.List.{AllByRecursion}
 use Rattle.at_base.specs.Numbers.{Numbers}
 use Rattle.at_base.specs.declared.notice.Kind.TheVariants as kinds
@@ -9,12 +9,11 @@ use Rattle.at_base.specs.declared.record.Seated.{Seated}
 use Rattle.at_base.specs.declared.target.Seat.{Seat}
 use Rattle.at_model.specs.Book.{Book, Transaction}
 use Rattle.at_model.specs.Due.{may_expire}
-use Rattle.at_model.specs.Recover.{last_incarnation}
 use Rattle.at_model.specs.World.{Accepted, Node, World, WorldEvent, accepted_seat, nth, run_of, who_of}
 use Rattle.model_laws.specs.Agreement.{IsIn}
 use Rattle.model_laws.specs.Enlisted.{IsEnlisted}
-use Rattle.model_laws.specs.Laws.{IsDrawn}
 use Rattle.model_laws.specs.Reached.{Reached}
+use Rattle.agreement.specs.Registers.{HasDrawn}
 
 -- a durable participant that a record names, as it was accepted
 abbrev pub accepted_named : ℕ → List Node → Numbers → Seated → Accepted
@@ -35,11 +34,6 @@ abbrev pub SeatsEach : World → ℕ → Transaction → Type 0
 SeatsEach w n t =
     (a : Accepted) (s : Seat) → IsIn a w.accepted → a.transaction ≡ record { node = n; id = t.id } → a.seat ≡ Some s → IsIn a (map (accepted_seat n w.nodes t.id) t.seats)
 
--- the id was drawn at the node with this journal, and by its book while it is up
-abbrev pub WasDrawn : List Record → Option Book → Numbers → Type 0
-WasDrawn rs None id = id.incarnation ≤ last_incarnation rs
-WasDrawn rs (Some b) id = IsDrawn b id
-
 pub record IsSeated (w : World) : Type 0 where
   -- a transaction gives a seat's number to one registration
   pub one_each : (a c : Accepted) (s r : Seat) → IsIn a w.accepted → IsIn c w.accepted → a.transaction ≡ c.transaction → a.seat ≡ Some s → c.seat ≡ Some r → s.number ≡ r.number → a ≡ c
@@ -50,7 +44,7 @@ pub record IsSeated (w : World) : Type 0 where
   -- and so is each durable participant that a record names
   pub named : (n : ℕ) (x : Node) → nth n w.nodes ≡ Some x → AllByRecursion (NamesAccepted w n) x.journal
   -- each is of an id that its node drew, so what is made anew has none
-  pub drawn : (a : Accepted) (x : Node) → IsIn a w.accepted → nth a.transaction.node w.nodes ≡ Some x → WasDrawn x.journal x.book a.transaction.id
+  pub drawn : (a : Accepted) (x : Node) → IsIn a w.accepted → nth a.transaction.node w.nodes ≡ Some x → HasDrawn x.journal x.book a.transaction.id
 
 -- So it is in every world that is reached, and in every run.
 pub record SeatsAreRegistered : Type 0 where

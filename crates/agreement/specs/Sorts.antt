@@ -1,4 +1,4 @@
--- Each id names an item of one sort for good.
+-- Each id names an item of one sort.
 use Rattle.std.specs.Prelude.{ℕ, List, Option, Some, None, ◌^◌, ◌≡◌, ◌<◌, ◌⊎◌}
 use Rattle.std.specs.List.{AllByRecursion}
 use Rattle.at_base.specs.Numbers.{Numbers}

@@ -111,7 +111,7 @@ pub fn addresses_lead_home()
     ensures { AddressesLeadHome }
 {}
 
-/// In every run each id names an item of one sort for good: a root, a subordinate, a participant of one kind that does work of
+/// In every run each id names an item of one sort: a root, a subordinate, a participant of one kind that does work of
 /// its own, or an activity. What is in the books and in the records, what happened, who registers, and who was accepted, agrees
 /// with it: an accepted participant is a subordinate, or does work of the kind of its seat, and an initiator is an activity.
 #[tactic(auto, using(crate::proofs::Sorted::sorts_agree))]
