@@ -12,6 +12,7 @@ use participant_at::leaf::Leaf;
 use transaction_at::transaction::Transaction;
 
 /// The list of a book that an event moves.
+#[derive(Drop)]
 pub enum Part {
     /// None: this is sent, and the time is noted or not.
     Still { noted: bool, outs: Outs },
@@ -20,34 +21,12 @@ pub enum Part {
     Activities(plan::Plan<Activity>),
 }
 
-impl Drop for Part {
-    fn drop(self) {
-        match self {
-            Part::Still {
-                noted: _noted,
-                outs: _outs,
-            } => {}
-            Part::Transactions(_plan) => {}
-            Part::Leaves(_plan) => {}
-            Part::Activities(_plan) => {}
-        }
-    }
-}
-
 /// What an event does to a book: at once, or behind one record.
+#[derive(Drop)]
 pub struct Plan {
     /// The clock's time, in milliseconds.
     pub now: u64,
     pub part: Part,
-}
-
-impl Drop for Plan {
-    fn drop(self) {
-        let Plan {
-            now: _now,
-            part: _part,
-        } = self;
-    }
 }
 
 impl Part {
