@@ -1,0 +1,4 @@
+pub mod Knowing
+pub mod Leads
+pub mod Moves
+pub mod Telling
