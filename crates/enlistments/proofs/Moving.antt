@@ -45,6 +45,8 @@ use Rattle.agreement.proofs.LeafStanding.{leaf_states}
 use Rattle.agreement.proofs.LeavesDo.{leaves_do}
 use Rattle.agreement.proofs.SeatedBooks.{IsSoundBook, book_sound}
 use Rattle.enlistments.specs.Moves.{ActivityDid, CameAt, HasItems, IsReady, LeafDid, Moved, Signed, StepsMove, TransactionDid, activity_did, activity_made, answered, leaf_did, leaf_made, registered, rested, transaction_did, transaction_made}
+use Rattle.enlistments.proofs.Enrolling.{register_enrolls}
+use Rattle.enlistments.proofs.Finding.{found_seat}
 use Rattle.enlistments.proofs.Signing.{AllSigned, Signs, completion_signed, due_signed, link_signed, seat_signed, with_answer_signed}
 
 -- both branches of a plan
@@ -81,27 +83,6 @@ branches_deeds P U (Records r c None) h = h.0
 branches_deeds P U (Records r c (Some d)) h = h
 
 -- a transaction's deeds are signed
-pub found_by : {A : Type 0} (p : A → Bool) (xs : List A) (x : A) → find p xs ≡ Some x → (p x ≡ true) × IsIn x xs
-found_by p [] x f = absurd cc
-found_by {A = A} p (y ∷ ys) x f = by_test (λ h. found_by p ys x h) (p y) refl f
-  where
-    here : y ≡ x → p y ≡ true → (p x ≡ true) × IsIn x (y ∷ ys)
-    here e g = (subst (λ z. p z ≡ true) e g, inl (sym e))
-
-    by_test : (find p ys ≡ Some x → (p x ≡ true) × IsIn x ys) → (b : Bool) → p y ≡ b → (if b then Some y else find p ys) ≡ Some x → (p x ≡ true) × IsIn x (y ∷ ys)
-    by_test rest true g h = let same : y ≡ x = cc in here same g
-    by_test rest false g h = let k : (p x ≡ true) × IsIn x ys = rest h in (k.0, inr k.1)
-
-both_true : (a b : Bool) → (a && b) ≡ true → (a ≡ true) × (b ≡ true)
-both_true true b e = (refl, e)
-both_true false b e = absurd cc
-
-pub found_seat : (number : ℕ) (kind : Kind) (seats : List Enlistment) (s : Enlistment) → find_seat number kind seats ≡ Some s → (s.number ≡ number) × (s.kind ≡ kind) × IsIn s seats
-found_seat number kind seats s f =
-    let (test, i) = found_by (λ x. nat_eq x.number number && is_kind x.kind kind) seats s f in
-    let (n, k) = both_true (nat_eq s.number number) (is_kind s.kind kind) test in
-    (eqb-true s.number number n, same_kind s.kind kind k, i)
-
 decision_signed : (b : Book) (e : Event) (now : ℕ) (t : Transaction) (d : Decision Transaction) → MovesTransaction b e now t d → (T : Target) → CameAt T e → Signs (moment_of b now) e t T d
 decision_signed b e now t d (at_seat a s came here is) T h =
     let (n, k, i) = found_seat here.number here.kind t.seats s here.found in
@@ -109,7 +90,7 @@ decision_signed b e now t d (at_seat a s came here is) T h =
     subst (λ S. Signs (moment_of b now) e t S d) same (subst (Signs (moment_of b now) e t (seat_target t.id s)) (sym is) (seat_signed (moment_of b now) e a t s a.message))
 decision_signed b e now t d (at_link a kind s came target under is) T h =
     subst (λ S. Signs (moment_of b now) e t S d) (sym target ∙ h a came)
-    (subst (Signs (moment_of b now) e t (targets.Participant t.id kind)) (sym is) (link_signed (moment_of b now) e a kind t s a.message came under))
+    (subst (Signs (moment_of b now) e t (targets.Participant t.id kind)) (sym is) (link_signed (moment_of b now) e a kind t s a.message came target under))
 decision_signed b e now t d (at_completion a c came target there is) T h =
     subst (Signs (moment_of b now) e t T) (sym is) (completion_signed (moment_of b now) e T a t c a.message)
 decision_signed b e now t d (when_due came is) T h =
@@ -209,6 +190,7 @@ by_shape b e now landed p g taken (transaction_registers id a r t stands came at
       unrecorded = refl;
       gives = on_register (moment_of b now) a r t;
       given = refl;
+      enrolls = register_enrolls (moment_of b now) a r t;
       is = refl;
     })))
 by_shape b e now landed p g taken (shape_transaction a c id t os came at says next makes sent o f) =

@@ -37,7 +37,7 @@ use Rattle.at_model.specs.Moves.{Change, Decision, Goes, Moving, Records, become
 use Rattle.at_model.specs.Phases.{advance_in, all_committed, commit_seats, committed, decided, durable_answered, ended_posts, go_durable, go_volatile, if_durable_answered, prepare_seats, root_answered, sub_answered, upwards, volatile_answered, voted}
 use Rattle.at_model.specs.Posts.{fault_post, invalid_state, notice_post, reply_post, stored_or, stranger_post, to_each}
 use Rattle.at_model.specs.Seats.{all_left, answered, completion_in, ending, in_phase, in_state, initiator_posts, is_open, is_prepared_durable, link_in, link_of, notices_to, seat_in, seat_target, send_each, under}
-use Rattle.model_laws.proofs.Deciding.{DecisionSays, all_if, all_join, all_map, both_say, either_left, either_says}
+use Rattle.model_laws.proofs.Deciding.{DecisionSays, all_if, all_join, all_map, both_say, either_left, either_says, same_kind}
 use Rattle.model_laws.proofs.Telling.{Anything}
 use Rattle.agreement.specs.Deeds.{coordinator_at}
 use Rattle.agreement.proofs.Doing.{above_in}
@@ -70,48 +70,51 @@ seats_signed : (m : Moment) (e : Event) (t : Transaction) (T : Target) (id : Num
     → AllSigned m e t T (notices_to m.base id n seats test)
 seats_signed m e t T id n seats test =
     all_map (Signed m.base e t T) (λ s. notice_post m.base (seat_target id s) s.participant n) (filter test seats)
-    (all_of (λ s. Signed m.base e t T (notice_post m.base (seat_target id s) s.participant n)) (filter test seats) (λ s i. record { from = refl; up = tt }))
+    (all_of (λ s. Signed m.base e t T (notice_post m.base (seat_target id s) s.participant n)) (filter test seats) (λ s i. record { from = refl; goes = tt }))
 
 initiator_signed : (m : Moment) (e : Event) (t : Transaction) (T : Target) (id : Numbers) (n : Notice) (c : Option Completion) → AllSigned m e t T (initiator_posts m.base id n c)
 initiator_signed m e t T id n None = tt
-initiator_signed m e t T id n (Some c) = if_none (Signed m.base e t T) (is_state c.state states.None) _ (record { from = refl; up = tt }, tt)
+initiator_signed m e t T id n (Some c) = if_none (Signed m.base e t T) (is_state c.state states.None) _ (record { from = refl; goes = tt }, tt)
 
 -- upwards
 upwards_signed : (m : Moment) (e : Event) (t : Transaction) (T : Target) (id : Numbers) (kind : Kind) (n : Notice) (link : Link) → link.coordinator ≡ coordinator_at kind t.superior
     → AllSigned m e t T (upwards m.base id kind n link)
-upwards_signed m e t T id kind n link h = to_each_all (Signed m.base e t T) link.coordinator _ (λ to f. record { from = refl; up = inl (sym f ∙ h) })
+upwards_signed m e t T id kind n link h = to_each_all (Signed m.base e t T) link.coordinator _ (λ to f. record { from = refl; goes = inl (sym f ∙ h) })
 
 known_or_from : (o from : Option Epr) (to : Epr) → stored_or o from ≡ Some to → (o ≡ Some to) ⊎ (from ≡ Some to)
 known_or_from None from to h = inr h
 known_or_from (Some x) from to h = inl h
 
 -- the From that an abort answers to is that of the message that came
-abbrev IsReason : Event → Reason → Type 0
-IsReason e Alone = Unit {0}
-IsReason e (Asked kind from) = (a : Arrived) × (e ≡ events.Arrived a) × (from ≡ a.from)
-IsReason e (Faulted kind) = Unit {0}
+abbrev CameOn : Event → Transaction → Kind → Option Epr → Type 0
+CameOn e t kind from = (a : Arrived) × (e ≡ events.Arrived a) × (a.target ≡ targets.Participant t.id kind) × (from ≡ a.from)
 
-reason_from : (e : Event) (reason : Reason) (kind : Kind) (to : Epr) → IsReason e reason → from_of reason kind ≡ Some to → (a : Arrived) × (e ≡ events.Arrived a) × (Some to ≡ a.from)
-reason_from e Alone kind to h f = absurd cc
-reason_from e (Faulted k) kind to h f = absurd cc
-reason_from e (Asked k from) kind to (a, came, is) f = by_kind (is_kind k kind) f
+abbrev IsReason : Event → Transaction → Reason → Type 0
+IsReason e t Alone = Unit {0}
+IsReason e t (Asked kind from) = CameOn e t kind from
+IsReason e t (Faulted kind) = Unit {0}
+
+reason_from : (e : Event) (t : Transaction) (reason : Reason) (kind : Kind) (to : Epr) → IsReason e t reason → from_of reason kind ≡ Some to → CameOn e t kind (Some to)
+reason_from e t Alone kind to h f = absurd cc
+reason_from e t (Faulted k) kind to h f = absurd cc
+reason_from e t (Asked k from) kind to (a, came, target, is) f = by_kind (is_kind k kind) refl f
   where
-    by_kind : (b : Bool) → (if b then from else None) ≡ Some to → (a : Arrived) × (e ≡ events.Arrived a) × (Some to ≡ a.from)
-    by_kind true g = (a, came, sym g ∙ is)
-    by_kind false g = absurd cc
+    by_kind : (b : Bool) → is_kind k kind ≡ b → (if b then from else None) ≡ Some to → CameOn e t kind (Some to)
+    by_kind true g f = (a, came, target ∙ ap (targets.Participant t.id) (same_kind k kind g), sym f ∙ is)
+    by_kind false g f = absurd cc
 
-link_aborted_signed : (m : Moment) (e : Event) (t : Transaction) (T : Target) (id : Numbers) (reason : Reason) (kind : Kind) (link : Link) → IsReason e reason
+link_aborted_signed : (m : Moment) (e : Event) (t : Transaction) (T : Target) (id : Numbers) (reason : Reason) (kind : Kind) (link : Link) → IsReason e t reason
     → link.coordinator ≡ coordinator_at kind t.superior → AllSigned m e t T (link_aborted m.base id reason kind link)
 link_aborted_signed m e t T id reason kind link r h =
     if_none (Signed m.base e t T) (is_state link.state states.None || is_silent reason kind) _
     (to_each_all (Signed m.base e t T) (stored_or link.coordinator (from_of reason kind)) _
-    (λ to f. record { from = refl; up = goes to (known_or_from link.coordinator (from_of reason kind) to f) }))
+    (λ to f. record { from = refl; goes = out to (known_or_from link.coordinator (from_of reason kind) to f) }))
   where
-    goes : (to : Epr) → (link.coordinator ≡ Some to) ⊎ (from_of reason kind ≡ Some to) → IsUpwards e t (targets.Participant id kind) (Some to)
-    goes to (inl g) = inl (sym g ∙ h)
-    goes to (inr g) = inr (reason_from e reason kind to r g)
+    out : (to : Epr) → (link.coordinator ≡ Some to) ⊎ (from_of reason kind ≡ Some to) → IsUpwards e t kind (Some to)
+    out to (inl g) = inl (sym g ∙ h)
+    out to (inr g) = inr (reason_from e t reason kind to r g)
 
-links_aborted_signed : (m : Moment) (e : Event) (t : Transaction) (T : Target) (id : Numbers) (reason : Reason) (s : Option Superior) → IsReason e reason
+links_aborted_signed : (m : Moment) (e : Event) (t : Transaction) (T : Target) (id : Numbers) (reason : Reason) (s : Option Superior) → IsReason e t reason
     → ((kind : Kind) → coordinator_at kind s ≡ coordinator_at kind t.superior) → AllSigned m e t T (links_aborted m.base id reason s)
 links_aborted_signed m e t T id reason None r h = tt
 links_aborted_signed m e t T id reason (Some s) r h =
@@ -122,7 +125,7 @@ links_aborted_signed m e t T id reason (Some s) r h =
 until_signed : (m : Moment) (e : Event) (t : Transaction) (T : Target) (g : Moving Transaction) → AllSigned m e t T g.posts → AllSigned m e t T (until_rolled_back g).posts
 until_signed m e t T g h = either_left (λ c. AllSigned m e t T c.posts) (list_any (in_state states.Aborting) g.item.seats) (stays g) (forgotten g) h h
 
-abort_signed : (m : Moment) (e : Event) (t : Transaction) (T : Target) (reason : Reason) (g : Moving Transaction) → IsReason e reason → Passing m e t T g
+abort_signed : (m : Moment) (e : Event) (t : Transaction) (T : Target) (reason : Reason) (g : Moving Transaction) → IsReason e t reason → Passing m e t T g
     → AllSigned m e t T (abort m reason g).posts
 unfolding abort
 abort_signed m e t T reason g r h =
@@ -230,10 +233,10 @@ go_volatile_signed m e t T g h =
 -- at a seat
 seat_act_signed : (m : Moment) (e : Event) (id : Option (List ℕ)) (t : Transaction) (s : Enlistment) (act : Act) → Signs m e t (seat_target t.id s) (seat_act m id t s act)
 unfolding seat_act
-seat_act_signed m e id t s acts.SendCommit = (record { from = refl; up = tt }, tt)
+seat_act_signed m e id t s acts.SendCommit = (record { from = refl; goes = tt }, tt)
 seat_act_signed m e id t s acts.SendRollback =
     either m e t (seat_target t.id s) (in_state states.None s) (answer_left_seat m notices.Rollback t s) (answer_seat m notices.Rollback t s)
-    (record { from = refl; up = tt }, tt) (record { from = refl; up = tt }, tt)
+    (record { from = refl; goes = refl }, tt) (record { from = refl; goes = tt }, tt)
 seat_act_signed m e id t s acts.FaultUnknownTransaction = (tt, tt)
 seat_act_signed m e id t s acts.FaultInvalidState = (tt, tt)
 seat_act_signed m e id t s acts.FaultInvalidStateAndAbort =
@@ -267,14 +270,15 @@ seat_signed m e a t s (messages.Notice n) = seat_notice_signed m e a.id t s (coo
 seat_signed m e a t s other = tt
 
 -- on a link
-stored_signed : (m : Moment) (e : Event) (t : Transaction) (kind : Kind) (a : Arrived) (n : Notice) (known : Option Epr) → e ≡ events.Arrived a → known ≡ coordinator_at kind t.superior
+stored_signed : (m : Moment) (e : Event) (t : Transaction) (kind : Kind) (a : Arrived) (n : Notice) (known : Option Epr) → e ≡ events.Arrived a → a.target ≡ targets.Participant t.id kind
+    → known ≡ coordinator_at kind t.superior
     → AllSigned m e t (targets.Participant t.id kind) (to_each (stored_or known a.from) (λ to. stranger_post m.base (targets.Participant t.id kind) to n))
-stored_signed m e t kind a n known came h =
-    to_each_all (Signed m.base e t (targets.Participant t.id kind)) (stored_or known a.from) _ (λ to f. record { from = refl; up = goes to (known_or_from known a.from to f) })
+stored_signed m e t kind a n known came target h =
+    to_each_all (Signed m.base e t (targets.Participant t.id kind)) (stored_or known a.from) _ (λ to f. record { from = refl; goes = (refl, out to (known_or_from known a.from to f)) })
   where
-    goes : (to : Epr) → (known ≡ Some to) ⊎ (a.from ≡ Some to) → IsUpwards e t (targets.Participant t.id kind) (Some to)
-    goes to (inl g) = inl (sym g ∙ h)
-    goes to (inr g) = inr (a, came, sym g)
+    out : (to : Epr) → (known ≡ Some to) ⊎ (a.from ≡ Some to) → IsUpwards e t kind (Some to)
+    out to (inl g) = inl (sym g ∙ h)
+    out to (inr g) = inr (a, came, target, sym g)
 
 faults_signed : (m : Moment) (e : Event) (t : Transaction) (T : Target) (to : Option Epr) (id : Option (List ℕ)) (name : List ℕ)
     → AllSigned m e t T (to_each to (λ x. fault_post (Some x) id name))
@@ -285,49 +289,49 @@ asked_above kinds.Volatile own s = above_in kinds.Volatile own states.Preparing 
 asked_above kinds.Durable own s =
     above_in kinds.Volatile own states.None (link_in kinds.Durable states.Preparing s) ∙ above_in kinds.Durable own states.Preparing s
 
-link_act_signed : (m : Moment) (e : Event) (a : Arrived) (kind : Kind) (s : Superior) (t : Transaction) (act : Act) → e ≡ events.Arrived a → t.superior ≡ Some s
+link_act_signed : (m : Moment) (e : Event) (a : Arrived) (kind : Kind) (s : Superior) (t : Transaction) (act : Act) → e ≡ events.Arrived a → a.target ≡ targets.Participant t.id kind → t.superior ≡ Some s
     → Signs m e t (targets.Participant t.id kind) (link_act m a.from a.id kind s t act)
 unfolding link_act commit_voted
-link_act_signed m e a kind s t acts.SendPrepared came u =
+link_act_signed m e a kind s t acts.SendPrepared came at u =
     upwards_signed m e t (targets.Participant t.id kind) t.id kind notices.Prepared (link_of kind s) (sym (ap (coordinator_at kind) u))
-link_act_signed m e a kind s t acts.SendCommitted came u = stored_signed m e t kind a notices.Committed (link_of kind s).coordinator came (sym (ap (coordinator_at kind) u))
-link_act_signed m e a kind s t acts.SendAborted came u = stored_signed m e t kind a notices.Aborted (link_of kind s).coordinator came (sym (ap (coordinator_at kind) u))
-link_act_signed m e a kind s t acts.FaultInvalidState came u =
+link_act_signed m e a kind s t acts.SendCommitted came at u = stored_signed m e t kind a notices.Committed (link_of kind s).coordinator came at (sym (ap (coordinator_at kind) u))
+link_act_signed m e a kind s t acts.SendAborted came at u = stored_signed m e t kind a notices.Aborted (link_of kind s).coordinator came at (sym (ap (coordinator_at kind) u))
+link_act_signed m e a kind s t acts.FaultInvalidState came at u =
     faults_signed m e t (targets.Participant t.id kind) (stored_or (link_of kind s).coordinator a.from) a.id invalid_state
-link_act_signed m e a kind s t acts.FaultInvalidStateAndAbort came u =
+link_act_signed m e a kind s t acts.FaultInvalidStateAndAbort came at u =
     abort_signed m e t (targets.Participant t.id kind) (Faulted kind) _ tt
     (record { above = λ k. refl; sent = faults_signed m e t (targets.Participant t.id kind) (stored_or (link_of kind s).coordinator a.from) a.id invalid_state })
-link_act_signed m e a kind s t acts.Gather came u =
+link_act_signed m e a kind s t acts.Gather came at u =
     go_volatile_signed m e t (targets.Participant t.id kind) (begin (under (asked kind s) t))
     (begun m e t (under (asked kind s) t) (targets.Participant t.id kind) (λ own. asked_above kind own s ∙ sym (ap (coordinator_at own) u)))
-link_act_signed m e a kind s t acts.Commit came u = record {
+link_act_signed m e a kind s t acts.Commit came at u = record {
   entry = tt;
   landed = seats_signed m e t (targets.Participant t.id kind) t.id notices.Commit t.seats (in_state states.Prepared);
   otherwise = tt;
 }
-link_act_signed m e a kind s t acts.AbortAndSendAborted came u =
-    abort_signed m e t (targets.Participant t.id kind) (Asked kind a.from) (begin t) (a, came, refl) (begun m e t t (targets.Participant t.id kind) (λ own. refl))
-link_act_signed m e a kind s t acts.RecordAndSendAborted came u = record {
+link_act_signed m e a kind s t acts.AbortAndSendAborted came at u =
+    abort_signed m e t (targets.Participant t.id kind) (Asked kind a.from) (begin t) (a, came, at, refl) (begun m e t t (targets.Participant t.id kind) (λ own. refl))
+link_act_signed m e a kind s t acts.RecordAndSendAborted came at u = record {
   entry = tt;
-  landed = abort_signed m e t (targets.Participant t.id kind) (Asked kind a.from) (begin t) (a, came, refl) (begun m e t t (targets.Participant t.id kind) (λ own. refl));
+  landed = abort_signed m e t (targets.Participant t.id kind) (Asked kind a.from) (begin t) (a, came, at, refl) (begun m e t t (targets.Participant t.id kind) (λ own. refl));
   otherwise = tt;
 }
-link_act_signed m e a kind s t acts.Ignore came u = tt
-link_act_signed m e a kind s t acts.SendCommit came u = tt
-link_act_signed m e a kind s t acts.SendRollback came u = tt
-link_act_signed m e a kind s t acts.FaultUnknownTransaction came u = tt
-link_act_signed m e a kind s t acts.Leave came u = tt
-link_act_signed m e a kind s t acts.LeaveAndAbort came u = tt
-link_act_signed m e a kind s t acts.Vote came u = tt
-link_act_signed m e a kind s t acts.Complete came u = tt
-link_act_signed m e a kind s t acts.TellCommitted came u = tt
-link_act_signed m e a kind s t acts.TellAborted came u = tt
+link_act_signed m e a kind s t acts.Ignore came at u = tt
+link_act_signed m e a kind s t acts.SendCommit came at u = tt
+link_act_signed m e a kind s t acts.SendRollback came at u = tt
+link_act_signed m e a kind s t acts.FaultUnknownTransaction came at u = tt
+link_act_signed m e a kind s t acts.Leave came at u = tt
+link_act_signed m e a kind s t acts.LeaveAndAbort came at u = tt
+link_act_signed m e a kind s t acts.Vote came at u = tt
+link_act_signed m e a kind s t acts.Complete came at u = tt
+link_act_signed m e a kind s t acts.TellCommitted came at u = tt
+link_act_signed m e a kind s t acts.TellAborted came at u = tt
 
-link_notice_signed : (m : Moment) (e : Event) (a : Arrived) (kind : Kind) (s : Superior) (t : Transaction) (c : Option Cell) → e ≡ events.Arrived a → t.superior ≡ Some s
+link_notice_signed : (m : Moment) (e : Event) (a : Arrived) (kind : Kind) (s : Superior) (t : Transaction) (c : Option Cell) → e ≡ events.Arrived a → a.target ≡ targets.Participant t.id kind → t.superior ≡ Some s
     → Signs m e t (targets.Participant t.id kind) (link_notice m a.from a.id kind s t c)
 unfolding link_notice
-link_notice_signed m e a kind s t None came u = tt
-link_notice_signed m e a kind s t (Some c) came u = link_act_signed m e a kind s t c.act came u
+link_notice_signed m e a kind s t None came at u = tt
+link_notice_signed m e a kind s t (Some c) came at u = link_act_signed m e a kind s t c.act came at u
 
 registered_signed : (m : Moment) (e : Event) (t : Transaction) (T : Target) (relates : Option (List ℕ)) (coordinator : Epr) (kind : Kind) (s : Superior)
     → Signs m e t T (link_registered m relates coordinator kind s t)
@@ -341,19 +345,19 @@ fault_signed m e t T relates kind s =
     either m e t T (is_state (link_of kind s).state states.Registering && relates_to relates (register_id m.base (targets.Participant t.id kind))) _ (ignored t)
     (abort_signed m e t T Alone (begin t) tt (begun m e t t T (λ own. refl))) tt
 
-pub link_signed : (m : Moment) (e : Event) (a : Arrived) (kind : Kind) (t : Transaction) (s : Superior) (x : Message) → e ≡ events.Arrived a → t.superior ≡ Some s
+pub link_signed : (m : Moment) (e : Event) (a : Arrived) (kind : Kind) (t : Transaction) (s : Superior) (x : Message) → e ≡ events.Arrived a → a.target ≡ targets.Participant t.id kind → t.superior ≡ Some s
     → Signs m e t (targets.Participant t.id kind) (on_link m a kind t s x)
 unfolding on_link
-link_signed m e a kind t s (messages.Notice n) came u = link_notice_signed m e a kind s t (participant_of kind (link_of kind s).state n) came u
-link_signed m e a kind t s (messages.RegisterResponse coordinator) came u = registered_signed m e t (targets.Participant t.id kind) a.relates coordinator kind s
-link_signed m e a kind t s (messages.Fault name) came u = fault_signed m e t (targets.Participant t.id kind) a.relates kind s
-link_signed m e a kind t s other came u = tt
+link_signed m e a kind t s (messages.Notice n) came at u = link_notice_signed m e a kind s t (participant_of kind (link_of kind s).state n) came at u
+link_signed m e a kind t s (messages.RegisterResponse coordinator) came at u = registered_signed m e t (targets.Participant t.id kind) a.relates coordinator kind s
+link_signed m e a kind t s (messages.Fault name) came at u = fault_signed m e t (targets.Participant t.id kind) a.relates kind s
+link_signed m e a kind t s other came at u = tt
 
 -- at the completion seat
 completion_act_signed : (m : Moment) (e : Event) (T : Target) (from : Option Epr) (id : Option (List ℕ)) (c : Completion) (t : Transaction) (act : Act)
     → Signs m e t T (completion_act m from id c t act)
 unfolding completion_act
-completion_act_signed m e T from id c t acts.SendCommitted = to_each_all (Signed m.base e t T) from _ (λ to f. record { from = refl; up = tt })
+completion_act_signed m e T from id c t acts.SendCommitted = to_each_all (Signed m.base e t T) from _ (λ to f. record { from = refl; goes = tt })
 completion_act_signed m e T from id c t acts.FaultUnknownTransaction = (tt, tt)
 completion_act_signed m e T from id c t acts.FaultInvalidState = (tt, tt)
 completion_act_signed m e T from id c t acts.Complete =
@@ -395,7 +399,7 @@ links_again_signed m e t T id (Some s) h =
 
 seat_again_signed : (m : Moment) (e : Event) (t : Transaction) (T : Target) (id : Numbers) (s : Enlistment) (n : Option Notice) → AllSigned m e t T (seat_again m.base id s n)
 seat_again_signed m e t T id s None = tt
-seat_again_signed m e t T id s (Some n) = (record { from = refl; up = tt }, tt)
+seat_again_signed m e t T id s (Some n) = (record { from = refl; goes = tt }, tt)
 
 seats_again_signed : (m : Moment) (e : Event) (t : Transaction) (T : Target) (id : Numbers) (ss : List Enlistment) → AllSigned m e t T (seats_again m.base id ss)
 seats_again_signed m e t T id [] = tt

@@ -1,3 +1,4 @@
+pub mod Enrolling
 pub mod Knowing
 pub mod Leads
 pub mod Moves

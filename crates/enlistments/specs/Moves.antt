@@ -3,7 +3,9 @@ use Rattle.std.specs.Prelude.{ℕ, List, [], ◌∷◌, ◌++◌, Option, Some, 
 use Rattle.std.specs.List.{AllByRecursion}
 use Rattle.at_base.specs.Numbers.{Numbers}
 use Rattle.at_base.specs.declared.epr.Epr.{Epr}
+use Rattle.at_base.specs.declared.notice.Kind.{Kind}
 use Rattle.at_base.specs.declared.notice.Notice.{Notice}
+use Rattle.at_base.specs.declared.notice.Notice.TheVariants as notices
 use Rattle.at_base.specs.declared.message.Create.{Create}
 use Rattle.at_base.specs.declared.message.Message.{Message}
 use Rattle.at_base.specs.declared.message.Message.TheVariants as messages
@@ -36,6 +38,7 @@ use Rattle.agreement.specs.Deeds.{Deed, coordinator_at}
 use Rattle.agreement.specs.Done.{standing}
 use Rattle.agreement.specs.Finished.{AreFinished}
 use Rattle.agreement.specs.LeafDeeds.{LeafDeed, LeavesStand}
+use Rattle.enlistments.specs.Enrolling.{Enrolls}
 
 -- the items of a book
 pub record HasItems (b : Book) (transactions : List Transaction) (leaves : List Leaf) (activities : List Activity) : Type 0 where
@@ -56,15 +59,27 @@ abbrev pub signer : Target → Option Target → Target
 signer T None = T
 signer T (Some own) = own
 
--- to the coordinator that the link knows, or to the From of the message that came
-abbrev pub IsUpwards : Event → Transaction → Target → Option Epr → Type 0
-IsUpwards e t (targets.Participant id kind) to = (to ≡ coordinator_at kind t.superior) ⊎ ((a : Arrived) × (e ≡ events.Arrived a) × (to ≡ a.from))
-IsUpwards e t other to = Unit {0}
+-- to the coordinator that the link knows, or to the From of the superior's message that came on it
+abbrev pub IsUpwards : Event → Transaction → Kind → Option Epr → Type 0
+IsUpwards e t kind to =
+    (to ≡ coordinator_at kind t.superior) ⊎ ((a : Arrived) × (e ≡ events.Arrived a) × (a.target ≡ targets.Participant t.id kind) × (to ≡ a.from))
 
--- A transaction's notification has its signer's endpoint as From; and it answers no Register.
+-- what goes out from where nothing is waited for
+abbrev pub Replies : Event → Transaction → Notice → Target → Option Epr → Type 0
+Replies e t n (targets.Participant id kind) to = (id ≡ t.id) × IsUpwards e t kind to
+Replies e t n (targets.Coordinator id s) to = n ≡ notices.Rollback
+Replies e t n other to = ⊥
+
+abbrev pub GoesOut : Event → Transaction → Notice → Target → Option Target → Option Epr → Type 0
+GoesOut e t n T None to = Replies e t n T to
+GoesOut e t n T (Some (targets.Participant id kind)) to = IsUpwards e t kind to
+GoesOut e t n T (Some other) to = Unit {0}
+
+-- A transaction's notification has its signer's endpoint as From, and goes where it should; and none of its messages
+-- answers a Register.
 pub record IsSigned (base : List ℕ) (e : Event) (t : Transaction) (T : Target) (n : Notice) (p : Post) : Type 0 where
   pub from : p.from ≡ from_on n (endpoint_of base (signer T p.own))
-  pub up : IsUpwards e t (signer T p.own) p.to
+  pub goes : GoesOut e t n T p.own p.to
 
 abbrev pub SignedAs : List ℕ → Event → Transaction → Target → Post → Message → Type 0
 SignedAs base e t T p (messages.Notice n) = IsSigned base e t T n p
@@ -127,6 +142,7 @@ pub record Registered (b : Book) (e : Event) (now : ℕ) (entry : Option Record)
   pub unrecorded : entry ≡ None
   pub gives : Registration
   pub given : gives ≡ on_register (moment_of b now) arrived request old
+  pub enrolls : Enrolls (moment_of b now) arrived request old gives
   pub is : o ≡ registration_outcome b now gives
 
 -- A transaction was made.
