@@ -1,6 +1,10 @@
+pub mod After
 pub mod Answering
+pub mod Arriving
 pub mod Enrolling
 pub mod Finding
 pub mod Moving
+pub mod Nodes
+pub mod Paths
 pub mod Signing
 pub mod Telling

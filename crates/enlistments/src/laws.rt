@@ -15,3 +15,9 @@ pub fn steps_move()
 pub fn steps_tell()
     ensures { StepsTell }
 {}
+
+/// tmp
+#[tactic(auto, using(crate::proofs::Nodes::books_have))]
+pub fn tmp()
+    ensures { StepsTell }
+{}
