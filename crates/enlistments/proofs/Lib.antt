@@ -3,8 +3,11 @@ pub mod Answering
 pub mod Arriving
 pub mod Enrolling
 pub mod Finding
+pub mod Fresh
 pub mod Moving
 pub mod Nodes
 pub mod Paths
+pub mod Places
+pub mod Registers
 pub mod Signing
 pub mod Telling

@@ -17,7 +17,7 @@ pub fn steps_tell()
 {}
 
 /// tmp
-#[tactic(auto, using(crate::proofs::Nodes::books_have))]
+#[tactic(auto, using(crate::proofs::Places::leaves_placed))]
 pub fn tmp()
     ensures { StepsTell }
 {}
