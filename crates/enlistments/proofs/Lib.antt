@@ -4,10 +4,12 @@ pub mod Arriving
 pub mod Enrolling
 pub mod Finding
 pub mod Fresh
+pub mod Lasting
 pub mod Moving
 pub mod Nodes
 pub mod Paths
 pub mod Places
+pub mod Posts
 pub mod Registers
 pub mod Signing
 pub mod Telling
