@@ -1,5 +1,6 @@
 pub mod After
 pub mod Answering
+pub mod Answers
 pub mod Arriving
 pub mod Enrolling
 pub mod Finding
