@@ -105,7 +105,7 @@ response_names count u n x b e now landed s p to c m T goes leads (names_complet
     (completion_completes count w n d.gives.transaction y m i (held_after count u n x b e now landed s d) there led))
 
 -- it names it for good
-names_on : (count : ℕ) (u w : World) → Grows u w → (c : Epr) (m : ℕ) (T : Target) → NamesSeatOf count u c m T → NamesSeatOf count w c m T
+pub names_on : (count : ℕ) (u w : World) → Grows u w → (c : Epr) (m : ℕ) (T : Target) → NamesSeatOf count u c m T → NamesSeatOf count w c m T
 names_on count u w g c m (targets.Participant i kind) h = enlists_on count u w g c (record { node = m; id = i }) kind h
 names_on count u w g c m (targets.Initiator i) h = completes_on count u w g c (record { node = m; id = i }) h
 names_on count u w g c m targets.Activation h = tt

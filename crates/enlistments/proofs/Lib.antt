@@ -2,6 +2,7 @@ pub mod After
 pub mod Answering
 pub mod Answers
 pub mod Arriving
+pub mod Books
 pub mod Enrolling
 pub mod Finding
 pub mod Fresh

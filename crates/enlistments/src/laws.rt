@@ -17,7 +17,7 @@ pub fn steps_tell()
 {}
 
 /// tmp
-#[tactic(auto, using(crate::proofs::Answers::answer_names))]
+#[tactic(auto, using(crate::proofs::Books::journals_know))]
 pub fn tmp()
     ensures { StepsTell }
 {}
