@@ -13,5 +13,6 @@ pub mod Paths
 pub mod Places
 pub mod Posts
 pub mod Registers
+pub mod Saying
 pub mod Signing
 pub mod Telling

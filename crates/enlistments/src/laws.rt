@@ -17,7 +17,7 @@ pub fn steps_tell()
 {}
 
 /// tmp
-#[tactic(auto, using(crate::proofs::Books::journals_know))]
+#[tactic(auto, using(crate::proofs::Saying::steps_sense))]
 pub fn tmp()
     ensures { StepsTell }
 {}
