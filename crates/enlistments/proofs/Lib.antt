@@ -2,6 +2,7 @@ pub mod After
 pub mod Answering
 pub mod Answers
 pub mod Arriving
+pub mod Asking
 pub mod Books
 pub mod Enrolling
 pub mod Finding
@@ -16,3 +17,4 @@ pub mod Registers
 pub mod Saying
 pub mod Signing
 pub mod Telling
+pub mod Voting

@@ -17,7 +17,7 @@ pub fn steps_tell()
 {}
 
 /// tmp
-#[tactic(auto, using(crate::proofs::Saying::steps_sense))]
+#[tactic(auto, using(crate::proofs::Asking::initiators_ask))]
 pub fn tmp()
     ensures { StepsTell }
 {}
