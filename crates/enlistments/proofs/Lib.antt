@@ -7,6 +7,7 @@ pub mod Books
 pub mod Enrolling
 pub mod Finding
 pub mod Fresh
+pub mod Knowing
 pub mod Lasting
 pub mod Moving
 pub mod Nodes
