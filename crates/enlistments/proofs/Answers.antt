@@ -1,17 +1,13 @@
 -- A RegisterResponse names the seat, or the completion seat, at which who gets it was accepted.
-use Rattle.std.specs.Prelude.{ℕ, List, Option, Some, None, Bool, ◌^◌, ◌≡◌, ◌<◌, refl}
+use Rattle.std.specs.Prelude.{ℕ, Some, Bool, ◌^◌, ◌≡◌, ◌<◌, refl}
 use Rattle.std.specs.List.{AllByRecursion}
 use Rattle.std.proofs.Common.{sym, subst, ap, ◌∙◌}
-use Rattle.at_base.specs.Numbers.{Numbers}
 use Rattle.at_base.specs.declared.epr.Epr.{Epr}
-use Rattle.at_base.specs.declared.epr.Reply.{Reply}
 use Rattle.at_base.specs.declared.epr.Reply.TheVariants as replies
-use Rattle.at_base.specs.declared.message.Message.TheVariants as messages
 use Rattle.at_base.specs.declared.message.Register.{Register}
 use Rattle.at_base.specs.declared.event.Arrived.{Arrived}
 use Rattle.at_base.specs.declared.event.Event.{Event}
 use Rattle.at_base.specs.declared.event.Moment.{Moment}
-use Rattle.at_base.specs.declared.outs.Out.TheVariants as outs
 use Rattle.at_base.specs.declared.outs.Post.{Post}
 use Rattle.at_base.specs.declared.target.Target.{Target}
 use Rattle.at_base.specs.declared.target.Target.TheVariants as targets
@@ -20,7 +16,7 @@ use Rattle.at_model.specs.Book.{Book, Transaction, find_by, transaction_id}
 use Rattle.at_model.specs.Register.{Registration}
 use Rattle.at_model.specs.Seats.{seat_target}
 use Rattle.at_model.specs.Step.{Outcome, moment_of, plan, step}
-use Rattle.at_model.specs.World.{Node, Posted, Who, World, base_of, new_nodes, nth, place_of}
+use Rattle.at_model.specs.World.{Node, Posted, World, base_of}
 use Rattle.model_laws.specs.Agreement.{IsIn}
 use Rattle.model_laws.specs.Drawn.{with_entry}
 use Rattle.model_laws.specs.Grows.{Grows}

@@ -1,5 +1,5 @@
 -- What goes to a participant comes from its seat, and what goes to a completion seat from its initiator.
-use Rattle.std.specs.Prelude.{ℕ, List, Option, Some, None, Bool, ◌^◌, ◌≡◌, ◌⊎◌, ◌<◌, refl}
+use Rattle.std.specs.Prelude.{ℕ, Some, None, Bool, ◌^◌, ◌≡◌, ◌⊎◌, ◌<◌, refl}
 use Rattle.std.specs.List.{AllByRecursion}
 use Rattle.std.proofs.Common.{inl, inr, sym, subst, ap, ◌∙◌}
 use Rattle.at_base.specs.Numbers.{Numbers}
@@ -15,11 +15,11 @@ use Rattle.at_base.specs.declared.target.Seat.{Seat}
 use Rattle.at_base.specs.declared.target.Target.{Target}
 use Rattle.at_base.specs.declared.target.Target.TheVariants as targets
 use Rattle.at_model.specs.Addresses.{endpoint_of}
-use Rattle.at_model.specs.Book.{Activity, Book, Enlistment, Transaction, activity_id, transaction_id}
+use Rattle.at_model.specs.Book.{Book, Enlistment, Transaction, activity_id, transaction_id}
 use Rattle.at_model.specs.Register.{new_seat}
 use Rattle.at_model.specs.Seats.{seat_target}
-use Rattle.at_model.specs.Step.{Outcome, moment_of, plan, step}
-use Rattle.at_model.specs.World.{Node, Posted, World, base_of, nth}
+use Rattle.at_model.specs.Step.{moment_of, plan, step}
+use Rattle.at_model.specs.World.{Node, World, base_of}
 use Rattle.model_laws.specs.Agreement.{IsAccepted, IsIn}
 use Rattle.model_laws.specs.Behind.{accepted_as}
 use Rattle.model_laws.specs.Grows.{Grows}
@@ -32,20 +32,17 @@ use Rattle.model_laws.proofs.Posting.{activity_standing}
 use Rattle.agreement.specs.Done.{standing}
 use Rattle.agreement.specs.Places.{HasPath}
 use Rattle.enlistments.specs.Knowing.{ActivityKnows, AsksAsInitiator, AsksItsOwn, IsAsked, IsVoteOf}
-use Rattle.enlistments.specs.Leads.{Completes, CompletesIfKnown, Enlists, LeadsTo}
-use Rattle.enlistments.specs.Moves.{ActivityDid, Answered, Registered, TransactionDid}
+use Rattle.enlistments.specs.Leads.{CompletesIfKnown, Enlists, LeadsTo}
+use Rattle.enlistments.specs.Moves.{Answered, TransactionDid}
 use Rattle.enlistments.specs.Senses.{Ask, Asks, asks_completion, asks_late_seat, asks_left_seat, asks_no_seat, asks_seat, sense}
 use Rattle.enlistments.proofs.Answers.{held_after, keeps_id}
 use Rattle.enlistments.proofs.Arriving.{HasCome, Stepping, has_come, step_ready, up_known}
 use Rattle.enlistments.proofs.Books.{books_know}
 use Rattle.enlistments.proofs.Lasting.{Held, enlists_on, found_stands, seat_enlists, seat_placed}
 use Rattle.enlistments.proofs.Places.{IsPlaced}
-use Rattle.enlistments.proofs.Posts.{PostLaw, one_has, posts_have}
+use Rattle.enlistments.proofs.Posts.{PostLaw, posts_have}
 use Rattle.enlistments.proofs.Saying.{steps_sense}
-use Rattle.enlistments.proofs.Voting.{signed_home, vote_at_seat, written_by}
-
-same_to : (p : Post) (a c : Epr) → p.to ≡ Some a → p.to ≡ Some c → a ≡ c
-same_to p a c e f = cc
+use Rattle.enlistments.proofs.Voting.{same_to, signed_home, vote_at_seat, written_by}
 
 -- a transaction that moves
 held_before : (count : ℕ) (u : World) (n : ℕ) (x : Node) (b : Book) (e : Event) (now : ℕ) (landed : Bool) → Stepping count u n x b e now landed
@@ -94,10 +91,10 @@ stranger_asks count u n x b e now landed s d id q to c m i kind at says goes lea
       own ∙ (λ j. targets.Coordinator id (record { number = q.number; kind = sym of_kind j })),
       takes_nothing_back.accepted u (counts u n x b e now landed) (grows_counts u n x b e now landed s.found) _ _ (record { node = m; id = i })
           (subst (λ a. IsIn a u.accepted) (λ j. record {
-        transaction = record { node = sym here j; id = id };
-        seat = Some (record { number = q.number; kind = sym of_kind j });
-        participant = Some (record { node = sym there j; id = sym who j });
-      }) vote.accepted),
+            transaction = record { node = sym here j; id = id };
+            seat = Some (record { number = q.number; kind = sym of_kind j });
+            participant = Some (record { node = sym there j; id = sym who j });
+          }) vote.accepted),
     )
   where
     same_participant : (i j : Numbers) (k l : Kind) → targets.Participant i k ≡ targets.Participant j l → (i ≡ j) × (k ≡ l)
@@ -192,10 +189,10 @@ asks_as_initiator count u n x b e now landed s v p to c m k id T goes leads from
       own,
       takes_nothing_back.accepted u (counts u n x b e now landed) (grows_counts u n x b e now landed s.found) _ None (record { node = k; id = d.old.id })
           (subst (λ a. IsIn a u.accepted) (λ r. record {
-        transaction = record { node = m; id = sym same r };
-        seat = None;
-        participant = Some (record { node = sym here r; id = d.old.id });
-      }) accepted),
+            transaction = record { node = m; id = sym same r };
+            seat = None;
+            participant = Some (record { node = sym here r; id = d.old.id });
+          }) accepted),
     )
   where
     same_completion : (i j : Numbers) → targets.Completion i ≡ targets.Completion j → i ≡ j

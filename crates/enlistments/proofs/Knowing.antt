@@ -1,5 +1,5 @@
 -- What items know of whom they work with, in every world that is reached.
-use Rattle.std.specs.Prelude.{ℕ, List, Some, Bool, ◌^◌, ◌≡◌, ◌<◌}
+use Rattle.std.specs.Prelude.{ℕ, Some, ◌^◌, ◌≡◌, ◌<◌}
 use Rattle.std.specs.List.{AllByRecursion}
 use Rattle.at_model.specs.Book.{Book, Transaction}
 use Rattle.at_model.specs.World.{Node, World, nth, run_of}

@@ -16,6 +16,7 @@ pub mod Places
 pub mod Posts
 pub mod Registers
 pub mod Saying
+pub mod Signatures
 pub mod Signing
 pub mod Telling
 pub mod Voting

@@ -1,7 +1,6 @@
 -- The notifications of a step by their sense.
-use Rattle.std.specs.Prelude.{ℕ, List, Option, Some, None, Bool, ◌≡◌, ◌⊎◌, refl}
+use Rattle.std.specs.Prelude.{ℕ, List, Option, ◌≡◌, refl}
 use Rattle.std.proofs.Common.{inl, inr, sym, subst, ap, ◌∙◌}
-use Rattle.at_base.specs.declared.epr.Epr.{Epr}
 use Rattle.at_base.specs.declared.notice.Kind.{Kind}
 use Rattle.at_base.specs.declared.notice.Kind.TheVariants as kinds
 use Rattle.at_base.specs.declared.notice.Notice.{Notice}
@@ -14,11 +13,10 @@ use Rattle.at_model.specs.Book.{Book, Enlistment, Transaction}
 use Rattle.at_model.specs.Posts.{notice_post}
 use Rattle.at_model.specs.Activities.{activity_target}
 use Rattle.at_model.specs.Step.{Outcome, moment_of}
-use Rattle.agreement.specs.ActivityDeeds.{ActivitySays, Completes, completing, tells_nothing as activity_tells_nothing}
+use Rattle.agreement.specs.ActivityDeeds.{ActivitySays, completing, tells_nothing as activity_tells_nothing}
 use Rattle.agreement.specs.Branches.{IsNoNotice}
 use Rattle.agreement.specs.Deeds.{How, WhyInitiator, WhySeat, WhySuperior}
 use Rattle.agreement.specs.LeafDeeds.{LeafSays, aborted, committed, leaf_notice_to, prepared, read_only, tells_nothing}
-use Rattle.agreement.specs.Deeds.{IsAbort}
 use Rattle.enlistments.specs.Moves.{ActivityDid, LeafDid}
 use Rattle.enlistments.specs.Senses.{Ask, Asks, End, Sense, StepsSense, Vote, Votes, asks_completion, asks_late_seat, asks_left_seat, asks_no_seat, asks_seat, sense, votes_alone, votes_under}
 use Rattle.enlistments.specs.Telling.{AnswersAsNone, Tells, activity_says, as_committed, as_no_participant, as_no_seat, from_left_link, leaf_says, left_link_aborted, says_aborted, to_asking, to_initiator, to_late_seat, to_left_seat, to_seat, to_superior}

@@ -1,5 +1,5 @@
 -- A vote that goes to a seat is that of the participant that was accepted there.
-use Rattle.std.specs.Prelude.{ℕ, List, Option, Some, None, Bool, ◌^◌, ◌≡◌, ◌⊎◌, ◌<◌, refl}
+use Rattle.std.specs.Prelude.{ℕ, Option, Some, Bool, ◌^◌, ◌≡◌, ◌⊎◌, ◌<◌}
 use Rattle.std.specs.List.{AllByRecursion}
 use Rattle.std.proofs.Common.{inl, inr, sym, subst, ap, ◌∙◌}
 use Rattle.at_base.specs.Numbers.{Numbers}
@@ -8,17 +8,16 @@ use Rattle.at_base.specs.declared.epr.Epr.{Epr}
 use Rattle.at_base.specs.declared.notice.Kind.{Kind}
 use Rattle.at_base.specs.declared.notice.Notice.{Notice}
 use Rattle.at_base.specs.declared.notice.Notice.TheVariants as notices
-use Rattle.at_base.specs.declared.message.Message.TheVariants as messages
 use Rattle.at_base.specs.declared.event.Event.{Event}
 use Rattle.at_base.specs.declared.outs.Post.{Post}
 use Rattle.at_base.specs.declared.target.Seat.{Seat}
 use Rattle.at_base.specs.declared.target.Target.{Target}
 use Rattle.at_base.specs.declared.target.Target.TheVariants as targets
 use Rattle.at_model.specs.Addresses.{endpoint_of}
-use Rattle.at_model.specs.Book.{Book, Leaf, Transaction, leaf_id, transaction_id}
+use Rattle.at_model.specs.Book.{Book, leaf_id, transaction_id}
 use Rattle.at_model.specs.Posts.{from_on}
-use Rattle.at_model.specs.Step.{Outcome, plan, step}
-use Rattle.at_model.specs.World.{Node, Posted, World, base_of, new_nodes, nth, place_of}
+use Rattle.at_model.specs.Step.{plan, step}
+use Rattle.at_model.specs.World.{Node, Posted, World, base_of, new_nodes, place_of}
 use Rattle.model_laws.specs.Agreement.{IsIn}
 use Rattle.model_laws.specs.Grows.{Grows}
 use Rattle.model_laws.specs.Reached.{Reached, counts}
@@ -81,7 +80,7 @@ known : (count : ℕ) (u : World) (n : ℕ) (id : Numbers) (kind : Kind) (o : Op
     → Enlists count u to (record { node = n; id = id }) kind
 known count u n id kind o to f h = subst (λ y. EnlistsIfKnown count u y (record { node = n; id = id }) kind) f h
 
-same_to : (p : Post) (a c : Epr) → p.to ≡ Some a → p.to ≡ Some c → a ≡ c
+pub same_to : (p : Post) (a c : Epr) → p.to ≡ Some a → p.to ≡ Some c → a ≡ c
 same_to p a c e f = cc
 
 votes_at : (count : ℕ) (u : World) (n : ℕ) (x : Node) (b : Book) (e : Event) (now : ℕ) (landed : Bool) → Stepping count u n x b e now landed → (v : Notice) (p : Post) (r : Option ℕ) (to : Epr)

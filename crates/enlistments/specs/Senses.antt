@@ -1,5 +1,5 @@
 -- The notifications of a step by their sense: votes, what is asked, and outcomes.
-use Rattle.std.specs.Prelude.{ℕ, List, Option, Some, None, Bool, true, ◌≡◌, ◌⊎◌}
+use Rattle.std.specs.Prelude.{ℕ, Option, Some, Bool, true, ◌≡◌}
 use Rattle.at_base.specs.Numbers.{Numbers}
 use Rattle.at_base.specs.declared.epr.Epr.{Epr}
 use Rattle.at_base.specs.declared.notice.Kind.{Kind}
@@ -22,7 +22,7 @@ use Rattle.at_model.specs.Seats.{seat_target}
 use Rattle.at_model.specs.Step.{Outcome, moment_of, plan, step}
 use Rattle.model_laws.specs.Agreement.{IsIn}
 use Rattle.model_laws.specs.Shapes.{IsUnknownAt}
-use Rattle.agreement.specs.ActivityDeeds.{ActivitySays, Completes}
+use Rattle.agreement.specs.ActivityDeeds.{Completes}
 use Rattle.agreement.specs.Deeds.{ParticipantSaid, WhySeat, WhySuperior, coordinator_at}
 use Rattle.agreement.specs.Done.{standing}
 use Rattle.agreement.specs.LeafDeeds.{LeafSays, leaf_notice_to}
