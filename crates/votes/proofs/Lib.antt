@@ -1,1 +1,3 @@
+pub mod Growing
+pub mod Living
 pub mod Premises

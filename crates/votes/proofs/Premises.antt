@@ -9,23 +9,20 @@ use Rattle.at_model.specs.Recover.{last_incarnation}
 use Rattle.at_model.specs.Step.{leaf_at, step, transaction_at}
 use Rattle.at_model.specs.World.{Node, World, goes_down, new_nodes, nth, put_nth, started, up_after}
 use Rattle.model_laws.specs.Agreement.{HasOneSuperior}
-use Rattle.model_laws.specs.Behind.{IsInPhase}
-use Rattle.model_laws.specs.Order.{IsInOrder}
 use Rattle.model_laws.specs.Reached.{Heard, Reached, counts}
 use Rattle.model_laws.proofs.Holding.{OutFine}
 use Rattle.model_laws.proofs.Naming.{HaveBases}
-use Rattle.agreement.specs.ActivityDeeds.{ActivitiesStand}
-use Rattle.agreement.specs.Finished.{AreFinished}
-use Rattle.agreement.specs.LeafDeeds.{LeavesStand}
 use Rattle.agreement.specs.Lives.{Life, book_of, happened_on}
 use Rattle.agreement.specs.Seated.{IsSeated}
 use Rattle.agreement.specs.Sorts.{AreSorted}
 use Rattle.enlistments.specs.Knowing.{IsKnowing}
+use Rattle.enlistments.specs.Moves.{IsReady, StepsMove}
+use Rattle.enlistments.specs.Telling.{StepsTell}
 use Rattle.votes.specs.Joint.{IsOutcome}
 use Rattle.votes.specs.Voting.{PreparedIsRecorded, ReadOnlyIsGone}
 
 -- what is known of every reached world
-pub record WorldPremises (count : ℕ) (u : World) : Type 0 where
+pub record WorldLaws (count : ℕ) (u : World) : Type 0 where
   pub few : count < 2 ^ 64
   pub reached : Reached count u
   pub bases : HaveBases u.nodes (new_nodes count 1)
@@ -33,6 +30,12 @@ pub record WorldPremises (count : ℕ) (u : World) : Type 0 where
   pub sorted : AreSorted u
   pub seated : IsSeated u
   pub one : HasOneSuperior u
+
+-- and of a world whose votes are kept; what each step is, and why it posts what it posts
+pub record WorldPremises (count : ℕ) (u : World) : Type 0 where
+  pub laws : WorldLaws count u
+  pub moves : StepsMove
+  pub tells : StepsTell
   pub knowing : IsKnowing count u
   pub prepared : PreparedIsRecorded u
   pub read_only : ReadOnlyIsGone u
@@ -43,11 +46,7 @@ pub record StepPremises (count : ℕ) (u : World) (n : ℕ) (x : Node) (b : Book
   pub found : nth n u.nodes ≡ Some x
   pub up : x.book ≡ Some b
   pub heard : Heard u n x e
-  pub order : IsInOrder b
-  pub phases : IsInPhase b
-  pub finished : AreFinished b
-  pub leaves : LeavesStand b
-  pub activities : ActivitiesStand b
+  pub ready : IsReady b
 
 -- P holds behind each step, each fall and each start
 abbrev pub StepKeeps : (ℕ → World → Type 0) → Type 0
@@ -68,5 +67,3 @@ StepSends Fine =
     (count : ℕ) (u : World) (n : ℕ) (x : Node) (b : Book) (e : Event) (now : ℕ) (landed : Bool) → StepPremises count u n x b e → IsOutcome count u
     → AllByRecursion (OutFine (Fine count (counts u n x b e now landed))) (step b e now landed).outs
 
-pub try_it : ℕ
-try_it = 0
