@@ -1,7 +1,7 @@
 -- What is said of votes and outcomes stays so while nothing is taken back.
-use Rattle.std.specs.Prelude.{ℕ, List, [], ◌∷◌, Option, Some, None, ◌≡◌, ◌⊎◌}
+use Rattle.std.specs.Prelude.{ℕ, List, [], ◌∷◌, Option, Some, None, true, false, ◌||◌, ◌≡◌, ◌⊎◌}
 use Rattle.std.specs.List.{AllByRecursion}
-use Rattle.std.proofs.Common.{inl, inr}
+use Rattle.std.proofs.Common.{inl, inr, ap}
 use Rattle.at_base.specs.Numbers.{Numbers}
 use Rattle.at_base.specs.declared.notice.Kind.{Kind}
 use Rattle.at_base.specs.declared.notice.Kind.TheVariants as kinds
@@ -15,11 +15,13 @@ use Rattle.at_base.specs.declared.outs.Post.{Post}
 use Rattle.at_tables.specs.declared.cells.State.{State}
 use Rattle.at_tables.specs.declared.cells.State.TheVariants as states
 use Rattle.at_model.specs.Book.{Enlistment, Transaction}
+use Rattle.at_model.specs.Recover.{is_promise}
 use Rattle.at_model.specs.World.{Posted, Who, World}
 use Rattle.model_laws.specs.Agreement.{HasAborted, HasCommitted, HasPosted}
 use Rattle.model_laws.specs.Grows.{Grows}
 use Rattle.model_laws.proofs.Deciding.{all_more}
 use Rattle.model_laws.proofs.Lasting.{takes_nothing_back}
+use Rattle.model_laws.proofs.Recovering.{self_id}
 use Rattle.votes.specs.Answering.{HasItsDurable, HasSeat, IsBehindVotes, KeepsItsDurable, RecordAnswers}
 use Rattle.votes.specs.Backing.{CommitIsBacked, CommitsAreBacked, CommittedIsBacked, HasCommittedAt, IsUnderAborted, IsUnderCommitted, RollbackIsBacked}
 use Rattle.votes.specs.Saying.{HasLeft, SeatSays, SeatTells, TransactionTells, who_named}
@@ -94,17 +96,18 @@ durable_on count u w g n t no_more h number x i = either x (h number x (no_more 
     either y (inl k) = inl (posted_on u w g y kinds.Durable notices.ReadOnly k)
     either y (inr k) = inr k
 
-pub record_on : (count : ℕ) (u w : World) → Grows u w → (n : ℕ) → ((id : Numbers) → AcceptsNoMore u w (record { node = n; id = id })) → (r : Record) → RecordAnswers count u n r
+pub record_on : (count : ℕ) (u w : World) → Grows u w → (n : ℕ) (r : Record) → ((id : Numbers) → is_promise id r ≡ true → AcceptsNoMore u w (record { node = n; id = id })) → RecordAnswers count u n r
     → RecordAnswers count w n r
-record_on count u w g n no_more (records.Voted id superior seats) h = behind_on count u w g (record { node = n; id = id }) seats (no_more id) h
-record_on count u w g n no_more (records.Decided id seats) h = behind_on count u w g (record { node = n; id = id }) seats (no_more id) h
-record_on count u w g n no_more (records.Start incarnation) h = tt
-record_on count u w g n no_more (records.LeafPrepared id coordinator key value) h = tt
-record_on count u w g n no_more (records.LeafCommitted id) h = tt
-record_on count u w g n no_more (records.LeafAborted id) h = tt
-record_on count u w g n no_more (records.SubCommitted id) h = tt
-record_on count u w g n no_more (records.Ended id) h = tt
-record_on count u w g n no_more (records.Done id) h = tt
+record_on count u w g n (records.Voted id superior seats) no_more h =
+    behind_on count u w g (record { node = n; id = id }) seats (no_more id (ap (λ b. b || false) (self_id id))) h
+record_on count u w g n (records.Decided id seats) no_more h = behind_on count u w g (record { node = n; id = id }) seats (no_more id (self_id id)) h
+record_on count u w g n (records.Start incarnation) no_more h = tt
+record_on count u w g n (records.LeafPrepared id coordinator key value) no_more h = tt
+record_on count u w g n (records.LeafCommitted id) no_more h = tt
+record_on count u w g n (records.LeafAborted id) no_more h = tt
+record_on count u w g n (records.SubCommitted id) no_more h = tt
+record_on count u w g n (records.Ended id) no_more h = tt
+record_on count u w g n (records.Done id) no_more h = tt
 
 -- what outcomes are backed by
 pub under_committed_on : (u w : World) → Grows u w → (x : Who) (kind : Kind) → IsUnderCommitted u x kind → IsUnderCommitted w x kind

@@ -1,3 +1,5 @@
+pub mod Ended
 pub mod Growing
+pub mod Joining
 pub mod Living
 pub mod Premises
