@@ -1,3 +1,4 @@
+pub mod Arriving
 pub mod Ended
 pub mod Growing
 pub mod Joining

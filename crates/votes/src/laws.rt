@@ -3,7 +3,7 @@
 ghost use Rattle.votes.specs.Voting.{VotesAreKept};
 ghost use Rattle.votes.specs.Joint.{OutcomesAreBacked};
 
-#[tactic(auto, using(crate::proofs::Growing::record_on))]
+#[tactic(auto, using(crate::proofs::Arriving::arrives))]
 pub fn votes_are_kept()
     ensures { VotesAreKept }
 {}
