@@ -1,5 +1,5 @@
 -- A message that arrives at a node was posted to an endpoint that leads to its target there.
-use Rattle.std.specs.Prelude.{ℕ, List, [], ◌∷◌, Option, Some, None, Bool, true, false, if◌then◌else◌, option_map, option_and_then, ◌^◌, ◌≡◌, ◌<◌, refl}
+use Rattle.std.specs.Prelude.{ℕ, List, [], ◌∷◌, Option, Some, None, Bool, true, false, if◌then◌else◌, nat_eq, ◌-◌, option_map, option_and_then, ◌^◌, ◌≡◌, ◌<◌, refl}
 use Rattle.std.specs.List.{AllByRecursion}
 use Rattle.std.proofs.Common.{sym, subst, ap, ◌∙◌}
 use Rattle.at_base.specs.declared.epr.Epr.{Epr}
@@ -17,6 +17,7 @@ use Rattle.model_laws.proofs.Enrolled.{nodes_of, world_good}
 use Rattle.model_laws.proofs.Holding.{Law, OutFine, holds}
 use Rattle.model_laws.proofs.Naming.{HaveBases, IsPlace, place_is}
 use Rattle.model_laws.proofs.Nodes.{receiver_same}
+use Rattle.model_laws.proofs.Running.{opening_node}
 use Rattle.agreement.proofs.SeatedEntries.{one_of}
 use Rattle.enlistments.specs.Leads.{LeadsTo}
 use Rattle.votes.proofs.Living.{gone_down}
@@ -108,6 +109,30 @@ arrived_so count u n base a p same i routed received d = record {
   from = d.from;
 }
 
-pub arrives : (count : ℕ) (u : World) (n : ℕ) (x : Node) (a : Arrived) → count < 2 ^ 64 → Reached count u → x.base ≡ base_of n → Heard u n x (events.Arrived a) → Arrives count u n a
-arrives count u n x a few reached same (p, i, received, e) =
-    arrived_so count u n x.base a p same i (one_of (IsRouted count) u.posted p (all_routed count u few reached) i) received (decoding x.base p.content a e)
+-- the base of a node
+record HasBase (xs : List Node) (n : ℕ) (base : List ℕ) : Type 0 where
+  node : Node
+  found : nth n xs ≡ Some node
+  same : base ≡ node.base
+
+base_at : (xs ys : List Node) (n : ℕ) (x : Node) → HaveBases xs ys → nth n xs ≡ Some x → HasBase ys n x.base
+base_at [] ys n x h e = absurd cc
+base_at (y ∷ xs) [] n x h e = absurd h
+base_at (y ∷ xs) (v ∷ ys) n x (g, h) e = by_number (λ i. base_at xs ys (n - 1) x h i) (nat_eq n 1) refl e
+  where
+    by_number : (nth (n - 1) xs ≡ Some x → HasBase ys (n - 1) x.base) → (c : Bool) → nat_eq n 1 ≡ c → (if c then Some y else nth (n - 1) xs) ≡ Some x → HasBase (v ∷ ys) n x.base
+    by_number rest true c e =
+        let same : y ≡ x = cc in
+        record { node = v; found = ap (λ t. if t then Some v else nth (n - 1) ys) c; same = ap (λ (u : Node). u.base) (sym same) ∙ g }
+    by_number rest false c e =
+        let r : HasBase ys (n - 1) x.base = rest e in
+        record { node = r.node; found = ap (λ t. if t then Some v else nth (n - 1) ys) c ∙ r.found; same = r.same }
+
+pub own_base : (count : ℕ) (w : World) (n : ℕ) (x : Node) → HaveBases w.nodes (nodes_of count) → nth n w.nodes ≡ Some x → x.base ≡ base_of n
+own_base count w n x h found =
+    let r : HasBase (nodes_of count) n x.base = base_at w.nodes (nodes_of count) n x h found in r.same ∙ ap (λ (u : Node). u.base) (opening_node count n r.node r.found)
+
+pub arrives : (count : ℕ) (u : World) (n : ℕ) (x : Node) (a : Arrived) → count < 2 ^ 64 → Reached count u → nth n u.nodes ≡ Some x → Heard u n x (events.Arrived a) → Arrives count u n a
+arrives count u n x a few reached found (p, i, received, e) =
+    arrived_so count u n x.base a p (own_base count u n x (world_good count u few reached).world.bases found) i (one_of (IsRouted count) u.posted p (all_routed count u few reached) i)
+    received (decoding x.base p.content a e)
