@@ -1,0 +1,4 @@
+pub mod Enrolling
+pub mod Finding
+pub mod Moving
+pub mod Signing

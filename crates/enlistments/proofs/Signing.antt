@@ -1,0 +1,452 @@
+-- A transaction's notifications are signed by their senders' own endpoints, and go where they should.
+use Rattle.std.specs.Prelude.{ℕ, List, [], ◌∷◌, ◌++◌, Option, Some, None, Bool, true, false, if◌then◌else◌, ◌||◌, ◌&&◌, filter, map, ◌≡◌, ◌⊎◌, refl}
+use Rattle.std.specs.List.{list_any, AllByRecursion}
+use Rattle.std.proofs.Common.{inl, inr, sym, subst, ap, ◌∙◌}
+use Rattle.at_base.specs.Numbers.{Numbers}
+use Rattle.at_base.specs.declared.epr.Epr.{Epr}
+use Rattle.at_base.specs.declared.epr.Reply.{Reply}
+use Rattle.at_base.specs.declared.epr.Reply.TheVariants as replies
+use Rattle.at_base.specs.declared.notice.Kind.{Kind}
+use Rattle.at_base.specs.declared.notice.Kind.TheVariants as kinds
+use Rattle.at_base.specs.declared.notice.Notice.{Notice}
+use Rattle.at_base.specs.declared.notice.Notice.TheVariants as notices
+use Rattle.at_base.specs.declared.message.Message.{Message}
+use Rattle.at_base.specs.declared.message.Message.TheVariants as messages
+use Rattle.at_base.specs.declared.event.Arrived.{Arrived}
+use Rattle.at_base.specs.declared.event.Event.{Event}
+use Rattle.at_base.specs.declared.event.Event.TheVariants as events
+use Rattle.at_base.specs.declared.event.Moment.{Moment}
+use Rattle.at_base.specs.declared.outs.Post.{Post}
+use Rattle.at_base.specs.declared.outs.Ending.TheVariants as endings
+use Rattle.at_base.specs.declared.record.Record.TheVariants as records
+use Rattle.at_base.specs.declared.target.Target.{Target}
+use Rattle.at_base.specs.declared.target.Target.TheVariants as targets
+use Rattle.at_tables.specs.declared.cells.Act.{Act}
+use Rattle.at_tables.specs.declared.cells.Act.TheVariants as acts
+use Rattle.at_tables.specs.declared.cells.Cell.{Cell}
+use Rattle.at_tables.specs.declared.cells.State.{State}
+use Rattle.at_tables.specs.declared.cells.State.TheVariants as states
+use Rattle.at_tables.specs.Names.{is_kind, is_state}
+use Rattle.at_tables.specs.Tables.{completion_of, coordinator_of, participant_of}
+use Rattle.at_model.specs.Abort.{Alone, Asked, Faulted, Reason, abort, from_of, is_silent, link_aborted, links_aborted, until_rolled_back, without_links}
+use Rattle.at_model.specs.Arrivals.{answer_left_seat, answer_request, answer_seat, asked, commit_voted, completion_act, completion_notice, context_of, is_registering, link_act, link_fault, link_notice, link_registered, on_completion, on_link, on_seat, refused_at, refused_request, relates_to, request_answered, request_left, request_of, request_stands, request_under, seat_act, seat_notice, with_answer}
+use Rattle.at_model.specs.Addresses.{register_id}
+use Rattle.at_model.specs.Book.{Completion, Enlistment, Link, Phase, Request, Superior, Transaction}
+use Rattle.at_model.specs.Due.{Expired, Nothing, Over, Reached, Unanswered, link_again, links_again, register_again_at, seat_again, seats_again, transaction_reached, unanswered_seat}
+use Rattle.at_model.specs.Moves.{Change, Decision, Goes, Moving, Records, become, begin, forgotten, posts, effect, ignored, stays}
+use Rattle.at_model.specs.Phases.{advance_in, all_committed, commit_seats, committed, decided, durable_answered, ended_posts, go_durable, go_volatile, if_durable_answered, prepare_seats, root_answered, sub_answered, upwards, volatile_answered, voted}
+use Rattle.at_model.specs.Posts.{fault_post, invalid_state, notice_post, reply_post, stored_or, stranger_post, to_each}
+use Rattle.at_model.specs.Seats.{all_left, answered, completion_in, ending, in_phase, in_state, initiator_posts, is_open, is_prepared_durable, link_in, link_of, notices_to, seat_in, seat_target, send_each, under}
+use Rattle.model_laws.proofs.Deciding.{DecisionSays, all_if, all_join, all_map, both_say, either_left, either_says, same_kind}
+use Rattle.model_laws.proofs.Telling.{Anything}
+use Rattle.agreement.specs.Deeds.{coordinator_at}
+use Rattle.agreement.proofs.Doing.{above_in}
+use Rattle.agreement.proofs.Posted.{if_none, to_each_all}
+use Rattle.agreement.proofs.SeatedEntries.{all_of}
+use Rattle.enlistments.specs.Moves.{IsSigned, IsUpwards, Signed, signer}
+
+abbrev pub AllSigned : Moment → Event → Transaction → Target → List Post → Type 0
+AllSigned m e t T ps = AllByRecursion (Signed m.base e t T) ps
+
+abbrev pub Signs : Moment → Event → Transaction → Target → Decision Transaction → Type 0
+Signs m e t T d = DecisionSays (λ c. AllSigned m e t T c.posts) Anything d
+
+-- a transaction on its way through a step
+record Passing (m : Moment) (e : Event) (t : Transaction) (T : Target) (g : Moving Transaction) : Type 0 where
+  above : (kind : Kind) → coordinator_at kind g.item.superior ≡ coordinator_at kind t.superior
+  sent : AllSigned m e t T g.posts
+
+either : (m : Moment) (e : Event) (t : Transaction) (T : Target) (b : Bool) (c d : Decision Transaction) → Signs m e t T c → Signs m e t T d → Signs m e t T (if b then c else d)
+either m e t T b c d h k = either_says (λ x. AllSigned m e t T x.posts) Anything b c d (λ f. h) (λ f. k)
+
+begun : (m : Moment) (e : Event) (t x : Transaction) (T : Target) → ((kind : Kind) → coordinator_at kind x.superior ≡ coordinator_at kind t.superior) → Passing m e t T (begin x)
+begun m e t x T h = record { above = h; sent = tt }
+
+with_posts : (m : Moment) (e : Event) (t : Transaction) (T : Target) (ps : List Post) (g : Moving Transaction) → AllSigned m e t T ps → Passing m e t T g → Passing m e t T (posts ps g)
+with_posts m e t T ps g h k = record { above = k.above; sent = all_join (Signed m.base e t T) g.posts ps k.sent h }
+
+-- to seats and to the initiator
+seats_signed : (m : Moment) (e : Event) (t : Transaction) (T : Target) (id : Numbers) (n : Notice) (seats : List Enlistment) (test : Enlistment → Bool)
+    → AllSigned m e t T (notices_to m.base id n seats test)
+seats_signed m e t T id n seats test =
+    all_map (Signed m.base e t T) (λ s. notice_post m.base (seat_target id s) s.participant n) (filter test seats)
+    (all_of (λ s. Signed m.base e t T (notice_post m.base (seat_target id s) s.participant n)) (filter test seats) (λ s i. record { from = refl; goes = tt }))
+
+initiator_signed : (m : Moment) (e : Event) (t : Transaction) (T : Target) (id : Numbers) (n : Notice) (c : Option Completion) → AllSigned m e t T (initiator_posts m.base id n c)
+initiator_signed m e t T id n None = tt
+initiator_signed m e t T id n (Some c) = if_none (Signed m.base e t T) (is_state c.state states.None) _ (record { from = refl; goes = tt }, tt)
+
+-- upwards
+upwards_signed : (m : Moment) (e : Event) (t : Transaction) (T : Target) (id : Numbers) (kind : Kind) (n : Notice) (link : Link) → link.coordinator ≡ coordinator_at kind t.superior
+    → AllSigned m e t T (upwards m.base id kind n link)
+upwards_signed m e t T id kind n link h = to_each_all (Signed m.base e t T) link.coordinator _ (λ to f. record { from = refl; goes = inl (sym f ∙ h) })
+
+known_or_from : (o from : Option Epr) (to : Epr) → stored_or o from ≡ Some to → (o ≡ Some to) ⊎ (from ≡ Some to)
+known_or_from None from to h = inr h
+known_or_from (Some x) from to h = inl h
+
+-- the From that an abort answers to is that of the message that came
+abbrev CameOn : Event → Transaction → Kind → Option Epr → Type 0
+CameOn e t kind from = (a : Arrived) × (e ≡ events.Arrived a) × (a.target ≡ targets.Participant t.id kind) × (from ≡ a.from)
+
+abbrev IsReason : Event → Transaction → Reason → Type 0
+IsReason e t Alone = Unit {0}
+IsReason e t (Asked kind from) = CameOn e t kind from
+IsReason e t (Faulted kind) = Unit {0}
+
+reason_from : (e : Event) (t : Transaction) (reason : Reason) (kind : Kind) (to : Epr) → IsReason e t reason → from_of reason kind ≡ Some to → CameOn e t kind (Some to)
+reason_from e t Alone kind to h f = absurd cc
+reason_from e t (Faulted k) kind to h f = absurd cc
+reason_from e t (Asked k from) kind to (a, came, target, is) f = by_kind (is_kind k kind) refl f
+  where
+    by_kind : (b : Bool) → is_kind k kind ≡ b → (if b then from else None) ≡ Some to → CameOn e t kind (Some to)
+    by_kind true g f = (a, came, target ∙ ap (targets.Participant t.id) (same_kind k kind g), sym f ∙ is)
+    by_kind false g f = absurd cc
+
+link_aborted_signed : (m : Moment) (e : Event) (t : Transaction) (T : Target) (id : Numbers) (reason : Reason) (kind : Kind) (link : Link) → IsReason e t reason
+    → link.coordinator ≡ coordinator_at kind t.superior → AllSigned m e t T (link_aborted m.base id reason kind link)
+link_aborted_signed m e t T id reason kind link r h =
+    if_none (Signed m.base e t T) (is_state link.state states.None || is_silent reason kind) _
+    (to_each_all (Signed m.base e t T) (stored_or link.coordinator (from_of reason kind)) _
+    (λ to f. record { from = refl; goes = out to (known_or_from link.coordinator (from_of reason kind) to f) }))
+  where
+    out : (to : Epr) → (link.coordinator ≡ Some to) ⊎ (from_of reason kind ≡ Some to) → IsUpwards e t kind (Some to)
+    out to (inl g) = inl (sym g ∙ h)
+    out to (inr g) = inr (reason_from e t reason kind to r g)
+
+links_aborted_signed : (m : Moment) (e : Event) (t : Transaction) (T : Target) (id : Numbers) (reason : Reason) (s : Option Superior) → IsReason e t reason
+    → ((kind : Kind) → coordinator_at kind s ≡ coordinator_at kind t.superior) → AllSigned m e t T (links_aborted m.base id reason s)
+links_aborted_signed m e t T id reason None r h = tt
+links_aborted_signed m e t T id reason (Some s) r h =
+    all_join (Signed m.base e t T) (link_aborted m.base id reason kinds.Volatile s.volatile) (link_aborted m.base id reason kinds.Durable s.durable)
+    (link_aborted_signed m e t T id reason kinds.Volatile s.volatile r (h kinds.Volatile)) (link_aborted_signed m e t T id reason kinds.Durable s.durable r (h kinds.Durable))
+
+-- abort
+until_signed : (m : Moment) (e : Event) (t : Transaction) (T : Target) (g : Moving Transaction) → AllSigned m e t T g.posts → AllSigned m e t T (until_rolled_back g).posts
+until_signed m e t T g h = either_left (λ c. AllSigned m e t T c.posts) (list_any (in_state states.Aborting) g.item.seats) (stays g) (forgotten g) h h
+
+abort_signed : (m : Moment) (e : Event) (t : Transaction) (T : Target) (reason : Reason) (g : Moving Transaction) → IsReason e t reason → Passing m e t T g
+    → AllSigned m e t T (abort m reason g).posts
+unfolding abort
+abort_signed m e t T reason g r h =
+    let y : Moving Transaction =
+    posts (initiator_posts m.base g.item.id notices.Aborted g.item.completion)
+    (send_each m notices.Rollback states.Aborting is_open
+    (become (record g.item {
+      superior = without_links g.item.superior;
+      phase = Phase.Aborting;
+      aborted = Some m.now;
+      completion = completion_in states.None g.item.completion;
+    })
+    (posts (links_aborted m.base g.item.id reason g.item.superior) (effect (ending g.item endings.Aborted) g)))) in
+    until_signed m e t T y
+    (all_join (Signed m.base e t T) _ _
+    (all_join (Signed m.base e t T) _ _
+    (all_join (Signed m.base e t T) g.posts _ h.sent (links_aborted_signed m e t T g.item.id reason g.item.superior r h.above))
+    (seats_signed m e t T g.item.id notices.Rollback g.item.seats is_open))
+    (initiator_signed m e t T g.item.id notices.Aborted g.item.completion))
+
+-- phases
+send_signed : (m : Moment) (e : Event) (t : Transaction) (T : Target) (n : Notice) (state : State) (test : Enlistment → Bool) (g : Moving Transaction) → Passing m e t T g
+    → Passing m e t T (send_each m n state test g)
+send_signed m e t T n state test g h =
+    record { above = h.above; sent = all_join (Signed m.base e t T) g.posts _ h.sent (seats_signed m e t T g.item.id n g.item.seats test) }
+
+committed_signed : (m : Moment) (e : Event) (t : Transaction) (T : Target) (g : Moving Transaction) → Passing m e t T g → AllSigned m e t T (committed m g).posts
+unfolding committed decided
+committed_signed m e t T g h =
+    either_left (λ c. AllSigned m e t T c.posts) (list_any is_prepared_durable g.item.seats) (stays (decided m g)) (forgotten (decided m g)) told told
+  where
+    told : AllSigned m e t T (decided m g).posts
+    told =
+        all_join (Signed m.base e t T) (send_each m notices.Commit states.Committing (in_state states.Prepared) g).posts _
+        (send_signed m e t T notices.Commit states.Committing (in_state states.Prepared) g h).sent (initiator_signed m e t T g.item.id notices.Committed g.item.completion)
+
+root_signed : (m : Moment) (e : Event) (t : Transaction) (T : Target) (g : Moving Transaction) → Passing m e t T g → Signs m e t T (root_answered m g)
+unfolding root_answered
+root_signed m e t T g h = record { entry = tt; landed = committed_signed m e t T g h; otherwise = abort_signed m e t T Alone g tt h }
+
+sub_signed : (m : Moment) (e : Event) (t : Transaction) (T : Target) (s : Superior) (superior : Option Epr) (g : Moving Transaction) → g.item.superior ≡ Some s → Passing m e t T g
+    → Signs m e t T (sub_answered m s superior g)
+unfolding sub_answered voted
+sub_signed m e t T s None g u h = abort_signed m e t T Alone g tt h
+sub_signed m e t T s (Some superior) g u h =
+    either m e t T (list_any is_prepared_durable g.item.seats) _ _
+    (record { entry = tt; landed = all_join (Signed m.base e t T) g.posts _ h.sent (above notices.Prepared); otherwise = abort_signed m e t T Alone g tt h })
+    (all_join (Signed m.base e t T) g.posts _ h.sent (above notices.ReadOnly))
+  where
+    above : (n : Notice) → AllSigned m e t T (upwards m.base g.item.id kinds.Durable n s.durable)
+    above n = upwards_signed m e t T g.item.id kinds.Durable n s.durable (sym (ap (coordinator_at kinds.Durable) u) ∙ h.above kinds.Durable)
+
+durable_signed : (m : Moment) (e : Event) (t : Transaction) (T : Target) (s : Option Superior) (g : Moving Transaction) → g.item.superior ≡ s → Passing m e t T g
+    → Signs m e t T (durable_answered m s g)
+durable_signed m e t T None g u h = root_signed m e t T g h
+durable_signed m e t T (Some s) g u h = sub_signed m e t T s s.durable.coordinator g u h
+
+if_durable_signed : (m : Moment) (e : Event) (t : Transaction) (T : Target) (g : Moving Transaction) → Passing m e t T g → Signs m e t T (if_durable_answered m g)
+if_durable_signed m e t T g h = either m e t T (answered kinds.Durable g.item.seats) _ _ (durable_signed m e t T g.item.superior g refl h) h.sent
+
+prepare_signed : (m : Moment) (e : Event) (t : Transaction) (T : Target) (kind : Kind) (phase : Phase) (g : Moving Transaction) → Passing m e t T g
+    → Passing m e t T (prepare_seats m kind (become (in_phase phase g.item) g))
+prepare_signed m e t T kind phase g h = send_signed m e t T notices.Prepare states.Preparing _ (become (in_phase phase g.item) g) (record { above = h.above; sent = h.sent })
+
+go_durable_signed : (m : Moment) (e : Event) (t : Transaction) (T : Target) (g : Moving Transaction) → Passing m e t T g → Signs m e t T (go_durable m g)
+unfolding go_durable
+go_durable_signed m e t T g h =
+    if_durable_signed m e t T (prepare_seats m kinds.Durable (become (in_phase Phase.Durable g.item) g)) (prepare_signed m e t T kinds.Durable Phase.Durable g h)
+
+volatile_signed : (m : Moment) (e : Event) (t : Transaction) (T : Target) (s : Option Superior) (g : Moving Transaction) → g.item.superior ≡ s → Passing m e t T g
+    → Signs m e t T (volatile_answered m s g)
+unfolding volatile_answered
+volatile_signed m e t T None g u h = go_durable_signed m e t T g h
+volatile_signed m e t T (Some s) g u h =
+    either m e t T (is_state s.volatile.state states.Preparing) _ _
+    (all_join (Signed m.base e t T) g.posts _ h.sent
+    (upwards_signed m e t T g.item.id kinds.Volatile notices.ReadOnly s.volatile (sym (ap (coordinator_at kinds.Volatile) u) ∙ h.above kinds.Volatile)))
+    (either m e t T (is_state s.durable.state states.Preparing) _ _ (go_durable_signed m e t T g h) h.sent)
+
+ended_signed : (m : Moment) (e : Event) (t : Transaction) (T : Target) (id : Numbers) (s : Option Superior) → ((kind : Kind) → coordinator_at kind s ≡ coordinator_at kind t.superior)
+    → AllSigned m e t T (ended_posts m.base id s)
+ended_signed m e t T id None h = tt
+ended_signed m e t T id (Some s) h = upwards_signed m e t T id kinds.Durable notices.Committed s.durable (h kinds.Durable)
+
+all_committed_signed : (m : Moment) (e : Event) (t : Transaction) (T : Target) (g : Moving Transaction) → Passing m e t T g → Signs m e t T (all_committed m g)
+unfolding all_committed
+all_committed_signed m e t T g h =
+    record { entry = tt; landed = all_join (Signed m.base e t T) g.posts _ h.sent (ended_signed m e t T g.item.id g.item.superior h.above); otherwise = tt }
+
+advance_signed : (m : Moment) (e : Event) (t : Transaction) (T : Target) (phase : Phase) (g : Moving Transaction) → Passing m e t T g → Signs m e t T (advance_in m phase g)
+unfolding advance_in
+advance_signed m e t T Phase.Registering g h = h.sent
+advance_signed m e t T Phase.Active g h = h.sent
+advance_signed m e t T Phase.Volatile g h = either m e t T (answered kinds.Volatile g.item.seats) _ _ (volatile_signed m e t T g.item.superior g refl h) h.sent
+advance_signed m e t T Phase.Durable g h = if_durable_signed m e t T g h
+advance_signed m e t T Phase.Voted g h = h.sent
+advance_signed m e t T Phase.Committing g h = either m e t T (all_left g.item.seats) _ _ (all_committed_signed m e t T g h) h.sent
+advance_signed m e t T Phase.Aborting g h = until_signed m e t T g h.sent
+
+go_volatile_signed : (m : Moment) (e : Event) (t : Transaction) (T : Target) (g : Moving Transaction) → Passing m e t T g → Signs m e t T (go_volatile m g)
+unfolding go_volatile
+go_volatile_signed m e t T g h =
+    advance_signed m e t T Phase.Volatile (prepare_seats m kinds.Volatile (become (in_phase Phase.Volatile g.item) g)) (prepare_signed m e t T kinds.Volatile Phase.Volatile g h)
+
+-- at a seat
+seat_act_signed : (m : Moment) (e : Event) (id : Option (List ℕ)) (t : Transaction) (s : Enlistment) (act : Act) → Signs m e t (seat_target t.id s) (seat_act m id t s act)
+unfolding seat_act
+seat_act_signed m e id t s acts.SendCommit = (record { from = refl; goes = tt }, tt)
+seat_act_signed m e id t s acts.SendRollback =
+    either m e t (seat_target t.id s) (in_state states.None s) (answer_left_seat m notices.Rollback t s) (answer_seat m notices.Rollback t s)
+    (record { from = refl; goes = refl }, tt) (record { from = refl; goes = tt }, tt)
+seat_act_signed m e id t s acts.FaultUnknownTransaction = (tt, tt)
+seat_act_signed m e id t s acts.FaultInvalidState = (tt, tt)
+seat_act_signed m e id t s acts.FaultInvalidStateAndAbort =
+    abort_signed m e t (seat_target t.id s) Alone _ tt (record { above = λ kind. refl; sent = (tt, tt) })
+seat_act_signed m e id t s acts.Leave =
+    advance_signed m e t (seat_target t.id s) t.phase (begin (seat_in s.number states.None t)) (begun m e t (seat_in s.number states.None t) (seat_target t.id s) (λ kind. refl))
+seat_act_signed m e id t s acts.LeaveAndAbort =
+    abort_signed m e t (seat_target t.id s) Alone (begin (seat_in s.number states.None t)) tt (begun m e t (seat_in s.number states.None t) (seat_target t.id s) (λ kind. refl))
+seat_act_signed m e id t s acts.Vote =
+    advance_signed m e t (seat_target t.id s) t.phase (begin (seat_in s.number states.Prepared t)) (begun m e t (seat_in s.number states.Prepared t) (seat_target t.id s) (λ kind. refl))
+seat_act_signed m e id t s acts.Ignore = tt
+seat_act_signed m e id t s acts.SendPrepared = tt
+seat_act_signed m e id t s acts.SendCommitted = tt
+seat_act_signed m e id t s acts.SendAborted = tt
+seat_act_signed m e id t s acts.Gather = tt
+seat_act_signed m e id t s acts.Commit = tt
+seat_act_signed m e id t s acts.AbortAndSendAborted = tt
+seat_act_signed m e id t s acts.RecordAndSendAborted = tt
+seat_act_signed m e id t s acts.Complete = tt
+seat_act_signed m e id t s acts.TellCommitted = tt
+seat_act_signed m e id t s acts.TellAborted = tt
+
+seat_notice_signed : (m : Moment) (e : Event) (id : Option (List ℕ)) (t : Transaction) (s : Enlistment) (c : Option Cell) → Signs m e t (seat_target t.id s) (seat_notice m id t s c)
+unfolding seat_notice
+seat_notice_signed m e id t s None = tt
+seat_notice_signed m e id t s (Some c) = seat_act_signed m e id t s c.act
+
+pub seat_signed : (m : Moment) (e : Event) (a : Arrived) (t : Transaction) (s : Enlistment) (x : Message) → Signs m e t (seat_target t.id s) (on_seat m a t s x)
+unfolding on_seat
+seat_signed m e a t s (messages.Notice n) = seat_notice_signed m e a.id t s (coordinator_of s.kind s.state n)
+seat_signed m e a t s other = tt
+
+-- on a link
+stored_signed : (m : Moment) (e : Event) (t : Transaction) (kind : Kind) (a : Arrived) (n : Notice) (known : Option Epr) → e ≡ events.Arrived a → a.target ≡ targets.Participant t.id kind
+    → known ≡ coordinator_at kind t.superior
+    → AllSigned m e t (targets.Participant t.id kind) (to_each (stored_or known a.from) (λ to. stranger_post m.base (targets.Participant t.id kind) to n))
+stored_signed m e t kind a n known came target h =
+    to_each_all (Signed m.base e t (targets.Participant t.id kind)) (stored_or known a.from) _ (λ to f. record { from = refl; goes = (refl, out to (known_or_from known a.from to f)) })
+  where
+    out : (to : Epr) → (known ≡ Some to) ⊎ (a.from ≡ Some to) → IsUpwards e t kind (Some to)
+    out to (inl g) = inl (sym g ∙ h)
+    out to (inr g) = inr (a, came, target, sym g)
+
+faults_signed : (m : Moment) (e : Event) (t : Transaction) (T : Target) (to : Option Epr) (id : Option (List ℕ)) (name : List ℕ)
+    → AllSigned m e t T (to_each to (λ x. fault_post (Some x) id name))
+faults_signed m e t T to id name = to_each_all (Signed m.base e t T) to _ (λ x f. tt)
+
+asked_above : (kind own : Kind) (s : Superior) → coordinator_at own (Some (asked kind s)) ≡ coordinator_at own (Some s)
+asked_above kinds.Volatile own s = above_in kinds.Volatile own states.Preparing s
+asked_above kinds.Durable own s =
+    above_in kinds.Volatile own states.None (link_in kinds.Durable states.Preparing s) ∙ above_in kinds.Durable own states.Preparing s
+
+link_act_signed : (m : Moment) (e : Event) (a : Arrived) (kind : Kind) (s : Superior) (t : Transaction) (act : Act) → e ≡ events.Arrived a → a.target ≡ targets.Participant t.id kind → t.superior ≡ Some s
+    → Signs m e t (targets.Participant t.id kind) (link_act m a.from a.id kind s t act)
+unfolding link_act commit_voted
+link_act_signed m e a kind s t acts.SendPrepared came at u =
+    upwards_signed m e t (targets.Participant t.id kind) t.id kind notices.Prepared (link_of kind s) (sym (ap (coordinator_at kind) u))
+link_act_signed m e a kind s t acts.SendCommitted came at u = stored_signed m e t kind a notices.Committed (link_of kind s).coordinator came at (sym (ap (coordinator_at kind) u))
+link_act_signed m e a kind s t acts.SendAborted came at u = stored_signed m e t kind a notices.Aborted (link_of kind s).coordinator came at (sym (ap (coordinator_at kind) u))
+link_act_signed m e a kind s t acts.FaultInvalidState came at u =
+    faults_signed m e t (targets.Participant t.id kind) (stored_or (link_of kind s).coordinator a.from) a.id invalid_state
+link_act_signed m e a kind s t acts.FaultInvalidStateAndAbort came at u =
+    abort_signed m e t (targets.Participant t.id kind) (Faulted kind) _ tt
+    (record { above = λ k. refl; sent = faults_signed m e t (targets.Participant t.id kind) (stored_or (link_of kind s).coordinator a.from) a.id invalid_state })
+link_act_signed m e a kind s t acts.Gather came at u =
+    go_volatile_signed m e t (targets.Participant t.id kind) (begin (under (asked kind s) t))
+    (begun m e t (under (asked kind s) t) (targets.Participant t.id kind) (λ own. asked_above kind own s ∙ sym (ap (coordinator_at own) u)))
+link_act_signed m e a kind s t acts.Commit came at u = record {
+  entry = tt;
+  landed = seats_signed m e t (targets.Participant t.id kind) t.id notices.Commit t.seats (in_state states.Prepared);
+  otherwise = tt;
+}
+link_act_signed m e a kind s t acts.AbortAndSendAborted came at u =
+    abort_signed m e t (targets.Participant t.id kind) (Asked kind a.from) (begin t) (a, came, at, refl) (begun m e t t (targets.Participant t.id kind) (λ own. refl))
+link_act_signed m e a kind s t acts.RecordAndSendAborted came at u = record {
+  entry = tt;
+  landed = abort_signed m e t (targets.Participant t.id kind) (Asked kind a.from) (begin t) (a, came, at, refl) (begun m e t t (targets.Participant t.id kind) (λ own. refl));
+  otherwise = tt;
+}
+link_act_signed m e a kind s t acts.Ignore came at u = tt
+link_act_signed m e a kind s t acts.SendCommit came at u = tt
+link_act_signed m e a kind s t acts.SendRollback came at u = tt
+link_act_signed m e a kind s t acts.FaultUnknownTransaction came at u = tt
+link_act_signed m e a kind s t acts.Leave came at u = tt
+link_act_signed m e a kind s t acts.LeaveAndAbort came at u = tt
+link_act_signed m e a kind s t acts.Vote came at u = tt
+link_act_signed m e a kind s t acts.Complete came at u = tt
+link_act_signed m e a kind s t acts.TellCommitted came at u = tt
+link_act_signed m e a kind s t acts.TellAborted came at u = tt
+
+link_notice_signed : (m : Moment) (e : Event) (a : Arrived) (kind : Kind) (s : Superior) (t : Transaction) (c : Option Cell) → e ≡ events.Arrived a → a.target ≡ targets.Participant t.id kind → t.superior ≡ Some s
+    → Signs m e t (targets.Participant t.id kind) (link_notice m a.from a.id kind s t c)
+unfolding link_notice
+link_notice_signed m e a kind s t None came at u = tt
+link_notice_signed m e a kind s t (Some c) came at u = link_act_signed m e a kind s t c.act came at u
+
+registered_signed : (m : Moment) (e : Event) (t : Transaction) (T : Target) (relates : Option (List ℕ)) (coordinator : Epr) (kind : Kind) (s : Superior)
+    → Signs m e t T (link_registered m relates coordinator kind s t)
+unfolding link_registered
+registered_signed m e t T relates coordinator kind s =
+    either m e t T (is_state (link_of kind s).state states.Registering && relates_to relates (register_id m.base (targets.Participant t.id kind))) _ (ignored t) tt tt
+
+fault_signed : (m : Moment) (e : Event) (t : Transaction) (T : Target) (relates : Option (List ℕ)) (kind : Kind) (s : Superior) → Signs m e t T (link_fault m relates kind s t)
+unfolding link_fault
+fault_signed m e t T relates kind s =
+    either m e t T (is_state (link_of kind s).state states.Registering && relates_to relates (register_id m.base (targets.Participant t.id kind))) _ (ignored t)
+    (abort_signed m e t T Alone (begin t) tt (begun m e t t T (λ own. refl))) tt
+
+pub link_signed : (m : Moment) (e : Event) (a : Arrived) (kind : Kind) (t : Transaction) (s : Superior) (x : Message) → e ≡ events.Arrived a → a.target ≡ targets.Participant t.id kind → t.superior ≡ Some s
+    → Signs m e t (targets.Participant t.id kind) (on_link m a kind t s x)
+unfolding on_link
+link_signed m e a kind t s (messages.Notice n) came at u = link_notice_signed m e a kind s t (participant_of kind (link_of kind s).state n) came at u
+link_signed m e a kind t s (messages.RegisterResponse coordinator) came at u = registered_signed m e t (targets.Participant t.id kind) a.relates coordinator kind s
+link_signed m e a kind t s (messages.Fault name) came at u = fault_signed m e t (targets.Participant t.id kind) a.relates kind s
+link_signed m e a kind t s other came at u = tt
+
+-- at the completion seat
+completion_act_signed : (m : Moment) (e : Event) (T : Target) (from : Option Epr) (id : Option (List ℕ)) (c : Completion) (t : Transaction) (act : Act)
+    → Signs m e t T (completion_act m from id c t act)
+unfolding completion_act
+completion_act_signed m e T from id c t acts.SendCommitted = to_each_all (Signed m.base e t T) from _ (λ to f. record { from = refl; goes = tt })
+completion_act_signed m e T from id c t acts.FaultUnknownTransaction = (tt, tt)
+completion_act_signed m e T from id c t acts.FaultInvalidState = (tt, tt)
+completion_act_signed m e T from id c t acts.Complete =
+    go_volatile_signed m e t T (begin (record t { completion = Some (record c { state = states.Completing }) }))
+    (begun m e t (record t { completion = Some (record c { state = states.Completing }) }) T (λ own. refl))
+completion_act_signed m e T from id c t acts.AbortAndSendAborted = abort_signed m e t T Alone (begin t) tt (begun m e t t T (λ own. refl))
+completion_act_signed m e T from id c t other = tt
+
+completion_notice_signed : (m : Moment) (e : Event) (T : Target) (from : Option Epr) (id : Option (List ℕ)) (c : Completion) (t : Transaction) (cell : Option Cell)
+    → Signs m e t T (completion_notice m from id c t cell)
+unfolding completion_notice
+completion_notice_signed m e T from id c t None = tt
+completion_notice_signed m e T from id c t (Some cell) = completion_act_signed m e T from id c t cell.act
+
+pub completion_signed : (m : Moment) (e : Event) (T : Target) (a : Arrived) (t : Transaction) (c : Completion) (x : Message) → Signs m e t T (on_completion m a t c x)
+unfolding on_completion
+completion_signed m e T a t c (messages.Notice n) = completion_notice_signed m e T a.from a.id c t (completion_of c.state n)
+completion_signed m e T a t c other = tt
+
+-- when it is due
+register_again_signed : (m : Moment) (e : Event) (t : Transaction) (T : Target) (id : Numbers) (kind : Kind) (r : Option Request) → AllSigned m e t T (register_again_at m.base id kind r)
+register_again_signed m e t T id kind None = tt
+register_again_signed m e t T id kind (Some r) = (tt, tt)
+
+link_again_signed : (m : Moment) (e : Event) (t : Transaction) (T : Target) (id : Numbers) (kind : Kind) (r : Option Request) (link : Link)
+    → link.coordinator ≡ coordinator_at kind t.superior → AllSigned m e t T (link_again m.base id kind r link)
+link_again_signed m e t T id kind r link h =
+    all_if (Signed m.base e t T) (is_state link.state states.Registering) (register_again_at m.base id kind r)
+    (if is_state link.state states.PreparedSuccess then upwards m.base id kind notices.Prepared link else []) (register_again_signed m e t T id kind r)
+    (all_if (Signed m.base e t T) (is_state link.state states.PreparedSuccess) (upwards m.base id kind notices.Prepared link) []
+    (upwards_signed m e t T id kind notices.Prepared link h) tt)
+
+links_again_signed : (m : Moment) (e : Event) (t : Transaction) (T : Target) (id : Numbers) (s : Option Superior) → ((kind : Kind) → coordinator_at kind s ≡ coordinator_at kind t.superior)
+    → AllSigned m e t T (links_again m.base id s)
+links_again_signed m e t T id None h = tt
+links_again_signed m e t T id (Some s) h =
+    all_join (Signed m.base e t T) (link_again m.base id kinds.Volatile s.request s.volatile) (link_again m.base id kinds.Durable s.request s.durable)
+    (link_again_signed m e t T id kinds.Volatile s.request s.volatile (h kinds.Volatile)) (link_again_signed m e t T id kinds.Durable s.request s.durable (h kinds.Durable))
+
+seat_again_signed : (m : Moment) (e : Event) (t : Transaction) (T : Target) (id : Numbers) (s : Enlistment) (n : Option Notice) → AllSigned m e t T (seat_again m.base id s n)
+seat_again_signed m e t T id s None = tt
+seat_again_signed m e t T id s (Some n) = (record { from = refl; goes = tt }, tt)
+
+seats_again_signed : (m : Moment) (e : Event) (t : Transaction) (T : Target) (id : Numbers) (ss : List Enlistment) → AllSigned m e t T (seats_again m.base id ss)
+seats_again_signed m e t T id [] = tt
+seats_again_signed m e t T id (s ∷ ss) =
+    all_join (Signed m.base e t T) (seat_again m.base id s (unanswered_seat s.state)) (seats_again m.base id ss) (seat_again_signed m e t T id s (unanswered_seat s.state))
+    (seats_again_signed m e t T id ss)
+
+pub due_signed : (m : Moment) (e : Event) (t : Transaction) (T : Target) (reached : Reached) → Signs m e t T (transaction_reached m t reached)
+unfolding transaction_reached
+due_signed m e t T Expired = abort_signed m e t T Alone (begin t) tt (begun m e t t T (λ own. refl))
+due_signed m e t T Over = tt
+due_signed m e t T Unanswered =
+    all_join (Signed m.base e t T) (links_again m.base t.id t.superior) (seats_again m.base t.id t.seats) (links_again_signed m e t T t.id t.superior (λ own. refl))
+    (seats_again_signed m e t T t.id t.seats)
+due_signed m e t T Nothing = tt
+
+-- with its answer
+refused_signed : (m : Moment) (e : Event) (t : Transaction) (T : Target) (r : Reply) (id : Option (List ℕ)) → AllSigned m e t T (refused_at r id)
+refused_signed m e t T replies.Anonymous id = tt
+refused_signed m e t T replies.Nobody id = tt
+refused_signed m e t T (replies.At to) id = (tt, tt)
+
+stands_signed : (m : Moment) (e : Event) (t : Transaction) (T : Target) (r : Request) (x : Transaction) (s : Superior) (phase : Phase) (c : Change Transaction)
+    → AllSigned m e t T c.posts → AllSigned m e t T (request_stands m r x s phase c).posts
+stands_signed m e t T r x s Phase.Aborting c h = all_join (Signed m.base e t T) c.posts (refused_request r) h (refused_signed m e t T r.fault r.id)
+stands_signed m e t T r x s other c h =
+    either_left (λ y. AllSigned m e t T y.posts) (is_registering s) c
+    (record {
+      item = Some (under (request_answered s) x);
+      posts = c.posts ++ reply_post (Some r.reply) r.id (messages.CreateResponse (context_of m.base x r.expires)) ∷ [];
+      effects = c.effects;
+    }) h (all_join (Signed m.base e t T) c.posts _ h (tt, tt))
+
+under_signed : (m : Moment) (e : Event) (t : Transaction) (T : Target) (r : Request) (x : Transaction) (s : Option Superior) (c : Change Transaction)
+    → AllSigned m e t T c.posts → AllSigned m e t T (request_under m r x s c).posts
+under_signed m e t T r x None c h = h
+under_signed m e t T r x (Some s) c h = stands_signed m e t T r x s x.phase c h
+
+left_signed : (m : Moment) (e : Event) (t : Transaction) (T : Target) (r : Request) (x : Option Transaction) (c : Change Transaction) → AllSigned m e t T c.posts
+    → AllSigned m e t T (request_left m r x c).posts
+left_signed m e t T r None c h = all_join (Signed m.base e t T) c.posts (refused_request r) h (refused_signed m e t T r.fault r.id)
+left_signed m e t T r (Some x) c h = under_signed m e t T r x x.superior c h
+
+answer_signed : (m : Moment) (e : Event) (t : Transaction) (T : Target) (r : Option Request) (c : Change Transaction) → AllSigned m e t T c.posts → AllSigned m e t T (answer_request m r c).posts
+answer_signed m e t T None c h = h
+answer_signed m e t T (Some r) c h = left_signed m e t T r c.item c h
+
+pub with_answer_signed : (m : Moment) (e : Event) (t : Transaction) (T : Target) (d : Decision Transaction) → Signs m e t T d → Signs m e t T (with_answer m t d)
+with_answer_signed m e t T d h =
+    both_say (λ c. AllSigned m e t T c.posts) Anything (answer_request m (request_of t.superior)) (λ c k. answer_signed m e t T (request_of t.superior) c k) (λ r c k. tt) d h

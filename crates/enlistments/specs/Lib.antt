@@ -1,0 +1,5 @@
+pub mod Enrolling
+pub mod Knowing
+pub mod Leads
+pub mod Moves
+pub mod Telling
