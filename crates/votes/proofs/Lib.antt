@@ -1,3 +1,4 @@
+pub mod Aborting
 pub mod Arriving
 pub mod Ended
 pub mod Growing

@@ -3,7 +3,7 @@
 ghost use Rattle.votes.specs.Voting.{VotesAreKept};
 ghost use Rattle.votes.specs.Joint.{OutcomesAreBacked};
 
-#[tactic(auto, using(crate::proofs::Arriving::arrives))]
+#[tactic(auto, using(crate::proofs::Aborting::aborted_ends))]
 pub fn votes_are_kept()
     ensures { VotesAreKept }
 {}
