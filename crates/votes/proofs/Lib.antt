@@ -2,6 +2,8 @@ pub mod Aborting
 pub mod Arriving
 pub mod Ended
 pub mod Growing
+pub mod Hearing
 pub mod Joining
 pub mod Living
 pub mod Premises
+pub mod Saying
