@@ -7,3 +7,4 @@ pub mod Joining
 pub mod Living
 pub mod Premises
 pub mod Saying
+pub mod Telling
