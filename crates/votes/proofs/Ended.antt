@@ -59,7 +59,7 @@ from_there n e (h ∷ hs) i = by_case (nat_eq h.node n) refl (from_there n e hs)
     by_case false f g k = inr (g k)
 
 -- an end of the item
-abbrev as_what : Effect → Option Ending
+abbrev pub as_what : Effect → Option Ending
 as_what (effects.Root i what) = Some what
 as_what (effects.Sub i what) = Some what
 as_what (effects.Leaf i kind what) = Some what
@@ -107,7 +107,7 @@ pub by_ending : (w : World) (n : ℕ) (id : Numbers) (s : Option Superior) (what
 by_ending w n id None what i = inl i
 by_ending w n id (Some s) what i = inr (inl i)
 
-as_ending : (s : Option Superior) (id : Numbers) (what : Ending) → as_what (ending_of s id what) ≡ Some what
+pub as_ending : (s : Option Superior) (id : Numbers) (what : Ending) → as_what (ending_of s id what) ≡ Some what
 as_ending None id what = refl
 as_ending (Some s) id what = refl
 

@@ -7,4 +7,5 @@ pub mod Joining
 pub mod Living
 pub mod Premises
 pub mod Saying
+pub mod SeatsAt
 pub mod Telling
