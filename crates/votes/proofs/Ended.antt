@@ -19,19 +19,19 @@ use Rattle.model_laws.proofs.Recovering.{self_id}
 use Rattle.agreement.specs.Lives.{Life, PromisesNothing, ends, happened_on, has_aborted, has_committed, has_decided, has_voted, is_gone, is_undecided, waits, works}
 use Rattle.agreement.proofs.TransactionLives.{TransactionLife, aborted, alone, committed, decided, undecided, voted}
 
--- in a list of what happened
-passes : (p : Effect → Bool) (x : Effect) (xs : List Effect) → IsIn x xs → p x ≡ true → IsIn x (filter p xs)
+-- in a list of those that pass a test
+pub passes : {A : Type 0} (p : A → Bool) (x : A) (xs : List A) → IsIn x xs → p x ≡ true → IsIn x (filter p xs)
 passes p x [] h e = absurd h
-passes p x (y ∷ ys) (inl f) e = subst (IsIn x) (sym (ap (λ b. if b then y ∷ filter p ys else filter p ys) (ap p (sym f) ∙ e))) (inl f)
-passes p x (y ∷ ys) (inr h) e = by_case (p y) (passes p x ys h e)
+passes {A = A} p x (y ∷ ys) (inl f) e = subst (IsIn x) (sym (ap (λ b. if b then y ∷ filter p ys else filter p ys) (ap p (sym f) ∙ e))) (inl f)
+passes {A = A} p x (y ∷ ys) (inr h) e = by_case (p y) (passes p x ys h e)
   where
     by_case : (b : Bool) → IsIn x (filter p ys) → IsIn x (if b then y ∷ filter p ys else filter p ys)
     by_case true k = inr k
     by_case false k = k
 
-passed : (p : Effect → Bool) (x : Effect) (xs : List Effect) → IsIn x (filter p xs) → IsIn x xs
+pub passed : {A : Type 0} (p : A → Bool) (x : A) (xs : List A) → IsIn x (filter p xs) → IsIn x xs
 passed p x [] h = h
-passed p x (y ∷ ys) h = by_case (p y) (passed p x ys) h
+passed {A = A} p x (y ∷ ys) h = by_case (p y) (passed p x ys) h
   where
     by_case : (b : Bool) → (IsIn x (filter p ys) → IsIn x ys) → IsIn x (if b then y ∷ filter p ys else filter p ys) → IsIn x (y ∷ ys)
     by_case true f (inl e) = inl e

@@ -119,7 +119,7 @@ hears_before count u n x b e now landed p j t found quiet = record {
 }
 
 -- what happens in a step
-in_map : {A B : Type 0} (f : A → B) (y : A) (xs : List A) → IsIn y xs → IsIn (f y) (map f xs)
+pub in_map : {A B : Type 0} (f : A → B) (y : A) (xs : List A) → IsIn y xs → IsIn (f y) (map f xs)
 in_map f y [] i = i
 in_map f y (x ∷ xs) (inl e) = inl (ap f e)
 in_map f y (x ∷ xs) (inr i) = inr (in_map f y xs i)

@@ -1,4 +1,5 @@
 pub mod Aborting
+pub mod Answering
 pub mod Arriving
 pub mod Ended
 pub mod Growing
