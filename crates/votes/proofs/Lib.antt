@@ -5,6 +5,7 @@ pub mod Ended
 pub mod Growing
 pub mod Hearing
 pub mod Joining
+pub mod Keeping
 pub mod Living
 pub mod Premises
 pub mod Saying
