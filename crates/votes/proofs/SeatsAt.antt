@@ -126,7 +126,7 @@ seats_at count u n x b e now landed p j t found how stays is at c = at_says coun
     hears = hears_before count u n x b e now landed p j t found (no_abort how t (step b e now landed).effects stays is)
 
 -- who has answered
-own_kind : (k : Kind) → is_kind k k ≡ true
+pub own_kind : (k : Kind) → is_kind k k ≡ true
 own_kind kinds.Durable = refl
 own_kind kinds.Volatile = refl
 
@@ -138,7 +138,7 @@ asked_of kind s k u = ap (λ c. (c && is_state s.state states.Active) || (c && i
     by_state states.Preparing h = refl
     by_state other h = absurd h
 
-any_of : {A : Type 0} (test : A → Bool) (xs : List A) (y : A) → IsIn y xs → test y ≡ true → list_any test xs ≡ true
+pub any_of : {A : Type 0} (test : A → Bool) (xs : List A) (y : A) → IsIn y xs → test y ≡ true → list_any test xs ≡ true
 any_of test [] y i e = absurd i
 any_of test (x ∷ xs) y (inl f) e = ap (λ c. c || list_any test xs) (ap test (sym f) ∙ e)
 any_of test (x ∷ xs) y (inr i) e = by_test (test x) (any_of test xs y i e)
