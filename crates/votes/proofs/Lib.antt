@@ -11,4 +11,5 @@ pub mod Living
 pub mod Premises
 pub mod Saying
 pub mod SeatsAt
+pub mod Starting
 pub mod Telling
