@@ -2,6 +2,7 @@ pub mod Aborting
 pub mod Answering
 pub mod Arriving
 pub mod Ended
+pub mod Falling
 pub mod Forgetting
 pub mod Growing
 pub mod Hearing

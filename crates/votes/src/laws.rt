@@ -3,7 +3,7 @@
 ghost use Rattle.votes.specs.Voting.{VotesAreKept};
 ghost use Rattle.votes.specs.Joint.{OutcomesAreBacked};
 
-#[tactic(auto, using(crate::proofs::Starting::outcome_waits))]
+#[tactic(auto, using(crate::proofs::Falling::outcome_falls))]
 pub fn votes_are_kept()
     ensures { VotesAreKept }
 {}
