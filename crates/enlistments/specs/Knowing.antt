@@ -18,7 +18,7 @@ use Rattle.at_model.specs.World.{Node, Posted, Who, World, WorldEvent, nth, run_
 use Rattle.model_laws.specs.Agreement.{IsAccepted, IsIn}
 use Rattle.model_laws.specs.Reached.{Reached}
 use Rattle.agreement.specs.Deeds.{coordinator_at}
-use Rattle.enlistments.specs.Leads.{Completes, CompletesIfKnown, Enlists, EnlistsIfKnown, LeadsTo}
+use Rattle.enlistments.specs.Leads.{Completes, CompletesIfKnown, Enlists, EnlistsIfKnown, IsOfKind, LeadsTo}
 
 -- A RegisterResponse that goes to an item names the seat, or the completion seat, at which that item was accepted.
 abbrev pub NamesSeatOf : ℕ → World → Epr → ℕ → Target → Type 0
@@ -88,6 +88,9 @@ pub record IsKnowing (count : ℕ) (w : World) : Type 0 where
   pub asks : AllByRecursion (AsksItsOwn count w) w.posted
   pub completes : AllByRecursion (AsksAsInitiator count w) w.posted
   pub votes : AllByRecursion (VotesAtItsSeat count w) w.posted
+  -- a seat's participant is of the seat's kind
+  pub seats : (n : ℕ) (x : Node) (b : Book) (t : Transaction) → nth n w.nodes ≡ Some x → x.book ≡ Some b → IsIn t b.transactions
+      → AllByRecursion (λ s. IsOfKind count s.participant s.kind) t.seats
 
 -- So it is in every world that is reached, and in every run.
 pub record CoordinatorsAreKnown : Type 0 where

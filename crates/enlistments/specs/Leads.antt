@@ -33,3 +33,7 @@ EnlistsIfKnown count w (Some c) x kind = Enlists count w c x kind
 abbrev pub CompletesIfKnown : ℕ → World → Option Epr → Who → Type 0
 CompletesIfKnown count w None x = Unit {0}
 CompletesIfKnown count w (Some c) x = Completes count w c x
+
+-- Where an endpoint leads anywhere, it is that of a participant of this kind.
+abbrev pub IsOfKind : ℕ → Epr → Kind → Type 0
+IsOfKind count e kind = (m : ℕ) (T : Target) → LeadsTo count e m T → (i : Numbers) × (T ≡ targets.Participant i kind)

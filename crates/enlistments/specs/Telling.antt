@@ -7,6 +7,8 @@ use Rattle.at_base.specs.declared.notice.Kind.{Kind}
 use Rattle.at_base.specs.declared.notice.Kind.TheVariants as kinds
 use Rattle.at_base.specs.declared.notice.Notice.{Notice}
 use Rattle.at_base.specs.declared.notice.Notice.TheVariants as notices
+use Rattle.at_base.specs.declared.epr.Reply.TheVariants as replies
+use Rattle.at_base.specs.declared.message.Message.{Message}
 use Rattle.at_base.specs.declared.message.Message.TheVariants as messages
 use Rattle.at_base.specs.declared.event.Arrived.{Arrived}
 use Rattle.at_base.specs.declared.event.Event.{Event}
@@ -21,14 +23,14 @@ use Rattle.at_base.specs.declared.target.Target.TheVariants as targets
 use Rattle.at_tables.specs.declared.cells.State.TheVariants as states
 use Rattle.at_model.specs.Addresses.{endpoint_of}
 use Rattle.at_model.specs.Book.{Book, Completion, Enlistment, Superior, Transaction}
-use Rattle.at_model.specs.Posts.{from_on, notice_post, stranger_post}
-use Rattle.at_model.specs.Register.{is_late, new_seat}
+use Rattle.at_model.specs.Posts.{from_on, notice_post, reply_post, stranger_post}
+use Rattle.at_model.specs.Register.{completion_endpoint, is_late, new_seat, protocol_named, seat_endpoint}
 use Rattle.at_model.specs.Seats.{link_of, seat_target}
 use Rattle.at_model.specs.Step.{Outcome, has_committed, moment_of, plan, step}
 use Rattle.model_laws.specs.Agreement.{IsIn}
 use Rattle.model_laws.specs.Shapes.{IsUnknownAt}
 use Rattle.agreement.specs.ActivityDeeds.{ActivitySays}
-use Rattle.agreement.specs.Deeds.{InitiatorAsked, IsAbort, ParticipantSaid, WhyInitiator, WhyLeft, WhySeat, WhySuperior, coordinator_at, initiator}
+use Rattle.agreement.specs.Deeds.{InitiatorAsked, IsAbort, ParticipantSaid, SuperiorSaid, WhyInitiator, WhySeat, WhySuperior, coordinator_at, initiator}
 use Rattle.agreement.specs.Done.{standing}
 use Rattle.agreement.specs.LeafDeeds.{LeafSays}
 use Rattle.enlistments.specs.Moves.{ActivityDid, Answered, IsReady, LeafDid, Registered, TransactionDid}
@@ -71,9 +73,13 @@ pub data Tells (b : Book) (e : Event) (now : ℕ) (entry : Option Record) (o : O
   -- on a link, as it aborts
   says_aborted : (d : TransactionDid b e now entry o) (kind : Kind) (to : Epr) → is_none d.old.superior ≡ false → IsAbort d.deed.how → n ≡ notices.Aborted
       → IsKnownOrAsked e kind d.old to → IsFrom b.base (targets.Participant d.old.id kind) to n p → Tells b e now entry o n p
-  -- from a link that has left
+  -- on a link that has left, to a superior that asks to commit
   from_left_link : (d : TransactionDid b e now entry o) (kind : Kind) (s : Superior) (to : Epr) → d.old.superior ≡ Some s → (link_of kind s).state ≡ states.None
-      → WhyLeft e d.old kind n → IsKnownOrAsked e kind d.old to → IsAnswerFrom b.base (targets.Participant d.old.id kind) to n p → Tells b e now entry o n p
+      → SuperiorSaid kind notices.Commit e d.old → n ≡ notices.Committed → IsKnownOrAsked e kind d.old to → IsAnswerFrom b.base (targets.Participant d.old.id kind) to n p
+      → Tells b e now entry o n p
+  -- or to roll back, or to prepare
+  left_link_aborted : (d : TransactionDid b e now entry o) (kind : Kind) (to : Epr) → is_none d.old.superior ≡ false → n ≡ notices.Aborted → IsKnownOrAsked e kind d.old to
+      → IsAnswerFrom b.base (targets.Participant d.old.id kind) to n p → Tells b e now entry o n p
   -- to the initiator
   to_initiator : (d : TransactionDid b e now entry o) (to : Epr) → initiator d.old.completion ≡ Some to → WhyInitiator d.deed.how n
       → IsFrom b.base (targets.Completion d.old.id) to n p → Tells b e now entry o n p
@@ -100,11 +106,34 @@ pub data Tells (b : Book) (e : Event) (now : ℕ) (entry : Option Record) (o : O
       → d.arrived.message ≡ messages.Notice notices.Commit → d.arrived.from ≡ Some to → n ≡ notices.Committed
       → p ≡ notice_post b.base (targets.Completion id) to notices.Committed → Tells b e now entry o n p
 
--- So is each notification that a step of such a book posts.
-abbrev pub IsTold : Book → Event → ℕ → Option Record → Outcome → Out → Type 0
-IsTold b e now entry o (outs.Post p) = (n : Notice) → p.message ≡ messages.Notice n → Tells b e now entry o n p
-IsTold b e now entry o (outs.Answer status reply) = Unit {0}
+-- the answer to a Register, as it was asked for
+pub record IsReply (a : Arrived) (c : Epr) (p : Post) : Type 0 where
+  pub to : Epr
+  pub asked : a.reply ≡ replies.At to
+  pub is : p ≡ reply_post (Some to) a.id (messages.RegisterResponse c)
 
+-- Why a step posts this RegisterResponse: it names the seat that the participant got or had, or the completion seat.
+pub data Responds (b : Book) (e : Event) (now : ℕ) (entry : Option Record) (o : Outcome) (c : Epr) (p : Post) : Type 0 where
+  names_seat : (d : Registered b e now entry o) (kind : Kind) (s : Enlistment) → protocol_named d.request.protocol ≡ Some (Some kind)
+      → IsIn s d.gives.transaction.seats → s.kind ≡ kind → s.participant ≡ d.request.participant → c ≡ seat_endpoint b.base d.old.id s → IsReply d.arrived c p
+      → Responds b e now entry o c p
+  names_completion : (d : Registered b e now entry o) (x : Completion) → protocol_named d.request.protocol ≡ Some None → d.gives.transaction.completion ≡ Some x
+      → x.initiator ≡ d.request.participant → c ≡ completion_endpoint b.base d.old.id → IsReply d.arrived c p → Responds b e now entry o c p
+
+abbrev pub Says : Book → Event → ℕ → Option Record → Outcome → Post → Message → Type 0
+Says b e now entry o p (messages.Notice n) = Tells b e now entry o n p
+Says b e now entry o p (messages.RegisterResponse c) = Responds b e now entry o c p
+Says b e now entry o p other = Unit {0}
+
+abbrev pub OutIsSaid : Book → Event → ℕ → Option Record → Outcome → Out → Type 0
+OutIsSaid b e now entry o (outs.Post p) = Says b e now entry o p p.message
+OutIsSaid b e now entry o (outs.Answer status reply) = Unit {0}
+
+-- So is each notification, and each RegisterResponse, that a step of such a book posts.
 pub record StepsTell : Type 0 where
-  pub told : (b : Book) (e : Event) (now : ℕ) (landed : Bool) → IsReady b
-      → AllByRecursion (IsTold b e now (standing landed (plan b e now).entry) (step b e now landed)) (step b e now landed).outs
+  pub says : (b : Book) (e : Event) (now : ℕ) (landed : Bool) → IsReady b
+      → AllByRecursion (OutIsSaid b e now (standing landed (plan b e now).entry) (step b e now landed)) (step b e now landed).outs
+  pub told : (b : Book) (e : Event) (now : ℕ) (landed : Bool) → IsReady b → (p : Post) (n : Notice) → IsIn (outs.Post p) (step b e now landed).outs → p.message ≡ messages.Notice n
+      → Tells b e now (standing landed (plan b e now).entry) (step b e now landed) n p
+  pub responds : (b : Book) (e : Event) (now : ℕ) (landed : Bool) → IsReady b → (p : Post) (c : Epr) → IsIn (outs.Post p) (step b e now landed).outs
+      → p.message ≡ messages.RegisterResponse c → Responds b e now (standing landed (plan b e now).entry) (step b e now landed) c p
