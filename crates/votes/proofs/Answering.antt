@@ -154,7 +154,7 @@ of_none count v n (Some (records.Decided id seats)) h = absurd h
 of_none count v n (Some other) h = tt
 
 -- the journal behind a step
-as_written : (entry : Option Record) (landed : Bool) (rs : List Record) → with_entry entry landed rs ≡ rs ++ written (standing landed entry)
+pub as_written : (entry : Option Record) (landed : Bool) (rs : List Record) → with_entry entry landed rs ≡ rs ++ written (standing landed entry)
 as_written None true rs = sym (append-nil rs)
 as_written None false rs = sym (append-nil rs)
 as_written (Some r) true rs = refl

@@ -154,7 +154,7 @@ pub record IsOpen (rs : List Record) (fx : List Effect) (id : Numbers) : Type 0 
   pub nothing : PromisesNothing id rs
   pub unended : ends id fx ≡ []
 
-in_phase : (t : Transaction) (phase : Phase) → t.phase ≡ phase → may_expire phase ≡ false → may_expire t.phase ≡ true → ⊥
+pub in_phase : (t : Transaction) (phase : Phase) → t.phase ≡ phase → may_expire phase ≡ false → may_expire t.phase ≡ true → ⊥
 in_phase t phase e closed u = both (may_expire phase) (sym (ap may_expire e) ∙ u) closed
   where
     both : (b : Bool) → b ≡ true → b ≡ false → ⊥
@@ -175,7 +175,7 @@ not_aborted_open w n rs id h (inl a) = not_ended w n id h.unended endings.Aborte
 not_aborted_open w n rs id h (inr a) = not_ended w n id h.unended endings.Lost a
 
 -- one that commits has committed, one that aborts has aborted, and what keeps its promise hasn't aborted
-two_phases : (p q r : Phase) → p ≡ q → p ≡ r → q ≡ r
+pub two_phases : (p q r : Phase) → p ≡ q → p ≡ r → q ≡ r
 two_phases p q r e f = sym e ∙ f
 
 pub commits_here : (w : World) (n : ℕ) (rs : List Record) (id : Numbers) (t : Transaction) → TransactionLife rs (happened_on n w.happened) id t → t.phase ≡ Phase.Committing

@@ -14,3 +14,4 @@ pub mod Saying
 pub mod SeatsAt
 pub mod Starting
 pub mod Telling
+pub mod Voting

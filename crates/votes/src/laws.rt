@@ -3,7 +3,7 @@
 ghost use Rattle.votes.specs.Voting.{VotesAreKept};
 ghost use Rattle.votes.specs.Joint.{OutcomesAreBacked};
 
-#[tactic(auto, using(crate::proofs::Falling::outcome_falls))]
+#[tactic(auto, using(crate::proofs::Voting::voters))]
 pub fn votes_are_kept()
     ensures { VotesAreKept }
 {}
