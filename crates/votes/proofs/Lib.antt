@@ -10,6 +10,7 @@ pub mod Joining
 pub mod Keeping
 pub mod Living
 pub mod Premises
+pub mod Prepared
 pub mod Saying
 pub mod SeatsAt
 pub mod Starting
