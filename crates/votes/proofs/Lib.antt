@@ -1,6 +1,7 @@
 pub mod Aborting
 pub mod Answering
 pub mod Arriving
+pub mod Away
 pub mod Ended
 pub mod Falling
 pub mod Forgetting

@@ -3,7 +3,7 @@
 ghost use Rattle.votes.specs.Voting.{VotesAreKept};
 ghost use Rattle.votes.specs.Joint.{OutcomesAreBacked};
 
-#[tactic(auto, using(crate::proofs::Prepared::prepared_recorded))]
+#[tactic(auto, using(crate::proofs::Away::stays_away))]
 pub fn votes_are_kept()
     ensures { VotesAreKept }
 {}
