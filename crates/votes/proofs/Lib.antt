@@ -12,6 +12,7 @@ pub mod Keeping
 pub mod Living
 pub mod Premises
 pub mod Prepared
+pub mod ReadOnly
 pub mod Saying
 pub mod SeatsAt
 pub mod Starting

@@ -212,7 +212,7 @@ voter_recorded count u n x b e now landed h id (leaf_left d own durable is state
 abbrev IsRecorded : World → ℕ → Post → Type 0
 IsRecorded w n p = (id : Numbers) → p.own ≡ Some (targets.Participant id kinds.Durable) → p.message ≡ messages.Notice notices.Prepared → HasVoted w (record { node = n; id = id })
 
-all_outs : (F : Post → Type 0) (os : List Out) → ((p : Post) → IsIn (outs.Post p) os → F p) → AllByRecursion (OutFine F) os
+pub all_outs : (F : Post → Type 0) (os : List Out) → ((p : Post) → IsIn (outs.Post p) os → F p) → AllByRecursion (OutFine F) os
 all_outs F [] f = tt
 all_outs F (outs.Post p ∷ os) f = (f p (inl refl), all_outs F os (λ q i. f q (inr i)))
 all_outs F (outs.Answer status reply ∷ os) f = (tt, all_outs F os (λ q i. f q (inr i)))

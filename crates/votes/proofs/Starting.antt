@@ -131,7 +131,7 @@ stays_like count u n x z l j = record {
     gone_like t y (inr over) = inr (over_on u w l.grows t y over)
 
 -- a start, at which the node may stop at once
-recovered_same : (base : List ℕ) (rs : List Record) → (recover base (restarted rs)).transactions ≡ (recover base rs).transactions
+pub recovered_same : (base : List ℕ) (rs : List Record) → (recover base (restarted rs)).transactions ≡ (recover base rs).transactions
 recovered_same base rs = ap (λ ls. in_order transaction_id (transactions_of base ls)) (journals_live.start rs (last_incarnation rs + 1))
 
 up_same : (x : Node) (stop : Bool) → x.book ≡ None → (book_of (up_after (started (last_incarnation x.journal + 1) x) stop)).transactions ≡ (book_of x).transactions

@@ -3,7 +3,7 @@
 ghost use Rattle.votes.specs.Voting.{VotesAreKept};
 ghost use Rattle.votes.specs.Joint.{OutcomesAreBacked};
 
-#[tactic(auto, using(crate::proofs::Away::stays_away))]
+#[tactic(auto, using(crate::proofs::ReadOnly::read_only_gone))]
 pub fn votes_are_kept()
     ensures { VotesAreKept }
 {}
