@@ -1,0 +1,14 @@
+pub mod Aborting
+pub mod Answering
+pub mod Arriving
+pub mod Ended
+pub mod Forgetting
+pub mod Growing
+pub mod Hearing
+pub mod Joining
+pub mod Keeping
+pub mod Living
+pub mod Premises
+pub mod Saying
+pub mod SeatsAt
+pub mod Telling

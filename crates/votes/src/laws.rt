@@ -1,0 +1,13 @@
+//! The laws.
+
+ghost use Rattle.votes.specs.Voting.{VotesAreKept};
+ghost use Rattle.votes.specs.Joint.{OutcomesAreBacked};
+
+#[tactic(auto, using(crate::proofs::Forgetting::gone_is_over_step))]
+pub fn votes_are_kept()
+    ensures { VotesAreKept }
+{}
+
+pub fn outcomes_are_backed()
+    ensures { OutcomesAreBacked }
+{}
