@@ -1,13 +1,16 @@
 pub mod After
 pub mod Answering
+pub mod Answers
 pub mod Arriving
 pub mod Enrolling
 pub mod Finding
 pub mod Fresh
+pub mod Lasting
 pub mod Moving
 pub mod Nodes
 pub mod Paths
 pub mod Places
+pub mod Posts
 pub mod Registers
 pub mod Signing
 pub mod Telling

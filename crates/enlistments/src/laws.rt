@@ -17,7 +17,7 @@ pub fn steps_tell()
 {}
 
 /// tmp
-#[tactic(auto, using(crate::proofs::Places::leaves_placed))]
+#[tactic(auto, using(crate::proofs::Answers::answer_names))]
 pub fn tmp()
     ensures { StepsTell }
 {}
