@@ -23,6 +23,7 @@ pub mod Saying
 pub mod SeatVotes
 pub mod SeatsAt
 pub mod Sends
+pub mod Starting
 pub mod Telling
 pub mod There
 pub mod Unseated

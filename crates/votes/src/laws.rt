@@ -3,7 +3,7 @@
 ghost use Rattle.votes.specs.Voting.{VotesAreKept};
 ghost use Rattle.votes.specs.Joint.{OutcomesAreBacked};
 
-#[tactic(auto, using(crate::proofs::Forgetting::gone_is_over_step))]
+#[tactic(auto, using(crate::proofs::Starting::outcome_waits))]
 pub fn votes_are_kept()
     ensures { VotesAreKept }
 {}
