@@ -14,6 +14,7 @@ pub mod Gone
 pub mod Growing
 pub mod Hearing
 pub mod Joining
+pub mod Joint
 pub mod Keeping
 pub mod Known
 pub mod Living

@@ -58,10 +58,10 @@ use Rattle.votes.proofs.Voting.{IsVoter, leaf_left, leaf_prepared, subordinate, 
 live_vote : (rs : List Record) (id : Numbers) (r : Record) → IsIn r (live rs) → is_vote id r ≡ true → IsIn r rs
 live_vote rs id r i e =
     one_of (λ x. is_vote id x ≡ true → IsIn x rs) (live rs) r
-    (all_live (λ x. is_vote id x ≡ true → IsIn x rs) rs (λ j superior seats h f. absurd (never f)) (all_of (λ x. is_vote id x ≡ true → IsIn x rs) rs (λ x k f. k))) i e
+    (all_live (λ x. is_vote id x ≡ true → IsIn x rs) rs (λ j superior seats h f. absurd (never j f)) (all_of (λ x. is_vote id x ≡ true → IsIn x rs) rs (λ x k f. k))) i e
   where
-    never : {j : Numbers} → is_vote id (records.SubCommitted j) ≡ true → ⊥
-    never f = cc
+    never : (j : Numbers) → is_vote id (records.SubCommitted j) ≡ true → ⊥
+    never j f = cc
 
 own_vote : (id : Numbers) (superior : Epr) (seats : List Seated) → is_vote id (records.Voted id superior seats) ≡ true
 own_vote id superior seats = self_id id
@@ -244,7 +244,7 @@ prepared_law : (count : ℕ) → count < 2 ^ 64 → Law count
 prepared_law count few = record {
   Good = PreparedIsRecorded;
   Fine = λ w g n p. IsRecorded w n p;
-  opens = λ x (q, i, rest). absurd i;
+  opens = λ x (q, i, sender, own, says). absurd i;
   steps = λ u n x b e now landed reached found up heard h. (
     (λ y k. voted_on u (counts u n x b e now landed) (grows_counts u n x b e now landed found) y (h y k)),
     all_outs (IsRecorded (counts u n x b e now landed) n) (step b e now landed).outs

@@ -300,7 +300,7 @@ read_only_law : (count : ℕ) → count < 2 ^ 64 → Law count
 read_only_law count few = record {
   Good = ReadOnlyIsGone;
   Fine = λ w g n p. GoesWithoutTrace w n p;
-  opens = λ x (q, i, rest). absurd i;
+  opens = λ x (q, i, sender, own, says). absurd i;
   steps = λ u n x b e now landed reached found up heard h. (
     step_gone count u n x b e now landed found up (steps_move.ready count u reached n x b found up) h,
     all_outs (GoesWithoutTrace (counts u n x b e now landed) n) (step b e now landed).outs
