@@ -1,21 +1,19 @@
 -- A step doesn't touch an id that was drawn and of which nothing is held.
-use Rattle.std.specs.Prelude.{ℕ, List, [], ◌∷◌, ◌++◌, Option, Some, None, Bool, true, false, length, ◌≡◌, ◌⊎◌, refl}
+use Rattle.std.specs.Prelude.{ℕ, List, [], ◌∷◌, Option, Some, None, Bool, true, false, length, ◌≡◌, ◌⊎◌, refl}
 use Rattle.std.proofs.Common.{inl, inr, sym, subst, ap, ◌∙◌}
 use Rattle.at_base.specs.Numbers.{Numbers}
 use Rattle.at_base.specs.declared.event.Event.{Event}
 use Rattle.at_base.specs.declared.event.Arrived.{Arrived}
 use Rattle.at_base.specs.declared.event.Moment.{Moment}
 use Rattle.at_base.specs.declared.message.Register.{Register}
-use Rattle.at_base.specs.declared.outs.Effect.{Effect}
 use Rattle.at_base.specs.declared.outs.Ending.{Ending}
 use Rattle.at_base.specs.declared.outs.Ending.TheVariants as endings
-use Rattle.at_base.specs.declared.outs.Post.{Post}
 use Rattle.at_base.specs.declared.record.Record.{Record}
-use Rattle.at_model.specs.Book.{Activity, Book, Leaf, Transaction, find_by, is_id, leaf_id, put_by, transaction_id}
+use Rattle.at_model.specs.Book.{Activity, Book, Leaf, Transaction, find_by, is_id, leaf_id, transaction_id}
 use Rattle.at_model.specs.Create.{on_create}
 use Rattle.at_model.specs.Leaves.{leaf_ended, on_work}
 use Rattle.at_model.specs.Moves.{Change}
-use Rattle.at_model.specs.Register.{Registration, on_register}
+use Rattle.at_model.specs.Register.{Registration}
 use Rattle.at_model.specs.Seats.{ending}
 use Rattle.at_model.specs.Step.{Outcome, at_time, leaf_at, moment_of, transaction_at}
 use Rattle.model_laws.specs.Laws.{HasId, HasLeafId, IsDrawn}

@@ -11,7 +11,6 @@ use Rattle.at_base.specs.declared.outs.Ending.{Ending}
 use Rattle.at_base.specs.declared.outs.Ending.TheVariants as endings
 use Rattle.at_model.specs.Book.{Leaf, Phase, Superior, Transaction}
 use Rattle.at_model.specs.Due.{may_expire}
-use Rattle.at_model.specs.Recover.{is_promise}
 use Rattle.at_model.specs.Seats.{ending, ending_of}
 use Rattle.at_model.specs.World.{Happened, World, happened_at}
 use Rattle.model_laws.specs.Agreement.{HasAborted, HasCommitted, HasEnded, IsIn, ends_as}

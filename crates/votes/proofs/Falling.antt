@@ -14,7 +14,7 @@ use Rattle.at_base.specs.declared.record.Record.TheVariants as records
 use Rattle.at_base.specs.declared.record.Seated.{Seated}
 use Rattle.at_tables.specs.declared.cells.State.{State}
 use Rattle.at_tables.specs.declared.cells.State.TheVariants as states
-use Rattle.at_model.specs.Book.{Book, Phase, Superior, Transaction, transaction_id}
+use Rattle.at_model.specs.Book.{Book, Superior, Transaction, transaction_id}
 use Rattle.at_model.specs.Due.{may_expire}
 use Rattle.at_model.specs.Recover.{is_sub_committed, live, recover, recovered_decided, recovered_seat, recovered_voted}
 use Rattle.at_model.specs.Seats.{ending}
@@ -102,16 +102,22 @@ recovered_one count u v g same n base rs t life (records.Voted id superior seats
     by_commit true e =
         let it : recovered_voted id superior seats true ≡ t = cc in
         recovered_so count u v g same n id seats states.Committing t (ap (λ (z : Transaction). z.id) (sym it)) (ap (λ (z : Transaction). z.seats) (sym it))
-        (inr (refl, subst (λ i. HasCommitted v (record { node = n; id = i })) (ap (λ (z : Transaction). z.id) (sym it))
-        (commits_here v n rs t.id t life (ap (λ (z : Transaction). z.phase) (sym it))))) answers
+        (inr (
+          refl,
+          subst (λ i. HasCommitted v (record { node = n; id = i })) (ap (λ (z : Transaction). z.id) (sym it))
+              (commits_here v n rs t.id t life (ap (λ (z : Transaction). z.phase) (sym it))),
+        )) answers
     by_commit false e =
         let it : recovered_voted id superior seats false ≡ t = cc in
         recovered_so count u v g same n id seats states.Prepared t (ap (λ (z : Transaction). z.id) (sym it)) (ap (λ (z : Transaction). z.seats) (sym it)) (inl refl) answers
 recovered_one count u v g same n base rs t life (records.Decided id seats) answers is =
     let it : recovered_decided base id seats ≡ t = cc in
     recovered_so count u v g same n id seats states.Committing t (ap (λ (z : Transaction). z.id) (sym it)) (ap (λ (z : Transaction). z.seats) (sym it))
-    (inr (refl, subst (λ i. HasCommitted v (record { node = n; id = i })) (ap (λ (z : Transaction). z.id) (sym it))
-    (commits_here v n rs t.id t life (ap (λ (z : Transaction). z.phase) (sym it))))) answers
+    (inr (
+      refl,
+      subst (λ i. HasCommitted v (record { node = n; id = i })) (ap (λ (z : Transaction). z.id) (sym it))
+          (commits_here v n rs t.id t life (ap (λ (z : Transaction). z.phase) (sym it))),
+    )) answers
 recovered_one count u v g same n base rs t life other answers is = absurd cc
 
 -- what is lost

@@ -22,16 +22,16 @@ use Rattle.at_tables.specs.declared.cells.State.{State}
 use Rattle.at_tables.specs.declared.cells.State.TheVariants as states
 use Rattle.at_model.specs.Book.{Book, Enlistment, Leaf, Phase, Transaction}
 use Rattle.at_model.specs.Moves.{Change}
-use Rattle.at_model.specs.Recover.{is_leaf_prepared, is_voted, last_incarnation, live}
+use Rattle.at_model.specs.Recover.{last_incarnation, live}
 use Rattle.at_model.specs.Seats.{prepared}
 use Rattle.at_model.specs.Step.{leaf_at, moment_of, plan, step, transaction_at}
-use Rattle.at_model.specs.World.{Node, Posted, Who, World, goes_down, lost_in, nth, put_nth, receiver_of, started, up_after, with_post}
-use Rattle.model_laws.specs.Agreement.{HasPosted, IsIn, Stands}
+use Rattle.at_model.specs.World.{Node, Posted, World, goes_down, lost_in, nth, put_nth, receiver_of, started, up_after, with_post}
+use Rattle.model_laws.specs.Agreement.{IsIn}
 use Rattle.model_laws.specs.Drawn.{with_entry}
 use Rattle.model_laws.specs.Grows.{Grows}
 use Rattle.model_laws.specs.Reached.{Reached, counts}
 use Rattle.model_laws.proofs.Holding.{Law, OutFine, holds}
-use Rattle.model_laws.proofs.Lasting.{grows_counts, grows_falls, grows_posts, grows_rises, grows_waits, takes_nothing_back}
+use Rattle.model_laws.proofs.Lasting.{grows_counts, grows_falls, grows_posts, grows_rises, grows_waits}
 use Rattle.model_laws.proofs.Living.{all_live}
 use Rattle.model_laws.proofs.Recovering.{self_id}
 use Rattle.model_laws.proofs.Running.{put_this}
@@ -43,7 +43,7 @@ use Rattle.agreement.specs.LeafDeeds.{LeafDeed, LeafIdles, aborts, commits, drop
 use Rattle.agreement.specs.Lives.{Life, book_of, has_aborted, has_committed, has_decided, has_voted, happened_on, is_gone, is_undecided, standing as standing_book, waits, works}
 use Rattle.agreement.proofs.SeatedEntries.{all_of, in_either, one_of}
 use Rattle.agreement.proofs.TransactionLives.{TransactionLife, aborted, committed, decided, undecided, voted}
-use Rattle.enlistments.specs.Moves.{IsReady, LeafDid, TransactionDid}
+use Rattle.enlistments.specs.Moves.{LeafDid, TransactionDid}
 use Rattle.enlistments.proofs.Answering.{steps_tell}
 use Rattle.enlistments.proofs.Moving.{steps_move}
 use Rattle.votes.specs.Voting.{HasVoted, PreparedIsRecorded, is_vote}

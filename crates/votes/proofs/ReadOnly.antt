@@ -1,6 +1,5 @@
 -- A durable participant that votes ReadOnly is gone without a trace, and stays so.
-use Rattle.std.specs.Prelude.{ℕ, List, [], ◌∷◌, ◌++◌, Option, Some, None, Bool, true, false, nat_eq, ◌+◌, map, ◌^◌, ◌≡◌, ◌⊎◌, ◌<◌, refl}
-use Rattle.std.specs.List.{AllByRecursion}
+use Rattle.std.specs.Prelude.{ℕ, List, [], ◌∷◌, ◌++◌, Option, Some, None, Bool, true, false, nat_eq, ◌+◌, ◌^◌, ◌≡◌, ◌⊎◌, ◌<◌, refl}
 use Rattle.std.proofs.Common.{inl, inr, sym, subst, ap, ◌∙◌}
 use Rattle.std.proofs.lemmas.Bool.{eqb-true, eqb-false}
 use Rattle.std.proofs.lemmas.List.{append-nil}
@@ -11,23 +10,20 @@ use Rattle.at_base.specs.declared.message.Message.TheVariants as messages
 use Rattle.at_base.specs.declared.target.Target.TheVariants as targets
 use Rattle.at_base.specs.declared.event.Event.{Event}
 use Rattle.at_base.specs.declared.outs.Effect.{Effect}
-use Rattle.at_base.specs.declared.outs.Out.{Out}
 use Rattle.at_base.specs.declared.outs.Post.{Post}
 use Rattle.at_base.specs.declared.record.Record.{Record}
-use Rattle.at_tables.specs.declared.cells.State.{State}
-use Rattle.at_tables.specs.declared.cells.State.TheVariants as states
-use Rattle.at_model.specs.Book.{Book, Enlistment, Leaf, Transaction, find_by, leaf_id, put_by, transaction_id}
+use Rattle.at_model.specs.Book.{Book, Enlistment, Leaf, Transaction, find_by, leaf_id, transaction_id}
 use Rattle.at_model.specs.Due.{may_expire}
 use Rattle.at_model.specs.Recover.{in_order, is_promise, last_incarnation, leaves_of, live, recover}
-use Rattle.at_model.specs.Step.{Outcome, leaf_at, moment_of, plan, step, transaction_at}
-use Rattle.at_model.specs.World.{Happened, Node, Posted, Who, World, goes_down, happened_at, lost_in, nth, put_nth, receiver_of, started, up_after, with_post}
-use Rattle.model_laws.specs.Agreement.{HasPosted, IsIn}
+use Rattle.at_model.specs.Step.{leaf_at, moment_of, plan, step, transaction_at}
+use Rattle.at_model.specs.World.{Happened, Node, Posted, Who, World, goes_down, lost_in, nth, put_nth, receiver_of, started, up_after, with_post}
+use Rattle.model_laws.specs.Agreement.{IsIn}
 use Rattle.model_laws.specs.Drawn.{restarted, with_entry}
 use Rattle.model_laws.specs.Laws.{IsDrawn}
 use Rattle.model_laws.specs.Order.{IsInOrder}
 use Rattle.model_laws.specs.Reached.{Reached, counts}
 use Rattle.model_laws.proofs.Deciding.{all_find, found_id}
-use Rattle.model_laws.proofs.Holding.{Law, OutFine, holds}
+use Rattle.model_laws.proofs.Holding.{Law, holds}
 use Rattle.model_laws.proofs.Living.{ids_stay_drawn}
 use Rattle.model_laws.proofs.Running.{put_other, put_this}
 use Rattle.agreement.specs.Deeds.{Becomes, How, StoodFor, happens}
@@ -48,7 +44,7 @@ use Rattle.enlistments.proofs.Answering.{steps_tell}
 use Rattle.enlistments.proofs.Moving.{steps_move}
 use Rattle.votes.specs.Voting.{LeftNoTrace, ReadOnlyIsGone}
 use Rattle.votes.proofs.Away.{IsAway, keeps_id, leaf_keeps_id, stays_away}
-use Rattle.votes.proofs.Ended.{IsOpen, is_open}
+use Rattle.votes.proofs.Ended.{is_open}
 use Rattle.votes.proofs.Living.{gone_down, lost_here, on_join, step_here, step_there, world_laws}
 use Rattle.votes.proofs.Prepared.{all_outs}
 use Rattle.votes.proofs.Premises.{WorldLaws}

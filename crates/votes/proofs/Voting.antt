@@ -1,6 +1,6 @@
 -- Who posts a durable participant's vote: a subordinate on its link, or a leaf.
-use Rattle.std.specs.Prelude.{ℕ, List, [], Option, Some, None, ◌≡◌, ◌⊎◌, refl}
-use Rattle.std.proofs.Common.{inl, inr, sym, subst, ap, ◌∙◌}
+use Rattle.std.specs.Prelude.{ℕ, [], Option, Some, None, ◌≡◌, ◌⊎◌}
+use Rattle.std.proofs.Common.{inl, inr, sym, subst, ap}
 use Rattle.at_base.specs.Numbers.{Numbers}
 use Rattle.at_base.specs.declared.notice.Kind.{Kind}
 use Rattle.at_base.specs.declared.notice.Kind.TheVariants as kinds
@@ -16,7 +16,6 @@ use Rattle.at_base.specs.declared.record.Record.{Record}
 use Rattle.at_tables.specs.declared.cells.State.TheVariants as states
 use Rattle.at_model.specs.Book.{Activity, Book, Leaf}
 use Rattle.at_model.specs.Moves.{Change}
-use Rattle.at_model.specs.Posts.{notice_post}
 use Rattle.at_model.specs.Seats.{seat_target}
 use Rattle.at_model.specs.Step.{Outcome, moment_of}
 use Rattle.agreement.specs.ActivityDeeds.{ActivitySays, completing, tells_nothing as activity_tells_nothing}
