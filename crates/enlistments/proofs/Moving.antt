@@ -84,7 +84,7 @@ decision_signed b e now t d (at_seat a s came here is) T h =
     subst (λ S. Signs (moment_of b now) e t S d) same (subst (Signs (moment_of b now) e t (seat_target t.id s)) (sym is) (seat_signed (moment_of b now) e a t s a.message))
 decision_signed b e now t d (at_link a kind s came target under is) T h =
     subst (λ S. Signs (moment_of b now) e t S d) (sym target ∙ h a came)
-    (subst (Signs (moment_of b now) e t (targets.Participant t.id kind)) (sym is) (link_signed (moment_of b now) e a kind t s a.message came target under))
+    (subst (Signs (moment_of b now) e t (targets.Participant t.id kind)) (sym is) (link_signed (moment_of b now) e a kind t s a.message came target refl under))
 decision_signed b e now t d (at_completion a c came target there is) T h =
     subst (Signs (moment_of b now) e t T) (sym is) (completion_signed (moment_of b now) e T a t c a.message)
 decision_signed b e now t d (when_due came is) T h =

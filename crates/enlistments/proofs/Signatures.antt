@@ -30,7 +30,7 @@ use Rattle.model_laws.proofs.Telling.{Anything}
 use Rattle.agreement.specs.Deeds.{coordinator_at}
 use Rattle.agreement.proofs.Posted.{if_none, to_each_all}
 use Rattle.agreement.proofs.SeatedEntries.{all_of}
-use Rattle.enlistments.specs.Moves.{IsUpwards, Signed}
+use Rattle.enlistments.specs.Moves.{IsNotified, IsUpwards, Signed}
 
 abbrev pub AllSigned : Moment → Event → Transaction → Target → List Post → Type 0
 AllSigned m e t T ps = AllByRecursion (Signed m.base e t T) ps
@@ -74,7 +74,7 @@ known_or_from (Some x) from to h = inl h
 
 -- the From that an abort answers to is that of the message that came
 abbrev pub CameOn : Event → Transaction → Kind → Option Epr → Type 0
-CameOn e t kind from = (a : Arrived) × (e ≡ events.Arrived a) × (a.target ≡ targets.Participant t.id kind) × (from ≡ a.from)
+CameOn e t kind from = (a : Arrived) × (e ≡ events.Arrived a) × (a.target ≡ targets.Participant t.id kind) × (from ≡ a.from) × IsNotified a.message
 
 abbrev pub IsReason : Event → Transaction → Reason → Type 0
 IsReason e t Alone = Unit {0}
@@ -84,10 +84,10 @@ IsReason e t (Faulted kind) = Unit {0}
 reason_from : (e : Event) (t : Transaction) (reason : Reason) (kind : Kind) (to : Epr) → IsReason e t reason → from_of reason kind ≡ Some to → CameOn e t kind (Some to)
 reason_from e t Alone kind to h f = absurd cc
 reason_from e t (Faulted k) kind to h f = absurd cc
-reason_from e t (Asked k from) kind to (a, came, target, is) f = by_kind (is_kind k kind) refl f
+reason_from e t (Asked k from) kind to (a, came, target, is, said) f = by_kind (is_kind k kind) refl f
   where
     by_kind : (b : Bool) → is_kind k kind ≡ b → (if b then from else None) ≡ Some to → CameOn e t kind (Some to)
-    by_kind true g f = (a, came, target ∙ ap (targets.Participant t.id) (same_kind k kind g), sym f ∙ is)
+    by_kind true g f = (a, came, target ∙ ap (targets.Participant t.id) (same_kind k kind g), sym f ∙ is, said)
     by_kind false g f = absurd cc
 
 link_aborted_signed : (m : Moment) (e : Event) (t : Transaction) (T : Target) (id : Numbers) (reason : Reason) (kind : Kind) (link : Link) → IsReason e t reason

@@ -37,7 +37,7 @@ use Rattle.model_laws.proofs.Telling.{Anything}
 use Rattle.agreement.specs.Deeds.{coordinator_at}
 use Rattle.agreement.proofs.Doing.{above_in}
 use Rattle.agreement.proofs.Posted.{to_each_all}
-use Rattle.enlistments.specs.Moves.{IsUpwards, Signed}
+use Rattle.enlistments.specs.Moves.{IsNotified, IsUpwards, Signed}
 use Rattle.enlistments.proofs.Signatures.{AllSigned, Signs, abort_signed, advance_signed, begun, either, go_volatile_signed, known_or_from, seats_signed, upwards_signed}
 
 -- at a seat
@@ -81,14 +81,14 @@ seat_signed m e a t s other = tt
 
 -- on a link
 stored_signed : (m : Moment) (e : Event) (t : Transaction) (kind : Kind) (a : Arrived) (n : Notice) (known : Option Epr) → e ≡ events.Arrived a → a.target ≡ targets.Participant t.id kind
-    → known ≡ coordinator_at kind t.superior
+    → IsNotified a.message → known ≡ coordinator_at kind t.superior
     → AllSigned m e t (targets.Participant t.id kind) (to_each (stored_or known a.from) (λ to. stranger_post m.base (targets.Participant t.id kind) to n))
-stored_signed m e t kind a n known came target h =
+stored_signed m e t kind a n known came target said h =
     to_each_all (Signed m.base e t (targets.Participant t.id kind)) (stored_or known a.from) _ (λ to f. record { from = refl; goes = (refl, out to (known_or_from known a.from to f)) })
   where
     out : (to : Epr) → (known ≡ Some to) ⊎ (a.from ≡ Some to) → IsUpwards e t kind (Some to)
     out to (inl g) = inl (sym g ∙ h)
-    out to (inr g) = inr (a, came, target, sym g)
+    out to (inr g) = inr (a, came, target, sym g, said)
 
 faults_signed : (m : Moment) (e : Event) (t : Transaction) (T : Target) (to : Option Epr) (id : Option (List ℕ)) (name : List ℕ)
     → AllSigned m e t T (to_each to (λ x. fault_post (Some x) id name))
@@ -99,49 +99,49 @@ asked_above kinds.Volatile own s = above_in kinds.Volatile own states.Preparing 
 asked_above kinds.Durable own s =
     above_in kinds.Volatile own states.None (link_in kinds.Durable states.Preparing s) ∙ above_in kinds.Durable own states.Preparing s
 
-link_act_signed : (m : Moment) (e : Event) (a : Arrived) (kind : Kind) (s : Superior) (t : Transaction) (act : Act) → e ≡ events.Arrived a → a.target ≡ targets.Participant t.id kind → t.superior ≡ Some s
+link_act_signed : (m : Moment) (e : Event) (a : Arrived) (kind : Kind) (s : Superior) (t : Transaction) (act : Act) → e ≡ events.Arrived a → a.target ≡ targets.Participant t.id kind → IsNotified a.message → t.superior ≡ Some s
     → Signs m e t (targets.Participant t.id kind) (link_act m a.from a.id kind s t act)
 unfolding link_act commit_voted
-link_act_signed m e a kind s t acts.SendPrepared came at u =
+link_act_signed m e a kind s t acts.SendPrepared came at said u =
     upwards_signed m e t (targets.Participant t.id kind) t.id kind notices.Prepared (link_of kind s) (sym (ap (coordinator_at kind) u))
-link_act_signed m e a kind s t acts.SendCommitted came at u = stored_signed m e t kind a notices.Committed (link_of kind s).coordinator came at (sym (ap (coordinator_at kind) u))
-link_act_signed m e a kind s t acts.SendAborted came at u = stored_signed m e t kind a notices.Aborted (link_of kind s).coordinator came at (sym (ap (coordinator_at kind) u))
-link_act_signed m e a kind s t acts.FaultInvalidState came at u =
+link_act_signed m e a kind s t acts.SendCommitted came at said u = stored_signed m e t kind a notices.Committed (link_of kind s).coordinator came at said (sym (ap (coordinator_at kind) u))
+link_act_signed m e a kind s t acts.SendAborted came at said u = stored_signed m e t kind a notices.Aborted (link_of kind s).coordinator came at said (sym (ap (coordinator_at kind) u))
+link_act_signed m e a kind s t acts.FaultInvalidState came at said u =
     faults_signed m e t (targets.Participant t.id kind) (stored_or (link_of kind s).coordinator a.from) a.id invalid_state
-link_act_signed m e a kind s t acts.FaultInvalidStateAndAbort came at u =
+link_act_signed m e a kind s t acts.FaultInvalidStateAndAbort came at said u =
     abort_signed m e t (targets.Participant t.id kind) (Faulted kind) _ tt
     (record { above = λ k. refl; sent = faults_signed m e t (targets.Participant t.id kind) (stored_or (link_of kind s).coordinator a.from) a.id invalid_state })
-link_act_signed m e a kind s t acts.Gather came at u =
+link_act_signed m e a kind s t acts.Gather came at said u =
     go_volatile_signed m e t (targets.Participant t.id kind) (begin (under (asked kind s) t))
     (begun m e t (under (asked kind s) t) (targets.Participant t.id kind) (λ own. asked_above kind own s ∙ sym (ap (coordinator_at own) u)))
-link_act_signed m e a kind s t acts.Commit came at u = record {
+link_act_signed m e a kind s t acts.Commit came at said u = record {
   entry = tt;
   landed = seats_signed m e t (targets.Participant t.id kind) t.id notices.Commit t.seats (in_state states.Prepared);
   otherwise = tt;
 }
-link_act_signed m e a kind s t acts.AbortAndSendAborted came at u =
-    abort_signed m e t (targets.Participant t.id kind) (Asked kind a.from) (begin t) (a, came, at, refl) (begun m e t t (targets.Participant t.id kind) (λ own. refl))
-link_act_signed m e a kind s t acts.RecordAndSendAborted came at u = record {
+link_act_signed m e a kind s t acts.AbortAndSendAborted came at said u =
+    abort_signed m e t (targets.Participant t.id kind) (Asked kind a.from) (begin t) (a, came, at, refl, said) (begun m e t t (targets.Participant t.id kind) (λ own. refl))
+link_act_signed m e a kind s t acts.RecordAndSendAborted came at said u = record {
   entry = tt;
-  landed = abort_signed m e t (targets.Participant t.id kind) (Asked kind a.from) (begin t) (a, came, at, refl) (begun m e t t (targets.Participant t.id kind) (λ own. refl));
+  landed = abort_signed m e t (targets.Participant t.id kind) (Asked kind a.from) (begin t) (a, came, at, refl, said) (begun m e t t (targets.Participant t.id kind) (λ own. refl));
   otherwise = tt;
 }
-link_act_signed m e a kind s t acts.Ignore came at u = tt
-link_act_signed m e a kind s t acts.SendCommit came at u = tt
-link_act_signed m e a kind s t acts.SendRollback came at u = tt
-link_act_signed m e a kind s t acts.FaultUnknownTransaction came at u = tt
-link_act_signed m e a kind s t acts.Leave came at u = tt
-link_act_signed m e a kind s t acts.LeaveAndAbort came at u = tt
-link_act_signed m e a kind s t acts.Vote came at u = tt
-link_act_signed m e a kind s t acts.Complete came at u = tt
-link_act_signed m e a kind s t acts.TellCommitted came at u = tt
-link_act_signed m e a kind s t acts.TellAborted came at u = tt
+link_act_signed m e a kind s t acts.Ignore came at said u = tt
+link_act_signed m e a kind s t acts.SendCommit came at said u = tt
+link_act_signed m e a kind s t acts.SendRollback came at said u = tt
+link_act_signed m e a kind s t acts.FaultUnknownTransaction came at said u = tt
+link_act_signed m e a kind s t acts.Leave came at said u = tt
+link_act_signed m e a kind s t acts.LeaveAndAbort came at said u = tt
+link_act_signed m e a kind s t acts.Vote came at said u = tt
+link_act_signed m e a kind s t acts.Complete came at said u = tt
+link_act_signed m e a kind s t acts.TellCommitted came at said u = tt
+link_act_signed m e a kind s t acts.TellAborted came at said u = tt
 
-link_notice_signed : (m : Moment) (e : Event) (a : Arrived) (kind : Kind) (s : Superior) (t : Transaction) (c : Option Cell) → e ≡ events.Arrived a → a.target ≡ targets.Participant t.id kind → t.superior ≡ Some s
+link_notice_signed : (m : Moment) (e : Event) (a : Arrived) (kind : Kind) (s : Superior) (t : Transaction) (c : Option Cell) → e ≡ events.Arrived a → a.target ≡ targets.Participant t.id kind → IsNotified a.message → t.superior ≡ Some s
     → Signs m e t (targets.Participant t.id kind) (link_notice m a.from a.id kind s t c)
 unfolding link_notice
-link_notice_signed m e a kind s t None came at u = tt
-link_notice_signed m e a kind s t (Some c) came at u = link_act_signed m e a kind s t c.act came at u
+link_notice_signed m e a kind s t None came at said u = tt
+link_notice_signed m e a kind s t (Some c) came at said u = link_act_signed m e a kind s t c.act came at said u
 
 registered_signed : (m : Moment) (e : Event) (t : Transaction) (T : Target) (relates : Option (List ℕ)) (coordinator : Epr) (kind : Kind) (s : Superior)
     → Signs m e t T (link_registered m relates coordinator kind s t)
@@ -155,13 +155,13 @@ fault_signed m e t T relates kind s =
     either m e t T (is_state (link_of kind s).state states.Registering && relates_to relates (register_id m.base (targets.Participant t.id kind))) _ (ignored t)
     (abort_signed m e t T Alone (begin t) tt (begun m e t t T (λ own. refl))) tt
 
-pub link_signed : (m : Moment) (e : Event) (a : Arrived) (kind : Kind) (t : Transaction) (s : Superior) (x : Message) → e ≡ events.Arrived a → a.target ≡ targets.Participant t.id kind → t.superior ≡ Some s
+pub link_signed : (m : Moment) (e : Event) (a : Arrived) (kind : Kind) (t : Transaction) (s : Superior) (x : Message) → e ≡ events.Arrived a → a.target ≡ targets.Participant t.id kind → a.message ≡ x → t.superior ≡ Some s
     → Signs m e t (targets.Participant t.id kind) (on_link m a kind t s x)
 unfolding on_link
-link_signed m e a kind t s (messages.Notice n) came at u = link_notice_signed m e a kind s t (participant_of kind (link_of kind s).state n) came at u
-link_signed m e a kind t s (messages.RegisterResponse coordinator) came at u = registered_signed m e t (targets.Participant t.id kind) a.relates coordinator kind s
-link_signed m e a kind t s (messages.Fault name) came at u = fault_signed m e t (targets.Participant t.id kind) a.relates kind s
-link_signed m e a kind t s other came at u = tt
+link_signed m e a kind t s (messages.Notice n) came at says u = link_notice_signed m e a kind s t (participant_of kind (link_of kind s).state n) came at (n, says) u
+link_signed m e a kind t s (messages.RegisterResponse coordinator) came at says u = registered_signed m e t (targets.Participant t.id kind) a.relates coordinator kind s
+link_signed m e a kind t s (messages.Fault name) came at says u = fault_signed m e t (targets.Participant t.id kind) a.relates kind s
+link_signed m e a kind t s other came at says u = tt
 
 -- at the completion seat
 completion_act_signed : (m : Moment) (e : Event) (T : Target) (from : Option Epr) (id : Option (List ℕ)) (c : Completion) (t : Transaction) (act : Act)

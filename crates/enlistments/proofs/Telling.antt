@@ -68,7 +68,7 @@ goes_out base e t T own to n v p z k = subst (λ o. GoesOut e t n T o (Some to))
 
 known_or_asked : (e : Event) (t : Transaction) (kind : Kind) (to : Epr) → IsUpwards e t kind (Some to) → IsKnownOrAsked e kind t to
 known_or_asked e t kind to (inl h) = inl (sym h)
-known_or_asked e t kind to (inr (a, came, target, h)) = inr (a, came, target, sym h)
+known_or_asked e t kind to (inr (a, came, target, h, said)) = inr (a, came, target, sym h, said)
 
 -- from a link that has left
 left_aborted : (b : Book) (e : Event) (now : ℕ) (entry : Option Record) (o : Outcome) (d : TransactionDid b e now entry o) (T S : Target) (n v : Notice) (to : Epr) (p : Post)

@@ -59,10 +59,14 @@ abbrev pub signer : Target → Option Target → Target
 signer T None = T
 signer T (Some own) = own
 
--- to the coordinator that the link knows, or to the From of the superior's message that came on it
+-- a notification came
+abbrev pub IsNotified : Message → Type 0
+IsNotified m = (n : Notice) × (m ≡ messages.Notice n)
+
+-- to the coordinator that the link knows, or to the From of the superior's notification that came on it
 abbrev pub IsUpwards : Event → Transaction → Kind → Option Epr → Type 0
 IsUpwards e t kind to =
-    (to ≡ coordinator_at kind t.superior) ⊎ ((a : Arrived) × (e ≡ events.Arrived a) × (a.target ≡ targets.Participant t.id kind) × (to ≡ a.from))
+    (to ≡ coordinator_at kind t.superior) ⊎ ((a : Arrived) × (e ≡ events.Arrived a) × (a.target ≡ targets.Participant t.id kind) × (to ≡ a.from) × IsNotified a.message)
 
 -- what goes out from where nothing is waited for
 abbrev pub Replies : Event → Transaction → Notice → Target → Option Epr → Type 0

@@ -33,7 +33,7 @@ use Rattle.agreement.specs.ActivityDeeds.{ActivitySays}
 use Rattle.agreement.specs.Deeds.{InitiatorAsked, IsAbort, ParticipantSaid, SuperiorSaid, WhyInitiator, WhySeat, WhySuperior, coordinator_at, initiator}
 use Rattle.agreement.specs.Done.{standing}
 use Rattle.agreement.specs.LeafDeeds.{LeafSays}
-use Rattle.enlistments.specs.Moves.{ActivityDid, Answered, IsReady, LeafDid, Registered, TransactionDid}
+use Rattle.enlistments.specs.Moves.{ActivityDid, Answered, IsNotified, IsReady, LeafDid, Registered, TransactionDid}
 
 -- a notification that this sender posts to this endpoint
 pub record IsFrom (base : List ℕ) (own : Target) (to : Epr) (n : Notice) (p : Post) : Type 0 where
@@ -47,9 +47,9 @@ pub record IsAnswerFrom (base : List ℕ) (own : Target) (to : Epr) (n : Notice)
   pub sent : p.to ≡ Some to
   pub from : p.from ≡ from_on n (endpoint_of base own)
 
--- to the coordinator that the link knows, or to the From of the superior's message
+-- to the coordinator that the link knows, or to the From of the superior's notification
 abbrev pub IsKnownOrAsked : Event → Kind → Transaction → Epr → Type 0
-IsKnownOrAsked e kind t to = (coordinator_at kind t.superior ≡ Some to) ⊎ ((a : Arrived) × (e ≡ events.Arrived a) × (a.target ≡ targets.Participant t.id kind) × (a.from ≡ Some to))
+IsKnownOrAsked e kind t to = (coordinator_at kind t.superior ≡ Some to) ⊎ ((a : Arrived) × (e ≡ events.Arrived a) × (a.target ≡ targets.Participant t.id kind) × (a.from ≡ Some to) × IsNotified a.message)
 
 -- what is answered where no such participant is known: abort is presumed, and who asks to commit has heard that it voted
 -- Prepared (WS-AtomicTransaction 1.2, section 3.3.4)
