@@ -1,13 +1,8 @@
 //! Agreement.
 
-ghost use Rattle.outcomes.specs.Try.{TryWhole, TryOnce};
+ghost use Rattle.outcomes.specs.Founded.{OutcomesAreFounded};
 
-#[tactic(auto, using(crate::proofs::Depth::whole))]
-pub fn try_whole()
-    ensures { TryWhole }
-{}
-
-#[tactic(auto, using(crate::proofs::Once::once, crate::proofs::Once::never_both))]
-pub fn try_once()
-    ensures { TryOnce }
+#[tactic(auto, using(crate::proofs::Telling::committed_heard, crate::proofs::Telling::aborted_heard))]
+pub fn outcomes_are_founded()
+    ensures { OutcomesAreFounded }
 {}

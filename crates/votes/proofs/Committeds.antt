@@ -156,7 +156,7 @@ same_arrival a c e f g = let h : events.Arrived a ≡ events.Arrived c = sym f �
 pub known_or_asked : (count : ℕ) (u : World) (n : ℕ) (x : Node) (b : Book) (e : Event) → StepPremises count u n x b e → (t : Transaction) → transaction_at b t.id ≡ Some t → (kind : Kind) (up : Epr) (v : Notice)
     → IsAsked v → SuperiorSaid kind v e t → IsKnownOrAsked e kind t up → Enlists count u up (record { node = n; id = t.id }) kind
 known_or_asked count u n x b e p t found kind up v asked said (inl known) = link_enlists count u n x b e p t found kind up known
-known_or_asked count u n x b e p t found kind up v asked said (inr (a, came, target, from)) =
+known_or_asked count u n x b e p t found kind up v asked said (inr (a, came, target, from, notified)) =
     asker_enlists count u n x b e p a came t.id kind target v asked (ap (λ (c : Arrived). c.message) (same_arrival a said.message e came said.came) ∙ said.says) up from
 
 -- whose endpoint leads to no coordinator's seat
