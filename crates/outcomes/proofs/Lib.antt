@@ -5,3 +5,5 @@ pub mod Once
 pub mod Decisions
 pub mod Telling
 pub mod Upwards
+pub mod Founding
+pub mod Founded

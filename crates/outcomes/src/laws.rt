@@ -2,7 +2,7 @@
 
 ghost use Rattle.outcomes.specs.Founded.{OutcomesAreFounded};
 
-#[tactic(auto, using(crate::proofs::Telling::committed_heard, crate::proofs::Telling::aborted_heard))]
+#[tactic(auto, using(crate::proofs::Founded::all_founded))]
 pub fn outcomes_are_founded()
     ensures { OutcomesAreFounded }
 {}
