@@ -1,20 +1,19 @@
 -- What holds of the items of a book, and of a node's records, behind a step.
-use Rattle.std.specs.Prelude.{ℕ, List, [], ◌∷◌, ◌++◌, Option, Some, None, Bool, true, false, not, ◌≡◌, ◌⊎◌, refl}
+use Rattle.std.specs.Prelude.{ℕ, List, [], ◌∷◌, Option, Some, None, Bool, true, false, not, ◌≡◌, ◌⊎◌, refl}
 use Rattle.std.specs.List.{AllByRecursion}
 use Rattle.std.proofs.Common.{inl, inr, sym, subst, ap, ◌∙◌}
 use Rattle.at_base.specs.Numbers.{Numbers}
 use Rattle.at_base.specs.declared.event.Event.{Event}
 use Rattle.at_base.specs.declared.event.Moment.{Moment}
-use Rattle.at_base.specs.declared.outs.Out.{Out}
 use Rattle.at_base.specs.declared.record.Record.{Record}
 use Rattle.at_model.specs.Book.{Activity, Book, Leaf, Transaction, activity_id, leaf_id, put_by, transaction_id}
 use Rattle.at_model.specs.Moves.{Change}
-use Rattle.at_model.specs.Step.{Outcome, at_time, moment_of, is_under, make_activity, make_leaf, make_transaction, put_activities, registration_outcome}
+use Rattle.at_model.specs.Step.{Outcome, at_time, moment_of, is_under, put_activities}
 use Rattle.model_laws.specs.Drawn.{with_entry}
 use Rattle.model_laws.proofs.Deciding.{IfThere, all_filter, all_join, all_put}
 use Rattle.agreement.specs.ActivityDeeds.{ActivityDeed, idles, tells}
 use Rattle.agreement.specs.Done.{standing}
-use Rattle.enlistments.specs.Moves.{ActivityDid, ActivityMade, Answered, LeafDid, LeafMade, Moved, Registered, Rested, TransactionDid, TransactionMade, activity_did, activity_made, answered, leaf_did, leaf_made, registered, rested, transaction_did, transaction_made}
+use Rattle.enlistments.specs.Moves.{ActivityDid, ActivityMade, LeafDid, LeafMade, Moved, Registered, TransactionDid, TransactionMade, activity_did, activity_made, answered, leaf_did, leaf_made, registered, rested, transaction_did, transaction_made}
 
 same_list : {A : Type 0} (P : A → Type 0) (xs ys : List A) → ys ≡ xs → AllByRecursion P xs → AllByRecursion P ys
 same_list P xs ys e h = subst (AllByRecursion P) (sym e) h

@@ -1,5 +1,5 @@
 -- Why a registration and an answer post what they post, and what is posted by what is made; so of each step.
-use Rattle.std.specs.Prelude.{ℕ, List, [], ◌∷◌, ◌++◌, Option, Some, None, Bool, true, false, nat_lt, ◌&&◌, if◌then◌else◌, bytes_eq, length, map, ◌≡◌, ◌⊎◌, refl}
+use Rattle.std.specs.Prelude.{ℕ, List, [], ◌∷◌, ◌++◌, Option, Some, None, Bool, true, false, nat_lt, ◌&&◌, if◌then◌else◌, bytes_eq, length, map, ◌≡◌, refl}
 use Rattle.std.specs.List.{AllByRecursion}
 use Rattle.std.proofs.Common.{inl, inr, sym, subst, ap, ◌∙◌}
 use Rattle.at_base.specs.Numbers.{Numbers}
@@ -30,10 +30,10 @@ use Rattle.at_tables.specs.Tables.{completion_of}
 use Rattle.at_tables.specs.declared.cells.State.TheVariants as states
 use Rattle.at_model.specs.Activities.{on_begin, on_interpose}
 use Rattle.at_model.specs.Addresses.{atomic}
-use Rattle.at_model.specs.Book.{Activity, Book, Completion, Enlistment}
+use Rattle.at_model.specs.Book.{Activity, Book, Enlistment}
 use Rattle.at_model.specs.Create.{create_in, create_under, on_create, refuse_create}
 use Rattle.at_model.specs.Leaves.{on_work, refuse_work, work_for}
-use Rattle.at_model.specs.Posts.{accepted, faulted, notice_post, replied, reply_post, stranger_post, to_each, unknown_transaction, invalid_state}
+use Rattle.at_model.specs.Posts.{accepted, faulted, notice_post, replied, reply_post}
 use Rattle.at_model.specs.Register.{completion_endpoint, is_late, late_prepare, new_seat, protocol_named, register_unknown, registered_reply, seat_endpoint}
 use Rattle.at_model.specs.Seats.{seat_target}
 use Rattle.at_model.specs.Step.{Outcome, has_committed, moment_of, outcome_cell, plan, step, stranger_cell}

@@ -1,17 +1,13 @@
 -- A RegisterResponse names the seat, or the completion seat, at which who gets it was accepted.
-use Rattle.std.specs.Prelude.{ℕ, List, Option, Some, None, Bool, ◌^◌, ◌≡◌, ◌<◌, refl}
+use Rattle.std.specs.Prelude.{ℕ, Some, Bool, ◌^◌, ◌≡◌, ◌<◌, refl}
 use Rattle.std.specs.List.{AllByRecursion}
 use Rattle.std.proofs.Common.{sym, subst, ap, ◌∙◌}
-use Rattle.at_base.specs.Numbers.{Numbers}
 use Rattle.at_base.specs.declared.epr.Epr.{Epr}
-use Rattle.at_base.specs.declared.epr.Reply.{Reply}
 use Rattle.at_base.specs.declared.epr.Reply.TheVariants as replies
-use Rattle.at_base.specs.declared.message.Message.TheVariants as messages
 use Rattle.at_base.specs.declared.message.Register.{Register}
 use Rattle.at_base.specs.declared.event.Arrived.{Arrived}
 use Rattle.at_base.specs.declared.event.Event.{Event}
 use Rattle.at_base.specs.declared.event.Moment.{Moment}
-use Rattle.at_base.specs.declared.outs.Out.TheVariants as outs
 use Rattle.at_base.specs.declared.outs.Post.{Post}
 use Rattle.at_base.specs.declared.target.Target.{Target}
 use Rattle.at_base.specs.declared.target.Target.TheVariants as targets
@@ -20,7 +16,7 @@ use Rattle.at_model.specs.Book.{Book, Transaction, find_by, transaction_id}
 use Rattle.at_model.specs.Register.{Registration}
 use Rattle.at_model.specs.Seats.{seat_target}
 use Rattle.at_model.specs.Step.{Outcome, moment_of, plan, step}
-use Rattle.at_model.specs.World.{Node, Posted, Who, World, base_of, new_nodes, nth, place_of}
+use Rattle.at_model.specs.World.{Node, Posted, World, base_of}
 use Rattle.model_laws.specs.Agreement.{IsIn}
 use Rattle.model_laws.specs.Drawn.{with_entry}
 use Rattle.model_laws.specs.Grows.{Grows}
@@ -105,7 +101,7 @@ response_names count u n x b e now landed s p to c m T goes leads (names_complet
     (completion_completes count w n d.gives.transaction y m i (held_after count u n x b e now landed s d) there led))
 
 -- it names it for good
-names_on : (count : ℕ) (u w : World) → Grows u w → (c : Epr) (m : ℕ) (T : Target) → NamesSeatOf count u c m T → NamesSeatOf count w c m T
+pub names_on : (count : ℕ) (u w : World) → Grows u w → (c : Epr) (m : ℕ) (T : Target) → NamesSeatOf count u c m T → NamesSeatOf count w c m T
 names_on count u w g c m (targets.Participant i kind) h = enlists_on count u w g c (record { node = m; id = i }) kind h
 names_on count u w g c m (targets.Initiator i) h = completes_on count u w g c (record { node = m; id = i }) h
 names_on count u w g c m targets.Activation h = tt

@@ -1,7 +1,7 @@
 -- A message that arrives was posted, and came to where its address leads.
-use Rattle.std.specs.Prelude.{ℕ, List, [], ◌∷◌, ◌++◌, Option, Some, None, Bool, true, false, nat_eq, ◌+◌, ◌-◌, ◌^◌, if◌then◌else◌, zero, suc, length, map, option_map, option_and_then, ◌≡◌, ◌≤◌, ◌<◌, refl}
+use Rattle.std.specs.Prelude.{ℕ, List, [], ◌∷◌, ◌++◌, Option, Some, None, Bool, true, false, nat_eq, ◌+◌, ◌-◌, ◌^◌, if◌then◌else◌, zero, suc, length, option_map, option_and_then, ◌≡◌, ◌≤◌, ◌<◌, refl}
 use Rattle.std.specs.List.{AllByRecursion}
-use Rattle.std.proofs.Common.{inl, inr, sym, subst, ap, arith, ◌∙◌}
+use Rattle.std.proofs.Common.{sym, subst, ap, arith, ◌∙◌}
 use Rattle.std.proofs.lemmas.Bool.{eqb-true}
 use Rattle.at_base.specs.declared.epr.Epr.{Epr}
 use Rattle.at_base.specs.declared.event.Arrived.{Arrived}
@@ -14,14 +14,14 @@ use Rattle.at_base.specs.declared.target.Target.{Target}
 use Rattle.at_model.specs.Book.{Book}
 use Rattle.at_model.specs.Recover.{last_incarnation}
 use Rattle.at_model.specs.Step.{plan, step}
-use Rattle.at_model.specs.World.{Node, Posted, World, arrival_of, base_of, decoded, decoded_at, goes_down, lost_in, new_node, new_nodes, nth, opening, place_of, put_book, put_nth, receiver_of, reply_of, started, takes, target_at, up_after, with_post}
+use Rattle.at_model.specs.World.{Node, Posted, World, arrival_of, base_of, decoded, decoded_at, lost_in, new_nodes, nth, place_of, put_book, put_nth, receiver_of, reply_of, started, takes, target_at, up_after}
 use Rattle.model_laws.specs.Agreement.{IsIn}
 use Rattle.model_laws.specs.Drawn.{with_entry}
 use Rattle.model_laws.specs.Reached.{Heard, Reached, counts, stepped}
-use Rattle.model_laws.proofs.Deciding.{all_join, all_more}
-use Rattle.model_laws.proofs.Enrolled.{IsKnown, IsUp, WorldGood, world_good}
+use Rattle.model_laws.proofs.Deciding.{all_join}
+use Rattle.model_laws.proofs.Enrolled.{IsKnown, IsUp, world_good}
 use Rattle.model_laws.proofs.Holding.{Law, OutFine, holds}
-use Rattle.model_laws.proofs.Naming.{HaveBases, IsPlace, place_is}
+use Rattle.model_laws.proofs.Naming.{HaveBases, place_is}
 use Rattle.model_laws.proofs.Nodes.{bases_put, each_put, receiver_same, same_bases}
 use Rattle.model_laws.proofs.Running.{opening_node}
 use Rattle.agreement.specs.Places.{HasPath}
@@ -102,9 +102,9 @@ routing count = record {
   Fine = λ w g n p. Unit {0};
   opens = record { bases = same_bases (new_nodes count 1); routed = tt; named = λ n x found. ap (λ (y : Node). y.base) (opening_node count n x found) };
   steps = λ u n x b e now landed reached found up heard g. (
-      put_routed count u (counts u n x b e now landed) n x (record x { book = Some (step b e now landed).book; journal = with_entry (plan b e now).entry landed x.journal }) found refl refl refl g,
-      out_unit (step b e now landed).outs,
-    );
+    put_routed count u (counts u n x b e now landed) n x (record x { book = Some (step b e now landed).book; journal = with_entry (plan b e now).entry landed x.journal }) found refl refl refl g,
+    out_unit (step b e now landed).outs,
+  );
   posts = λ w g n p f. record {
     bases = g.bases;
     routed = all_join (λ q. q.receiver ≡ receiver_of (new_nodes count 1) q.content.to) w.posted _ g.routed (receiver_same w.nodes (new_nodes count 1) p.to g.bases, tt);

@@ -1,8 +1,7 @@
 -- A Register gives a seat, names one that there is, or is refused.
-use Rattle.std.specs.Prelude.{ℕ, List, Option, Some, None, Bool, true, false, not, ◌&&◌, if◌then◌else◌, bytes_eq, find, option_map, ◌≡◌, refl}
-use Rattle.std.proofs.Common.{sym, ap, ◌∙◌}
+use Rattle.std.specs.Prelude.{Option, Some, None, Bool, true, false, not, ◌&&◌, if◌then◌else◌, bytes_eq, find, option_map, ◌≡◌, refl}
+use Rattle.std.proofs.Common.{sym}
 use Rattle.std.proofs.lemmas.Slice.Eq.{bytes_eq-Decides}
-use Rattle.at_base.specs.Numbers.{Numbers}
 use Rattle.at_base.specs.declared.epr.Epr.{Epr}
 use Rattle.at_base.specs.declared.notice.Kind.{Kind}
 use Rattle.at_base.specs.declared.message.Register.{Register}
@@ -11,8 +10,7 @@ use Rattle.at_base.specs.declared.event.Moment.{Moment}
 use Rattle.at_tables.specs.Names.{is_kind}
 use Rattle.at_model.specs.Book.{Completion, Enlistment, Transaction, is_epr}
 use Rattle.at_model.specs.Posts.{cannot_register, invalid_parameters, invalid_protocol}
-use Rattle.at_model.specs.Register.{Registration, accept, completion_endpoint, held_seat, may_register, on_register, protocol_named, refuse_register, register_again, register_new, registered_reply, seat_endpoint, seat_for}
-use Rattle.model_laws.specs.Agreement.{IsIn}
+use Rattle.at_model.specs.Register.{accept, completion_endpoint, held_seat, may_register, on_register, protocol_named, register_again, register_new, registered_reply, seat_endpoint, seat_for}
 use Rattle.model_laws.proofs.Deciding.{either_of, same_kind}
 use Rattle.enlistments.specs.Enrolling.{Enrolls, has_completion, has_seat, refuses, takes_completion, takes_seat}
 use Rattle.enlistments.proofs.Finding.{both_true, found_by}

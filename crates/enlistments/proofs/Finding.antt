@@ -1,5 +1,5 @@
 -- What a search finds.
-use Rattle.std.specs.Prelude.{ℕ, List, [], ◌∷◌, Option, Some, None, Bool, true, false, nat_eq, if◌then◌else◌, ◌&&◌, find, ◌≡◌, refl}
+use Rattle.std.specs.Prelude.{ℕ, List, [], ◌∷◌, Some, Bool, true, false, nat_eq, if◌then◌else◌, ◌&&◌, find, ◌≡◌, refl}
 use Rattle.std.proofs.Common.{inl, inr, sym, subst}
 use Rattle.std.proofs.lemmas.Bool.{eqb-true}
 use Rattle.at_base.specs.declared.notice.Kind.{Kind}

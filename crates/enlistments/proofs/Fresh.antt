@@ -1,6 +1,6 @@
 -- What is made knows nobody yet, and has no seat.
-use Rattle.std.specs.Prelude.{ℕ, List, [], ◌∷◌, Option, Some, None, Bool, true, false, nat_lt, ◌&&◌, if◌then◌else◌, bytes_eq, length, ◌≡◌, refl}
-use Rattle.std.proofs.Common.{sym, subst, ap, ◌∙◌}
+use Rattle.std.specs.Prelude.{ℕ, List, [], Option, Some, None, Bool, true, false, nat_lt, ◌&&◌, if◌then◌else◌, bytes_eq, length, ◌≡◌, refl}
+use Rattle.std.proofs.Common.{subst, ap}
 use Rattle.at_base.specs.Numbers.{Numbers}
 use Rattle.at_base.specs.declared.epr.Epr.{Epr}
 use Rattle.at_base.specs.declared.epr.Reply.{Reply}

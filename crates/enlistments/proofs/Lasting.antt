@@ -1,5 +1,5 @@
 -- What endpoints lead to stays so while registrations grow; and what a node wrote for a seat leads there.
-use Rattle.std.specs.Prelude.{ℕ, List, [], ◌∷◌, Option, Some, None, Bool, true, false, if◌then◌else◌, option_map, ◌^◌, ◌≡◌, ◌<◌, refl}
+use Rattle.std.specs.Prelude.{ℕ, List, [], ◌∷◌, Option, Some, None, Bool, true, false, if◌then◌else◌, ◌^◌, ◌≡◌, ◌<◌, refl}
 use Rattle.std.specs.List.{AllByRecursion}
 use Rattle.std.proofs.Common.{inl, inr, sym, subst, ap, ◌∙◌}
 use Rattle.at_base.specs.Numbers.{Numbers}
@@ -8,24 +8,21 @@ use Rattle.at_base.specs.declared.notice.Kind.{Kind}
 use Rattle.at_base.specs.declared.target.Target.{Target}
 use Rattle.at_base.specs.declared.target.Target.TheVariants as targets
 use Rattle.at_model.specs.Addresses.{endpoint_of}
-use Rattle.at_model.specs.Book.{Book, Completion, Enlistment, Transaction, find_by, is_id, put_by, transaction_id}
-use Rattle.at_model.specs.Register.{completion_endpoint, seat_endpoint}
+use Rattle.at_model.specs.Book.{Book, Completion, Enlistment, Transaction, find_by, is_id, put_by}
 use Rattle.at_model.specs.Seats.{seat_target}
-use Rattle.at_model.specs.World.{Accepted, Node, Who, World, accepted_completion, accepted_seat, base_of, new_nodes, nth, place_of, who_at, who_of}
-use Rattle.model_laws.specs.Agreement.{IsAccepted, IsIn}
+use Rattle.at_model.specs.World.{Node, Who, World, accepted_completion, accepted_seat, base_of, new_nodes, nth, who_at, who_of}
+use Rattle.model_laws.specs.Agreement.{IsIn}
 use Rattle.model_laws.specs.Behind.{accepted_as}
 use Rattle.model_laws.specs.Enlisted.{IsEnlisted}
 use Rattle.model_laws.specs.Grows.{Grows}
 use Rattle.model_laws.specs.Reached.{Reached}
 use Rattle.model_laws.proofs.Lasting.{takes_nothing_back}
-use Rattle.model_laws.proofs.Naming.{HaveBases}
 use Rattle.model_laws.proofs.Nodes.{who_same}
-use Rattle.agreement.specs.Seated.{IsSeated}
 use Rattle.agreement.proofs.Placing.{addresses_lead_home}
 use Rattle.agreement.proofs.Seated.{seats_are_registered}
-use Rattle.agreement.proofs.SeatedEntries.{all_mapped, one_of}
+use Rattle.agreement.proofs.SeatedEntries.{one_of}
 use Rattle.enlistments.specs.Leads.{Completes, CompletesIfKnown, Enlists, EnlistsIfKnown, LeadsTo}
-use Rattle.enlistments.proofs.Arriving.{node_small, up_known, world_bases}
+use Rattle.enlistments.proofs.Arriving.{node_small, world_bases}
 use Rattle.enlistments.proofs.Places.{IsPlaced, TransactionPlaced, transactions_placed}
 
 pub enlists_on : (count : ℕ) (u w : World) → Grows u w → (c : Epr) (x : Who) (kind : Kind) → Enlists count u c x kind → Enlists count w c x kind

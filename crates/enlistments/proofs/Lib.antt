@@ -2,9 +2,12 @@ pub mod After
 pub mod Answering
 pub mod Answers
 pub mod Arriving
+pub mod Asking
+pub mod Books
 pub mod Enrolling
 pub mod Finding
 pub mod Fresh
+pub mod Knowing
 pub mod Lasting
 pub mod Moving
 pub mod Nodes
@@ -12,5 +15,8 @@ pub mod Paths
 pub mod Places
 pub mod Posts
 pub mod Registers
+pub mod Saying
+pub mod Signatures
 pub mod Signing
 pub mod Telling
+pub mod Voting

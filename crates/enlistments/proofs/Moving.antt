@@ -1,36 +1,29 @@
 -- Each step of a book moves one item, makes one, takes a registration, answers, or rests.
-use Rattle.std.specs.Prelude.{ℕ, List, [], ◌∷◌, ◌++◌, Option, Some, None, Bool, true, false, nat_eq, if◌then◌else◌, ◌&&◌, find, map, ◌≡◌, ◌⊎◌, refl}
+use Rattle.std.specs.Prelude.{ℕ, List, [], ◌++◌, Option, Some, None, Bool, true, false, map, ◌≡◌, ◌⊎◌, refl}
 use Rattle.std.specs.List.{AllByRecursion}
 use Rattle.std.proofs.Common.{inl, inr, sym, subst, ap, ◌∙◌}
-use Rattle.std.proofs.lemmas.Bool.{eqb-true}
 use Rattle.at_base.specs.Numbers.{Numbers}
-use Rattle.at_base.specs.declared.notice.Kind.{Kind}
-use Rattle.at_base.specs.declared.event.Arrived.{Arrived}
 use Rattle.at_base.specs.declared.event.Event.{Event}
 use Rattle.at_base.specs.declared.event.Event.TheVariants as events
-use Rattle.at_base.specs.declared.event.Local.{Local}
 use Rattle.at_base.specs.declared.outs.Out.{Out}
 use Rattle.at_base.specs.declared.outs.Out.TheVariants as outs
 use Rattle.at_base.specs.declared.record.Record.{Record}
 use Rattle.at_base.specs.declared.target.Target.{Target}
 use Rattle.at_base.specs.declared.target.Target.TheVariants as targets
-use Rattle.at_tables.specs.Names.{is_kind}
 use Rattle.at_model.specs.Activities.{Refusal}
 use Rattle.at_model.specs.Arrivals.{with_answer}
-use Rattle.at_model.specs.Book.{Activity, Book, Enlistment, Leaf, Transaction, activity_id, leaf_id, transaction_id}
+use Rattle.at_model.specs.Book.{Activity, Book, Leaf, Transaction, activity_id, leaf_id, transaction_id}
 use Rattle.at_model.specs.Due.{transaction_due}
 use Rattle.at_model.specs.Moves.{Change, Decision, Goes, Records}
 use Rattle.at_model.specs.Posts.{accepted}
-use Rattle.at_model.specs.Recover.{recover}
 use Rattle.at_model.specs.Register.{on_register}
 use Rattle.at_model.specs.Seats.{seat_target}
-use Rattle.at_model.specs.Step.{Outcome, Plan, activity_at, at_time, branch, find_seat, leaf_at, local_plan, make_activity, make_leaf, make_transaction, moment_of, plain, plan, plan_of, put_activity, put_leaf, put_transaction, refuses, registration_outcome, still, step, transaction_at}
+use Rattle.at_model.specs.Step.{Outcome, Plan, activity_at, at_time, branch, leaf_at, local_plan, make_activity, make_leaf, make_transaction, moment_of, plain, plan, plan_of, put_activity, put_leaf, put_transaction, refuses, registration_outcome, still, step, transaction_at}
 use Rattle.at_model.specs.World.{Node, World, nth}
-use Rattle.model_laws.specs.Agreement.{IsIn}
-use Rattle.model_laws.specs.Drawn.{restarted, with_entry}
+use Rattle.model_laws.specs.Drawn.{restarted}
 use Rattle.model_laws.specs.Reached.{Reached}
-use Rattle.model_laws.specs.Shapes.{IsAnswer, IsAtSeat, MovesTransaction, Shape, activity_made as shape_activity, activity_moves, at_completion, at_link, at_seat, leaf_made as shape_leaf, leaf_moves, nothing_moves, time_moves, time_passes, transaction_made as shape_transaction, transaction_moves, transaction_registers, when_due}
-use Rattle.model_laws.proofs.Deciding.{IfThere, all_find, found_id, same_kind}
+use Rattle.model_laws.specs.Shapes.{IsAnswer, MovesTransaction, Shape, activity_made as shape_activity, activity_moves, at_completion, at_link, at_seat, leaf_made as shape_leaf, leaf_moves, nothing_moves, time_moves, time_passes, transaction_made as shape_transaction, transaction_moves, transaction_registers, when_due}
+use Rattle.model_laws.proofs.Deciding.{IfThere, all_find, found_id}
 use Rattle.model_laws.proofs.Reaching.{NodeLaw, nodes_hold}
 use Rattle.model_laws.proofs.Shaping.{steps_touch_one}
 use Rattle.agreement.specs.ActivityDeeds.{ActivitiesStand, ActivityDeed, ActivityStands, IsTaken, NeverUndone}
@@ -44,10 +37,11 @@ use Rattle.agreement.proofs.Acting.{transactions_do}
 use Rattle.agreement.proofs.LeafStanding.{leaf_states}
 use Rattle.agreement.proofs.LeavesDo.{leaves_do}
 use Rattle.agreement.proofs.SeatedBooks.{IsSoundBook, book_sound}
-use Rattle.enlistments.specs.Moves.{ActivityDid, CameAt, HasItems, IsReady, LeafDid, Moved, Signed, StepsMove, TransactionDid, activity_did, activity_made, answered, leaf_did, leaf_made, registered, rested, transaction_did, transaction_made}
+use Rattle.enlistments.specs.Moves.{CameAt, HasItems, IsReady, Moved, Signed, StepsMove, activity_did, activity_made, answered, leaf_did, leaf_made, registered, rested, transaction_did, transaction_made}
 use Rattle.enlistments.proofs.Enrolling.{register_enrolls}
 use Rattle.enlistments.proofs.Finding.{found_seat}
-use Rattle.enlistments.proofs.Signing.{AllSigned, Signs, completion_signed, due_signed, link_signed, seat_signed, with_answer_signed}
+use Rattle.enlistments.proofs.Signatures.{Signs}
+use Rattle.enlistments.proofs.Signing.{completion_signed, due_signed, link_signed, seat_signed, with_answer_signed}
 
 -- both branches of a plan
 abbrev Moves : Book → Event → ℕ → Bool → Plan → Type 0

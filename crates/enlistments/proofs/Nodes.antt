@@ -6,14 +6,13 @@ use Rattle.std.proofs.Common.{sym, subst, ap, ◌∙◌}
 use Rattle.at_base.specs.Numbers.{Numbers}
 use Rattle.at_base.specs.declared.epr.Epr.{Epr}
 use Rattle.at_base.specs.declared.event.Event.{Event}
-use Rattle.at_base.specs.declared.outs.Post.{Post}
 use Rattle.at_base.specs.declared.record.Record.{Record}
 use Rattle.at_base.specs.declared.record.Record.TheVariants as records
 use Rattle.at_base.specs.declared.record.Seated.{Seated}
 use Rattle.at_model.specs.Book.{Activity, Book, Leaf, Transaction, activity_id, leaf_id, transaction_id}
 use Rattle.at_model.specs.Recover.{is_sub_committed, last_incarnation, leaves_of, live, recover, recovered_decided, recovered_leaf, recovered_voted, transactions_of}
 use Rattle.at_model.specs.Step.{plan, step}
-use Rattle.at_model.specs.World.{Node, World, goes_down, lost_in, nth, opening, put_book, put_nth, started, up_after, with_post}
+use Rattle.at_model.specs.World.{Node, World, lost_in, nth, opening, put_book, put_nth, started, up_after, with_post}
 use Rattle.model_laws.specs.Drawn.{restarted, with_entry}
 use Rattle.model_laws.specs.Grows.{Grows}
 use Rattle.model_laws.specs.Reached.{Reached, counts}
@@ -181,12 +180,12 @@ nodes_law count small l = record {
   Fine = λ w g n p. Unit {0};
   opens = λ n x found. subst (λ (y : Node). NodeHas count l (opening count) n y.journal y.book) (sym (opening_node count n x found)) (record { journal = tt; book = tt });
   steps = λ u n x b e now landed reached found up heard h. (
-      put_has count l u (counts u n x b e now landed) n x (record x { book = Some (step b e now landed).book; journal = with_entry (plan b e now).entry landed x.journal }) found refl
-          (grows_counts u n x b e now landed found)
-          (step_has count l u n x b e now landed (record { small = small; reached = reached; found = found; up = up; heard = heard }) (h n x found).journal
-          (subst (IfThere (BookHas count l u n)) up (h n x found).book)) h,
-      out_unit (step b e now landed).outs,
-    );
+    put_has count l u (counts u n x b e now landed) n x (record x { book = Some (step b e now landed).book; journal = with_entry (plan b e now).entry landed x.journal }) found refl
+        (grows_counts u n x b e now landed found)
+        (step_has count l u n x b e now landed (record { small = small; reached = reached; found = found; up = up; heard = heard }) (h n x found).journal
+        (subst (IfThere (BookHas count l u n)) up (h n x found).book)) h,
+    out_unit (step b e now landed).outs,
+  );
   posts = λ w h n p f m z g. node_on count l w (with_post n p w) (grows_posts n (p ∷ []) w) m z.journal z.book (h m z g);
   still_fine = λ w g n p q f h. tt;
   falls = λ u n x b reached found up h.

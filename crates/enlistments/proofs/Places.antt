@@ -1,5 +1,5 @@
 -- In every run what a node writes of its items and seats has a path, and a seat's participant is of the seat's kind.
-use Rattle.std.specs.Prelude.{ℕ, List, [], ◌∷◌, ◌++◌, Option, Some, None, Bool, true, false, nat_lt, ◌&&◌, ◌+◌, ◌^◌, if◌then◌else◌, filter, is_none, length, map, option_map, ◌≡◌, ◌≤◌, ◌<◌, refl}
+use Rattle.std.specs.Prelude.{ℕ, List, [], ◌∷◌, Option, Some, None, Bool, true, false, nat_lt, ◌&&◌, ◌+◌, ◌^◌, if◌then◌else◌, filter, length, map, option_map, ◌≡◌, ◌≤◌, ◌<◌, refl}
 use Rattle.std.specs.List.{AllByRecursion}
 use Rattle.std.proofs.Common.{sym, subst, ap, arith, ◌∙◌}
 use Rattle.std.proofs.lemmas.Bool.{ltb-true}
@@ -15,8 +15,6 @@ use Rattle.at_base.specs.declared.outs.Post.{Post}
 use Rattle.at_base.specs.declared.record.Record.{Record}
 use Rattle.at_base.specs.declared.record.Record.TheVariants as records
 use Rattle.at_base.specs.declared.record.Seated.{Seated}
-use Rattle.at_base.specs.declared.target.Target.{Target}
-use Rattle.at_base.specs.declared.target.Target.TheVariants as targets
 use Rattle.at_tables.specs.declared.cells.State.{State}
 use Rattle.at_tables.specs.declared.cells.State.TheVariants as states
 use Rattle.at_tables.specs.Names.{is_kind, is_state}
@@ -28,8 +26,8 @@ use Rattle.at_model.specs.Seats.{is_prepared_durable, prepared, seated}
 use Rattle.at_model.specs.Step.{moment_of, plan, step}
 use Rattle.at_model.specs.World.{Node, World, nth}
 use Rattle.model_laws.specs.Behind.{Accepted as Seating, accepted_as}
-use Rattle.model_laws.specs.Reached.{Reached, counts}
-use Rattle.model_laws.proofs.Deciding.{IfThere, all_join, all_more}
+use Rattle.model_laws.specs.Reached.{Reached}
+use Rattle.model_laws.proofs.Deciding.{IfThere, all_join}
 use Rattle.agreement.specs.Deeds.{AreCounted, AreSeatsAfter, AreSeatsIfLeft, Deed, How, IsSameIfLeft, recorded, superior_at}
 use Rattle.agreement.specs.Done.{standing}
 use Rattle.agreement.specs.LeafDeeds.{LeafDeed, LeafIdles, aborts, commits, dropped, for_durable, idles, leaves, prepares, registered, registers_again, rests, rolls_back, votes_again}
@@ -38,11 +36,10 @@ use Rattle.agreement.proofs.SeatedNames.{named_as}
 use Rattle.agreement.proofs.Seats.{deeds_move_seats}
 use Rattle.enlistments.specs.Enrolling.{Enrolls, has_completion, has_seat, refuses, takes_completion, takes_seat}
 use Rattle.enlistments.specs.Leads.{IsOfKind}
-use Rattle.enlistments.specs.Moves.{LeafDid, LeafMade, Registered, TransactionDid, TransactionMade}
+use Rattle.enlistments.specs.Moves.{Registered}
 use Rattle.enlistments.proofs.Arriving.{Stepping, up_known}
-use Rattle.enlistments.proofs.Finding.{both_true}
 use Rattle.enlistments.proofs.Fresh.{IsFresh, leaf_fresh, made_fresh}
-use Rattle.enlistments.proofs.Nodes.{BookHas, NodesLaw, books_have}
+use Rattle.enlistments.proofs.Nodes.{NodesLaw, books_have}
 use Rattle.enlistments.proofs.Registers.{IsRegisterOf, for_kind, register_of}
 
 -- a seat's number, and whose endpoint it has

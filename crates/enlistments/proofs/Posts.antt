@@ -1,7 +1,7 @@
 -- A law of posted messages, of which each holds for good: a step has to show it of its own posts.
-use Rattle.std.specs.Prelude.{ℕ, List, [], ◌∷◌, ◌++◌, Option, Some, None, Bool, ◌+◌, ◌^◌, ◌≡◌, ◌<◌, refl}
+use Rattle.std.specs.Prelude.{ℕ, List, [], ◌∷◌, ◌++◌, Option, None, Bool, ◌+◌, ◌^◌, ◌≡◌, ◌<◌, refl}
 use Rattle.std.specs.List.{AllByRecursion}
-use Rattle.std.proofs.Common.{inl, inr, sym, subst, ap, ◌∙◌}
+use Rattle.std.proofs.Common.{inl, inr, sym, subst, ap}
 use Rattle.at_base.specs.declared.event.Event.{Event}
 use Rattle.at_base.specs.declared.outs.Out.{Out}
 use Rattle.at_base.specs.declared.outs.Out.TheVariants as outs
@@ -9,7 +9,7 @@ use Rattle.at_base.specs.declared.outs.Post.{Post}
 use Rattle.at_model.specs.Book.{Book}
 use Rattle.at_model.specs.Recover.{last_incarnation}
 use Rattle.at_model.specs.Step.{step}
-use Rattle.at_model.specs.World.{Node, Posted, World, goes_down, lost_in, nth, put_book, put_nth, started, up_after, with_post}
+use Rattle.at_model.specs.World.{Node, Posted, World, goes_down, lost_in, put_book, put_nth, started, up_after, with_post}
 use Rattle.model_laws.specs.Agreement.{IsIn}
 use Rattle.model_laws.specs.Grows.{Grows}
 use Rattle.model_laws.specs.Reached.{Reached, counts}
@@ -48,10 +48,10 @@ posts_law count small l = record {
   Fine = λ w g n p. IsFine count l w n p;
   opens = tt;
   steps = λ u n x b e now landed reached found up heard h. (
-      same_posts count l u (counts u n x b e now landed) (grows_counts u n x b e now landed found) refl h,
-      outs_of (IsFine count l (counts u n x b e now landed) n) (step b e now landed).outs
-          (λ p i r. l.new u n x b e now landed (record { small = small; reached = reached; found = found; up = up; heard = heard }) h p i r),
-    );
+    same_posts count l u (counts u n x b e now landed) (grows_counts u n x b e now landed found) refl h,
+    outs_of (IsFine count l (counts u n x b e now landed) n) (step b e now landed).outs
+        (λ p i r. l.new u n x b e now landed (record { small = small; reached = reached; found = found; up = up; heard = heard }) h p i r),
+  );
   posts = λ w h n p f.
       all_join (l.Of (with_post n p w)) w.posted _ (all_more (l.Of w) (l.Of (with_post n p w)) w.posted (l.on w (with_post n p w) (grows_posts n (p ∷ []) w)) h)
       (l.on w (with_post n p w) (grows_posts n (p ∷ []) w) _ (f _), tt);

@@ -1,10 +1,9 @@
 -- A Register that arrives is one of an item of its sender, and names it.
 use Rattle.std.specs.Prelude.{ℕ, List, Option, Some, None, Bool, ◌^◌, ◌≡◌, ◌<◌, refl}
-use Rattle.std.proofs.Common.{inl, inr, sym, subst, ap, ◌∙◌}
+use Rattle.std.proofs.Common.{sym, subst, ap, ◌∙◌}
 use Rattle.at_base.specs.Numbers.{Numbers}
 use Rattle.at_base.specs.IdText.{IsId}
 use Rattle.at_base.specs.declared.epr.Epr.{Epr}
-use Rattle.at_base.specs.declared.epr.Reply.{Reply}
 use Rattle.at_base.specs.declared.epr.Reply.TheVariants as replies
 use Rattle.at_base.specs.declared.notice.Kind.{Kind}
 use Rattle.at_base.specs.declared.notice.Kind.TheVariants as kinds
@@ -15,7 +14,7 @@ use Rattle.at_base.specs.declared.event.Event.{Event}
 use Rattle.at_base.specs.declared.event.Event.TheVariants as events
 use Rattle.at_base.specs.declared.target.Target.{Target}
 use Rattle.at_base.specs.declared.target.Target.TheVariants as targets
-use Rattle.at_model.specs.Addresses.{endpoint_of, protocol_of}
+use Rattle.at_model.specs.Addresses.{protocol_of}
 use Rattle.at_model.specs.Book.{Book}
 use Rattle.at_model.specs.Register.{protocol_named}
 use Rattle.at_model.specs.World.{Node, Posted, World, base_of, new_nodes, place_of, reply_of}

@@ -1,5 +1,5 @@
 -- Why a transaction, a leaf and an activity post what they post.
-use Rattle.std.specs.Prelude.{ℕ, List, [], ◌∷◌, ◌++◌, Option, Some, None, Bool, true, false, is_none, map, ◌≡◌, ◌⊎◌, refl}
+use Rattle.std.specs.Prelude.{ℕ, List, Option, Some, None, false, is_none, ◌≡◌, refl}
 use Rattle.std.specs.List.{AllByRecursion}
 use Rattle.std.proofs.Common.{inl, inr, sym, subst, ap, ◌∙◌}
 use Rattle.at_base.specs.declared.epr.Epr.{Epr}
@@ -26,7 +26,7 @@ use Rattle.at_model.specs.Step.{Outcome, moment_of}
 use Rattle.model_laws.proofs.Deciding.{all_both}
 use Rattle.agreement.specs.ActivityDeeds.{ActivityDeed, ActivityIdles, ActivitySays, asks, asks_again, created, idles as activity_idles, interposed, misled as activity_misled, registered as activity_registered, registers_again as activity_registers_again, rests as activity_rests, tells, works}
 use Rattle.agreement.specs.Branches.{IsNoNotice}
-use Rattle.agreement.specs.Deeds.{How, IsNotice, IsPosted, SuperiorSaid, WhyInitiator, WhyLeft, WhySeat, WhySuperior, coordinator_at, from_left_link as posted_from_left_link, is_no_notice, says_aborted as posted_says_aborted, to_asking as posted_to_asking, to_initiator as posted_to_initiator, to_left_seat as posted_to_left_seat, to_seat as posted_to_seat, to_superior as posted_to_superior}
+use Rattle.agreement.specs.Deeds.{IsNotice, IsPosted, WhyInitiator, WhyLeft, WhySeat, WhySuperior, from_left_link as posted_from_left_link, is_no_notice, says_aborted as posted_says_aborted, to_asking as posted_to_asking, to_initiator as posted_to_initiator, to_left_seat as posted_to_left_seat, to_seat as posted_to_seat, to_superior as posted_to_superior}
 use Rattle.agreement.specs.LeafDeeds.{LeafAborts, LeafDeed, LeafIdles, LeafSays, aborts, asked, commits, dropped, expired, gave_up, idles, leaves, misled, prepares, refused, registered, registers_again, rests, rolls_back, unprepared, votes_again}
 use Rattle.agreement.proofs.ActivitiesDo.{activities_do}
 use Rattle.agreement.proofs.LeavesDo.{leaves_do}

@@ -1,5 +1,5 @@
 -- What a Register gives (WS-Coordination 1.2, section 3.2).
-use Rattle.std.specs.Prelude.{ℕ, List, Option, Some, None, true, ◌≡◌}
+use Rattle.std.specs.Prelude.{ℕ, List, Some, None, true, ◌≡◌}
 use Rattle.at_base.specs.declared.notice.Kind.{Kind}
 use Rattle.at_base.specs.declared.message.Register.{Register}
 use Rattle.at_base.specs.declared.event.Arrived.{Arrived}

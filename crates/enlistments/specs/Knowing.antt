@@ -1,5 +1,5 @@
 -- What a node's items know of whom they work with: their coordinators, and where notifications lead.
-use Rattle.std.specs.Prelude.{ℕ, List, [], ◌∷◌, Option, Some, None, ◌^◌, ◌≡◌, ◌⊎◌, ◌<◌}
+use Rattle.std.specs.Prelude.{ℕ, List, Some, None, ◌^◌, ◌≡◌, ◌⊎◌, ◌<◌}
 use Rattle.std.specs.List.{AllByRecursion}
 use Rattle.at_base.specs.Numbers.{Numbers}
 use Rattle.at_base.specs.declared.epr.Epr.{Epr}
@@ -14,7 +14,7 @@ use Rattle.at_base.specs.declared.target.Seat.{Seat}
 use Rattle.at_base.specs.declared.target.Target.{Target}
 use Rattle.at_base.specs.declared.target.Target.TheVariants as targets
 use Rattle.at_model.specs.Book.{Activity, Book, Leaf, Transaction}
-use Rattle.at_model.specs.World.{Node, Posted, Who, World, WorldEvent, nth, run_of}
+use Rattle.at_model.specs.World.{Node, Posted, World, WorldEvent, nth, run_of}
 use Rattle.model_laws.specs.Agreement.{IsAccepted, IsIn}
 use Rattle.model_laws.specs.Reached.{Reached}
 use Rattle.agreement.specs.Deeds.{coordinator_at}

@@ -1,5 +1,5 @@
 -- Whom endpoints lead to, in a world of so many nodes.
-use Rattle.std.specs.Prelude.{ℕ, List, [], ◌∷◌, Option, Some, None, ◌≡◌}
+use Rattle.std.specs.Prelude.{ℕ, Option, Some, None, ◌≡◌}
 use Rattle.at_base.specs.Numbers.{Numbers}
 use Rattle.at_base.specs.declared.epr.Epr.{Epr}
 use Rattle.at_base.specs.declared.notice.Kind.{Kind}

@@ -1,5 +1,5 @@
 -- What one step of a book is: which of its items it moves or makes, and what it leaves, records, posts and brings about.
-use Rattle.std.specs.Prelude.{ℕ, List, [], ◌∷◌, ◌++◌, Option, Some, None, Bool, true, length, map, ◌≡◌, ◌⊎◌}
+use Rattle.std.specs.Prelude.{ℕ, List, [], ◌++◌, Option, Some, None, Bool, length, map, ◌≡◌, ◌⊎◌}
 use Rattle.std.specs.List.{AllByRecursion}
 use Rattle.at_base.specs.Numbers.{Numbers}
 use Rattle.at_base.specs.declared.epr.Epr.{Epr}
@@ -21,7 +21,7 @@ use Rattle.at_base.specs.declared.record.Record.{Record}
 use Rattle.at_base.specs.declared.target.Target.{Target}
 use Rattle.at_base.specs.declared.target.Target.TheVariants as targets
 use Rattle.at_model.specs.Addresses.{endpoint_of}
-use Rattle.at_model.specs.Book.{Activity, Book, Leaf, Transaction, activity_id, leaf_id, next_id, put_by, transaction_id}
+use Rattle.at_model.specs.Book.{Activity, Book, Leaf, Transaction, leaf_id, next_id, put_by, transaction_id}
 use Rattle.at_model.specs.Create.{on_create}
 use Rattle.at_model.specs.Leaves.{on_work}
 use Rattle.at_model.specs.Moves.{Change}
