@@ -1,20 +1,14 @@
 -- A participant's vote Aborted aborts the transaction in the step in which it comes.
-use Rattle.std.specs.Prelude.{ℕ, List, [], ◌∷◌, ◌++◌, Option, Some, None, Bool, true, false, if◌then◌else◌, nat_eq, ◌+◌, ◌&&◌, ◌≡◌, ◌<◌, ◌⊎◌, refl}
-use Rattle.std.specs.List.{list_any}
+use Rattle.std.specs.Prelude.{ℕ, List, [], ◌∷◌, ◌++◌, Option, Some, Bool, true, false, if◌then◌else◌, nat_eq, ◌+◌, ◌&&◌, ◌≡◌, ◌<◌, ◌⊎◌, refl}
 use Rattle.std.proofs.Common.{arith, inl, inr, sym, subst, ap, ◌∙◌}
 use Rattle.std.proofs.lemmas.Bool.{eq-eqb, eqb-true}
-use Rattle.at_base.specs.Numbers.{Numbers}
 use Rattle.at_base.specs.declared.notice.Kind.{Kind}
 use Rattle.at_base.specs.declared.notice.Kind.TheVariants as kinds
-use Rattle.at_base.specs.declared.notice.Notice.{Notice}
 use Rattle.at_base.specs.declared.notice.Notice.TheVariants as notices
-use Rattle.at_base.specs.declared.message.Message.{Message}
 use Rattle.at_base.specs.declared.message.Message.TheVariants as messages
-use Rattle.at_base.specs.declared.target.Target.{Target}
 use Rattle.at_base.specs.declared.target.Target.TheVariants as targets
 use Rattle.at_base.specs.declared.event.Arrived.{Arrived}
 use Rattle.at_base.specs.declared.event.Event.{Event}
-use Rattle.at_base.specs.declared.event.Event.TheVariants as events
 use Rattle.at_base.specs.declared.event.Moment.{Moment}
 use Rattle.at_base.specs.declared.outs.Effect.{Effect}
 use Rattle.at_base.specs.declared.outs.Ending.TheVariants as endings
@@ -24,12 +18,12 @@ use Rattle.at_tables.specs.declared.cells.State.TheVariants as states
 use Rattle.at_tables.specs.Names.{is_kind}
 use Rattle.at_tables.specs.Tables.{coordinator_of}
 use Rattle.at_model.specs.Abort.{Alone, Reason, abort}
-use Rattle.at_model.specs.Arrivals.{on_seat, request_of, seat_act, seat_notice, with_answer}
+use Rattle.at_model.specs.Arrivals.{on_seat, request_of, seat_act, seat_notice}
 use Rattle.at_model.specs.Book.{Book, Enlistment, Transaction}
-use Rattle.at_model.specs.Moves.{Change, Decision, Goes, Moving, begin, forgotten, stays}
+use Rattle.at_model.specs.Moves.{Decision, Goes, Moving, begin, forgotten, stays}
 use Rattle.at_model.specs.Posts.{accepted}
-use Rattle.at_model.specs.Seats.{ending, in_state, seat_in}
-use Rattle.at_model.specs.Step.{arrived_plan, branch, coordinator_plan, find_seat, moment_of, plan, seat_plan, step, transaction_at, transaction_plan}
+use Rattle.at_model.specs.Seats.{ending, seat_in}
+use Rattle.at_model.specs.Step.{arrived_plan, branch, coordinator_plan, find_seat, moment_of, seat_plan, step, transaction_at, transaction_plan}
 use Rattle.model_laws.specs.Agreement.{IsIn}
 use Rattle.model_laws.specs.Behind.{IsUnanswered}
 use Rattle.model_laws.specs.Sound.{AreNumbered, SeatsRise}

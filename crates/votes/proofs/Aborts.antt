@@ -1,6 +1,5 @@
 -- Behind its vote Prepared a participant aborts only under a transaction that has aborted.
-use Rattle.std.specs.Prelude.{ℕ, List, [], ◌∷◌, ◌++◌, Option, Some, None, Bool, true, false, ◌+◌, map, filter, is_none, is_some, ◌&&◌, ◌||◌, option_map, ◌≡◌, ◌⊎◌, ◌<◌, refl}
-use Rattle.std.specs.List.{AllByRecursion}
+use Rattle.std.specs.Prelude.{ℕ, List, [], ◌∷◌, Option, Some, None, true, false, option_map, ◌≡◌, ◌⊎◌, refl}
 use Rattle.std.proofs.Common.{inl, inr, sym, subst, ap, ◌∙◌}
 use Rattle.at_base.specs.Numbers.{Numbers}
 use Rattle.at_base.specs.declared.epr.Epr.{Epr}
@@ -8,12 +7,10 @@ use Rattle.at_base.specs.declared.event.Arrived.{Arrived}
 use Rattle.at_base.specs.declared.event.Event.{Event}
 use Rattle.at_base.specs.declared.event.Event.TheVariants as events
 use Rattle.at_base.specs.declared.event.Moment.{Moment}
-use Rattle.at_base.specs.declared.notice.Kind.{Kind}
 use Rattle.at_base.specs.declared.notice.Kind.TheVariants as kinds
 use Rattle.at_base.specs.declared.notice.Notice.TheVariants as notices
 use Rattle.at_base.specs.declared.message.Message.TheVariants as messages
 use Rattle.at_base.specs.declared.outs.Effect.{Effect}
-use Rattle.at_base.specs.declared.outs.Effect.TheVariants as effects
 use Rattle.at_base.specs.declared.outs.Ending.{Ending}
 use Rattle.at_base.specs.declared.outs.Ending.TheVariants as endings
 use Rattle.at_base.specs.declared.record.Record.{Record}
@@ -21,36 +18,29 @@ use Rattle.at_base.specs.declared.record.Record.TheVariants as records
 use Rattle.at_base.specs.declared.record.Seated.{Seated}
 use Rattle.at_base.specs.declared.target.Target.TheVariants as targets
 use Rattle.at_tables.specs.declared.cells.State.TheVariants as states
-use Rattle.at_model.specs.Book.{Book, Enlistment, Leaf, Phase, Superior, Transaction, leaf_id, transaction_id}
-use Rattle.at_model.specs.Due.{may_expire}
+use Rattle.at_model.specs.Book.{Book, Enlistment, Leaf, Phase, Superior, Transaction}
 use Rattle.at_model.specs.Leaves.{leaf_ended}
 use Rattle.at_model.specs.Moves.{Change}
 use Rattle.at_model.specs.Seats.{ending, ending_of, prepared as prepared_seats}
-use Rattle.at_model.specs.Step.{Outcome, leaf_at, moment_of, plan, step, transaction_at}
-use Rattle.at_model.specs.World.{Node, Who, World, happened_at, nth}
-use Rattle.model_laws.specs.Agreement.{HasAborted, HasCommitted, HasEnded, IsIn, Stands}
-use Rattle.model_laws.specs.Grows.{Grows}
-use Rattle.model_laws.specs.Reached.{counts}
-use Rattle.model_laws.proofs.Recovering.{same_id}
+use Rattle.at_model.specs.Step.{leaf_at, transaction_at}
+use Rattle.at_model.specs.World.{Node, World, nth}
+use Rattle.model_laws.specs.Agreement.{HasCommitted, IsIn}
 use Rattle.agreement.specs.Deeds.{How, IsHeard, StoodFor, SuperiorSaid, happens, recorded, superior_at}
-use Rattle.agreement.specs.Done.{standing}
-use Rattle.agreement.specs.LeafDeeds.{LeafDeed, Notified, aborts, commits, dropped, for_durable, idles, leaves, prepares, rolls_back}
+use Rattle.agreement.specs.LeafDeeds.{LeafDeed, aborts, commits, dropped, idles, leaves, prepares, rolls_back}
 use Rattle.agreement.specs.Lives.{Life, PromisesNothing, ends, happened_on}
 use Rattle.agreement.proofs.LeafLives.{LeafLife, leaf_alone, prepared, unrecorded}
 use Rattle.agreement.proofs.SeatedEntries.{one_of}
 use Rattle.agreement.proofs.Still.{promise_id}
 use Rattle.agreement.proofs.TransactionLives.{TransactionLife, aborted, committed, decided, undecided, voted}
 use Rattle.enlistments.specs.Leads.{LeadsTo}
-use Rattle.enlistments.specs.Moves.{LeafDid, Moved, TransactionDid, activity_did, activity_made, answered, leaf_did, leaf_made, registered, rested, transaction_did, transaction_made}
-use Rattle.votes.specs.Backing.{AbortsWereTold, IsUnderAborted, RollbackIsBacked}
+use Rattle.votes.specs.Backing.{IsUnderAborted, RollbackIsBacked}
 use Rattle.votes.specs.Joint.{IsOutcome}
 use Rattle.votes.specs.Voting.{HasVoted, is_vote}
 use Rattle.votes.proofs.Arriving.{Arrives}
-use Rattle.votes.proofs.Ended.{IsOpen, is_open, not_aborted_open, not_ended}
+use Rattle.votes.proofs.Ended.{is_open, not_ended}
 use Rattle.votes.proofs.Gone.{is_promised, same_node}
-use Rattle.votes.proofs.Growing.{under_aborted_on}
-use Rattle.votes.proofs.Known.{came_by, grown, life_at, stands_as}
-use Rattle.votes.proofs.Newly.{EndsNow, IsEnd, RecordsVote, new_end, new_vote}
+use Rattle.votes.proofs.Known.{came_by, life_at, stands_as}
+use Rattle.votes.proofs.Newly.{IsEnd}
 use Rattle.votes.proofs.Premises.{StepPremises}
 
 -- an end of a transaction or of a leaf, by its effect

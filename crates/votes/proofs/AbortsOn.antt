@@ -1,8 +1,6 @@
 -- So it stays, over each step, fall and start: behind its vote Prepared a participant aborts only under a transaction that has aborted.
-use Rattle.std.specs.Prelude.{ℕ, List, [], ◌∷◌, ◌++◌, Option, Some, None, Bool, true, false, ◌+◌, map, filter, is_none, is_some, ◌&&◌, ◌||◌, ◌≡◌, ◌⊎◌, ◌<◌, refl}
-use Rattle.std.specs.List.{AllByRecursion}
+use Rattle.std.specs.Prelude.{ℕ, List, [], ◌∷◌, Option, Some, None, true, ◌≡◌, refl}
 use Rattle.std.proofs.Common.{inl, inr, sym, subst, ap, ◌∙◌}
-use Rattle.std.proofs.lemmas.List.{append-nil}
 use Rattle.at_base.specs.Numbers.{Numbers}
 use Rattle.at_base.specs.declared.event.Event.{Event}
 use Rattle.at_base.specs.declared.event.Moment.{Moment}
@@ -11,41 +9,29 @@ use Rattle.at_base.specs.declared.notice.Kind.TheVariants as kinds
 use Rattle.at_base.specs.declared.outs.Effect.{Effect}
 use Rattle.at_base.specs.declared.outs.Effect.TheVariants as effects
 use Rattle.at_base.specs.declared.outs.Ending.{Ending}
-use Rattle.at_base.specs.declared.outs.Ending.TheVariants as endings
 use Rattle.at_base.specs.declared.outs.Told.{Told}
 use Rattle.at_base.specs.declared.record.Record.{Record}
 use Rattle.at_base.specs.declared.record.Record.TheVariants as records
-use Rattle.at_tables.specs.declared.cells.State.{State}
-use Rattle.at_tables.specs.declared.cells.State.TheVariants as states
-use Rattle.at_tables.specs.Names.{is_state}
-use Rattle.at_model.specs.Book.{Activity, Book, Leaf, Transaction, leaf_id, transaction_id}
-use Rattle.at_model.specs.Due.{may_expire}
-use Rattle.at_model.specs.Leaves.{leaf_ended}
+use Rattle.at_model.specs.Book.{Activity, Book, Leaf}
 use Rattle.at_model.specs.Moves.{Change}
-use Rattle.at_model.specs.Recover.{last_incarnation}
-use Rattle.at_model.specs.Seats.{ending}
-use Rattle.at_model.specs.Step.{Outcome, leaf_at, moment_of, plan, step, transaction_at}
-use Rattle.at_model.specs.World.{Happened, Node, Who, World, goes_down, happened_at, is_lost_leaf, is_lost_root, is_lost_subordinate, leaf_lost, lost_in, nth, put_nth, started, transaction_lost, up_after}
-use Rattle.model_laws.specs.Agreement.{HasAborted, HasEnded, IsIn, Stands}
-use Rattle.model_laws.specs.Reached.{counts}
-use Rattle.model_laws.proofs.Lasting.{grows_falls, grows_rises}
+use Rattle.at_model.specs.Step.{Outcome, leaf_at, moment_of}
+use Rattle.at_model.specs.World.{Node, World}
+use Rattle.model_laws.specs.Agreement.{IsIn}
 use Rattle.agreement.specs.ActivityDeeds.{ActivityDeed, idles as goes_on, tells}
-use Rattle.agreement.specs.Deeds.{How, StoodFor, happens}
-use Rattle.agreement.specs.Done.{standing}
+use Rattle.agreement.specs.Deeds.{StoodFor, happens}
 use Rattle.agreement.specs.LeafDeeds.{LeafDeed, aborts, commits, dropped, for_durable, idles, leaves, prepares, rolls_back}
 use Rattle.agreement.specs.Lives.{ends, happened_on}
 use Rattle.agreement.proofs.Still.{promise_id}
-use Rattle.enlistments.specs.Moves.{LeafDid, Moved, TransactionDid, activity_did, activity_made, answered, leaf_did, leaf_made, registered, rested, transaction_did, transaction_made}
-use Rattle.votes.specs.Backing.{AbortsWereTold, IsUnderAborted}
+use Rattle.enlistments.specs.Moves.{Moved, TransactionDid, activity_did, activity_made, answered, leaf_did, leaf_made, registered, rested, transaction_did, transaction_made}
+use Rattle.votes.specs.Backing.{IsUnderAborted}
 use Rattle.votes.specs.Joint.{IsOutcome}
 use Rattle.votes.specs.Voting.{HasVoted, is_vote}
 use Rattle.votes.proofs.Aborts.{AbortsBy, IsBad, VotesBy, aborts_by, leaf_aborts, leaf_stands, leaf_unended, no_record, no_vote, none_in, transaction_aborts, votes_by}
 use Rattle.votes.proofs.Ended.{is_open}
 use Rattle.votes.proofs.Gone.{is_promised}
-use Rattle.votes.proofs.Growing.{under_aborted_on}
-use Rattle.votes.proofs.Known.{grown, stands_as}
-use Rattle.votes.proofs.Newly.{EndsNow, IsEnd, RecordsVote, new_end, new_vote}
-use Rattle.votes.proofs.Premises.{FallKeeps, RiseKeeps, StepKeeps, StepPremises}
+use Rattle.votes.proofs.Known.{stands_as}
+use Rattle.votes.proofs.Newly.{IsEnd}
+use Rattle.votes.proofs.Premises.{StepPremises}
 
 -- what aborts in a step, behind its vote
 no_told : (id i : Numbers) (what : Ending) (t : Told) → IsEnd i what (effects.Told id t) → ⊥

@@ -1,10 +1,7 @@
 -- Over each step, fall and start, what aborts behind its vote Prepared does so under a transaction that has aborted.
-use Rattle.std.specs.Prelude.{ℕ, List, [], ◌∷◌, ◌++◌, Option, Some, None, Bool, true, false, ◌+◌, map, filter, is_none, is_some, ◌&&◌, ◌||◌, if◌then◌else◌, ◌≡◌, ◌⊎◌, ◌<◌, refl}
-use Rattle.std.specs.List.{AllByRecursion}
+use Rattle.std.specs.Prelude.{ℕ, List, [], ◌∷◌, ◌++◌, Some, None, Bool, true, false, ◌+◌, map, filter, is_none, is_some, ◌||◌, if◌then◌else◌, ◌≡◌, ◌⊎◌, refl}
 use Rattle.std.proofs.Common.{inl, inr, sym, subst, ap, ◌∙◌}
-use Rattle.std.proofs.lemmas.List.{append-nil}
 use Rattle.at_base.specs.Numbers.{Numbers}
-use Rattle.at_base.specs.declared.event.Event.{Event}
 use Rattle.at_base.specs.declared.outs.Effect.{Effect}
 use Rattle.at_base.specs.declared.outs.Ending.{Ending}
 use Rattle.at_base.specs.declared.outs.Ending.TheVariants as endings
@@ -19,19 +16,18 @@ use Rattle.at_model.specs.Leaves.{leaf_ended}
 use Rattle.at_model.specs.Recover.{last_incarnation}
 use Rattle.at_model.specs.Seats.{ending}
 use Rattle.at_model.specs.Step.{leaf_at, plan, step, transaction_at}
-use Rattle.at_model.specs.World.{Happened, Node, Who, World, goes_down, happened_at, is_lost_leaf, is_lost_root, is_lost_subordinate, leaf_lost, lost_in, nth, put_book, put_nth, started, transaction_lost, up_after}
+use Rattle.at_model.specs.World.{Node, Who, World, goes_down, happened_at, is_lost_leaf, is_lost_root, is_lost_subordinate, lost_in, nth, put_book, put_nth, started, up_after}
 use Rattle.model_laws.specs.Agreement.{HasAborted, HasEnded, IsIn, Stands}
 use Rattle.model_laws.specs.Reached.{counts}
 use Rattle.model_laws.proofs.Deciding.{second_true}
 use Rattle.model_laws.proofs.Lasting.{grows_falls, grows_rises}
 use Rattle.agreement.specs.Done.{standing}
-use Rattle.agreement.specs.Lives.{Life, PromisesNothing, book_of, ends, happened_on}
+use Rattle.agreement.specs.Lives.{Life, PromisesNothing, ends, happened_on}
 use Rattle.agreement.proofs.Falling.{lost}
 use Rattle.agreement.proofs.LeafLives.{leaf_alone}
 use Rattle.agreement.proofs.SeatedEntries.{in_either}
 use Rattle.enlistments.specs.Moves.{IsReady}
 use Rattle.votes.specs.Backing.{AbortsWereTold, IsUnderAborted}
-use Rattle.votes.specs.Joint.{IsOutcome}
 use Rattle.votes.specs.Voting.{HasVoted, is_vote}
 use Rattle.votes.proofs.Aborts.{IsBad, ending_is, leaf_end_is, leaf_unpromised, unpromised_vote}
 use Rattle.votes.proofs.AbortsOn.{Unended, abort_now, vote_now}
@@ -39,7 +35,7 @@ use Rattle.votes.proofs.Ended.{is_open, life_of, not_ended}
 use Rattle.votes.proofs.Growing.{under_aborted_on}
 use Rattle.votes.proofs.Known.{grown, here}
 use Rattle.votes.proofs.Newly.{EndsNow, IsEnd, RecordsVote, found_each, mapped_from, new_end, new_vote, stood}
-use Rattle.votes.proofs.Premises.{FallKeeps, RiseKeeps, StepKeeps, StepPremises, WorldPremises}
+use Rattle.votes.proofs.Premises.{FallKeeps, RiseKeeps, StepKeeps, WorldPremises}
 
 -- an abort that is old, or one of these
 pub record AbortsNow (n : ℕ) (es : List Effect) (y : Who) : Type 0 where

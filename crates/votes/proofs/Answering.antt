@@ -1,7 +1,7 @@
 -- Behind each step each vote and each decision stands behind every answer.
 use Rattle.std.specs.Prelude.{ℕ, List, [], ◌∷◌, ◌++◌, Option, Some, None, Bool, true, false, if◌then◌else◌, ◌&&◌, filter, map, option_map, ◌≡◌, ◌⊎◌, refl}
 use Rattle.std.specs.List.{AllByRecursion}
-use Rattle.std.proofs.Common.{inl, inr, sym, subst, ap, ◌∙◌}
+use Rattle.std.proofs.Common.{inl, inr, sym, subst, ◌∙◌}
 use Rattle.std.proofs.lemmas.List.{append-nil}
 use Rattle.at_base.specs.Numbers.{Numbers}
 use Rattle.at_base.specs.declared.epr.Epr.{Epr}
@@ -11,18 +11,15 @@ use Rattle.at_base.specs.declared.notice.Notice.TheVariants as notices
 use Rattle.at_base.specs.declared.event.Event.{Event}
 use Rattle.at_base.specs.declared.record.Record.{Record}
 use Rattle.at_base.specs.declared.record.Record.TheVariants as records
-use Rattle.at_base.specs.declared.record.Seated.{Seated}
-use Rattle.at_tables.specs.declared.cells.State.{State}
 use Rattle.at_tables.specs.declared.cells.State.TheVariants as states
 use Rattle.at_tables.specs.Names.{is_kind, is_state}
 use Rattle.at_model.specs.Book.{Book, Enlistment, Transaction}
 use Rattle.at_model.specs.Due.{may_expire}
-use Rattle.at_model.specs.Moves.{Change}
 use Rattle.at_model.specs.Recover.{is_promise}
 use Rattle.at_model.specs.Seats.{is_prepared_durable, prepared, seated}
 use Rattle.at_model.specs.Step.{leaf_at, plan, step, transaction_at}
-use Rattle.at_model.specs.World.{Node, Who, World, nth, put_nth}
-use Rattle.model_laws.specs.Agreement.{HasAborted, HasCommitted, HasPosted, IsIn}
+use Rattle.at_model.specs.World.{Node, Who, World, nth}
+use Rattle.model_laws.specs.Agreement.{HasPosted, IsIn}
 use Rattle.model_laws.specs.Drawn.{with_entry}
 use Rattle.model_laws.specs.Grows.{Grows}
 use Rattle.model_laws.specs.Reached.{counts}
@@ -33,7 +30,7 @@ use Rattle.model_laws.proofs.Nodes.{each_put}
 use Rattle.model_laws.proofs.Running.{put_this}
 use Rattle.model_laws.proofs.Seating.{in_back}
 use Rattle.agreement.specs.Branches.{recorded as written}
-use Rattle.agreement.specs.Deeds.{AllAnswered, AreCounted, Deed, How, IsAbort, StandsOn, StoodFor, happens, recorded, superior_at}
+use Rattle.agreement.specs.Deeds.{AllAnswered, AreCounted, How, IsAbort, StandsOn, StoodFor, happens, recorded, superior_at}
 use Rattle.agreement.specs.Done.{Done, IsOfNoTransaction, did, elsewhere, made, registered, standing, undone}
 use Rattle.agreement.specs.Lives.{book_of, happened_on}
 use Rattle.agreement.specs.Seated.{accepted_named}
@@ -44,7 +41,7 @@ use Rattle.votes.specs.Answering.{HasSeat, IsBehindVotes, RecordAnswers, Records
 use Rattle.votes.specs.Joint.{IsOutcome}
 use Rattle.votes.specs.Saying.{SeatSays, SeatTells, who_named}
 use Rattle.votes.proofs.Ended.{IsOpen, is_open, life_of, not_aborted_open, not_committed_open, passes}
-use Rattle.votes.proofs.Growing.{AcceptsNoMore, behind_on, record_on}
+use Rattle.votes.proofs.Growing.{AcceptsNoMore, record_on}
 use Rattle.votes.proofs.Hearing.{in_map}
 use Rattle.votes.proofs.Joining.{JoinsOpen, behind, seat_joins}
 use Rattle.votes.proofs.Premises.{StepKeeps, StepPremises}
@@ -154,7 +151,7 @@ of_none count v n (Some (records.Decided id seats)) h = absurd h
 of_none count v n (Some other) h = tt
 
 -- the journal behind a step
-as_written : (entry : Option Record) (landed : Bool) (rs : List Record) → with_entry entry landed rs ≡ rs ++ written (standing landed entry)
+pub as_written : (entry : Option Record) (landed : Bool) (rs : List Record) → with_entry entry landed rs ≡ rs ++ written (standing landed entry)
 as_written None true rs = sym (append-nil rs)
 as_written None false rs = sym (append-nil rs)
 as_written (Some r) true rs = refl

@@ -15,7 +15,7 @@ use Rattle.model_laws.specs.Reached.{Heard, Reached, counts, stepped}
 use Rattle.model_laws.proofs.Deciding.{all_join}
 use Rattle.model_laws.proofs.Enrolled.{nodes_of, world_good}
 use Rattle.model_laws.proofs.Holding.{Law, OutFine, holds}
-use Rattle.model_laws.proofs.Naming.{HaveBases, IsPlace, place_is}
+use Rattle.model_laws.proofs.Naming.{HaveBases, place_is}
 use Rattle.model_laws.proofs.Nodes.{receiver_same}
 use Rattle.model_laws.proofs.Running.{opening_node}
 use Rattle.agreement.proofs.SeatedEntries.{one_of}
@@ -36,9 +36,11 @@ routed_law count few = record {
   Good = λ w. AllByRecursion (IsRouted count) w.posted;
   Fine = λ w g n p. HaveBases w.nodes (nodes_of count);
   opens = tt;
-  steps = λ u n x b e now landed reached found up heard h.
-      (h, fine_outs count (counts u n x b e now landed)
-      (world_good count (counts u n x b e now landed) few (stepped u n x b e now landed [] reached found up heard tt refl)).world.bases _);
+  steps = λ u n x b e now landed reached found up heard h. (
+    h,
+    fine_outs count (counts u n x b e now landed)
+        (world_good count (counts u n x b e now landed) few (stepped u n x b e now landed [] reached found up heard tt refl)).world.bases _,
+  );
   posts = λ w h n p f. all_join (IsRouted count) w.posted _ h (receiver_same w.nodes (nodes_of count) p.to f, tt);
   still_fine = λ w g n p q f k. k;
   falls = λ u n x b reached found up h. subst (λ (w : World). AllByRecursion (IsRouted count) w.posted) (sym (gone_down n b u x found)) h;

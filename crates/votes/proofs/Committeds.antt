@@ -1,5 +1,5 @@
 -- A Committed that goes to a durable seat comes when the seat's participant has committed.
-use Rattle.std.specs.Prelude.{ℕ, List, [], ◌∷◌, Option, Some, None, Bool, true, is_some, option_map, ◌≡◌, ◌⊎◌, refl}
+use Rattle.std.specs.Prelude.{ℕ, List, Option, Some, None, Bool, true, is_some, ◌≡◌, ◌⊎◌, refl}
 use Rattle.std.specs.List.{AllByRecursion}
 use Rattle.std.proofs.Common.{inl, inr, sym, subst, ap, ◌∙◌}
 use Rattle.at_base.specs.Numbers.{Numbers}
@@ -21,12 +21,12 @@ use Rattle.at_base.specs.declared.target.Target.{Target}
 use Rattle.at_base.specs.declared.target.Target.TheVariants as targets
 use Rattle.at_tables.specs.declared.cells.State.{State}
 use Rattle.at_tables.specs.declared.cells.State.TheVariants as states
-use Rattle.at_model.specs.Book.{Activity, Book, Completion, Enlistment, Leaf, Phase, Superior, Transaction, leaf_id, transaction_id}
+use Rattle.at_model.specs.Book.{Activity, Book, Completion, Enlistment, Phase, Superior, Transaction, leaf_id, transaction_id}
 use Rattle.at_model.specs.Leaves.{leaf_ended}
 use Rattle.at_model.specs.Moves.{Change}
 use Rattle.at_model.specs.Seats.{link_of}
 use Rattle.at_model.specs.Step.{leaf_at, moment_of, plan, step, transaction_at}
-use Rattle.at_model.specs.World.{Accepted, Node, Who, World, accepted_completion, happened_at, new_nodes, who_at, who_of}
+use Rattle.at_model.specs.World.{Node, Who, World, accepted_completion, happened_at, new_nodes, who_of}
 use Rattle.model_laws.specs.Agreement.{HasAborted, HasCommitted, IsAccepted, IsIn}
 use Rattle.model_laws.specs.Enlisted.{IsEnlisted, IsKnownItem}
 use Rattle.model_laws.specs.Links.{AreIn, AreLinked, IsJoining}
@@ -42,12 +42,11 @@ use Rattle.agreement.specs.LeafDeeds.{LeafSays, aborted, committed, prepared, re
 use Rattle.agreement.proofs.SeatedEntries.{one_of}
 use Rattle.enlistments.specs.Knowing.{AsksAsInitiator, AsksItsOwn, IsAsked, LeafKnows, TransactionKnows}
 use Rattle.enlistments.specs.Leads.{Enlists, EnlistsIfKnown, LeadsTo}
-use Rattle.enlistments.specs.Moves.{LeafDid, TransactionDid}
+use Rattle.enlistments.specs.Moves.{LeafDid}
 use Rattle.enlistments.specs.Telling.{AnswersAsNone, IsKnownOrAsked, Tells, activity_says, as_committed, as_no_participant, as_no_seat, from_left_link, leaf_says, left_link_aborted, says_aborted, to_asking, to_initiator, to_late_seat, to_left_seat, to_seat, to_superior}
 use Rattle.votes.specs.Answering.{HasSeat}
 use Rattle.votes.specs.Backing.{CommitIsBacked, CommittedIsBacked, HasCommittedAt, IsUnderCommitted}
 use Rattle.votes.specs.Joint.{IsOutcome}
-use Rattle.votes.specs.Saying.{who_named}
 use Rattle.votes.specs.Voting.{HasVoted}
 use Rattle.votes.proofs.Arriving.{Arrives}
 use Rattle.votes.proofs.Growing.{committed_on, seat_on}

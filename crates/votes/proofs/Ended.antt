@@ -11,7 +11,6 @@ use Rattle.at_base.specs.declared.outs.Ending.{Ending}
 use Rattle.at_base.specs.declared.outs.Ending.TheVariants as endings
 use Rattle.at_model.specs.Book.{Leaf, Phase, Superior, Transaction}
 use Rattle.at_model.specs.Due.{may_expire}
-use Rattle.at_model.specs.Recover.{is_promise}
 use Rattle.at_model.specs.Seats.{ending, ending_of}
 use Rattle.at_model.specs.World.{Happened, World, happened_at}
 use Rattle.model_laws.specs.Agreement.{HasAborted, HasCommitted, HasEnded, IsIn, ends_as}
@@ -154,7 +153,7 @@ pub record IsOpen (rs : List Record) (fx : List Effect) (id : Numbers) : Type 0 
   pub nothing : PromisesNothing id rs
   pub unended : ends id fx ≡ []
 
-in_phase : (t : Transaction) (phase : Phase) → t.phase ≡ phase → may_expire phase ≡ false → may_expire t.phase ≡ true → ⊥
+pub in_phase : (t : Transaction) (phase : Phase) → t.phase ≡ phase → may_expire phase ≡ false → may_expire t.phase ≡ true → ⊥
 in_phase t phase e closed u = both (may_expire phase) (sym (ap may_expire e) ∙ u) closed
   where
     both : (b : Bool) → b ≡ true → b ≡ false → ⊥
@@ -175,7 +174,7 @@ not_aborted_open w n rs id h (inl a) = not_ended w n id h.unended endings.Aborte
 not_aborted_open w n rs id h (inr a) = not_ended w n id h.unended endings.Lost a
 
 -- one that commits has committed, one that aborts has aborted, and what keeps its promise hasn't aborted
-two_phases : (p q r : Phase) → p ≡ q → p ≡ r → q ≡ r
+pub two_phases : (p q r : Phase) → p ≡ q → p ≡ r → q ≡ r
 two_phases p q r e f = sym e ∙ f
 
 pub commits_here : (w : World) (n : ℕ) (rs : List Record) (id : Numbers) (t : Transaction) → TransactionLife rs (happened_on n w.happened) id t → t.phase ≡ Phase.Committing

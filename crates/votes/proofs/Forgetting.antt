@@ -4,11 +4,9 @@ use Rattle.std.specs.List.{list_any, AllByRecursion}
 use Rattle.std.proofs.Common.{inl, inr, sym, subst, ap, ◌∙◌}
 use Rattle.std.proofs.lemmas.Bool.{eqb-true, eqb-false}
 use Rattle.at_base.specs.Numbers.{Numbers}
-use Rattle.at_base.specs.declared.notice.Kind.{Kind}
 use Rattle.at_base.specs.declared.notice.Kind.TheVariants as kinds
 use Rattle.at_base.specs.declared.notice.Notice.TheVariants as notices
 use Rattle.at_base.specs.declared.event.Event.{Event}
-use Rattle.at_base.specs.declared.outs.Effect.{Effect}
 use Rattle.at_base.specs.declared.record.Record.{Record}
 use Rattle.at_tables.specs.declared.cells.State.{State}
 use Rattle.at_tables.specs.declared.cells.State.TheVariants as states
@@ -31,7 +29,7 @@ use Rattle.model_laws.proofs.Enrolled.{nodes_of}
 use Rattle.model_laws.proofs.Lasting.{grows_counts}
 use Rattle.model_laws.proofs.Recovering.{same_id}
 use Rattle.model_laws.proofs.Running.{put_other, put_this}
-use Rattle.agreement.specs.Deeds.{AreCounted, Becomes, Deed, How, IsAbort, IsSameIfLeft, StandsOn, StoodFor, happens}
+use Rattle.agreement.specs.Deeds.{AreCounted, Becomes, Deed, How, IsSameIfLeft, StandsOn, StoodFor, happens}
 use Rattle.agreement.specs.Done.{Done, did, elsewhere, made, registered, standing, undone}
 use Rattle.agreement.specs.Lives.{book_of, happened_on}
 use Rattle.agreement.specs.Lives.{standing as standing_book}
@@ -186,8 +184,11 @@ did_stay b e entry o id s t c order found there d items effects = by_id (is_id t
         inr (subst (Dropped e entry o) (the_same (transaction_at b id) t s (subst (λ i. transaction_at b i ≡ Some t) own there) found)
         (record { change = c; deed = d; none = f; effects = effects }))
     dropped own (Some new) f =
-        inl (new, ap (find_by transaction_id id) items ∙ ap (λ i. find_by transaction_id i (put_by transaction_id t.id c.item b.transactions)) (sym own)
-        ∙ find_this transaction_id t.id t c.item b.transactions order.rising.transactions there (keeps_id t c.item d.same) ∙ f)
+        inl (
+          new,
+          ap (find_by transaction_id id) items ∙ ap (λ i. find_by transaction_id i (put_by transaction_id t.id c.item b.transactions)) (sym own)
+              ∙ find_this transaction_id t.id t c.item b.transactions order.rising.transactions there (keeps_id t c.item d.same) ∙ f,
+        )
 
     by_id : (k : Bool) → is_id t.id id ≡ k → Stays e entry o id s
     by_id true f = dropped (same_id t.id id f) c.item refl
@@ -199,9 +200,11 @@ put_stays b id s new order found = by_id (is_id new.id id) refl
   where
     by_id : (k : Bool) → is_id new.id id ≡ k → (z : Transaction) × (find_by transaction_id id (put_by transaction_id new.id (Some new) b.transactions) ≡ Some z)
     by_id true f =
-        let own : new.id ≡ id = same_id new.id id f in
-        (new, ap (λ i. find_by transaction_id i (put_by transaction_id new.id (Some new) b.transactions)) (sym own)
-        ∙ find_this transaction_id new.id s (Some new) b.transactions order.rising.transactions (ap (transaction_at b) own ∙ found) refl)
+        let own : new.id ≡ id = same_id new.id id f in (
+          new,
+          ap (λ i. find_by transaction_id i (put_by transaction_id new.id (Some new) b.transactions)) (sym own)
+              ∙ find_this transaction_id new.id s (Some new) b.transactions order.rising.transactions (ap (transaction_at b) own ∙ found) refl,
+        )
     by_id false f = (s, find_other transaction_id new.id id (Some new) b.transactions refl f ∙ found)
 
 done_stays : (b : Book) (e : Event) (now : ℕ) (entry : Option Record) (o : Outcome) (id : Numbers) (s : Transaction) → IsInOrder b → transaction_at b id ≡ Some s → Done b e now entry o

@@ -1,6 +1,6 @@
 -- A durable participant that has voted Prepared hasn't voted ReadOnly.
-use Rattle.std.specs.Prelude.{ℕ, List, [], ◌∷◌, Option, Some, None, Bool, true, false, ◌||◌, ◌≡◌, ◌⊎◌, refl}
-use Rattle.std.proofs.Common.{inl, inr, sym, subst, ap, ◌∙◌}
+use Rattle.std.specs.Prelude.{ℕ, List, [], Option, Some, None, Bool, true, false, ◌||◌, ◌≡◌, refl}
+use Rattle.std.proofs.Common.{sym, subst, ◌∙◌}
 use Rattle.at_base.specs.Numbers.{Numbers}
 use Rattle.at_base.specs.declared.notice.Kind.TheVariants as kinds
 use Rattle.at_base.specs.declared.notice.Notice.TheVariants as notices
@@ -10,7 +10,7 @@ use Rattle.at_model.specs.Book.{Leaf, Transaction}
 use Rattle.at_model.specs.Recover.{is_decided, is_leaf_prepared, is_promise, is_voted}
 use Rattle.at_model.specs.Step.{leaf_at, transaction_at}
 use Rattle.at_model.specs.World.{Node, Who, World, nth}
-use Rattle.model_laws.specs.Agreement.{HasAborted, HasCommitted, HasPosted, IsIn, Stands}
+use Rattle.model_laws.specs.Agreement.{HasPosted, IsIn}
 use Rattle.agreement.specs.Lives.{Life, book_of, ends, happened_on, has_aborted, has_committed, has_decided, has_voted, is_gone, is_undecided, waits, works}
 use Rattle.votes.specs.Voting.{HasVoted, LeftNoTrace, is_vote}
 use Rattle.votes.proofs.Premises.{WorldPremises}

@@ -1,6 +1,5 @@
 -- What is said of votes and outcomes stays so while nothing is taken back.
-use Rattle.std.specs.Prelude.{ℕ, List, [], ◌∷◌, Option, Some, None, true, false, ◌||◌, ◌≡◌, ◌⊎◌}
-use Rattle.std.specs.List.{AllByRecursion}
+use Rattle.std.specs.Prelude.{ℕ, List, Some, true, false, ◌||◌, ◌≡◌, ◌⊎◌}
 use Rattle.std.proofs.Common.{inl, inr, ap}
 use Rattle.at_base.specs.Numbers.{Numbers}
 use Rattle.at_base.specs.declared.notice.Kind.{Kind}
@@ -16,14 +15,14 @@ use Rattle.at_tables.specs.declared.cells.State.{State}
 use Rattle.at_tables.specs.declared.cells.State.TheVariants as states
 use Rattle.at_model.specs.Book.{Enlistment, Transaction}
 use Rattle.at_model.specs.Recover.{is_promise}
-use Rattle.at_model.specs.World.{Posted, Who, World}
+use Rattle.at_model.specs.World.{Who, World}
 use Rattle.model_laws.specs.Agreement.{HasAborted, HasCommitted, HasPosted}
 use Rattle.model_laws.specs.Grows.{Grows}
 use Rattle.model_laws.proofs.Deciding.{all_more}
 use Rattle.model_laws.proofs.Lasting.{takes_nothing_back}
 use Rattle.model_laws.proofs.Recovering.{self_id}
-use Rattle.votes.specs.Answering.{HasItsDurable, HasSeat, IsBehindVotes, KeepsItsDurable, RecordAnswers}
-use Rattle.votes.specs.Backing.{CommitIsBacked, CommitsAreBacked, CommittedIsBacked, HasCommittedAt, IsUnderAborted, IsUnderCommitted, RollbackIsBacked}
+use Rattle.votes.specs.Answering.{HasItsDurable, HasSeat, IsBehindVotes, RecordAnswers}
+use Rattle.votes.specs.Backing.{CommitIsBacked, CommittedIsBacked, HasCommittedAt, IsUnderAborted, IsUnderCommitted, RollbackIsBacked}
 use Rattle.votes.specs.Saying.{HasLeft, SeatSays, SeatTells, TransactionTells, who_named}
 use Rattle.votes.specs.Voting.{HasVoted}
 

@@ -1,42 +1,38 @@
 -- What a message says that comes to a seat: its participant posted it.
-use Rattle.std.specs.Prelude.{ℕ, List, [], ◌∷◌, ◌++◌, Option, Some, Bool, map, ◌≡◌, ◌⊎◌, refl}
+use Rattle.std.specs.Prelude.{ℕ, List, [], ◌∷◌, Some, Bool, map, ◌≡◌, ◌⊎◌, refl}
 use Rattle.std.specs.List.{AllByRecursion}
 use Rattle.std.proofs.Common.{inl, inr, sym, subst, ap, ◌∙◌}
-use Rattle.at_base.specs.declared.epr.Epr.{Epr}
 use Rattle.at_base.specs.declared.notice.Kind.{Kind}
 use Rattle.at_base.specs.declared.notice.Kind.TheVariants as kinds
 use Rattle.at_base.specs.declared.notice.Notice.{Notice}
 use Rattle.at_base.specs.declared.notice.Notice.TheVariants as notices
 use Rattle.at_base.specs.declared.target.Target.TheVariants as targets
 use Rattle.at_base.specs.declared.event.Event.{Event}
-use Rattle.at_base.specs.declared.outs.Effect.{Effect}
 use Rattle.at_base.specs.declared.outs.Ending.{Ending}
 use Rattle.at_base.specs.declared.outs.Ending.TheVariants as endings
-use Rattle.at_tables.specs.declared.cells.State.TheVariants as states
 use Rattle.at_model.specs.Book.{Book, Enlistment, Transaction, transaction_id}
 use Rattle.at_model.specs.Seats.{ending}
 use Rattle.at_model.specs.Step.{step, transaction_at}
-use Rattle.at_model.specs.World.{Accepted, Node, Who, World, accepted_seat, happened_at, who_of}
-use Rattle.model_laws.specs.Agreement.{HasAborted, HasCommitted, HasEnded, HasPosted, IsIn}
-use Rattle.model_laws.specs.Behind.{IsUnanswered}
+use Rattle.at_model.specs.World.{Accepted, Node, Who, World, accepted_seat, happened_at}
+use Rattle.model_laws.specs.Agreement.{HasCommitted, HasEnded, HasPosted, IsIn}
 use Rattle.model_laws.specs.Enlisted.{IsEnlisted}
 use Rattle.model_laws.specs.Grows.{Grows}
 use Rattle.model_laws.specs.Reached.{Heard, counts}
-use Rattle.model_laws.proofs.Deciding.{all_find, all_more}
+use Rattle.model_laws.proofs.Deciding.{all_find}
 use Rattle.model_laws.proofs.Enrolled.{nodes_of}
 use Rattle.model_laws.proofs.Lasting.{grows_counts}
 use Rattle.model_laws.proofs.Nodes.{who_same}
 use Rattle.model_laws.proofs.Seating.{in_back}
 use Rattle.agreement.specs.Deeds.{ParticipantSaid}
 use Rattle.agreement.specs.Finished.{IsFinished}
-use Rattle.agreement.specs.Lives.{book_of, standing}
+use Rattle.agreement.specs.Lives.{standing}
 use Rattle.agreement.proofs.SeatedEntries.{one_of}
 use Rattle.enlistments.specs.Knowing.{IsVoteOf, VotesAtItsSeat}
 use Rattle.enlistments.specs.Leads.{LeadsTo}
 use Rattle.votes.specs.Answering.{HasSeat, registration}
 use Rattle.votes.specs.Backing.{CommittedIsBacked, HasCommittedAt}
 use Rattle.votes.specs.Joint.{IsOutcome}
-use Rattle.votes.specs.Saying.{SeatTells, TransactionTells, who_named}
+use Rattle.votes.specs.Saying.{TransactionTells, who_named}
 use Rattle.votes.proofs.Aborting.{aborted_ends}
 use Rattle.votes.proofs.Arriving.{Arrives, arrives}
 use Rattle.votes.proofs.Ended.{by_ending}

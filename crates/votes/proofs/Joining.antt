@@ -1,7 +1,7 @@
 -- A registration that a step accepts at a seat is one of a transaction that is undecided, before the step and behind it.
-use Rattle.std.specs.Prelude.{ℕ, List, [], ◌∷◌, ◌++◌, Option, Some, None, Bool, true, false, length, drop, ◌≡◌, ◌⊎◌, refl}
+use Rattle.std.specs.Prelude.{ℕ, List, [], Option, Some, None, Bool, true, length, drop, ◌≡◌, ◌⊎◌, refl}
 use Rattle.std.specs.List.{AllByRecursion}
-use Rattle.std.proofs.Common.{inl, inr, sym, subst, ap, ◌∙◌}
+use Rattle.std.proofs.Common.{inl, inr, sym, subst}
 use Rattle.at_base.specs.Numbers.{Numbers}
 use Rattle.at_base.specs.declared.notice.Kind.{Kind}
 use Rattle.at_base.specs.declared.event.Event.{Event}
@@ -9,11 +9,11 @@ use Rattle.at_base.specs.declared.target.Seat.{Seat}
 use Rattle.at_model.specs.Book.{Book, Enlistment, Transaction, transaction_id}
 use Rattle.at_model.specs.Due.{may_expire}
 use Rattle.at_model.specs.Step.{step, transaction_at}
-use Rattle.at_model.specs.World.{Accepted, Node, Who, World, accepted_by, accepted_in, nth}
+use Rattle.at_model.specs.World.{Accepted, Node, Who, World, accepted_by, accepted_in}
 use Rattle.model_laws.specs.Agreement.{IsIn}
 use Rattle.model_laws.specs.Laws.{IsDrawn}
 use Rattle.model_laws.specs.Order.{IsInOrder}
-use Rattle.model_laws.specs.Reached.{Reached, counts, stepped}
+use Rattle.model_laws.specs.Reached.{counts, stepped}
 use Rattle.model_laws.proofs.Deciding.{all_find, found_id}
 use Rattle.model_laws.proofs.Enlisting.{dropped}
 use Rattle.model_laws.proofs.Enrolled.{nodes_of}

@@ -1,9 +1,8 @@
 -- Behind each step a transaction that has voted, or commits, has a seat for each durable participant that is to be told.
-use Rattle.std.specs.Prelude.{ℕ, List, [], ◌∷◌, ◌++◌, Option, Some, None, Bool, true, false, length, take, drop, map, ◌≡◌, ◌⊎◌, refl}
+use Rattle.std.specs.Prelude.{ℕ, ◌++◌, Option, Some, Bool, true, false, length, drop, map, ◌≡◌, ◌⊎◌, refl}
 use Rattle.std.specs.List.{AllByRecursion}
 use Rattle.std.proofs.Common.{inl, inr, sym, subst, ap, ◌∙◌}
 use Rattle.at_base.specs.Numbers.{Numbers}
-use Rattle.at_base.specs.declared.notice.Kind.{Kind}
 use Rattle.at_base.specs.declared.notice.Kind.TheVariants as kinds
 use Rattle.at_base.specs.declared.notice.Notice.TheVariants as notices
 use Rattle.at_base.specs.declared.event.Event.{Event}
@@ -14,7 +13,6 @@ use Rattle.at_model.specs.World.{Node, Who, World, accepted_seat, base_of, nth}
 use Rattle.model_laws.specs.Agreement.{HasAborted, HasPosted, IsIn}
 use Rattle.model_laws.specs.Drawn.{with_entry}
 use Rattle.model_laws.specs.Grows.{Grows}
-use Rattle.model_laws.specs.Laws.{IsDrawn}
 use Rattle.model_laws.specs.Reached.{counts}
 use Rattle.model_laws.proofs.Accepting.{step_gives}
 use Rattle.model_laws.proofs.Deciding.{all_find, all_more, found_id, in_front}

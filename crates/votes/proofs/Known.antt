@@ -1,25 +1,21 @@
 -- What a step's premises say of its node's items, and what the step brings about.
-use Rattle.std.specs.Prelude.{ℕ, List, [], ◌∷◌, ◌++◌, Option, Some, None, Bool, true, false, if◌then◌else◌, nat_eq, length, map, filter, ◌^◌, ◌≡◌, ◌⊎◌, ◌≤◌, ◌<◌, refl}
+use Rattle.std.specs.Prelude.{ℕ, List, [], ◌∷◌, Option, Some, Bool, map, ◌≡◌, refl}
 use Rattle.std.specs.List.{AllByRecursion}
 use Rattle.std.proofs.Common.{inl, inr, sym, subst, ap, ◌∙◌}
-use Rattle.std.proofs.lemmas.Bool.{eqb-true}
 use Rattle.at_base.specs.Numbers.{Numbers}
 use Rattle.at_base.specs.declared.epr.Epr.{Epr}
 use Rattle.at_base.specs.declared.event.Arrived.{Arrived}
 use Rattle.at_base.specs.declared.event.Event.{Event}
 use Rattle.at_base.specs.declared.event.Event.TheVariants as events
 use Rattle.at_base.specs.declared.record.Record.{Record}
-use Rattle.at_base.specs.declared.outs.Ending.{Ending}
 use Rattle.at_base.specs.declared.outs.Ending.TheVariants as endings
 use Rattle.at_base.specs.declared.outs.Effect.{Effect}
-use Rattle.at_base.specs.declared.outs.Effect.TheVariants as effects
 use Rattle.at_base.specs.declared.target.Target.{Target}
-use Rattle.at_model.specs.Book.{Book, Enlistment, Leaf, Phase, Superior, Transaction, transaction_id}
-use Rattle.at_model.specs.Due.{may_expire}
-use Rattle.at_model.specs.Seats.{ending, ending_of}
-use Rattle.at_model.specs.Step.{leaf_at, plan, step, transaction_at}
-use Rattle.at_model.specs.World.{Happened, Node, Posted, Who, World, accepted_seat, happened_at, new_nodes, nth, who_at, who_of}
-use Rattle.model_laws.specs.Agreement.{HasAborted, HasCommitted, HasEnded, IsAccepted, IsIn}
+use Rattle.at_model.specs.Book.{Book, Enlistment, Phase, Transaction, transaction_id}
+use Rattle.at_model.specs.Seats.{ending}
+use Rattle.at_model.specs.Step.{leaf_at, step, transaction_at}
+use Rattle.at_model.specs.World.{Node, Who, World, accepted_seat, happened_at, new_nodes, who_at}
+use Rattle.model_laws.specs.Agreement.{HasAborted, HasCommitted, HasEnded, IsIn}
 use Rattle.model_laws.specs.Enlisted.{IsEnlisted}
 use Rattle.model_laws.specs.Grows.{Grows}
 use Rattle.model_laws.specs.Reached.{Heard, counts}
@@ -28,10 +24,9 @@ use Rattle.model_laws.proofs.Lasting.{grows_counts}
 use Rattle.model_laws.proofs.Nodes.{who_same}
 use Rattle.model_laws.proofs.Seating.{in_back}
 use Rattle.agreement.specs.Deeds.{How, IsAbort, IsCommit, happens}
-use Rattle.agreement.specs.Done.{standing as entered}
-use Rattle.agreement.specs.Lives.{Life, book_of, ends, happened_on, has_aborted, has_committed, has_decided, has_voted, is_gone, is_undecided, standing, waits, works}
+use Rattle.agreement.specs.Lives.{Life, book_of, happened_on, standing}
 use Rattle.agreement.proofs.TransactionLives.{TransactionLife}
-use Rattle.agreement.proofs.SeatedEntries.{each_is_in, one_of}
+use Rattle.agreement.proofs.SeatedEntries.{one_of}
 use Rattle.enlistments.specs.Leads.{LeadsTo}
 use Rattle.enlistments.specs.Moves.{TransactionDid}
 use Rattle.votes.specs.Answering.{HasSeat}

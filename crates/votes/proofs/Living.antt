@@ -1,5 +1,5 @@
 -- In every reached world, and not in those of whole runs alone, a node's book, its journal and what happened at it agree.
-use Rattle.std.specs.Prelude.{ℕ, List, [], ◌∷◌, ◌++◌, Option, Some, None, Bool, true, false, if◌then◌else◌, ◌+◌, nat_eq, map, filter, ◌^◌, ◌≡◌, ◌⊎◌, ◌≤◌, ◌<◌, refl}
+use Rattle.std.specs.Prelude.{ℕ, List, [], ◌∷◌, ◌++◌, Option, Some, None, Bool, true, false, if◌then◌else◌, ◌+◌, nat_eq, map, filter, ◌^◌, ◌≡◌, ◌<◌, refl}
 use Rattle.std.specs.List.{AllByRecursion}
 use Rattle.std.proofs.Common.{arith, sym, subst, ap, ◌∙◌}
 use Rattle.std.proofs.lemmas.Bool.{eq-eqb, eqb-true}
@@ -13,13 +13,12 @@ use Rattle.at_base.specs.declared.outs.Out.{Out}
 use Rattle.at_base.specs.declared.outs.Out.TheVariants as outs
 use Rattle.at_model.specs.Book.{Book}
 use Rattle.at_model.specs.Leaves.{leaf_ended}
-use Rattle.at_model.specs.Recover.{last_incarnation, recover}
+use Rattle.at_model.specs.Recover.{last_incarnation}
 use Rattle.at_model.specs.Seats.{ending}
 use Rattle.at_model.specs.Step.{leaf_at, plan, step, transaction_at}
-use Rattle.at_model.specs.World.{Happened, Node, World, goes_down, happened_at, is_lost_leaf, is_lost_root, is_lost_subordinate, lost_in, nth, opening, put_book, put_nth, started, up_after}
-use Rattle.model_laws.specs.Agreement.{IsIn}
+use Rattle.at_model.specs.World.{Happened, Node, World, goes_down, happened_at, is_lost_leaf, is_lost_root, is_lost_subordinate, lost_in, nth, put_book, put_nth, started, up_after}
 use Rattle.model_laws.specs.Drawn.{restarted, with_entry}
-use Rattle.model_laws.specs.Reached.{Heard, Reached, counts}
+use Rattle.model_laws.specs.Reached.{Reached, counts}
 use Rattle.model_laws.proofs.Deciding.{all_join}
 use Rattle.model_laws.proofs.Enrolled.{one_superior, world_good}
 use Rattle.model_laws.proofs.Holding.{Law, OutFine, holds}
@@ -27,13 +26,13 @@ use Rattle.model_laws.proofs.Nodes.{each_put}
 use Rattle.model_laws.proofs.Recovering.{incarnations_rise}
 use Rattle.model_laws.proofs.Running.{opening_node}
 use Rattle.agreement.specs.Finished.{NamesRising}
-use Rattle.agreement.specs.Lives.{Life, PromisesNothing, book_of, happened_on, is_gone, standing}
+use Rattle.agreement.specs.Lives.{Life, PromisesNothing, happened_on, is_gone, standing}
 use Rattle.agreement.proofs.Falling.{lost, rises_as, start_same}
 use Rattle.agreement.proofs.Lives.{IsDown, IsUp, falls, goes_on, lost_there, rises}
 use Rattle.agreement.proofs.LivesOn.{IsFresh}
 use Rattle.agreement.proofs.Seated.{world_seated}
 use Rattle.agreement.proofs.Sorted.{world_sorted}
-use Rattle.agreement.proofs.Still.{Same, promise_id}
+use Rattle.agreement.proofs.Still.{Same}
 use Rattle.votes.proofs.Premises.{WorldLaws}
 
 abbrev AsItIs : List Record → Option Book → List Effect → Type 0

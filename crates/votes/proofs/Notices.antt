@@ -1,46 +1,28 @@
 -- What a notification is, and whom an activity's go to.
-use Rattle.std.specs.Prelude.{ℕ, List, Option, Some, None, Bool, ◌≡◌, ◌⊎◌, refl}
-use Rattle.std.specs.List.{AllByRecursion}
-use Rattle.std.proofs.Common.{inl, inr, sym, subst, ap, ◌∙◌}
+use Rattle.std.specs.Prelude.{ℕ, Option, Some, ◌≡◌}
+use Rattle.std.proofs.Common.{sym, subst, ap, ◌∙◌}
 use Rattle.at_base.specs.Numbers.{Numbers}
 use Rattle.at_base.specs.declared.epr.Epr.{Epr}
 use Rattle.at_base.specs.declared.event.Event.{Event}
 use Rattle.at_base.specs.declared.event.Moment.{Moment}
 use Rattle.at_base.specs.declared.notice.Kind.{Kind}
-use Rattle.at_base.specs.declared.notice.Kind.TheVariants as kinds
 use Rattle.at_base.specs.declared.notice.Notice.{Notice}
-use Rattle.at_base.specs.declared.notice.Notice.TheVariants as notices
 use Rattle.at_base.specs.declared.message.Message.{Message}
 use Rattle.at_base.specs.declared.message.Message.TheVariants as messages
 use Rattle.at_base.specs.declared.outs.Post.{Post}
 use Rattle.at_base.specs.declared.target.Target.{Target}
 use Rattle.at_base.specs.declared.target.Target.TheVariants as targets
-use Rattle.at_tables.specs.declared.cells.State.TheVariants as states
-use Rattle.at_model.specs.Book.{Activity, Book, Enlistment, Leaf, Transaction, activity_id}
+use Rattle.at_model.specs.Book.{Activity, Book, Enlistment, Transaction, activity_id}
 use Rattle.at_model.specs.Moves.{Change}
 use Rattle.at_model.specs.Step.{activity_at, transaction_at}
-use Rattle.at_model.specs.World.{Node, Who, World}
-use Rattle.model_laws.specs.Agreement.{HasCommitted, HasPosted, IsIn}
-use Rattle.model_laws.specs.Grows.{Grows}
-use Rattle.model_laws.specs.Reached.{counts}
+use Rattle.at_model.specs.World.{Node, World}
+use Rattle.model_laws.specs.Agreement.{IsIn}
 use Rattle.model_laws.proofs.Deciding.{all_find}
 use Rattle.agreement.specs.ActivityDeeds.{ActivitySays, completing, tells_nothing as asks_nothing}
 use Rattle.agreement.specs.Branches.{IsNoNotice}
-use Rattle.agreement.specs.Deeds.{How, IsCommit, IsWhy, WhyInitiator, WhySuperior}
-use Rattle.agreement.specs.Done.{standing}
-use Rattle.agreement.specs.LeafDeeds.{LeafSays, aborted, committed, prepared, read_only, tells_nothing}
 use Rattle.enlistments.specs.Knowing.{ActivityKnows}
 use Rattle.enlistments.specs.Leads.{CompletesIfKnown, LeadsTo}
-use Rattle.enlistments.specs.Moves.{ActivityDid, TransactionDid}
-use Rattle.enlistments.specs.Telling.{AnswersAsNone, Tells, activity_says, as_committed, as_no_participant, as_no_seat, from_left_link, leaf_says, says_aborted, to_asking, to_initiator, to_late_seat, to_left_seat, to_seat, to_superior}
-use Rattle.votes.specs.Answering.{HasSeat}
-use Rattle.votes.specs.Backing.{CommitIsBacked, IsUnderCommitted}
-use Rattle.votes.specs.Joint.{IsOutcome}
-use Rattle.votes.specs.Saying.{SeatSays, who_named}
-use Rattle.votes.proofs.Growing.{committed_on, posted_on, seat_on}
-use Rattle.votes.proofs.Known.{commits_now, grown, has_seat, leads_who, seat_tells}
 use Rattle.votes.proofs.Premises.{StepPremises}
-use Rattle.votes.proofs.SeatVotes.{why_prepared}
 
 -- messages
 pub says_notice : (m : Message) (n : Notice) → IsNoNotice m → m ≡ messages.Notice n → ⊥

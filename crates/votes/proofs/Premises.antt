@@ -1,5 +1,5 @@
 -- What each step may use of the world before it, and what it has to show of the world behind it.
-use Rattle.std.specs.Prelude.{ℕ, List, Some, None, Bool, ◌+◌, ◌^◌, ◌≡◌, ◌<◌}
+use Rattle.std.specs.Prelude.{ℕ, Some, None, Bool, ◌+◌, ◌^◌, ◌≡◌, ◌<◌}
 use Rattle.std.specs.List.{AllByRecursion}
 use Rattle.at_base.specs.Numbers.{Numbers}
 use Rattle.at_base.specs.declared.event.Event.{Event}
@@ -66,4 +66,3 @@ abbrev pub StepSends : (ℕ → World → Post → Type 0) → Type 0
 StepSends Fine =
     (count : ℕ) (u : World) (n : ℕ) (x : Node) (b : Book) (e : Event) (now : ℕ) (landed : Bool) → StepPremises count u n x b e → IsOutcome count u
     → AllByRecursion (OutFine (Fine count (counts u n x b e now landed))) (step b e now landed).outs
-

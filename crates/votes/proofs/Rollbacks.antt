@@ -1,10 +1,6 @@
 -- A Rollback goes to a durable participant whose transaction has aborted, or that has committed already.
-use Rattle.std.specs.Prelude.{ℕ, List, [], ◌∷◌, Option, Some, None, Bool, true, false, find, map, nat_eq, ◌&&◌, if◌then◌else◌, ◌≡◌, ◌⊎◌, refl}
-use Rattle.std.specs.List.{AllByRecursion}
+use Rattle.std.specs.Prelude.{ℕ, List, Some, None, Bool, ◌≡◌, ◌⊎◌, refl}
 use Rattle.std.proofs.Common.{inl, inr, sym, subst, ap, ◌∙◌}
-use Rattle.std.proofs.lemmas.Bool.{eq-eqb}
-use Rattle.at_base.specs.Numbers.{Numbers}
-use Rattle.at_base.specs.declared.epr.Epr.{Epr}
 use Rattle.at_base.specs.declared.event.Event.{Event}
 use Rattle.at_base.specs.declared.event.Moment.{Moment}
 use Rattle.at_base.specs.declared.notice.Kind.{Kind}
@@ -12,40 +8,30 @@ use Rattle.at_base.specs.declared.notice.Kind.TheVariants as kinds
 use Rattle.at_base.specs.declared.notice.Notice.{Notice}
 use Rattle.at_base.specs.declared.notice.Notice.TheVariants as notices
 use Rattle.at_base.specs.declared.message.Message.TheVariants as messages
-use Rattle.at_base.specs.declared.outs.Ending.TheVariants as endings
 use Rattle.at_base.specs.declared.outs.Post.{Post}
-use Rattle.at_base.specs.declared.target.Seat.{Seat}
-use Rattle.at_base.specs.declared.target.Target.{Target}
 use Rattle.at_base.specs.declared.target.Target.TheVariants as targets
 use Rattle.at_tables.specs.declared.cells.State.TheVariants as states
-use Rattle.at_tables.specs.Names.{is_kind}
-use Rattle.at_model.specs.Book.{Book, Enlistment, Leaf, Phase, Transaction, transaction_id}
-use Rattle.at_model.specs.Due.{may_expire}
+use Rattle.at_model.specs.Book.{Book, Enlistment, Leaf, Transaction}
 use Rattle.at_model.specs.Moves.{Change}
 use Rattle.at_model.specs.Step.{find_seat, moment_of, plan, step, transaction_at}
-use Rattle.at_model.specs.World.{Accepted, Node, Who, World, accepted_seat, new_nodes, nth}
-use Rattle.model_laws.specs.Agreement.{HasAborted, HasCommitted, HasPosted, IsAccepted, IsIn}
+use Rattle.at_model.specs.World.{Node, Who, World}
+use Rattle.model_laws.specs.Agreement.{HasAborted, HasCommitted, HasPosted, IsIn}
 use Rattle.model_laws.specs.Grows.{Grows}
 use Rattle.model_laws.specs.Reached.{counts}
-use Rattle.model_laws.specs.Shapes.{IfFound, IsUnknownAt}
-use Rattle.model_laws.proofs.Deciding.{all_find, found_id}
+use Rattle.model_laws.specs.Shapes.{IfFound}
 use Rattle.agreement.specs.Deeds.{How, IsAbort, ParticipantSaid, WhyInitiator, WhySuperior}
 use Rattle.agreement.specs.Done.{standing}
 use Rattle.agreement.specs.LeafDeeds.{LeafSays, aborted, committed, prepared, read_only, tells_nothing}
-use Rattle.agreement.specs.Lives.{book_of}
-use Rattle.agreement.proofs.SeatedEntries.{each_is_in, one_of}
-use Rattle.enlistments.specs.Knowing.{IsVoteOf, VotesAtItsSeat}
 use Rattle.enlistments.specs.Leads.{LeadsTo}
-use Rattle.enlistments.specs.Moves.{Answered, TransactionDid}
+use Rattle.enlistments.specs.Moves.{TransactionDid}
 use Rattle.enlistments.specs.Telling.{AnswersAsNone, Tells, activity_says, as_committed, as_no_participant, as_no_seat, from_left_link, leaf_says, left_link_aborted, says_aborted, to_asking, to_initiator, to_late_seat, to_left_seat, to_seat, to_superior}
-use Rattle.votes.specs.Answering.{HasItsDurable, HasSeat, KeepsItsDurable, registration}
-use Rattle.votes.specs.Backing.{IsHeld, IsUnderAborted, RollbackIsBacked}
+use Rattle.votes.specs.Answering.{HasSeat}
+use Rattle.votes.specs.Backing.{IsUnderAborted, RollbackIsBacked}
 use Rattle.votes.specs.Joint.{IsOutcome}
 use Rattle.votes.specs.Saying.{HasLeft, SeatSays, who_named}
 use Rattle.votes.proofs.Gone.{not_both_votes}
 use Rattle.votes.proofs.Growing.{aborted_on, committed_on, seat_on, under_aborted_on}
-use Rattle.votes.proofs.Arriving.{Arrives}
-use Rattle.votes.proofs.Known.{aborting, aborts_now, grown, has_seat, here, leads_who, seat_tells}
+use Rattle.votes.proofs.Known.{aborts_now, grown, has_seat, leads_who, seat_tells}
 use Rattle.votes.proofs.Notices.{SeatsAre, no_participant, other_notice, same_end, same_notice, says_notice}
 use Rattle.votes.proofs.Unseated.{unseated}
 use Rattle.votes.proofs.Premises.{StepPremises}

@@ -1,5 +1,5 @@
 -- Seats that say what they should go on saying so as they move, each for its reason.
-use Rattle.std.specs.Prelude.{ℕ, List, [], ◌∷◌, Option, Some, ◌≡◌, ◌⊎◌, refl}
+use Rattle.std.specs.Prelude.{ℕ, List, [], ◌∷◌, Some, ◌≡◌, ◌⊎◌, refl}
 use Rattle.std.specs.List.{AllByRecursion}
 use Rattle.std.proofs.Common.{inl, inr, sym, subst, ap, ◌∙◌}
 use Rattle.at_base.specs.declared.notice.Kind.{Kind}
@@ -13,7 +13,7 @@ use Rattle.at_model.specs.Book.{Enlistment, Transaction}
 use Rattle.at_model.specs.World.{Who, World}
 use Rattle.model_laws.specs.Agreement.{HasAborted, HasCommitted, HasPosted, IsIn}
 use Rattle.model_laws.specs.Behind.{Accepted as Seating, IsUnanswered, accepted_as}
-use Rattle.agreement.specs.Deeds.{AreCounted, AreSeatsAfter, Counted, How, IsAbort, IsCommit, IsCounted, IsSeatAfter, IsWhy, MayLeave, ParticipantSaid, WhyAfter, has_said, is_asked, is_still}
+use Rattle.agreement.specs.Deeds.{AreCounted, AreSeatsAfter, How, IsAbort, IsCommit, IsCounted, IsWhy, MayLeave, ParticipantSaid, WhyAfter, has_said, is_asked, is_still}
 use Rattle.votes.specs.Saying.{HasLeft, SeatSays, SeatTells, who_named}
 
 -- what the seats of a transaction say, and what a message says that comes to one of them

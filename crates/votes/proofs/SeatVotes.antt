@@ -1,26 +1,19 @@
 -- What a participant's vote at its seat says: it is the vote of whom the seat's endpoint leads to.
-use Rattle.std.specs.Prelude.{ℕ, List, Option, Some, None, ◌^◌, ◌≡◌, ◌⊎◌, ◌<◌, refl}
-use Rattle.std.specs.List.{AllByRecursion}
-use Rattle.std.proofs.Common.{inl, inr, sym, subst, ap, ◌∙◌}
-use Rattle.at_base.specs.Numbers.{Numbers}
+use Rattle.std.specs.Prelude.{ℕ, Some, ◌≡◌, ◌⊎◌, refl}
+use Rattle.std.proofs.Common.{inl, sym, subst, ap, ◌∙◌}
 use Rattle.at_base.specs.declared.event.Event.{Event}
 use Rattle.at_base.specs.declared.notice.Notice.{Notice}
 use Rattle.at_base.specs.declared.notice.Notice.TheVariants as notices
-use Rattle.at_base.specs.declared.message.Message.TheVariants as messages
 use Rattle.at_base.specs.declared.target.Seat.{Seat}
-use Rattle.at_base.specs.declared.target.Target.{Target}
-use Rattle.at_base.specs.declared.target.Target.TheVariants as targets
-use Rattle.at_tables.specs.declared.cells.State.{State}
 use Rattle.at_tables.specs.declared.cells.State.TheVariants as states
 use Rattle.at_model.specs.Book.{Book, Enlistment, Transaction}
 use Rattle.at_model.specs.Step.{transaction_at}
-use Rattle.at_model.specs.World.{Accepted, Node, Posted, Who, World}
+use Rattle.at_model.specs.World.{Accepted, Node, Who, World}
 use Rattle.model_laws.specs.Agreement.{HasPosted, IsAccepted, IsIn}
 use Rattle.agreement.specs.Deeds.{IsCounted, IsWhy, ParticipantSaid, has_said, is_asked, is_still}
 use Rattle.agreement.proofs.SeatedEntries.{one_of}
 use Rattle.enlistments.specs.Knowing.{IsVoteOf, VotesAtItsSeat}
 use Rattle.enlistments.specs.Leads.{LeadsTo}
-use Rattle.votes.specs.Answering.{HasSeat}
 use Rattle.votes.specs.Joint.{IsOutcome}
 use Rattle.votes.specs.Saying.{SeatSays, who_named}
 use Rattle.votes.proofs.Arriving.{Arrives}

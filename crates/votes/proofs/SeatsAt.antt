@@ -1,6 +1,6 @@
 -- The seats of a transaction as they stand at a vote, a decision or an end: there is one for each participant, and it says
 -- what the participant has answered.
-use Rattle.std.specs.Prelude.{ℕ, List, [], ◌∷◌, ◌++◌, Option, Some, None, Bool, true, false, if◌then◌else◌, not, ◌&&◌, ◌||◌, filter, map, ◌≡◌, ◌⊎◌, refl}
+use Rattle.std.specs.Prelude.{ℕ, List, [], ◌∷◌, Option, Some, None, Bool, true, false, not, ◌&&◌, ◌||◌, map, ◌≡◌, ◌⊎◌, refl}
 use Rattle.std.specs.List.{list_any, AllByRecursion}
 use Rattle.std.proofs.Common.{inl, inr, sym, subst, ap, ◌∙◌}
 use Rattle.at_base.specs.Numbers.{Numbers}
@@ -17,21 +17,21 @@ use Rattle.at_tables.specs.declared.cells.State.TheVariants as states
 use Rattle.at_tables.specs.Names.{is_kind, is_state}
 use Rattle.at_model.specs.Book.{Book, Enlistment, Transaction, transaction_id}
 use Rattle.at_model.specs.Due.{may_expire}
-use Rattle.at_model.specs.Seats.{answered, ending, is_of, is_prepared_durable, prepared, seated}
+use Rattle.at_model.specs.Seats.{answered, ending, is_of}
 use Rattle.at_model.specs.Step.{leaf_at, step, transaction_at}
 use Rattle.at_model.specs.World.{Accepted, Node, Who, World, accepted_seat}
 use Rattle.model_laws.specs.Agreement.{HasAborted, HasCommitted, HasPosted, IsIn}
 use Rattle.model_laws.specs.Behind.{IsUnanswered, accepted_as}
-use Rattle.model_laws.proofs.Deciding.{all_find, same_kind}
+use Rattle.model_laws.proofs.Deciding.{all_find}
 use Rattle.model_laws.proofs.Enrolled.{nodes_of}
 use Rattle.model_laws.proofs.Nodes.{seats_same}
 use Rattle.agreement.specs.Deeds.{AreCounted, How, IsAbort, happens}
 use Rattle.agreement.specs.Lives.{book_of, happened_on, standing}
-use Rattle.agreement.proofs.SeatedEntries.{are_entries, each_is_in, entries, entry}
+use Rattle.agreement.proofs.SeatedEntries.{are_entries, each_is_in, entry}
 use Rattle.agreement.proofs.TransactionLives.{TransactionLife}
 use Rattle.votes.specs.Answering.{HasSeat, registration}
 use Rattle.votes.specs.Joint.{IsOutcome}
-use Rattle.votes.specs.Saying.{HasLeft, SeatSays, SeatTells, who_named}
+use Rattle.votes.specs.Saying.{SeatSays, SeatTells, who_named}
 use Rattle.votes.proofs.Ended.{IsOpen, as_ending, as_what, is_open, life_of}
 use Rattle.votes.proofs.Hearing.{hears_before}
 use Rattle.votes.proofs.Premises.{StepPremises}

@@ -1,28 +1,22 @@
 -- What stands behind each Commit, Rollback and Committed that a step sends.
-use Rattle.std.specs.Prelude.{ℕ, List, [], ◌∷◌, Option, Some, ◌≡◌, refl}
+use Rattle.std.specs.Prelude.{ℕ, List, [], ◌∷◌, ◌≡◌, refl}
 use Rattle.std.specs.List.{AllByRecursion}
-use Rattle.std.proofs.Common.{inl, inr, sym, subst, ap, ◌∙◌}
+use Rattle.std.proofs.Common.{inl, inr}
 use Rattle.at_base.specs.Numbers.{Numbers}
-use Rattle.at_base.specs.declared.epr.Epr.{Epr}
 use Rattle.at_base.specs.declared.event.Event.{Event}
 use Rattle.at_base.specs.declared.notice.Kind.{Kind}
-use Rattle.at_base.specs.declared.notice.Notice.{Notice}
 use Rattle.at_base.specs.declared.notice.Notice.TheVariants as notices
-use Rattle.at_base.specs.declared.message.Message.TheVariants as messages
 use Rattle.at_base.specs.declared.outs.Out.{Out}
 use Rattle.at_base.specs.declared.outs.Out.TheVariants as outs
 use Rattle.at_base.specs.declared.outs.Post.{Post}
-use Rattle.at_base.specs.declared.record.Record.{Record}
-use Rattle.at_base.specs.declared.target.Target.{Target}
 use Rattle.at_base.specs.declared.target.Target.TheVariants as targets
-use Rattle.at_model.specs.Book.{Book, Enlistment, Transaction, transaction_id}
-use Rattle.at_model.specs.Step.{Outcome, plan, step, transaction_at}
+use Rattle.at_model.specs.Book.{Book, Enlistment, transaction_id}
+use Rattle.at_model.specs.Step.{step}
 use Rattle.at_model.specs.World.{Node, World}
 use Rattle.model_laws.specs.Agreement.{IsIn}
 use Rattle.model_laws.specs.Reached.{counts}
 use Rattle.model_laws.proofs.Deciding.{all_find}
 use Rattle.model_laws.proofs.Holding.{OutFine}
-use Rattle.agreement.specs.Done.{standing}
 use Rattle.agreement.proofs.SeatedEntries.{each_is_in, one_of}
 use Rattle.enlistments.specs.Leads.{IsOfKind, LeadsTo}
 use Rattle.votes.specs.Backing.{CommitIsBacked, CommittedIsBacked, RollbackIsBacked}

@@ -1,18 +1,16 @@
 -- Where a node starts, or time passes at it, its book stands for the same as before.
-use Rattle.std.specs.Prelude.{ℕ, List, [], ◌∷◌, ◌++◌, Option, Some, None, Bool, true, false, nat_eq, ◌+◌, ◌||◌, ◌≡◌, ◌⊎◌, refl}
+use Rattle.std.specs.Prelude.{ℕ, List, [], ◌∷◌, ◌++◌, Option, Some, None, Bool, true, false, nat_eq, ◌+◌, ◌≡◌, ◌⊎◌, refl}
 use Rattle.std.specs.List.{AllByRecursion}
 use Rattle.std.proofs.Common.{inl, inr, sym, subst, ap, ◌∙◌}
 use Rattle.std.proofs.lemmas.Bool.{eqb-true, eqb-false}
 use Rattle.std.proofs.lemmas.List.{append-nil}
 use Rattle.at_base.specs.Numbers.{Numbers}
-use Rattle.at_base.specs.declared.notice.Kind.TheVariants as kinds
 use Rattle.at_base.specs.declared.record.Record.{Record}
 use Rattle.at_base.specs.declared.record.Record.TheVariants as records
-use Rattle.at_model.specs.Book.{Book, Transaction, find_by, transaction_id}
-use Rattle.at_model.specs.Recover.{last_incarnation, live, recover, transactions_of, in_order}
-use Rattle.at_model.specs.Step.{transaction_at}
+use Rattle.at_model.specs.Book.{Transaction, find_by, transaction_id}
+use Rattle.at_model.specs.Recover.{last_incarnation, recover, transactions_of, in_order}
 use Rattle.at_model.specs.World.{Node, Who, World, nth, put_nth, started, up_after}
-use Rattle.model_laws.specs.Agreement.{IsIn, Stands}
+use Rattle.model_laws.specs.Agreement.{IsIn}
 use Rattle.model_laws.specs.Drawn.{restarted}
 use Rattle.model_laws.specs.Grows.{Grows}
 use Rattle.model_laws.proofs.Deciding.{all_join, all_more}
@@ -22,8 +20,8 @@ use Rattle.model_laws.proofs.Running.{put_other, put_this}
 use Rattle.agreement.specs.Lives.{book_of, standing}
 use Rattle.agreement.proofs.Journals.{journals_live}
 use Rattle.agreement.proofs.SeatedEntries.{in_either, one_of}
-use Rattle.votes.specs.Answering.{HasSeat, KeepsItsDurable, RecordAnswers}
-use Rattle.votes.specs.Backing.{AbortsWereTold, CommitIsBacked, CommittedIsBacked, GoneIsOver, IsHeld, RollbackIsBacked}
+use Rattle.votes.specs.Answering.{KeepsItsDurable, RecordAnswers}
+use Rattle.votes.specs.Backing.{CommitIsBacked, CommittedIsBacked, IsHeld, RollbackIsBacked}
 use Rattle.votes.specs.Joint.{IsOutcome}
 use Rattle.votes.specs.Saying.{TransactionTells}
 use Rattle.votes.specs.Voting.{HasVoted, is_vote}
@@ -68,8 +66,7 @@ voted_before u n x z l w (r, (y, f, i), is) = by_node (nat_eq w.node n) refl
     by_node : (c : Bool) → nat_eq w.node n ≡ c → HasVoted u w
     by_node true c =
         let here : w.node ≡ n = eqb-true w.node n c in
-        let this : z ≡ y = one_same (nth n (put_nth n z u.nodes)) z y (put_this u.nodes n x z l.found) (ap (λ k. nth k (put_nth n z u.nodes)) (sym here) ∙ f) in
-        (
+        let this : z ≡ y = one_same (nth n (put_nth n z u.nodes)) z y (put_this u.nodes n x z l.found) (ap (λ k. nth k (put_nth n z u.nodes)) (sym here) ∙ f) in (
           r,
           (
             x,
@@ -131,7 +128,7 @@ stays_like count u n x z l j = record {
     gone_like t y (inr over) = inr (over_on u w l.grows t y over)
 
 -- a start, at which the node may stop at once
-recovered_same : (base : List ℕ) (rs : List Record) → (recover base (restarted rs)).transactions ≡ (recover base rs).transactions
+pub recovered_same : (base : List ℕ) (rs : List Record) → (recover base (restarted rs)).transactions ≡ (recover base rs).transactions
 recovered_same base rs = ap (λ ls. in_order transaction_id (transactions_of base ls)) (journals_live.start rs (last_incarnation rs + 1))
 
 up_same : (x : Node) (stop : Bool) → x.book ≡ None → (book_of (up_after (started (last_incarnation x.journal + 1) x) stop)).transactions ≡ (book_of x).transactions

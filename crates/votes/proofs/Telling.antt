@@ -1,7 +1,7 @@
 -- Behind each step every seat says what it should.
-use Rattle.std.specs.Prelude.{ℕ, List, [], ◌∷◌, ◌++◌, Option, Some, None, Bool, true, false, if◌then◌else◌, ◌&&◌, length, nat_lt, bytes_eq, ◌≡◌, ◌⊎◌, refl}
+use Rattle.std.specs.Prelude.{ℕ, List, [], ◌∷◌, Option, Some, None, Bool, true, false, if◌then◌else◌, ◌&&◌, length, nat_lt, bytes_eq, ◌≡◌, ◌⊎◌, refl}
 use Rattle.std.specs.List.{AllByRecursion}
-use Rattle.std.proofs.Common.{inl, inr, sym, subst, ap, ◌∙◌}
+use Rattle.std.proofs.Common.{inl, inr, sym, subst, ◌∙◌}
 use Rattle.at_base.specs.Numbers.{Numbers}
 use Rattle.at_base.specs.declared.epr.Epr.{Epr}
 use Rattle.at_base.specs.declared.epr.Reply.{Reply}
@@ -18,12 +18,12 @@ use Rattle.at_base.specs.declared.outs.Ending.TheVariants as endings
 use Rattle.at_base.specs.declared.record.Record.{Record}
 use Rattle.at_tables.specs.declared.cells.State.TheVariants as states
 use Rattle.at_model.specs.Addresses.{atomic}
-use Rattle.at_model.specs.Book.{Book, Enlistment, Transaction, transaction_id}
+use Rattle.at_model.specs.Book.{Book, Transaction, transaction_id}
 use Rattle.at_model.specs.Create.{Creation, create_in, create_under, on_create, refuse_create}
-use Rattle.at_model.specs.Register.{Registration, is_late, new_seat, on_register}
+use Rattle.at_model.specs.Register.{Registration, is_late, new_seat}
 use Rattle.at_model.specs.Seats.{ending}
 use Rattle.at_model.specs.Step.{Outcome, at_time, moment_of, plan, step, transaction_at}
-use Rattle.at_model.specs.World.{Node, Who, World, nth}
+use Rattle.at_model.specs.World.{Node, Who, World}
 use Rattle.model_laws.specs.Drawn.{with_entry}
 use Rattle.model_laws.specs.Agreement.{HasAborted, HasCommitted}
 use Rattle.model_laws.specs.Grows.{Grows}
@@ -31,7 +31,7 @@ use Rattle.model_laws.specs.Reached.{counts}
 use Rattle.model_laws.proofs.Deciding.{IfThere, all_find, all_join, all_more, all_put, either_of}
 use Rattle.model_laws.proofs.Lasting.{grows_counts}
 use Rattle.model_laws.proofs.Nodes.{each_put}
-use Rattle.agreement.specs.Deeds.{AreSeatsIfLeft, Deed, How, IsAbort, IsCommit, IsSameIfLeft, happens}
+use Rattle.agreement.specs.Deeds.{AreSeatsIfLeft, How, IsAbort, IsCommit, IsSameIfLeft, happens}
 use Rattle.agreement.specs.Done.{standing}
 use Rattle.agreement.specs.Lives.{book_of}
 use Rattle.agreement.proofs.Seats.{deeds_move_seats}
@@ -136,9 +136,11 @@ moved_tell count v n b e now entry o did before one (registered d) =
     (subst (Enrolls (moment_of b now) d.arrived d.request d.old) (sym d.given) (register_enrolls (moment_of b now) d.arrived d.request d.old)) (one d.old d.found)) before)
 moved_tell count v n b e now entry o did before one (transaction_made d) =
     subst (λ (y : Outcome). AllByRecursion (TransactionTells count v n) y.book.transactions) (sym d.is)
-    (all_join (TransactionTells count v n) b.transactions (d.new ∷ []) before
-    (subst (AllByRecursion (SeatTells count v (record { node = n; id = d.new.id })))
-    (sym (subst (IfThere HasNoSeat) d.makes (created_empty (moment_of b now) (length b.transactions) d.arrived d.request d.id))) tt, tt))
+    (all_join (TransactionTells count v n) b.transactions (d.new ∷ []) before (
+      subst (AllByRecursion (SeatTells count v (record { node = n; id = d.new.id })))
+          (sym (subst (IfThere HasNoSeat) d.makes (created_empty (moment_of b now) (length b.transactions) d.arrived d.request d.id))) tt,
+      tt,
+    ))
 moved_tell count v n b e now entry o did before one (leaf_made d) = subst (λ (y : Outcome). AllByRecursion (TransactionTells count v n) y.book.transactions) (sym d.is) before
 moved_tell count v n b e now entry o did before one (activity_made d) = subst (λ (y : Outcome). AllByRecursion (TransactionTells count v n) y.book.transactions) (sym d.is) before
 moved_tell count v n b e now entry o did before one (answered d) = subst (λ (y : Outcome). AllByRecursion (TransactionTells count v n) y.book.transactions) (sym d.is) before

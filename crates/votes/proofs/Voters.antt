@@ -1,6 +1,5 @@
 -- Who has voted Prepared, and is under a transaction that committed, hasn't aborted.
-use Rattle.std.specs.Prelude.{ℕ, List, [], ◌∷◌, Option, Some, None, Bool, true, false, if◌then◌else◌, filter, ◌||◌, ◌≡◌, ◌⊎◌, refl}
-use Rattle.std.specs.List.{AllByRecursion}
+use Rattle.std.specs.Prelude.{ℕ, List, [], ◌∷◌, Option, Some, None, Bool, true, false, if◌then◌else◌, ◌≡◌, ◌⊎◌, refl}
 use Rattle.std.proofs.Common.{inl, inr, sym, subst, ap, ◌∙◌}
 use Rattle.at_base.specs.Numbers.{Numbers}
 use Rattle.at_base.specs.declared.notice.Kind.{Kind}
@@ -12,14 +11,14 @@ use Rattle.at_base.specs.declared.outs.Ending.TheVariants as endings
 use Rattle.at_base.specs.declared.record.Record.{Record}
 use Rattle.at_base.specs.declared.record.Record.TheVariants as records
 use Rattle.at_tables.specs.Names.{is_kind}
-use Rattle.at_model.specs.Book.{Book, Leaf, Transaction, is_id, leaf_id, transaction_id}
+use Rattle.at_model.specs.Book.{Book, Leaf, Transaction, leaf_id, transaction_id}
 use Rattle.at_model.specs.Step.{leaf_at, transaction_at}
 use Rattle.at_model.specs.World.{Happened, Node, Who, World, happened_at, nth}
-use Rattle.model_laws.specs.Agreement.{HasAborted, HasCommitted, HasEnded, IsIn, Stands, ends_as}
+use Rattle.model_laws.specs.Agreement.{HasAborted, HasCommitted, HasEnded, IsIn, ends_as}
 use Rattle.model_laws.specs.Shapes.{NoParticipant}
 use Rattle.model_laws.proofs.Deciding.{all_find, found_id}
 use Rattle.model_laws.proofs.Recovering.{same_id}
-use Rattle.agreement.specs.Lives.{Life, ends, happened_on, has_aborted, has_committed, has_decided, has_voted, is_gone, is_undecided, waits, works}
+use Rattle.agreement.specs.Lives.{Life, ends, happened_on}
 use Rattle.agreement.specs.Sorts.{FitsBook, FitsEffect, FitsIfUp, FitsRecord, LeafOf, Root, Sort, Subordinate, sort_under}
 use Rattle.agreement.proofs.SeatedEntries.{one_of}
 use Rattle.agreement.proofs.Still.{promise_id}
@@ -28,8 +27,7 @@ use Rattle.votes.specs.Joint.{IsOutcome}
 use Rattle.votes.specs.Voting.{HasVoted, is_vote}
 use Rattle.votes.proofs.Ended.{from_there}
 use Rattle.votes.proofs.Gone.{gone_ended, is_promised, same_node}
-use Rattle.votes.proofs.Known.{life_at}
-use Rattle.votes.proofs.Premises.{StepPremises, WorldPremises}
+use Rattle.votes.proofs.Premises.{WorldPremises}
 use Rattle.votes.proofs.There.{one_end}
 
 -- under one transaction, which can't have done both

@@ -1,7 +1,6 @@
 -- Whom a vote or a decision names, and whom a transaction keeps behind it.
 use Rattle.std.specs.Prelude.{ℕ, List, Some, map, ◌≡◌, ◌⊎◌}
 use Rattle.std.specs.List.{AllByRecursion}
-use Rattle.at_base.specs.Numbers.{Numbers}
 use Rattle.at_base.specs.declared.notice.Kind.{Kind}
 use Rattle.at_base.specs.declared.notice.Kind.TheVariants as kinds
 use Rattle.at_base.specs.declared.notice.Notice.TheVariants as notices

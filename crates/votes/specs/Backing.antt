@@ -1,5 +1,5 @@
 -- What stands behind the outcomes that are told, and behind a transaction that is gone.
-use Rattle.std.specs.Prelude.{ℕ, List, Option, Some, ◌≡◌, ◌⊎◌}
+use Rattle.std.specs.Prelude.{ℕ, Some, ◌≡◌, ◌⊎◌}
 use Rattle.std.specs.List.{AllByRecursion}
 use Rattle.at_base.specs.Numbers.{Numbers}
 use Rattle.at_base.specs.declared.epr.Epr.{Epr}
@@ -12,7 +12,7 @@ use Rattle.at_base.specs.declared.outs.Post.{Post}
 use Rattle.at_model.specs.Book.{Transaction}
 use Rattle.at_model.specs.Step.{transaction_at}
 use Rattle.at_model.specs.World.{Node, Who, World, nth}
-use Rattle.model_laws.specs.Agreement.{HasAborted, HasCommitted, HasPosted, IsAccepted}
+use Rattle.model_laws.specs.Agreement.{HasAborted, HasCommitted, HasPosted}
 use Rattle.agreement.specs.Lives.{book_of}
 use Rattle.enlistments.specs.Leads.{LeadsTo}
 use Rattle.votes.specs.Answering.{HasSeat}

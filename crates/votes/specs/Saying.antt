@@ -1,5 +1,5 @@
 -- What the state of a seat says of its participant, and of the transaction.
-use Rattle.std.specs.Prelude.{ℕ, List, Option, Some, ◌≡◌, ◌⊎◌}
+use Rattle.std.specs.Prelude.{ℕ, Option, Some, ◌≡◌, ◌⊎◌}
 use Rattle.std.specs.List.{AllByRecursion}
 use Rattle.at_base.specs.declared.epr.Epr.{Epr}
 use Rattle.at_base.specs.declared.notice.Kind.{Kind}

@@ -1,6 +1,6 @@
 -- What a durable participant's vote leaves behind it (WS-AtomicTransaction 1.2, section 3.3.2): a Prepared is recorded, and who
 -- votes ReadOnly is gone without a trace.
-use Rattle.std.specs.Prelude.{ℕ, List, [], Option, Some, None, Bool, true, ◌||◌, ◌^◌, ◌≡◌, ◌<◌}
+use Rattle.std.specs.Prelude.{ℕ, List, [], Some, None, Bool, true, ◌||◌, ◌^◌, ◌≡◌, ◌<◌}
 use Rattle.at_base.specs.Numbers.{Numbers}
 use Rattle.at_base.specs.declared.notice.Kind.TheVariants as kinds
 use Rattle.at_base.specs.declared.notice.Notice.TheVariants as notices
