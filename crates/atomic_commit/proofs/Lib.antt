@@ -1,0 +1,4 @@
+pub mod Machine
+pub mod Stages
+pub mod Refining
+pub mod Leaving
