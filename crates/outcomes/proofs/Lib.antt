@@ -7,3 +7,5 @@ pub mod Telling
 pub mod Upwards
 pub mod Founding
 pub mod Founded
+pub mod Completing
+pub mod Completed

@@ -2,7 +2,7 @@
 
 ghost use Rattle.outcomes.specs.Founded.{OutcomesAreFounded};
 
-#[tactic(auto, using(crate::proofs::Founded::all_founded))]
+#[tactic(auto, using(crate::proofs::Completed::done_commits))]
 pub fn outcomes_are_founded()
     ensures { OutcomesAreFounded }
 {}
