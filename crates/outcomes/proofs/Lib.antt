@@ -1,9 +1,12 @@
+pub mod Agreeing
+pub mod Completed
+pub mod Completing
+pub mod Decisions
 pub mod Depth
+pub mod Founded
+pub mod Founding
 pub mod Kept
 pub mod Layers
 pub mod Once
-pub mod Decisions
 pub mod Telling
 pub mod Upwards
-pub mod Founding
-pub mod Founded
