@@ -1,4 +1,5 @@
-pub mod Machine
-pub mod Stages
-pub mod Refining
 pub mod Leaving
+pub mod Machine
+pub mod Refining
+pub mod Running
+pub mod Stages

@@ -1,7 +1,7 @@
 -- In the machine nobody aborts where another commits.
 use Rattle.std.specs.Prelude.{◌≡◌, ◌⊎◌}
 use Rattle.std.proofs.Common.{inl, inr, sym, subst, ◌∙◌}
-use Rattle.atomic_commit.specs.Machine.{Aborted, AllReady, Comes, Commitment, Committed, IsReady, Left, Moves, NobodyIsLeftBehind, NoneCommitted, Prepared, Stage, Steps, Working, aborts, begins, commits, goes, leaves, prepares, rests}
+use Rattle.atomic_commit.specs.Machine.{Aborted, AllReady, Comes, Commitment, Committed, IsReady, Left, Moves, NobodyIsLeftBehind, NoneCommitted, Prepared, Stage, Steps, aborts, begins, commits, goes, leaves, prepares, rests}
 
 -- where one has committed, all are ready
 abbrev IsSafe : {Item : Type 0} → Commitment Item → Type 0

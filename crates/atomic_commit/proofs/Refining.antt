@@ -7,17 +7,18 @@ use Rattle.at_base.specs.declared.notice.Notice.TheVariants as notices
 use Rattle.at_model.specs.World.{Who, World, WorldEvent, opening, run_of}
 use Rattle.model_laws.specs.Agreement.{HasAborted, HasCommitted, HasPosted, IsOf, below, itself}
 use Rattle.model_laws.specs.Grows.{Grows, TakesNothingBack}
-use Rattle.outcomes.specs.Bound.{HasPromised, IsBound}
+use Rattle.votes.specs.Voting.{HasVoted}
+use Rattle.outcomes.specs.Bound.{IsBound}
 use Rattle.outcomes.proofs.Depth.{down, up, whole}
-use Rattle.atomic_commit.specs.Machine.{Aborted, AllReady, Comes, Commitment, Committed, IsReady, Left, Moves, NoneCommitted, Prepared, Stage, Steps, Working, aborts, begins, commits, goes, leaves, prepares, rests}
-use Rattle.atomic_commit.specs.Stages.{commitment, has_ended, has_left, has_promised, is_abort, is_commit, stage, stage_of}
+use Rattle.atomic_commit.specs.Machine.{AllReady, Comes, Commitment, Committed, IsReady, Moves, NoneCommitted, Prepared, Steps, Working, aborts, begins, commits, goes, leaves, prepares, rests}
+use Rattle.atomic_commit.specs.Stages.{commitment, has_ended, has_left, has_voted, is_abort, is_commit, stage, stage_of}
 use Rattle.atomic_commit.specs.Refines.{RunsCommitAtomically}
 use Rattle.atomic_commit.proofs.Machine.{nobody_left_behind}
-use Rattle.atomic_commit.proofs.Stages.{abort_says, abort_shows, commit_says, commit_shows, left_says, left_shows, promise_says, promise_shows}
+use Rattle.atomic_commit.proofs.Stages.{abort_says, abort_shows, commit_says, commit_shows, left_says, left_shows, vote_says, vote_shows}
 
--- Who has left neither ends nor promises.
+-- Who has left neither ends nor votes.
 abbrev pub IsLeftForGood : World → Type 0
-IsLeftForGood w = (x : Who) → HasPosted w x kinds.Durable notices.ReadOnly → (HasCommitted w x → ⊥) × ((HasAborted w x → ⊥) × (HasPromised w x → ⊥))
+IsLeftForGood w = (x : Who) → HasPosted w x kinds.Durable notices.ReadOnly → (HasCommitted w x → ⊥) × ((HasAborted w x → ⊥) × (HasVoted w x → ⊥))
 
 -- what the tests of a stage say to each other
 ready_of : (c a p l : Bool) → (a ≡ true → ⊥) → (c ≡ true) ⊎ ((p ≡ true) ⊎ (l ≡ true)) → IsReady (stage_of c a p l)
@@ -74,16 +75,16 @@ move_of s false false p l false false p' l' cs as' ps ls one lc la lp all none =
 all_ready : (w : World) → IsBound w → (root : Who) → HasCommitted w root → AllReady (commitment w root)
 all_ready w h root c y of = by_depth (down w h y root of c)
   where
-    is : (HasAborted w y → ⊥) → (has_ended is_commit w y ≡ true) ⊎ ((has_promised w y ≡ true) ⊎ (has_left w y ≡ true)) → IsReady (stage w y)
-    is never = ready_of (has_ended is_commit w y) (has_ended is_abort w y) (has_promised w y) (has_left w y) (λ e. never (abort_says w y e))
+    is : (HasAborted w y → ⊥) → (has_ended is_commit w y ≡ true) ⊎ ((has_voted w y ≡ true) ⊎ (has_left w y ≡ true)) → IsReady (stage w y)
+    is never = ready_of (has_ended is_commit w y) (has_ended is_abort w y) (has_voted w y) (has_left w y) (λ e. never (abort_says w y e))
 
-    by_depth : (y ≡ root) ⊎ (HasPosted w y kinds.Durable notices.ReadOnly ⊎ (HasPromised w y × (HasAborted w y → ⊥))) → IsReady (stage w y)
+    by_depth : (y ≡ root) ⊎ (HasPosted w y kinds.Durable notices.ReadOnly ⊎ (HasVoted w y × (HasAborted w y → ⊥))) → IsReady (stage w y)
     by_depth (inl e) = let d : HasCommitted w y = subst (HasCommitted w) (sym e) c in is (h.one y d) (inl (commit_shows w y d))
-    by_depth (inr (inl left)) = is (h.left y left) (inr (inr (left_shows w y left)))
-    by_depth (inr (inr (promise, never))) = is never (inr (inl (promise_shows w y promise)))
+    by_depth (inr (inl left)) = is (λ a. h.left y left (inl a)) (inr (inr (left_shows w y left)))
+    by_depth (inr (inr (promise, never))) = is never (inr (inl (vote_shows w y promise)))
 
 has_committed : (w : World) (y : Who) → stage w y ≡ Committed → HasCommitted w y
-has_committed w y e = commit_says w y (committed_of (has_ended is_commit w y) (has_ended is_abort w y) (has_promised w y) (has_left w y) e)
+has_committed w y e = commit_says w y (committed_of (has_ended is_commit w y) (has_ended is_abort w y) (has_voted w y) (has_left w y) e)
 
 none_committed : (w : World) → IsBound w → (root x : Who) → IsOf w x root → HasAborted w x → NoneCommitted (commitment w root)
 none_committed w h root x of a y there e = whole w h (record { root = root; one = y; other = x; one_of = there; other_of = of; committed = has_committed w y e; aborted = a })
@@ -97,16 +98,16 @@ is_step u w back g h left root = record {
   stays = λ x of. still_of u w back g x root of;
   joins = λ x of. inr (agreed (has_ended is_commit w root) refl);
   moves = λ x of.
-      move_of (commitment w root) (has_ended is_commit u x) (has_ended is_abort u x) (has_promised u x) (has_left u x)
-      (has_ended is_commit w x) (has_ended is_abort w x) (has_promised w x) (has_left w x)
+      move_of (commitment w root) (has_ended is_commit u x) (has_ended is_abort u x) (has_voted u x) (has_left u x)
+      (has_ended is_commit w x) (has_ended is_abort w x) (has_voted w x) (has_left w x)
       (λ e. commit_shows w x (committed_still x (commit_says u x e)))
       (λ e. abort_shows w x (aborted_still x (abort_says u x e)))
-      (λ e. promise_shows w x (promised_still x (promise_says u x e)))
+      (λ e. vote_shows w x (voted_still x (vote_says u x e)))
       (λ e. left_shows w x (back.posted u w g x kinds.Durable notices.ReadOnly (left_says u x e)))
       (λ e f. h.one x (commit_says w x e) (abort_says w x f))
       (λ e f. (left x (left_says w x e)).0 (commit_says w x f))
       (λ e f. (left x (left_says w x e)).1.0 (abort_says w x f))
-      (λ e f. (left x (left_says w x e)).1.1 (promise_says w x f))
+      (λ e f. (left x (left_says w x e)).1.1 (vote_says w x f))
       (λ e. all_ready w h root (up w h x root of (commit_says w x e)))
       (λ e. none_committed w h root x of (abort_says w x e));
 }
@@ -118,8 +119,8 @@ is_step u w back g h left root = record {
     aborted_still x (inl a) = inl (back.ended u w g x _ a)
     aborted_still x (inr a) = inr (back.ended u w g x _ a)
 
-    promised_still : (x : Who) → HasPromised u x → HasPromised w x
-    promised_still x (r, s, e) = (r, back.stands u w g x.node r s, e)
+    voted_still : (x : Who) → HasVoted u x → HasVoted w x
+    voted_still x (r, s, e) = (r, back.stands u w g x.node r s, e)
 
     agreed : (b : Bool) → has_ended is_commit w root ≡ b → NoneCommitted (commitment w root) ⊎ AllReady (commitment w root)
     agreed true e = inr (all_ready w h root (commit_says w root e))
@@ -128,10 +129,10 @@ is_step u w back g h left root = record {
 -- nobody has committed at the opening
 none_at_first : (count : ℕ) (root : Who) → NoneCommitted (commitment (opening count) root)
 none_at_first count root x of e =
-    let f = committed_of (has_ended is_commit (opening count) x) (has_ended is_abort (opening count) x) (has_promised (opening count) x) (has_left (opening count) x) e in cc
+    let f = committed_of (has_ended is_commit (opening count) x) (has_ended is_abort (opening count) x) (has_voted (opening count) x) (has_left (opening count) x) e in cc
 
 -- so a run is a run of the machine
-abbrev IsStepwise : Type 0
+abbrev pub IsStepwise : Type 0
 IsStepwise =
     (count : ℕ) (es : List WorldEvent) (e : WorldEvent) (root : Who) → count < 2 ^ 64 → Steps (commitment (run_of count es) root) (commitment (run_of count (es ++ e ∷ [])) root)
 
@@ -142,13 +143,10 @@ comes_on steps count root small done (e ∷ rest) h =
     subst (λ es. Comes (commitment (run_of count es) root)) (append_assoc done (e ∷ []) rest)
     (comes_on steps count root small (done ++ e ∷ []) rest (goes (commitment (run_of count done) root) h (steps count done e root small)))
 
-pub commits_atomically : IsStepwise → RunsCommitAtomically
-commits_atomically steps = record {
+pub from_steps : IsStepwise → RunsCommitAtomically
+from_steps steps = record {
   opens = none_at_first;
   steps = steps;
   whole = λ count es root x y small of there e f.
       nobody_left_behind Who (commitment (run_of count es) root) (comes_on steps count root small [] es (begins (none_at_first count root))) x y of there e f;
 }
-
-pub try_it : (count : ℕ) → count ≡ count
-try_it count = refl

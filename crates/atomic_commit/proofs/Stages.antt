@@ -1,10 +1,9 @@
--- What the tests of a stage say: how the item ended, that it promised, and that it left.
-use Rattle.std.specs.Prelude.{ℕ, List, [], ◌∷◌, Option, Some, None, Bool, true, false, nat_eq, ◌&&◌, ◌||◌, ◌≡◌, ◌⊎◌, refl}
+-- What the tests of a stage say: how the item ended, that it voted, and that it left.
+use Rattle.std.specs.Prelude.{ℕ, List, [], ◌∷◌, Option, Some, None, Bool, true, false, nat_eq, ◌&&◌, ◌||◌, ◌≡◌, refl}
 use Rattle.std.specs.List.{list_any}
 use Rattle.std.proofs.lemmas.Bool.{eqb-true, eq-eqb}
-use Rattle.std.proofs.Common.{arith, inl, inr, sym, subst, ap, ◌∙◌}
+use Rattle.std.proofs.Common.{inl, inr, subst, ap, ◌∙◌}
 use Rattle.at_base.specs.Numbers.{Numbers}
-use Rattle.at_base.specs.declared.notice.Kind.{Kind}
 use Rattle.at_base.specs.declared.notice.Kind.TheVariants as kinds
 use Rattle.at_base.specs.declared.notice.Notice.TheVariants as notices
 use Rattle.at_base.specs.declared.message.Message.{Message}
@@ -15,15 +14,13 @@ use Rattle.at_base.specs.declared.outs.Ending.{Ending}
 use Rattle.at_base.specs.declared.outs.Ending.TheVariants as endings
 use Rattle.at_base.specs.declared.outs.Effect.{Effect}
 use Rattle.at_base.specs.declared.outs.Effect.TheVariants as effects
-use Rattle.at_base.specs.declared.record.Record.{Record}
 use Rattle.at_model.specs.Book.{is_id}
-use Rattle.at_model.specs.Recover.{is_promise}
 use Rattle.at_model.specs.World.{Happened, Node, Posted, Who, World, happened_at, nth}
-use Rattle.model_laws.specs.Agreement.{HasAborted, HasCommitted, HasEnded, HasPosted, IsIn, Stands}
+use Rattle.model_laws.specs.Agreement.{HasAborted, HasCommitted, HasEnded, HasPosted, IsIn}
 use Rattle.model_laws.proofs.Deciding.{first_true, second_true}
 use Rattle.model_laws.proofs.Recovering.{same_id, self_id}
-use Rattle.outcomes.specs.Bound.{HasPromised}
-use Rattle.atomic_commit.specs.Stages.{ended_so, has_ended, has_left, has_promised, is_abort, is_commit, is_durable_of, is_read_only, journal_of}
+use Rattle.votes.specs.Voting.{HasVoted, is_vote}
+use Rattle.atomic_commit.specs.Stages.{ended_so, has_ended, has_left, has_voted, is_abort, is_commit, is_durable_of, is_read_only, journal_of}
 
 -- what a test finds in a list, and that it finds what is there
 abbrev Found : {A : Type 0} → (A → Bool) → List A → Type 0
@@ -64,9 +61,11 @@ ended_at so w x (effects.Root i what) there e =
     (what, second_true (is_id i x.id) (so what) e, inl (subst (λ k. IsIn (happened_at x.node (effects.Root k what)) w.happened) (same_id i x.id (first_true (is_id i x.id) (so what) e)) there))
 ended_at so w x (effects.Sub i what) there e =
     (what, second_true (is_id i x.id) (so what) e, inr (inl (subst (λ k. IsIn (happened_at x.node (effects.Sub k what)) w.happened) (same_id i x.id (first_true (is_id i x.id) (so what) e)) there)))
-ended_at so w x (effects.Leaf i kinds.Durable what) there e =
-    (what, second_true (is_id i x.id) (so what) e,
-    inr (inr (subst (λ k. IsIn (happened_at x.node (effects.Leaf k kinds.Durable what)) w.happened) (same_id i x.id (first_true (is_id i x.id) (so what) e)) there)))
+ended_at so w x (effects.Leaf i kinds.Durable what) there e = (
+  what,
+  second_true (is_id i x.id) (so what) e,
+  inr (inr (subst (λ k. IsIn (happened_at x.node (effects.Leaf k kinds.Durable what)) w.happened) (same_id i x.id (first_true (is_id i x.id) (so what) e)) there)),
+)
 ended_at so w x (effects.Leaf i kinds.Volatile what) there e = absurd cc
 ended_at so w x (effects.Told i what) there e = absurd cc
 
@@ -112,19 +111,19 @@ pub abort_shows : (w : World) (x : Who) → HasAborted w x → has_ended is_abor
 abort_shows w x (inl h) = ended_shows is_abort w x endings.Aborted refl h
 abort_shows w x (inr h) = ended_shows is_abort w x endings.Lost refl h
 
--- what an item promised
-pub promise_says : (w : World) (x : Who) → has_promised w x ≡ true → HasPromised w x
-promise_says w x e = by_node (nth x.node w.nodes) refl e
+-- what an item voted
+pub vote_says : (w : World) (x : Who) → has_voted w x ≡ true → HasVoted w x
+vote_says w x e = by_node (nth x.node w.nodes) refl e
   where
-    of_found : (y : Node) → nth x.node w.nodes ≡ Some y → Found (is_promise x.id) y.journal → HasPromised w x
+    of_found : (y : Node) → nth x.node w.nodes ≡ Some y → Found (is_vote x.id) y.journal → HasVoted w x
     of_found y f (r, there, g) = (r, (y, f, there), g)
 
-    by_node : (o : Option Node) → nth x.node w.nodes ≡ o → list_any (is_promise x.id) (journal_of o) ≡ true → HasPromised w x
+    by_node : (o : Option Node) → nth x.node w.nodes ≡ o → list_any (is_vote x.id) (journal_of o) ≡ true → HasVoted w x
     by_node None f g = absurd cc
-    by_node (Some y) f g = of_found y f (finds (is_promise x.id) y.journal g)
+    by_node (Some y) f g = of_found y f (finds (is_vote x.id) y.journal g)
 
-pub promise_shows : (w : World) (x : Who) → HasPromised w x → has_promised w x ≡ true
-promise_shows w x (r, (y, f, there), g) = ap (λ o. list_any (is_promise x.id) (journal_of o)) f ∙ found (is_promise x.id) r y.journal there g
+pub vote_shows : (w : World) (x : Who) → HasVoted w x → has_voted w x ≡ true
+vote_shows w x (r, (y, f, there), g) = ap (λ o. list_any (is_vote x.id) (journal_of o)) f ∙ found (is_vote x.id) r y.journal there g
 
 durable_says : (id : Numbers) (own : Option Target) → is_durable_of id own ≡ true → own ≡ Some (targets.Participant id kinds.Durable)
 durable_says id (Some (targets.Participant i kinds.Durable)) e = ap (λ k. Some (targets.Participant k kinds.Durable)) (same_id i id e)
@@ -140,9 +139,13 @@ left_says w x e = of_found (finds (λ (p : Posted). nat_eq p.sender x.node && (i
     of_found : Found (λ (p : Posted). nat_eq p.sender x.node && (is_durable_of x.id p.content.own && is_read_only p.content.message)) w.posted → HasPosted w x kinds.Durable notices.ReadOnly
     of_found (p, there, f) =
         let a = first_true (nat_eq p.sender x.node) (is_durable_of x.id p.content.own && is_read_only p.content.message) f in
-        let g = second_true (nat_eq p.sender x.node) (is_durable_of x.id p.content.own && is_read_only p.content.message) f in
-        (p, there, eqb-true p.sender x.node a, durable_says x.id p.content.own (first_true (is_durable_of x.id p.content.own) (is_read_only p.content.message) g),
-        read_only_says p.content.message (second_true (is_durable_of x.id p.content.own) (is_read_only p.content.message) g))
+        let g = second_true (nat_eq p.sender x.node) (is_durable_of x.id p.content.own && is_read_only p.content.message) f in (
+          p,
+          there,
+          eqb-true p.sender x.node a,
+          durable_says x.id p.content.own (first_true (is_durable_of x.id p.content.own) (is_read_only p.content.message) g),
+          read_only_says p.content.message (second_true (is_durable_of x.id p.content.own) (is_read_only p.content.message) g),
+        )
 
 pub left_shows : (w : World) (x : Who) → HasPosted w x kinds.Durable notices.ReadOnly → has_left w x ≡ true
 left_shows w x (p, there, sender, own, says) =

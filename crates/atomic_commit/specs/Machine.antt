@@ -2,8 +2,8 @@
 -- journal (Gray and Lamport, Consensus on Transaction Commit, 2006, section 2).
 use Rattle.std.specs.Prelude.{◌≡◌, ◌⊎◌}
 
--- Where an item stands: it works; it has promised to do as it is told, or has decided; it has left without work to undo or to
--- keep; it has committed; or it has aborted.
+-- Where an item stands: it works; it has voted, and does as it is told; it has left without work to undo or to keep; it has
+-- committed; or it has aborted.
 pub data Stage : Type 0 where
   Working : Stage
   Prepared : Stage

@@ -13,6 +13,3 @@ pub record RunsCommitAtomically : Type 0 where
       → Steps (commitment (run_of count es) root) (commitment (run_of count (es ++ e ∷ [])) root)
   pub whole : (count : ℕ) (es : List WorldEvent) (root x y : Who) → count < 2 ^ 64 → IsOf (run_of count es) x root → IsOf (run_of count es) y root
       → stage (run_of count es) x ≡ Committed → stage (run_of count es) y ≡ Aborted → ⊥
-
-abbrev pub TryMachine : Type 0
-TryMachine = (count : ℕ) → count ≡ count

@@ -1,5 +1,5 @@
 -- Where an item of a world stands, as its effects, its node's journal and its messages say.
-use Rattle.std.specs.Prelude.{ℕ, List, [], ◌∷◌, Option, Some, None, Bool, true, false, nat_eq, ◌&&◌, if◌then◌else◌}
+use Rattle.std.specs.Prelude.{List, [], Option, Some, None, Bool, true, false, nat_eq, ◌&&◌}
 use Rattle.std.specs.List.{list_any}
 use Rattle.at_base.specs.Numbers.{Numbers}
 use Rattle.at_base.specs.declared.notice.Kind.TheVariants as kinds
@@ -14,9 +14,9 @@ use Rattle.at_base.specs.declared.outs.Effect.{Effect}
 use Rattle.at_base.specs.declared.outs.Effect.TheVariants as effects
 use Rattle.at_base.specs.declared.record.Record.{Record}
 use Rattle.at_model.specs.Book.{is_id}
-use Rattle.at_model.specs.Recover.{is_promise}
 use Rattle.at_model.specs.World.{Happened, Node, Posted, Who, World, nth}
 use Rattle.model_laws.specs.Agreement.{IsOf}
+use Rattle.votes.specs.Voting.{is_vote}
 use Rattle.atomic_commit.specs.Machine.{Aborted, Commitment, Committed, Left, Prepared, Stage, Working}
 
 abbrev pub is_commit : Ending → Bool
@@ -42,9 +42,9 @@ abbrev pub journal_of : Option Node → List Record
 journal_of None = []
 journal_of (Some x) = x.journal
 
--- its vote Prepared, or its decision, is recorded
-abbrev pub has_promised : World → Who → Bool
-has_promised w x = list_any (is_promise x.id) (journal_of (nth x.node w.nodes))
+-- its vote Prepared is recorded
+abbrev pub has_voted : World → Who → Bool
+has_voted w x = list_any (is_vote x.id) (journal_of (nth x.node w.nodes))
 
 abbrev pub is_durable_of : Numbers → Option Target → Bool
 is_durable_of id (Some (targets.Participant i kinds.Durable)) = is_id i id
@@ -59,14 +59,14 @@ abbrev pub has_left : World → Who → Bool
 has_left w x = list_any (λ (p : Posted). nat_eq p.sender x.node && (is_durable_of x.id p.content.own && is_read_only p.content.message)) w.posted
 
 abbrev pub stage_of : Bool → Bool → Bool → Bool → Stage
-stage_of true aborted promised left = Committed
-stage_of false true promised left = Aborted
+stage_of true aborted voted left = Committed
+stage_of false true voted left = Aborted
 stage_of false false true left = Prepared
 stage_of false false false true = Left
 stage_of false false false false = Working
 
 abbrev pub stage : World → Who → Stage
-stage w x = stage_of (has_ended is_commit w x) (has_ended is_abort w x) (has_promised w x) (has_left w x)
+stage w x = stage_of (has_ended is_commit w x) (has_ended is_abort w x) (has_voted w x) (has_left w x)
 
 -- Those of a root, through any depth of interposition, and where they stand.
 abbrev pub commitment : World → Who → Commitment Who
