@@ -1,7 +1,6 @@
 -- What participants tell goes to coordinators, and to no initiator.
-use Rattle.std.specs.Prelude.{ℕ, List, [], ◌∷◌, ◌++◌, Option, Some, None, Bool, true, false, is_none, is_some, ◌&&◌, ◌||◌, option_map, map, ◌^◌, ◌≡◌, ◌⊎◌, ◌<◌, refl}
-use Rattle.std.specs.List.{AllByRecursion}
-use Rattle.std.proofs.Common.{inl, inr, sym, subst, ap, ◌∙◌}
+use Rattle.std.specs.Prelude.{ℕ, Some, Bool, true, ◌≡◌, refl}
+use Rattle.std.proofs.Common.{inl, inr, subst, ap}
 use Rattle.at_base.specs.Numbers.{Numbers}
 use Rattle.at_base.specs.declared.epr.Epr.{Epr}
 use Rattle.at_base.specs.declared.event.Arrived.{Arrived}
@@ -9,53 +8,27 @@ use Rattle.at_base.specs.declared.event.Event.{Event}
 use Rattle.at_base.specs.declared.event.Event.TheVariants as events
 use Rattle.at_base.specs.declared.event.Moment.{Moment}
 use Rattle.at_base.specs.declared.notice.Kind.{Kind}
-use Rattle.at_base.specs.declared.notice.Kind.TheVariants as kinds
 use Rattle.at_base.specs.declared.notice.Notice.{Notice}
 use Rattle.at_base.specs.declared.notice.Notice.TheVariants as notices
-use Rattle.at_base.specs.declared.message.Message.{Message}
 use Rattle.at_base.specs.declared.message.Message.TheVariants as messages
-use Rattle.at_base.specs.declared.outs.Ending.{Ending}
-use Rattle.at_base.specs.declared.outs.Ending.TheVariants as endings
-use Rattle.at_base.specs.declared.outs.Effect.{Effect}
-use Rattle.at_base.specs.declared.outs.Effect.TheVariants as effects
 use Rattle.at_base.specs.declared.outs.Post.{Post}
-use Rattle.at_base.specs.declared.target.Seat.{Seat}
-use Rattle.at_base.specs.declared.target.Target.{Target}
 use Rattle.at_base.specs.declared.target.Target.TheVariants as targets
-use Rattle.at_tables.specs.declared.cells.State.TheVariants as states
-use Rattle.at_tables.specs.Names.{is_notice}
-use Rattle.at_model.specs.Book.{Activity, Book, Completion, Leaf, Phase, Superior, Transaction, leaf_id, transaction_id}
+use Rattle.at_model.specs.Book.{Activity, Book, Transaction, leaf_id}
 use Rattle.at_model.specs.Moves.{Change}
-use Rattle.at_model.specs.Outcomes.{is_kept}
-use Rattle.at_model.specs.Seats.{ending, ending_of}
-use Rattle.at_model.specs.Step.{has_committed, is_committing, is_decided_root, leaf_at, moment_of, plan, step, transaction_at}
-use Rattle.at_model.specs.World.{Node, Who, World, accepted_completion, happened_at, new_nodes, nth, takes, who_at, who_of}
-use Rattle.model_laws.specs.Agreement.{IsAccepted, IsIn, IsOutcomeOf}
-use Rattle.model_laws.specs.Enlisted.{IsEnlisted}
-use Rattle.model_laws.specs.Grows.{Grows}
-use Rattle.model_laws.specs.Links.{AreLinked}
-use Rattle.model_laws.specs.Reached.{Heard, Reached, counts}
-use Rattle.model_laws.proofs.Deciding.{all_find, found_id, in_front}
-use Rattle.model_laws.proofs.Lasting.{takes_nothing_back}
-use Rattle.model_laws.proofs.Nodes.{who_same}
+use Rattle.at_model.specs.Step.{moment_of, plan, step, transaction_at}
+use Rattle.at_model.specs.World.{Node, Who, World, takes}
+use Rattle.model_laws.proofs.Deciding.{all_find}
 use Rattle.agreement.specs.ActivityDeeds.{ActivitySays, Completes as AsksTo, completing, tells_nothing as asks_nothing}
-use Rattle.agreement.specs.Deeds.{How, InitiatorAsked, IsAbort, IsCommit, StoodFor, SuperiorSaid, WhyInitiator, coordinator_at, happens, initiator}
 use Rattle.agreement.specs.Done.{standing}
 use Rattle.agreement.specs.LeafDeeds.{LeafSays, aborted, committed, prepared, read_only, tells_nothing}
-use Rattle.agreement.specs.Lives.{happened_on}
-use Rattle.agreement.proofs.SeatedEntries.{one_of}
-use Rattle.agreement.proofs.TransactionLives.{TransactionLife, aborted as has_aborted, committed as has_committed_sub, decided as has_decided, undecided as is_undecided, voted as has_voted}
-use Rattle.enlistments.specs.Knowing.{AsksItsOwn, IsAsked, LeafKnows}
+use Rattle.enlistments.specs.Knowing.{IsAsked, LeafKnows}
 use Rattle.enlistments.specs.Leads.{Enlists, EnlistsIfKnown, LeadsTo}
-use Rattle.enlistments.specs.Moves.{IsNotified, LeafDid, TransactionDid}
-use Rattle.enlistments.specs.Telling.{AnswersAsNone, IsKnownOrAsked, Tells, activity_says, as_committed, as_no_participant, as_no_seat, from_left_link, leaf_says, left_link_aborted, says_aborted, to_asking, to_initiator, to_late_seat, to_left_seat, to_seat, to_superior}
+use Rattle.enlistments.specs.Moves.{LeafDid}
+use Rattle.enlistments.specs.Telling.{AnswersAsNone, IsKnownOrAsked}
 use Rattle.enlistments.proofs.Arriving.{HasCome, Stepping, has_come}
-use Rattle.votes.proofs.Committeds.{asker_enlists, asking_initiator, link_enlists}
-use Rattle.votes.proofs.Known.{committing, effect_there, grown, stands_as}
+use Rattle.votes.proofs.Committeds.{asker_enlists, link_enlists}
 use Rattle.votes.proofs.Notices.{other_notice, same_end, same_notice, says_notice}
 use Rattle.votes.proofs.Premises.{StepPremises}
-use Rattle.outcomes.specs.Founded.{SaysOutcome}
-use Rattle.outcomes.proofs.Decisions.{IsCommittedRoot, kept_root}
 
 -- what comes to a participant as a notification is asked by a superior
 pub asked_only : (id : Numbers) (kind : Kind) (v : Notice) → takes (targets.Participant id kind) (messages.Notice v) ≡ true → IsAsked v
