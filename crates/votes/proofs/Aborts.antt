@@ -33,10 +33,10 @@ use Rattle.agreement.proofs.SeatedEntries.{one_of}
 use Rattle.agreement.proofs.Still.{promise_id}
 use Rattle.agreement.proofs.TransactionLives.{TransactionLife, aborted, committed, decided, undecided, voted}
 use Rattle.enlistments.specs.Leads.{LeadsTo}
+use Rattle.enlistments.proofs.Arriving.{HasCome}
 use Rattle.votes.specs.Backing.{IsUnderAborted, RollbackIsBacked}
 use Rattle.votes.specs.Joint.{IsOutcome}
 use Rattle.votes.specs.Voting.{HasVoted, is_vote}
-use Rattle.votes.proofs.Arriving.{Arrives}
 use Rattle.votes.proofs.Ended.{is_open, not_ended}
 use Rattle.votes.proofs.Gone.{is_promised, same_node}
 use Rattle.votes.proofs.Known.{came_by, life_at, stands_as}
@@ -133,8 +133,8 @@ voted_unended rs fx id t (aborted p dead k) e = let f : Phase.Aborting ≡ Phase
 pub rolled_back_by : (count : ℕ) (u : World) (n : ℕ) (x : Node) (b : Book) (e : Event) → StepPremises count u n x b e → IsOutcome count u → (a : Arrived) → e ≡ events.Arrived a → (id : Numbers)
     → a.target ≡ targets.Participant id kinds.Durable → a.message ≡ messages.Notice notices.Rollback → (HasCommitted u (record { node = n; id = id }) → ⊥) → IsUnderAborted u (record { node = n; id = id })
 rolled_back_by count u n x b e p j a came id target says never =
-    let w : Arrives count u n a = came_by count u n x b e p a came in
-    either (one_of (λ q. RollbackIsBacked count u q.content) u.posted w.post j.rollbacks w.posted w.to n id (w.message ∙ says) w.goes (subst (LeadsTo count w.to n) target w.leads))
+    let w : HasCome count u n a = came_by count u n x b e p a came in
+    either (one_of (λ q. RollbackIsBacked count u q.content) u.posted w.posted j.rollbacks w.stands w.to n id (w.message ∙ says) w.sent (subst (LeadsTo count w.to n) target w.leads))
   where
     either : HasCommitted u (record { node = n; id = id }) ⊎ IsUnderAborted u (record { node = n; id = id }) → IsUnderAborted u (record { node = n; id = id })
     either (inl c) = absurd (never c)

@@ -1,26 +1,24 @@
 -- Over each step, fall and start, what aborts behind its vote Prepared does so under a transaction that has aborted.
-use Rattle.std.specs.Prelude.{ℕ, List, [], ◌∷◌, ◌++◌, Some, None, Bool, true, false, ◌+◌, map, filter, is_none, is_some, ◌||◌, if◌then◌else◌, ◌≡◌, ◌⊎◌, refl}
+use Rattle.std.specs.Prelude.{ℕ, List, [], ◌∷◌, ◌++◌, Some, None, Bool, true, false, map, filter, is_none, is_some, ◌||◌, if◌then◌else◌, ◌≡◌, ◌⊎◌, refl}
 use Rattle.std.proofs.Common.{inl, inr, sym, subst, ap, ◌∙◌}
 use Rattle.at_base.specs.Numbers.{Numbers}
 use Rattle.at_base.specs.declared.outs.Effect.{Effect}
 use Rattle.at_base.specs.declared.outs.Ending.{Ending}
 use Rattle.at_base.specs.declared.outs.Ending.TheVariants as endings
 use Rattle.at_base.specs.declared.record.Record.{Record}
-use Rattle.at_base.specs.declared.record.Record.TheVariants as records
 use Rattle.at_tables.specs.declared.cells.State.{State}
 use Rattle.at_tables.specs.declared.cells.State.TheVariants as states
 use Rattle.at_tables.specs.Names.{is_state}
 use Rattle.at_model.specs.Book.{Book, Leaf, Transaction, leaf_id, transaction_id}
 use Rattle.at_model.specs.Due.{may_expire}
 use Rattle.at_model.specs.Leaves.{leaf_ended}
-use Rattle.at_model.specs.Recover.{last_incarnation}
 use Rattle.at_model.specs.Seats.{ending}
 use Rattle.at_model.specs.Step.{leaf_at, plan, step, transaction_at}
-use Rattle.at_model.specs.World.{Node, Who, World, goes_down, happened_at, is_lost_leaf, is_lost_root, is_lost_subordinate, lost_in, nth, put_book, put_nth, started, up_after}
+use Rattle.at_model.specs.World.{Node, Who, World, goes_down, happened_at, is_lost_leaf, is_lost_root, is_lost_subordinate, lost_in, nth, put_book, put_nth}
 use Rattle.model_laws.specs.Agreement.{HasAborted, HasEnded, IsIn, Stands}
 use Rattle.model_laws.specs.Reached.{counts}
 use Rattle.model_laws.proofs.Deciding.{second_true}
-use Rattle.model_laws.proofs.Lasting.{grows_falls, grows_rises}
+use Rattle.model_laws.proofs.Lasting.{grows_falls}
 use Rattle.agreement.specs.Done.{standing}
 use Rattle.agreement.specs.Lives.{Life, PromisesNothing, ends, happened_on}
 use Rattle.agreement.proofs.Falling.{lost}
@@ -35,7 +33,7 @@ use Rattle.votes.proofs.Ended.{is_open, life_of, not_ended}
 use Rattle.votes.proofs.Growing.{under_aborted_on}
 use Rattle.votes.proofs.Known.{grown, here}
 use Rattle.votes.proofs.Newly.{EndsNow, IsEnd, RecordsVote, found_each, mapped_from, new_end, new_vote, stood}
-use Rattle.votes.proofs.Premises.{FallKeeps, RiseKeeps, StepKeeps, WorldPremises}
+use Rattle.votes.proofs.Premises.{FallKeeps, StepKeeps, WorldPremises}
 
 -- an abort that is old, or one of these
 pub record AbortsNow (n : ℕ) (es : List Effect) (y : Who) : Type 0 where
@@ -207,14 +205,3 @@ aborts_falls count u n x b p found up j y voted aborted =
     by_case (inr h) =
         absurd (unpromised_vote u n x y.id found (lost_unpromised count u n x b p found up y.id h.what h.ends_now.effect h.ends_now.among h.ends_now.its)
         (subst (HasVoted u) (sym (at_here n y h.ends_now.here)) before))
-
-pub aborts_rises : RiseKeeps (λ count w. AbortsWereTold w)
-aborts_rises count u n x stop p found down small j y voted aborted =
-    under_aborted_on u (record u { nodes = put_nth n (up_after (started (last_incarnation x.journal + 1) x) stop) u.nodes }) (grows_rises u n x stop found) y
-    (j.aborts y (vote_before u (record u { nodes = put_nth n (up_after (started (last_incarnation x.journal + 1) x) stop) u.nodes }) n x (up_after (started (last_incarnation x.journal + 1) x) stop) found refl
-    (λ r i. only_start r (in_either r x.journal (records.Start (last_incarnation x.journal + 1) ∷ []) i)) y voted) aborted)
-  where
-    only_start : (r : Record) → IsIn r x.journal ⊎ IsIn r (records.Start (last_incarnation x.journal + 1) ∷ []) → IsIn r x.journal ⊎ ((id : Numbers) → is_vote id r ≡ false)
-    only_start r (inl i) = inl i
-    only_start r (inr (inl e)) = inr (λ id. ap (is_vote id) e)
-    only_start r (inr (inr i)) = absurd i

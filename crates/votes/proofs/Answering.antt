@@ -42,7 +42,7 @@ use Rattle.votes.specs.Joint.{IsOutcome}
 use Rattle.votes.specs.Saying.{SeatSays, SeatTells, who_named}
 use Rattle.votes.proofs.Ended.{IsOpen, is_open, life_of, not_aborted_open, not_committed_open, passes}
 use Rattle.votes.proofs.Growing.{AcceptsNoMore, record_on}
-use Rattle.votes.proofs.Hearing.{in_map}
+use Rattle.votes.proofs.Known.{mapped_in}
 use Rattle.votes.proofs.Joining.{JoinsOpen, behind, seat_joins}
 use Rattle.votes.proofs.Premises.{StepKeeps, StepPremises}
 use Rattle.votes.proofs.SeatsAt.{SeatOf, at_entries, durable_says, has_answered, has_entry, open_there, seat_of, seats_at, volatile_says}
@@ -74,8 +74,8 @@ named_among : (count n : ℕ) (id : Numbers) (seats : List Enlistment) (number :
 named_among count n id seats number y s e =
     subst (λ a. IsIn a (map (accepted_named n (nodes_of count) id) (prepared seats)))
     (λ i. record { transaction = record { node = n; id = id }; seat = Some (record { number = s.number_is i; kind = kinds.Durable }); participant = s.named i })
-    (in_map (accepted_named n (nodes_of count) id) (seated s.seat) (prepared seats)
-    (in_map seated s.seat (filter is_prepared_durable seats) (passes is_prepared_durable s.seat seats s.among (durable_test s.seat s.kind_is e))))
+    (mapped_in (accepted_named n (nodes_of count) id) (seated s.seat) (prepared seats)
+    (mapped_in seated s.seat (filter is_prepared_durable seats) (passes is_prepared_durable s.seat seats s.among (durable_test s.seat s.kind_is e))))
 
 -- a vote or a decision, once all have answered
 behind_votes : (count : ℕ) (u : World) (n : ℕ) (x : Node) (b : Book) (e : Event) (now : ℕ) (landed : Bool) → StepPremises count u n x b e → IsOutcome count u → (t : Transaction)

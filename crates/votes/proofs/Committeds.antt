@@ -44,11 +44,11 @@ use Rattle.enlistments.specs.Knowing.{AsksAsInitiator, AsksItsOwn, IsAsked, Leaf
 use Rattle.enlistments.specs.Leads.{Enlists, EnlistsIfKnown, LeadsTo}
 use Rattle.enlistments.specs.Moves.{LeafDid}
 use Rattle.enlistments.specs.Telling.{AnswersAsNone, IsKnownOrAsked, Tells, activity_says, as_committed, as_no_participant, as_no_seat, from_left_link, leaf_says, left_link_aborted, says_aborted, to_asking, to_initiator, to_late_seat, to_left_seat, to_seat, to_superior}
+use Rattle.enlistments.proofs.Arriving.{HasCome}
 use Rattle.votes.specs.Answering.{HasSeat}
 use Rattle.votes.specs.Backing.{CommitIsBacked, CommittedIsBacked, HasCommittedAt, IsUnderCommitted}
 use Rattle.votes.specs.Joint.{IsOutcome}
 use Rattle.votes.specs.Voting.{HasVoted}
-use Rattle.votes.proofs.Arriving.{Arrives}
 use Rattle.votes.proofs.Growing.{committed_on, seat_on}
 use Rattle.votes.proofs.Known.{aborting, came_by, committing, effect_there, grown, leads_who, life_at}
 use Rattle.votes.proofs.Notices.{other_notice, same_end, same_notice, says_notice}
@@ -59,8 +59,8 @@ use Rattle.votes.proofs.Voters.{gone_voter, told_apart, unknown_voter}
 pub asker_enlists : (count : ℕ) (u : World) (n : ℕ) (x : Node) (b : Book) (e : Event) → StepPremises count u n x b e → (a : Arrived) → e ≡ events.Arrived a → (id : Numbers) (kind : Kind)
     → a.target ≡ targets.Participant id kind → (v : Notice) → IsAsked v → a.message ≡ messages.Notice v → (up : Epr) → a.from ≡ Some up → Enlists count u up (record { node = n; id = id }) kind
 asker_enlists count u n x b e p a came id kind target v asked says up from =
-    let w : Arrives count u n a = came_by count u n x b e p a came in
-    one_of (AsksItsOwn count u) u.posted w.post p.world.knowing.asks w.posted v w.to up n id kind (w.message ∙ says) asked w.goes (subst (LeadsTo count w.to n) target w.leads) (w.from ∙ from)
+    let w : HasCome count u n a = came_by count u n x b e p a came in
+    one_of (AsksItsOwn count u) u.posted w.posted p.world.knowing.asks w.stands v w.to up n id kind (w.message ∙ says) asked w.sent (subst (LeadsTo count w.to n) target w.leads) (sym w.from ∙ from)
 
 pub link_enlists : (count : ℕ) (u : World) (n : ℕ) (x : Node) (b : Book) (e : Event) → StepPremises count u n x b e → (t : Transaction) → transaction_at b t.id ≡ Some t → (kind : Kind) (up : Epr)
     → coordinator_at kind t.superior ≡ Some up → Enlists count u up (record { node = n; id = t.id }) kind
@@ -115,8 +115,8 @@ pub commit_came : (count : ℕ) (u : World) (n : ℕ) (x : Node) (b : Book) (e :
     → a.target ≡ targets.Participant id kind → a.message ≡ messages.Notice notices.Commit → kind ≡ kinds.Durable
     → HasVoted u (record { node = n; id = id }) × IsUnderCommitted u (record { node = n; id = id }) kinds.Durable
 commit_came count u n x b e p j a came id kind target says durable =
-    let w : Arrives count u n a = came_by count u n x b e p a came in
-    let (voted, under) = one_of (λ q. CommitIsBacked count u q.content) u.posted w.post j.commits w.posted w.to n id kinds.Durable (w.message ∙ says) w.goes
+    let w : HasCome count u n a = came_by count u n x b e p a came in
+    let (voted, under) = one_of (λ q. CommitIsBacked count u q.content) u.posted w.posted j.commits w.stands w.to n id kinds.Durable (w.message ∙ says) w.sent
     (subst (LeadsTo count w.to n) (target ∙ ap (λ c. targets.Participant id c) durable) w.leads) in
     (p.world.prepared (record { node = n; id = id }) voted, under)
 
@@ -182,9 +182,9 @@ pub asking_initiator : (count : ℕ) (u : World) (n : ℕ) (x : Node) (b : Book)
     → a.target ≡ targets.Completion id → a.message ≡ messages.Notice notices.Commit → (up : Epr) → a.from ≡ Some up → (k : ℕ) (T : Target) → LeadsTo count up k T
     → (i : Numbers) × (T ≡ targets.Initiator i) × IsAccepted u (record { node = n; id = id }) None (record { node = k; id = i })
 asking_initiator count u n x b e p a came id target says up from k T leads =
-    let w : Arrives count u n a = came_by count u n x b e p a came in
-    one_of (AsksAsInitiator count u) u.posted w.post p.world.knowing.completes w.posted notices.Commit w.to up n k id T (w.message ∙ says) (inl refl) w.goes
-    (subst (LeadsTo count w.to n) target w.leads) (w.from ∙ from) leads
+    let w : HasCome count u n a = came_by count u n x b e p a came in
+    one_of (AsksAsInitiator count u) u.posted w.posted p.world.knowing.completes w.stands notices.Commit w.to up n k id T (w.message ∙ says) (inl refl) w.sent
+    (subst (LeadsTo count w.to n) target w.leads) (sym w.from ∙ from) leads
 
 no_initiator : (T : Target) (j i : Numbers) (s : Seat) → T ≡ targets.Coordinator j s → T ≡ targets.Initiator i → ⊥
 no_initiator T j i s e f = let g : targets.Coordinator j s ≡ targets.Initiator i = sym e ∙ f in cc

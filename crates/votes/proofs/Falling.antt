@@ -43,7 +43,7 @@ use Rattle.votes.specs.Saying.{SeatSays, SeatTells, TransactionTells, who_named}
 use Rattle.votes.proofs.Ended.{aborts_here, by_ending, commits_here, life_of, passes}
 use Rattle.votes.proofs.Forgetting.{IsOver, over_on}
 use Rattle.votes.proofs.Growing.{aborted_on, commit_on, committed_backed_on, durable_on, posted_on, record_on, rollback_on, tells_on}
-use Rattle.votes.proofs.Hearing.{in_map}
+use Rattle.votes.proofs.Known.{mapped_in}
 use Rattle.votes.proofs.Living.{gone_down, world_laws}
 use Rattle.votes.proofs.Premises.{FallKeeps, WorldLaws, WorldPremises}
 use Rattle.votes.proofs.SeatsAt.{among_book}
@@ -136,11 +136,11 @@ lost_open n b s i u = by_superior s.superior refl
     by_superior : (o : Option Superior) → s.superior ≡ o → IsIn (happened_at n (ending s endings.Lost)) (lost_in n b)
     by_superior None e =
         in_front (happened_at n (ending s endings.Lost)) roots (subordinates ++ leaves)
-        (in_map (transaction_lost n) s (filter is_lost_root b.transactions) (passes is_lost_root s b.transactions i (λ j. is_none (e j) && u j)))
+        (mapped_in (transaction_lost n) s (filter is_lost_root b.transactions) (passes is_lost_root s b.transactions i (λ j. is_none (e j) && u j)))
     by_superior (Some z) e =
         in_back (happened_at n (ending s endings.Lost)) roots (subordinates ++ leaves)
         (in_front (happened_at n (ending s endings.Lost)) subordinates leaves
-        (in_map (transaction_lost n) s (filter is_lost_subordinate b.transactions) (passes is_lost_subordinate s b.transactions i (λ j. is_some (e j) && u j))))
+        (mapped_in (transaction_lost n) s (filter is_lost_subordinate b.transactions) (passes is_lost_subordinate s b.transactions i (λ j. is_some (e j) && u j))))
 
 -- what a promise stands for
 voted_id : (id : Numbers) (superior : Epr) (seats : List Seated) (c : Bool) → (recovered_voted id superior seats c).id ≡ id

@@ -44,9 +44,9 @@ use Rattle.votes.proofs.Ended.{IsOpen, aborts_here, not_aborted_open, not_commit
 use Rattle.votes.proofs.Growing.{aborted_on, committed_on, posted_on}
 use Rattle.votes.proofs.Joining.{JoinsOpen, seat_joins}
 use Rattle.votes.proofs.Keeping.{kept_before}
+use Rattle.votes.proofs.Known.{did_abort, stands_as}
 use Rattle.votes.proofs.Premises.{StepKeeps, StepPremises}
-use Rattle.votes.proofs.SeatsAt.{SeatOf, any_of, at_entries, durable_says, has_answered, has_entry, lives_there, open_there, own_kind, seat_of, seats_at}
-use Rattle.votes.proofs.Telling.{did_abort}
+use Rattle.votes.proofs.SeatsAt.{SeatOf, any_of, at_entries, durable_says, has_answered, has_entry, open_there, own_kind, seat_of, seats_at}
 
 -- it is over for this durable participant
 abbrev pub IsOver : World → Who → Who → Type 0
@@ -133,8 +133,8 @@ forgotten_over : (count : ℕ) (u : World) (n : ℕ) (x : Node) (b : Book) (e : 
     → transaction_at b t.id ≡ Some t → (how : How) (at : List Enlistment) → AreCounted e t t.seats at → StoodFor how t → StandsOn how at → Becomes how t at None
     → (step b e now landed).effects ≡ happens how t → (number : ℕ) (y : Who) → HasSeat u (record { node = n; id = t.id }) number kinds.Durable y
     → IsOver (counts u n x b e now landed) (record { node = n; id = t.id }) y
-forgotten_over count u n x b e now landed p j t found How.Aborts at c stood stands becomes is number y i = inl (did_abort u n x b e now landed t How.Aborts is tt)
-forgotten_over count u n x b e now landed p j t found How.RollsBack at c stood stands becomes is number y i = inl (did_abort u n x b e now landed t How.RollsBack is tt)
+forgotten_over count u n x b e now landed p j t found How.Aborts at c stood stands becomes is number y i = inl (inl (did_abort u n x b e now landed t How.Aborts is tt))
+forgotten_over count u n x b e now landed p j t found How.RollsBack at c stood stands becomes is number y i = inl (inl (did_abort u n x b e now landed t How.RollsBack is tt))
 forgotten_over count u n x b e now landed p j t found How.Leaves at c stood stands becomes is number y i =
     over_on u (counts u n x b e now landed) (grows_counts u n x b e now landed p.found) (record { node = n; id = t.id }) y
     (left_over count u n x b e p t found stood.0 at c (seats_at count u n x b e now landed p j t found How.Leaves (λ a. a) is at c) (λ s k d. has_answered kinds.Durable at s stands.0.1 k d) stands.1 number y i)
@@ -146,7 +146,7 @@ forgotten_over count u n x b e now landed p j t found How.Ends at c stood stands
     (ended_over count u n x b e p j t found stood at c (seats_at count u n x b e now landed p j t found How.Ends (λ a. a) is at c) stands number y i)
 forgotten_over count u n x b e now landed p j t found How.Forgets at c stood stands becomes is number y i =
     inl (aborted_on u (counts u n x b e now landed) (grows_counts u n x b e now landed p.found) (record { node = n; id = t.id })
-    (aborts_here u n x.journal t.id t refl (lives_there count u n x b e p t found) stood))
+    (aborts_here u n x.journal t.id t refl (stands_as count u n x b e p t found) stood))
 forgotten_over count u n x b e now landed p j t found other at c stood stands becomes is number y i = absurd becomes
 
 -- what a step leaves in the book, and what it drops

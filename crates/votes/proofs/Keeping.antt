@@ -32,8 +32,9 @@ use Rattle.votes.specs.Joint.{IsOutcome}
 use Rattle.votes.proofs.Ended.{aborts_here, keeps_promise, life_of}
 use Rattle.votes.proofs.Growing.{AcceptsNoMore, aborted_on, durable_on, posted_on}
 use Rattle.votes.proofs.Joining.{JoinsOpen, behind, finds, seat_joins}
+use Rattle.votes.proofs.Known.{stands_as}
 use Rattle.votes.proofs.Premises.{StepKeeps, StepPremises}
-use Rattle.votes.proofs.SeatsAt.{has_entry, lives_there}
+use Rattle.votes.proofs.SeatsAt.{has_entry}
 
 -- seats are added behind those that stand
 pub all_grown : (count : ℕ) (u : World) (n : ℕ) (x : Node) (b : Book) (e : Event) (now : ℕ) (landed : Bool) → StepPremises count u n x b e → AreGrown b (step b e now landed).book.transactions
@@ -53,7 +54,7 @@ kept_before count u n x b e p j =
 -- what stood of it, in whatever phase, but where it has aborted
 stood_with : (count : ℕ) (u : World) (n : ℕ) (x : Node) (b : Book) (e : Event) → StepPremises count u n x b e → IsOutcome count u → (t : Transaction) → transaction_at b t.id ≡ Some t
     → (HasAborted u (record { node = n; id = t.id }) → ⊥) → HasItsDurable count u n t
-stood_with count u n x b e p j t found stays number y i = by_life (lives_there count u n x b e p t found)
+stood_with count u n x b e p j t found stays number y i = by_life (stands_as count u n x b e p t found)
   where
     kept : KeepsItsDurable count u n t
     kept = all_find (KeepsItsDurable count u n) transaction_id t.id b.transactions t (kept_before count u n x b e p j) found

@@ -1,5 +1,5 @@
 -- What a step's premises say of its node's items, and what the step brings about.
-use Rattle.std.specs.Prelude.{ℕ, List, [], ◌∷◌, Option, Some, Bool, map, ◌≡◌, refl}
+use Rattle.std.specs.Prelude.{ℕ, List, [], ◌∷◌, Option, Some, Bool, true, map, ◌≡◌, refl}
 use Rattle.std.specs.List.{AllByRecursion}
 use Rattle.std.proofs.Common.{inl, inr, sym, subst, ap, ◌∙◌}
 use Rattle.at_base.specs.Numbers.{Numbers}
@@ -8,6 +8,7 @@ use Rattle.at_base.specs.declared.event.Arrived.{Arrived}
 use Rattle.at_base.specs.declared.event.Event.{Event}
 use Rattle.at_base.specs.declared.event.Event.TheVariants as events
 use Rattle.at_base.specs.declared.record.Record.{Record}
+use Rattle.at_base.specs.declared.outs.Ending.{Ending}
 use Rattle.at_base.specs.declared.outs.Ending.TheVariants as endings
 use Rattle.at_base.specs.declared.outs.Effect.{Effect}
 use Rattle.at_base.specs.declared.target.Target.{Target}
@@ -18,7 +19,7 @@ use Rattle.at_model.specs.World.{Node, Who, World, accepted_seat, happened_at, n
 use Rattle.model_laws.specs.Agreement.{HasAborted, HasCommitted, HasEnded, IsIn}
 use Rattle.model_laws.specs.Enlisted.{IsEnlisted}
 use Rattle.model_laws.specs.Grows.{Grows}
-use Rattle.model_laws.specs.Reached.{Heard, counts}
+use Rattle.model_laws.specs.Reached.{counts}
 use Rattle.model_laws.proofs.Deciding.{all_find}
 use Rattle.model_laws.proofs.Lasting.{grows_counts}
 use Rattle.model_laws.proofs.Nodes.{who_same}
@@ -29,10 +30,10 @@ use Rattle.agreement.proofs.TransactionLives.{TransactionLife}
 use Rattle.agreement.proofs.SeatedEntries.{one_of}
 use Rattle.enlistments.specs.Leads.{LeadsTo}
 use Rattle.enlistments.specs.Moves.{TransactionDid}
+use Rattle.enlistments.proofs.Arriving.{HasCome, has_come}
 use Rattle.votes.specs.Answering.{HasSeat}
 use Rattle.votes.specs.Joint.{IsOutcome}
 use Rattle.votes.specs.Saying.{SeatTells, TransactionTells, who_named}
-use Rattle.votes.proofs.Arriving.{Arrives, arrives}
 use Rattle.votes.proofs.Ended.{aborts_here, by_ending, commits_here, life_of}
 use Rattle.votes.proofs.Premises.{StepPremises}
 
@@ -54,8 +55,9 @@ pub life_at : (count : ℕ) (u : World) (n : ℕ) (x : Node) (b : Book) (e : Eve
 life_at count u n x b e s id = subst (λ c. Life x.journal (happened_on n u.happened) id (transaction_at c id) (leaf_at c id)) (here x b s.up) (s.world.laws.lives n x s.found id)
 
 -- what comes to it was posted
-pub came_by : (count : ℕ) (u : World) (n : ℕ) (x : Node) (b : Book) (e : Event) → StepPremises count u n x b e → (a : Arrived) → e ≡ events.Arrived a → Arrives count u n a
-came_by count u n x b e p a came = arrives count u n x a p.world.laws.few p.world.laws.reached p.found (subst (Heard u n x) came p.heard)
+pub came_by : (count : ℕ) (u : World) (n : ℕ) (x : Node) (b : Book) (e : Event) → StepPremises count u n x b e → (a : Arrived) → e ≡ events.Arrived a → HasCome count u n a
+came_by count u n x b e p a came =
+    has_come count u n x b e 0 true a (record { small = p.world.laws.few; reached = p.world.laws.reached; found = p.found; up = p.up; heard = p.heard }) came
 
 -- whom an endpoint leads to
 pub leads_who : (count : ℕ) (e : Epr) (m : ℕ) (T : Target) → LeadsTo count e m T → who_named count e ≡ who_at (Some (m, T))
@@ -82,8 +84,11 @@ pub effect_there : (u : World) (n : ℕ) (x : Node) (b : Book) (e : Event) (now 
     → IsIn (happened_at n f) (counts u n x b e now landed).happened
 effect_there u n x b e now landed f i = in_back (happened_at n f) u.happened _ (mapped_in (happened_at n) f (step b e now landed).effects i)
 
-first_of : (f : Effect) (es gs : List Effect) → es ≡ gs → gs ≡ f ∷ [] → IsIn f es
-first_of f es gs e g = subst (IsIn f) (sym (e ∙ g)) (inl refl)
+pub happens_now : (u : World) (n : ℕ) (x : Node) (b : Book) (e : Event) (now : ℕ) (landed : Bool) (t : Transaction) (what : Ending) → (step b e now landed).effects ≡ ending t what ∷ []
+    → HasEnded (counts u n x b e now landed) (record { node = n; id = t.id }) what
+happens_now u n x b e now landed t what is =
+    by_ending (counts u n x b e now landed) n t.id t.superior what
+    (effect_there u n x b e now landed (ending t what) (subst (IsIn (ending t what)) (sym is) (inl refl)))
 
 commit_happens : (how : How) (t : Transaction) → IsCommit how → happens how t ≡ ending t endings.Committed ∷ []
 commit_happens How.Decides t h = refl
@@ -96,19 +101,21 @@ abort_happens How.Aborts t h = refl
 abort_happens How.RollsBack t h = refl
 abort_happens other t h = absurd h
 
+pub did_commit : (u : World) (n : ℕ) (x : Node) (b : Book) (e : Event) (now : ℕ) (landed : Bool) (t : Transaction) (how : How) → (step b e now landed).effects ≡ happens how t → IsCommit how
+    → HasCommitted (counts u n x b e now landed) (record { node = n; id = t.id })
+did_commit u n x b e now landed t how is c = happens_now u n x b e now landed t endings.Committed (is ∙ commit_happens how t c)
+
+pub did_abort : (u : World) (n : ℕ) (x : Node) (b : Book) (e : Event) (now : ℕ) (landed : Bool) (t : Transaction) (how : How) → (step b e now landed).effects ≡ happens how t → IsAbort how
+    → HasEnded (counts u n x b e now landed) (record { node = n; id = t.id }) endings.Aborted
+did_abort u n x b e now landed t how is a = happens_now u n x b e now landed t endings.Aborted (is ∙ abort_happens how t a)
+
 pub commits_now : (u : World) (n : ℕ) (x : Node) (b : Book) (e : Event) (now : ℕ) (landed : Bool) (entry : Option Record) (d : TransactionDid b e now entry (step b e now landed)) → IsCommit d.deed.how
     → HasCommitted (counts u n x b e now landed) (record { node = n; id = d.old.id })
-commits_now u n x b e now landed entry d h =
-    by_ending (counts u n x b e now landed) n d.old.id d.old.superior endings.Committed
-    (effect_there u n x b e now landed (ending d.old endings.Committed)
-    (first_of (ending d.old endings.Committed) (step b e now landed).effects (happens d.deed.how d.old) (d.effects_are ∙ d.deed.happened) (commit_happens d.deed.how d.old h)))
+commits_now u n x b e now landed entry d h = did_commit u n x b e now landed d.old d.deed.how (d.effects_are ∙ d.deed.happened) h
 
 pub aborts_now : (u : World) (n : ℕ) (x : Node) (b : Book) (e : Event) (now : ℕ) (landed : Bool) (entry : Option Record) (d : TransactionDid b e now entry (step b e now landed)) → IsAbort d.deed.how
     → HasEnded (counts u n x b e now landed) (record { node = n; id = d.old.id }) endings.Aborted
-aborts_now u n x b e now landed entry d h =
-    by_ending (counts u n x b e now landed) n d.old.id d.old.superior endings.Aborted
-    (effect_there u n x b e now landed (ending d.old endings.Aborted)
-    (first_of (ending d.old endings.Aborted) (step b e now landed).effects (happens d.deed.how d.old) (d.effects_are ∙ d.deed.happened) (abort_happens d.deed.how d.old h)))
+aborts_now u n x b e now landed entry d h = did_abort u n x b e now landed d.old d.deed.how (d.effects_are ∙ d.deed.happened) h
 
 -- what a transaction's phase says of how it ended
 pub stands_as : (count : ℕ) (u : World) (n : ℕ) (x : Node) (b : Book) (e : Event) → StepPremises count u n x b e → (t : Transaction) → transaction_at b t.id ≡ Some t

@@ -3,7 +3,6 @@ pub mod Aborts
 pub mod AbortsOn
 pub mod AbortsTold
 pub mod Answering
-pub mod Arriving
 pub mod Away
 pub mod Commits
 pub mod Committeds

@@ -1,6 +1,5 @@
 -- What votes and ends a step adds.
-use Rattle.std.specs.Prelude.{ℕ, List, [], ◌∷◌, ◌++◌, Option, Some, None, Bool, true, false, if◌then◌else◌, map, ◌≡◌, ◌⊎◌, refl}
-use Rattle.std.specs.List.{AllByRecursion}
+use Rattle.std.specs.Prelude.{ℕ, List, [], ◌∷◌, ◌++◌, Option, Some, None, Bool, true, false, map, ◌≡◌, ◌⊎◌, refl}
 use Rattle.std.proofs.Common.{inl, inr, sym, subst, ap, ◌∙◌}
 use Rattle.at_base.specs.Numbers.{Numbers}
 use Rattle.at_base.specs.declared.event.Event.{Event}
@@ -9,8 +8,7 @@ use Rattle.at_base.specs.declared.outs.Effect.{Effect}
 use Rattle.at_base.specs.declared.outs.Effect.TheVariants as effects
 use Rattle.at_base.specs.declared.outs.Ending.{Ending}
 use Rattle.at_base.specs.declared.record.Record.{Record}
-use Rattle.at_model.specs.Book.{Book, find_by, is_id}
-use Rattle.at_model.specs.Recover.{is_before}
+use Rattle.at_model.specs.Book.{Book, find_by}
 use Rattle.at_model.specs.Step.{plan, step}
 use Rattle.at_model.specs.World.{Happened, Node, Who, World, happened_at, nth, put_nth}
 use Rattle.model_laws.specs.Agreement.{HasEnded, IsIn, Stands}
@@ -18,27 +16,14 @@ use Rattle.model_laws.specs.Drawn.{with_entry}
 use Rattle.model_laws.specs.Order.{AreRising}
 use Rattle.model_laws.specs.Reached.{counts}
 use Rattle.model_laws.proofs.Nodes.{each_put}
-use Rattle.model_laws.proofs.Recovering.{same_id, self_id}
 use Rattle.agreement.specs.Done.{standing}
-use Rattle.agreement.proofs.SeatedEntries.{in_either}
-use Rattle.agreement.proofs.Still.{none_behind}
+use Rattle.agreement.proofs.SeatedBooks.{finds_each}
+use Rattle.agreement.proofs.SeatedEntries.{in_either, one_of}
 use Rattle.votes.specs.Voting.{HasVoted, is_vote}
 
 -- lists by id
 pub found_each : {A : Type 0} (key : A → Numbers) (xs : List A) (x : A) → AreRising (map key xs) → IsIn x xs → find_by key (key x) xs ≡ Some x
-found_each key [] x h i = absurd i
-found_each {A = A} key (y ∷ ys) x (h, k) (inl e) =
-    subst (λ (z : A). find_by key (key z) (y ∷ ys) ≡ Some z) (sym e) (ap (λ c. if c then Some y else find_by key (key y) ys) (self_id (key y)))
-found_each {A = A} key (y ∷ ys) x (h, k) (inr i) = by_id (is_id (key y) (key x)) refl (found_each key ys x k i)
-  where
-    apart : (o : Option A) → o ≡ None → o ≡ Some x → ⊥
-    apart o f g = let d : None ≡ Some x = sym f ∙ g in cc
-
-    by_id : (c : Bool) → is_id (key y) (key x) ≡ c → find_by key (key x) ys ≡ Some x → (if c then Some y else find_by key (key x) ys) ≡ Some x
-    by_id true c rest =
-        absurd (apart (find_by key (key x) ys)
-        (none_behind key (key x) ys (subst (λ j. AllByRecursion (λ l. is_before j l ≡ true) (map key ys)) (same_id (key y) (key x) c) h)) rest)
-    by_id false c rest = rest
+found_each key xs x h i = one_of (λ z. find_by key (key z) xs ≡ Some z) xs x (finds_each key xs h) i
 
 pub mapped_from : {A B : Type 0} (f : A → B) (y : B) (xs : List A) → IsIn y (map f xs) → (x : A) × IsIn x xs × (y ≡ f x)
 mapped_from f y [] i = absurd i

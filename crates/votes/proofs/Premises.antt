@@ -1,13 +1,12 @@
 -- What each step may use of the world before it, and what it has to show of the world behind it.
-use Rattle.std.specs.Prelude.{ℕ, Some, None, Bool, ◌+◌, ◌^◌, ◌≡◌, ◌<◌}
+use Rattle.std.specs.Prelude.{ℕ, Some, Bool, ◌^◌, ◌≡◌, ◌<◌}
 use Rattle.std.specs.List.{AllByRecursion}
 use Rattle.at_base.specs.Numbers.{Numbers}
 use Rattle.at_base.specs.declared.event.Event.{Event}
 use Rattle.at_base.specs.declared.outs.Post.{Post}
-use Rattle.at_model.specs.Book.{Book, last_counter}
-use Rattle.at_model.specs.Recover.{last_incarnation}
+use Rattle.at_model.specs.Book.{Book}
 use Rattle.at_model.specs.Step.{leaf_at, step, transaction_at}
-use Rattle.at_model.specs.World.{Node, World, goes_down, new_nodes, nth, put_nth, started, up_after}
+use Rattle.at_model.specs.World.{Node, World, goes_down, new_nodes, nth}
 use Rattle.model_laws.specs.Agreement.{HasOneSuperior}
 use Rattle.model_laws.specs.Reached.{Heard, Reached, counts}
 use Rattle.model_laws.proofs.Holding.{OutFine}
@@ -48,18 +47,13 @@ pub record StepPremises (count : ℕ) (u : World) (n : ℕ) (x : Node) (b : Book
   pub heard : Heard u n x e
   pub ready : IsReady b
 
--- P holds behind each step, each fall and each start
+-- P holds behind each step and each fall
 abbrev pub StepKeeps : (ℕ → World → Type 0) → Type 0
 StepKeeps P =
     (count : ℕ) (u : World) (n : ℕ) (x : Node) (b : Book) (e : Event) (now : ℕ) (landed : Bool) → StepPremises count u n x b e → IsOutcome count u → P count (counts u n x b e now landed)
 
 abbrev pub FallKeeps : (ℕ → World → Type 0) → Type 0
 FallKeeps P = (count : ℕ) (u : World) (n : ℕ) (x : Node) (b : Book) → WorldPremises count u → nth n u.nodes ≡ Some x → x.book ≡ Some b → IsOutcome count u → P count (goes_down n b u)
-
-abbrev pub RiseKeeps : (ℕ → World → Type 0) → Type 0
-RiseKeeps P =
-    (count : ℕ) (u : World) (n : ℕ) (x : Node) (stop : Bool) → WorldPremises count u → nth n u.nodes ≡ Some x → x.book ≡ None → last_incarnation x.journal < last_counter → IsOutcome count u
-    → P count (record u { nodes = put_nth n (up_after (started (last_incarnation x.journal + 1) x) stop) u.nodes })
 
 -- what each post of a step satisfies, in the world behind it
 abbrev pub StepSends : (ℕ → World → Post → Type 0) → Type 0

@@ -18,7 +18,7 @@ use Rattle.at_tables.specs.Names.{is_kind, is_state}
 use Rattle.at_model.specs.Book.{Book, Enlistment, Transaction, transaction_id}
 use Rattle.at_model.specs.Due.{may_expire}
 use Rattle.at_model.specs.Seats.{answered, ending, is_of}
-use Rattle.at_model.specs.Step.{leaf_at, step, transaction_at}
+use Rattle.at_model.specs.Step.{step, transaction_at}
 use Rattle.at_model.specs.World.{Accepted, Node, Who, World, accepted_seat}
 use Rattle.model_laws.specs.Agreement.{HasAborted, HasCommitted, HasPosted, IsIn}
 use Rattle.model_laws.specs.Behind.{IsUnanswered, accepted_as}
@@ -26,14 +26,14 @@ use Rattle.model_laws.proofs.Deciding.{all_find}
 use Rattle.model_laws.proofs.Enrolled.{nodes_of}
 use Rattle.model_laws.proofs.Nodes.{seats_same}
 use Rattle.agreement.specs.Deeds.{AreCounted, How, IsAbort, happens}
-use Rattle.agreement.specs.Lives.{book_of, happened_on, standing}
+use Rattle.agreement.specs.Lives.{happened_on}
 use Rattle.agreement.proofs.SeatedEntries.{are_entries, each_is_in, entry}
-use Rattle.agreement.proofs.TransactionLives.{TransactionLife}
 use Rattle.votes.specs.Answering.{HasSeat, registration}
 use Rattle.votes.specs.Joint.{IsOutcome}
 use Rattle.votes.specs.Saying.{SeatSays, SeatTells, who_named}
-use Rattle.votes.proofs.Ended.{IsOpen, as_ending, as_what, is_open, life_of}
+use Rattle.votes.proofs.Ended.{IsOpen, as_ending, as_what, is_open}
 use Rattle.votes.proofs.Hearing.{hears_before}
+use Rattle.votes.proofs.Known.{stands_as}
 use Rattle.votes.proofs.Premises.{StepPremises}
 use Rattle.votes.proofs.Saying.{Hears, at_says}
 
@@ -85,16 +85,10 @@ has_entry count u n x b e p t found undecided number kind y i =
     (p.world.laws.seated.complete n x b t p.found p.up (among_book b t found) undecided (registration (record { node = n; id = t.id }) number kind y) (record { number = number; kind = kind }) i
     refl refl)
 
--- a transaction of the book lives so, and an undecided one is open
-pub lives_there : (count : ℕ) (u : World) (n : ℕ) (x : Node) (b : Book) (e : Event) → StepPremises count u n x b e → (t : Transaction) → transaction_at b t.id ≡ Some t
-    → TransactionLife x.journal (happened_on n u.happened) t.id t
-lives_there count u n x b e p t found =
-    life_of x.journal (happened_on n u.happened) t.id (transaction_at (book_of x) t.id) (leaf_at (book_of x) t.id) t (p.world.laws.lives n x p.found t.id)
-    (ap (λ o. transaction_at (standing x.base x.journal o) t.id) p.up ∙ found)
-
+-- an undecided transaction is open
 pub open_there : (count : ℕ) (u : World) (n : ℕ) (x : Node) (b : Book) (e : Event) → StepPremises count u n x b e → (t : Transaction) → transaction_at b t.id ≡ Some t → may_expire t.phase ≡ true
     → IsOpen x.journal (happened_on n u.happened) t.id
-open_there count u n x b e p t found undecided = is_open x.journal (happened_on n u.happened) t.id t (lives_there count u n x b e p t found) undecided
+open_there count u n x b e p t found undecided = is_open x.journal (happened_on n u.happened) t.id t (stands_as count u n x b e p t found) undecided
 
 -- a deed that aborts nothing ends nothing as aborted
 abbrev head_as : List Effect → Option Ending

@@ -26,11 +26,11 @@ use Rattle.agreement.specs.Lives.{book_of}
 use Rattle.agreement.proofs.SeatedEntries.{each_is_in, one_of}
 use Rattle.enlistments.specs.Knowing.{IsVoteOf, VotesAtItsSeat}
 use Rattle.enlistments.specs.Leads.{LeadsTo}
+use Rattle.enlistments.proofs.Arriving.{HasCome}
 use Rattle.votes.specs.Answering.{HasSeat, KeepsItsDurable, registration}
 use Rattle.votes.specs.Backing.{IsHeld, IsUnderAborted}
 use Rattle.votes.specs.Joint.{IsOutcome}
 use Rattle.votes.proofs.Gone.{not_both_votes, same_node}
-use Rattle.votes.proofs.Arriving.{Arrives}
 use Rattle.votes.proofs.Known.{aborting, came_by, here}
 use Rattle.votes.proofs.Premises.{StepPremises}
 
@@ -140,15 +140,15 @@ pub unseated : (count : ℕ) (u : World) (n : ℕ) (x : Node) (b : Book) (e : Ev
     → a.message ≡ messages.Notice notices.Prepared → (up : Epr) → a.from ≡ Some up → (m : ℕ) (k : Numbers) → LeadsTo count up m (targets.Participant k kinds.Durable)
     → HasCommitted u (record { node = m; id = k }) ⊎ IsUnderAborted u (record { node = m; id = k })
 unseated count u n x b e p j a came id number target unknown says up from m k leads =
-    let w : Arrives count u n a = came_by count u n x b e p a came in
-    let v : IsVoteOf count u w.post n id (record { number = number; kind = kinds.Durable }) =
-    one_of (VotesAtItsSeat count u) u.posted w.post p.world.knowing.votes w.posted notices.Prepared w.to n id (record { number = number; kind = kinds.Durable }) (w.message ∙ says) (inl refl) w.goes
+    let w : HasCome count u n a = came_by count u n x b e p a came in
+    let v : IsVoteOf count u w.posted n id (record { number = number; kind = kinds.Durable }) =
+    one_of (VotesAtItsSeat count u) u.posted w.posted p.world.knowing.votes w.stands notices.Prepared w.to n id (record { number = number; kind = kinds.Durable }) (w.message ∙ says) (inl refl) w.sent
     (subst (LeadsTo count w.to n) target w.leads) in
-    let home : (m ≡ w.post.sender) × (targets.Participant k kinds.Durable ≡ targets.Participant v.item kinds.Durable) = v.from up m (targets.Participant k kinds.Durable) (w.from ∙ from) leads in
-    let same : ◌≡◌ {A = Who} (record { node = w.post.sender; id = v.item }) (record { node = m; id = k }) = same_who m w.post.sender k v.item home.0 home.1 in
+    let home : (m ≡ w.posted.sender) × (targets.Participant k kinds.Durable ≡ targets.Participant v.item kinds.Durable) = v.from up m (targets.Participant k kinds.Durable) (sym w.from ∙ from) leads in
+    let same : ◌≡◌ {A = Who} (record { node = w.posted.sender; id = v.item }) (record { node = m; id = k }) = same_who m w.posted.sender k v.item home.0 home.1 in
     subst (λ y. HasCommitted u y ⊎ IsUnderAborted u y) same
-    (by_case (record { node = w.post.sender; id = v.item }) v.accepted (w.post, w.posted, refl, v.own, w.message ∙ says)
-    (without_seat count u n x b e p j id number (record { node = w.post.sender; id = v.item }) unknown v.accepted))
+    (by_case (record { node = w.posted.sender; id = v.item }) v.accepted (w.posted, w.stands, refl, v.own, w.message ∙ says)
+    (without_seat count u n x b e p j id number (record { node = w.posted.sender; id = v.item }) unknown v.accepted))
   where
     same_who : (m l : ℕ) (k i : Numbers) → m ≡ l → targets.Participant k kinds.Durable ≡ targets.Participant i kinds.Durable → ◌≡◌ {A = Who} (record { node = l; id = i }) (record { node = m; id = k })
     same_who m l k i e f = let g : k ≡ i = cc in λ q. record { node = sym e q; id = sym g q }
