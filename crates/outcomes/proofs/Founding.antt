@@ -44,7 +44,7 @@ use Rattle.enlistments.specs.Moves.{Moved, activity_did, activity_made, answered
 use Rattle.votes.specs.Backing.{IsUnderCommitted}
 use Rattle.votes.specs.Joint.{IsOutcome}
 use Rattle.votes.specs.Voting.{HasVoted}
-use Rattle.votes.proofs.Arriving.{Arrives}
+use Rattle.enlistments.proofs.Arriving.{HasCome}
 use Rattle.votes.proofs.Committeds.{commit_came}
 use Rattle.votes.proofs.Growing.{under_committed_on, voted_on}
 use Rattle.votes.proofs.Known.{came_by, grown}
@@ -164,19 +164,19 @@ leaf_founded count u n x b e now landed p j m l entry c (rolls_back to came stat
 
 -- an activity
 heard_outcome : (count : ℕ) (u : World) (n : ℕ) (x : Node) (b : Book) (e : Event) → StepPremises count u n x b e → AllByRecursion (λ q. SaysWhatRootDid count u q.content) u.posted → (a : Activity) (v : Notice)
-    → (came : CameToActivity e a (messages.Notice v)) → (w : Arrives count u n came.arrived) × SaysWhatRootDid count u w.post.content × LeadsTo count w.to n (targets.Initiator a.id)
+    → (came : CameToActivity e a (messages.Notice v)) → (w : HasCome count u n came.arrived) × SaysWhatRootDid count u w.posted.content × LeadsTo count w.to n (targets.Initiator a.id)
 heard_outcome count u n x b e p told a v came =
-    let w : Arrives count u n came.arrived = came_by count u n x b e p came.arrived came.event in
-    (w, one_of (λ q. SaysWhatRootDid count u q.content) u.posted w.post told w.posted, subst (LeadsTo count w.to n) came.target w.leads)
+    let w : HasCome count u n came.arrived = came_by count u n x b e p came.arrived came.event in
+    (w, one_of (λ q. SaysWhatRootDid count u q.content) u.posted w.posted told w.stands, subst (LeadsTo count w.to n) came.target w.leads)
 
 tells_founded : (count : ℕ) (u : World) (n : ℕ) (x : Node) (b : Book) (e : Event) → StepPremises count u n x b e → AllByRecursion (λ q. SaysWhatRootDid count u q.content) u.posted → (m : Moment) (a : Activity)
     (what : Told) → ActivityTells m e a what → IsFounded u n (effects.Told a.id what)
 tells_founded count u n x b e p told m a what (told_committed v came running is) =
     let (w, says, leads) = heard_outcome count u n x b e p told a notices.Committed came in
-    subst (λ t. IsFounded u n (effects.Told a.id t)) (sym is) (says.0 w.to n a.id (w.message ∙ came.message) w.goes leads)
+    subst (λ t. IsFounded u n (effects.Told a.id t)) (sym is) (says.0 w.to n a.id (w.message ∙ came.message) w.sent leads)
 tells_founded count u n x b e p told m a what (told_aborted came running is) =
     let (w, says, leads) = heard_outcome count u n x b e p told a notices.Aborted came in
-    subst (λ t. IsFounded u n (effects.Told a.id t)) (sym is) (says.1 w.to n a.id (w.message ∙ came.message) w.goes leads)
+    subst (λ t. IsFounded u n (effects.Told a.id t)) (sym is) (says.1 w.to n a.id (w.message ∙ came.message) w.sent leads)
 tells_founded count u n x b e p told m a what (uncreated name came relates creating is) = subst (λ t. IsFounded u n (effects.Told a.id t)) (sym is) tt
 tells_founded count u n x b e p told m a what (unregistered name came relates registering is) = subst (λ t. IsFounded u n (effects.Told a.id t)) (sym is) tt
 tells_founded count u n x b e p told m a what (unknown v came completing is) = subst (λ t. IsFounded u n (effects.Told a.id t)) (sym is) tt
