@@ -48,7 +48,7 @@ use Rattle.outcomes.proofs.Decisions.{IsCommittedRoot, kept_root}
 use Rattle.outcomes.proofs.Upwards.{asks_only, leads_same, leaf_upwards, no_initiator, none_asked, upwards}
 
 -- an initiator is a root's
-pub root_alone : (count : ℕ) (u : World) (n : ℕ) (x : Node) (b : Book) (e : Event) → StepPremises count u n x b e → (t : Transaction) → transaction_at b t.id ≡ Some t → (c : Completion) → t.completion ≡ Some c
+root_alone : (count : ℕ) (u : World) (n : ℕ) (x : Node) (b : Book) (e : Event) → StepPremises count u n x b e → (t : Transaction) → transaction_at b t.id ≡ Some t → (c : Completion) → t.completion ≡ Some c
     → t.superior ≡ None
 root_alone count u n x b e p t found c has = by_superior t.superior refl (all_find (λ y. AreLinked y.phase y.superior y.completion) transaction_id t.id b.transactions t p.ready.phases.links found)
   where
@@ -56,12 +56,12 @@ root_alone count u n x b e p t found c has = by_superior t.superior refl (all_fi
     by_superior None f h = f
     by_superior (Some s) f (h, none) = let g : None ≡ Some c = sym none ∙ has in absurd cc
 
-pub some_initiator : (o : Option Completion) (up : Epr) → initiator o ≡ Some up → (c : Completion) × (o ≡ Some c) × (c.initiator ≡ up)
+some_initiator : (o : Option Completion) (up : Epr) → initiator o ≡ Some up → (c : Completion) × (o ≡ Some c) × (c.initiator ≡ up)
 some_initiator None up e = absurd cc
 some_initiator (Some c) up e = (c, refl, cc)
 
 -- whom its initiator's endpoint leads to was accepted by it
-pub initiator_accepted : (count : ℕ) (u : World) (n : ℕ) (x : Node) (b : Book) (e : Event) → StepPremises count u n x b e → (t : Transaction) → transaction_at b t.id ≡ Some t → (c : Completion)
+initiator_accepted : (count : ℕ) (u : World) (n : ℕ) (x : Node) (b : Book) (e : Event) → StepPremises count u n x b e → (t : Transaction) → transaction_at b t.id ≡ Some t → (c : Completion)
     → t.completion ≡ Some c → (m : ℕ) (i : Numbers) → LeadsTo count c.initiator m (targets.Initiator i) → IsAccepted u (record { node = n; id = t.id }) None (record { node = m; id = i })
 initiator_accepted count u n x b e p t found c has m i leads =
     let (h, rest) = subst (λ o. AllByRecursion (λ acc. IsIn acc u.accepted) (accepted_completion n u.nodes t.id None o)) has
@@ -69,28 +69,28 @@ initiator_accepted count u n x b e p t found c has m i leads =
     subst (λ o. IsIn (record { transaction = record { node = n; id = t.id }; seat = None; participant = o }) u.accepted)
     (who_same u.nodes (new_nodes count 1) c.initiator p.world.laws.bases ∙ ap who_at leads) h
 
-pub accepted_on : (u w : World) → Grows u w → (t y : Who) → IsAccepted u t None y → IsAccepted w t None y
+accepted_on : (u w : World) → Grows u w → (t y : Who) → IsAccepted u t None y → IsAccepted w t None y
 accepted_on u w g t y h = takes_nothing_back.accepted u w g t None y h
 
 -- what the deed does is what its initiator hears
-pub root_now : (u : World) (n : ℕ) (x : Node) (b : Book) (e : Event) (now : ℕ) (landed : Bool) (t : Transaction) (what : Ending) → t.superior ≡ None → (step b e now landed).effects ≡ ending t what ∷ []
+root_now : (u : World) (n : ℕ) (x : Node) (b : Book) (e : Event) (now : ℕ) (landed : Bool) (t : Transaction) (what : Ending) → t.superior ≡ None → (step b e now landed).effects ≡ ending t what ∷ []
     → IsIn (happened_at n (effects.Root t.id what)) (counts u n x b e now landed).happened
 root_now u n x b e now landed t what root is =
     effect_there u n x b e now landed (effects.Root t.id what) (subst (IsIn (effects.Root t.id what)) (sym (is ∙ (λ i. ending_of (root i) t.id what ∷ []))) (inl refl))
 
-pub told_effect : (how : How) (t : Transaction) → WhyInitiator how notices.Committed → happens how t ≡ ending t endings.Committed ∷ []
+told_effect : (how : How) (t : Transaction) → WhyInitiator how notices.Committed → happens how t ≡ ending t endings.Committed ∷ []
 told_effect How.Decides t h = refl
 told_effect How.DecidesAlone t h = refl
 told_effect other t h = absurd h
 
-pub told_abort : (how : How) (t : Transaction) → WhyInitiator how notices.Aborted → happens how t ≡ ending t endings.Aborted ∷ []
+told_abort : (how : How) (t : Transaction) → WhyInitiator how notices.Aborted → happens how t ≡ ending t endings.Aborted ∷ []
 told_abort How.Aborts t h = refl
 told_abort How.RollsBack t h = refl
 told_abort How.Decides t h = absurd h
 told_abort How.DecidesAlone t h = absurd h
 told_abort other t h = absurd h
 
-pub to_its_initiator : (count : ℕ) (u : World) (n : ℕ) (x : Node) (b : Book) (e : Event) (now : ℕ) (landed : Bool) → StepPremises count u n x b e
+to_its_initiator : (count : ℕ) (u : World) (n : ℕ) (x : Node) (b : Book) (e : Event) (now : ℕ) (landed : Bool) → StepPremises count u n x b e
     → (d : TransactionDid b e now (standing landed (plan b e now).entry) (step b e now landed)) (what : Ending) (up : Epr) → initiator d.old.completion ≡ Some up
     → happens d.deed.how d.old ≡ ending d.old what ∷ [] → (m : ℕ) (i : Numbers) → LeadsTo count up m (targets.Initiator i) → IsOutcomeOf (counts u n x b e now landed) (record { node = m; id = i }) what
 to_its_initiator count u n x b e now landed p d what up known is m i leads =
@@ -103,7 +103,7 @@ to_its_initiator count u n x b e now landed p d what up known is m i leads =
     }
 
 -- a root that is known to have committed
-pub committing_root : (count : ℕ) (u : World) (n : ℕ) (x : Node) (b : Book) (e : Event) → StepPremises count u n x b e → (t : Transaction) → transaction_at b t.id ≡ Some t → t.phase ≡ Phase.Committing
+committing_root : (count : ℕ) (u : World) (n : ℕ) (x : Node) (b : Book) (e : Event) → StepPremises count u n x b e → (t : Transaction) → transaction_at b t.id ≡ Some t → t.phase ≡ Phase.Committing
     → t.superior ≡ None → IsCommittedRoot u n t.id
 committing_root count u n x b e p t found is root =
     committed_root (ends t.id (happened_on n u.happened)) (stands_as count u n x b e p t found)
@@ -177,7 +177,7 @@ committed_heard count u n x b e now landed p done q (to_superior d kind up known
     absurd (no_initiator count u up (record { node = n; id = d.old.id }) kind m k (link_enlists count u n x b e p d.old d.found kind up known) (leads_same count q to up m k sent is.sent leads))
 committed_heard count u n x b e now landed p done q (says_aborted d kind up under aborts is known from) to m k says sent leads = absurd cc
 committed_heard count u n x b e now landed p done q (from_left_link d kind s up under left why is known from) to m k says sent leads =
-    absurd (no_initiator count u up (record { node = n; id = d.old.id }) kind m k (upwards count u n x b e now landed p d.old d.found kind up known) (leads_same count q to up m k sent from.sent leads))
+    absurd (no_initiator count u up (record { node = n; id = d.old.id }) kind m k (upwards count u n x b e p d.old d.found kind up known) (leads_same count q to up m k sent from.sent leads))
 committed_heard count u n x b e now landed p done q (left_link_aborted d kind up under is known from) to m k says sent leads = absurd cc
 committed_heard count u n x b e now landed p done q (to_initiator d up known why from) to m k says sent leads =
     to_its_initiator count u n x b e now landed p d endings.Committed up known (told_effect d.deed.how d.old why) m k (leads_same count q to up m k sent from.sent leads)
@@ -203,10 +203,10 @@ aborted_heard count u n x b e now landed p q (to_left_seat d s i durable left sa
 aborted_heard count u n x b e now landed p q (to_superior d kind up known why is) to m k says sent leads =
     absurd (no_initiator count u up (record { node = n; id = d.old.id }) kind m k (link_enlists count u n x b e p d.old d.found kind up known) (leads_same count q to up m k sent is.sent leads))
 aborted_heard count u n x b e now landed p q (says_aborted d kind up under aborts is known from) to m k says sent leads =
-    absurd (no_initiator count u up (record { node = n; id = d.old.id }) kind m k (upwards count u n x b e now landed p d.old d.found kind up known) (leads_same count q to up m k sent from.sent leads))
+    absurd (no_initiator count u up (record { node = n; id = d.old.id }) kind m k (upwards count u n x b e p d.old d.found kind up known) (leads_same count q to up m k sent from.sent leads))
 aborted_heard count u n x b e now landed p q (from_left_link d kind s up under left why is known from) to m k says sent leads = absurd cc
 aborted_heard count u n x b e now landed p q (left_link_aborted d kind up under is known from) to m k says sent leads =
-    absurd (no_initiator count u up (record { node = n; id = d.old.id }) kind m k (upwards count u n x b e now landed p d.old d.found kind up known) (leads_same count q to up m k sent from.sent leads))
+    absurd (no_initiator count u up (record { node = n; id = d.old.id }) kind m k (upwards count u n x b e p d.old d.found kind up known) (leads_same count q to up m k sent from.sent leads))
 aborted_heard count u n x b e now landed p q (to_initiator d up known why from) to m k says sent leads =
     to_its_initiator count u n x b e now landed p d endings.Aborted up known (told_abort d.deed.how d.old why) m k (leads_same count q to up m k sent from.sent leads)
 aborted_heard count u n x b e now landed p q (to_asking d c up there is_done asked is from) to m k says sent leads = absurd cc

@@ -25,25 +25,23 @@ use Rattle.enlistments.specs.Knowing.{IsAsked, LeafKnows}
 use Rattle.enlistments.specs.Leads.{Enlists, EnlistsIfKnown, LeadsTo}
 use Rattle.enlistments.specs.Moves.{LeafDid}
 use Rattle.enlistments.specs.Telling.{AnswersAsNone, IsKnownOrAsked}
-use Rattle.enlistments.proofs.Arriving.{HasCome, Stepping, has_come}
+use Rattle.enlistments.proofs.Arriving.{HasCome}
 use Rattle.votes.proofs.Committeds.{asker_enlists, link_enlists}
+use Rattle.votes.proofs.Known.{came_by}
 use Rattle.votes.proofs.Notices.{other_notice, same_end, same_notice, says_notice}
 use Rattle.votes.proofs.Premises.{StepPremises}
 
 -- what comes to a participant as a notification is asked by a superior
-pub asked_only : (id : Numbers) (kind : Kind) (v : Notice) → takes (targets.Participant id kind) (messages.Notice v) ≡ true → IsAsked v
+asked_only : (id : Numbers) (kind : Kind) (v : Notice) → takes (targets.Participant id kind) (messages.Notice v) ≡ true → IsAsked v
 asked_only id kind notices.Prepare e = inl refl
 asked_only id kind notices.Commit e = inr (inl refl)
 asked_only id kind notices.Rollback e = inr (inr refl)
 asked_only id kind other e = absurd cc
 
-pub stepping : (count : ℕ) (u : World) (n : ℕ) (x : Node) (b : Book) (e : Event) (now : ℕ) (landed : Bool) → StepPremises count u n x b e → Stepping count u n x b e now landed
-stepping count u n x b e now landed p = record { small = p.world.laws.few; reached = p.world.laws.reached; found = p.found; up = p.up; heard = p.heard }
-
-pub was_asked : (count : ℕ) (u : World) (n : ℕ) (x : Node) (b : Book) (e : Event) (now : ℕ) (landed : Bool) → StepPremises count u n x b e → (a : Arrived) → e ≡ events.Arrived a → (id : Numbers) (kind : Kind)
+was_asked : (count : ℕ) (u : World) (n : ℕ) (x : Node) (b : Book) (e : Event) → StepPremises count u n x b e → (a : Arrived) → e ≡ events.Arrived a → (id : Numbers) (kind : Kind)
     → a.target ≡ targets.Participant id kind → (v : Notice) → a.message ≡ messages.Notice v → IsAsked v
-was_asked count u n x b e now landed p a came id kind target v says =
-    let h : HasCome count u n a = has_come count u n x b e now landed a (stepping count u n x b e now landed p) came in
+was_asked count u n x b e p a came id kind target v says =
+    let h : HasCome count u n a = came_by count u n x b e p a came in
     asked_only id kind v (subst (λ m. takes (targets.Participant id kind) m ≡ true) says (subst (λ T. takes T a.message ≡ true) target h.taken))
 
 -- what goes to a coordinator's seat goes to no initiator
@@ -54,11 +52,11 @@ no_initiator count u up y kind m i h leads =
     apart : (id : Numbers) (number : ℕ) → targets.Initiator i ≡ targets.Coordinator id (record { number = number; kind = kind }) → ⊥
     apart id number e = cc
 
-pub upwards : (count : ℕ) (u : World) (n : ℕ) (x : Node) (b : Book) (e : Event) (now : ℕ) (landed : Bool) → StepPremises count u n x b e → (t : Transaction) → transaction_at b t.id ≡ Some t → (kind : Kind) (up : Epr)
+pub upwards : (count : ℕ) (u : World) (n : ℕ) (x : Node) (b : Book) (e : Event) → StepPremises count u n x b e → (t : Transaction) → transaction_at b t.id ≡ Some t → (kind : Kind) (up : Epr)
     → IsKnownOrAsked e kind t up → Enlists count u up (record { node = n; id = t.id }) kind
-upwards count u n x b e now landed p t found kind up (inl known) = link_enlists count u n x b e p t found kind up known
-upwards count u n x b e now landed p t found kind up (inr (a, came, target, from, (v, says))) =
-    asker_enlists count u n x b e p a came t.id kind target v (was_asked count u n x b e now landed p a came t.id kind target v says) says up from
+upwards count u n x b e p t found kind up (inl known) = link_enlists count u n x b e p t found kind up known
+upwards count u n x b e p t found kind up (inr (a, came, target, from, (v, says))) =
+    asker_enlists count u n x b e p a came t.id kind target v (was_asked count u n x b e p a came t.id kind target v says) says up from
 
 pub leads_same : (count : ℕ) (q : Post) (to up : Epr) (m : ℕ) (i : Numbers) → q.to ≡ Some to → q.to ≡ Some up → LeadsTo count to m (targets.Initiator i) → LeadsTo count up m (targets.Initiator i)
 leads_same count q to up m i sent goes leads = subst (λ f. LeadsTo count f m (targets.Initiator i)) (same_end q.to to up sent goes) leads
