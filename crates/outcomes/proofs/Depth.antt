@@ -53,7 +53,7 @@ up w h x root (itself e) c = subst (HasCommitted w) e c
 up w h x root (below t number i of) c = up w h t root of (up_one w h t x (number, i) c)
 
 -- What never aborts: it has voted ReadOnly, or it has voted Prepared and hasn't aborted.
-abbrev Sealed : World → Who → Type 0
+abbrev pub Sealed : World → Who → Type 0
 Sealed w x = HasPosted w x kinds.Durable notices.ReadOnly ⊎ (HasVoted w x × (HasAborted w x → ⊥))
 
 -- a vote is that of its item

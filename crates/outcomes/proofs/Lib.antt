@@ -10,3 +10,6 @@ pub mod Layers
 pub mod Once
 pub mod Telling
 pub mod Upwards
+pub mod Machine
+pub mod Statuses
+pub mod Unfolding

@@ -1,6 +1,7 @@
 //! Agreement over every run.
 
 ghost use Rattle.model_laws.specs.Agreement.{Agrees};
+ghost use Rattle.outcomes.specs.AtomicCommit.{RunsCommitAtomically};
 ghost use Rattle.outcomes.specs.Founded.{OutcomesAreFounded};
 
 /// In every run a root commits behind its recorded decision, a subordinate behind its recorded vote, and a participant under
@@ -16,4 +17,10 @@ pub fn outcomes_are_founded()
 #[tactic(auto, using(crate::proofs::Agreeing::agrees))]
 pub fn agrees()
     ensures { Agrees }
+{}
+
+/// tmp
+#[tactic(auto, using(crate::proofs::Machine::consistent, crate::proofs::Unfolding::runs_commit_atomically))]
+pub fn commits_atomically()
+    ensures { RunsCommitAtomically }
 {}
