@@ -13,3 +13,4 @@ pub mod Upwards
 pub mod Machine
 pub mod Statuses
 pub mod Unfolding
+pub mod VotesFirst

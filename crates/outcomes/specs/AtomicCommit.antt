@@ -1,7 +1,8 @@
--- Atomic commit as a machine of its own, small enough to be read first: each member of an activity works, votes, and commits
--- or aborts; one commits only where everybody is ready, and one aborts only where nobody has committed. Every run of the
--- model, seen at one root, is a run of this machine; and the machine never has one that committed beside one that aborted.
-use Rattle.std.specs.Prelude.{ℕ, List, [], ◌∷◌, Option, Some, None, Bool, true, false, if◌then◌else◌, nat_eq, ◌&&◌, ◌||◌, ◌≡◌, ◌⊎◌, ◌^◌, ◌<◌}
+-- Atomic commit as a machine of its own, small enough to be read first (WS-AtomicTransaction 1.2, section 1). Each member of an
+-- activity works, votes, and commits or aborts: it commits only where everybody is ready, and aborts only where nobody has
+-- committed. Every run of the model, seen at one root, is a run of this machine; and wherever the machine goes, none that
+-- committed is beside one that aborted.
+use Rattle.std.specs.Prelude.{ℕ, List, Option, Some, None, Bool, true, false, if◌then◌else◌, nat_eq, ◌&&◌, ◌||◌, ◌≡◌, ◌⊎◌, ◌^◌, ◌<◌}
 use Rattle.std.specs.List.{list_any}
 use Rattle.at_base.specs.Numbers.{Numbers}
 use Rattle.at_base.specs.declared.notice.Kind.TheVariants as kinds
@@ -16,7 +17,7 @@ use Rattle.at_base.specs.declared.target.Target.{Target}
 use Rattle.at_base.specs.declared.target.Target.TheVariants as targets
 use Rattle.at_tables.specs.Names.{is_notice}
 use Rattle.at_model.specs.Book.{is_id}
-use Rattle.at_model.specs.World.{Happened, Node, Posted, Who, World, WorldEvent, nth, opening, run_of}
+use Rattle.at_model.specs.World.{Node, Who, World, WorldEvent, nth, run_of}
 use Rattle.model_laws.specs.Agreement.{IsOf}
 use Rattle.votes.specs.Voting.{is_vote}
 
@@ -42,18 +43,18 @@ AllReady members s = (y : Who) → members y → IsReady (s y)
 abbrev pub NoneCommitted : (Who → Type 0) → (Who → Status) → Type 0
 NoneCommitted members s = (y : Who) → members y → s y ≡ Status.Committed → ⊥
 
--- What one member does in a step: nothing; it votes; it commits, where everybody is ready; or it aborts, where nobody has
--- committed. What it has done it never undoes.
-pub data Move (before after : Status) (ready uncommitted : Type 0) : Type 0 where
-  stays : after ≡ before → Move before after ready uncommitted
-  prepares : before ≡ Status.Working → after ≡ Status.Prepared → Move before after ready uncommitted
-  leaves : before ≡ Status.Working → after ≡ Status.Left → Move before after ready uncommitted
-  commits : (before ≡ Status.Working) ⊎ (before ≡ Status.Prepared) → after ≡ Status.Committed → ready → Move before after ready uncommitted
-  aborts : (before ≡ Status.Working) ⊎ (before ≡ Status.Prepared) → after ≡ Status.Aborted → uncommitted → Move before after ready uncommitted
+-- What one member does in a step: nothing; it votes; it commits, where everybody is ready, the root by its decision and any
+-- other behind its vote; or it aborts, where nobody has committed. What it has done it never undoes.
+pub data Move (before after : Status) (root ready uncommitted : Type 0) : Type 0 where
+  stays : after ≡ before → Move before after root ready uncommitted
+  prepares : before ≡ Status.Working → after ≡ Status.Prepared → Move before after root ready uncommitted
+  leaves : before ≡ Status.Working → after ≡ Status.Left → Move before after root ready uncommitted
+  commits : (before ≡ Status.Prepared) ⊎ ((before ≡ Status.Working) × root) → after ≡ Status.Committed → ready → Move before after root ready uncommitted
+  aborts : (before ≡ Status.Working) ⊎ (before ≡ Status.Prepared) → after ≡ Status.Aborted → uncommitted → Move before after root ready uncommitted
 
 -- A step of the machine: each member moves or stays, and others join while nobody has committed.
-pub record Step (members more : Who → Type 0) (before after : Who → Status) : Type 0 where
-  pub moves : (x : Who) → more x → Move (before x) (after x) (AllReady more after) (NoneCommitted more after)
+pub record Step (root : Who) (members more : Who → Type 0) (before after : Who → Status) : Type 0 where
+  pub moves : (x : Who) → more x → Move (before x) (after x) (x ≡ root) (AllReady more after) (NoneCommitted more after)
   pub joins : (x y : Who) → more x → more y → after y ≡ Status.Committed → members x
 
 -- what an effect says of the item: it ended so
@@ -100,7 +101,7 @@ status_of w x =
 -- A run of the machine, along the worlds of a run of the model: its members are those of the root.
 pub data Unfolds (count : ℕ) (root : Who) : World → Type 0 where
   begins : {w : World} → ((x : Who) → status_of w x ≡ Status.Working) → Unfolds count root w
-  goes : {w : World} (u : World) → Unfolds count root u → Step (λ x. IsOf u x root) (λ x. IsOf w x root) (status_of u) (status_of w) → Unfolds count root w
+  goes : {w : World} (u : World) → Unfolds count root u → Step root (λ x. IsOf u x root) (λ x. IsOf w x root) (status_of u) (status_of w) → Unfolds count root w
 
 pub record RunsCommitAtomically : Type 0 where
   -- each run is one of the machine, for each root

@@ -19,8 +19,10 @@ pub fn agrees()
     ensures { Agrees }
 {}
 
-/// tmp
-#[tactic(auto, using(crate::proofs::Machine::consistent, crate::proofs::Unfolding::runs_commit_atomically))]
-pub fn commits_atomically()
+/// Every run, seen at one root, is a run of a small machine of atomic commit, and that machine is consistent: a member votes;
+/// it commits where everybody is ready, the root by its decision and any other behind its vote; it aborts where nobody has
+/// committed; nothing is undone, and nobody joins once one has committed.
+#[tactic(auto, using(crate::proofs::Unfolding::runs_commit_atomically))]
+pub fn runs_commit_atomically()
     ensures { RunsCommitAtomically }
 {}
