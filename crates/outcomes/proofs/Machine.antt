@@ -3,7 +3,8 @@ use Rattle.std.specs.Prelude.{ℕ, ◌≡◌, ◌⊎◌}
 use Rattle.std.proofs.Common.{inl, inr, sym, subst, ◌∙◌}
 use Rattle.at_model.specs.World.{Who, World}
 use Rattle.model_laws.specs.Agreement.{IsOf}
-use Rattle.outcomes.specs.AtomicCommit.{AllReady, IsReady, Move, NoneCommitted, Status, Step, Unfolds, aborts, begins, commits, goes, leaves, prepares, status_of, stays}
+use Rattle.outcomes.specs.AtomicCommit.{AllReady, IsReady, Move, NoneCommitted, Status, Step, aborts, commits, leaves, prepares, stays}
+use Rattle.outcomes.specs.Statuses.{Unfolds, begins, goes, status_of}
 
 -- once one has committed, everybody is ready
 abbrev ReadyOnce : (Who → Type 0) → (Who → Status) → Type 0

@@ -23,7 +23,8 @@ use Rattle.model_laws.proofs.Deciding.{first_true, second_true}
 use Rattle.model_laws.proofs.Recovering.{same_id, self_id}
 use Rattle.votes.specs.Voting.{HasVoted, is_vote}
 use Rattle.votes.proofs.SeatsAt.{any_of}
-use Rattle.outcomes.specs.AtomicCommit.{Status, has_ended, has_left, is_ending, is_own, says_end, says_read_only, status_of, votes_in}
+use Rattle.outcomes.specs.AtomicCommit.{Status}
+use Rattle.outcomes.specs.Statuses.{has_ended, has_left, is_ending, is_own, says_end, says_read_only, status_of, votes_in}
 
 -- tests over lists
 some_of : {A : Type 0} (test : A → Bool) (xs : List A) → list_any test xs ≡ true → (y : A) × IsIn y xs × (test y ≡ true)

@@ -28,7 +28,8 @@ use Rattle.votes.proofs.Growing.{aborted_on, committed_on, posted_on, voted_on}
 use Rattle.votes.proofs.Joint.{outcomes_are_backed}
 use Rattle.votes.proofs.Joining.{JoinsOpen, seat_joins}
 use Rattle.votes.proofs.Premises.{StepPremises, WorldPremises}
-use Rattle.outcomes.specs.AtomicCommit.{AllReady, IsReady, Move, NoneCommitted, RunsCommitAtomically, Status, Step, Unfolds, aborts, begins, commits, goes, leaves, prepares, status_of, stays, votes_in}
+use Rattle.outcomes.specs.AtomicCommit.{AllReady, IsReady, Move, NoneCommitted, Status, Step, aborts, commits, leaves, prepares, stays}
+use Rattle.outcomes.specs.Statuses.{RunsCommitAtomically, Unfolds, begins, goes, status_of, votes_in}
 use Rattle.outcomes.specs.Bound.{CommittedBelow, IsBound}
 use Rattle.outcomes.proofs.Agreeing.{bound, layers}
 use Rattle.outcomes.proofs.Depth.{Sealed, as_participant, down, up}

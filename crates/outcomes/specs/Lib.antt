@@ -1,3 +1,4 @@
 pub mod Bound
 pub mod Founded
 pub mod AtomicCommit
+pub mod Statuses

@@ -1,7 +1,7 @@
 //! Agreement over every run.
 
 ghost use Rattle.model_laws.specs.Agreement.{Agrees};
-ghost use Rattle.outcomes.specs.AtomicCommit.{RunsCommitAtomically};
+ghost use Rattle.outcomes.specs.Statuses.{RunsCommitAtomically};
 ghost use Rattle.outcomes.specs.Founded.{OutcomesAreFounded};
 
 /// In every run a root commits behind its recorded decision, a subordinate behind its recorded vote, and a participant under
