@@ -2,6 +2,7 @@
 
 ghost use Rattle.model_laws.specs.Agreement.{Agrees};
 ghost use Rattle.outcomes.specs.Statuses.{RunsCommitAtomically};
+ghost use Rattle.outcomes.specs.Examples.{StatusesAreSeen};
 ghost use Rattle.outcomes.specs.Founded.{OutcomesAreFounded};
 
 /// In every run a root commits behind its recorded decision, a subordinate behind its recorded vote, and a participant under
@@ -25,4 +26,11 @@ pub fn agrees()
 #[tactic(auto, using(crate::proofs::Unfolding::runs_commit_atomically))]
 pub fn runs_commit_atomically()
     ensures { RunsCommitAtomically }
+{}
+
+/// Statuses along worked runs: a root and its durable participant register, vote, decide and commit; the participant votes
+/// ReadOnly; and both abort where another participant does.
+#[tactic(auto, using(crate::proofs::Examples::statuses_are_seen))]
+pub fn statuses_are_seen()
+    ensures { StatusesAreSeen }
 {}
