@@ -1,5 +1,5 @@
 -- Worked examples: the statuses of a root, and of its one durable participant, along runs.
-use Rattle.std.specs.Prelude.{ℕ, List, [], ◌∷◌, ◌++◌, ◌≡◌}
+use Rattle.std.specs.Prelude.{List, [], ◌∷◌, ◌++◌, ◌≡◌}
 use Rattle.at_base.specs.declared.notice.Vote.TheVariants as votes
 use Rattle.at_model.specs.Views.{commit_at, deliver_to}
 use Rattle.at_model.specs.World.{WorldEvent, run_of}
