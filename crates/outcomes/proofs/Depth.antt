@@ -38,7 +38,7 @@ no_leaf_above S kind (inl e) f = let g : Root ≡ LeafOf kind = sym e ∙ f in c
 no_leaf_above S kind (inr e) f = let g : Subordinate ≡ LeafOf kind = sym e ∙ f in cc
 
 -- Who committed and is registered durably committed as a participant; so the one above it has committed.
-as_participant : (w : World) (h : IsBound w) (t x : Who) → IsUnder w t x → HasCommitted w x → CommittedBelow w x
+pub as_participant : (w : World) (h : IsBound w) (t x : Who) → IsUnder w t x → HasCommitted w x → CommittedBelow w x
 as_participant w h t x under (inl i) = absurd (no_root_below (sort_of w h x) (fits w h t x under).1 (fits_effect w h _ i))
 as_participant w h t x under (inr c) = c
 

@@ -1,10 +1,9 @@
 -- What a status says of an item.
-use Rattle.std.specs.Prelude.{ℕ, List, [], ◌∷◌, Option, Some, None, Bool, true, false, if◌then◌else◌, nat_eq, ◌&&◌, ◌||◌, ◌≡◌, ◌⊎◌, refl}
+use Rattle.std.specs.Prelude.{List, [], ◌∷◌, Option, Some, None, Bool, true, false, if◌then◌else◌, nat_eq, ◌&&◌, ◌||◌, ◌≡◌, refl}
 use Rattle.std.specs.List.{list_any}
 use Rattle.std.proofs.Common.{inl, inr, sym, subst, ap, ◌∙◌}
 use Rattle.std.proofs.lemmas.Bool.{eq-eqb, eqb-true}
 use Rattle.at_base.specs.Numbers.{Numbers}
-use Rattle.at_base.specs.declared.notice.Kind.{Kind}
 use Rattle.at_base.specs.declared.notice.Kind.TheVariants as kinds
 use Rattle.at_base.specs.declared.notice.Notice.{Notice}
 use Rattle.at_base.specs.declared.notice.Notice.TheVariants as notices
@@ -19,12 +18,13 @@ use Rattle.at_base.specs.declared.target.Target.TheVariants as targets
 use Rattle.at_tables.specs.Names.{is_notice}
 use Rattle.at_model.specs.Book.{is_id}
 use Rattle.at_model.specs.World.{Happened, Node, Posted, Who, World, happened_at, nth}
-use Rattle.model_laws.specs.Agreement.{HasAborted, HasCommitted, HasEnded, HasPosted, IsIn, Stands}
+use Rattle.model_laws.specs.Agreement.{HasAborted, HasCommitted, HasEnded, HasPosted, IsIn}
 use Rattle.model_laws.proofs.Deciding.{first_true, second_true}
 use Rattle.model_laws.proofs.Recovering.{same_id, self_id}
 use Rattle.votes.specs.Voting.{HasVoted, is_vote}
 use Rattle.votes.proofs.SeatsAt.{any_of}
-use Rattle.outcomes.specs.AtomicCommit.{Status, has_ended, has_left, is_ending, is_own, says_end, says_read_only, status_of, votes_in}
+use Rattle.outcomes.specs.AtomicCommit.{Status}
+use Rattle.outcomes.specs.Statuses.{has_ended, has_left, is_ending, is_own, says_end, says_read_only, status_of, votes_in}
 
 -- tests over lists
 some_of : {A : Type 0} (test : A → Bool) (xs : List A) → list_any test xs ≡ true → (y : A) × IsIn y xs × (test y ≡ true)
@@ -126,10 +126,13 @@ pub left_so : (w : World) (x : Who) → has_left w x ≡ true → HasPosted w x 
 left_so w x e =
     let (p, i, f) = some_of (λ (q : Posted). nat_eq q.sender x.node && (is_own x.id q.content.own && says_read_only q.content.message)) w.posted e in
     let rest : (is_own x.id p.content.own && says_read_only p.content.message) ≡ true =
-    second_true (nat_eq p.sender x.node) (is_own x.id p.content.own && says_read_only p.content.message) f in
-    (p, i, eqb-true p.sender x.node (first_true (nat_eq p.sender x.node) (is_own x.id p.content.own && says_read_only p.content.message) f),
-    own_is x.id p.content.own (first_true (is_own x.id p.content.own) (says_read_only p.content.message) rest),
-    read_only_said p.content.message (second_true (is_own x.id p.content.own) (says_read_only p.content.message) rest))
+    second_true (nat_eq p.sender x.node) (is_own x.id p.content.own && says_read_only p.content.message) f in (
+      p,
+      i,
+      eqb-true p.sender x.node (first_true (nat_eq p.sender x.node) (is_own x.id p.content.own && says_read_only p.content.message) f),
+      own_is x.id p.content.own (first_true (is_own x.id p.content.own) (says_read_only p.content.message) rest),
+      read_only_said p.content.message (second_true (is_own x.id p.content.own) (says_read_only p.content.message) rest),
+    )
 
 pub leaves_so : (w : World) (x : Who) → HasPosted w x kinds.Durable notices.ReadOnly → has_left w x ≡ true
 leaves_so w x (p, i, sender, own, says) =

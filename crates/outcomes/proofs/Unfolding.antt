@@ -1,19 +1,17 @@
 -- Every run, seen at one root, is a run of the machine of atomic commit.
-use Rattle.std.specs.Prelude.{ℕ, List, [], ◌∷◌, ◌++◌, Option, Some, None, Bool, true, false, if◌then◌else◌, ◌+◌, ◌^◌, ◌≡◌, ◌⊎◌, ◌<◌, refl}
+use Rattle.std.specs.Prelude.{ℕ, List, [], ◌∷◌, ◌++◌, Option, Some, None, Bool, false, if◌then◌else◌, ◌+◌, ◌^◌, ◌≡◌, ◌⊎◌, ◌<◌, refl}
 use Rattle.std.specs.List.{AllByRecursion, list_any}
 use Rattle.std.proofs.Common.{inl, inr, sym, subst, ap, ◌∙◌}
-use Rattle.at_base.specs.Numbers.{Numbers}
 use Rattle.at_base.specs.declared.event.Event.{Event}
 use Rattle.at_base.specs.declared.notice.Kind.TheVariants as kinds
 use Rattle.at_base.specs.declared.notice.Notice.TheVariants as notices
-use Rattle.at_base.specs.declared.outs.Ending.TheVariants as endings
 use Rattle.at_base.specs.declared.outs.Out.TheVariants as outs
 use Rattle.at_base.specs.declared.outs.Post.{Post}
 use Rattle.at_model.specs.Book.{Book}
 use Rattle.at_model.specs.Recover.{last_incarnation}
 use Rattle.at_model.specs.Step.{leaf_at, plan, step, transaction_at}
-use Rattle.at_model.specs.World.{Accepted, Node, Who, World, WorldEvent, goes_down, lost_in, new_node, nth, opening, put_book, put_nth, run_of, started, up_after, with_post}
-use Rattle.model_laws.specs.Agreement.{HasAborted, HasCommitted, HasPosted, IsAccepted, IsIn, IsOf, below, itself}
+use Rattle.at_model.specs.World.{Node, Who, World, goes_down, lost_in, nth, opening, put_book, put_nth, run_of, started, up_after, with_post}
+use Rattle.model_laws.specs.Agreement.{HasAborted, HasCommitted, HasPosted, IsIn, IsOf, below, itself}
 use Rattle.model_laws.specs.Grows.{Grows}
 use Rattle.model_laws.specs.Reached.{Reached, counts, fell, opened, post_all, rose, stepped, waited}
 use Rattle.model_laws.proofs.Lasting.{grows_counts, grows_falls, grows_posts, grows_rises, grows_waits}
@@ -25,50 +23,58 @@ use Rattle.votes.specs.Answering.{HasSeat}
 use Rattle.votes.specs.Voting.{HasVoted, LeftNoTrace, is_vote}
 use Rattle.votes.proofs.Aborts.{unpromised_vote}
 use Rattle.votes.proofs.Ended.{IsOpen, is_open, life_of, not_committed_open}
-use Rattle.votes.proofs.Gone.{is_promised, same_node, traces}
+use Rattle.votes.proofs.Gone.{same_node, traces}
 use Rattle.votes.proofs.Growing.{aborted_on, committed_on, posted_on, voted_on}
+use Rattle.votes.proofs.Joint.{outcomes_are_backed}
 use Rattle.votes.proofs.Joining.{JoinsOpen, seat_joins}
 use Rattle.votes.proofs.Premises.{StepPremises, WorldPremises}
-use Rattle.outcomes.specs.AtomicCommit.{AllReady, IsReady, Move, NoneCommitted, RunsCommitAtomically, Status, Step, Unfolds, aborts, begins, commits, goes, leaves, prepares, status_of, stays, votes_in}
-use Rattle.outcomes.specs.Bound.{IsBound, IsUnder}
+use Rattle.outcomes.specs.AtomicCommit.{AllReady, IsReady, Move, NoneCommitted, Status, Step, aborts, commits, leaves, prepares, stays}
+use Rattle.outcomes.specs.Statuses.{RunsCommitAtomically, Unfolds, begins, goes, status_of, votes_in}
+use Rattle.outcomes.specs.Bound.{CommittedBelow, IsBound}
 use Rattle.outcomes.proofs.Agreeing.{bound, layers}
-use Rattle.outcomes.proofs.Depth.{Sealed, down, up}
+use Rattle.outcomes.proofs.Depth.{Sealed, as_participant, down, up}
 use Rattle.outcomes.proofs.Layers.{step_premises, world_premises}
 use Rattle.outcomes.proofs.Machine.{consistent}
 use Rattle.outcomes.proofs.Statuses.{Seen, seen}
+use Rattle.outcomes.proofs.VotesFirst.{commits_before, votes_first}
 
 -- who voted ReadOnly has no vote Prepared
 left_unvoted : (count : ℕ) (w : World) → WorldPremises count w → (x : Who) → HasVoted w x → HasPosted w x kinds.Durable notices.ReadOnly → ⊥
 left_unvoted count w p x v r = traces count w p x v (p.read_only x r)
 
 -- what a later status makes of an earlier one
-move : (count : ℕ) (u w : World) → Grows u w → WorldPremises count w → IsBound w → (x : Who) (before after : Status) (ready uncommitted : Type 0) → (HasCommitted w x → ready) → (HasAborted w x → uncommitted)
-    → Seen u x before → Seen w x after → Move before after ready uncommitted
-move count u w g p h x Status.Committed Status.Committed ready uncommitted r n s t = stays refl
-move count u w g p h x Status.Committed Status.Aborted ready uncommitted r n s t = absurd (h.one x (committed_on u w g x s) t)
-move count u w g p h x Status.Committed Status.Left ready uncommitted r n s t = absurd (h.left x t (inr (committed_on u w g x s)))
-move count u w g p h x Status.Committed Status.Prepared ready uncommitted r n s t = absurd (t.1 (committed_on u w g x s))
-move count u w g p h x Status.Committed Status.Working ready uncommitted r n s t = absurd (t.1 (committed_on u w g x s))
-move count u w g p h x Status.Aborted Status.Committed ready uncommitted r n s t = absurd (h.one x t (aborted_on u w g x s))
-move count u w g p h x Status.Aborted Status.Aborted ready uncommitted r n s t = stays refl
-move count u w g p h x Status.Aborted Status.Left ready uncommitted r n s t = absurd (h.left x t (inl (aborted_on u w g x s)))
-move count u w g p h x Status.Aborted Status.Prepared ready uncommitted r n s t = absurd (t.2 (aborted_on u w g x s))
-move count u w g p h x Status.Aborted Status.Working ready uncommitted r n s t = absurd (t.2 (aborted_on u w g x s))
-move count u w g p h x Status.Left Status.Committed ready uncommitted r n s t = absurd (h.left x (posted_on u w g x kinds.Durable notices.ReadOnly s) (inr t))
-move count u w g p h x Status.Left Status.Aborted ready uncommitted r n s t = absurd (h.left x (posted_on u w g x kinds.Durable notices.ReadOnly s) (inl t))
-move count u w g p h x Status.Left Status.Left ready uncommitted r n s t = stays refl
-move count u w g p h x Status.Left Status.Prepared ready uncommitted r n s t = absurd (t.3 (posted_on u w g x kinds.Durable notices.ReadOnly s))
-move count u w g p h x Status.Left Status.Working ready uncommitted r n s t = absurd (t.3 (posted_on u w g x kinds.Durable notices.ReadOnly s))
-move count u w g p h x Status.Prepared Status.Committed ready uncommitted r n s t = commits (inr refl) refl (r t)
-move count u w g p h x Status.Prepared Status.Aborted ready uncommitted r n s t = aborts (inr refl) refl (n t)
-move count u w g p h x Status.Prepared Status.Left ready uncommitted r n s t = absurd (left_unvoted count w p x (voted_on u w g x s.0) t)
-move count u w g p h x Status.Prepared Status.Prepared ready uncommitted r n s t = stays refl
-move count u w g p h x Status.Prepared Status.Working ready uncommitted r n s t = absurd (t.0 (voted_on u w g x s.0))
-move count u w g p h x Status.Working Status.Committed ready uncommitted r n s t = commits (inl refl) refl (r t)
-move count u w g p h x Status.Working Status.Aborted ready uncommitted r n s t = aborts (inl refl) refl (n t)
-move count u w g p h x Status.Working Status.Left ready uncommitted r n s t = leaves refl refl
-move count u w g p h x Status.Working Status.Prepared ready uncommitted r n s t = prepares refl refl
-move count u w g p h x Status.Working Status.Working ready uncommitted r n s t = stays refl
+move : (count : ℕ) (u w : World) → Grows u w → WorldPremises count w → IsBound w → (x : Who) (before after : Status) (root ready uncommitted : Type 0) → (HasCommitted w x → root ⊎ (HasCommitted u x ⊎ HasVoted u x)) → (HasCommitted w x → ready) → (HasAborted w x → uncommitted)
+    → Seen u x before → Seen w x after → Move before after root ready uncommitted
+move count u w g p h x Status.Committed Status.Committed root ready uncommitted v r n s t = stays refl
+move count u w g p h x Status.Committed Status.Aborted root ready uncommitted v r n s t = absurd (h.one x (committed_on u w g x s) t)
+move count u w g p h x Status.Committed Status.Left root ready uncommitted v r n s t = absurd (h.left x t (inr (committed_on u w g x s)))
+move count u w g p h x Status.Committed Status.Prepared root ready uncommitted v r n s t = absurd (t.1 (committed_on u w g x s))
+move count u w g p h x Status.Committed Status.Working root ready uncommitted v r n s t = absurd (t.1 (committed_on u w g x s))
+move count u w g p h x Status.Aborted Status.Committed root ready uncommitted v r n s t = absurd (h.one x t (aborted_on u w g x s))
+move count u w g p h x Status.Aborted Status.Aborted root ready uncommitted v r n s t = stays refl
+move count u w g p h x Status.Aborted Status.Left root ready uncommitted v r n s t = absurd (h.left x t (inl (aborted_on u w g x s)))
+move count u w g p h x Status.Aborted Status.Prepared root ready uncommitted v r n s t = absurd (t.2 (aborted_on u w g x s))
+move count u w g p h x Status.Aborted Status.Working root ready uncommitted v r n s t = absurd (t.2 (aborted_on u w g x s))
+move count u w g p h x Status.Left Status.Committed root ready uncommitted v r n s t = absurd (h.left x (posted_on u w g x kinds.Durable notices.ReadOnly s) (inr t))
+move count u w g p h x Status.Left Status.Aborted root ready uncommitted v r n s t = absurd (h.left x (posted_on u w g x kinds.Durable notices.ReadOnly s) (inl t))
+move count u w g p h x Status.Left Status.Left root ready uncommitted v r n s t = stays refl
+move count u w g p h x Status.Left Status.Prepared root ready uncommitted v r n s t = absurd (t.3 (posted_on u w g x kinds.Durable notices.ReadOnly s))
+move count u w g p h x Status.Left Status.Working root ready uncommitted v r n s t = absurd (t.3 (posted_on u w g x kinds.Durable notices.ReadOnly s))
+move count u w g p h x Status.Prepared Status.Committed root ready uncommitted v r n s t = commits (inl refl) refl (r t)
+move count u w g p h x Status.Prepared Status.Aborted root ready uncommitted v r n s t = aborts (inr refl) refl (n t)
+move count u w g p h x Status.Prepared Status.Left root ready uncommitted v r n s t = absurd (left_unvoted count w p x (voted_on u w g x s.0) t)
+move count u w g p h x Status.Prepared Status.Prepared root ready uncommitted v r n s t = stays refl
+move count u w g p h x Status.Prepared Status.Working root ready uncommitted v r n s t = absurd (t.0 (voted_on u w g x s.0))
+move count u w g p h x Status.Working Status.Committed root ready uncommitted v r n s t = commits (inr (refl, is_root (v t))) refl (r t)
+  where
+    is_root : root ⊎ (HasCommitted u x ⊎ HasVoted u x) → root
+    is_root (inl k) = k
+    is_root (inr (inl c)) = absurd (s.1 c)
+    is_root (inr (inr k)) = absurd (s.0 k)
+move count u w g p h x Status.Working Status.Aborted root ready uncommitted v r n s t = aborts (inl refl) refl (n t)
+move count u w g p h x Status.Working Status.Left root ready uncommitted v r n s t = leaves refl refl
+move count u w g p h x Status.Working Status.Prepared root ready uncommitted v r n s t = prepares refl refl
+move count u w g p h x Status.Working Status.Working root ready uncommitted v r n s t = stays refl
 
 -- once one has committed, everybody is ready
 ready_as : (w : World) → IsBound w → (y : Who) (s : Status) → Seen w y s → HasCommitted w y ⊎ Sealed w y → IsReady s
@@ -106,11 +112,22 @@ aborted_alone w h x y root m k a c = by_place (committed_or_sealed w h y x root 
 none_committed : (w : World) → IsBound w → (x root : Who) → IsOf w x root → HasAborted w x → NoneCommitted (λ y. IsOf w y root) (status_of w)
 none_committed w h x root m a y k e = aborted_alone w h x y root m k a (committed_as w y e)
 
+-- who commits is the root, or has voted before
+voted_first : (u w : World) → IsBound w → (x root : Who) → IsOf w x root → (CommittedBelow w x → CommittedBelow u x ⊎ HasVoted u x) → HasCommitted w x
+    → (x ≡ root) ⊎ (HasCommitted u x ⊎ HasVoted u x)
+voted_first u w h x root (itself e) first c = inl e
+voted_first u w h x root (below t number i of) first c = by_case (first (as_participant w h t x (number, i) c))
+  where
+    by_case : CommittedBelow u x ⊎ HasVoted u x → (x ≡ root) ⊎ (HasCommitted u x ⊎ HasVoted u x)
+    by_case (inl k) = inr (inl (inr k))
+    by_case (inr k) = inr (inr k)
+
 -- a step of the machine, where nobody joins once one has committed
-pub machine_step : (count : ℕ) (u w : World) (root : Who) → Grows u w → WorldPremises count w → IsBound w → ((x : Who) → IsOf w x root → HasCommitted w root → IsOf u x root)
-    → Step (λ x. IsOf u x root) (λ x. IsOf w x root) (status_of u) (status_of w)
-machine_step count u w root g p h joins = record {
-  moves = λ x m. move count u w g p h x (status_of u x) (status_of w x) (AllReady (λ y. IsOf w y root) (status_of w)) (NoneCommitted (λ y. IsOf w y root) (status_of w)) (all_ready w h x root m)
+pub machine_step : (count : ℕ) (u w : World) (root : Who) → Grows u w → WorldPremises count w → IsBound w → ((x : Who) → CommittedBelow w x → CommittedBelow u x ⊎ HasVoted u x)
+    → ((x : Who) → IsOf w x root → HasCommitted w root → IsOf u x root) → Step root (λ x. IsOf u x root) (λ x. IsOf w x root) (status_of u) (status_of w)
+machine_step count u w root g p h first joins = record {
+  moves = λ x m. move count u w g p h x (status_of u x) (status_of w x) (x ≡ root) (AllReady (λ y. IsOf w y root) (status_of w)) (NoneCommitted (λ y. IsOf w y root) (status_of w))
+      (λ c. voted_first u w h x root m (first x) c) (all_ready w h x root m)
       (none_committed w h x root m) (seen u x) (seen w x);
   joins = λ x y m k e. joins x m (up w h y root k (committed_as w y e));
 }
@@ -166,7 +183,7 @@ posts_unfold count root n P [] w these h m = m
 posts_unfold count root n P (p ∷ ps) w (this, these) h m =
     posts_unfold count root n P ps (with_post n p w) these (λ qs l. h (p ∷ qs) (this, l))
     (goes w m
-    (machine_step count w (with_post n p w) root (grows_posts n (p ∷ []) w) (h (p ∷ []) (this, tt)).0 (h (p ∷ []) (this, tt)).1 (λ x i c. of_same w (with_post n p w) x root refl i)))
+    (machine_step count w (with_post n p w) root (grows_posts n (p ∷ []) w) (h (p ∷ []) (this, tt)).0 (h (p ∷ []) (this, tt)).1 (λ x k. inl k) (λ x i c. of_same w (with_post n p w) x root refl i)))
 
 -- the opening world
 opening_working : (count : ℕ) (x : Who) → status_of (opening count) x ≡ Status.Working
@@ -191,6 +208,7 @@ unfolds count w root few (stepped u n x b e now landed ps reached found up heard
     (λ qs these. premises_of count (post_all n qs (counts u n x b e now landed)) few (stepped u n x b e now landed qs reached found up heard these refl))
     (goes u (unfolds count u root few reached)
     (machine_step count u (counts u n x b e now landed) root (grows_counts u n x b e now landed found) after.0 after.1
+    (votes_first count u n x b e now landed (step_premises layers count u n x b e few reached found up heard) (outcomes_are_backed.reached count u few reached))
     (λ y i c. none_joins count u n x b e now landed (step_premises layers count u n x b e few reached found up heard) after.0 after.1 y root i c))))
   where
     after : WorldPremises count (counts u n x b e now landed) × IsBound (counts u n x b e now landed)
@@ -199,18 +217,18 @@ unfolds count w root few (fell u n x b reached found up is) =
     let k : WorldPremises count (goes_down n b u) × IsBound (goes_down n b u) = premises_of count (goes_down n b u) few (fell u n x b reached found up refl) in
     subst (Unfolds count root) (sym is)
     (goes u (unfolds count u root few reached)
-    (machine_step count u (goes_down n b u) root (grows_falls u n x b found) k.0 k.1
+    (machine_step count u (goes_down n b u) root (grows_falls u n x b found) k.0 k.1 (λ y c. inl (commits_before u n x b found y c))
     (λ y i c. of_same u (goes_down n b u) y root (ap (λ (v : World). v.accepted) (ap (put_book n None (record u { happened = u.happened ++ lost_in n b })) found)) i)))
 unfolds count w root few (rose u n x stop reached found down_now small is) =
     let v : World = record u { nodes = put_nth n (up_after (started (last_incarnation x.journal + 1) x) stop) u.nodes } in
     let k : WorldPremises count v × IsBound v = premises_of count v few (rose u n x stop reached found down_now small refl) in
     subst (Unfolds count root) (sym is)
-    (goes u (unfolds count u root few reached) (machine_step count u v root (grows_rises u n x stop found) k.0 k.1 (λ y i c. of_same u v y root refl i)))
+    (goes u (unfolds count u root few reached) (machine_step count u v root (grows_rises u n x stop found) k.0 k.1 (λ y c. inl c) (λ y i c. of_same u v y root refl i)))
 unfolds count w root few (waited u n x clock reached found is) =
     let v : World = record u { nodes = put_nth n (record x { clock = clock }) u.nodes } in
     let k : WorldPremises count v × IsBound v = premises_of count v few (waited u n x clock reached found refl) in
     subst (Unfolds count root) (sym is)
-    (goes u (unfolds count u root few reached) (machine_step count u v root (grows_waits u n x clock found) k.0 k.1 (λ y i c. of_same u v y root refl i)))
+    (goes u (unfolds count u root few reached) (machine_step count u v root (grows_waits u n x clock found) k.0 k.1 (λ y c. inl c) (λ y i c. of_same u v y root refl i)))
 
 pub runs_commit_atomically : RunsCommitAtomically
 runs_commit_atomically = record { runs = λ count es root few. unfolds count (run_of count es) root few (run_reached count es); consistent = consistent }

@@ -1,3 +1,5 @@
-pub mod Bound
-pub mod Founded
 pub mod AtomicCommit
+pub mod Bound
+pub mod Examples
+pub mod Founded
+pub mod Statuses
