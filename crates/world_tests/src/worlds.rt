@@ -1,11 +1,11 @@
 //! What a world shows of its nodes, after steps and after a run.
 
+use crate::script::played;
 use at_base::event::Local;
 use at_base::id::Id;
 use completion_at::requests::Refusal;
 use std::alloc::{AllocError, Global};
 use std::test::Fail;
-use crate::script::played;
 use world_laws::event::{Fates, Input, WorldEvent};
 use world_laws::laws::changes_by_moves;
 use world_laws::world::{Stepped, World, run_world};
