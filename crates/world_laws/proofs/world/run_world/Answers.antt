@@ -7,4 +7,4 @@ use Rattle.world_laws.proofs.world.run_world.Goals as goal
 pub returns-clause-superior : goal.returns-clause-superior
 returns-clause-superior c =
     subst HasOneSuperior (sym c.in_ok-world.ensures.world)
-    (c.enlists_under_one.ensures c.args.nodes (map event_of c.args.events.now) (omega (arith, c.requires.nodes.1)))
+    (c.laws.ensures.superior c.args.nodes (map event_of c.args.events.now) (omega (arith, c.requires.nodes.1)))
