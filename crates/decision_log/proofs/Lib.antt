@@ -1,0 +1,10 @@
+mod Order
+mod Growing
+mod Committing
+mod Grown
+mod Testing
+mod Placing
+mod Finding
+mod Following
+mod Deciding
+mod Taking
