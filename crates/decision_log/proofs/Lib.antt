@@ -8,3 +8,5 @@ mod Finding
 mod Following
 mod Deciding
 mod Taking
+mod Same
+mod Bodies

@@ -185,3 +185,8 @@ insert_agrees f g x (y ∷ ys) e (h, k) = let ih = insert_agrees f g x ys e k in
 pub order_agrees : {A : Type 0} (f g : A → Numbers) (xs : List A) → AllByRecursion (λ x. f x ≡ g x) xs → in_order f xs ≡ in_order g xs
 order_agrees f g [] h = refl
 order_agrees f g (x ∷ xs) (h, k) = insert_agrees f g x (in_order f xs) h (all_in_order (λ y. f y ≡ g y) f xs k) ∙ ap (insert_by g x) (order_agrees f g xs k)
+
+-- what is in order stays so
+pub sorted_again : {A : Type 0} (key : A → Numbers) (xs : List A) → IsSorted key xs → in_order key xs ≡ xs
+sorted_again key [] h = refl
+sorted_again key (x ∷ xs) (h, k) = ap (insert_by key x) (sorted_again key xs k) ∙ first_of key x xs h

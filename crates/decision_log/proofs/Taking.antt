@@ -21,7 +21,7 @@ use Rattle.decision_log.proofs.Grown.{grows_by_one}
 pub none_taken : (version : Version) (f : Folding) → known f.kept ≡ unknown → f.decided.items ≡ [] → AreFolded version [] f
 none_taken version f k d = record { all = []; are = tt; kept = k; decided = d }
 
-records_push : (version : Version) (rs : List Record) (bodies : List (List ℕ)) (r : Record) (body : List ℕ) → AreRecords version rs bodies → IsRecord version r body → AreRecords version (rs ++ r ∷ []) (bodies ++ body ∷ [])
+pub records_push : (version : Version) (rs : List Record) (bodies : List (List ℕ)) (r : Record) (body : List ℕ) → AreRecords version rs bodies → IsRecord version r body → AreRecords version (rs ++ r ∷ []) (bodies ++ body ∷ [])
 records_push version [] [] r body h k = (k, tt)
 records_push version [] (b ∷ bodies) r body h k = absurd h
 records_push version (x ∷ rs) [] r body h k = absurd h

@@ -5,3 +5,4 @@ pub mod Places
 pub mod Recording
 pub mod Sending
 pub mod Folding
+pub mod Shrinking

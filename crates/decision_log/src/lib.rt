@@ -7,4 +7,5 @@ pub mod keep;
 pub mod keeping;
 pub mod kept;
 pub mod ready;
+pub mod shrink;
 pub mod token;
