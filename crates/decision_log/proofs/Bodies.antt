@@ -18,8 +18,8 @@ use Rattle.site_model.specs.Told.{Told}
 use Rattle.journal_at.specs.declared.version.Version.TheVariants.{Two}
 use Rattle.record_bytes.specs.Versions.{AreBodies as RecordBodies, IsRecord}
 use Rattle.decision_log.specs.Folding.{AreRecords}
-use Rattle.decision_log.specs.Keeping.{Known}
-use Rattle.decision_log.specs.Shrinking.{Adds, AreTexts, IsCompacted, IsKept, shrunk, start_of, texts_of}
+use Rattle.decision_log.specs.Keeping.{IsKept, Known}
+use Rattle.decision_log.specs.Shrinking.{Adds, AreTexts, IsCompacted, shrunk, start_of, texts_of}
 use Rattle.decision_log.proofs.Order.{all_in_order}
 use Rattle.decision_log.proofs.Taking.{records_push}
 

@@ -25,7 +25,7 @@ abbrev pub waits : Numbers → List Record → Bool
 waits id xs = list_any (votes id) xs && not (list_any (commits id) xs)
 
 -- none of these is about that id
-abbrev AreNotAbout : Numbers → List Record → Type 0
+abbrev pub AreNotAbout : Numbers → List Record → Type 0
 AreNotAbout id xs = AllByRecursion (λ x. about x ≡ id → ⊥) xs
 
 differs : (i id : Numbers) → is_id i id ≡ false → i ≡ id → ⊥

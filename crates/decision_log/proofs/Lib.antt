@@ -10,3 +10,6 @@ mod Deciding
 mod Taking
 mod Same
 mod Bodies
+mod Again
+mod Moving
+mod Keepsakes

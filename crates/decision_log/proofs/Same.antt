@@ -7,11 +7,12 @@ use Rattle.at_model.specs.Book.{Book}
 use Rattle.at_model.specs.Outcomes.{outcomes_after}
 use Rattle.at_model.specs.Recover.{in_order, last_incarnation, live, recover}
 use Rattle.model_laws.specs.Compacted.{RecoversTheCompacted, compacted, record_id}
-use Rattle.journal_at.specs.declared.version.Version.TheVariants.{Two}
+use Rattle.journal_at.specs.declared.version.Version.TheVariants.{One, Two}
 use Rattle.decision_log.specs.Keeping.{Known, after, kept_of}
 use Rattle.decision_log.specs.Shrinking.{ShrinksTheSame, shrunk, start_of}
 use Rattle.decision_log.specs.Tokens.{about}
 use Rattle.decision_log.proofs.Grown.{grows_by_one, one_order}
+use Rattle.decision_log.proofs.Moving.{moved, moves}
 use Rattle.decision_log.proofs.Order.{IsSorted, in_order_sorted, sorted_again}
 
 -- one record after the other
@@ -48,8 +49,12 @@ compacted_same law rs =
 pub same : RecoversTheCompacted → (rs : List Record) → kept_of Two (shrunk (kept_of Two rs)) ≡ kept_of Two rs
 same law rs = started (last_incarnation rs) (in_order record_id (live rs) ++ map records.Done (outcomes_after [] rs)) ∙ compacted_same law rs
 
+migrated : RecoversTheCompacted → (rs : List Record) → kept_of Two (shrunk (kept_of One rs)) ≡ kept_of One rs
+migrated law rs = ap (λ k. kept_of Two (shrunk k)) (sym (moves rs)) ∙ same law (moved rs) ∙ moves rs
+
 pub shrinks_the_same : RecoversTheCompacted → ShrinksTheSame
 shrinks_the_same law = record {
   same = same law;
   followed = λ rs more. followed (shrunk (kept_of Two rs)) rs more (same law rs);
+  migrated = migrated law;
 }

@@ -1,6 +1,7 @@
 -- What a node keeps of its journal's records: those that are live, the last incarnation, and the outcomes.
 use Rattle.std.specs.Prelude.{ℕ, List, [], ◌∷◌, ◌++◌, ◌≡◌, Bool, true, false, not, ◌&&◌, if◌then◌else◌, filter, map, max}
-use Rattle.std.specs.List.{list_any}
+use Rattle.std.specs.List.{AllByRecursion, list_any}
+use Rattle.at_base.specs.WellFormed.{IsWellFormed}
 use Rattle.at_base.specs.Numbers.{Numbers}
 use Rattle.at_base.specs.declared.record.Record.{Record}
 use Rattle.at_base.specs.declared.record.Record.TheVariants as records
@@ -113,3 +114,13 @@ unknown = record { live = []; start = 0; done = [] }
 -- one record after the other is what all of them make of it
 abbrev pub GrowsByOne : Type 0
 GrowsByOne = (rs : List Record) (r : Record) → after r (kept_of Two rs) ≡ kept_of Two (rs ++ r ∷ [])
+
+-- What is kept of well-formed records. What is kept of a list of version 1 is also kept of one of version 2.
+pub record IsKept (k : Known) : Type 0 where
+  pub all : List Record
+  pub formed : AllByRecursion IsWellFormed all
+  pub is : k ≡ kept_of Two all
+
+-- one record more is kept too
+abbrev pub KeepsOn : Type 0
+KeepsOn = (k : Known) (r : Record) → IsKept k → IsWellFormed r → IsKept (after r k)

@@ -8,8 +8,7 @@ use Rattle.site_model.specs.Told.{Told}
 use Rattle.journal_at.specs.declared.journal.Compact.{Compact}
 use Rattle.journal_at.specs.declared.journal.Compact.TheVariants as compacts
 use Rattle.journal_at.specs.declared.journal.Journal.{Journal}
-use Rattle.journal_at.specs.declared.version.Version.{Version}
-use Rattle.journal_at.specs.declared.version.Version.TheVariants.{Two}
+use Rattle.journal_at.specs.declared.version.Version.TheVariants.{One, Two}
 use Rattle.journal_at.specs.declared.body.Body.{Body}
 use Rattle.journal_at.specs.Compacting.{Compacted, HasGround, Moves, text_of, texts_in}
 use Rattle.journal_at.specs.Format.{frames, mark_body}
@@ -27,17 +26,11 @@ start_of (suc n) = records.Start (suc n) ∷ []
 abbrev pub shrunk : Known → List Record
 shrunk k = start_of k.start ++ (k.live ++ map records.Done k.done)
 
--- what was kept of well-formed records
-pub record IsKept (k : Known) : Type 0 where
-  pub version : Version
-  pub all : List Record
-  pub formed : AllByRecursion IsWellFormed all
-  pub is : k ≡ kept_of version all
-
 -- They make the same Kept, whatever follows.
 pub record ShrinksTheSame : Type 0 where
   pub same : (rs : List Record) → kept_of Two (shrunk (kept_of Two rs)) ≡ kept_of Two rs
   pub followed : (rs more : List Record) → kept_of Two (shrunk (kept_of Two rs) ++ more) ≡ kept_of Two (rs ++ more)
+  pub migrated : (rs : List Record) → kept_of Two (shrunk (kept_of One rs)) ≡ kept_of One rs
 
 -- these bodies were written anew
 pub record IsCompacted (result : Compact) (texts : List (List ℕ)) (before after : Journal) (old new : Told) : Type 0 where

@@ -3,7 +3,7 @@
 ghost use Rattle.std.specs.Prelude.{◌≡◌, ◌++◌, IfOk, OnOk};
 ghost use Rattle.decision_log.specs.Folding.{Finishes, Folds, FoldsAll, TakesOne, decided_after, newly_decided, still_decided};
 ghost use Rattle.decision_log.specs.Held.{known};
-ghost use Rattle.decision_log.specs.Keeping.{GrowsByOne, after};
+ghost use Rattle.decision_log.specs.Keeping.{GrowsByOne, IsKept, KeepsOn, after};
 ghost use Rattle.decision_log.specs.declared.fold.FoldFault.TheVariants.{NoMemory};
 
 use crate::keeping::ends_transaction;
@@ -37,6 +37,11 @@ impl From<AllocError> for FoldFault {
 /// One record after the other is what all of them make of a Kept.
 pub fn grows_by_one()
     ensures { GrowsByOne }
+{}
+
+/// A Kept that takes a record over stays one.
+pub fn keeps_on()
+    ensures { KeepsOn }
 {}
 
 /// What was read so far, and the decisions that are live, in the order of the journal.
@@ -131,9 +136,10 @@ fn finish(alloc: Global, version: Version, folding: Folding) -> Result<Kept, All
 /// What is kept of a journal that was read.
 ///
 /// A body that is no record of the journal's version is refused.
-#[tactic(auto, using(crate::proofs::Taking::finished, crate::proofs::Taking::bad))]
+#[tactic(auto, using(crate::proofs::Taking::finished, crate::proofs::Taking::bad, crate::proofs::Keepsakes::is_kept))]
 pub fn fold(alloc: Global, records: &Records) -> Result<Kept, FoldFault>
-    ensures { Folds result records.now }
+    ensures folds { Folds result records.now }
+    ensures kept { IfOk result (λ k. IsKept (known k)) }
 {
     let version = records.version();
     let items = records.items();
