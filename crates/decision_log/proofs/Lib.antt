@@ -13,3 +13,4 @@ mod Bodies
 mod Again
 mod Moving
 mod Keepsakes
+mod Leaving

@@ -49,7 +49,7 @@ fn insert_token(tokens: &mut Vec<Durable>, place: usize, token: Durable)
 
 /// Whether a token is that of this id and kind.
 #[tactic(auto, using(crate::proofs::Finding::is_that, crate::proofs::Finding::other_id, crate::proofs::Finding::other_kind))]
-fn is_of(token: &Durable, id: Id, what: What) -> bool
+pub(crate) fn is_of(token: &Durable, id: Id, what: What) -> bool
     ensures yes { result ≡ true → token.now ≡ record { id = id; what = what } }
     ensures no { result ≡ false → token.now ≡ record { id = id; what = what } → ⊥ }
 {

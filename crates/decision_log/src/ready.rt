@@ -1,10 +1,11 @@
 //! What may be sent.
 
-ghost use Rattle.std.specs.Prelude.{◌≡◌, ◌↔◌, IsTrue};
+ghost use Rattle.std.specs.Prelude.{◌≡◌, true, false};
 ghost use Rattle.decision_log.specs.Held.{known};
-ghost use Rattle.decision_log.specs.Sending.{IsTold, Matches, completion_leave, if_durable, leave_of, notice_leave, own_leave, participant_leave, seat_leave, stranger_leave};
-ghost use Rattle.decision_log.specs.declared.ready.Leave.TheVariants.{Echo, Free};
+ghost use Rattle.decision_log.specs.Sending.{IsLeaveOf, IsTold, Matches, completion_leave, if_durable, leave_of, notice_leave, own_leave, participant_leave, seat_leave, stranger_leave};
+ghost use Rattle.decision_log.specs.declared.ready.Leave.TheVariants.{Echo, Free, Record};
 
+use crate::holding::is_of;
 use crate::kept::Kept;
 use crate::token::{Durable, What};
 use at_base::id::Id;
@@ -130,6 +131,45 @@ pub fn leave_of(out: &Out) -> Leave
             _ => Leave::Free,
         },
         Out::Answer { .. } => Leave::Free,
+    }
+}
+
+/// Whether the token is of a record that lets the out leave.
+#[tactic(auto, using(crate::proofs::Leaving::of_one, crate::proofs::Leaving::of_other, crate::proofs::Leaving::of_neither))]
+fn lets(id: Id, one: What, other: What, token: &Durable) -> bool
+    ensures yes { result ≡ true → IsLeaveOf (Record id one other) token.now }
+    ensures no { result ≡ false → IsLeaveOf (Record id one other) token.now → ⊥ }
+{
+    if is_of(token, id, one) {
+        return true;
+    }
+    is_of(token, id, other)
+}
+
+/// Whether the token is of the record that the out waits for.
+pub fn matches_token(out: &Out, token: &Durable) -> bool
+    ensures yes { result ≡ true → Matches out.now token.now }
+    ensures no { result ≡ false → Matches out.now token.now → ⊥ }
+{
+    match leave_of(out) {
+        Leave::Record { id, one, other } => lets(id, one, other, token),
+        Leave::Free | Leave::Echo | Leave::Never => false,
+    }
+}
+
+/// Whether a root's initiator is told that it committed, and the outcome is kept.
+pub fn is_told(out: &Out, kept: &Kept) -> bool
+    ensures yes { result ≡ true → IsTold out.now (known kept.now).done }
+    ensures no { result ≡ false → IsTold out.now (known kept.now).done → ⊥ }
+{
+    match out {
+        Out::Post(post) => match (&post.own, &post.message) {
+            (Some(Target::Completion(id)), Message::Notice(Notice::Committed)) => kept
+                .done
+                .has(*id),
+            _ => false,
+        },
+        Out::Answer { .. } => false,
     }
 }
 
