@@ -1,0 +1,16 @@
+mod Order
+mod Growing
+mod Committing
+mod Grown
+mod Testing
+mod Placing
+mod Finding
+mod Following
+mod Deciding
+mod Taking
+mod Same
+mod Bodies
+mod Again
+mod Moving
+mod Keepsakes
+mod Leaving

@@ -1,0 +1,4 @@
+//! The outcomes that a node keeps.
+#![tactic(auto)]
+
+pub mod outcomes;
