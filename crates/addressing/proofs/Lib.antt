@@ -1,5 +1,3 @@
-pub mod Ahead
-pub mod Contexts
 pub mod Kept
 pub mod LookedUp
 pub mod Marks

@@ -1,14 +1,17 @@
 -- What stands behind the last colon.
-use Rattle.std.proofs.Common.{ℕ, List, [], ◌∷◌, ◌++◌, ◌≡◌, suc, take, drop, true, false, Bor, Option, Some, None, sym, ap, ◌∙◌, arith, refl}
-use Rattle.std.specs.Prelude.{nat_eq}
+use Rattle.std.proofs.Common.{ℕ, List, [], ◌∷◌, ◌++◌, ◌≡◌, ◌<◌, suc, length, get_or, take, drop, true, false, Bor, Option, Some, None, sym, ap, ◌∙◌, arith, refl}
+use Rattle.std.specs.Prelude.{nat_eq, ◌≢◌}
 use Rattle.std.specs.Option.{MatchOption}
 use Rattle.std.specs.Str.Pattern.{RFindsChar, SplitsAroundMatch}
 use Rattle.std.proofs.lemmas.Bool.{ne_eqb}
 use Rattle.std.proofs.lemmas.List.{take-append-drop}
 use Rattle.std.proofs.lemmas.Str.Pattern.{NoCharPasses-char, drop_at_char}
 use Rattle.std.proofs.Math.Bool.{or-true}
-use Rattle.wire_msgs.specs.Bodies.{has_colon, local_part}
-use Rattle.wire_msgs.proofs.Splitting.{Lacks}
+use Rattle.soap_profile.specs.Faults.{has_colon, local_part}
+
+-- no byte of the list is this one
+abbrev Lacks : ℕ → List ℕ → Type 0
+Lacks c bytes = (i : ℕ) → i < length bytes → get_or bytes i 0 ≢ c
 
 colon_none : (text : List ℕ) → Lacks 58 text → has_colon text ≡ false
 colon_none [] h = refl
@@ -25,8 +28,8 @@ local_stops (c ∷ cs) e = rw e refl
 pub local_goes : (c : ℕ) (cs : List ℕ) → has_colon (c ∷ cs) ≡ true → local_part (c ∷ cs) ≡ local_part cs
 local_goes c cs e = rw e refl
 
-local_last : (front back : List ℕ) → Lacks 58 back → local_part (front ++ 58 ∷ back) ≡ back
-local_last [] back h = local_goes 58 back refl ∙ local_stops back (colon_none back h)
+pub local_last : (front back : List ℕ) → has_colon back ≡ false → local_part (front ++ 58 ∷ back) ≡ back
+local_last [] back h = local_goes 58 back refl ∙ local_stops back h
 local_last (c ∷ front) back h =
     local_goes c (front ++ 58 ∷ back) (colon_in (c ∷ front) back) ∙ local_last front back h
 
@@ -42,4 +45,4 @@ last_part text (Some parts) (i, j, found, front, back, order, size, rest) =
     let free : Lacks 58 (drop j text) = λ k. NoCharPasses-char 58 (drop j text) k found.0 (omega arith) in
     let whole : text ≡ take i text ++ 58 ∷ drop j text =
     sym (take-append-drop i text) ∙ ap (λ (l : List ℕ). take i text ++ l) (drop_at_char 58 text i j found.1 (omega arith)) in
-    back ∙ sym (ap local_part whole ∙ local_last (take i text) (drop j text) free)
+    back ∙ sym (ap local_part whole ∙ local_last (take i text) (drop j text) (colon_none (drop j text) free))

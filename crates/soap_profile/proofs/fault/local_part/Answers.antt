@@ -1,6 +1,6 @@
 use Rattle.std.proofs.Common.{sym, ap, ◌∙◌}
-use Rattle.wire_msgs.proofs.Colons.{last_or, last_part}
-use Rattle.wire_msgs.proofs.body.local_part.Goals as goal
+use Rattle.soap_profile.proofs.Colons.{last_or, last_part}
+use Rattle.soap_profile.proofs.fault.local_part.Goals as goal
 
 pub returns-in-Some : goal.returns-in-Some
 returns-in-Some c =

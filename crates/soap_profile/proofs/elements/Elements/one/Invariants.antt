@@ -1,8 +1,8 @@
 use Rattle.std.proofs.Common.{◌≡◌, drop, map}
 use Rattle.std.specs.Option.{option_copied}
-use Rattle.addressing.specs.Endpoints.{at_most_one, named}
-use Rattle.addressing.proofs.Ahead.{ahead}
-use Rattle.addressing.proofs.elements.Elements.one.Given as goal
+use Rattle.soap_profile.specs.Children.{at_most_one, named}
+use Rattle.soap_profile.proofs.Ahead.{ahead}
+use Rattle.soap_profile.proofs.elements.Elements.one.Given as goal
 
 abbrev pub invariant-loop-element : goal.invariant-loop-element
 invariant-loop-element l =

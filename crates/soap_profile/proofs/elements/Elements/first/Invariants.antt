@@ -1,7 +1,7 @@
 use Rattle.std.proofs.Common.{◌≡◌, drop, map}
 use Rattle.std.specs.List.{find}
 use Rattle.soap_profile.specs.Values.{is_named}
-use Rattle.addressing.proofs.elements.Elements.first.Given as goal
+use Rattle.soap_profile.proofs.elements.Elements.first.Given as goal
 
 abbrev pub invariant-loop-element : goal.invariant-loop-element
 invariant-loop-element l =
