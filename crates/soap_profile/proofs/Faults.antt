@@ -1,13 +1,12 @@
 -- A fault that is written says what it was made of, and is read as the local name of its code.
-use Rattle.std.proofs.Common.{◌≡◌, refl, sym, ap, subst, ◌∙◌, arith, ℕ, ◌≤◌, ◌<◌, List, [], ◌∷◌, ◌++◌, length, Bool, true, false, cond, ◌&&◌, Option, Some, None, Result, Ok, IfSome, append_assoc}
+use Rattle.std.proofs.Common.{◌≡◌, refl, ap, ◌∙◌, arith, ℕ, ◌≤◌, List, [], ◌∷◌, ◌++◌, length, Bool, true, false, cond, ◌&&◌, Option, Some, None, Ok, IfSome, append_assoc}
 use Rattle.std.specs.Prelude.{codes}
 use Rattle.std.specs.Option.{option_map}
 use Rattle.std.specs.Str.{bytes_eq}
 use Rattle.xml_profile.specs.declared.name.QName.{QName}
 use Rattle.xml_profile.specs.declared.tree.Tree.{Tree}
 use Rattle.xml_profile.specs.Prefixes.{addressing, coordination, fixed_prefix, soap, transaction, work, xml}
-use Rattle.soap_profile.specs.Building.{element, text_children, unqualified}
-use Rattle.soap_profile.specs.Values.{direct_text, is_empty, is_white, text_value, trim, trim_end, trim_start}
+use Rattle.soap_profile.specs.Values.{is_empty, is_white, trim, trim_end, trim_start}
 use Rattle.soap_profile.specs.Faults.{code_text, fault_code, fault_detail, fault_of, fault_text, fault_tree, has_colon, local_part, prefixed}
 use Rattle.soap_profile.proofs.Colons.{local_last, local_stops}
 use Rattle.soap_profile.proofs.Lists.{direct_text_of_children}

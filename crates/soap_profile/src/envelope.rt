@@ -117,7 +117,7 @@ fn next(children: &[Child]) -> Option<&Tree>
 }
 
 fn with_body<'a>(headers: Elements<'a>, body: Option<&'a Tree>) -> Option<Envelope<'a>>
-    ensures { result ≡ with_body headers (option_copied body.entry) }
+    ensures { result ≡ with_body headers.entry (option_copied body.entry) }
 {
     let body = body?;
     if !is_named(&body.name, SOAP, "Body") {
@@ -139,7 +139,7 @@ fn sole(children: &[Child]) -> Option<&Tree>
 }
 
 fn judge(envelope: Envelope<'_>) -> Result<Envelope<'_>, SoapRefusal>
-    ensures { Answers (judged envelope (not_understood envelope.headers)) result }
+    ensures { Answers (judged envelope.entry (not_understood envelope.entry.headers)) result }
 {
     match not_understood(&envelope.headers) {
         Some(block) => Err(SoapRefusal::MustUnderstand {

@@ -109,7 +109,7 @@ fn local_part(name: &str) -> &str
 
 /// The element of a fault: its code, of this namespace and this local name; its text; and one empty element as its detail,
 /// or no detail. It is read as the local name of its code.
-#[tactic(auto, using(crate::proofs::Faults::code_said, crate::proofs::Faults::text_said, crate::proofs::Faults::detail_said, crate::proofs::Faults::reads_back, crate::proofs::Faults::name_reads_back))]
+#[tactic(auto, using(crate::proofs::Faults::code_said, crate::proofs::Faults::text_said, crate::proofs::Faults::detail_said, crate::proofs::Faults::reads_back))]
 pub fn fault_tree(
     alloc: Global,
     space: &str,

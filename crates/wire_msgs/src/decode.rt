@@ -81,7 +81,7 @@ fn read_under(
     body: &Tree,
     path: &str,
 ) -> Result<Arrival, Refusal>
-    ensures { Answers (arrival_under headers body.now path.now) result }
+    ensures { Answers (arrival_under headers.entry body.now path.now) result }
 {
     let (target, message) = read_said(alloc, &headers, body, path)?;
     Ok(arrived(headers, target, message))
@@ -103,7 +103,7 @@ fn read_said(
 }
 
 fn arrived(headers: Headers<'_>, target: Target, message: Message) -> Arrival
-    ensures { result ≡ arrived headers target message }
+    ensures { result ≡ arrived headers.entry target message }
 {
     Arrival {
         message,

@@ -1,5 +1,5 @@
 use Rattle.std.proofs.Common.{◌≡◌, drop}
-use Rattle.std.specs.Option.{option_copied, option_map}
+use Rattle.std.specs.Option.{option_copied}
 use Rattle.xml_profile.specs.Children.{forest_of}
 use Rattle.soap_profile.specs.Children.{all_named, child_of}
 use Rattle.soap_profile.specs.Values.{elements}

@@ -5,7 +5,7 @@ use Rattle.xml_grammar.specs.Characters.{◌>>=◌, same}
 use Rattle.xml_grammar.specs.Tokens.{Tag, Token}
 use Rattle.xml_grammar.specs.Tokens.Token.{Plain, Meant, Comment, Start, End}
 use Rattle.xml_grammar.specs.Namespaces.{Binding, Meaning, means}
-use Rattle.xml_grammar.specs.Machine.{append, Frame, State, state, flushed, tree_of, frame_of, plain_on, meant_on}
+use Rattle.xml_grammar.specs.Code.Machine.{append, Frame, State, state, flushed, tree_of, frame_of, plain_on, meant_on}
 use Rattle.xml_grammar.specs.Limits.{levels}
 use Rattle.xml_profile.specs.Forest.{Forest}
 use Rattle.xml_profile.specs.Forest.Forest.{End as Nothing, Text_then, Element_then}

@@ -1,8 +1,8 @@
 -- What the reader finds in a text.
 use Rattle.std.specs.Prelude.{ℕ, List, [], ◌∷◌, Option, Some, None, Result, Ok, Err, ◌≡◌, ◌⊎◌, ◌≤◌, ◌<◌, ◌-◌, cond, nat_le}
 use Rattle.xml_grammar.specs.Spells.{Document}
-use Rattle.xml_grammar.specs.Machine.{Frame}
-use Rattle.xml_grammar.specs.Shallow.{Reading, cut_tree}
+use Rattle.xml_grammar.specs.Code.Machine.{Frame}
+use Rattle.xml_grammar.specs.Code.Shallow.{Reading, cut_tree}
 use Rattle.xml_grammar.specs.Limits.{levels_of, elements_of, widest_of}
 use Rattle.xml_grammar.specs.declared.reader.TreeRefusal.{TreeRefusal}
 use Rattle.xml_grammar.specs.declared.reader.TreeRefusal.TheVariants.{TooLong, NotUtf8, NotSpelled, TooDeep, TooMany, NoMemory}

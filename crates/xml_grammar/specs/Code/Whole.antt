@@ -1,8 +1,8 @@
 -- The tree that a whole text is read as, through the machine.
 use Rattle.std.specs.Prelude.{ℕ, zero, suc, List, [], ◌∷◌, Option, None, length}
 use Rattle.xml_grammar.specs.Characters.{◌>>=◌}
-use Rattle.xml_grammar.specs.Reading.{next_at}
-use Rattle.xml_grammar.specs.Machine.{Frame, State, opening, advance}
+use Rattle.xml_grammar.specs.Code.Reading.{next_at}
+use Rattle.xml_grammar.specs.Code.Machine.{Frame, State, opening, advance}
 use Rattle.xml_profile.specs.declared.tree.Tree.{Tree}
 
 abbrev pub finished : List Frame → Option Tree → Option Tree

@@ -1,10 +1,10 @@
 -- What the bindings, the names and the open elements of the reader are to the grammar.
 use Rattle.std.specs.Prelude.{List, map, reverse, Bool, true, false, Option, Some, None, string_bytes}
 use Rattle.xml_grammar.specs.Namespaces.{Binding, Spelled, Sorted, Meaning}
-use Rattle.xml_grammar.specs.Views.{parts_of}
-use Rattle.xml_grammar.specs.Machine.{Frame, state}
-use Rattle.xml_grammar.specs.Shallow.{Reading, reading}
-use Rattle.xml_grammar.specs.Places.{binding_of, held_of}
+use Rattle.xml_grammar.specs.Code.Views.{parts_of}
+use Rattle.xml_grammar.specs.Code.Machine.{Frame, state}
+use Rattle.xml_grammar.specs.Code.Shallow.{Reading, reading}
+use Rattle.xml_grammar.specs.Code.Places.{binding_of, held_of}
 use Rattle.xml_grammar.specs.declared.scope.Scope.{Scope}
 use Rattle.xml_grammar.specs.declared.meaning.Spelled.{Spelled as SpelledRead}
 use Rattle.xml_grammar.specs.declared.meaning.Sorted.{Sorted as SortedRead}

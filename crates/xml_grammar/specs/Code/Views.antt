@@ -3,7 +3,7 @@ use Rattle.std.specs.Prelude.{List, map, ◌++◌, Option, Some, None}
 use Rattle.xml_grammar.specs.Characters.{Parts}
 use Rattle.xml_grammar.specs.Tokens.{Pair, Tag, Token}
 use Rattle.xml_grammar.specs.Tokens.Token.{Plain, Meant, Comment, Start, End}
-use Rattle.xml_grammar.specs.Reading.{Ending}
+use Rattle.xml_grammar.specs.Code.Reading.{Ending}
 use Rattle.xml_grammar.specs.declared.lexing.Parts.{Parts as Spelled}
 use Rattle.xml_grammar.specs.declared.markup.Pair.{Pair as PairRead}
 use Rattle.xml_grammar.specs.declared.markup.Tag.{Tag as TagRead}
