@@ -7,3 +7,4 @@ pub mod Spelled
 pub mod Understood
 pub mod Utf8
 pub mod Lengths
+pub mod Repeated

@@ -4,7 +4,7 @@ ghost use Rattle.std.specs.Prelude.{◌≡◌, IfOk, None};
 ghost use Rattle.std.specs.List.{find};
 ghost use Rattle.std.specs.Option.{option_copied, option_map};
 ghost use Rattle.soap_profile.specs.Values.{text_value};
-ghost use Rattle.addressing.specs.Headers.{Answers, action_of, destination, endpoint_of, header_in, headers_of, is_repeated, is_reply, is_reply_type, local_name, own_blocks, said_once, singles, source_of, to_of, unless_repeated};
+ghost use Rattle.addressing.specs.Headers.{Answers, action_of, destination, endpoint_of, header_in, headers_of, is_repeated, is_reply, is_reply_type, local_name, own_blocks, said_once, singles, source_of, to_of, unless_repeated, with_context};
 
 use crate::destination::Destination;
 use crate::endpoint::{ANONYMOUS, is_anonymous, is_nobody, read_epr};
@@ -118,9 +118,17 @@ pub fn read_headers<'a>(
     ensures { Answers (headers_of blocks.now) result }
 {
     let own = own_blocks(alloc, blocks)?;
-    let mut headers = read_own(alloc, &own)?;
-    headers.context = own.first(COORDINATION, "CoordinationContext");
-    Ok(headers)
+    let headers = read_own(alloc, &own)?;
+    let context = own.first(COORDINATION, "CoordinationContext");
+    Ok(with_context(headers, context))
+}
+
+fn with_context<'a>(headers: Headers<'a>, context: Option<&'a Tree>) -> Headers<'a>
+    ensures { result ≡ with_context (option_copied context.entry) headers.entry }
+{
+    let mut headers = headers;
+    headers.context = context;
+    headers
 }
 
 /// The blocks that are no reference parameters.
