@@ -1,5 +1,5 @@
 -- The envelope of a Prepare that a coordinator's seat sends to a participant, byte by byte.
-use Rattle.std.specs.Prelude.{ℕ, List, [], ◌∷◌, ◌≡◌, refl, Some, None, codes, length}
+use Rattle.std.specs.Prelude.{ℕ, List, ◌≡◌, refl, Some, None, codes, length}
 use Rattle.xml_profile.specs.declared.tree.Tree.{Tree}
 use Rattle.soap_profile.specs.Envelopes.{envelope_tree}
 use Rattle.at_base.specs.declared.epr.Reply.TheVariants as replies
