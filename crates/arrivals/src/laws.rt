@@ -35,7 +35,7 @@ pub fn nodes_have_bases()
 
 /// A post whose endpoints can be posted to reaches the book as the world of the model says: where it can be read at the
 /// target that the world has for it, and at any path where the address of the node is a URL, as those of a world's nodes are.
-#[tactic(auto, using(crate::proofs::Worldly::post_reaches, crate::proofs::Worldly::node_reaches, crate::proofs::Worldly::world_reaches))]
+#[tactic(auto, using(crate::proofs::Worldly::post_reaches, crate::proofs::Worldly::node_reaches))]
 pub fn what_is_posted_reaches_the_book()
     ensures at { (base : List ℕ) → (post : Post) → (arrived : Arrived) → (text : List ℕ) → (path : List ℕ) → decoded base post ≡ Some arrived → IsTextOf post text → CanReturn post path arrived.target → IsInLimits post → IsShort text → IsProper post → Reaches text path arrived }
     ensures on_a_node { (n : ℕ) → (post : Post) → (arrived : Arrived) → (text : List ℕ) → (path : List ℕ) → n < 2 ^ 64 → decoded (base_of n) post ≡ Some arrived → IsTextOf post text → CanArrive post → IsInLimits post → IsShort text → IsProper post → Reaches text path arrived }
