@@ -2,16 +2,16 @@
 //! that it draws; its body, of a known length or in chunks; and the bytes of answers and posts.
 #![tactic(auto)]
 
-mod asking;
-mod body;
+pub mod asking;
+pub mod body;
 mod chunks;
 mod connection;
 mod content;
 mod fields;
-mod framing;
-mod head;
+pub mod framing;
+pub mod head;
 mod lengths;
-mod places;
+pub mod places;
 mod raw;
 pub mod refusal;
 pub mod request;
