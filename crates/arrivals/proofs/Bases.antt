@@ -1,10 +1,10 @@
 -- The base of each node of a world is one under which its items' addresses are URLs with their paths.
-use Rattle.std.proofs.Common.{◌≡◌, ◌≢◌, ℕ, ◌+◌, ◌-◌, ◌^◌, ◌<◌, ◌≤◌, Bool, true, false, not, ◌&&◌, ◌==◌, List, [], ◌∷◌, ◌++◌, length, Option, Some, None, Ok, All, refl, sym, ap, subst, ◌∙◌, arith, inl, append_assoc, append-nil}
+use Rattle.std.proofs.Common.{◌≡◌, ◌≢◌, ℕ, ◌+◌, ◌-◌, ◌^◌, ◌<◌, Bool, true, false, not, ◌&&◌, ◌==◌, List, [], ◌∷◌, ◌++◌, Some, None, All, refl, sym, ap, subst, ◌∙◌, arith, inl, append-nil}
 use Rattle.std.specs.Prelude.{codes, decimal, nat_lt}
 use Rattle.std.specs.Char.{to_ascii_lowercase}
 use Rattle.std.specs.Int.{IsInRange}
 use Rattle.std.specs.List.{list_all}
-use Rattle.std.proofs.lemmas.Bool.{and_parts, leb-true, ltb-true, eqb-true}
+use Rattle.std.proofs.lemmas.Bool.{and_parts, ltb-true, eqb-true}
 use Rattle.std.proofs.lemmas.List.Elements.{All-append, All-cons, All-nil, All-weaker}
 use Rattle.std.proofs.lemmas.List.Folds.{map_fixed}
 use Rattle.percent_encoding.specs.AsciiSet.{contains}
@@ -14,17 +14,15 @@ use Rattle.url.specs.declared.host.Host.TheVariants.{Domain}
 use Rattle.url.specs.declared.scheme.SchemeType.TheVariants.{SpecialNotFile}
 use Rattle.url.specs.declared.sets.TheConstants.{FORBIDDEN_DOMAIN}
 use Rattle.url.specs.Host.{IsDomain}
-use Rattle.url.specs.Input.{is_empty, lowercase, rsplit_once}
+use Rattle.url.specs.Input.{rsplit_once}
 use Rattle.url.specs.Ipv4.{ends_in_a_number, parse_number}
 use Rattle.url.specs.Parser.{parse_url}
-use Rattle.url.specs.Parts.{IsValid, IsValidHead, Parts, kind_of, serialize}
+use Rattle.url.specs.Parts.{IsValid, IsValidHead, Parts, serialize}
 use Rattle.url.specs.Scheme.{IsScheme, default_port, scheme_len, scheme_type}
 use Rattle.url.proofs.HostRoundTrip.{All-decimal}
 use Rattle.url.proofs.InputLemmas.{rsplit_once_at}
 use Rattle.url.proofs.SetLemmas.{checked}
 use Rattle.url.proofs.Theorems.{parse_url-serialize_special}
-use Rattle.at_base.specs.declared.target.Target.{Target}
-use Rattle.at_model.specs.Addresses.{target_of}
 use Rattle.at_model.specs.World.{base_of}
 use Rattle.arrivals.specs.Worlds.{IsBase}
 use Rattle.addressing.specs.Posting.{path_in}

@@ -1,10 +1,10 @@
 -- The paths of a node's items are lists of segments (URL Standard, section 4.1).
-use Rattle.std.proofs.Common.{◌≡◌, ◌≢◌, ℕ, suc, ◌+◌, ◌-◌, ◌*◌, ◌^◌, ◌<◌, ◌≤◌, ◌⊎◌, inl, inr, ⊎_elim, Bool, true, false, cond, not, ◌&&◌, ◌==◌, List, [], ◌∷◌, ◌++◌, length, take, drop, Option, Some, None, All, refl, sym, ap, subst, ◌∙◌, arith, take-append-drop, append_assoc, length-append}
+use Rattle.std.proofs.Common.{◌≡◌, ℕ, ◌+◌, ◌-◌, ◌*◌, ◌^◌, ◌<◌, ◌≤◌, ◌⊎◌, inl, inr, Bool, true, false, cond, not, ◌&&◌, ◌==◌, List, [], ◌∷◌, ◌++◌, length, take, drop, Option, Some, None, All, refl, sym, ap, subst, ◌∙◌, arith, take-append-drop, append_assoc, length-append}
 use Rattle.std.specs.Prelude.{codes, decimal, nat_eq, nat_le, nat_lt}
 use Rattle.std.specs.List.{list_all}
 use Rattle.std.specs.Option.{option_and_then, option_map}
 use Rattle.std.specs.Str.{bytes_eq}
-use Rattle.std.proofs.lemmas.Bool.{and_parts, cases_Bool, eqb-true, leb-true, ltb-true, not-true}
+use Rattle.std.proofs.lemmas.Bool.{and_parts, eqb-true, leb-true, ltb-true}
 use Rattle.std.proofs.lemmas.List.Elements.{All-append, All-cons, All-head, All-nil, All-weaker}
 use Rattle.std.proofs.lemmas.Slice.Eq.{bytes_eq-Decides}
 use Rattle.percent_encoding.specs.AsciiSet.{contains}
@@ -15,7 +15,7 @@ use Rattle.url.specs.declared.sets.TheConstants.{PATH}
 use Rattle.url.specs.Path.{IsSegment, IsSegmentList, dot_count, dot_len}
 use Rattle.url.specs.Scheme.{is_slash}
 use Rattle.url.proofs.PathLemmas.{no_segments, push_valid}
-use Rattle.url.proofs.SetLemmas.{all_below, checked}
+use Rattle.url.proofs.SetLemmas.{checked}
 use Rattle.at_base.specs.IdText.{hyphen}
 use Rattle.at_base.specs.Numbers.{Numbers}
 use Rattle.at_base.specs.declared.notice.Kind.{Kind}

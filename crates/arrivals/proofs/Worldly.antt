@@ -1,8 +1,6 @@
 -- A post reaches the book as the world says.
-use Rattle.std.proofs.Common.{◌≡◌, refl, sym, subst, ap, ◌∙◌, ℕ, ◌<◌, ◌^◌, List, ◌++◌, Bool, true, false, cond, ◌||◌, length, take, drop, take-append-drop, IfSome, Option, Some, None}
+use Rattle.std.proofs.Common.{◌≡◌, refl, sym, subst, ap, ◌∙◌, ℕ, ◌<◌, ◌^◌, List, ◌++◌, Bool, true, false, cond, ◌||◌, IfSome, Option, Some, None}
 use Rattle.std.specs.Option.{option_and_then, option_map}
-use Rattle.std.specs.Str.{bytes_eq}
-use Rattle.std.proofs.lemmas.Slice.Eq.{bytes_eq-Decides}
 use Rattle.url.specs.Parser.{parse_url}
 use Rattle.xml_grammar.specs.Refusals.{IsShort}
 use Rattle.at_base.specs.declared.epr.Epr.{Epr}
