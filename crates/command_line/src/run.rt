@@ -5,10 +5,10 @@ ghost use Rattle.std.specs.List.{list_any};
 ghost use Rattle.std.specs.Io.KnownBytes.{Appends};
 ghost use Rattle.site_model.specs.Counts.{capped, RisesBy, Rose};
 ghost use Rattle.clap.specs.Faults.{fault_of};
-ghost use Rattle.atx.specs.Commands.{whole};
-ghost use Rattle.atx.specs.Jobs.{IsFaulty, IsJob, IsJobOf, IsQuestion, Job as Meant};
-ghost use Rattle.atx.specs.Reports.{IsCut, IsDone, IsReport, Reports, status_of};
-ghost use Rattle.atx.specs.Views.{meant, statuses_of, told, unknown_state, Leaves};
+ghost use Rattle.command_line.specs.Commands.{whole};
+ghost use Rattle.command_line.specs.Jobs.{IsFaulty, IsJob, IsJobOf, IsQuestion, Job as Meant};
+ghost use Rattle.command_line.specs.Reports.{IsCut, IsDone, IsReport, Reports, status_of};
+ghost use Rattle.command_line.specs.Views.{meant, statuses_of, told, unknown_state, Leaves};
 
 use crate::job::{Job, NoJob, job_of};
 use crate::replay::replayed;

@@ -4,9 +4,9 @@ use Rattle.at_tables.specs.declared.cells.State.TheVariants as states
 use Rattle.clap.specs.Faults.{fault_of}
 use Rattle.clap.specs.declared.error.kind.ErrorKind.TheVariants.{InvalidSubcommand, MissingRequiredArgument, MissingSubcommand, UnknownArgument}
 use Rattle.clap.proofs.OnLiterals.{clap_on_literals}
-use Rattle.atx.specs.Commands.{whole}
-use Rattle.atx.specs.Jobs.{IsJobOf, IsQuestion}
-use Rattle.atx.specs.Jobs.Job.{Cell, Check, Replay}
+use Rattle.command_line.specs.Commands.{whole}
+use Rattle.command_line.specs.Jobs.{IsJobOf, IsQuestion}
+use Rattle.command_line.specs.Jobs.Job.{Cell, Check, Replay}
 
 cell_in_state : IsJobOf (codes "cell" ∷ codes "--state" ∷ codes "None" ∷ []) (Cell states.None)
 unfolding clap_on_literals

@@ -5,7 +5,7 @@ ghost use Rattle.envelope_cmd.specs.Output.{accepted, refused};
 ghost use Rattle.replay_cmd.specs.Laws.{IsReplayable};
 ghost use Rattle.replay_cmd.specs.ReportOf.{report_of};
 ghost use Rattle.schedules.specs.Schedules.{schedule_of};
-ghost use Rattle.atx.specs.Reports.{bad_line, replayed};
+ghost use Rattle.command_line.specs.Reports.{bad_line, replayed};
 
 use envelope_cmd::printed::Printed;
 use replay_cmd::laws::what_is_read_is_replayable;

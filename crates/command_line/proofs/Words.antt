@@ -7,14 +7,14 @@ use Rattle.clap.specs.Walk.{Text}
 use Rattle.clap.specs.declared.error.Error.{Error}
 use Rattle.clap.specs.declared.error.kind.ErrorKind.{ErrorKind}
 use Rattle.clap.specs.declared.error.kind.ErrorKind.TheVariants.{OutOfMemory}
-use Rattle.atx.specs.Commands.{whole}
-use Rattle.atx.specs.Jobs.{IsFaulty, IsJob, asks, asks_for}
-use Rattle.atx.specs.Views.{Says, Tells, statuses_of, told, unknown_state}
+use Rattle.command_line.specs.Commands.{whole}
+use Rattle.command_line.specs.Jobs.{IsFaulty, IsJob, asks, asks_for}
+use Rattle.command_line.specs.Views.{Says, Tells, statuses_of, told, unknown_state}
 use Rattle.std.specs.List.{list_any}
 use Rattle.std.specs.Io.KnownBytes.{Appends}
-use Rattle.atx.specs.declared.job.NoJob.{NoJob}
-use Rattle.atx.specs.declared.job.NoJob.TheVariants.{NoMemory, Question, Refused, Unread}
-use Rattle.atx.proofs.Purity.{IsPure, fault_is_pure}
+use Rattle.command_line.specs.declared.job.NoJob.{NoJob}
+use Rattle.command_line.specs.declared.job.NoJob.TheVariants.{NoMemory, Question, Refused, Unread}
+use Rattle.command_line.proofs.Purity.{IsPure, fault_is_pure}
 
 no_job : (words : List Text) → fault_of whole words ≢ [] → IsJob words → ⊥
 no_job words h (job, (e, means)) = h e

@@ -1,6 +1,6 @@
-use Rattle.atx.specs.Views.{meant}
-use Rattle.atx.proofs.Printing.{all_given, all_printed, part_printed}
-use Rattle.atx.proofs.run.work.Goals as goal
+use Rattle.command_line.specs.Views.{meant}
+use Rattle.command_line.proofs.Printing.{all_given, all_printed, part_printed}
+use Rattle.command_line.proofs.run.work.Goals as goal
 
 pub returns-in-Ok-report-clause-whole : goal.returns-in-Ok-report-clause-whole
 returns-in-Ok-report-clause-whole g c = λ printed. all_given _ _ _ _ c.in-Ok.ensures.whole

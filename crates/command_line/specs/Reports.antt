@@ -9,8 +9,8 @@ use Rattle.schedules.specs.Causes.{number_of_cause}
 use Rattle.schedules.specs.Schedules.{schedule_of}
 use Rattle.schedules.specs.declared.line.BadLine.{BadLine}
 use Rattle.schedules.specs.declared.line.Line.{Line}
-use Rattle.atx.specs.Jobs.{Job}
-use Rattle.atx.specs.Jobs.Job.{Cell, Check, Replay}
+use Rattle.command_line.specs.Jobs.{Job}
+use Rattle.command_line.specs.Jobs.Job.{Cell, Check, Replay}
 
 -- the line of the first bad line of a schedule
 unfoldable pub bad_line : BadLine → List ℕ

@@ -1,5 +1,5 @@
-use Rattle.atx.proofs.Parsing.{found, refused}
-use Rattle.atx.proofs.job.parsed.Goals as goal
+use Rattle.command_line.proofs.Parsing.{found, refused}
+use Rattle.command_line.proofs.job.parsed.Goals as goal
 
 pub returns-clause-found : goal.returns-clause-found
 returns-clause-found c = found _ _ c.try_get_matches_from.result c.in_ok-whole.ensures.is c.try_get_matches_from.ensures.matches c.try_get_matches_from.ensures.kinds

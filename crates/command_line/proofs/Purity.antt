@@ -19,8 +19,8 @@ use Rattle.clap.specs.declared.builder.action.ArgAction.TheVariants.{Set, Append
 use Rattle.clap.specs.declared.builder.value_parser.ValueParser.{ValueParser}
 use Rattle.clap.specs.declared.error.kind.ErrorKind.{ErrorKind}
 use Rattle.clap.specs.declared.error.kind.ErrorKind.TheVariants as kind
-use Rattle.atx.specs.Commands.{whole}
-use Rattle.atx.specs.Jobs.{asks, asks_for}
+use Rattle.command_line.specs.Commands.{whole}
+use Rattle.command_line.specs.Jobs.{asks, asks_for}
 
 pub record IsPure (kinds : Kinds) : Type 0 where
   pub agree : (k : ErrorKind) → IsAmong k kinds → asks_for k ≡ asks kinds

@@ -6,8 +6,8 @@ use Rattle.std.specs.Io.KnownBytes.{Appends}
 use Rattle.site_model.specs.Counts.{RisesBy}
 use Rattle.site_model.specs.Source.{IsWhole}
 use Rattle.envelope_cmd.specs.Output.{Output}
-use Rattle.atx.specs.Jobs.{Job}
-use Rattle.atx.specs.Reports.{IsCut, IsDone, Reports, status_of}
+use Rattle.command_line.specs.Jobs.{Job}
+use Rattle.command_line.specs.Reports.{IsCut, IsDone, Reports, status_of}
 
 on_some : {P Q : List ℕ → Type 0} (left : Option (List ℕ)) → ((input : List ℕ) → P input → Q input) → IfSome left P → IfSome left Q
 on_some None f h = tt

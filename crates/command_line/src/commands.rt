@@ -2,7 +2,7 @@
 
 ghost use Rattle.std.specs.Prelude.{◌≡◌, false, IfOk};
 ghost use Rattle.clap.specs.Walk.{rule_of};
-ghost use Rattle.atx.specs.Commands.{IsCommand, valued, cell, check, replay, top, whole};
+ghost use Rattle.command_line.specs.Commands.{IsCommand, valued, cell, check, replay, top, whole};
 
 use clap::{Arg, ArgAction, Command};
 use std::alloc::{AllocError, Global};

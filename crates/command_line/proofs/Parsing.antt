@@ -7,7 +7,7 @@ use Rattle.clap.specs.Walk.{Text}
 use Rattle.clap.specs.declared.error.Error.{Error}
 use Rattle.clap.specs.declared.parser.matches.ArgMatches.{ArgMatches}
 use Rattle.clap.proofs.OnLiterals.{clap_on_literals}
-use Rattle.atx.specs.Commands.{whole}
+use Rattle.command_line.specs.Commands.{whole}
 
 is_stated : is_simple_and_free whole ≡ true
 unfolding clap_on_literals

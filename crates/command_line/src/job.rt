@@ -7,9 +7,9 @@ ghost use Rattle.clap.specs.Simple.{subcommand_of, subcommand_rows_of};
 ghost use Rattle.clap.specs.Walk.{first_of, rows_of};
 ghost use Rattle.clap.specs.Matches.{found_of};
 ghost use Rattle.clap.specs.Values.{kind_of};
-ghost use Rattle.atx.specs.Commands.{whole};
-ghost use Rattle.atx.specs.Jobs.{IsJobOf, Job as Meant, Means};
-ghost use Rattle.atx.specs.Views.{Says, Tells, meant};
+ghost use Rattle.command_line.specs.Commands.{whole};
+ghost use Rattle.command_line.specs.Jobs.{IsJobOf, Job as Meant, Means};
+ghost use Rattle.command_line.specs.Views.{Says, Tells, meant};
 
 use crate::commands::whole;
 use at_tables::cells::State;

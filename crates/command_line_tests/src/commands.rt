@@ -1,6 +1,6 @@
-//! Worked envelopes through the top call.
+//! Worked envelopes and schedules through the top call.
 
-use crate::run::run;
+use command_line::run::run;
 use site_model::memory::{MemSink, MemSource};
 use site_model::sink::Sink;
 use site_model::source::Failed;

@@ -4,13 +4,13 @@ use Rattle.clap.specs.Faults.{fault_of}
 use Rattle.clap.specs.Walk.{Text}
 use Rattle.clap.specs.declared.error.kind.ErrorKind.{ErrorKind}
 use Rattle.clap.specs.declared.error.kind.ErrorKind.TheVariants.{OutOfMemory}
-use Rattle.atx.specs.declared.job.Job.{Job as Named}
-use Rattle.atx.specs.declared.job.Job.TheVariants as named
-use Rattle.atx.specs.declared.job.NoJob.{NoJob}
-use Rattle.atx.specs.declared.job.NoJob.TheVariants as none
-use Rattle.atx.specs.Commands.{whole}
-use Rattle.atx.specs.Jobs.{IsFaulty, IsQuestion, Job, asks_for}
-use Rattle.atx.specs.Jobs.Job.{Cell, Check, Replay}
+use Rattle.command_line.specs.declared.job.Job.{Job as Named}
+use Rattle.command_line.specs.declared.job.Job.TheVariants as named
+use Rattle.command_line.specs.declared.job.NoJob.{NoJob}
+use Rattle.command_line.specs.declared.job.NoJob.TheVariants as none
+use Rattle.command_line.specs.Commands.{whole}
+use Rattle.command_line.specs.Jobs.{IsFaulty, IsQuestion, Job, asks_for}
+use Rattle.command_line.specs.Jobs.Job.{Cell, Check, Replay}
 
 abbrev pub meant : Named → Job
 meant (named.Cell state) = Cell state
