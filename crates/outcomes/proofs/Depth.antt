@@ -10,13 +10,14 @@ use Rattle.at_base.specs.declared.record.Record.TheVariants as records
 use Rattle.at_base.specs.declared.outs.Ending.{Ending}
 use Rattle.at_base.specs.declared.outs.Ending.TheVariants as endings
 use Rattle.at_base.specs.declared.outs.Effect.TheVariants as effects
-use Rattle.at_model.specs.Recover.{is_promise}
 use Rattle.at_model.specs.World.{Happened, Node, Who, World, happened_at, nth}
 use Rattle.model_laws.specs.Agreement.{HasAborted, HasCommitted, HasPosted, IsAnswered, IsBehindAnswers, IsIn, IsOf, IsSplit, Stands, below, itself}
 use Rattle.agreement.proofs.SeatedEntries.{one_of}
 use Rattle.agreement.specs.Sorts.{FitsAccepted, FitsEffect, FitsRecord, IsParticipant, IsTransaction, LeafOf, Root, Sort, Subordinate}
-use Rattle.agreement.proofs.Still.{promise_id}
-use Rattle.outcomes.specs.Bound.{CommittedBelow, HasPromised, IsBound, IsUnder, IsUnderOne}
+use Rattle.agreement.proofs.Still.{id_of, promise_id}
+use Rattle.votes.specs.Voting.{HasVoted, is_vote}
+use Rattle.votes.proofs.Gone.{is_promised}
+use Rattle.outcomes.specs.Bound.{CommittedBelow, IsBound, IsUnder, IsUnderOne}
 
 -- sorts
 abbrev sort_of : (w : World) → IsBound w → Who → Sort
@@ -54,27 +55,29 @@ pub up : (w : World) (h : IsBound w) (x root : Who) → IsOf w x root → HasCom
 up w h x root (itself e) c = subst (HasCommitted w) e c
 up w h x root (below t number i of) c = up w h t root of (up_one w h t x (number, i) c)
 
--- What never aborts: it has voted ReadOnly, or it has promised and hasn't aborted.
+-- What never aborts: it has voted ReadOnly, or it has voted Prepared and hasn't aborted.
 abbrev Sealed : World → Who → Type 0
-Sealed w x = HasPosted w x kinds.Durable notices.ReadOnly ⊎ (HasPromised w x × (HasAborted w x → ⊥))
+Sealed w x = HasPosted w x kinds.Durable notices.ReadOnly ⊎ (HasVoted w x × (HasAborted w x → ⊥))
 
--- a transaction that has promised did so behind every answer
-record_answers : (w : World) (h : IsBound w) (t : Who) (r : Record) → IsTransaction (sort_of w h t) → Stands w t.node r → is_promise t.id r ≡ true → IsAnswered w t
+-- a vote is that of its item
+vote_id : (id : Numbers) (r : Record) → is_vote id r ≡ true → id_of r ≡ id
+vote_id id r e = promise_id id r (is_promised id r e)
+
+-- a transaction that has voted did so behind every answer
+record_answers : (w : World) (h : IsBound w) (t : Who) (r : Record) → IsTransaction (sort_of w h t) → Stands w t.node r → is_vote t.id r ≡ true → IsAnswered w t
 record_answers w h t (records.Voted i superior seats) is s e =
-    h.voted t superior seats (subst (λ j. Stands w t.node (records.Voted j superior seats)) (promise_id t.id (records.Voted i superior seats) e) s)
-record_answers w h t (records.Decided i seats) is s e =
-    h.decided t seats (subst (λ j. Stands w t.node (records.Decided j seats)) (promise_id t.id (records.Decided i seats) e) s)
+    h.voted t superior seats (subst (λ j. Stands w t.node (records.Voted j superior seats)) (vote_id t.id (records.Voted i superior seats) e) s)
 record_answers w h t (records.LeafPrepared i coordinator key value) is s e =
-    absurd (no_leaf_above (sort_of w h t) kinds.Durable is (subst (λ j. h.sorted.sort t.node j ≡ LeafOf kinds.Durable) (promise_id t.id (records.LeafPrepared i coordinator key value) e)
+    absurd (no_leaf_above (sort_of w h t) kinds.Durable is (subst (λ j. h.sorted.sort t.node j ≡ LeafOf kinds.Durable) (vote_id t.id (records.LeafPrepared i coordinator key value) e)
     (fits_record w h t.node (records.LeafPrepared i coordinator key value) s)))
 record_answers w h t other is s e = absurd cc
 
-promise_answers : (w : World) (h : IsBound w) (t : Who) → IsTransaction (sort_of w h t) → HasPromised w t → IsAnswered w t
-promise_answers w h t is (r, s, e) = record_answers w h t r is s e
+vote_answers : (w : World) (h : IsBound w) (t : Who) → IsTransaction (sort_of w h t) → HasVoted w t → IsAnswered w t
+vote_answers w h t is (r, s, e) = record_answers w h t r is s e
 
 commit_answers : (w : World) (h : IsBound w) (t : Who) → IsTransaction (sort_of w h t) → HasCommitted w t → IsAnswered w t
 commit_answers w h t is (inl i) = h.answered t i
-commit_answers w h t is (inr (inl i)) = promise_answers w h t is (h.behind t i)
+commit_answers w h t is (inr (inl i)) = vote_answers w h t is (h.behind t i)
 commit_answers w h t is (inr (inr i)) = absurd (no_leaf_above (sort_of w h t) kinds.Durable is (fits_effect w h _ i))
 
 -- behind every answer, and where the one above it doesn't abort
@@ -88,8 +91,12 @@ seals w h t x (number, i) never answered = answer_seals w h t x (number, i) neve
 
 pub down_one : (w : World) (h : IsBound w) (t x : Who) → IsUnder w t x → HasCommitted w t ⊎ Sealed w t → Sealed w x
 down_one w h t x under (inl c) = seals w h t x under (h.one t c) (commit_answers w h t (fits w h t x under).0 c)
-down_one w h t x under (inr (inl p)) = inl (h.left_below t x p under)
-down_one w h t x under (inr (inr (promise, never))) = seals w h t x under never (promise_answers w h t (fits w h t x under).0 promise)
+down_one w h t x under (inr (inl p)) = inl (still_left (h.left_below t x p under))
+  where
+    still_left : HasPosted w x kinds.Durable notices.ReadOnly ⊎ HasCommitted w x → HasPosted w x kinds.Durable notices.ReadOnly
+    still_left (inl r) = r
+    still_left (inr c) = absurd (h.left t p (inr (up_one w h t x under c)))
+down_one w h t x under (inr (inr (vote, never))) = seals w h t x under never (vote_answers w h t (fits w h t x under).0 vote)
 
 pub down : (w : World) (h : IsBound w) (x root : Who) → IsOf w x root → HasCommitted w root → (x ≡ root) ⊎ Sealed w x
 down w h x root (itself e) c = inl e
@@ -102,8 +109,8 @@ down w h x root (below t number i of) c = inr (down_one w h t x (number, i) (fro
 -- nothing is split
 unbroken : (w : World) (h : IsBound w) (x root : Who) → HasCommitted w root → HasAborted w x → (x ≡ root) ⊎ Sealed w x → ⊥
 unbroken w h x root c a (inl e) = h.one x (subst (HasCommitted w) (sym e) c) a
-unbroken w h x root c a (inr (inl p)) = h.left x p a
-unbroken w h x root c a (inr (inr (promise, never))) = never a
+unbroken w h x root c a (inr (inl p)) = h.left x p (inl a)
+unbroken w h x root c a (inr (inr (vote, never))) = never a
 
 pub whole : (w : World) → IsBound w → IsSplit w → ⊥
 whole w h s =

@@ -18,7 +18,7 @@ use Rattle.model_laws.proofs.Lasting.{grows_counts, grows_falls, grows_posts, gr
 use Rattle.model_laws.proofs.Reaching.{run_reached}
 use Rattle.agreement.specs.Lives.{LivesAgree, ends, happened_on}
 use Rattle.agreement.proofs.Lives.{lives_agree}
-use Rattle.agreement.proofs.SeatedEntries.{one_of}
+use Rattle.votes.proofs.There.{HasNode, IsThere, all_there}
 
 -- counted in the world, or at the node
 pub ends_same : (x : Who) (hs : List Happened) → length (filter (is_end_of x) hs) ≡ length (ends x.id (happened_on x.node hs))

@@ -1,25 +1,20 @@
 -- What binds those who take part in one activity: their registrations, votes and outcomes.
-use Rattle.std.specs.Prelude.{ℕ, List, Some, true, ◌≡◌, ◌⊎◌}
+use Rattle.std.specs.Prelude.{ℕ, List, Some, ◌⊎◌}
 use Rattle.at_base.specs.declared.epr.Epr.{Epr}
 use Rattle.at_base.specs.declared.notice.Kind.TheVariants as kinds
 use Rattle.at_base.specs.declared.notice.Notice.TheVariants as notices
-use Rattle.at_base.specs.declared.record.Record.{Record}
 use Rattle.at_base.specs.declared.record.Record.TheVariants as records
 use Rattle.at_base.specs.declared.record.Seated.{Seated}
 use Rattle.at_base.specs.declared.outs.Ending.TheVariants as endings
 use Rattle.at_base.specs.declared.outs.Effect.TheVariants as effects
-use Rattle.at_model.specs.Recover.{is_promise}
 use Rattle.at_model.specs.World.{Who, World, happened_at}
 use Rattle.model_laws.specs.Agreement.{HasAborted, HasCommitted, HasOneSuperior, HasPosted, IsAccepted, IsAnswered, IsIn, Stands}
 use Rattle.agreement.specs.Sorts.{AreSorted}
+use Rattle.votes.specs.Voting.{HasVoted}
 
 -- The transaction accepted the item's durable registration.
 abbrev pub IsUnder : World → Who → Who → Type 0
 IsUnder w t x = (number : ℕ) × IsAccepted w t (Some (record { number = number; kind = kinds.Durable })) x
-
--- A promise of the item stands in its node's journal: its vote Prepared, or a root's decision.
-abbrev pub HasPromised : World → Who → Type 0
-HasPromised w x = (r : Record) × Stands w x.node r × (is_promise x.id r ≡ true)
 
 -- It committed as a participant: as a subordinate, or as a durable leaf.
 abbrev pub CommittedBelow : World → Who → Type 0
@@ -38,15 +33,14 @@ pub record IsBound (w : World) : Type 0 where
   -- a participant commits only under one that has committed
   pub told : (x : Who) → CommittedBelow w x → IsUnderOne w (HasCommitted w) x
   -- and one that has voted Prepared aborts only under one that has aborted (WS-AtomicTransaction 1.2, section 3.3.3)
-  pub rolled_back : (x : Who) → HasPromised w x → HasAborted w x → IsUnderOne w (HasAborted w) x
+  pub rolled_back : (x : Who) → HasVoted w x → HasAborted w x → IsUnderOne w (HasAborted w) x
   -- a vote Prepared is recorded
-  pub recorded : (x : Who) → HasPosted w x kinds.Durable notices.Prepared → HasPromised w x
-  -- who votes ReadOnly never aborts, and neither does anybody under it
-  pub left : (x : Who) → HasPosted w x kinds.Durable notices.ReadOnly → HasAborted w x → ⊥
-  pub left_below : (t x : Who) → HasPosted w t kinds.Durable notices.ReadOnly → IsUnder w t x → HasPosted w x kinds.Durable notices.ReadOnly
-  -- a subordinate votes, and a root decides and commits, behind every answer
+  pub recorded : (x : Who) → HasPosted w x kinds.Durable notices.Prepared → HasVoted w x
+  -- who votes ReadOnly never commits and never aborts, and everybody under it has voted ReadOnly or has committed
+  pub left : (x : Who) → HasPosted w x kinds.Durable notices.ReadOnly → HasAborted w x ⊎ HasCommitted w x → ⊥
+  pub left_below : (t x : Who) → HasPosted w t kinds.Durable notices.ReadOnly → IsUnder w t x → HasPosted w x kinds.Durable notices.ReadOnly ⊎ HasCommitted w x
+  -- a subordinate votes, and a root commits, behind every answer
   pub voted : (t : Who) (superior : Epr) (seats : List Seated) → Stands w t.node (records.Voted t.id superior seats) → IsAnswered w t
-  pub decided : (t : Who) (seats : List Seated) → Stands w t.node (records.Decided t.id seats) → IsAnswered w t
   pub answered : (t : Who) → IsIn (happened_at t.node (effects.Root t.id endings.Committed)) w.happened → IsAnswered w t
   -- a subordinate commits behind its vote
-  pub behind : (t : Who) → IsIn (happened_at t.node (effects.Sub t.id endings.Committed)) w.happened → HasPromised w t
+  pub behind : (t : Who) → IsIn (happened_at t.node (effects.Sub t.id endings.Committed)) w.happened → HasVoted w t

@@ -1,2 +1,2 @@
 pub mod Bound
-pub mod Try
+pub mod Founded

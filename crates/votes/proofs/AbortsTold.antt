@@ -98,7 +98,7 @@ fallen : (n : ℕ) (b : Book) (u : World) (x : Node) → nth n u.nodes ≡ Some 
     → goes_down n b u ≡ record u { nodes = put_nth n (record x { book = None }) u.nodes; happened = u.happened ++ lost_in n b }
 fallen n b u x found = ap (put_book n None (record u { happened = u.happened ++ lost_in n b })) found
 
-filtered_from : {A : Type 0} (q : A → Bool) (y : A) (xs : List A) → IsIn y (filter q xs) → IsIn y xs × (q y ≡ true)
+pub filtered_from : {A : Type 0} (q : A → Bool) (y : A) (xs : List A) → IsIn y (filter q xs) → IsIn y xs × (q y ≡ true)
 filtered_from q y [] i = absurd i
 filtered_from {A = A} q y (x ∷ xs) i = by_test (q x) refl (filtered_from q y xs) i
   where
