@@ -1,10 +1,6 @@
 -- Agreement, over every run.
-use Rattle.std.specs.Prelude.{ℕ, List, Option, Some, None, ◌^◌, ◌≡◌, ◌⊎◌, ◌<◌, refl}
-use Rattle.std.specs.List.{AllByRecursion}
-use Rattle.std.proofs.Common.{inl, inr, sym, subst, ap, ◌∙◌}
-use Rattle.at_base.specs.Numbers.{Numbers}
-use Rattle.at_base.specs.declared.epr.Epr.{Epr}
-use Rattle.at_base.specs.declared.notice.Kind.{Kind}
+use Rattle.std.specs.Prelude.{ℕ, List, Option, Some, None, ◌^◌, ◌≡◌, ◌⊎◌, ◌<◌}
+use Rattle.std.proofs.Common.{inl, inr, sym, subst, ◌∙◌}
 use Rattle.at_base.specs.declared.notice.Kind.TheVariants as kinds
 use Rattle.at_base.specs.declared.notice.Notice.TheVariants as notices
 use Rattle.at_base.specs.declared.outs.Effect.{Effect}
@@ -16,8 +12,8 @@ use Rattle.at_base.specs.declared.record.Record.TheVariants as records
 use Rattle.at_base.specs.declared.record.Seated.{Seated}
 use Rattle.at_model.specs.Book.{Transaction}
 use Rattle.at_model.specs.Step.{transaction_at}
-use Rattle.at_model.specs.World.{Happened, Node, Who, World, WorldEvent, happened_at, nth, run_of}
-use Rattle.model_laws.specs.Agreement.{Agrees, HasAborted, HasCommitted, HasPosted, IsAnswered, IsBehindAnswers, IsIn, IsToldTruly, Stands}
+use Rattle.at_model.specs.World.{Happened, Node, Who, World, happened_at, run_of}
+use Rattle.model_laws.specs.Agreement.{Agrees, HasAborted, HasCommitted, HasPosted, IsAnswered, IsIn, IsToldTruly, Stands}
 use Rattle.model_laws.specs.Reached.{Reached}
 use Rattle.model_laws.proofs.Reaching.{run_reached}
 use Rattle.agreement.specs.Lives.{book_of}
@@ -28,7 +24,7 @@ use Rattle.enlistments.proofs.Moving.{steps_move}
 use Rattle.votes.specs.Answering.{IsBehindVotes, RecordAnswers}
 use Rattle.votes.specs.Backing.{IsHeld, IsUnderAborted, IsUnderCommitted}
 use Rattle.votes.specs.Joint.{IsOutcome}
-use Rattle.votes.specs.Voting.{HasVoted, LeftNoTrace}
+use Rattle.votes.specs.Voting.{LeftNoTrace}
 use Rattle.votes.proofs.Ended.{not_ended}
 use Rattle.votes.proofs.Joint.{outcomes_are_backed, votes_are_kept}
 use Rattle.votes.proofs.Premises.{WorldPremises}

@@ -1,7 +1,5 @@
 -- A completion seat in Done is that of a transaction that commits: what the rules of a transaction leave of it.
-use Rattle.agreement.specs.Finished.{AreFinished, FinishesAll, IsFinished, NamesRising}
 use Rattle.at_base.specs.Numbers.{Numbers}
-use Rattle.at_base.specs.WellFormed.{Rises}
 use Rattle.at_base.specs.declared.epr.Epr.{Epr}
 use Rattle.at_base.specs.declared.epr.Reply.{Reply}
 use Rattle.at_base.specs.declared.event.Arrived.{Arrived}
@@ -12,52 +10,33 @@ use Rattle.at_base.specs.declared.message.Create.{Create}
 use Rattle.at_base.specs.declared.message.Message.{Message}
 use Rattle.at_base.specs.declared.message.Register.{Register}
 use Rattle.at_base.specs.declared.notice.Kind.{Kind}
-use Rattle.at_base.specs.declared.notice.Notice.{Notice}
 use Rattle.at_base.specs.declared.record.Record.{Record}
-use Rattle.at_base.specs.declared.record.Seated.{Seated}
 use Rattle.at_model.specs.Abort.{Alone, Asked, Reason, abort, until_rolled_back}
 use Rattle.at_model.specs.Addresses.{atomic, register_id}
-use Rattle.at_model.specs.Arrivals.{asked, commit_voted, completion_act, completion_notice, link_act, link_fault, link_notice, link_registered, on_completion, on_link, on_seat, registered, relates_to, seat_act, seat_notice, with_answer}
-use Rattle.at_model.specs.Book.{Book, Completion, Enlistment, Phase, Superior, Transaction, transaction_id}
+use Rattle.at_model.specs.Arrivals.{asked, commit_voted, completion_act, completion_notice, link_act, link_fault, link_notice, link_registered, on_completion, on_link, on_seat, relates_to, seat_act, seat_notice, with_answer}
+use Rattle.at_model.specs.Book.{Book, Completion, Enlistment, Phase, Superior, Transaction}
 use Rattle.at_model.specs.Create.{create_in, create_under, on_create, refuse_create}
-use Rattle.at_model.specs.Due.{Expired, Nothing, Over, Reached, Unanswered, may_expire, transaction_reached}
+use Rattle.at_model.specs.Due.{Expired, Nothing, Over, Reached, Unanswered, transaction_reached}
 use Rattle.at_model.specs.Moves.{Decision, Moving, become, begin, forgotten, stays}
-use Rattle.at_model.specs.Phases.{advance, advance_in, all_committed, committed, decided, durable_answered, go_durable, go_volatile, if_durable_answered, prepare_seats, root_answered, sub_answered, volatile_answered, voted}
-use Rattle.at_model.specs.Posts.{accepted}
-use Rattle.at_model.specs.Recover.{is_sub_committed, live, recover, recovered_decided, recovered_seat, recovered_voted, transactions_of}
-use Rattle.at_model.specs.Register.{Registration, accept, accepts, held_seat, may_register, new_seat, on_register, protocol_named, register_again, register_new}
-use Rattle.at_model.specs.Seats.{all_left, answered, completion_in, in_phase, in_state, is_of, is_open, is_prepared_durable, link_in, link_of, move_if, moved, prepared, seat_in, seated, set_link, under}
-use Rattle.at_model.specs.Step.{Outcome, Plan, at_time, make_activity, make_leaf, make_transaction, moment_of, plan, put_activity, put_leaf, put_transaction, registration_outcome, step, still}
-use Rattle.at_model.specs.World.{Node, WorldEvent, nth, run_of}
-use Rattle.at_tables.specs.Names.{is_kind, is_state}
+use Rattle.at_model.specs.Phases.{advance_in, all_committed, committed, decided, durable_answered, go_durable, go_volatile, if_durable_answered, prepare_seats, root_answered, sub_answered, volatile_answered, voted}
+use Rattle.at_model.specs.Recover.{live}
+use Rattle.at_model.specs.Register.{Registration, accept, held_seat, may_register, on_register, protocol_named, register_again, register_new}
+use Rattle.at_model.specs.Seats.{all_left, answered, completion_in, in_phase, in_state, is_prepared_durable, link_of, seat_in, under}
+use Rattle.at_model.specs.Step.{moment_of}
+use Rattle.at_tables.specs.Names.{is_state}
 use Rattle.at_tables.specs.Tables.{completion_of, coordinator_of, participant_of}
 use Rattle.at_tables.specs.declared.cells.Act.{Act}
 use Rattle.at_tables.specs.declared.cells.Cell.{Cell}
 use Rattle.at_tables.specs.declared.cells.State.{State}
-use Rattle.model_laws.proofs.Asking.{ActsAt, CellAt, table_acts}
-use Rattle.model_laws.proofs.Deciding.{Both, DecisionHas, IfThere, all_find, all_join, all_more, all_put, decided_both, decided_entry, decision_both, either_change, either_has, either_of, in_branch, plain_both, with_answer_has}
-use Rattle.model_laws.proofs.Drawing.{activity_moved_kept, leaf_moved_kept}
-use Rattle.model_laws.proofs.Keeping.{HasBoth, IsOfLeaf, NamesLeaf, NoRecord}
+use Rattle.model_laws.proofs.Deciding.{DecisionHas, IfThere, either_change, either_has, either_of, with_answer_has}
 use Rattle.model_laws.proofs.Linking.{Linked, known}
-use Rattle.model_laws.proofs.Living.{all_in_order, all_live, no_entry}
-use Rattle.model_laws.proofs.Phasing.{answered_moved, is_unanswered, neither, none_either}
-use Rattle.model_laws.proofs.Reaching.{NodeLaw, nodes_hold, run_reached}
-use Rattle.model_laws.proofs.Shaping.{steps_touch_one}
-use Rattle.model_laws.proofs.Standing.{decides_behind_every_answer, then_accepts}
-use Rattle.model_laws.specs.Behind.{IsInPhase}
-use Rattle.model_laws.specs.Drawn.{restarted, with_entry}
-use Rattle.model_laws.specs.Laws.{HasLeafId}
-use Rattle.model_laws.specs.Links.{AreIn, AreLinked}
-use Rattle.model_laws.specs.Shapes.{MovesTransaction, Shape, activity_made, activity_moves, at_completion, at_link, at_seat, leaf_made, leaf_moves, nothing_moves, time_moves, time_passes, transaction_made, transaction_moves, transaction_registers, when_due}
-use Rattle.model_laws.specs.Sound.{AreNumbered, SeatsRise}
-use Rattle.std.proofs.Common.{ap, arith, inl, inr, subst, sym, ◌∙◌}
-use Rattle.std.specs.List.{AllByRecursion, list_any}
-use Rattle.std.specs.Prelude.{Bool, List, None, Option, Some, [], bytes_eq, false, filter, if◌then◌else◌, length, map, nat_eq, nat_lt, not, refl, true, ℕ, ◌&&◌, ◌++◌, ◌+◌, ◌<◌, ◌||◌, ◌∷◌, ◌≡◌, ◌≤◌, ◌⊎◌}
+use Rattle.model_laws.specs.Shapes.{MovesTransaction, at_completion, at_link, at_seat, when_due}
+use Rattle.std.proofs.Common.{ap, inl, inr, subst, sym, ◌∙◌}
+use Rattle.std.specs.List.{list_any}
+use Rattle.std.specs.Prelude.{Bool, List, None, Option, Some, bytes_eq, false, if◌then◌else◌, nat_lt, not, refl, true, ℕ, ◌&&◌, ◌≡◌, ◌⊎◌}
 use Rattle.at_base.specs.declared.epr.Reply.TheVariants as replies
 use Rattle.at_base.specs.declared.message.Message.TheVariants as messages
 use Rattle.at_base.specs.declared.notice.Kind.TheVariants as kinds
-use Rattle.at_base.specs.declared.notice.Notice.TheVariants as notices
-use Rattle.at_base.specs.declared.record.Record.TheVariants as records
 use Rattle.at_base.specs.declared.target.Target.TheVariants as targets
 use Rattle.at_tables.specs.declared.cells.Act.TheVariants as acts
 use Rattle.at_tables.specs.declared.cells.State.TheVariants as states

@@ -1,7 +1,6 @@
 -- A decision that is recorded, or kept, has been committed.
-use Rattle.std.specs.Prelude.{ℕ, List, [], ◌∷◌, ◌++◌, Option, Some, None, Bool, true, false, is_none, ◌&&◌, ◌||◌, option_map, map, ◌^◌, ◌≡◌, ◌⊎◌, ◌<◌, refl}
-use Rattle.std.specs.List.{AllByRecursion}
-use Rattle.std.proofs.Common.{inl, inr, sym, subst, ap, ◌∙◌}
+use Rattle.std.specs.Prelude.{ℕ, List, [], ◌∷◌, Option, Some, None, Bool, true, option_map, ◌^◌, ◌≡◌, ◌<◌, refl}
+use Rattle.std.proofs.Common.{inl, sym, subst, ◌∙◌}
 use Rattle.at_base.specs.Numbers.{Numbers}
 use Rattle.at_base.specs.declared.epr.Epr.{Epr}
 use Rattle.at_base.specs.declared.event.Event.{Event}
@@ -9,29 +8,24 @@ use Rattle.at_base.specs.declared.event.Moment.{Moment}
 use Rattle.at_base.specs.declared.notice.Kind.{Kind}
 use Rattle.at_base.specs.declared.notice.Kind.TheVariants as kinds
 use Rattle.at_base.specs.declared.outs.Ending.TheVariants as endings
-use Rattle.at_base.specs.declared.outs.Effect.{Effect}
 use Rattle.at_base.specs.declared.outs.Effect.TheVariants as effects
 use Rattle.at_base.specs.declared.record.Record.{Record}
 use Rattle.at_base.specs.declared.record.Record.TheVariants as records
 use Rattle.at_base.specs.declared.record.Seated.{Seated}
-use Rattle.at_model.specs.Book.{Book, Enlistment, Leaf, Phase, Superior, Transaction}
+use Rattle.at_model.specs.Book.{Book, Enlistment, Leaf, Transaction}
 use Rattle.at_model.specs.Moves.{Change}
 use Rattle.at_model.specs.Outcomes.{is_kept}
 use Rattle.at_model.specs.Seats.{ending, ending_of, prepared}
-use Rattle.at_model.specs.Step.{has_committed, is_committing, is_decided_root, leaf_at, moment_of, plan, step, transaction_at}
+use Rattle.at_model.specs.Step.{moment_of, plan, step}
 use Rattle.at_model.specs.World.{Node, World, happened_at, nth}
-use Rattle.model_laws.specs.Agreement.{HasCommitted, IsIn}
+use Rattle.model_laws.specs.Agreement.{IsIn}
 use Rattle.model_laws.specs.Grows.{Grows}
 use Rattle.model_laws.specs.Reached.{Reached, counts}
 use Rattle.model_laws.proofs.Deciding.{IfThere, in_front}
-use Rattle.agreement.specs.Deeds.{Deed, How, StoodFor, happens, recorded, superior_at}
+use Rattle.agreement.specs.Deeds.{How, StoodFor, happens, recorded, superior_at}
 use Rattle.agreement.specs.Done.{standing}
 use Rattle.agreement.specs.LeafDeeds.{LeafDeed, aborts, commits, dropped, for_durable, idles, leaves, prepares, rolls_back}
-use Rattle.agreement.specs.Lives.{happened_on}
 use Rattle.agreement.proofs.SeatedEntries.{one_of}
-use Rattle.agreement.proofs.TransactionLives.{TransactionLife, aborted, committed, decided, undecided, voted}
-use Rattle.enlistments.specs.Moves.{ActivityDid, LeafDid, TransactionDid}
-use Rattle.enlistments.proofs.Arriving.{Stepping}
 use Rattle.enlistments.proofs.Nodes.{NodesLaw, nodes_have}
 use Rattle.votes.proofs.Known.{effect_there}
 use Rattle.outcomes.proofs.Kept.{Adds, IsAdded, kept_added}
@@ -114,10 +108,10 @@ carrying count = record {
   activity_on = λ u w g n a h. tt;
   record_on = carried_on;
   did = λ u n x b e now landed s d h. (
-      anything d.change.item,
-      subst (IfThere (IsCarriedOut (counts u n x b e now landed) n)) (sym d.deed.records)
-          (deed_carried u n x b e now landed d.old d.deed.how d.deed.at d.deed.stood (d.effects_are ∙ d.deed.happened)),
-    );
+    anything d.change.item,
+    subst (IfThere (IsCarriedOut (counts u n x b e now landed) n)) (sym d.deed.records)
+        (deed_carried u n x b e now landed d.old d.deed.how d.deed.at d.deed.stood (d.effects_are ∙ d.deed.happened)),
+  );
   leaf_does = λ u n x b e now landed s d h. (anything d.change.item, leaf_carried (counts u n x b e now landed) n (moment_of b now) e d.old (standing landed (plan b e now).entry) d.change d.deed);
   activity_does = λ u n x b e now landed s d h. anything d.change.item;
   enrolls = λ u n x b e now landed s d h. tt;

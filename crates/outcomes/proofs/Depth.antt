@@ -1,16 +1,13 @@
 -- Agreement through any depth: a commit goes up to the root, and what is under one that committed never aborts.
-use Rattle.std.specs.Prelude.{ℕ, List, ◌∷◌, Some, None, true, ◌≡◌, ◌⊎◌, refl}
-use Rattle.std.proofs.Common.{inl, inr, sym, subst, ap, ◌∙◌}
+use Rattle.std.specs.Prelude.{ℕ, true, ◌≡◌, ◌⊎◌}
+use Rattle.std.proofs.Common.{inl, inr, sym, subst, ◌∙◌}
 use Rattle.at_base.specs.Numbers.{Numbers}
 use Rattle.at_base.specs.declared.notice.Kind.{Kind}
 use Rattle.at_base.specs.declared.notice.Kind.TheVariants as kinds
 use Rattle.at_base.specs.declared.notice.Notice.TheVariants as notices
 use Rattle.at_base.specs.declared.record.Record.{Record}
 use Rattle.at_base.specs.declared.record.Record.TheVariants as records
-use Rattle.at_base.specs.declared.outs.Ending.{Ending}
-use Rattle.at_base.specs.declared.outs.Ending.TheVariants as endings
-use Rattle.at_base.specs.declared.outs.Effect.TheVariants as effects
-use Rattle.at_model.specs.World.{Happened, Node, Who, World, happened_at, nth}
+use Rattle.at_model.specs.World.{Happened, Who, World}
 use Rattle.model_laws.specs.Agreement.{HasAborted, HasCommitted, HasPosted, IsAnswered, IsBehindAnswers, IsIn, IsOf, IsSplit, Stands, below, itself}
 use Rattle.agreement.proofs.SeatedEntries.{one_of}
 use Rattle.agreement.specs.Sorts.{FitsAccepted, FitsEffect, FitsRecord, IsParticipant, IsTransaction, LeafOf, Root, Sort, Subordinate}

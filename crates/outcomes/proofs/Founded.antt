@@ -1,26 +1,21 @@
 -- In every reached world each outcome is founded, and what an initiator is told of it is true.
-use Rattle.std.specs.Prelude.{ℕ, List, [], ◌∷◌, ◌++◌, Option, Some, None, Bool, ◌+◌, map, filter, ◌^◌, ◌≡◌, ◌<◌, refl}
+use Rattle.std.specs.Prelude.{ℕ, List, [], ◌∷◌, ◌++◌, Some, None, ◌+◌, map, filter, ◌^◌, ◌≡◌, ◌<◌, refl}
 use Rattle.std.specs.List.{AllByRecursion}
-use Rattle.std.proofs.Common.{sym, subst, ap, ◌∙◌}
-use Rattle.at_base.specs.Numbers.{Numbers}
-use Rattle.at_base.specs.declared.event.Event.{Event}
+use Rattle.std.proofs.Common.{sym, subst, ap}
 use Rattle.at_base.specs.declared.notice.Notice.{Notice}
 use Rattle.at_base.specs.declared.notice.Notice.TheVariants as notices
 use Rattle.at_base.specs.declared.outs.Effect.{Effect}
 use Rattle.at_base.specs.declared.outs.Ending.{Ending}
 use Rattle.at_base.specs.declared.outs.Ending.TheVariants as endings
-use Rattle.at_base.specs.declared.outs.Out.TheVariants as outs
 use Rattle.at_base.specs.declared.outs.Post.{Post}
 use Rattle.at_model.specs.Book.{Book, Leaf, Transaction}
 use Rattle.at_model.specs.Recover.{last_incarnation}
 use Rattle.at_model.specs.Step.{step}
-use Rattle.at_model.specs.World.{Happened, Node, Posted, World, goes_down, happened_at, is_lost_leaf, is_lost_root, is_lost_subordinate, leaf_lost, lost_in, nth, put_book, put_nth, started, transaction_lost, up_after}
-use Rattle.model_laws.specs.Agreement.{IsIn}
+use Rattle.at_model.specs.World.{Happened, Node, World, goes_down, happened_at, is_lost_leaf, is_lost_root, is_lost_subordinate, leaf_lost, lost_in, nth, put_book, put_nth, started, transaction_lost, up_after}
 use Rattle.model_laws.specs.Grows.{Grows}
 use Rattle.model_laws.specs.Reached.{Reached, counts, fell, opened, post_all, rose, stepped, waited}
-use Rattle.model_laws.proofs.Deciding.{all_join, all_map, all_more}
-use Rattle.model_laws.proofs.Lasting.{grows_counts, grows_falls, grows_posts, grows_rises, grows_then, grows_waits}
-use Rattle.enlistments.proofs.Arriving.{Stepping}
+use Rattle.model_laws.proofs.Deciding.{all_join, all_more}
+use Rattle.model_laws.proofs.Lasting.{grows_counts, grows_falls, grows_posts, grows_rises, grows_waits}
 use Rattle.enlistments.proofs.Posts.{PostLaw, posts_have}
 use Rattle.votes.proofs.Premises.{StepPremises}
 use Rattle.outcomes.specs.Founded.{AreFounded, IsFounded, SaysOutcome, SaysWhatRootDid}
@@ -41,8 +36,7 @@ telling l done count = record {
   Of = λ w p. SaysWhatRootDid count w p.content;
   on = λ u w g p h. (says_on count u w g notices.Committed endings.Committed p.content h.0, says_on count u w g notices.Aborted endings.Aborted p.content h.1);
   new = λ u n x b e now landed s before p i r.
-      let q : StepPremises count u n x b e = step_premises l count u n x b e s.small s.reached s.found s.up s.heard in
-      (
+      let q : StepPremises count u n x b e = step_premises l count u n x b e s.small s.reached s.found s.up s.heard in (
         (λ to m k says. committed_heard count u n x b e now landed q (done count u s.reached n x b s.found s.up) p (l.tells.told b e now landed q.ready p notices.Committed i says) to m k says),
         (λ to m k says. aborted_heard count u n x b e now landed q p (l.tells.told b e now landed q.ready p notices.Aborted i says) to m k says),
       );

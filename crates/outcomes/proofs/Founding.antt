@@ -1,7 +1,7 @@
 -- What stands behind each effect of a step.
-use Rattle.std.specs.Prelude.{ℕ, List, [], ◌∷◌, ◌++◌, Option, Some, None, Bool, true, false, is_none, option_map, map, ◌^◌, ◌≡◌, ◌⊎◌, ◌<◌, refl}
+use Rattle.std.specs.Prelude.{ℕ, List, [], ◌∷◌, Option, Some, None, Bool, true, false, is_none, ◌≡◌, refl}
 use Rattle.std.specs.List.{AllByRecursion}
-use Rattle.std.proofs.Common.{inl, inr, sym, subst, ap, ◌∙◌}
+use Rattle.std.proofs.Common.{inl, sym, subst, ap, ◌∙◌}
 use Rattle.at_base.specs.Numbers.{Numbers}
 use Rattle.at_base.specs.declared.event.Event.{Event}
 use Rattle.at_base.specs.declared.event.Moment.{Moment}
@@ -20,13 +20,12 @@ use Rattle.at_base.specs.declared.record.Record.{Record}
 use Rattle.at_base.specs.declared.record.Record.TheVariants as records
 use Rattle.at_base.specs.declared.record.Seated.{Seated}
 use Rattle.at_base.specs.declared.target.Target.TheVariants as targets
-use Rattle.at_model.specs.Activities.{activity_target}
 use Rattle.at_model.specs.Book.{Activity, Book, Enlistment, Leaf, Superior, Transaction}
 use Rattle.at_model.specs.Leaves.{leaf_ended}
 use Rattle.at_model.specs.Moves.{Change}
-use Rattle.at_model.specs.Seats.{ending, ending_of, prepared}
+use Rattle.at_model.specs.Seats.{ending_of, prepared}
 use Rattle.at_model.specs.Step.{Outcome, moment_of, plan, step}
-use Rattle.at_model.specs.World.{Node, Posted, Who, World, nth, put_nth}
+use Rattle.at_model.specs.World.{Node, Who, World, nth}
 use Rattle.model_laws.specs.Agreement.{IsIn, IsOutcomeOf, Stands}
 use Rattle.model_laws.specs.Drawn.{with_entry}
 use Rattle.model_laws.specs.Grows.{Grows}
@@ -36,16 +35,16 @@ use Rattle.model_laws.proofs.Lasting.{takes_nothing_back}
 use Rattle.model_laws.proofs.Running.{put_this}
 use Rattle.model_laws.proofs.Seating.{in_back}
 use Rattle.agreement.specs.ActivityDeeds.{ActivityDeed, ActivityTells, CameToActivity, aborted as told_aborted, committed as told_committed, expired, idles as goes_on, tells, uncreated, unknown, unregistered}
-use Rattle.agreement.specs.Deeds.{How, IsHeard, StoodFor, SuperiorSaid, happens, recorded}
+use Rattle.agreement.specs.Deeds.{How, IsHeard, StoodFor, happens, recorded}
 use Rattle.agreement.specs.Done.{standing}
 use Rattle.agreement.specs.LeafDeeds.{LeafDeed, aborts, commits, dropped, idles, leaves, prepares, rolls_back}
 use Rattle.agreement.proofs.SeatedEntries.{one_of}
 use Rattle.enlistments.specs.Leads.{LeadsTo}
-use Rattle.enlistments.specs.Moves.{Moved, TransactionDid, activity_did, activity_made, answered, leaf_did, leaf_made, registered, rested, transaction_did, transaction_made}
+use Rattle.enlistments.specs.Moves.{Moved, activity_did, activity_made, answered, leaf_did, leaf_made, registered, rested, transaction_did, transaction_made}
 use Rattle.votes.specs.Backing.{IsUnderCommitted}
 use Rattle.votes.specs.Joint.{IsOutcome}
 use Rattle.votes.specs.Voting.{HasVoted}
-use Rattle.votes.proofs.Arriving.{Arrives}
+use Rattle.enlistments.proofs.Arriving.{HasCome}
 use Rattle.votes.proofs.Committeds.{commit_came}
 use Rattle.votes.proofs.Growing.{under_committed_on, voted_on}
 use Rattle.votes.proofs.Known.{came_by, grown}
@@ -125,9 +124,11 @@ deed_founded count u n x b e now landed p j t How.Decides at stood heard is =
 deed_founded count u n x b e now landed p j t How.DecidesAlone at stood heard is =
     (root_founded (counts u n x b e now landed) n t.superior t.id stood.1 (prepared at) (entry_stands u n x b e now landed p.found (records.Decided t.id (prepared at)) is), tt)
 deed_founded count u n x b e now landed p j t How.Commits at stood heard is =
-    let (voted, under) = commit_came count u n x b e p j heard.message heard.came t.id kinds.Durable heard.target heard.says refl in
-    (sub_founded (counts u n x b e now landed) n t.superior t.id stood.1 (voted_on u (counts u n x b e now landed) (grown count u n x b e now landed p) (record { node = n; id = t.id }) voted)
-    (under_committed_on u (counts u n x b e now landed) (grown count u n x b e now landed p) (record { node = n; id = t.id }) kinds.Durable under), tt)
+    let (voted, under) = commit_came count u n x b e p j heard.message heard.came t.id kinds.Durable heard.target heard.says refl in (
+      sub_founded (counts u n x b e now landed) n t.superior t.id stood.1 (voted_on u (counts u n x b e now landed) (grown count u n x b e now landed p) (record { node = n; id = t.id }) voted)
+          (under_committed_on u (counts u n x b e now landed) (grown count u n x b e now landed p) (record { node = n; id = t.id }) kinds.Durable under),
+      tt,
+    )
 deed_founded count u n x b e now landed p j t How.Idles at stood heard is = tt
 deed_founded count u n x b e now landed p j t How.Votes at stood heard is = tt
 deed_founded count u n x b e now landed p j t How.Leaves at stood heard is = tt
@@ -163,19 +164,19 @@ leaf_founded count u n x b e now landed p j m l entry c (rolls_back to came stat
 
 -- an activity
 heard_outcome : (count : ℕ) (u : World) (n : ℕ) (x : Node) (b : Book) (e : Event) → StepPremises count u n x b e → AllByRecursion (λ q. SaysWhatRootDid count u q.content) u.posted → (a : Activity) (v : Notice)
-    → (came : CameToActivity e a (messages.Notice v)) → (w : Arrives count u n came.arrived) × SaysWhatRootDid count u w.post.content × LeadsTo count w.to n (targets.Initiator a.id)
+    → (came : CameToActivity e a (messages.Notice v)) → (w : HasCome count u n came.arrived) × SaysWhatRootDid count u w.posted.content × LeadsTo count w.to n (targets.Initiator a.id)
 heard_outcome count u n x b e p told a v came =
-    let w : Arrives count u n came.arrived = came_by count u n x b e p came.arrived came.event in
-    (w, one_of (λ q. SaysWhatRootDid count u q.content) u.posted w.post told w.posted, subst (LeadsTo count w.to n) came.target w.leads)
+    let w : HasCome count u n came.arrived = came_by count u n x b e p came.arrived came.event in
+    (w, one_of (λ q. SaysWhatRootDid count u q.content) u.posted w.posted told w.stands, subst (LeadsTo count w.to n) came.target w.leads)
 
 tells_founded : (count : ℕ) (u : World) (n : ℕ) (x : Node) (b : Book) (e : Event) → StepPremises count u n x b e → AllByRecursion (λ q. SaysWhatRootDid count u q.content) u.posted → (m : Moment) (a : Activity)
     (what : Told) → ActivityTells m e a what → IsFounded u n (effects.Told a.id what)
 tells_founded count u n x b e p told m a what (told_committed v came running is) =
     let (w, says, leads) = heard_outcome count u n x b e p told a notices.Committed came in
-    subst (λ t. IsFounded u n (effects.Told a.id t)) (sym is) (says.0 w.to n a.id (w.message ∙ came.message) w.goes leads)
+    subst (λ t. IsFounded u n (effects.Told a.id t)) (sym is) (says.0 w.to n a.id (w.message ∙ came.message) w.sent leads)
 tells_founded count u n x b e p told m a what (told_aborted came running is) =
     let (w, says, leads) = heard_outcome count u n x b e p told a notices.Aborted came in
-    subst (λ t. IsFounded u n (effects.Told a.id t)) (sym is) (says.1 w.to n a.id (w.message ∙ came.message) w.goes leads)
+    subst (λ t. IsFounded u n (effects.Told a.id t)) (sym is) (says.1 w.to n a.id (w.message ∙ came.message) w.sent leads)
 tells_founded count u n x b e p told m a what (uncreated name came relates creating is) = subst (λ t. IsFounded u n (effects.Told a.id t)) (sym is) tt
 tells_founded count u n x b e p told m a what (unregistered name came relates registering is) = subst (λ t. IsFounded u n (effects.Told a.id t)) (sym is) tt
 tells_founded count u n x b e p told m a what (unknown v came completing is) = subst (λ t. IsFounded u n (effects.Told a.id t)) (sym is) tt

@@ -1,6 +1,5 @@
 -- A book keeps the outcomes of its journal, in each reached world.
-use Rattle.std.specs.Prelude.{ℕ, List, [], ◌∷◌, ◌++◌, Option, Some, None, Bool, true, false, not, ◌||◌, if◌then◌else◌, ◌-◌, length, drop, take, filter, ◌≡◌, ◌⊎◌, refl}
-use Rattle.std.specs.List.{list_any}
+use Rattle.std.specs.Prelude.{ℕ, List, [], ◌∷◌, ◌++◌, Option, Some, None, Bool, true, false, not, ◌||◌, if◌then◌else◌, drop, take, filter, ◌≡◌, ◌⊎◌, refl}
 use Rattle.std.proofs.Common.{inl, inr, sym, subst, ap, ◌∙◌}
 use Rattle.std.proofs.lemmas.List.{take-append-drop}
 use Rattle.at_base.specs.Numbers.{Numbers}
@@ -8,11 +7,10 @@ use Rattle.at_base.specs.declared.event.Event.{Event}
 use Rattle.at_base.specs.declared.outs.Out.{Out}
 use Rattle.at_base.specs.declared.record.Record.{Record}
 use Rattle.at_base.specs.declared.record.Record.TheVariants as records
-use Rattle.at_base.specs.declared.record.Seated.{Seated}
 use Rattle.at_model.specs.Arrivals.{with_answer}
 use Rattle.at_model.specs.Book.{Book, is_id}
 use Rattle.at_model.specs.Moves.{Decision, Goes, Records}
-use Rattle.at_model.specs.Outcomes.{is_kept, newest, outcomes_after, put_last, with_outcome}
+use Rattle.at_model.specs.Outcomes.{is_kept, outcomes_after, put_last, with_outcome}
 use Rattle.at_model.specs.Step.{Plan, at_time, moment_of, plan, plan_of, put_activity, put_leaf, put_transaction, step}
 use Rattle.at_model.specs.World.{Node, World, nth}
 use Rattle.model_laws.specs.Agreement.{IsIn}

@@ -1,22 +1,13 @@
 -- Nothing ends twice, and nothing happens where there is no node.
-use Rattle.std.specs.Prelude.{ℕ, List, [], ◌∷◌, ◌++◌, Option, Some, None, Bool, true, false, if◌then◌else◌, ◌+◌, nat_eq, ◌&&◌, length, map, filter, suc, ◌≡◌, ◌⊎◌, ◌≤◌, ◌<◌, refl}
+use Rattle.std.specs.Prelude.{ℕ, List, [], ◌∷◌, Option, Some, None, Bool, true, false, if◌then◌else◌, nat_eq, ◌&&◌, length, filter, suc, ◌≡◌, ◌≤◌, refl}
 use Rattle.std.specs.List.{AllByRecursion}
 use Rattle.std.proofs.lemmas.Bool.{eqb-true}
-use Rattle.std.proofs.Common.{arith, inl, inr, sym, subst, ap, ◌∙◌}
-use Rattle.at_base.specs.Numbers.{Numbers}
+use Rattle.std.proofs.Common.{arith, sym, subst, ap, ◌∙◌}
 use Rattle.at_base.specs.declared.outs.Effect.{Effect}
-use Rattle.at_base.specs.declared.outs.Post.{Post}
-use Rattle.at_model.specs.Book.{Book}
-use Rattle.at_model.specs.Recover.{last_incarnation}
-use Rattle.at_model.specs.Step.{step}
-use Rattle.at_model.specs.World.{Happened, Node, Who, World, WorldEvent, goes_down, happened_at, is_lost_leaf, is_lost_root, is_lost_subordinate, leaf_lost, lost_in, nth, put_book, put_nth, run_of, started, transaction_lost, up_after}
-use Rattle.model_laws.specs.Agreement.{HasAborted, HasCommitted, HasEnded, IsIn, ends_as, is_end_of}
-use Rattle.model_laws.specs.Grows.{Grows, HasGrown}
-use Rattle.model_laws.specs.Reached.{Reached, counts, fell, opened, post_all, rose, stepped, waited}
-use Rattle.model_laws.proofs.Deciding.{all_join, all_map, all_more}
-use Rattle.model_laws.proofs.Lasting.{grows_counts, grows_falls, grows_posts, grows_rises, grows_then, grows_waits}
+use Rattle.at_model.specs.World.{Happened, Node, Who, World, WorldEvent, nth, run_of}
+use Rattle.model_laws.specs.Agreement.{ends_as, is_end_of}
 use Rattle.model_laws.proofs.Reaching.{run_reached}
-use Rattle.agreement.specs.Lives.{LivesAgree, ends, happened_on}
+use Rattle.agreement.specs.Lives.{ends, happened_on}
 use Rattle.agreement.proofs.Lives.{lives_agree}
 use Rattle.votes.proofs.There.{HasNode, IsThere, all_there}
 

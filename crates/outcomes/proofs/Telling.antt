@@ -1,5 +1,5 @@
 -- A Committed or an Aborted that goes to an initiator says what the root did that accepted it.
-use Rattle.std.specs.Prelude.{ℕ, List, [], ◌∷◌, ◌++◌, Option, Some, None, Bool, true, false, is_none, is_some, ◌&&◌, ◌||◌, option_map, map, ◌^◌, ◌≡◌, ◌⊎◌, ◌<◌, refl}
+use Rattle.std.specs.Prelude.{ℕ, List, [], ◌∷◌, Option, Some, None, Bool, true, false, is_none, ◌||◌, ◌≡◌, refl}
 use Rattle.std.specs.List.{AllByRecursion}
 use Rattle.std.proofs.Common.{inl, inr, sym, subst, ap, ◌∙◌}
 use Rattle.at_base.specs.Numbers.{Numbers}
@@ -7,53 +7,39 @@ use Rattle.at_base.specs.declared.epr.Epr.{Epr}
 use Rattle.at_base.specs.declared.event.Arrived.{Arrived}
 use Rattle.at_base.specs.declared.event.Event.{Event}
 use Rattle.at_base.specs.declared.event.Event.TheVariants as events
-use Rattle.at_base.specs.declared.event.Moment.{Moment}
-use Rattle.at_base.specs.declared.notice.Kind.{Kind}
-use Rattle.at_base.specs.declared.notice.Kind.TheVariants as kinds
-use Rattle.at_base.specs.declared.notice.Notice.{Notice}
 use Rattle.at_base.specs.declared.notice.Notice.TheVariants as notices
-use Rattle.at_base.specs.declared.message.Message.{Message}
 use Rattle.at_base.specs.declared.message.Message.TheVariants as messages
 use Rattle.at_base.specs.declared.outs.Ending.{Ending}
 use Rattle.at_base.specs.declared.outs.Ending.TheVariants as endings
 use Rattle.at_base.specs.declared.outs.Effect.{Effect}
 use Rattle.at_base.specs.declared.outs.Effect.TheVariants as effects
 use Rattle.at_base.specs.declared.outs.Post.{Post}
-use Rattle.at_base.specs.declared.target.Seat.{Seat}
-use Rattle.at_base.specs.declared.target.Target.{Target}
 use Rattle.at_base.specs.declared.target.Target.TheVariants as targets
 use Rattle.at_tables.specs.declared.cells.State.TheVariants as states
-use Rattle.at_tables.specs.Names.{is_notice}
-use Rattle.at_model.specs.Book.{Activity, Book, Completion, Leaf, Phase, Superior, Transaction, leaf_id, transaction_id}
+use Rattle.at_model.specs.Book.{Book, Completion, Phase, Superior, Transaction, transaction_id}
 use Rattle.at_model.specs.Due.{may_expire}
-use Rattle.at_model.specs.Moves.{Change}
 use Rattle.at_model.specs.Outcomes.{is_kept}
 use Rattle.at_model.specs.Seats.{ending, ending_of}
-use Rattle.at_model.specs.Step.{has_committed, is_committing, is_decided_root, leaf_at, moment_of, plan, step, transaction_at}
-use Rattle.at_model.specs.World.{Node, Who, World, accepted_completion, happened_at, new_nodes, nth, takes, who_at, who_of}
+use Rattle.at_model.specs.Step.{has_committed, is_committing, is_decided_root, moment_of, plan, step, transaction_at}
+use Rattle.at_model.specs.World.{Node, Who, World, accepted_completion, happened_at, new_nodes, who_at}
 use Rattle.model_laws.specs.Agreement.{IsAccepted, IsIn, IsOutcomeOf, ends_as}
 use Rattle.model_laws.specs.Enlisted.{IsEnlisted}
 use Rattle.model_laws.specs.Grows.{Grows}
 use Rattle.model_laws.specs.Links.{AreLinked}
-use Rattle.model_laws.specs.Reached.{Heard, Reached, counts}
+use Rattle.model_laws.specs.Reached.{counts}
 use Rattle.model_laws.proofs.Deciding.{all_find, first_true, found_id, in_front, second_true}
 use Rattle.model_laws.proofs.Lasting.{takes_nothing_back}
 use Rattle.model_laws.proofs.Nodes.{who_same}
-use Rattle.agreement.specs.ActivityDeeds.{ActivitySays, Completes as AsksTo, completing, tells_nothing as asks_nothing}
-use Rattle.agreement.specs.Deeds.{How, InitiatorAsked, IsAbort, IsCommit, StoodFor, SuperiorSaid, WhyInitiator, coordinator_at, happens, initiator}
+use Rattle.agreement.specs.ActivityDeeds.{Completes as AsksTo}
+use Rattle.agreement.specs.Deeds.{How, WhyInitiator, happens, initiator}
 use Rattle.agreement.specs.Done.{standing}
-use Rattle.agreement.specs.LeafDeeds.{LeafSays, aborted, committed, prepared, read_only, tells_nothing}
 use Rattle.agreement.specs.Lives.{ends, happened_on}
-use Rattle.agreement.proofs.SeatedEntries.{one_of}
 use Rattle.agreement.proofs.TransactionLives.{TransactionLife, aborted as has_aborted, committed as has_committed_sub, decided as has_decided, undecided as is_undecided, voted as has_voted}
-use Rattle.enlistments.specs.Knowing.{AsksItsOwn, IsAsked, LeafKnows}
-use Rattle.enlistments.specs.Leads.{Enlists, EnlistsIfKnown, LeadsTo}
-use Rattle.enlistments.specs.Moves.{IsNotified, LeafDid, TransactionDid}
-use Rattle.enlistments.specs.Telling.{AnswersAsNone, IsKnownOrAsked, Tells, activity_says, as_committed, as_no_participant, as_no_seat, from_left_link, leaf_says, left_link_aborted, says_aborted, to_asking, to_initiator, to_late_seat, to_left_seat, to_seat, to_superior}
-use Rattle.enlistments.proofs.Arriving.{HasCome, Stepping, has_come}
+use Rattle.enlistments.specs.Leads.{LeadsTo}
+use Rattle.enlistments.specs.Moves.{TransactionDid}
+use Rattle.enlistments.specs.Telling.{Tells, activity_says, as_committed, as_no_participant, as_no_seat, from_left_link, leaf_says, left_link_aborted, says_aborted, to_asking, to_initiator, to_late_seat, to_left_seat, to_seat, to_superior}
 use Rattle.votes.proofs.Committeds.{asker_enlists, asking_initiator, link_enlists}
-use Rattle.votes.proofs.Known.{committing, effect_there, grown, stands_as}
-use Rattle.votes.proofs.Notices.{other_notice, same_end, same_notice, says_notice}
+use Rattle.votes.proofs.Known.{effect_there, grown, stands_as}
 use Rattle.votes.proofs.Premises.{StepPremises}
 use Rattle.votes.proofs.AbortsTold.{filtered_from}
 use Rattle.votes.proofs.Ended.{from_there}
@@ -62,7 +48,7 @@ use Rattle.outcomes.proofs.Decisions.{IsCommittedRoot, kept_root}
 use Rattle.outcomes.proofs.Upwards.{asks_only, leads_same, leaf_upwards, no_initiator, none_asked, upwards}
 
 -- an initiator is a root's
-pub root_alone : (count : ℕ) (u : World) (n : ℕ) (x : Node) (b : Book) (e : Event) → StepPremises count u n x b e → (t : Transaction) → transaction_at b t.id ≡ Some t → (c : Completion) → t.completion ≡ Some c
+root_alone : (count : ℕ) (u : World) (n : ℕ) (x : Node) (b : Book) (e : Event) → StepPremises count u n x b e → (t : Transaction) → transaction_at b t.id ≡ Some t → (c : Completion) → t.completion ≡ Some c
     → t.superior ≡ None
 root_alone count u n x b e p t found c has = by_superior t.superior refl (all_find (λ y. AreLinked y.phase y.superior y.completion) transaction_id t.id b.transactions t p.ready.phases.links found)
   where
@@ -70,12 +56,12 @@ root_alone count u n x b e p t found c has = by_superior t.superior refl (all_fi
     by_superior None f h = f
     by_superior (Some s) f (h, none) = let g : None ≡ Some c = sym none ∙ has in absurd cc
 
-pub some_initiator : (o : Option Completion) (up : Epr) → initiator o ≡ Some up → (c : Completion) × (o ≡ Some c) × (c.initiator ≡ up)
+some_initiator : (o : Option Completion) (up : Epr) → initiator o ≡ Some up → (c : Completion) × (o ≡ Some c) × (c.initiator ≡ up)
 some_initiator None up e = absurd cc
 some_initiator (Some c) up e = (c, refl, cc)
 
 -- whom its initiator's endpoint leads to was accepted by it
-pub initiator_accepted : (count : ℕ) (u : World) (n : ℕ) (x : Node) (b : Book) (e : Event) → StepPremises count u n x b e → (t : Transaction) → transaction_at b t.id ≡ Some t → (c : Completion)
+initiator_accepted : (count : ℕ) (u : World) (n : ℕ) (x : Node) (b : Book) (e : Event) → StepPremises count u n x b e → (t : Transaction) → transaction_at b t.id ≡ Some t → (c : Completion)
     → t.completion ≡ Some c → (m : ℕ) (i : Numbers) → LeadsTo count c.initiator m (targets.Initiator i) → IsAccepted u (record { node = n; id = t.id }) None (record { node = m; id = i })
 initiator_accepted count u n x b e p t found c has m i leads =
     let (h, rest) = subst (λ o. AllByRecursion (λ acc. IsIn acc u.accepted) (accepted_completion n u.nodes t.id None o)) has
@@ -83,28 +69,28 @@ initiator_accepted count u n x b e p t found c has m i leads =
     subst (λ o. IsIn (record { transaction = record { node = n; id = t.id }; seat = None; participant = o }) u.accepted)
     (who_same u.nodes (new_nodes count 1) c.initiator p.world.laws.bases ∙ ap who_at leads) h
 
-pub accepted_on : (u w : World) → Grows u w → (t y : Who) → IsAccepted u t None y → IsAccepted w t None y
+accepted_on : (u w : World) → Grows u w → (t y : Who) → IsAccepted u t None y → IsAccepted w t None y
 accepted_on u w g t y h = takes_nothing_back.accepted u w g t None y h
 
 -- what the deed does is what its initiator hears
-pub root_now : (u : World) (n : ℕ) (x : Node) (b : Book) (e : Event) (now : ℕ) (landed : Bool) (t : Transaction) (what : Ending) → t.superior ≡ None → (step b e now landed).effects ≡ ending t what ∷ []
+root_now : (u : World) (n : ℕ) (x : Node) (b : Book) (e : Event) (now : ℕ) (landed : Bool) (t : Transaction) (what : Ending) → t.superior ≡ None → (step b e now landed).effects ≡ ending t what ∷ []
     → IsIn (happened_at n (effects.Root t.id what)) (counts u n x b e now landed).happened
 root_now u n x b e now landed t what root is =
     effect_there u n x b e now landed (effects.Root t.id what) (subst (IsIn (effects.Root t.id what)) (sym (is ∙ (λ i. ending_of (root i) t.id what ∷ []))) (inl refl))
 
-pub told_effect : (how : How) (t : Transaction) → WhyInitiator how notices.Committed → happens how t ≡ ending t endings.Committed ∷ []
+told_effect : (how : How) (t : Transaction) → WhyInitiator how notices.Committed → happens how t ≡ ending t endings.Committed ∷ []
 told_effect How.Decides t h = refl
 told_effect How.DecidesAlone t h = refl
 told_effect other t h = absurd h
 
-pub told_abort : (how : How) (t : Transaction) → WhyInitiator how notices.Aborted → happens how t ≡ ending t endings.Aborted ∷ []
+told_abort : (how : How) (t : Transaction) → WhyInitiator how notices.Aborted → happens how t ≡ ending t endings.Aborted ∷ []
 told_abort How.Aborts t h = refl
 told_abort How.RollsBack t h = refl
 told_abort How.Decides t h = absurd h
 told_abort How.DecidesAlone t h = absurd h
 told_abort other t h = absurd h
 
-pub to_its_initiator : (count : ℕ) (u : World) (n : ℕ) (x : Node) (b : Book) (e : Event) (now : ℕ) (landed : Bool) → StepPremises count u n x b e
+to_its_initiator : (count : ℕ) (u : World) (n : ℕ) (x : Node) (b : Book) (e : Event) (now : ℕ) (landed : Bool) → StepPremises count u n x b e
     → (d : TransactionDid b e now (standing landed (plan b e now).entry) (step b e now landed)) (what : Ending) (up : Epr) → initiator d.old.completion ≡ Some up
     → happens d.deed.how d.old ≡ ending d.old what ∷ [] → (m : ℕ) (i : Numbers) → LeadsTo count up m (targets.Initiator i) → IsOutcomeOf (counts u n x b e now landed) (record { node = m; id = i }) what
 to_its_initiator count u n x b e now landed p d what up known is m i leads =
@@ -117,7 +103,7 @@ to_its_initiator count u n x b e now landed p d what up known is m i leads =
     }
 
 -- a root that is known to have committed
-pub committing_root : (count : ℕ) (u : World) (n : ℕ) (x : Node) (b : Book) (e : Event) → StepPremises count u n x b e → (t : Transaction) → transaction_at b t.id ≡ Some t → t.phase ≡ Phase.Committing
+committing_root : (count : ℕ) (u : World) (n : ℕ) (x : Node) (b : Book) (e : Event) → StepPremises count u n x b e → (t : Transaction) → transaction_at b t.id ≡ Some t → t.phase ≡ Phase.Committing
     → t.superior ≡ None → IsCommittedRoot u n t.id
 committing_root count u n x b e p t found is root =
     committed_root (ends t.id (happened_on n u.happened)) (stands_as count u n x b e p t found)
@@ -191,7 +177,7 @@ committed_heard count u n x b e now landed p done q (to_superior d kind up known
     absurd (no_initiator count u up (record { node = n; id = d.old.id }) kind m k (link_enlists count u n x b e p d.old d.found kind up known) (leads_same count q to up m k sent is.sent leads))
 committed_heard count u n x b e now landed p done q (says_aborted d kind up under aborts is known from) to m k says sent leads = absurd cc
 committed_heard count u n x b e now landed p done q (from_left_link d kind s up under left why is known from) to m k says sent leads =
-    absurd (no_initiator count u up (record { node = n; id = d.old.id }) kind m k (upwards count u n x b e now landed p d.old d.found kind up known) (leads_same count q to up m k sent from.sent leads))
+    absurd (no_initiator count u up (record { node = n; id = d.old.id }) kind m k (upwards count u n x b e p d.old d.found kind up known) (leads_same count q to up m k sent from.sent leads))
 committed_heard count u n x b e now landed p done q (left_link_aborted d kind up under is known from) to m k says sent leads = absurd cc
 committed_heard count u n x b e now landed p done q (to_initiator d up known why from) to m k says sent leads =
     to_its_initiator count u n x b e now landed p d endings.Committed up known (told_effect d.deed.how d.old why) m k (leads_same count q to up m k sent from.sent leads)
@@ -217,10 +203,10 @@ aborted_heard count u n x b e now landed p q (to_left_seat d s i durable left sa
 aborted_heard count u n x b e now landed p q (to_superior d kind up known why is) to m k says sent leads =
     absurd (no_initiator count u up (record { node = n; id = d.old.id }) kind m k (link_enlists count u n x b e p d.old d.found kind up known) (leads_same count q to up m k sent is.sent leads))
 aborted_heard count u n x b e now landed p q (says_aborted d kind up under aborts is known from) to m k says sent leads =
-    absurd (no_initiator count u up (record { node = n; id = d.old.id }) kind m k (upwards count u n x b e now landed p d.old d.found kind up known) (leads_same count q to up m k sent from.sent leads))
+    absurd (no_initiator count u up (record { node = n; id = d.old.id }) kind m k (upwards count u n x b e p d.old d.found kind up known) (leads_same count q to up m k sent from.sent leads))
 aborted_heard count u n x b e now landed p q (from_left_link d kind s up under left why is known from) to m k says sent leads = absurd cc
 aborted_heard count u n x b e now landed p q (left_link_aborted d kind up under is known from) to m k says sent leads =
-    absurd (no_initiator count u up (record { node = n; id = d.old.id }) kind m k (upwards count u n x b e now landed p d.old d.found kind up known) (leads_same count q to up m k sent from.sent leads))
+    absurd (no_initiator count u up (record { node = n; id = d.old.id }) kind m k (upwards count u n x b e p d.old d.found kind up known) (leads_same count q to up m k sent from.sent leads))
 aborted_heard count u n x b e now landed p q (to_initiator d up known why from) to m k says sent leads =
     to_its_initiator count u n x b e now landed p d endings.Aborted up known (told_abort d.deed.how d.old why) m k (leads_same count q to up m k sent from.sent leads)
 aborted_heard count u n x b e now landed p q (to_asking d c up there is_done asked is from) to m k says sent leads = absurd cc

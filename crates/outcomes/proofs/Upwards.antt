@@ -1,7 +1,6 @@
 -- What participants tell goes to coordinators, and to no initiator.
-use Rattle.std.specs.Prelude.{ℕ, List, [], ◌∷◌, ◌++◌, Option, Some, None, Bool, true, false, is_none, is_some, ◌&&◌, ◌||◌, option_map, map, ◌^◌, ◌≡◌, ◌⊎◌, ◌<◌, refl}
-use Rattle.std.specs.List.{AllByRecursion}
-use Rattle.std.proofs.Common.{inl, inr, sym, subst, ap, ◌∙◌}
+use Rattle.std.specs.Prelude.{ℕ, Some, Bool, true, ◌≡◌, refl}
+use Rattle.std.proofs.Common.{inl, inr, subst, ap}
 use Rattle.at_base.specs.Numbers.{Numbers}
 use Rattle.at_base.specs.declared.epr.Epr.{Epr}
 use Rattle.at_base.specs.declared.event.Arrived.{Arrived}
@@ -9,68 +8,40 @@ use Rattle.at_base.specs.declared.event.Event.{Event}
 use Rattle.at_base.specs.declared.event.Event.TheVariants as events
 use Rattle.at_base.specs.declared.event.Moment.{Moment}
 use Rattle.at_base.specs.declared.notice.Kind.{Kind}
-use Rattle.at_base.specs.declared.notice.Kind.TheVariants as kinds
 use Rattle.at_base.specs.declared.notice.Notice.{Notice}
 use Rattle.at_base.specs.declared.notice.Notice.TheVariants as notices
-use Rattle.at_base.specs.declared.message.Message.{Message}
 use Rattle.at_base.specs.declared.message.Message.TheVariants as messages
-use Rattle.at_base.specs.declared.outs.Ending.{Ending}
-use Rattle.at_base.specs.declared.outs.Ending.TheVariants as endings
-use Rattle.at_base.specs.declared.outs.Effect.{Effect}
-use Rattle.at_base.specs.declared.outs.Effect.TheVariants as effects
 use Rattle.at_base.specs.declared.outs.Post.{Post}
-use Rattle.at_base.specs.declared.target.Seat.{Seat}
-use Rattle.at_base.specs.declared.target.Target.{Target}
 use Rattle.at_base.specs.declared.target.Target.TheVariants as targets
-use Rattle.at_tables.specs.declared.cells.State.TheVariants as states
-use Rattle.at_tables.specs.Names.{is_notice}
-use Rattle.at_model.specs.Book.{Activity, Book, Completion, Leaf, Phase, Superior, Transaction, leaf_id, transaction_id}
+use Rattle.at_model.specs.Book.{Activity, Book, Transaction, leaf_id}
 use Rattle.at_model.specs.Moves.{Change}
-use Rattle.at_model.specs.Outcomes.{is_kept}
-use Rattle.at_model.specs.Seats.{ending, ending_of}
-use Rattle.at_model.specs.Step.{has_committed, is_committing, is_decided_root, leaf_at, moment_of, plan, step, transaction_at}
-use Rattle.at_model.specs.World.{Node, Who, World, accepted_completion, happened_at, new_nodes, nth, takes, who_at, who_of}
-use Rattle.model_laws.specs.Agreement.{IsAccepted, IsIn, IsOutcomeOf}
-use Rattle.model_laws.specs.Enlisted.{IsEnlisted}
-use Rattle.model_laws.specs.Grows.{Grows}
-use Rattle.model_laws.specs.Links.{AreLinked}
-use Rattle.model_laws.specs.Reached.{Heard, Reached, counts}
-use Rattle.model_laws.proofs.Deciding.{all_find, found_id, in_front}
-use Rattle.model_laws.proofs.Lasting.{takes_nothing_back}
-use Rattle.model_laws.proofs.Nodes.{who_same}
+use Rattle.at_model.specs.Step.{moment_of, plan, step, transaction_at}
+use Rattle.at_model.specs.World.{Node, Who, World, takes}
+use Rattle.model_laws.proofs.Deciding.{all_find}
 use Rattle.agreement.specs.ActivityDeeds.{ActivitySays, Completes as AsksTo, completing, tells_nothing as asks_nothing}
-use Rattle.agreement.specs.Deeds.{How, InitiatorAsked, IsAbort, IsCommit, StoodFor, SuperiorSaid, WhyInitiator, coordinator_at, happens, initiator}
 use Rattle.agreement.specs.Done.{standing}
 use Rattle.agreement.specs.LeafDeeds.{LeafSays, aborted, committed, prepared, read_only, tells_nothing}
-use Rattle.agreement.specs.Lives.{happened_on}
-use Rattle.agreement.proofs.SeatedEntries.{one_of}
-use Rattle.agreement.proofs.TransactionLives.{TransactionLife, aborted as has_aborted, committed as has_committed_sub, decided as has_decided, undecided as is_undecided, voted as has_voted}
-use Rattle.enlistments.specs.Knowing.{AsksItsOwn, IsAsked, LeafKnows}
+use Rattle.enlistments.specs.Knowing.{IsAsked, LeafKnows}
 use Rattle.enlistments.specs.Leads.{Enlists, EnlistsIfKnown, LeadsTo}
-use Rattle.enlistments.specs.Moves.{IsNotified, LeafDid, TransactionDid}
-use Rattle.enlistments.specs.Telling.{AnswersAsNone, IsKnownOrAsked, Tells, activity_says, as_committed, as_no_participant, as_no_seat, from_left_link, leaf_says, left_link_aborted, says_aborted, to_asking, to_initiator, to_late_seat, to_left_seat, to_seat, to_superior}
-use Rattle.enlistments.proofs.Arriving.{HasCome, Stepping, has_come}
-use Rattle.votes.proofs.Committeds.{asker_enlists, asking_initiator, link_enlists}
-use Rattle.votes.proofs.Known.{committing, effect_there, grown, stands_as}
+use Rattle.enlistments.specs.Moves.{LeafDid}
+use Rattle.enlistments.specs.Telling.{AnswersAsNone, IsKnownOrAsked}
+use Rattle.enlistments.proofs.Arriving.{HasCome}
+use Rattle.votes.proofs.Committeds.{asker_enlists, link_enlists}
+use Rattle.votes.proofs.Known.{came_by}
 use Rattle.votes.proofs.Notices.{other_notice, same_end, same_notice, says_notice}
 use Rattle.votes.proofs.Premises.{StepPremises}
-use Rattle.outcomes.specs.Founded.{SaysOutcome}
-use Rattle.outcomes.proofs.Decisions.{IsCommittedRoot, kept_root}
 
 -- what comes to a participant as a notification is asked by a superior
-pub asked_only : (id : Numbers) (kind : Kind) (v : Notice) → takes (targets.Participant id kind) (messages.Notice v) ≡ true → IsAsked v
+asked_only : (id : Numbers) (kind : Kind) (v : Notice) → takes (targets.Participant id kind) (messages.Notice v) ≡ true → IsAsked v
 asked_only id kind notices.Prepare e = inl refl
 asked_only id kind notices.Commit e = inr (inl refl)
 asked_only id kind notices.Rollback e = inr (inr refl)
 asked_only id kind other e = absurd cc
 
-pub stepping : (count : ℕ) (u : World) (n : ℕ) (x : Node) (b : Book) (e : Event) (now : ℕ) (landed : Bool) → StepPremises count u n x b e → Stepping count u n x b e now landed
-stepping count u n x b e now landed p = record { small = p.world.laws.few; reached = p.world.laws.reached; found = p.found; up = p.up; heard = p.heard }
-
-pub was_asked : (count : ℕ) (u : World) (n : ℕ) (x : Node) (b : Book) (e : Event) (now : ℕ) (landed : Bool) → StepPremises count u n x b e → (a : Arrived) → e ≡ events.Arrived a → (id : Numbers) (kind : Kind)
+was_asked : (count : ℕ) (u : World) (n : ℕ) (x : Node) (b : Book) (e : Event) → StepPremises count u n x b e → (a : Arrived) → e ≡ events.Arrived a → (id : Numbers) (kind : Kind)
     → a.target ≡ targets.Participant id kind → (v : Notice) → a.message ≡ messages.Notice v → IsAsked v
-was_asked count u n x b e now landed p a came id kind target v says =
-    let h : HasCome count u n a = has_come count u n x b e now landed a (stepping count u n x b e now landed p) came in
+was_asked count u n x b e p a came id kind target v says =
+    let h : HasCome count u n a = came_by count u n x b e p a came in
     asked_only id kind v (subst (λ m. takes (targets.Participant id kind) m ≡ true) says (subst (λ T. takes T a.message ≡ true) target h.taken))
 
 -- what goes to a coordinator's seat goes to no initiator
@@ -81,11 +52,11 @@ no_initiator count u up y kind m i h leads =
     apart : (id : Numbers) (number : ℕ) → targets.Initiator i ≡ targets.Coordinator id (record { number = number; kind = kind }) → ⊥
     apart id number e = cc
 
-pub upwards : (count : ℕ) (u : World) (n : ℕ) (x : Node) (b : Book) (e : Event) (now : ℕ) (landed : Bool) → StepPremises count u n x b e → (t : Transaction) → transaction_at b t.id ≡ Some t → (kind : Kind) (up : Epr)
+pub upwards : (count : ℕ) (u : World) (n : ℕ) (x : Node) (b : Book) (e : Event) → StepPremises count u n x b e → (t : Transaction) → transaction_at b t.id ≡ Some t → (kind : Kind) (up : Epr)
     → IsKnownOrAsked e kind t up → Enlists count u up (record { node = n; id = t.id }) kind
-upwards count u n x b e now landed p t found kind up (inl known) = link_enlists count u n x b e p t found kind up known
-upwards count u n x b e now landed p t found kind up (inr (a, came, target, from, (v, says))) =
-    asker_enlists count u n x b e p a came t.id kind target v (was_asked count u n x b e now landed p a came t.id kind target v says) says up from
+upwards count u n x b e p t found kind up (inl known) = link_enlists count u n x b e p t found kind up known
+upwards count u n x b e p t found kind up (inr (a, came, target, from, (v, says))) =
+    asker_enlists count u n x b e p a came t.id kind target v (was_asked count u n x b e p a came t.id kind target v says) says up from
 
 pub leads_same : (count : ℕ) (q : Post) (to up : Epr) (m : ℕ) (i : Numbers) → q.to ≡ Some to → q.to ≡ Some up → LeadsTo count to m (targets.Initiator i) → LeadsTo count up m (targets.Initiator i)
 leads_same count q to up m i sent goes leads = subst (λ f. LeadsTo count f m (targets.Initiator i)) (same_end q.to to up sent goes) leads
