@@ -1,7 +1,7 @@
 //! A world of nodes, and its runs.
 
 ghost use Rattle.std.specs.Prelude.{ℕ, ◌≡◌, ◌<◌, ◌≤◌, ◌++◌, ◌∷◌, [], IfOk, map, length, option_map, option_copied};
-ghost use Rattle.model_laws.specs.Agreement.{HasOneSuperior};
+ghost use Rattle.model_laws.specs.Agreement.{Agrees, HasOneSuperior, IsAgreed, IsBehindAnswers, IsToldTruly};
 ghost use Rattle.model_laws.specs.Drawn.{AreApart};
 ghost use Rattle.model_laws.specs.Enlisted.{EnlistsUnderOne};
 ghost use Rattle.model_laws.specs.Made.{MakesNoIdTwice, made_on};
@@ -20,6 +20,7 @@ use at_base::outs::Effects;
 use completion_at::requests::Refusal;
 use interposition::book::Book;
 use model_laws::rules::{enlists_under_one, ids_rise, makes_no_id_twice};
+use outcomes::laws::agrees;
 use std::alloc::{AllocError, Global};
 use std::marker::Model;
 
@@ -185,23 +186,24 @@ fn ran(alloc: Global, nodes: u8, events: &[WorldEvent]) -> Result<World, AllocEr
     Ok(world)
 }
 
-/// What holds in every run.
-///
-/// No node of it made an id twice, and all registrations of one item that were accepted were accepted by one transaction
-/// (WS-AtomicTransaction 1.2, section 3).
+/// What holds in every run: no node makes an id twice, all registrations of one item are with one transaction, and agreement.
 fn laws()
     ensures ids { MakesNoIdTwice }
     ensures superior { EnlistsUnderOne }
+    ensures agreement { Agrees }
 {
     makes_no_id_twice();
     enlists_under_one();
+    agrees();
 }
 
 /// The world of a run of events, whatever fails in it: calls of a site, a node that stops in the middle of a turn or goes
 /// down, a record that doesn't land, a message that is delivered late, again or never.
 ///
-/// No node of it made an id twice, and all registrations of one item that were accepted were accepted by one transaction
-/// (WS-AtomicTransaction 1.2, section 3).
+/// In it no two participants of one transaction ended differently, through any depth of interposition, and nothing ended twice
+/// (`agreed`); a root committed, and a subordinate voted, only where everybody that it ever accepted had answered (`behind`);
+/// an activity was told what its root did (`told`); all registrations of one item were accepted by one transaction
+/// (`superior`); and no node made an id twice (`ids`; WS-AtomicTransaction 1.2, sections 1 and 3).
 pub fn run_world(alloc: Global, nodes: u8, events: &[WorldEvent]) -> Result<World, AllocError>
     requires nodes { (1 ≤ nodes) × (nodes ≤ 8) }
     requires few { length events.now ≤ 4294967295 }
@@ -209,6 +211,9 @@ pub fn run_world(alloc: Global, nodes: u8, events: &[WorldEvent]) -> Result<Worl
     ensures world { IfOk result (λ world. world_of world ≡ run_of nodes (map event_of events.now)) }
     ensures ids { (n : ℕ) → AreApart (made_on n (opening nodes) (map event_of events.now)) }
     ensures superior { IfOk result (λ world. HasOneSuperior (world_of world)) }
+    ensures agreed { IfOk result (λ world. IsAgreed (world_of world)) }
+    ensures behind { IfOk result (λ world. IsBehindAnswers (world_of world)) }
+    ensures told { IfOk result (λ world. IsToldTruly (world_of world)) }
 {
     laws();
     let world = ran(alloc, nodes, events)?;
