@@ -1,0 +1,33 @@
+-- A book pays for what it posts.
+use Rattle.std.specs.Prelude.{ℕ, Bool, ◌+◌, ◌≤◌}
+use Rattle.at_base.specs.declared.message.Message.{Message}
+use Rattle.at_base.specs.declared.message.Message.TheVariants as messages
+use Rattle.at_base.specs.declared.event.Arrived.{Arrived}
+use Rattle.at_base.specs.declared.event.Event.TheVariants as events
+use Rattle.at_base.specs.declared.event.Item.{Item}
+use Rattle.at_model.specs.Book.{Book}
+use Rattle.at_model.specs.Step.{Outcome, step}
+use Rattle.model_laws.specs.Links.{IsLinked}
+use Rattle.agreement.specs.Finished.{AreFinished}
+use Rattle.settling.specs.Load.{Prices, load, posts_in, weight, weights}
+
+-- a message that makes nothing
+abbrev pub MakesNothing : Message → Type 0
+MakesNothing (messages.Create c) = ⊥
+MakesNothing (messages.Work w) = ⊥
+MakesNothing other = Unit {0}
+
+-- links follow their phases, and seats have numbers of their own, as in every run
+pub record IsSteady (b : Book) : Type 0 where
+  pub links : IsLinked b
+  pub finished : AreFinished b
+
+-- what is posted, and the load that is left
+abbrev pub after : Prices → ℕ → Outcome → ℕ
+after P now o = weights P (posts_in o.outs) + load P now o.book
+
+-- A message that makes nothing pays 1 for itself; what is due pays for itself, and so does what isn't.
+pub record Pays : Type 0 where
+  pub arrival : (P : Prices) (b : Book) (a : Arrived) (now : ℕ) (landed : Bool) → IsSteady b → MakesNothing a.message
+      → after P now (step b (events.Arrived a) now landed) + 1 ≤ load P now b + weight P a.message
+  pub due : (P : Prices) (b : Book) (item : Item) (now : ℕ) (landed : Bool) → IsSteady b → after P now (step b (events.Due item) now landed) ≤ load P now b
