@@ -1,6 +1,7 @@
 -- A book pays for what it posts.
 use Rattle.settling.specs.Pays.{Pays}
-use Rattle.settling.proofs.Weighing.{not_quiet, sum_filter, sum_put, weights_one}
+use Rattle.settling.proofs.Phasing.{go_volatile_paid}
+use Rattle.settling.proofs.Costs.{spare_is}
 
 pub pays : Pays
-pays = let x = not_quiet 1 in ?
+pays = ?

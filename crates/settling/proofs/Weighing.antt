@@ -21,7 +21,7 @@ use Rattle.at_model.specs.Moves.{Change, Decision, Moving, become, begin, effect
 use Rattle.at_model.specs.Posts.{notice_post, to_each}
 use Rattle.at_model.specs.Seats.{move_if, moved, notices_to, seat_target, send_each, sent_to}
 use Rattle.model_laws.proofs.Deciding.{DecisionSays, IfThere, either_left}
-use Rattle.settling.specs.Load.{Prices, again, held, link_again, links_load, notice_weight, post_weight, posts_in, request_load, seat_again, seat_load, seat_rest, seats_load, weight, weights}
+use Rattle.settling.specs.Load.{Prices, again, held, link_repeats, links_load, notice_weight, post_weight, posts_in, request_load, seat_repeats, seat_load, seat_rest, seats_load, weight, weights}
 
 -- sums
 pub weights_join : (P : Prices) (ps qs : List Post) → weights P (ps ++ qs) ≡ weights P ps + weights P qs
@@ -85,7 +85,7 @@ not_quiet now = by_test (is_quiet now (Some now)) refl
     by_test false e = refl
 
 -- where seats were sent to, none of the item is quiet
-pub SentNow : Bool → Bool → Bool → Type 0
+unfoldable pub SentNow : Bool → Bool → Bool → Type 0
 SentNow after before any = (after ≡ false) ⊎ ((after ≡ before) × (any ≡ false))
 
 quiet_sent : (now : ℕ) (sent : Option ℕ) (any : Bool) → SentNow (is_quiet now (if any then Some now else sent)) (is_quiet now sent) any
@@ -94,9 +94,9 @@ quiet_sent now sent true = inl (not_quiet now)
 quiet_sent now sent false = inr (refl, refl)
 
 -- Each seat that passes the test is sent a notification and goes into a state: it pays for both.
-pub Affordable : Notice → State → (Enlistment → Bool) → Bool → Type 0
+unfoldable pub Affordable : Notice → State → (Enlistment → Bool) → Bool → Type 0
 Affordable n state test q =
-    (s : Enlistment) → test s ≡ true → notice_weight n + (seat_rest state + again false (seat_again state)) ≤ seat_rest s.state + again q (seat_again s.state)
+    (s : Enlistment) → test s ≡ true → notice_weight n + (seat_rest state + again false (seat_repeats state)) ≤ seat_rest s.state + again q (seat_repeats s.state)
 
 seats_sent : (P : Prices) (base : List ℕ) (id : Numbers) (n : Notice) (state : State) (test : Enlistment → Bool) (q : Bool) → Affordable n state test q → (seats : List Enlistment)
     → weights P (notices_to base id n seats test) + seats_load P false (moved test state seats) ≤ seats_load P q seats
@@ -104,16 +104,21 @@ unfolding Affordable
 seats_sent P base id n state test q h [] = omega arith
 seats_sent P base id n state test q h (s ∷ ss) = by_test (test s) (h s) (seats_sent P base id n state test q h ss)
   where
-    by_test : (b : Bool) → (b ≡ true → notice_weight n + (seat_rest state + again false (seat_again state)) ≤ seat_rest s.state + again q (seat_again s.state))
+    by_test : (b : Bool) → (b ≡ true → notice_weight n + (seat_rest state + again false (seat_repeats state)) ≤ seat_rest s.state + again q (seat_repeats s.state))
         → weights P (notices_to base id n ss test) + seats_load P false (moved test state ss) ≤ seats_load P q ss
         → weights P (map (λ x. notice_post base (seat_target id x) x.participant n) (if b then s ∷ filter test ss else filter test ss))
         + seats_load P false (record s { state = if b then state else s.state } ∷ moved test state ss) ≤ seats_load P q (s ∷ ss)
     by_test true here rest =
-        let one : notice_weight n + (seat_rest state + again false (seat_again state)) ≤ seat_rest s.state + again q (seat_again s.state) = here refl in
-        omega (arith, rest, sum_by-cons (post_weight P) (notice_post base (seat_target id s) s.participant n) (notices_to base id n ss test),
-        sum_by-cons (seat_load P false) (record s { state = state }) (moved test state ss), sum_by-cons (seat_load P q) s ss)
+        let one : notice_weight n + (seat_rest state + again false (seat_repeats state)) ≤ seat_rest s.state + again q (seat_repeats s.state) = here refl in
+        omega (
+          arith,
+          rest,
+          sum_by-cons (post_weight P) (notice_post base (seat_target id s) s.participant n) (notices_to base id n ss test),
+          sum_by-cons (seat_load P false) (record s { state = state }) (moved test state ss),
+          sum_by-cons (seat_load P q) s ss,
+        )
     by_test false here rest =
-        omega (arith, rest, sum_by-cons (seat_load P false) s (moved test state ss), sum_by-cons (seat_load P q) s ss, less_again q (seat_again s.state))
+        omega (arith, rest, sum_by-cons (seat_load P false) s (moved test state ss), sum_by-cons (seat_load P q) s ss, less_again q (seat_repeats s.state))
 
 seats_unsent : (P : Prices) (base : List ℕ) (id : Numbers) (n : Notice) (state : State) (test : Enlistment → Bool) (q : Bool) (seats : List Enlistment) → list_any test seats ≡ false
     → weights P (notices_to base id n seats test) + seats_load P q (moved test state seats) ≤ seats_load P q seats
@@ -129,11 +134,11 @@ seats_unsent P base id n state test q (s ∷ ss) e = by_test (test s) e (λ f. s
 
 -- seats and links that are less quiet hold less
 pub seats_less : (P : Prices) (q : Bool) (seats : List Enlistment) → seats_load P false seats ≤ seats_load P q seats
-seats_less P q seats = sum_pointwise (seat_load P false) (seat_load P q) seats (λ s. omega (arith, less_again q (seat_again s.state)))
+seats_less P q seats = sum_pointwise (seat_load P false) (seat_load P q) seats (λ s. omega (arith, less_again q (seat_repeats s.state)))
 
 pub links_less : (P : Prices) (q : Bool) (s : Option Superior) → links_load P false s ≤ links_load P q s
 links_less P q None = omega arith
-links_less P q (Some s) = omega (arith, less_again q (link_again P s.volatile.state), less_again q (link_again P s.durable.state))
+links_less P q (Some s) = omega (arith, less_again q (link_repeats P s.volatile.state), less_again q (link_repeats P s.durable.state))
 
 sent_held : (P : Prices) (base : List ℕ) (id : Numbers) (n : Notice) (state : State) (test : Enlistment → Bool) (after before : Bool) (seats : List Enlistment) (s : Option Superior)
     → Affordable n state test before → SentNow after before (list_any test seats)
@@ -147,7 +152,7 @@ sent_held P base id n state test after before seats s h (inr (e, f)) =
     (omega (arith, seats_unsent P base id n state test before seats f))
 
 -- What a transaction on its way has posted and holds.
-pub worth : Prices → ℕ → Moving Transaction → ℕ
+unfoldable pub worth : Prices → ℕ → Moving Transaction → ℕ
 worth P now g = weights P g.posts + held P now g.item
 
 pub worth_begin : (P : Prices) (now : ℕ) (t : Transaction) → worth P now (begin t) ≡ held P now t
@@ -175,11 +180,11 @@ pub worth_sent : (P : Prices) (m : Moment) (n : Notice) (state : State) (test : 
 unfolding worth
 worth_sent P m n state test g h =
     let sent : weights P (notices_to m.base g.item.id n g.item.seats test)
-        + (seats_load P (is_quiet m.now (sent_to m.now g.item.sent g.item.seats test)) (moved test state g.item.seats)
-        + links_load P (is_quiet m.now (sent_to m.now g.item.sent g.item.seats test)) g.item.superior)
-        ≤ seats_load P (is_quiet m.now g.item.sent) g.item.seats + links_load P (is_quiet m.now g.item.sent) g.item.superior =
-        sent_held P m.base g.item.id n state test (is_quiet m.now (sent_to m.now g.item.sent g.item.seats test)) (is_quiet m.now g.item.sent) g.item.seats g.item.superior h
-        (quiet_sent m.now g.item.sent (list_any test g.item.seats)) in
+    + (seats_load P (is_quiet m.now (sent_to m.now g.item.sent g.item.seats test)) (moved test state g.item.seats)
+    + links_load P (is_quiet m.now (sent_to m.now g.item.sent g.item.seats test)) g.item.superior)
+    ≤ seats_load P (is_quiet m.now g.item.sent) g.item.seats + links_load P (is_quiet m.now g.item.sent) g.item.superior =
+    sent_held P m.base g.item.id n state test (is_quiet m.now (sent_to m.now g.item.sent g.item.seats test)) (is_quiet m.now g.item.sent) g.item.seats g.item.superior h
+    (quiet_sent m.now g.item.sent (list_any test g.item.seats)) in
     omega (arith, sent, weights_join P g.posts (notices_to m.base g.item.id n g.item.seats test))
 
 -- What a step leaves of a transaction is within the limit, and its request stands as it did.

@@ -68,14 +68,14 @@ seat_rest states.Preparing = 3
 seat_rest states.Prepared = 3
 seat_rest other = 0
 
-abbrev pub seat_again : State → ℕ
-seat_again states.Preparing = 5
-seat_again states.Committing = 3
-seat_again states.Aborting = 3
-seat_again other = 0
+abbrev pub seat_repeats : State → ℕ
+seat_repeats states.Preparing = 5
+seat_repeats states.Committing = 3
+seat_repeats states.Aborting = 3
+seat_repeats other = 0
 
 abbrev pub seat_load : Prices → Bool → Enlistment → ℕ
-seat_load P q s = P.seat + (seat_rest s.state + again q (seat_again s.state))
+seat_load P q s = P.seat + (seat_rest s.state + again q (seat_repeats s.state))
 
 -- A link: what its superior is still to be answered.
 abbrev pub link_rest : State → ℕ
@@ -83,13 +83,13 @@ link_rest states.None = 0
 link_rest states.Preparing = 6
 link_rest other = 2
 
-abbrev pub link_again : Prices → State → ℕ
-link_again P states.Registering = 10 + P.seat
-link_again P states.PreparedSuccess = 4
-link_again P other = 0
+abbrev pub link_repeats : Prices → State → ℕ
+link_repeats P states.Registering = 10 + P.seat
+link_repeats P states.PreparedSuccess = 4
+link_repeats P other = 0
 
 abbrev pub link_load : Prices → Bool → Link → ℕ
-link_load P q x = P.other + (link_rest x.state + again q (link_again P x.state))
+link_load P q x = P.other + (link_rest x.state + again q (link_repeats P x.state))
 
 abbrev pub links_load : Prices → Bool → Option Superior → ℕ
 links_load P q None = 0
@@ -133,7 +133,7 @@ leaf_rest states.Active = 2
 leaf_rest other = 0
 
 abbrev pub leaf_load : Prices → ℕ → Leaf → ℕ
-leaf_load P now l = P.other + (leaf_rest l.state + again (is_quiet now l.sent) (link_again P l.state))
+leaf_load P now l = P.other + (leaf_rest l.state + again (is_quiet now l.sent) (link_repeats P l.state))
 
 -- An activity: its Register, and what it completes with.
 abbrev pub progress_load : Prices → Bool → Progress → ℕ
