@@ -92,7 +92,7 @@ links_paid P base id reason q (Some s) =
     none_again true = refl
     none_again false = refl
 
-some_rest : (phase : Phase) (state : State) → is_state state states.None ≡ false → 2 ≤ initiator_rest phase state
+pub some_rest : (phase : Phase) (state : State) → is_state state states.None ≡ false → 2 ≤ initiator_rest phase state
 some_rest Phase.Aborting states.None e = absurd cc
 some_rest Phase.Aborting other e = omega arith
 some_rest Phase.Committing state e = omega arith
@@ -112,7 +112,7 @@ initiator_paid P base id phase (Some c) = by_test (is_state c.state states.None)
     by_test true h = omega arith
     by_test false h = omega (arith, h refl, weights_one P (notice_post base (targets.Completion id) c.initiator notices.Aborted))
 
-same_request : (s : Option Superior) → request_of (without_links s) ≡ request_of s
+pub same_request : (s : Option Superior) → request_of (without_links s) ≡ request_of s
 same_request None = refl
 same_request (Some s) = refl
 

@@ -1,5 +1,5 @@
 -- What a notification may spend beyond 1 for itself, and what the acts that the tables draw from it cost at most.
-use Rattle.std.specs.Prelude.{ℕ, Option, Some, None, Bool, true, false, ◌+◌, nat_le, ◌≡◌, ◌≤◌, refl}
+use Rattle.std.specs.Prelude.{ℕ, Option, Some, None, Bool, true, false, not, ◌+◌, nat_le, ◌≡◌, ◌≤◌, refl}
 use Rattle.std.proofs.Common.{arith}
 use Rattle.std.proofs.lemmas.Bool.{leb-true}
 use Rattle.at_base.specs.declared.notice.Kind.{Kind}
@@ -11,7 +11,7 @@ use Rattle.at_tables.specs.declared.cells.State.TheVariants as states
 use Rattle.at_tables.specs.declared.cells.Act.{Act}
 use Rattle.at_tables.specs.declared.cells.Act.TheVariants as acts
 use Rattle.at_tables.specs.declared.cells.Cell.{Cell}
-use Rattle.at_tables.specs.Names.{is_act, is_state}
+use Rattle.at_tables.specs.Names.{is_state}
 use Rattle.at_tables.specs.Tables.{coordinator_of, participant_of, completion_of, initiator_of}
 use Rattle.settling.proofs.Entries.{at_entry, state_is}
 use Rattle.settling.specs.Load.{notice_weight}
@@ -111,3 +111,35 @@ votes_where state (Some c) e = votes_at state c.act e
 
 pub seat_votes : (k : Kind) (s : State) (n : Notice) → VotesWhere s (coordinator_of k s n)
 seat_votes k s n = votes_where s (coordinator_of k s n) (at_entry (λ k s n. is_asked_where s (coordinator_of k s n)) refl k s n)
+
+-- what completes is a seat that isn't None
+abbrev pub CompletesAt : State → Act → Type 0
+CompletesAt state acts.Complete = is_state state states.None ≡ false
+CompletesAt state other = Unit {0}
+
+abbrev pub CompletesWhere : State → Option Cell → Type 0
+CompletesWhere state None = Unit {0}
+CompletesWhere state (Some c) = CompletesAt state c.act
+
+abbrev is_running : State → Act → Bool
+is_running state acts.Complete = not (is_state state states.None)
+is_running state other = true
+
+abbrev is_running_where : State → Option Cell → Bool
+is_running_where state None = true
+is_running_where state (Some c) = is_running state c.act
+
+not_so : (b : Bool) → not b ≡ true → b ≡ false
+not_so true e = absurd cc
+not_so false e = refl
+
+completes_at : (state : State) (a : Act) → is_running state a ≡ true → CompletesAt state a
+completes_at state acts.Complete e = not_so (is_state state states.None) e
+completes_at state other e = tt
+
+completes_where : (state : State) (c : Option Cell) → is_running_where state c ≡ true → CompletesWhere state c
+completes_where state None e = tt
+completes_where state (Some c) e = completes_at state c.act e
+
+pub seat_completes : (s : State) (n : Notice) → CompletesWhere s (completion_of s n)
+seat_completes s n = completes_where s (completion_of s n) (at_entry (λ k s n. is_running_where s (completion_of s n)) refl kinds.Durable s n)

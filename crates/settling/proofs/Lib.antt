@@ -1,3 +1,4 @@
+pub mod Acting
 pub mod Affording
 pub mod Costs
 pub mod Entries

@@ -84,7 +84,7 @@ superior_asks r s t e k = subst (λ x. request_of x ≡ r) e k
 pub no_completion : (P : Prices) (phase : Phase) (c : Option Completion) → c ≡ None → completion_load P phase c ≡ 0
 no_completion P phase c e = ap (completion_load P phase) e
 
-link_at : (P : Prices) (q : Bool) (x : Link) (state : State) → x.state ≡ state → link_load P q x ≡ P.other + (link_rest state + again q (link_repeats P state))
+pub link_at : (P : Prices) (q : Bool) (x : Link) (state : State) → x.state ≡ state → link_load P q x ≡ P.other + (link_rest state + again q (link_repeats P state))
 link_at P q x state e = ap (λ y. P.other + (link_rest y + again q (link_repeats P y))) e
 
 voted_worth : (P : Prices) (m : Moment) (s : Superior) (g : Moving Transaction) → g.item.superior ≡ Some s → s.durable.state ≡ states.Preparing → g.item.completion ≡ None
