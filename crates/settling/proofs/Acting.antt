@@ -42,7 +42,7 @@ use Rattle.settling.proofs.Affording.{abort_paid, commit_price, some_rest, to_ea
 use Rattle.settling.proofs.Costs.{CompletesAt, CompletesWhere, VotesAt, VotesWhere, Within, completion_within, coordinator_within, cost, participant_within, seat_completes, seat_votes, spare, spare_some}
 use Rattle.settling.proofs.Entries.{state_is}
 use Rattle.settling.proofs.Phasing.{advance_paid, either, go_volatile_paid, link_at, no_completion}
-use Rattle.settling.proofs.Weighing.{Affordably, Affords, AnyEntry, Asks, forgotten_paid, less_again, links_less, not_quiet, seats_less, stays_paid, weights_one, worth, worth_become, worth_begin, worth_effect, worth_post, worth_posts, worth_sent}
+use Rattle.settling.proofs.Weighing.{Affordably, Affords, AnyEntry, Asks, forgotten_paid, less_again, links_less, none_again, not_quiet, seats_less, stays_paid, weights_one, worth, worth_become, worth_begin, worth_effect, worth_post, worth_posts, worth_sent}
 
 -- what the step may come to
 abbrev pub Acted : Prices → Moment → ℕ → Transaction → Decision Transaction → Type 0
@@ -59,11 +59,11 @@ sent_less P m t =
     omega (arith, now, seats_less P q t.seats, links_less P q t.superior)
 
 -- a message that leaves the transaction as it is
-posted_paid : (P : Prices) (m : Moment) (free : ℕ) (t : Transaction) (ps : List Post) → weights P ps ≤ free → Acted P m free t (Goes (stays (posts ps (begin t))))
+pub posted_paid : (P : Prices) (m : Moment) (free : ℕ) (t : Transaction) (ps : List Post) → weights P ps ≤ free → Acted P m free t (Goes (stays (posts ps (begin t))))
 posted_paid P m free t ps h =
     stays_paid P m.now (held P m.now t + free) (request_of t.superior) (posts ps (begin t)) (omega (arith, worth_posts P m.now ps (begin t), worth_begin P m.now t, h)) refl
 
-fault_paid : (P : Prices) (m : Moment) (free : ℕ) (t : Transaction) (to : Option Epr) (id : Option (List ℕ)) (name : List ℕ) → 1 ≤ free
+pub fault_paid : (P : Prices) (m : Moment) (free : ℕ) (t : Transaction) (to : Option Epr) (id : Option (List ℕ)) (name : List ℕ) → 1 ≤ free
     → Acted P m free t (Goes (stays (post (fault_post to id name) (begin t))))
 fault_paid P m free t to id name h =
     stays_paid P m.now (held P m.now t + free) (request_of t.superior) (post (fault_post to id name) (begin t))
@@ -74,10 +74,6 @@ seats_leave : (P : Prices) (q : Bool) (number : ℕ) (seats : List Enlistment) �
 seats_leave P q number [] = omega arith
 seats_leave P q number (s ∷ ss) = by_test (nat_eq s.number number) (seats_leave P q number ss)
   where
-    none_again : (b : Bool) → again b 0 ≤ 0
-    none_again true = omega arith
-    none_again false = omega arith
-
     by_test : (b : Bool) → seats_load P q (moved (λ x. nat_eq x.number number) states.None ss) ≤ seats_load P q ss
         → seats_load P q (record s { state = if b then states.None else s.state } ∷ moved (λ x. nat_eq x.number number) states.None ss) ≤ seats_load P q (s ∷ ss)
     by_test true rest =
@@ -94,10 +90,6 @@ seats_vote : (P : Prices) (q : Bool) (s : Enlistment) (seats : List Enlistment) 
 seats_vote P q s [] only e = omega arith
 seats_vote P q s (x ∷ xs) (one, only) e = by_test (nat_eq x.number s.number) refl (seats_vote P q s xs only e)
   where
-    none_again : (b : Bool) → again b 0 ≤ 0
-    none_again true = omega arith
-    none_again false = omega arith
-
     by_test : (b : Bool) → nat_eq x.number s.number ≡ b → seats_load P q (moved (λ y. nat_eq y.number s.number) states.Prepared xs) ≤ seats_load P q xs
         → seats_load P q (record x { state = if b then states.Prepared else x.state } ∷ moved (λ y. nat_eq y.number s.number) states.Prepared xs) ≤ seats_load P q (x ∷ xs)
     by_test true f rest =

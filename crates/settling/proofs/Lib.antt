@@ -1,7 +1,9 @@
 pub mod Acting
 pub mod Affording
+pub mod Completing
 pub mod Costs
 pub mod Entries
+pub mod Links
 pub mod Paying
 pub mod Phasing
 pub mod Weighing

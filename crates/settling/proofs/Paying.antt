@@ -1,6 +1,6 @@
 -- A book pays for what it posts.
 use Rattle.settling.specs.Pays.{Pays}
-use Rattle.settling.proofs.Acting.{seat_paid}
+use Rattle.settling.proofs.Completing.{due_paid}
 use Rattle.settling.proofs.Costs.{spare_is}
 
 pub pays : Pays

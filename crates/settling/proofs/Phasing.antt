@@ -29,7 +29,7 @@ use Rattle.model_laws.proofs.Linking.{Linked}
 use Rattle.settling.specs.Load.{Prices, again, completion_load, held, initiator_rest, link_repeats, link_load, link_rest, links_load, seats_load, weights}
 use Rattle.settling.proofs.Affording.{abort_paid, commit_price, prepare_price, until_paid, upwards_weighs}
 use Rattle.settling.proofs.Entries.{state_is}
-use Rattle.settling.proofs.Weighing.{Affordably, Affords, AnyEntry, Asks, forgotten_paid, less_again, links_less, not_quiet, seats_less, stays_paid, weights_one, worth, worth_become, worth_effect, worth_posts, worth_sent}
+use Rattle.settling.proofs.Weighing.{Affordably, Affords, AnyEntry, Asks, forgotten_paid, less_again, links_less, none_again, not_quiet, seats_less, stays_paid, weights_one, worth, worth_become, worth_effect, worth_posts, worth_sent}
 
 pub either : (P : Prices) (now limit : ℕ) (r : Option Request) (b : Bool) (d e : Decision Transaction)
     → (b ≡ true → Affordably P now limit r d) → (b ≡ false → Affordably P now limit r e) → Affordably P now limit r (if b then d else e)
@@ -174,11 +174,6 @@ answered_worth P m s g e v c =
     let old : links_load P q g.item.superior ≡ link_load P q s.volatile + link_load P q s.durable = ap (links_load P q) e in
     let none : again q 0 ≤ 0 = none_again q in
     omega (arith, e1, e2, u, old, none, link_at P q s.volatile states.Preparing v, no_completion P Phase.Active g.item.completion c)
-  where
-    none_again : (b : Bool) → again b 0 ≤ 0
-    none_again true = omega arith
-    none_again false = omega arith
-
 volatile_paid : (P : Prices) (m : Moment) (s : Option Superior) (limit : ℕ) (r : Option Request) (g : Moving Transaction) → g.item.superior ≡ s → g.item.phase ≡ Phase.Volatile
     → AreLinked Phase.Volatile s g.item.completion → worth P m.now g ≤ limit → Asks r g.item → Affordably P m.now limit r (volatile_answered m s g)
 unfolding volatile_answered

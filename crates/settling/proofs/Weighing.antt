@@ -84,6 +84,10 @@ not_quiet now = by_test (is_quiet now (Some now)) refl
     by_test true e = let late : now + 5000 ≤ now = leb-true (now + 5000) now e in absurd (omega (arith, late))
     by_test false e = refl
 
+pub none_again : (q : Bool) → again q 0 ≤ 0
+none_again true = omega arith
+none_again false = omega arith
+
 -- where seats were sent to, none of the item is quiet
 unfoldable pub SentNow : Bool → Bool → Bool → Type 0
 SentNow after before any = (after ≡ false) ⊎ ((after ≡ before) × (any ≡ false))
