@@ -48,12 +48,12 @@ use Rattle.settling.proofs.Acting.{Acted, fault_paid, ignored_paid, posted_paid,
 
 use Rattle.at_model.specs.Arrivals.{answer_request, context_of, is_registering, refused_at, refused_request, request_answered, request_left, request_stands, request_under, with_answer}
 use Rattle.at_model.specs.Due.{Expired, Nothing, Over, Reached, Unanswered, is_some_post, link_again, links_again, register_again_at, seat_again, seats_again, transaction_again, transaction_due, transaction_reached, unanswered_seat}
-use Rattle.at_model.specs.Moves.{Change}
+use Rattle.at_model.specs.Moves.{Change, Records, in_both}
 use Rattle.at_model.specs.Create.{link_register}
-use Rattle.at_model.specs.Posts.{reply_post}
+use Rattle.at_model.specs.Posts.{cannot_create, reply_post}
 use Rattle.at_base.specs.declared.epr.Reply.{Reply}
 use Rattle.at_base.specs.declared.epr.Reply.TheVariants as replies
-use Rattle.model_laws.proofs.Deciding.{IfThere, both_say}
+use Rattle.model_laws.proofs.Deciding.{DecisionSays, IfThere, either_left}
 use Rattle.settling.specs.Load.{notice_weight, post_weight, request_load, transaction_load}
 use Rattle.settling.proofs.Links.{aborts_alone}
 use Rattle.settling.proofs.Weighing.{left_held, weights_join}
@@ -159,13 +159,13 @@ abbrev pub left_load : Prices → ℕ → Option Transaction → ℕ
 left_load P now None = 0
 left_load P now (Some t) = transaction_load P now t
 
-pub record Settled (P : Prices) (now limit : ℕ) (c : Change Transaction) : Type 0 where
+pub record Covers (P : Prices) (now limit : ℕ) (c : Change Transaction) : Type 0 where
   pub paid : weights P c.posts + left_load P now c.item ≤ limit
 
 refused_weighs : (P : Prices) (to : Reply) (id : Option (List ℕ)) → weights P (refused_at to id) ≤ 1
 refused_weighs P replies.Anonymous id = omega arith
 refused_weighs P replies.Nobody id = omega arith
-refused_weighs P (replies.At to) id = omega (arith, weights_one P (fault_post (Some to) id Rattle.at_model.specs.Posts.cannot_create))
+refused_weighs P (replies.At to) id = omega (arith, weights_one P (fault_post (Some to) id cannot_create))
 
 kept_load : (P : Prices) (now limit : ℕ) (r : Option Request) (c : Change Transaction) (o : Option Transaction) → weights P c.posts + left_held P now o ≤ limit → IfThere (Asks r) o
     → weights P c.posts + left_load P now o ≤ limit + request_load r
@@ -177,3 +177,39 @@ answered_load P now s t e =
     let q : Bool = is_quiet now t.sent in
     let old : links_load P q t.superior ≡ links_load P q (Some s) = ap (links_load P q) e in
     omega (arith, old)
+
+stands_covered : (P : Prices) (m : Moment) (limit : ℕ) (r : Request) (t : Transaction) (s : Superior) (phase : Phase) (c : Change Transaction) → t.superior ≡ Some s
+    → weights P c.posts + held P m.now t ≤ limit → weights P c.posts + left_load P m.now c.item ≤ limit + 1 → Covers P m.now (limit + 1) (request_stands m r t s phase c)
+stands_covered P m limit r t s Phase.Aborting c e h k =
+    record { paid = omega (arith, h, weights_join P c.posts (refused_request r), refused_weighs P r.fault r.id, answered_load P m.now s t e) }
+stands_covered P m limit r t s other c e h k =
+    let p : Post = reply_post (Some r.reply) r.id (messages.CreateResponse (context_of m.base t r.expires)) in
+    either_left (Covers P m.now (limit + 1)) (is_registering s) c (record { item = Some (under (request_answered s) t); posts = c.posts ++ p ∷ []; effects = c.effects })
+    (record { paid = k }) (record { paid = omega (arith, h, weights_join P c.posts (p ∷ []), weights_one P p, answered_load P m.now s t e) })
+
+under_covered : (P : Prices) (m : Moment) (limit : ℕ) (r : Request) (t : Transaction) (s : Option Superior) (c : Change Transaction) → t.superior ≡ s
+    → weights P c.posts + held P m.now t ≤ limit → weights P c.posts + left_load P m.now c.item ≤ limit + 1 → Covers P m.now (limit + 1) (request_under m r t s c)
+under_covered P m limit r t None c e h k = record { paid = k }
+under_covered P m limit r t (Some s) c e h k = stands_covered P m limit r t s t.phase c e h k
+
+left_covered : (P : Prices) (m : Moment) (limit : ℕ) (r : Request) (o : Option Transaction) (c : Change Transaction) → weights P c.posts + left_held P m.now o ≤ limit
+    → weights P c.posts + left_load P m.now c.item ≤ limit + 1 → Covers P m.now (limit + 1) (request_left m r o c)
+left_covered P m limit r None c h k = record { paid = omega (arith, h, weights_join P c.posts (refused_request r), refused_weighs P r.fault r.id) }
+left_covered P m limit r (Some t) c h k = under_covered P m limit r t t.superior c refl h k
+
+answer_covered : (P : Prices) (m : Moment) (limit : ℕ) (r : Option Request) (c : Change Transaction) → Affords P m.now limit r c → Covers P m.now (limit + request_load r) (answer_request m r c)
+answer_covered P m limit None c h = record { paid = kept_load P m.now limit None c c.item h.paid h.asks }
+answer_covered P m limit (Some r) c h = left_covered P m limit r c.item c h.paid (kept_load P m.now limit (Some r) c c.item h.paid h.asks)
+
+pub with_answer_covered : (P : Prices) (m : Moment) (free : ℕ) (t : Transaction) (d : Decision Transaction) → Acted P m free t d
+    → DecisionSays (Covers P m.now (transaction_load P m.now t + free)) AnyEntry (with_answer m t d)
+with_answer_covered P m free t d h =
+    let all : held P m.now t + free + request_load (request_of t.superior) ≡ transaction_load P m.now t + free = omega arith in
+    subst (λ n. DecisionSays (Covers P m.now n) AnyEntry (with_answer m t d)) all
+    (lifted d h)
+  where
+    lifted : (x : Decision Transaction) → Acted P m free t x → DecisionSays (Covers P m.now (held P m.now t + free + request_load (request_of t.superior))) AnyEntry (in_both (answer_request m (request_of t.superior)) x)
+    lifted (Goes c) k = answer_covered P m (held P m.now t + free) (request_of t.superior) c k
+    lifted (Records x c None) k = record { entry = tt; landed = answer_covered P m (held P m.now t + free) (request_of t.superior) c k.landed; otherwise = tt }
+    lifted (Records x c (Some z)) k =
+        record { entry = tt; landed = answer_covered P m (held P m.now t + free) (request_of t.superior) c k.landed; otherwise = answer_covered P m (held P m.now t + free) (request_of t.superior) z k.otherwise }

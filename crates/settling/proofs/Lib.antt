@@ -3,6 +3,7 @@ pub mod Affording
 pub mod Completing
 pub mod Costs
 pub mod Entries
+pub mod Leaving
 pub mod Links
 pub mod Paying
 pub mod Phasing
