@@ -25,7 +25,7 @@ use Rattle.at_model.specs.Due.{Expired, Nothing, Over, Reached, Unanswered, has_
 use Rattle.at_model.specs.Leaves.{answers_leaf, drops_leaf, leaf_act, leaf_aborts, leaf_commit, leaf_commits, leaf_fault, leaf_faults, leaf_notice, leaf_prepares, leaf_records_vote, leaf_refused, leaf_register, leaf_registered, leaf_roll_back, leaf_says, leaf_target, leaf_votes, on_leaf, work_answer}
 use Rattle.at_model.specs.Moves.{Change, Decision, Goes, Records, begin, ignored, posts, stays}
 use Rattle.at_model.specs.Posts.{fault_post, invalid_state, notice_post, reply_post, stored_or, to_each}
-use Rattle.model_laws.proofs.Deciding.{DecisionSays, either_says, first_true}
+use Rattle.model_laws.proofs.Deciding.{DecisionSays, either_left, either_says, first_true}
 use Rattle.settling.specs.Load.{Prices, again, leaf_load, leaf_rest, link_repeats, notice_weight, post_weight, weight, weights}
 use Rattle.settling.proofs.Acting.{spends}
 use Rattle.settling.proofs.Affording.{to_each_weighs}
@@ -146,7 +146,46 @@ leaf_paid P m a l other = leaf_ignored P m 0 l
 
 -- when it is due
 leaf_again_weighs : (P : Prices) (m : Moment) (l : Leaf) → weights P (leaf_again m l) ≤ link_repeats P l.state
-leaf_again_weighs P m l = ?
+leaf_again_weighs P m l = by_state l.state
+  where
+    register_weighs : (r : Option WorkRequest) → weights P (leaf_register_again m l r) ≤ 10 + P.seat
+    register_weighs None = omega arith
+    register_weighs (Some r) = omega (arith, weights_one P (leaf_register m l r.registration))
+
+    by_state : (state : State) → weights P (if is_state state states.Registering then leaf_register_again m l l.request
+        else if is_state state states.PreparedSuccess then leaf_says m None notices.Prepared l
+        else []) ≤ link_repeats P state
+    by_state states.Registering = register_weighs l.request
+    by_state states.PreparedSuccess = says_weighs P m None notices.Prepared l
+    by_state other = omega arith
+
+expired_rest : (state : State) → (is_state state states.Registering || is_state state states.Active) ≡ true → 2 ≤ leaf_rest state
+expired_rest states.Registering e = omega arith
+expired_rest states.Active e = omega arith
+expired_rest other e = absurd cc
+
+expired_why : (a b c : Bool) → (if a && b then Expired else if c then Unanswered else Nothing) ≡ Expired → a ≡ true
+expired_why true b c e = refl
+expired_why false b true e = absurd cc
+expired_why false b false e = absurd cc
+
+pub unanswered_why : (a q s : Bool) → (if a then Expired else if q && s then Unanswered else Nothing) ≡ Unanswered → q ≡ true
+unanswered_why true q s e = absurd cc
+unanswered_why false true s e = refl
+unanswered_why false false s e = absurd cc
+
+leaf_reached_paid : (P : Prices) (m : Moment) (l : Leaf) (reached : Reached) → (reached ≡ Expired → (is_state l.state states.Registering || is_state l.state states.Active) ≡ true)
+    → (reached ≡ Unanswered → is_quiet m.now l.sent ≡ true) → LeafActed P m 0 l (leaf_reached m l reached)
+unfolding leaf_reached
+leaf_reached_paid P m l Expired h k =
+    let two : 2 ≤ leaf_load P m.now l + 0 = omega (arith, expired_rest l.state (h refl)) in
+    either_left (LeafCovers P m.now (leaf_load P m.now l + 0)) (is_state l.state states.Registering) (leaf_refused l) (leaf_aborts m None l)
+    (refused_paid P m (leaf_load P m.now l + 0) l (omega (arith, two))) (aborts_paid P m None (leaf_load P m.now l + 0) l two)
+leaf_reached_paid P m l Over h k = leaf_ignored P m 0 l
+leaf_reached_paid P m l Unanswered h k =
+    let old : leaf_load P m.now l ≡ P.other + (leaf_rest l.state + again true (link_repeats P l.state)) = ap (λ b. P.other + (leaf_rest l.state + again b (link_repeats P l.state))) (k refl) in
+    record { paid = omega (arith, old, leaf_again_weighs P m l, sent_leaf P m l l.state) }
+leaf_reached_paid P m l Nothing h k = leaf_ignored P m 0 l
 
 pub leaf_due_paid : (P : Prices) (m : Moment) (l : Leaf) → LeafActed P m 0 l (leaf_reached m l (leaf_due m l))
-leaf_due_paid P m l = ?
+leaf_due_paid P m l = leaf_reached_paid P m l (leaf_due m l) (expired_why _ _ _) (unanswered_why _ _ _)

@@ -7,4 +7,5 @@ pub mod Leaving
 pub mod Links
 pub mod Paying
 pub mod Phasing
+pub mod Running
 pub mod Weighing
