@@ -7,5 +7,6 @@ pub mod Leaving
 pub mod Links
 pub mod Paying
 pub mod Phasing
+pub mod Registering
 pub mod Running
 pub mod Weighing

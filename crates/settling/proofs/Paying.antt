@@ -1,7 +1,7 @@
 -- A book pays for what it posts.
 use Rattle.settling.specs.Pays.{Pays}
 use Rattle.settling.proofs.Completing.{with_answer_covered}
-use Rattle.settling.proofs.Running.{activity_paid}
+use Rattle.settling.proofs.Registering.{register_paid}
 
 pub pays : Pays
 pays = ?
