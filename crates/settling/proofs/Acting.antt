@@ -1,48 +1,37 @@
 -- A transaction pays for what it posts at a message, and when it is due.
-use Rattle.std.specs.Prelude.{ℕ, List, [], ◌∷◌, ◌++◌, Option, Some, None, Bool, true, false, nat_eq, ◌+◌, ◌&&◌, ◌||◌, if◌then◌else◌, map, ◌≡◌, ◌≤◌, ◌<◌, refl}
-use Rattle.std.specs.List.{AllByRecursion, list_any}
-use Rattle.std.proofs.Common.{arith, sym, subst, ap, ◌∙◌}
+use Rattle.std.specs.Prelude.{ℕ, List, [], ◌∷◌, Option, Some, None, Bool, true, false, nat_eq, ◌+◌, if◌then◌else◌, ◌≡◌, ◌≤◌, refl}
+use Rattle.std.specs.List.{AllByRecursion}
+use Rattle.std.proofs.Common.{arith, ap, ◌∙◌}
 use Rattle.std.proofs.lemmas.Bool.{eqb-true}
 use Rattle.std.proofs.lemmas.List.Sums.{sum_by-cons}
-use Rattle.at_base.specs.Numbers.{Numbers}
 use Rattle.at_base.specs.declared.epr.Epr.{Epr}
 use Rattle.at_base.specs.declared.event.Arrived.{Arrived}
 use Rattle.at_base.specs.declared.event.Moment.{Moment}
 use Rattle.at_base.specs.declared.message.Message.{Message}
 use Rattle.at_base.specs.declared.message.Message.TheVariants as messages
-use Rattle.at_base.specs.declared.notice.Kind.{Kind}
-use Rattle.at_base.specs.declared.notice.Kind.TheVariants as kinds
 use Rattle.at_base.specs.declared.notice.Notice.{Notice}
 use Rattle.at_base.specs.declared.notice.Notice.TheVariants as notices
-use Rattle.at_base.specs.declared.outs.Ending.TheVariants as endings
 use Rattle.at_base.specs.declared.outs.Post.{Post}
-use Rattle.at_base.specs.declared.target.Target.TheVariants as targets
 use Rattle.at_tables.specs.declared.cells.Act.{Act}
 use Rattle.at_tables.specs.declared.cells.Act.TheVariants as acts
 use Rattle.at_tables.specs.declared.cells.Cell.{Cell}
 use Rattle.at_tables.specs.declared.cells.State.{State}
 use Rattle.at_tables.specs.declared.cells.State.TheVariants as states
-use Rattle.at_tables.specs.Names.{is_state}
-use Rattle.at_tables.specs.Tables.{completion_of, coordinator_of, participant_of}
-use Rattle.at_model.specs.Abort.{Alone, Asked, Faulted, abort}
-use Rattle.at_model.specs.Addresses.{register_id}
-use Rattle.at_model.specs.Arrivals.{asked, commit_voted, completion_act, completion_notice, link_act, link_fault, link_notice, link_registered, on_completion, on_link, on_seat, registered, relates_to, request_of, seat_act, seat_notice}
-use Rattle.at_model.specs.Book.{Completion, Enlistment, Link, Phase, Request, Superior, Transaction}
+use Rattle.at_tables.specs.Tables.{coordinator_of}
+use Rattle.at_model.specs.Abort.{Alone, abort}
+use Rattle.at_model.specs.Arrivals.{on_seat, request_of, seat_act, seat_notice}
+use Rattle.at_model.specs.Book.{Enlistment, Transaction}
 use Rattle.at_model.specs.Due.{is_quiet}
-use Rattle.at_model.specs.Moves.{Decision, Goes, Moving, become, begin, effect, forgotten, ignored, post, posts, stays}
-use Rattle.at_model.specs.Phases.{advance, commit_seats, upwards}
-use Rattle.at_model.specs.Posts.{fault_post, invalid_state, notice_post, stored_or, stranger_post, to_each, unknown_transaction}
-use Rattle.at_model.specs.Seats.{ending, in_phase, in_state, link_in, link_of, moved, seat_in, seat_target, sent_now, set_link, under}
-use Rattle.model_laws.specs.Links.{AreIn, AreLinked}
-use Rattle.model_laws.proofs.Asking.{ActsAt, CellAt, table_acts}
-use Rattle.model_laws.proofs.Deciding.{first_true}
-use Rattle.model_laws.proofs.Linking.{Linked, has_voted, known}
-use Rattle.settling.specs.Load.{Prices, again, completion_load, held, initiator_rest, link_repeats, link_load, link_rest, links_load, seat_load, seat_repeats, seat_rest, seats_load, weights}
-use Rattle.settling.proofs.Affording.{abort_paid, commit_price, some_rest, to_each_weighs, upwards_weighs}
-use Rattle.settling.proofs.Costs.{CompletesAt, CompletesWhere, VotesAt, VotesWhere, Within, completion_within, coordinator_within, cost, participant_within, seat_completes, seat_votes, spare, spare_some}
-use Rattle.settling.proofs.Entries.{state_is}
-use Rattle.settling.proofs.Phasing.{advance_paid, either, go_volatile_paid, link_at, no_completion}
-use Rattle.settling.proofs.Weighing.{Affordably, Affords, AnyEntry, Asks, forgotten_paid, less_again, links_less, none_again, not_quiet, seats_less, stays_paid, weights_one, worth, worth_become, worth_begin, worth_effect, worth_post, worth_posts, worth_sent}
+use Rattle.at_model.specs.Moves.{Decision, Goes, become, begin, ignored, post, posts, stays}
+use Rattle.at_model.specs.Phases.{advance}
+use Rattle.at_model.specs.Posts.{fault_post, invalid_state, notice_post, stranger_post, unknown_transaction}
+use Rattle.at_model.specs.Seats.{in_state, moved, seat_in, seat_target, sent_now}
+use Rattle.model_laws.proofs.Linking.{Linked}
+use Rattle.settling.specs.Load.{Prices, again, completion_load, held, links_load, seat_load, seat_repeats, seat_rest, seats_load, weights}
+use Rattle.settling.proofs.Affording.{abort_paid}
+use Rattle.settling.proofs.Costs.{VotesAt, VotesWhere, Within, coordinator_within, cost, seat_votes, spare}
+use Rattle.settling.proofs.Phasing.{advance_paid, either}
+use Rattle.settling.proofs.Weighing.{Affordably, links_less, none_again, not_quiet, seats_less, stays_paid, weights_one, worth_become, worth_begin, worth_post, worth_posts}
 
 -- what the step may come to
 abbrev pub Acted : Prices → Moment → ℕ → Transaction → Decision Transaction → Type 0

@@ -1,7 +1,7 @@
 -- A transaction that aborts pays for what it posts.
-use Rattle.std.specs.Prelude.{ℕ, List, [], ◌∷◌, ◌++◌, Option, Some, None, Bool, true, false, ◌+◌, ◌&&◌, ◌||◌, if◌then◌else◌, ◌≡◌, ◌≤◌, ◌⊎◌, refl}
+use Rattle.std.specs.Prelude.{ℕ, List, [], ◌∷◌, Option, Some, None, Bool, true, false, ◌+◌, ◌||◌, if◌then◌else◌, ◌≡◌, ◌≤◌, refl}
 use Rattle.std.specs.List.{list_any}
-use Rattle.std.proofs.Common.{arith, sym, subst, ap, inl, inr, ◌∙◌}
+use Rattle.std.proofs.Common.{arith, sym, subst, ◌∙◌}
 use Rattle.at_base.specs.Numbers.{Numbers}
 use Rattle.at_base.specs.declared.epr.Epr.{Epr}
 use Rattle.at_base.specs.declared.event.Moment.{Moment}
@@ -16,19 +16,17 @@ use Rattle.at_tables.specs.declared.cells.State.{State}
 use Rattle.at_tables.specs.declared.cells.State.TheVariants as states
 use Rattle.at_tables.specs.Names.{is_kind, is_state}
 use Rattle.settling.proofs.Entries.{state_is}
-use Rattle.at_model.specs.Abort.{Reason, Alone, abort, is_silent, from_of, link_aborted, links_aborted, until_rolled_back, without_links}
+use Rattle.at_model.specs.Abort.{Reason, abort, is_silent, from_of, link_aborted, links_aborted, until_rolled_back, without_links}
 use Rattle.at_model.specs.Arrivals.{request_of}
-use Rattle.at_model.specs.Book.{Completion, Enlistment, Link, Phase, Request, Superior, Transaction}
+use Rattle.at_model.specs.Book.{Completion, Link, Phase, Request, Superior, Transaction}
 use Rattle.at_model.specs.Due.{is_quiet}
-use Rattle.at_model.specs.Moves.{Moving, become, begin, effect, forgotten, posts, stays}
-use Rattle.at_model.specs.Phases.{advance, advance_in, all_committed, commit_seats, committed, decided, durable_answered, ended_posts, go_durable, go_volatile, if_durable_answered, prepare_seats, root_answered, sub_answered, upwards, volatile_answered, voted}
+use Rattle.at_model.specs.Moves.{Moving, become, effect, forgotten, posts, stays}
+use Rattle.at_model.specs.Phases.{upwards}
 use Rattle.at_model.specs.Posts.{notice_post, stored_or, to_each}
-use Rattle.at_model.specs.Seats.{all_left, answered, completion_in, ending, in_phase, in_state, initiator_posts, is_of, is_open, is_prepared_durable, link_in, send_each}
-use Rattle.model_laws.specs.Links.{AreIn, AreLinked, IsJoining}
-use Rattle.model_laws.proofs.Deciding.{either_left, either_says, second_true}
-use Rattle.model_laws.proofs.Linking.{Linked}
-use Rattle.settling.specs.Load.{Prices, again, completion_load, held, initiator_rest, link_repeats, link_load, link_rest, links_load, notice_weight, post_weight, seat_repeats, seat_rest, seats_load, weights}
-use Rattle.settling.proofs.Weighing.{Affordable, Affordably, Affords, AnyEntry, Asks, forgotten_paid, links_less, seats_less, stays_paid, weights_join, weights_one, worth, worth_become, worth_begin, worth_effect, worth_posts, worth_sent}
+use Rattle.at_model.specs.Seats.{completion_in, ending, in_state, initiator_posts, is_of, is_open, send_each}
+use Rattle.model_laws.proofs.Deciding.{either_left, second_true}
+use Rattle.settling.specs.Load.{Prices, again, completion_load, held, initiator_rest, link_rest, links_load, notice_weight, post_weight, seat_repeats, seat_rest, weights}
+use Rattle.settling.proofs.Weighing.{Affordable, Affords, Asks, forgotten_paid, stays_paid, weights_join, weights_one, worth, worth_become, worth_effect, worth_posts, worth_sent}
 
 -- one message at most
 pub to_each_weighs : (P : Prices) (to : Option Epr) (f : Epr → Post) (n : ℕ) → ((x : Epr) → post_weight P (f x) ≤ n) → weights P (to_each to f) ≤ n

@@ -1,8 +1,6 @@
 -- A transaction pays for what it posts at its completion seat and when it is due, and for the answer to its request.
-use Rattle.std.specs.Prelude.{ℕ, List, [], ◌∷◌, ◌++◌, Option, Some, None, Bool, true, false, nat_eq, ◌+◌, ◌&&◌, ◌||◌, if◌then◌else◌, map, ◌≡◌, ◌≤◌, ◌<◌, ◌⊎◌, refl}
-use Rattle.std.specs.List.{AllByRecursion, list_any}
-use Rattle.std.proofs.Common.{arith, sym, subst, ap, inl, inr, ◌∙◌}
-use Rattle.std.proofs.lemmas.Bool.{eqb-true}
+use Rattle.std.specs.Prelude.{ℕ, List, [], ◌∷◌, ◌++◌, Option, Some, None, Bool, true, false, ◌+◌, ◌&&◌, if◌then◌else◌, ◌≡◌, ◌≤◌, refl}
+use Rattle.std.proofs.Common.{arith, sym, subst, ap}
 use Rattle.std.proofs.lemmas.List.Sums.{sum_by-cons}
 use Rattle.at_base.specs.Numbers.{Numbers}
 use Rattle.at_base.specs.declared.epr.Epr.{Epr}
@@ -14,7 +12,6 @@ use Rattle.at_base.specs.declared.notice.Kind.{Kind}
 use Rattle.at_base.specs.declared.notice.Kind.TheVariants as kinds
 use Rattle.at_base.specs.declared.notice.Notice.{Notice}
 use Rattle.at_base.specs.declared.notice.Notice.TheVariants as notices
-use Rattle.at_base.specs.declared.outs.Ending.TheVariants as endings
 use Rattle.at_base.specs.declared.outs.Post.{Post}
 use Rattle.at_base.specs.declared.target.Target.TheVariants as targets
 use Rattle.at_tables.specs.declared.cells.Act.{Act}
@@ -23,38 +20,32 @@ use Rattle.at_tables.specs.declared.cells.Cell.{Cell}
 use Rattle.at_tables.specs.declared.cells.State.{State}
 use Rattle.at_tables.specs.declared.cells.State.TheVariants as states
 use Rattle.at_tables.specs.Names.{is_state}
-use Rattle.at_tables.specs.Tables.{completion_of, coordinator_of, participant_of}
-use Rattle.at_model.specs.Abort.{Alone, Asked, Faulted, Reason, abort}
-use Rattle.at_model.specs.Addresses.{register_id}
-use Rattle.at_model.specs.Arrivals.{asked, commit_voted, completion_act, completion_notice, link_act, link_fault, link_notice, link_registered, on_completion, on_link, on_seat, registered, relates_to, request_of, seat_act, seat_notice}
-use Rattle.at_model.specs.Book.{Completion, Enlistment, Link, Phase, Request, Superior, Transaction}
+use Rattle.at_tables.specs.Tables.{completion_of}
+use Rattle.at_model.specs.Abort.{Alone}
+use Rattle.at_model.specs.Arrivals.{completion_act, completion_notice, on_completion, request_of}
+use Rattle.at_model.specs.Book.{Completion, Enlistment, Phase, Request, Superior, Transaction}
 use Rattle.at_model.specs.Due.{is_quiet}
-use Rattle.at_model.specs.Moves.{Decision, Goes, Moving, become, begin, effect, forgotten, ignored, post, posts, stays}
-use Rattle.at_model.specs.Phases.{commit_seats, go_volatile, upwards}
-use Rattle.at_model.specs.Posts.{fault_post, invalid_state, notice_post, stored_or, stranger_post, to_each, unknown_transaction}
-use Rattle.at_model.specs.Seats.{ending, in_phase, in_state, link_in, link_of, moved, seat_in, seat_target, sent_now, set_link, under}
-use Rattle.model_laws.specs.Links.{AreIn, AreLinked, IsJoining}
-use Rattle.model_laws.proofs.Asking.{ActsAt, CellAt, table_acts}
-use Rattle.model_laws.proofs.Deciding.{first_true}
-use Rattle.model_laws.proofs.Linking.{Linked, has_voted, known}
-use Rattle.settling.specs.Load.{Prices, again, completion_load, held, initiator_rest, link_repeats, link_load, link_rest, links_load, seat_load, seat_repeats, seat_rest, seats_load, weights}
-use Rattle.settling.proofs.Affording.{abort_paid, commit_price, some_rest, to_each_weighs, upwards_weighs}
-use Rattle.settling.proofs.Costs.{CompletesAt, CompletesWhere, VotesAt, VotesWhere, Within, completion_within, coordinator_within, cost, participant_within, seat_completes, seat_votes, spare, spare_some}
-use Rattle.settling.proofs.Entries.{state_is}
-use Rattle.settling.proofs.Phasing.{advance_paid, either, go_volatile_paid, link_at, no_completion}
-use Rattle.settling.proofs.Weighing.{Affordably, Affords, AnyEntry, Asks, forgotten_paid, less_again, links_less, none_again, not_quiet, seats_less, stays_paid, weights_one, worth, worth_become, worth_begin, worth_effect, worth_post, worth_posts, worth_sent}
-
-use Rattle.settling.proofs.Acting.{Acted, fault_paid, ignored_paid, posted_paid, sent_less, spends}
-
+use Rattle.at_model.specs.Moves.{Decision, Goes, become, begin, posts, stays}
+use Rattle.at_model.specs.Phases.{go_volatile}
+use Rattle.at_model.specs.Posts.{fault_post, invalid_state, notice_post, to_each, unknown_transaction}
+use Rattle.at_model.specs.Seats.{in_phase, seat_target, sent_now, under}
+use Rattle.model_laws.specs.Links.{AreLinked}
+use Rattle.model_laws.proofs.Linking.{Linked}
+use Rattle.settling.specs.Load.{Prices, completion_load, held, initiator_rest, link_repeats, links_load, seat_load, seat_repeats, seats_load, weights}
+use Rattle.settling.proofs.Affording.{some_rest, to_each_weighs, upwards_weighs}
+use Rattle.settling.proofs.Costs.{CompletesAt, CompletesWhere, Within, completion_within, cost, seat_completes, spare}
+use Rattle.settling.proofs.Phasing.{go_volatile_paid}
+use Rattle.settling.proofs.Weighing.{Affords, AnyEntry, Asks, forgotten_paid, not_quiet, stays_paid, weights_one, worth, worth_become, worth_begin, worth_posts}
+use Rattle.settling.proofs.Acting.{Acted, fault_paid, ignored_paid, posted_paid, spends}
 use Rattle.at_model.specs.Arrivals.{answer_request, context_of, is_registering, refused_at, refused_request, request_answered, request_left, request_stands, request_under, with_answer}
-use Rattle.at_model.specs.Due.{Expired, Nothing, Over, Reached, Unanswered, is_some_post, link_again, links_again, register_again_at, seat_again, seats_again, transaction_again, transaction_due, transaction_reached, unanswered_seat}
+use Rattle.at_model.specs.Due.{Expired, Nothing, Over, Reached, Unanswered, link_again, links_again, register_again_at, seat_again, seats_again, transaction_again, transaction_due, transaction_reached, unanswered_seat}
 use Rattle.at_model.specs.Moves.{Change, Records, in_both}
 use Rattle.at_model.specs.Create.{link_register}
 use Rattle.at_model.specs.Posts.{cannot_create, reply_post}
 use Rattle.at_base.specs.declared.epr.Reply.{Reply}
 use Rattle.at_base.specs.declared.epr.Reply.TheVariants as replies
 use Rattle.model_laws.proofs.Deciding.{DecisionSays, IfThere, either_left}
-use Rattle.settling.specs.Load.{notice_weight, post_weight, request_load, transaction_load}
+use Rattle.settling.specs.Load.{request_load, transaction_load}
 use Rattle.settling.proofs.Links.{aborts_alone}
 use Rattle.settling.proofs.Weighing.{left_held, weights_join}
 
@@ -113,8 +104,12 @@ link_again_weighs P base id kind r other c = omega arith
 links_again_weigh : (P : Prices) (base : List ℕ) (id : Numbers) (s : Option Superior) → weights P (links_again base id s) + links_load P false s ≤ links_load P true s
 links_again_weigh P base id None = omega arith
 links_again_weigh P base id (Some s) =
-    omega (arith, weights_join P (link_again base id kinds.Volatile s.request s.volatile) (link_again base id kinds.Durable s.request s.durable),
-    link_again_weighs P base id kinds.Volatile s.request s.volatile.state s.volatile.coordinator, link_again_weighs P base id kinds.Durable s.request s.durable.state s.durable.coordinator)
+    omega (
+      arith,
+      weights_join P (link_again base id kinds.Volatile s.request s.volatile) (link_again base id kinds.Durable s.request s.durable),
+      link_again_weighs P base id kinds.Volatile s.request s.volatile.state s.volatile.coordinator,
+      link_again_weighs P base id kinds.Durable s.request s.durable.state s.durable.coordinator,
+    )
 
 seat_again_weighs : (P : Prices) (base : List ℕ) (id : Numbers) (s : Enlistment) (state : State) → weights P (seat_again base id s (unanswered_seat state)) ≤ seat_repeats state
 seat_again_weighs P base id s states.Preparing = omega (arith, weights_one P (notice_post base (seat_target id s) s.participant notices.Prepare))
@@ -125,18 +120,32 @@ seat_again_weighs P base id s other = omega arith
 seats_again_weigh : (P : Prices) (base : List ℕ) (id : Numbers) (seats : List Enlistment) → weights P (seats_again base id seats) + seats_load P false seats ≤ seats_load P true seats
 seats_again_weigh P base id [] = omega arith
 seats_again_weigh P base id (s ∷ ss) =
-    omega (arith, weights_join P (seat_again base id s (unanswered_seat s.state)) (seats_again base id ss), seat_again_weighs P base id s s.state, seats_again_weigh P base id ss,
-    sum_by-cons (seat_load P false) s ss, sum_by-cons (seat_load P true) s ss)
+    omega (
+      arith,
+      weights_join P (seat_again base id s (unanswered_seat s.state)) (seats_again base id ss),
+      seat_again_weighs P base id s s.state,
+      seats_again_weigh P base id ss,
+      sum_by-cons (seat_load P false) s ss,
+      sum_by-cons (seat_load P true) s ss,
+    )
 
 again_paid : (P : Prices) (m : Moment) (t : Transaction) → is_quiet m.now t.sent ≡ true → Acted P m 0 t (Goes (stays (posts (transaction_again m.base t) (begin (sent_now m t)))))
 again_paid P m t e =
     let now : held P m.now (sent_now m t) ≡ seats_load P false t.seats + (links_load P false t.superior + completion_load P t.phase t.completion) =
-        ap (λ b. seats_load P b t.seats + (links_load P b t.superior + completion_load P t.phase t.completion)) (not_quiet m.now) in
+    ap (λ b. seats_load P b t.seats + (links_load P b t.superior + completion_load P t.phase t.completion)) (not_quiet m.now) in
     let old : held P m.now t ≡ seats_load P true t.seats + (links_load P true t.superior + completion_load P t.phase t.completion) =
-        ap (λ b. seats_load P b t.seats + (links_load P b t.superior + completion_load P t.phase t.completion)) e in
+    ap (λ b. seats_load P b t.seats + (links_load P b t.superior + completion_load P t.phase t.completion)) e in
     stays_paid P m.now (held P m.now t + 0) (request_of t.superior) (posts (transaction_again m.base t) (begin (sent_now m t)))
-    (omega (arith, now, old, worth_posts P m.now (transaction_again m.base t) (begin (sent_now m t)), worth_begin P m.now (sent_now m t),
-    weights_join P (links_again m.base t.id t.superior) (seats_again m.base t.id t.seats), links_again_weigh P m.base t.id t.superior, seats_again_weigh P m.base t.id t.seats)) refl
+    (omega (
+      arith,
+      now,
+      old,
+      worth_posts P m.now (transaction_again m.base t) (begin (sent_now m t)),
+      worth_begin P m.now (sent_now m t),
+      weights_join P (links_again m.base t.id t.superior) (seats_again m.base t.id t.seats),
+      links_again_weigh P m.base t.id t.superior,
+      seats_again_weigh P m.base t.id t.seats,
+    )) refl
 
 due_quiet : (a b q s : Bool) → (if a then Expired else if b then Over else if q && s then Unanswered else Nothing) ≡ Unanswered → q ≡ true
 due_quiet true b q s e = absurd cc

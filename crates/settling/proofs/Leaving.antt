@@ -1,6 +1,6 @@
 -- A leaf pays for what it posts.
-use Rattle.std.specs.Prelude.{ℕ, List, [], ◌∷◌, Option, Some, None, Bool, true, false, ◌+◌, ◌&&◌, ◌||◌, if◌then◌else◌, ◌≡◌, ◌≤◌, refl}
-use Rattle.std.proofs.Common.{arith, sym, subst, ap}
+use Rattle.std.specs.Prelude.{ℕ, List, [], Option, Some, None, Bool, true, false, ◌+◌, ◌&&◌, ◌||◌, if◌then◌else◌, ◌≡◌, ◌≤◌, refl}
+use Rattle.std.proofs.Common.{arith, ap}
 use Rattle.at_base.specs.declared.epr.Epr.{Epr}
 use Rattle.at_base.specs.declared.event.Arrived.{Arrived}
 use Rattle.at_base.specs.declared.event.Moment.{Moment}
@@ -21,17 +21,17 @@ use Rattle.at_tables.specs.declared.cells.State.TheVariants as states
 use Rattle.at_tables.specs.Names.{is_state}
 use Rattle.at_tables.specs.Tables.{participant_of}
 use Rattle.at_model.specs.Book.{Leaf, WorkRequest}
-use Rattle.at_model.specs.Due.{Expired, Nothing, Over, Reached, Unanswered, has_come, is_quiet, is_some_post, leaf_again, leaf_due, leaf_expires, leaf_reached, leaf_register_again}
+use Rattle.at_model.specs.Due.{Expired, Nothing, Over, Reached, Unanswered, is_quiet, leaf_again, leaf_due, leaf_reached, leaf_register_again}
 use Rattle.at_model.specs.Leaves.{answers_leaf, drops_leaf, leaf_act, leaf_aborts, leaf_commit, leaf_commits, leaf_fault, leaf_faults, leaf_notice, leaf_prepares, leaf_records_vote, leaf_refused, leaf_register, leaf_registered, leaf_roll_back, leaf_says, leaf_target, leaf_votes, on_leaf, work_answer}
-use Rattle.at_model.specs.Moves.{Change, Decision, Goes, Records, begin, ignored, posts, stays}
-use Rattle.at_model.specs.Posts.{fault_post, invalid_state, notice_post, reply_post, stored_or, to_each}
+use Rattle.at_model.specs.Moves.{Change, Decision, ignored}
+use Rattle.at_model.specs.Posts.{fault_post, invalid_state, notice_post, reply_post, stored_or}
 use Rattle.model_laws.proofs.Deciding.{DecisionSays, either_left, either_says, first_true}
 use Rattle.settling.specs.Load.{Prices, again, leaf_load, leaf_rest, link_repeats, notice_weight, post_weight, weight, weights}
 use Rattle.settling.proofs.Acting.{spends}
 use Rattle.settling.proofs.Affording.{to_each_weighs}
 use Rattle.settling.proofs.Costs.{Within, cost, participant_within, spare}
 use Rattle.settling.proofs.Entries.{state_is}
-use Rattle.settling.proofs.Weighing.{AnyEntry, less_again, none_again, not_quiet, weights_join, weights_one}
+use Rattle.settling.proofs.Weighing.{AnyEntry, less_again, none_again, not_quiet, weights_one}
 
 abbrev pub left_leaf : Prices → ℕ → Option Leaf → ℕ
 left_leaf P now None = 0
@@ -114,7 +114,7 @@ leaf_notice_paid P m n from i l (Some c) h = leaf_act_paid P m (spare n) from i 
 registering_load : (P : Prices) (m : Moment) (l : Leaf) → is_state l.state states.Registering ≡ true → P.other + 3 ≤ leaf_load P m.now l
 registering_load P m l e =
     let s : leaf_load P m.now l ≡ P.other + (3 + again (is_quiet m.now l.sent) (10 + P.seat)) =
-        ap (λ x. P.other + (leaf_rest x + again (is_quiet m.now l.sent) (link_repeats P x))) (state_is l.state states.Registering e) in
+    ap (λ x. P.other + (leaf_rest x + again (is_quiet m.now l.sent) (link_repeats P x))) (state_is l.state states.Registering e) in
     omega (arith, s)
 
 refused_paid : (P : Prices) (m : Moment) (limit : ℕ) (l : Leaf) → 1 ≤ limit → LeafCovers P m.now limit (leaf_refused l)
@@ -125,8 +125,12 @@ unfolding leaf_registered
 leaf_registered_paid P m relates coordinator l =
     either_says (LeafCovers P m.now (leaf_load P m.now l + 0)) AnyEntry (answers_leaf m relates l) _ _
     (λ k. record {
-      paid = omega (arith, registering_load P m l (first_true (is_state l.state states.Registering) _ k),
-        answer_weighs P messages.WorkDone l.request (λ p e. omega (arith, ap (weight P) e)), none_again (is_quiet m.now l.sent));
+      paid = omega (
+        arith,
+        registering_load P m l (first_true (is_state l.state states.Registering) _ k),
+        answer_weighs P messages.WorkDone l.request (λ p e. omega (arith, ap (weight P) e)),
+        none_again (is_quiet m.now l.sent),
+      );
     })
     (λ k. leaf_ignored P m 0 l)
 

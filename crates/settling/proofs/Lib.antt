@@ -5,6 +5,7 @@ pub mod Costs
 pub mod Entries
 pub mod Leaving
 pub mod Links
+pub mod Numbering
 pub mod Paying
 pub mod Phasing
 pub mod Registering

@@ -1,10 +1,6 @@
 -- A subordinate pays for what it posts at a message on one of its links.
-use Rattle.std.specs.Prelude.{ℕ, List, [], ◌∷◌, ◌++◌, Option, Some, None, Bool, true, false, nat_eq, ◌+◌, ◌&&◌, ◌||◌, if◌then◌else◌, map, ◌≡◌, ◌≤◌, ◌<◌, ◌⊎◌, refl}
-use Rattle.std.specs.List.{AllByRecursion, list_any}
+use Rattle.std.specs.Prelude.{ℕ, List, [], ◌∷◌, Option, Some, None, Bool, ◌+◌, ◌&&◌, ◌≡◌, ◌≤◌, refl}
 use Rattle.std.proofs.Common.{arith, sym, subst, ap, inl, inr, ◌∙◌}
-use Rattle.std.proofs.lemmas.Bool.{eqb-true}
-use Rattle.std.proofs.lemmas.List.Sums.{sum_by-cons}
-use Rattle.at_base.specs.Numbers.{Numbers}
 use Rattle.at_base.specs.declared.epr.Epr.{Epr}
 use Rattle.at_base.specs.declared.event.Arrived.{Arrived}
 use Rattle.at_base.specs.declared.event.Moment.{Moment}
@@ -20,31 +16,29 @@ use Rattle.at_base.specs.declared.target.Target.TheVariants as targets
 use Rattle.at_tables.specs.declared.cells.Act.{Act}
 use Rattle.at_tables.specs.declared.cells.Act.TheVariants as acts
 use Rattle.at_tables.specs.declared.cells.Cell.{Cell}
-use Rattle.at_tables.specs.declared.cells.State.{State}
 use Rattle.at_tables.specs.declared.cells.State.TheVariants as states
 use Rattle.at_tables.specs.Names.{is_state}
-use Rattle.at_tables.specs.Tables.{completion_of, coordinator_of, participant_of}
+use Rattle.at_tables.specs.Tables.{participant_of}
 use Rattle.at_model.specs.Abort.{Alone, Asked, Faulted, Reason, abort}
 use Rattle.at_model.specs.Addresses.{register_id}
-use Rattle.at_model.specs.Arrivals.{asked, commit_voted, completion_act, completion_notice, link_act, link_fault, link_notice, link_registered, on_completion, on_link, on_seat, registered, relates_to, request_of, seat_act, seat_notice}
-use Rattle.at_model.specs.Book.{Completion, Enlistment, Link, Phase, Request, Superior, Transaction}
+use Rattle.at_model.specs.Arrivals.{asked, commit_voted, link_act, link_fault, link_notice, link_registered, on_link, registered, relates_to, request_of}
+use Rattle.at_model.specs.Book.{Link, Phase, Request, Superior, Transaction}
 use Rattle.at_model.specs.Due.{is_quiet}
-use Rattle.at_model.specs.Moves.{Decision, Goes, Moving, become, begin, effect, forgotten, ignored, post, posts, stays}
+use Rattle.at_model.specs.Moves.{Goes, Moving, become, begin, effect, ignored, posts, stays}
 use Rattle.at_model.specs.Phases.{commit_seats, go_volatile, upwards}
-use Rattle.at_model.specs.Posts.{fault_post, invalid_state, notice_post, stored_or, stranger_post, to_each, unknown_transaction}
-use Rattle.at_model.specs.Seats.{ending, in_phase, in_state, link_in, link_of, moved, seat_in, seat_target, sent_now, set_link, under}
-use Rattle.model_laws.specs.Links.{AreIn, AreLinked, IsJoining}
+use Rattle.at_model.specs.Posts.{fault_post, invalid_state, stored_or, stranger_post, to_each}
+use Rattle.at_model.specs.Seats.{ending, in_phase, in_state, link_in, link_of, sent_now, set_link, under}
+use Rattle.model_laws.specs.Links.{AreIn, IsJoining}
 use Rattle.model_laws.proofs.Asking.{ActsAt, CellAt, table_acts}
 use Rattle.model_laws.proofs.Deciding.{first_true}
 use Rattle.model_laws.proofs.Linking.{Linked, has_voted, known}
-use Rattle.settling.specs.Load.{Prices, again, completion_load, held, initiator_rest, link_repeats, link_load, link_rest, links_load, seat_load, seat_repeats, seat_rest, seats_load, weights}
-use Rattle.settling.proofs.Affording.{abort_paid, commit_price, some_rest, to_each_weighs, upwards_weighs}
-use Rattle.settling.proofs.Costs.{CompletesAt, CompletesWhere, VotesAt, VotesWhere, Within, completion_within, coordinator_within, cost, participant_within, seat_completes, seat_votes, spare, spare_some}
+use Rattle.settling.specs.Load.{Prices, completion_load, held, link_load, links_load, weights}
+use Rattle.settling.proofs.Affording.{abort_paid, commit_price, to_each_weighs, upwards_weighs}
+use Rattle.settling.proofs.Costs.{Within, cost, participant_within, spare}
 use Rattle.settling.proofs.Entries.{state_is}
-use Rattle.settling.proofs.Phasing.{advance_paid, either, go_volatile_paid, link_at, no_completion}
-use Rattle.settling.proofs.Weighing.{Affordably, Affords, AnyEntry, Asks, forgotten_paid, less_again, links_less, none_again, not_quiet, seats_less, stays_paid, weights_one, worth, worth_become, worth_begin, worth_effect, worth_post, worth_posts, worth_sent}
-
-use Rattle.settling.proofs.Acting.{Acted, fault_paid, ignored_paid, posted_paid, sent_less, spends}
+use Rattle.settling.proofs.Phasing.{either, go_volatile_paid, link_at, no_completion}
+use Rattle.settling.proofs.Weighing.{less_again, none_again, stays_paid, weights_one, worth, worth_become, worth_begin, worth_effect, worth_posts, worth_sent}
+use Rattle.settling.proofs.Acting.{Acted, ignored_paid, posted_paid, sent_less, spends}
 
 -- what goes to the superior, or to the From of its message
 pub told_weighs : (P : Prices) (link : Link) (from : Option Epr) (f : Epr → Post) (n : ℕ) → ((x : Epr) → weights P (f x ∷ []) ≤ n) → weights P (to_each (stored_or link.coordinator from) f) ≤ n
@@ -69,14 +63,16 @@ commit_paid P m free s t e d c =
     record {
       entry = tt;
       landed = stays_paid P m.now (held P m.now t + free) (request_of t.superior) (commit_seats m g2)
-        (omega (arith, e1, e2, e3, old, worth_begin P m.now t, link_at P q s.durable states.PreparedSuccess d, less_again q 4, none_again q, no_completion P Phase.Committing t.completion c))
-        (asks_on (request_of t.superior) s t e refl);
+          (omega (arith, e1, e2, e3, old, worth_begin P m.now t, link_at P q s.durable states.PreparedSuccess d, less_again q 4, none_again q, no_completion P Phase.Committing t.completion c))
+          (asks_on (request_of t.superior) s t e refl);
       otherwise = tt;
     }
+
 -- a link that asks
 asked_load : (P : Prices) (q : Bool) (kind : Kind) (s : Superior) → (link_of kind s).state ≡ states.Active → links_load P q (Some (asked kind s)) ≤ links_load P q (Some s) + 4
 asked_load P q kinds.Volatile s e = omega (arith, link_at P q s.volatile states.Active e, none_again q)
 asked_load P q kinds.Durable s e = omega (arith, link_at P q s.durable states.Active e, none_again q)
+
 asked_request : (kind : Kind) (s : Superior) → (asked kind s).request ≡ s.request
 asked_request kinds.Volatile s = refl
 asked_request kinds.Durable s = refl
@@ -171,6 +167,7 @@ joined_load : (P : Prices) (q : Bool) (kind : Kind) (coordinator : Epr) (s : Sup
     → links_load P q (Some (joined kind coordinator s)) ≤ links_load P q (Some s)
 joined_load P q kinds.Volatile coordinator s e = omega (arith, link_at P q s.volatile states.Registering e, none_again q)
 joined_load P q kinds.Durable coordinator s e = omega (arith, link_at P q s.durable states.Registering e, none_again q)
+
 joined_request : (kind : Kind) (coordinator : Epr) (s : Superior) → (joined kind coordinator s).request ≡ s.request
 joined_request kinds.Volatile coordinator s = refl
 joined_request kinds.Durable coordinator s = refl

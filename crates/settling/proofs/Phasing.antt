@@ -1,5 +1,5 @@
 -- A transaction pays for what it posts in each phase, from the end to the first Prepare.
-use Rattle.std.specs.Prelude.{ℕ, List, [], ◌∷◌, Option, Some, None, Bool, true, false, ◌+◌, if◌then◌else◌, ◌≡◌, ◌≤◌, ◌⊎◌, refl}
+use Rattle.std.specs.Prelude.{ℕ, List, [], ◌∷◌, Option, Some, None, Bool, true, false, ◌+◌, if◌then◌else◌, ◌≡◌, ◌≤◌, refl}
 use Rattle.std.specs.List.{list_any}
 use Rattle.std.proofs.Common.{arith, sym, subst, ap, inl, inr, ◌∙◌}
 use Rattle.at_base.specs.Numbers.{Numbers}
@@ -7,29 +7,28 @@ use Rattle.at_base.specs.declared.epr.Epr.{Epr}
 use Rattle.at_base.specs.declared.event.Moment.{Moment}
 use Rattle.at_base.specs.declared.notice.Kind.{Kind}
 use Rattle.at_base.specs.declared.notice.Kind.TheVariants as kinds
-use Rattle.at_base.specs.declared.notice.Notice.{Notice}
 use Rattle.at_base.specs.declared.notice.Notice.TheVariants as notices
 use Rattle.at_base.specs.declared.outs.Ending.TheVariants as endings
 use Rattle.at_base.specs.declared.outs.Post.{Post}
 use Rattle.at_base.specs.declared.target.Target.TheVariants as targets
 use Rattle.at_tables.specs.declared.cells.State.{State}
 use Rattle.at_tables.specs.declared.cells.State.TheVariants as states
-use Rattle.at_tables.specs.Names.{is_kind, is_state}
-use Rattle.at_model.specs.Abort.{Alone, abort}
+use Rattle.at_tables.specs.Names.{is_state}
+use Rattle.at_model.specs.Abort.{Alone}
 use Rattle.at_model.specs.Arrivals.{request_of}
-use Rattle.at_model.specs.Book.{Completion, Enlistment, Link, Phase, Request, Superior, Transaction}
+use Rattle.at_model.specs.Book.{Completion, Link, Phase, Request, Superior, Transaction}
 use Rattle.at_model.specs.Due.{is_quiet}
-use Rattle.at_model.specs.Moves.{Decision, Goes, Moving, become, begin, effect, forgotten, posts, stays}
-use Rattle.at_model.specs.Phases.{advance, advance_in, all_committed, commit_seats, committed, decided, durable_answered, ended_posts, go_durable, go_volatile, if_durable_answered, prepare_seats, root_answered, sub_answered, upwards, volatile_answered, voted}
+use Rattle.at_model.specs.Moves.{Decision, Moving, become, effect, forgotten, posts, stays}
+use Rattle.at_model.specs.Phases.{advance_in, all_committed, commit_seats, committed, decided, durable_answered, ended_posts, go_durable, go_volatile, if_durable_answered, prepare_seats, root_answered, sub_answered, upwards, volatile_answered, voted}
 use Rattle.at_model.specs.Posts.{notice_post}
 use Rattle.at_model.specs.Seats.{all_left, answered, completion_in, ending, in_phase, in_state, initiator_posts, is_of, is_prepared_durable, link_in}
-use Rattle.model_laws.specs.Links.{AreIn, AreLinked, IsJoining}
+use Rattle.model_laws.specs.Links.{AreIn, AreLinked}
 use Rattle.model_laws.proofs.Deciding.{either_left, either_says}
 use Rattle.model_laws.proofs.Linking.{Linked}
-use Rattle.settling.specs.Load.{Prices, again, completion_load, held, initiator_rest, link_repeats, link_load, link_rest, links_load, seats_load, weights}
+use Rattle.settling.specs.Load.{Prices, again, completion_load, held, link_repeats, link_load, link_rest, links_load, seats_load, weights}
 use Rattle.settling.proofs.Affording.{abort_paid, commit_price, prepare_price, until_paid, upwards_weighs}
 use Rattle.settling.proofs.Entries.{state_is}
-use Rattle.settling.proofs.Weighing.{Affordably, Affords, AnyEntry, Asks, forgotten_paid, less_again, links_less, none_again, not_quiet, seats_less, stays_paid, weights_one, worth, worth_become, worth_effect, worth_posts, worth_sent}
+use Rattle.settling.proofs.Weighing.{Affordably, Affords, AnyEntry, Asks, forgotten_paid, less_again, none_again, not_quiet, seats_less, stays_paid, weights_one, worth, worth_become, worth_effect, worth_posts, worth_sent}
 
 pub either : (P : Prices) (now limit : ℕ) (r : Option Request) (b : Bool) (d e : Decision Transaction)
     → (b ≡ true → Affordably P now limit r d) → (b ≡ false → Affordably P now limit r e) → Affordably P now limit r (if b then d else e)
@@ -174,6 +173,7 @@ answered_worth P m s g e v c =
     let old : links_load P q g.item.superior ≡ link_load P q s.volatile + link_load P q s.durable = ap (links_load P q) e in
     let none : again q 0 ≤ 0 = none_again q in
     omega (arith, e1, e2, u, old, none, link_at P q s.volatile states.Preparing v, no_completion P Phase.Active g.item.completion c)
+
 volatile_paid : (P : Prices) (m : Moment) (s : Option Superior) (limit : ℕ) (r : Option Request) (g : Moving Transaction) → g.item.superior ≡ s → g.item.phase ≡ Phase.Volatile
     → AreLinked Phase.Volatile s g.item.completion → worth P m.now g ≤ limit → Asks r g.item → Affordably P m.now limit r (volatile_answered m s g)
 unfolding volatile_answered

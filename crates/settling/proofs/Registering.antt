@@ -1,14 +1,12 @@
 -- A Register pays for its answer and for the seat that it takes; and a message pays for what is answered where nothing moves.
 use Rattle.std.specs.Prelude.{ℕ, List, [], ◌∷◌, ◌++◌, Option, Some, None, Bool, true, false, not, ◌+◌, if◌then◌else◌, map, length, ◌≡◌, ◌≤◌, refl}
-use Rattle.std.proofs.Common.{arith, sym, subst, ap, inl, inr, ◌∙◌}
+use Rattle.std.proofs.Common.{arith, ap, inl, inr, ◌∙◌}
 use Rattle.std.proofs.lemmas.List.Sums.{sum_by_push}
-use Rattle.at_base.specs.Numbers.{Numbers}
 use Rattle.at_base.specs.declared.epr.Epr.{Epr}
 use Rattle.at_base.specs.declared.epr.Reply.{Reply}
 use Rattle.at_base.specs.declared.epr.Reply.TheVariants as replies
 use Rattle.at_base.specs.declared.event.Arrived.{Arrived}
 use Rattle.at_base.specs.declared.event.Moment.{Moment}
-use Rattle.at_base.specs.declared.message.Message.{Message}
 use Rattle.at_base.specs.declared.message.Message.TheVariants as messages
 use Rattle.at_base.specs.declared.message.Register.{Register}
 use Rattle.at_base.specs.declared.notice.Kind.{Kind}
@@ -23,15 +21,15 @@ use Rattle.at_tables.specs.declared.cells.Act.{Act}
 use Rattle.at_tables.specs.declared.cells.Act.TheVariants as acts
 use Rattle.at_tables.specs.declared.cells.Cell.{Cell}
 use Rattle.at_tables.specs.declared.cells.State.TheVariants as states
-use Rattle.at_model.specs.Book.{Completion, Enlistment, Phase, Transaction}
+use Rattle.at_model.specs.Book.{Enlistment, Phase, Transaction}
 use Rattle.at_model.specs.Due.{is_quiet}
-use Rattle.at_model.specs.Posts.{accepted, cannot_register, fault_post, faulted, invalid_parameters, invalid_protocol, invalid_state, notice_post, replied, reply_post, stranger_post, to_each, unknown_transaction}
-use Rattle.at_model.specs.Register.{Registration, accept, accept_seat, completion_endpoint, held_seat, is_late, late_prepare, may_register, on_register, protocol_named, refuse_register, register_again, register_new, register_unknown, registered_reply, seat_endpoint, with_seat}
+use Rattle.at_model.specs.Posts.{accepted, cannot_register, fault_post, faulted, invalid_parameters, invalid_protocol, invalid_state, notice_post, replied, reply_post, stranger_post, unknown_transaction}
+use Rattle.at_model.specs.Register.{Registration, accept, completion_endpoint, held_seat, is_late, late_prepare, may_register, on_register, protocol_named, refuse_register, register_again, register_new, register_unknown, registered_reply, seat_endpoint}
 use Rattle.at_model.specs.Seats.{seat_target}
 use Rattle.at_model.specs.Step.{outcome_act, outcome_cell, stranger_act, stranger_cell}
 use Rattle.model_laws.proofs.Deciding.{either_of}
 use Rattle.model_laws.specs.Shapes.{IsAnswer, unknown_cell}
-use Rattle.settling.specs.Load.{Prices, again, completion_load, held, initiator_rest, links_load, post_weight, posts_in, request_load, seat_load, seats_load, transaction_load, weight, weights}
+use Rattle.settling.specs.Load.{Prices, completion_load, held, initiator_rest, links_load, posts_in, seat_load, seats_load, transaction_load, weights}
 use Rattle.settling.proofs.Affording.{to_each_weighs}
 use Rattle.settling.proofs.Costs.{Within, completion_within, coordinator_within, cost, initiator_within, participant_within, spare}
 use Rattle.settling.proofs.Weighing.{links_less, none_again, not_quiet, seats_less, weights_join, weights_one}
@@ -88,11 +86,20 @@ seat_paid P m a t number kind participant true =
     let reply : List Out = registered_reply a (seat_endpoint m.base t.id s) in
     let p : Post = notice_post m.base (seat_target t.id s) s.participant notices.Prepare in
     let new : held P m.now (record t { seats = t.seats ++ s ∷ []; sent = Some m.now })
-        ≡ seats_load P false (t.seats ++ s ∷ []) + (links_load P false t.superior + completion_load P t.phase t.completion) =
-        ap (λ b. seats_load P b (t.seats ++ s ∷ []) + (links_load P b t.superior + completion_load P t.phase t.completion)) (not_quiet m.now) in
+    ≡ seats_load P false (t.seats ++ s ∷ []) + (links_load P false t.superior + completion_load P t.phase t.completion) =
+    ap (λ b. seats_load P b (t.seats ++ s ∷ []) + (links_load P b t.superior + completion_load P t.phase t.completion)) (not_quiet m.now) in
     let out : weights P (posts_in (reply ++ outs.Post p ∷ [])) ≡ weights P (posts_in reply ++ p ∷ []) = ap (weights P) (posts_join reply (outs.Post p ∷ [])) in
-    omega (arith, new, out, weights_join P (posts_in reply) (p ∷ []), weights_one P p, replied_weighs P a.reply a.id (seat_endpoint m.base t.id s), sum_by_push (seat_load P false) t.seats s,
-    seats_less P q t.seats, links_less P q t.superior)
+    omega (
+      arith,
+      new,
+      out,
+      weights_join P (posts_in reply) (p ∷ []),
+      weights_one P p,
+      replied_weighs P a.reply a.id (seat_endpoint m.base t.id s),
+      sum_by_push (seat_load P false) t.seats s,
+      seats_less P q t.seats,
+      links_less P q t.superior,
+    )
 seat_paid P m a t number kind participant false =
     let q : Bool = is_quiet m.now t.sent in
     let s : Enlistment = record { number = number; kind = kind; participant = participant; state = states.Active } in

@@ -1,6 +1,6 @@
 -- An activity pays for what it posts.
-use Rattle.std.specs.Prelude.{ℕ, List, [], ◌∷◌, Option, Some, None, Bool, true, false, ◌+◌, ◌&&◌, if◌then◌else◌, bytes_eq, ◌≡◌, ◌≤◌, refl}
-use Rattle.std.proofs.Common.{arith, sym, subst, ap}
+use Rattle.std.specs.Prelude.{ℕ, List, Option, Some, None, true, false, ◌+◌, bytes_eq, ◌≡◌, ◌≤◌, refl}
+use Rattle.std.proofs.Common.{arith, ap}
 use Rattle.at_base.specs.declared.epr.Epr.{Epr}
 use Rattle.at_base.specs.declared.event.Arrived.{Arrived}
 use Rattle.at_base.specs.declared.event.Moment.{Moment}
@@ -8,27 +8,26 @@ use Rattle.at_base.specs.declared.message.Context.{Context}
 use Rattle.at_base.specs.declared.message.Message.{Message}
 use Rattle.at_base.specs.declared.message.Message.TheVariants as messages
 use Rattle.at_base.specs.declared.notice.Notice.{Notice}
-use Rattle.at_base.specs.declared.outs.Post.{Post}
 use Rattle.at_base.specs.declared.outs.Told.{Told}
 use Rattle.at_base.specs.declared.outs.Told.TheVariants as tellings
 use Rattle.at_tables.specs.declared.cells.Act.{Act}
 use Rattle.at_tables.specs.declared.cells.Act.TheVariants as acts
 use Rattle.at_tables.specs.declared.cells.Cell.{Cell}
 use Rattle.at_tables.specs.Tables.{initiator_of}
-use Rattle.at_model.specs.Activities.{activity_act, activity_created, activity_fault, activity_notice, activity_registered, activity_state, activity_target, complete_posts, completion_register, is_begun, on_activity, told, with_context}
+use Rattle.at_model.specs.Activities.{activity_act, activity_created, activity_fault, activity_notice, activity_registered, activity_state, activity_target, completion_register, is_begun, on_activity, told, with_context}
 use Rattle.at_model.specs.Addresses.{create_id, register_id}
 use Rattle.at_model.specs.Arrivals.{relates_to}
 use Rattle.at_model.specs.Book.{Activity, Progress}
-use Rattle.at_model.specs.Due.{Expired, Nothing, Over, Reached, Unanswered, activity_again, activity_due, activity_reached, completion_register_again, is_quiet, is_some_post}
-use Rattle.at_model.specs.Moves.{Change, Decision, Goes, begin, ignored, post, posts, stays}
-use Rattle.at_model.specs.Posts.{fault_post, invalid_state, notice_post, stored_or, to_each, unknown_transaction}
+use Rattle.at_model.specs.Due.{Expired, Nothing, Over, Reached, Unanswered, activity_again, activity_due, activity_reached, completion_register_again, is_quiet}
+use Rattle.at_model.specs.Moves.{Change, Decision, ignored}
+use Rattle.at_model.specs.Posts.{fault_post, invalid_state, notice_post, stored_or, unknown_transaction}
 use Rattle.model_laws.proofs.Deciding.{DecisionSays, either_says}
-use Rattle.settling.specs.Load.{Prices, activity_load, again, notice_weight, post_weight, progress_load, weights}
+use Rattle.settling.specs.Load.{Prices, activity_load, notice_weight, progress_load, weights}
 use Rattle.settling.proofs.Acting.{spends}
 use Rattle.settling.proofs.Affording.{to_each_weighs}
 use Rattle.settling.proofs.Costs.{Within, cost, initiator_within, spare}
 use Rattle.settling.proofs.Leaving.{unanswered_why}
-use Rattle.settling.proofs.Weighing.{AnyEntry, less_again, not_quiet, weights_one}
+use Rattle.settling.proofs.Weighing.{AnyEntry, not_quiet, weights_one}
 
 abbrev pub left_activity : Prices → ℕ → Option Activity → ℕ
 left_activity P now None = 0

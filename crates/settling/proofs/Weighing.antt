@@ -1,16 +1,13 @@
 -- Weights and loads of lists, and of an item on its way through a step.
-use Rattle.std.specs.Prelude.{ℕ, List, [], ◌∷◌, ◌++◌, Option, Some, None, Bool, true, false, ◌+◌, ◌||◌, if◌then◌else◌, nat_le, nat_eq, filter, map, ◌≡◌, ◌≤◌, ◌⊎◌, refl}
-use Rattle.std.specs.List.{list_any, sum_by, AllByRecursion}
+use Rattle.std.specs.Prelude.{ℕ, List, [], ◌∷◌, ◌++◌, Option, Some, None, Bool, true, false, ◌+◌, ◌||◌, if◌then◌else◌, filter, map, ◌≡◌, ◌≤◌, ◌⊎◌, refl}
+use Rattle.std.specs.List.{list_any, sum_by}
 use Rattle.std.proofs.Common.{arith, sym, subst, ap, inl, inr}
 use Rattle.std.proofs.lemmas.Bool.{leb-true}
 use Rattle.std.proofs.lemmas.List.Sums.{sum_by-cons, sum_by-append}
 use Rattle.at_base.specs.Numbers.{Numbers}
-use Rattle.at_base.specs.declared.epr.Epr.{Epr}
 use Rattle.at_base.specs.declared.event.Moment.{Moment}
 use Rattle.at_base.specs.declared.notice.Notice.{Notice}
 use Rattle.at_base.specs.declared.outs.Effect.{Effect}
-use Rattle.at_base.specs.declared.outs.Out.{Out}
-use Rattle.at_base.specs.declared.outs.Out.TheVariants as outs
 use Rattle.at_base.specs.declared.outs.Post.{Post}
 use Rattle.at_base.specs.declared.record.Record.{Record}
 use Rattle.at_tables.specs.declared.cells.State.{State}
@@ -18,10 +15,10 @@ use Rattle.at_model.specs.Book.{Enlistment, Request, Superior, Transaction, find
 use Rattle.at_model.specs.Arrivals.{request_of}
 use Rattle.at_model.specs.Due.{is_quiet}
 use Rattle.at_model.specs.Moves.{Change, Decision, Moving, become, begin, effect, forgotten, post, posts, stays}
-use Rattle.at_model.specs.Posts.{notice_post, to_each}
-use Rattle.at_model.specs.Seats.{move_if, moved, notices_to, seat_target, send_each, sent_to}
-use Rattle.model_laws.proofs.Deciding.{DecisionSays, IfThere, either_left}
-use Rattle.settling.specs.Load.{Prices, again, held, link_repeats, links_load, notice_weight, post_weight, posts_in, request_load, seat_repeats, seat_load, seat_rest, seats_load, weight, weights}
+use Rattle.at_model.specs.Posts.{notice_post}
+use Rattle.at_model.specs.Seats.{moved, notices_to, seat_target, send_each, sent_to}
+use Rattle.model_laws.proofs.Deciding.{DecisionSays, IfThere}
+use Rattle.settling.specs.Load.{Prices, again, held, link_repeats, links_load, notice_weight, post_weight, seat_repeats, seat_load, seat_rest, seats_load, weights}
 
 -- sums
 pub weights_join : (P : Prices) (ps qs : List Post) → weights P (ps ++ qs) ≡ weights P ps + weights P qs
