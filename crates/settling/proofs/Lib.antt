@@ -1,5 +1,6 @@
 pub mod Acting
 pub mod Affording
+pub mod Caps
 pub mod Completing
 pub mod Costs
 pub mod Entries

@@ -23,11 +23,18 @@ use Rattle.model_laws.specs.Shapes.{Answers, IsAnswer, MakesActivity, MovesActiv
 use Rattle.model_laws.proofs.Deciding.{Both, all_find, decided_says, found_id, in_branch, plain_both}
 use Rattle.model_laws.proofs.Keeping.{register_kept}
 use Rattle.model_laws.proofs.Linking.{Linked}
+use Rattle.model_laws.proofs.Reaching.{run_reached}
 use Rattle.model_laws.proofs.Shaping.{steps_touch_one}
+use Rattle.model_laws.proofs.Standing.{decides_behind_every_answer}
+use Rattle.model_laws.specs.Reached.{Reached}
+use Rattle.agreement.proofs.Finishing.{finishes_all}
+use Rattle.agreement.proofs.SeatedBooks.{IsSoundBook, book_sound}
+use Rattle.at_model.specs.World.{Node, World, nth, run_of}
 use Rattle.agreement.specs.Finished.{IsFinished}
 use Rattle.settling.specs.Load.{Prices, activity_load, items_load, leaf_load, load, posts_in, transaction_load, weight, weights}
 use Rattle.settling.specs.Pays.{IsSteady, MakesNothing, Pays, after}
 use Rattle.settling.proofs.Acting.{Acted, seat_paid, spends}
+use Rattle.settling.proofs.Caps.{book_most}
 use Rattle.settling.proofs.Completing.{Covers, completion_paid, due_paid, left_load, with_answer_covered}
 use Rattle.settling.proofs.Costs.{completion_within, spare, spare_is}
 use Rattle.settling.proofs.Leaving.{LeafActed, LeafCovers, leaf_due_paid, leaf_paid, left_leaf}
@@ -38,16 +45,16 @@ use Rattle.settling.proofs.Running.{ActivityActed, ActivityCovers, activity_due_
 use Rattle.settling.proofs.Weighing.{AnyEntry, sum_filter, sum_put}
 
 -- what an event may spend: a message all of its weight but 1
-abbrev allowance : Prices → Message → ℕ
+abbrev pub allowance : Prices → Message → ℕ
 allowance P (messages.Notice n) = spare n
 allowance P (messages.Register r) = 9 + P.seat
 allowance P other = 0
 
-abbrev allowed : Prices → Event → ℕ
+abbrev pub allowed : Prices → Event → ℕ
 allowed P (events.Arrived a) = allowance P a.message
 allowed P other = 0
 
-allowance_less : (P : Prices) (x : Message) → MakesNothing x → allowance P x + 1 ≤ weight P x
+pub allowance_less : (P : Prices) (x : Message) → MakesNothing x → allowance P x + 1 ≤ weight P x
 allowance_less P (messages.Notice n) h = omega (arith, spare_is n)
 allowance_less P (messages.Register r) h = omega arith
 allowance_less P (messages.Create c) h = absurd h
@@ -62,14 +69,14 @@ arrived_allows : (P : Prices) (e : Event) (a : Arrived) → e ≡ events.Arrived
 arrived_allows P e a came = subst (λ x. spends a.message ≤ allowed P x) (sym came) (spends_less P a.message)
 
 -- an event that makes nothing
-abbrev Plain : Event → Type 0
+abbrev pub Plain : Event → Type 0
 Plain (events.Arrived a) = MakesNothing a.message
 Plain (events.Local l) = ⊥
 Plain other = Unit {0}
 
 -- what a step comes to is within the limit
-record Within (P : Prices) (now limit : ℕ) (o : Outcome) : Type 0 where
-  paid : after P now o ≤ limit
+pub record Within (P : Prices) (now limit : ℕ) (o : Outcome) : Type 0 where
+  pub paid : after P now o ≤ limit
 
 same_time : (P : Prices) (now s : ℕ) (b : Book) → items_load P (max now (max now s)) b ≡ items_load P (max now s) b
 same_time P now s b = let same : max now (max now s) ≡ max now s = omega arith in ap (λ n. items_load P n b) same
@@ -204,7 +211,7 @@ by_shape P b e now p g h (time_passes came f) =
     subst (Both (Within P now (load P now b + allowed P e))) (sym f)
     (plain_both (Within P now (load P now b + allowed P e)) (still (at_time now b) accepted) (record { paid = omega (arith, same_time P now b.seen (at_time now b)) }))
 by_shape P b e now p g h (transaction_moves id t answer d stands how o f) =
-    let (free, paid, less) = moved_paid P b e now t d (all_find Linked transaction_id id b.transactions t g.links stands) (all_find IsFinished transaction_id id b.transactions t g.finished stands) how in
+    let (free, paid, less) = moved_paid P b e now t d (all_find Linked transaction_id id b.transactions t g.phases.links stands) (all_find IsFinished transaction_id id b.transactions t g.finished stands) how in
     subst (Both (Within P now (load P now b + allowed P e))) (sym f)
     (decided_says (Covers P (time_of b now) (transaction_load P (time_of b now) t + free)) AnyEntry (Within P now (load P now b + allowed P e)) (λ r x k. record { paid = k.paid }) b
     (put_transaction t.id (at_time now b)) answer (with_answer (moment_of b now) t d) (with_answer_covered P (moment_of b now) free t d paid)
@@ -228,11 +235,19 @@ by_shape P b e now p g h (transaction_made a c id t os came at says next made se
 by_shape P b e now p g h (leaf_made a w id l os came at says next made sent o f) = absurd (makes e a (messages.Work w) h came says)
 by_shape P b e now p g h (activity_made id a os next made o f) = absurd (no_making e b now id a os h made)
 
-step_within : (P : Prices) (b : Book) (e : Event) (now : ℕ) (landed : Bool) → IsSteady b → Plain e → Within P now (load P now b + allowed P e) (step b e now landed)
+pub step_within : (P : Prices) (b : Book) (e : Event) (now : ℕ) (landed : Bool) → IsSteady b → Plain e → Within P now (load P now b + allowed P e) (step b e now landed)
 step_within P b e now landed g h = in_branch (Within P now (load P now b + allowed P e)) (plan b e now) landed (by_shape P b e now (plan b e now) g h (steps_touch_one b e now))
+
+pub stays_steady : (b : Book) (e : Event) (now : ℕ) (landed : Bool) → IsSteady b → IsSteady (step b e now landed).book
+stays_steady b e now landed g = record { phases = decides_behind_every_answer.book b e now landed g.phases; finished = finishes_all.book b e now landed g.phases g.finished }
+
+pub steady_books : (count : ℕ) (w : World) → Reached count w → (n : ℕ) (x : Node) (b : Book) → nth n w.nodes ≡ Some x → x.book ≡ Some b → IsSteady b
+steady_books count w reached n x b found up = let sound : IsSoundBook x.journal b = book_sound count w reached n x b found up in record { phases = sound.phases; finished = sound.finished }
 
 pub pays : Pays
 pays = record {
   arrival = λ P b a now landed g h. omega (arith, (step_within P b (events.Arrived a) now landed g h).paid, allowance_less P a.message h);
   due = λ P b item now landed g. omega (arith, (step_within P b (events.Due item) now landed g tt).paid);
+  stays = stays_steady;
+  books = λ count es n x b found up. steady_books count (run_of count es) (run_reached count es) n x b found up;
 }

@@ -3,7 +3,8 @@
 ghost use Rattle.settling.specs.Pays.{Pays};
 
 /// Whatever a book posts it pays for with its load: each message that comes, and isn't one that makes something, leaves the
-/// load and the weight of what is posted lower than the load and its own weight were, and what is due leaves them no higher.
+/// load and the weight of what is posted lower than the load and its own weight were, and what is due leaves them no higher. So it
+/// is with each book of each run.
 #[tactic(auto, using(crate::proofs::Paying::pays))]
 pub fn pays()
     ensures { Pays }
