@@ -10,5 +10,7 @@ pub mod Numbering
 pub mod Paying
 pub mod Phasing
 pub mod Registering
+pub mod Rounding
 pub mod Running
+pub mod Turning
 pub mod Weighing

@@ -34,7 +34,6 @@ use Rattle.agreement.specs.Finished.{IsFinished}
 use Rattle.settling.specs.Load.{Prices, activity_load, items_load, leaf_load, load, posts_in, transaction_load, weight, weights}
 use Rattle.settling.specs.Pays.{IsSteady, MakesNothing, Pays, after}
 use Rattle.settling.proofs.Acting.{Acted, seat_paid, spends}
-use Rattle.settling.proofs.Caps.{book_most}
 use Rattle.settling.proofs.Completing.{Covers, completion_paid, due_paid, left_load, with_answer_covered}
 use Rattle.settling.proofs.Costs.{completion_within, spare, spare_is}
 use Rattle.settling.proofs.Leaving.{LeafActed, LeafCovers, leaf_due_paid, leaf_paid, left_leaf}

@@ -1,2 +1,3 @@
+pub mod Drains
 pub mod Load
 pub mod Pays

@@ -9,3 +9,8 @@ ghost use Rattle.settling.specs.Pays.{Pays};
 pub fn pays()
     ensures { Pays }
 {}
+
+#[tactic(auto, using(crate::proofs::Rounding::todo))]
+pub fn drains()
+    ensures { Pays }
+{}

@@ -1,0 +1,2 @@
+-- draft
+use Rattle.std.specs.Prelude.{ℕ}
