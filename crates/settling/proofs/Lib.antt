@@ -3,12 +3,14 @@ pub mod Affording
 pub mod Caps
 pub mod Completing
 pub mod Costs
+pub mod Delivering
 pub mod Entries
 pub mod Leaving
 pub mod Links
 pub mod Numbering
 pub mod Paying
 pub mod Phasing
+pub mod Places
 pub mod Registering
 pub mod Rounding
 pub mod Running

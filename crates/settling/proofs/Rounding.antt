@@ -1,5 +1,8 @@
 -- Every round drains.
+use Rattle.settling.specs.Drains.{Drains}
 use Rattle.settling.proofs.Caps.{book_most}
 use Rattle.settling.proofs.Turning.{turn_ends}
-pub todo : Type 0
-todo = Unit {0}
+use Rattle.settling.proofs.Delivering.{next_lowers}
+
+pub drains : Drains
+drains = ?

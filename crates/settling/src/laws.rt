@@ -1,5 +1,6 @@
 //! What leads to settling.
 
+ghost use Rattle.settling.specs.Drains.{Drains};
 ghost use Rattle.settling.specs.Pays.{Pays};
 
 /// Whatever a book posts it pays for with its load: each message that comes, and isn't one that makes something, leaves the
@@ -10,7 +11,8 @@ pub fn pays()
     ensures { Pays }
 {}
 
-#[tactic(auto, using(crate::proofs::Rounding::todo))]
+/// The events that bring a world to rest are few, and every round of them ends with no message left to deliver.
+#[tactic(auto, using(crate::proofs::Rounding::drains))]
 pub fn drains()
-    ensures { Pays }
+    ensures { Drains }
 {}
