@@ -1,7 +1,7 @@
 -- How much a book may hold at any time, and how much it holds at least, by what it has to wait for.
-use Rattle.std.specs.Prelude.{ℕ, List, [], ◌∷◌, Option, Some, None, Bool, true, false, ◌+◌, ◌*◌, length, ◌≡◌, ◌≤◌, refl}
+use Rattle.std.specs.Prelude.{ℕ, List, [], ◌∷◌, Option, Some, None, Bool, true, false, ◌+◌, ◌*◌, length, ◌≤◌}
 use Rattle.std.specs.List.{sum_by}
-use Rattle.std.proofs.Common.{arith, sym, subst, ap}
+use Rattle.std.proofs.Common.{arith, ap}
 use Rattle.std.proofs.lemmas.List.Sums.{sum_by-cons}
 use Rattle.at_base.specs.declared.notice.Notice.{Notice}
 use Rattle.at_base.specs.declared.notice.Notice.TheVariants as notices
@@ -11,7 +11,7 @@ use Rattle.at_model.specs.Arrivals.{request_of}
 use Rattle.at_model.specs.Book.{Activity, Book, Completion, Enlistment, Leaf, Phase, Progress, Request, Superior, Transaction}
 use Rattle.at_model.specs.Due.{is_quiet}
 use Rattle.model_laws.specs.Settle.{completions_held, links_held, others_in, seats_held, seats_in, superior_links}
-use Rattle.settling.specs.Load.{Prices, activity_load, again, completion_load, initiator_rest, items_load, leaf_load, leaf_rest, link_load, link_repeats, link_rest, links_load, notice_weight, progress_load, request_load, seat_load, seat_repeats, seat_rest, seats_load, transaction_load}
+use Rattle.settling.specs.Load.{Prices, activity_load, again, completion_load, initiator_rest, items_load, leaf_load, leaf_rest, link_repeats, link_rest, links_load, notice_weight, progress_load, request_load, seat_load, seat_repeats, seat_rest, seats_load, transaction_load}
 
 -- at most for each seat, and for each other thing
 abbrev pub seat_most : Prices → ℕ

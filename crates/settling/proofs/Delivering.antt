@@ -1,5 +1,5 @@
 -- Each delivery lowers what is on its way and what the books hold.
-use Rattle.std.specs.Prelude.{ℕ, List, [], ◌∷◌, ◌++◌, Option, Some, None, Bool, true, false, ◌+◌, if◌then◌else◌, drop, length, option_and_then, ◌≡◌, ◌≤◌, ◌<◌, refl}
+use Rattle.std.specs.Prelude.{ℕ, List, [], ◌++◌, Option, Some, None, Bool, true, false, ◌+◌, if◌then◌else◌, drop, length, option_and_then, ◌≡◌, ◌≤◌, ◌<◌, refl}
 use Rattle.std.specs.List.{sum_by, AllByRecursion}
 use Rattle.std.proofs.Common.{arith, sym, subst, ap, ◌∙◌}
 use Rattle.std.proofs.lemmas.List.{drop-append-le, drop-drop, length-append}
@@ -9,17 +9,16 @@ use Rattle.at_base.specs.declared.event.Arrived.{Arrived}
 use Rattle.at_base.specs.declared.event.Event.TheVariants as events
 use Rattle.at_base.specs.declared.message.Message.{Message}
 use Rattle.at_base.specs.declared.message.Message.TheVariants as messages
-use Rattle.at_base.specs.declared.notice.Notice.{Notice}
 use Rattle.at_base.specs.declared.outs.Post.{Post}
 use Rattle.at_base.specs.declared.target.Target.{Target}
 use Rattle.at_model.specs.Book.{Book}
-use Rattle.at_model.specs.Step.{plan, step}
+use Rattle.at_model.specs.Step.{plan}
 use Rattle.at_model.specs.World.{Deliver, Node, Posted, Turn, World, answer_plan, arrival_of, arrival_plan, at_some_node, decoded, decoded_at, deliver, is_receiver, nth, on_book, put_nth, take_turn, takes, target_at, turn_from, world_step}
 use Rattle.model_laws.specs.Settle.{first_received}
 use Rattle.model_laws.proofs.Deciding.{IfThere}
 use Rattle.settling.specs.Load.{Prices, load, weight}
-use Rattle.settling.specs.Pays.{IsSteady, MakesNothing, after}
-use Rattle.settling.proofs.Costs.{spare_is, spare_some}
+use Rattle.settling.specs.Pays.{IsSteady, MakesNothing}
+use Rattle.settling.proofs.Costs.{spare_is}
 use Rattle.settling.proofs.Paying.{allowance, allowance_less, stays_steady, step_within}
 use Rattle.settling.proofs.Places.{Found, all_nth, all_put_nth, first_found, nth_drop, nth_within, sum_put_nth}
 use Rattle.settling.proofs.Turning.{Turned, posted_weight, queued, turn_ends}

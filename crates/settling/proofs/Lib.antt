@@ -4,6 +4,7 @@ pub mod Caps
 pub mod Completing
 pub mod Costs
 pub mod Delivering
+pub mod Draining
 pub mod Entries
 pub mod Leaving
 pub mod Links
@@ -14,5 +15,7 @@ pub mod Places
 pub mod Registering
 pub mod Rounding
 pub mod Running
+pub mod Runs
+pub mod Ticking
 pub mod Turning
 pub mod Weighing

@@ -1,5 +1,5 @@
 -- Messages and nodes by their numbers.
-use Rattle.std.specs.Prelude.{ℕ, List, [], ◌∷◌, ◌++◌, Option, Some, None, Bool, true, false, nat_eq, ◌+◌, ◌-◌, if◌then◌else◌, drop, length, zero, suc, ◌≡◌, ◌≤◌, refl}
+use Rattle.std.specs.Prelude.{ℕ, List, [], ◌∷◌, Option, Some, None, Bool, true, false, nat_eq, ◌+◌, ◌-◌, if◌then◌else◌, drop, length, zero, suc, ◌≡◌, ◌≤◌, refl}
 use Rattle.std.specs.List.{sum_by, AllByRecursion}
 use Rattle.std.proofs.Common.{arith, sym, subst, ap, ◌∙◌}
 use Rattle.std.proofs.lemmas.Bool.{eqb-true}

@@ -4,7 +4,6 @@ use Rattle.std.specs.List.{sum_by}
 use Rattle.std.proofs.Common.{arith, sym, subst, ap, ◌∙◌}
 use Rattle.std.proofs.lemmas.List.{append-nil, append_assoc}
 use Rattle.std.proofs.lemmas.List.Sums.{sum_by-cons, sum_by-append}
-use Rattle.at_base.specs.declared.event.Event.{Event}
 use Rattle.at_base.specs.declared.event.Event.TheVariants as events
 use Rattle.at_base.specs.declared.event.Item.{Item}
 use Rattle.at_base.specs.declared.outs.Out.{Out}
@@ -13,11 +12,11 @@ use Rattle.at_base.specs.declared.outs.Post.{Post}
 use Rattle.at_base.specs.declared.record.Record.{Record}
 use Rattle.at_model.specs.Book.{Book}
 use Rattle.at_model.specs.Step.{Outcome, Plan, is_due, items_of, plan}
-use Rattle.at_model.specs.World.{Node, Posted, Turning, World, accepted_in, counted, due_step, due_steps, happened_at, journaled, nth, put_book, put_nth, receiver_of, send_all, step_by, take_step, take_turn, turned, with_post, with_record}
+use Rattle.at_model.specs.World.{Node, Posted, Turning, World, accepted_in, counted, due_step, due_steps, happened_at, nth, put_book, put_nth, receiver_of, send_all, step_by, take_step, take_turn, turned, with_post, with_record}
 use Rattle.model_laws.specs.Reached.{post_all}
 use Rattle.model_laws.proofs.Nodes.{put_put, put_same}
 use Rattle.model_laws.proofs.Running.{put_this}
-use Rattle.settling.specs.Load.{Prices, load, post_weight, posts_in, weight, weights}
+use Rattle.settling.specs.Load.{Prices, load, post_weight, posts_in, weights}
 use Rattle.settling.specs.Pays.{IsSteady, after}
 use Rattle.settling.proofs.Paying.{stays_steady, step_within}
 
@@ -40,7 +39,7 @@ send_calm n (outs.Answer status reply ∷ os) w b = send_calm n os w b
 abbrev posted_by : ℕ → List Node → Post → Posted
 posted_by n nodes p = record { sender = n; receiver = receiver_of nodes p.to; content = p }
 
-posts_nodes : (n : ℕ) (ps : List Post) (w : World) → (post_all n ps w).nodes ≡ w.nodes
+pub posts_nodes : (n : ℕ) (ps : List Post) (w : World) → (post_all n ps w).nodes ≡ w.nodes
 posts_nodes n [] w = refl
 posts_nodes n (p ∷ ps) w = posts_nodes n ps (with_post n p w)
 

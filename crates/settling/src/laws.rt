@@ -12,7 +12,7 @@ pub fn pays()
 {}
 
 /// The events that bring a world to rest are few, and every round of them ends with no message left to deliver.
-#[tactic(auto, using(crate::proofs::Rounding::drains))]
+#[tactic(auto, using(crate::proofs::Draining::drains))]
 pub fn drains()
     ensures { Drains }
 {}
