@@ -21,10 +21,10 @@ free_prices most = record { seat = 0; other = 0; making = most + 1 }
 
 round_drains : (count most : ℕ) (s : Settling) → IsOfRun count s.world → 8 * seats_of s.world + 13 * others_of s.world ≤ most → IsDrained most s
 unfolding settle_round free_prices
-round_drains count most s r h extra =
+round_drains count most s r h =
     let P : Prices = free_prices most in
     let g : Good P (seat_most P * seats_of s.world + other_most P * others_of s.world) (length s.world.posted) (all_also (ticks 1 s.world.nodes) s).world = begun_good P count s r in
-    drained P most extra (length s.world.posted) (all_also (ticks 1 s.world.nodes) s) (record { passed = g.passed; paid = omega (arith, g.paid, h); steady = g.steady }) (omega arith)
+    drained P most (length s.world.posted) (all_also (ticks 1 s.world.nodes) s) (record { passed = g.passed; paid = omega (arith, g.paid, h); steady = g.steady }) (omega arith)
 
 -- The worlds on the way.
 deliveries_run : (count most j : ℕ) (s : Settling) → IsOfRun count s.world → IsOfRun count (deliveries_from most j s).world

@@ -8,6 +8,7 @@ use Rattle.at_model.specs.Book.{Book}
 use Rattle.at_model.specs.Due.{resend_after}
 use Rattle.at_model.specs.World.{Deliver, Node, Tick, Turn, World, WorldEvent, world_step}
 use Rattle.model_laws.specs.Settle.{Settling, all_also, also, deliver_next, deliveries_from, first_received, others_in, seats_in, ticks}
+use Rattle.settling.specs.Drains.{Delivers, none_left, one_more}
 use Rattle.settling.specs.Load.{Prices}
 use Rattle.settling.proofs.Caps.{book_least, other_most, seat_most}
 use Rattle.settling.proofs.Delivering.{AreSteady, Lowers, burden, held_at, node_load, next_lowers}
@@ -44,14 +45,9 @@ walk P limit (suc most) j s g h = by_next (next j s.world) refl (λ p t i. walk 
         let l : Lowers P k (burden P j s.world) (world_step s.world (Turn n (Deliver k) [] None)) = good_next P limit j k n s.world g h e in
         rest k (also (Turn n (Deliver k) [] None) s) (record { passed = l.passed; paid = omega (arith, l.paid, g.paid); steady = l.steady })
 
--- where there is no message left, more deliveries change nothing
-stopped : (n j : ℕ) (s : Settling) → next j s.world ≡ None → deliveries_from n j s ≡ s
-unfolding deliveries_from
-stopped zero j s e = refl
-stopped (suc n) j s e = ap (λ o. deliver_next o (deliveries_from n) s) e
-
-none_left : (P : Prices) (j : ℕ) (w : World) → Good P 0 j w → 0 < P.making → next j w ≡ None
-none_left P j w g h = by_next (next j w) refl
+-- where the burden is no more than the deliveries, they end with no message left
+none_now : (P : Prices) (j : ℕ) (w : World) → Good P 0 j w → 0 < P.making → next j w ≡ None
+none_now P j w g h = by_next (next j w) refl
   where
     by_next : (o : Option (ℕ × ℕ)) → next j w ≡ o → next j w ≡ None
     by_next None e = e
@@ -59,19 +55,17 @@ none_left P j w g h = by_next (next j w) refl
         let l : Lowers P k (burden P j w) (world_step w (Turn n (Deliver k) [] None)) = good_next P 0 j k n w g h e in
         absurd (omega (arith, l.paid, g.paid))
 
-pub drained : (P : Prices) (most extra j : ℕ) (s : Settling) → Good P most j s.world → most < P.making → deliveries_from (most + extra) j s ≡ deliveries_from most j s
+pub drained : (P : Prices) (most j : ℕ) (s : Settling) → Good P most j s.world → most < P.making → Delivers (deliveries_from most j s) j s
 unfolding deliveries_from
-drained P zero extra j s g h = let same : zero + extra ≡ extra = omega arith in ap (λ m. deliveries_from m j s) same ∙ stopped extra j s (none_left P j s.world g h)
-drained P (suc most) extra j s g h =
-    let same : suc most + extra ≡ suc (most + extra) = omega arith in
-    ap (λ m. deliveries_from m j s) same ∙ by_next (next j s.world) refl (λ p t i. drained P most extra p t i (omega (arith, h)))
+drained P zero j s g h = none_left (none_now P j s.world g h) refl
+drained P (suc most) j s g h = by_next (next j s.world) refl (λ p t i. drained P most p t i (omega (arith, h)))
   where
-    by_next : (o : Option (ℕ × ℕ)) → next j s.world ≡ o → ((p : ℕ) (t : Settling) → Good P most p t.world → deliveries_from (most + extra) p t ≡ deliveries_from most p t)
-        → deliver_next o (deliveries_from (most + extra)) s ≡ deliver_next o (deliveries_from most) s
-    by_next None e rest = refl
+    by_next : (o : Option (ℕ × ℕ)) → next j s.world ≡ o → ((p : ℕ) (t : Settling) → Good P most p t.world → Delivers (deliveries_from most p t) p t)
+        → Delivers (deliver_next o (deliveries_from most) s) j s
+    by_next None e rest = none_left e refl
     by_next (Some (k, n)) e rest =
         let l : Lowers P k (burden P j s.world) (world_step s.world (Turn n (Deliver k) [] None)) = good_next P (suc most) j k n s.world g h e in
-        rest k (also (Turn n (Deliver k) [] None) s) (record { passed = l.passed; paid = omega (arith, l.paid, g.paid); steady = l.steady })
+        one_more k n e (rest k (also (Turn n (Deliver k) [] None) s) (record { passed = l.passed; paid = omega (arith, l.paid, g.paid); steady = l.steady }))
 
 -- the ticks of a round
 ticked_all : (P : Prices) (count j limit u : ℕ) (xs : List Node) (s : Settling) → IsOfRun count s.world → u + length xs ≡ count → Ticks P j u limit s.world

@@ -1,7 +1,7 @@
 -- Every round of settling drains: it ends with no message left to deliver, before its deliveries are spent.
-use Rattle.std.specs.Prelude.{ℕ, List, ◌+◌, ◌≡◌, ◌≤◌, ◌<◌, length}
-use Rattle.at_model.specs.World.{WorldEvent, run_of}
-use Rattle.model_laws.specs.Settle.{Settling, all_up, most_deliveries, settle, settle_bound, settle_round, settle_rounds, waiting}
+use Rattle.std.specs.Prelude.{ℕ, List, [], Some, None, ◌+◌, ◌≡◌, ◌≤◌, ◌<◌, drop, length}
+use Rattle.at_model.specs.World.{Deliver, Turn, WorldEvent, run_of}
+use Rattle.model_laws.specs.Settle.{Settling, all_also, all_up, also, first_received, most_deliveries, settle, settle_bound, settle_round, settle_rounds, ticks, waiting}
 
 -- the world with every node up, as the rounds begin
 abbrev pub risen : ℕ → List WorldEvent → Settling
@@ -11,9 +11,15 @@ risen count es = all_up (run_of count es)
 abbrev pub granted : Settling → ℕ
 granted s = most_deliveries (waiting s.world)
 
--- A round drains where a grant of more deliveries changes nothing.
+-- Deliveries that lead to this last world, each time of the lowest message that has a receiver, behind those that were passed
+-- by: until no such message is left.
+pub data Delivers (last : Settling) : ℕ → Settling → Type 0 where
+  none_left : {j : ℕ} {s : Settling} → first_received (j + 1) (drop j s.world.posted) ≡ None → last ≡ s → Delivers last j s
+  one_more : {j : ℕ} {s : Settling} (k n : ℕ) → first_received (j + 1) (drop j s.world.posted) ≡ Some (k, n) → Delivers last k (also (Turn n (Deliver k) [] None) s) → Delivers last j s
+
+-- A round drains where it delivers, behind its ticks, until no message of the round is left.
 abbrev pub IsDrained : ℕ → Settling → Type 0
-IsDrained most s = (extra : ℕ) → settle_round (most + extra) s ≡ settle_round most s
+IsDrained most s = Delivers (settle_round most s) (length s.world.posted) (all_also (ticks 1 s.world.nodes) s)
 
 -- In each run, whatever was lost, repeated, delayed or crashed before, the events that settle its world are few, and each of
 -- the eight rounds drains.
