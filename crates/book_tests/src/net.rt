@@ -164,7 +164,7 @@ fn both(
 
 fn new_book(alloc: Global, node: &str, incarnation: u32) -> Result<Book, AllocError> {
     let base = base_of(alloc, node)?;
-    Book::new(alloc, base, incarnation.max(1))
+    Book::recover(alloc, &base, &[], &[], incarnation.max(1))
 }
 
 fn new_nodes(alloc: Global) -> Result<Vec<Node>, AllocError> {

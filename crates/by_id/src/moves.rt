@@ -16,11 +16,21 @@ use std::alloc::{AllocError, Global};
 use std::marker::Model;
 
 /// An item on its way through a step: as it stands, what it posts, and what happened, in order.
-#[derive(Debug, Drop)]
+#[derive(Debug)]
 pub struct Moving<T> {
     pub item: T,
     pub posts: PostList,
     pub effects: Effects,
+}
+
+impl<T: Drop> Drop for Moving<T> {
+    fn drop(self) {
+        let Moving {
+            item: _item,
+            posts: _posts,
+            effects: _effects,
+        } = self;
+    }
 }
 
 impl<T> Model for Moving<T> {
@@ -32,11 +42,21 @@ impl<T> Model for Moving<T> {
 }
 
 /// What became of an item: none where it is forgotten.
-#[derive(Debug, Drop)]
+#[derive(Debug)]
 pub struct Change<T> {
     pub item: Option<T>,
     pub posts: PostList,
     pub effects: Effects,
+}
+
+impl<T: Drop> Drop for Change<T> {
+    fn drop(self) {
+        let Change {
+            item: _item,
+            posts: _posts,
+            effects: _effects,
+        } = self;
+    }
 }
 
 impl<T> Model for Change<T> {
@@ -90,10 +110,15 @@ impl<T: Drop> Moving<T> {
     pub fn stays(self) -> Change<T>
         ensures { result ≡ stays self }
     {
+        let Moving {
+            item,
+            posts,
+            effects,
+        } = self;
         Change {
-            item: Some(self.item),
-            posts: self.posts,
-            effects: self.effects,
+            item: Some(item),
+            posts,
+            effects,
         }
     }
 
@@ -101,10 +126,15 @@ impl<T: Drop> Moving<T> {
     pub fn forgotten(self) -> Change<T>
         ensures { result ≡ forgotten self }
     {
+        let Moving {
+            item: _item,
+            posts,
+            effects,
+        } = self;
         Change {
             item: None,
-            posts: self.posts,
-            effects: self.effects,
+            posts,
+            effects,
         }
     }
 }
@@ -161,15 +191,17 @@ impl<T: Drop> Change<T> {
     pub fn into_branch(self, mut answer: OutList, id: Id) -> Result<Branch<T>, AllocError>
         ensures { IfOk result (λ branch. branch ≡ changed answer id self) }
     {
-        add_posts(&mut answer, self.posts)?;
+        let Change {
+            item,
+            posts,
+            effects,
+        } = self;
+        add_posts(&mut answer, posts)?;
         Ok(Branch {
-            change: Alteration::Put {
-                id,
-                item: self.item,
-            },
+            change: Alteration::Put { id, item },
             outs: Outs {
                 outs: answer,
-                effects: self.effects,
+                effects,
             },
         })
     }

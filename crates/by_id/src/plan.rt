@@ -17,7 +17,7 @@ pub struct Branch<T> {
 /// What an event does to a list: at once, or behind one record.
 ///
 /// It holds whole items, so it can be done to the list at any time, and takes no memory then.
-#[derive(Debug, PartialEq, Eq, Drop)]
+#[derive(Debug, PartialEq, Eq)]
 pub enum Plan<T> {
     Plain(Branch<T>),
     Recorded {
@@ -27,6 +27,19 @@ pub enum Plan<T> {
         /// Where it is certainly absent.
         absent: Branch<T>,
     },
+}
+
+impl<T: Drop> Drop for Plan<T> {
+    fn drop(self) {
+        match self {
+            Plan::Plain(_branch) => {}
+            Plan::Recorded {
+                entry: _entry,
+                landed: _landed,
+                absent: _absent,
+            } => {}
+        }
+    }
 }
 
 impl<T: Drop> Plan<T> {
@@ -61,9 +74,9 @@ impl<T: Drop> Plan<T> {
         match self {
             Plan::Plain(branch) => branch,
             Plan::Recorded {
+                entry: _entry,
                 landed: stands,
                 absent,
-                ..
             } => { if landed { stands } else { absent } }
         }
     }

@@ -23,7 +23,7 @@ pub enum Progress {
 }
 
 /// What an initiator runs: a transaction that it began, or a context that it interposed in one.
-#[derive(Debug, Drop)]
+#[derive(Debug)]
 pub struct Activity {
     pub id: Id,
     /// The activity that was begun; its own id where it was begun itself.
@@ -39,6 +39,21 @@ pub struct Activity {
     pub deadline: Option<u128>,
     /// When it last sent a message that is repeated, in milliseconds.
     pub sent: Option<u64>,
+}
+
+impl Drop for Activity {
+    fn drop(self) {
+        let Activity {
+            id: _id,
+            root: _root,
+            progress: _progress,
+            context: _context,
+            coordinator: _coordinator,
+            works: _works,
+            deadline: _deadline,
+            sent: _sent,
+        } = self;
+    }
 }
 
 impl Model for Activity {

@@ -41,7 +41,7 @@ fn deadline_of(now: u64, expires: Option<u32>) -> Option<u128>
 }
 
 /// The Identifier of a root.
-fn identifier_of(alloc: Global, base: &Text, id: Id) -> Result<Text, AllocError>
+pub fn identifier_of(alloc: Global, base: &Text, id: Id) -> Result<Text, AllocError>
     ensures { IfOk result (λ identifier. identifier ≡ identifier_of base.now id) }
 {
     Ok(Text::from_string(format!(in alloc; "{}/t/{}", base, id)?))

@@ -4,5 +4,6 @@
 
 pub mod create;
 pub mod due;
+mod recover;
 pub mod register;
 pub mod transactions;

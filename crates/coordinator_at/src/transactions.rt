@@ -325,15 +325,6 @@ fn push_lost_subordinates(effects: &mut Effects, live: &[Transaction]) -> Result
 }
 
 impl Transactions {
-    /// No transactions, and room for as many as may live.
-    pub fn new(alloc: Global) -> Result<Transactions, AllocError>
-        ensures { IfOk result (λ transactions. transactions ≡ []) }
-    {
-        Ok(Transactions {
-            live: ById::new(alloc)?,
-        })
-    }
-
     /// The transactions of a recovered node.
     pub fn from_vec(items: Vec<Transaction>) -> Result<Transactions, AllocError>
         ensures { IfOk result (λ transactions. transactions ≡ items.items) }

@@ -1,5 +1,7 @@
 pub mod Modelled
 pub mod Parting
+pub mod Recovering
+pub mod Sorting
 pub mod Taking
 pub mod Undrawn
 pub mod Finding

@@ -1,5 +1,5 @@
 -- The plan of a book is the model's plan of the event.
-use Rattle.std.proofs.Common.{ℕ, List, [], ◌++◌, Option, Some, None, Bool, true, false, ◌≡◌, refl, sym, ◌∙◌, ap, subst, IsTrue, map}
+use Rattle.std.proofs.Common.{ℕ, Option, Some, None, Bool, true, false, ◌≡◌, refl, sym, ◌∙◌, ap, subst}
 use Rattle.std.specs.Prelude.{is_some}
 use Rattle.at_base.specs.Numbers.{Numbers}
 use Rattle.at_base.specs.declared.notice.Kind.{Kind}
@@ -17,16 +17,15 @@ use Rattle.at_base.specs.declared.event.Event.{Event}
 use Rattle.at_base.specs.declared.event.Event.TheVariants as events
 use Rattle.at_tables.specs.declared.cells.Cell.{Cell}
 use Rattle.at_tables.specs.declared.cells.State.TheVariants as states
-use Rattle.at_tables.specs.Names.{is_kind}
 use Rattle.at_tables.specs.Tables.{coordinator_of, participant_of, completion_of, initiator_of}
-use Rattle.at_model.specs.Book.{Book, Transaction, Leaf, Activity, Enlistment, Completion, Superior, next_id}
+use Rattle.at_model.specs.Book.{Book, Transaction, Leaf, Activity, Enlistment, Completion, Superior}
 use Rattle.at_model.specs.Activities.{Refusal}
-use Rattle.at_model.specs.Step.{Plan, plain, plan, at_time, moment_of, transaction_at, leaf_at, activity_at, stranger_plan, activation_plan, registration_plan, completion_seat_plan, completion_plan, find_seat, seat_plan, coordinator_plan, leaf_or_stranger_plan, link_plan, participant_plan, initiator_plan, work_plan, arrived_plan, local_plan, transaction_due_plan, leaf_due_plan, activity_due_plan, due_plan, refuses, outcome_plan, seatless_plan, has_committed}
+use Rattle.at_model.specs.Step.{Plan, plain, plan, moment_of, transaction_at, leaf_at, activity_at, stranger_plan, activation_plan, registration_plan, completion_seat_plan, completion_plan, find_seat, seat_plan, coordinator_plan, leaf_or_stranger_plan, link_plan, participant_plan, initiator_plan, work_plan, arrived_plan, local_plan, transaction_due_plan, leaf_due_plan, activity_due_plan, due_plan, refuses, outcome_plan, seatless_plan, has_committed}
 use Rattle.participant_at.specs.Planning.{leaves_plan, has_kind}
 use Rattle.participant_at.specs.Whole.{whole as of_leaves, IsForLeafAt, PlansAsTheModel as LeavesAsTheModel}
-use Rattle.coordinator_at.specs.Planning.{transactions_plan, has_initiator, has_seat, has_superior}
+use Rattle.coordinator_at.specs.Planning.{transactions_plan, has_initiator, has_seat}
 use Rattle.coordinator_at.specs.Whole.{whole as of_transactions, IsForTransactionAt, PlansAsTheModel as TransactionsAsTheModel}
-use Rattle.completion_at.specs.Planning.{activities_plan, refused_at}
+use Rattle.completion_at.specs.Planning.{activities_plan}
 use Rattle.completion_at.specs.Whole.{whole as of_activities, IsForActivityAt, PlansAsTheModel as ActivitiesAsTheModel, RefusesAsTheModel}
 use Rattle.interposition.specs.declared.plan.Part.{Part}
 use Rattle.interposition.specs.declared.plan.Part.TheVariants as parts

@@ -1,5 +1,5 @@
 -- A part of a plan makes an item only where the counter isn't spent.
-use Rattle.std.proofs.Common.{ℕ, List, Option, Some, None, Bool, true, false, nat_lt, ◌≡◌, refl, sym, ◌∙◌}
+use Rattle.std.proofs.Common.{ℕ, Option, Some, None, Bool, true, false, nat_lt, ◌≡◌, refl, sym, ◌∙◌}
 use Rattle.std.specs.Prelude.{is_some}
 use Rattle.at_base.specs.Numbers.{Numbers}
 use Rattle.at_base.specs.declared.notice.Kind.{Kind}

@@ -1,33 +1,24 @@
 -- What a part does to a book is what its plan of the whole book says.
-use Rattle.std.proofs.Common.{ℕ, List, Option, Some, None, Bool, true, false, nat_lt, ◌+◌, ◌≡◌, refl, sym, ◌∙◌, ap, subst}
-use Rattle.std.specs.Prelude.{if◌then◌else◌}
-use Rattle.at_base.specs.declared.event.Event.{Event}
-use Rattle.at_base.specs.declared.event.Event.TheVariants as events
-use Rattle.at_base.specs.declared.event.Moment.{Moment}
-use Rattle.at_base.specs.declared.event.Arrived.{Arrived}
+use Rattle.std.proofs.Common.{ℕ, Bool, true, false, nat_lt, ◌≡◌, refl, sym, ◌∙◌, ap, subst}
 use Rattle.at_base.specs.declared.record.Record.{Record}
 use Rattle.at_model.specs.Outcomes.{with_outcome}
-use Rattle.at_model.specs.Book.{Book, Transaction, Leaf, Activity, transaction_id, leaf_id, last_counter, next_id}
-use Rattle.at_model.specs.Step.{Plan, plan, step, branch, at_time, moment_of}
+use Rattle.at_model.specs.Book.{Book, Transaction, Leaf, Activity, transaction_id, leaf_id, last_counter}
+use Rattle.at_model.specs.Step.{plan, branch, at_time, moment_of}
 use Rattle.by_id.specs.Lists.{altered}
-use Rattle.by_id.specs.Plans.{branch_of}
 use Rattle.by_id.specs.declared.list.Alteration.{Alteration}
 use Rattle.by_id.specs.declared.list.Alteration.TheVariants as alterations
-use Rattle.by_id.specs.declared.plan.Branch.{Branch}
 use Rattle.by_id.specs.declared.plan.Plan.{Plan as Planned}
 use Rattle.by_id.specs.declared.plan.Plan.TheVariants as plans
-use Rattle.participant_at.specs.Planning.{leaves_plan}
 use Rattle.participant_at.specs.Whole.{whole as of_leaves, drawn as drawn_leaf, noted_if_done as noted_leaf, PlansAsTheModel as LeavesAsTheModel}
-use Rattle.coordinator_at.specs.Planning.{transactions_plan}
 use Rattle.coordinator_at.specs.Whole.{whole as of_transactions, drawn as drawn_transaction, noted_if_done as noted_transaction, PlansAsTheModel as TransactionsAsTheModel}
-use Rattle.completion_at.specs.Planning.{activities_plan, settled}
+use Rattle.completion_at.specs.Planning.{settled}
 use Rattle.completion_at.specs.Whole.{whole as of_activities, drawn as drawn_activity, noted_if_done as noted_activity, PlansAsTheModel as ActivitiesAsTheModel, RefusesAsTheModel}
 use Rattle.interposition.specs.declared.plan.Part.{Part}
 use Rattle.interposition.specs.declared.plan.Part.TheVariants as parts
-use Rattle.interposition.specs.Doing.{is_addition, is_change, draws, notes_time, drawn, noted, moved, done_part, part_entry, part_outs, kept}
+use Rattle.interposition.specs.Doing.{is_addition, is_change, draws, drawn, noted, done_part, part_entry, part_outs, kept}
 use Rattle.interposition.specs.Planning.{part_of}
 use Rattle.model_laws.specs.Sound.{IsSound, RecordsAreWellFormed}
-use Rattle.interposition.specs.Whole.{IsStep, StepsAsTheModel, KeepsBounds}
+use Rattle.interposition.specs.Whole.{StepsAsTheModel, KeepsBounds}
 use Rattle.interposition.proofs.Modelled.{whole, plans}
 use Rattle.interposition.proofs.Parting.{IsDrawable, part_is_drawable}
 

@@ -30,7 +30,7 @@ use Rattle.by_id.specs.Plans.{decided}
 use Rattle.by_id.specs.declared.plan.Plan.{Plan as Planned}
 use Rattle.participant_at.specs.Planning.{leaves_plan, arrived_at as leaf_arrived_at, work_arrived, leaf_arrived, leaf_asked}
 use Rattle.coordinator_at.specs.Planning.{transactions_plan, arrived_at as transaction_arrived_at, creation_arrived, register_at, registration_arrived, completion_arrived, completion_at, seat_arrived, seat_at, link_arrived, link_at, transaction_asked}
-use Rattle.completion_at.specs.Planning.{activities_plan, arrived_at as activity_arrived_at, activity_arrived, activity_asked, refused_at, unless, taken, begin_asked, interpose_asked, asked_of}
+use Rattle.completion_at.specs.Planning.{activities_plan, arrived_at as activity_arrived_at, activity_arrived, activity_asked, refused_at, unless, taken, asked_of}
 use Rattle.interposition.specs.Doing.{draws}
 
 -- what becomes of one item makes none

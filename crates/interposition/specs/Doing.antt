@@ -1,5 +1,5 @@
 -- What a plan does to a book, where its record landed, and where it didn't.
-use Rattle.std.specs.Prelude.{ℕ, List, Option, Some, None, Bool, true, false, nat_lt, ◌+◌, if◌then◌else◌}
+use Rattle.std.specs.Prelude.{ℕ, List, Option, None, Bool, true, false, nat_lt, ◌+◌, if◌then◌else◌}
 use Rattle.at_base.specs.Numbers.{Numbers}
 use Rattle.at_base.specs.declared.record.Record.{Record}
 use Rattle.at_base.specs.declared.outs.Outs.{Outs}

@@ -1,4 +1,5 @@
 pub mod Doing
 pub mod Due
 pub mod Planning
+pub mod Recovered
 pub mod Whole

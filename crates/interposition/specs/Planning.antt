@@ -1,5 +1,5 @@
 -- What an event does to a book: which of its lists it moves, or how one that finds nothing there is answered.
-use Rattle.std.specs.Prelude.{ℕ, List, [], ◌++◌, Option, Some, None, Bool, true, false, if◌then◌else◌, is_some, map}
+use Rattle.std.specs.Prelude.{ℕ, List, [], ◌++◌, Option, Some, None, Bool, true, false, is_some, map}
 use Rattle.at_base.specs.Numbers.{Numbers}
 use Rattle.at_base.specs.declared.notice.Kind.{Kind}
 use Rattle.at_base.specs.declared.notice.Notice.{Notice}
@@ -19,7 +19,7 @@ use Rattle.at_base.specs.declared.outs.Out.TheVariants as outs
 use Rattle.at_tables.specs.declared.cells.State.TheVariants as states
 use Rattle.at_tables.specs.declared.cells.Cell.{Cell}
 use Rattle.at_tables.specs.Tables.{coordinator_of, participant_of, completion_of, initiator_of}
-use Rattle.at_model.specs.Book.{Book, Transaction, next_id}
+use Rattle.at_model.specs.Book.{Book, Transaction}
 use Rattle.at_model.specs.Posts.{accepted}
 use Rattle.at_model.specs.Register.{protocol_named, register_unknown}
 use Rattle.at_model.specs.Activities.{Refusal}

@@ -1,8 +1,8 @@
 //! A node's book: planned first, and then done.
 
-ghost use Rattle.std.specs.Prelude.{ℕ, ◌≡◌, ◌≤◌, ◌++◌, ◌∷◌, [], IfOk, OnOk, Option, Some, None, option_copied, option_map};
+ghost use Rattle.std.specs.Prelude.{ℕ, List, ◌≡◌, ◌≤◌, ◌++◌, ◌∷◌, [], IfOk, OnOk, Option, Some, None, option_copied, option_map};
 ghost use Rattle.at_base.specs.declared.event.Event.TheVariants as events;
-ghost use Rattle.at_base.specs.declared.record.Record.TheVariants as records;
+ghost use Rattle.at_base.specs.declared.record.Record.{Record};
 ghost use Rattle.at_base.specs.declared.target.Target.TheVariants as targets;
 ghost use Rattle.at_model.specs.Book.{next_id};
 ghost use Rattle.at_model.specs.Recover.{recover};
@@ -13,6 +13,7 @@ ghost use Rattle.coordinator_at.specs.Planning.{has_initiator, transactions_lost
 ghost use Rattle.participant_at.specs.Planning.{leaves_lost, leaves_plan};
 ghost use Rattle.interposition.specs.Doing.{done, drawn, kept, noted, outcomes_by, sent};
 ghost use Rattle.interposition.specs.Due.{FindsTheDue, WalksTheDue, next_item, next_transaction, next_leaf, next_activity};
+ghost use Rattle.interposition.specs.Recovered.{RecoversAsTheModel, StandFor, recovered};
 ghost use Rattle.interposition.specs.Planning.{arrived_part, at_activation, at_activity, at_completion, at_leaf, at_participant, at_registration, at_transaction, at_work, due_part, part_of, planned, requested_part};
 ghost use Rattle.interposition.specs.declared.plan.Part.TheVariants as parts;
 ghost use Rattle.transaction_at.specs.PhaseNames.{phase_of};
@@ -26,6 +27,7 @@ use at_base::id::Id;
 use at_base::message::Message;
 use at_base::notice::Kind;
 use at_base::outs::{Effects, Outs};
+use at_base::record::Record;
 use at_base::target::Target;
 use at_base::text::Text;
 use by_id::plan;
@@ -36,7 +38,7 @@ use completion_at::activities::{
 use completion_at::requests::Refusal;
 use coordinator_at::register::register_unknown;
 use coordinator_at::transactions::{Transactions, plans_as_the_model as transactions_as_the_model};
-use model_laws::rules::{ids_rise, records_are_well_formed};
+use model_laws::rules::{ids_rise, records_are_well_formed, recovers_the_compacted};
 use participant_at::leaves::{Leaves, plans_as_the_model as leaves_as_the_model};
 use std::alloc::{AllocError, Global};
 use std::marker::Model;
@@ -78,6 +80,13 @@ pub fn walks_the_due()
     ensures { WalksTheDue }
 {
     ids_rise();
+}
+
+/// What is left of records makes the same book as they do.
+fn recovers_as_the_model()
+    ensures { RecoversAsTheModel }
+{
+    recovers_the_compacted();
 }
 
 fn append(effects: &mut Effects, more: Effects) -> Result<(), AllocError>
@@ -148,17 +157,22 @@ impl Model for Book {
 }
 
 impl Book {
-    /// The book of a node that starts for the first time in this incarnation, with room for as many items as may live.
-    ///
-    /// The base has at most 1,024 bytes, each in 33 to 126.
-    pub fn new(alloc: Global, base: Text, incarnation: u32) -> Result<Book, AllocError>
-        requires incarnation { 1 ≤ incarnation }
-        ensures { IfOk result (λ book. book ≡ recover base (records.Start incarnation ∷ [])) }
+    /// The book of what live records promise, by rising id, with these outcomes.
+    fn made(
+        alloc: Global,
+        base: &Text,
+        live: &[Record],
+        done: &[Id],
+        incarnation: u32,
+    ) -> Result<Book, AllocError>
+        requires { 1 ≤ incarnation }
+        ensures { IfOk result (λ book. book ≡ recovered base.now live.now done.now incarnation) }
     {
-        let transactions = Transactions::new(alloc)?;
-        let leaves = Leaves::new(alloc)?;
+        let base = base.clone()?;
+        let outcomes = Outcomes::recover(alloc, done)?;
+        let transactions = Transactions::recover(alloc, &base, live)?;
+        let leaves = Leaves::recover(alloc, live)?;
         let activities = Activities::new(alloc)?;
-        let outcomes = Outcomes::new(alloc)?;
         Ok(Book {
             moment: Moment {
                 now: 0,
@@ -173,6 +187,25 @@ impl Book {
             leaves,
             activities,
         })
+    }
+
+    /// The book of a node that starts in this incarnation: what live records, by rising id, promise, and the outcomes that
+    /// are kept, the newest last. Where the node starts for the first time there are none.
+    ///
+    /// The base has at most 1,024 bytes, each in 33 to 126.
+    pub fn recover(
+        alloc: Global,
+        base: &Text,
+        live: &[Record],
+        done: &[Id],
+        incarnation: u32,
+    ) -> Result<Book, AllocError>
+        requires incarnation { 1 ≤ incarnation }
+        ensures { (records : List Record) → StandFor records live.now done.now incarnation
+            → IfOk result (λ book. book ≡ recover base.now records) }
+    {
+        recovers_as_the_model();
+        Book::made(alloc, base, live, done, incarnation)
     }
 
     /// The id that the next item gets; none where the counter is spent.

@@ -67,13 +67,14 @@ fn put_behind(ids: &mut Vec<Id>, id: Id)
 }
 
 impl Outcomes {
-    /// None, and room for as many as are kept.
-    pub fn new(alloc: Global) -> Result<Outcomes, AllocError>
-        ensures { IfOk result (λ outcomes. outcomes ≡ []) }
+    /// The last of these, the newest last, and room for as many as are kept.
+    pub fn recover(alloc: Global, done: &[Id]) -> Result<Outcomes, AllocError>
+        ensures { IfOk result (λ outcomes. outcomes ≡ newest done.now) }
     {
-        Ok(Outcomes {
-            ids: Vec::with_capacity(alloc, MOST_OUTCOMES)?,
-        })
+        let mut ids = Vec::with_capacity(alloc, MOST_OUTCOMES)?;
+        let first = done.len().saturating_sub(MOST_OUTCOMES);
+        ids.extend_from_slice(&done[first..])?;
+        Ok(Outcomes { ids })
     }
 
     /// Whether the root of this id committed, as far as it is kept.

@@ -1,5 +1,5 @@
 -- The plan of the leaves is the model's plan of the whole book.
-use Rattle.std.proofs.Common.{ℕ, List, [], Option, Some, None, Bool, true, false, nat_lt, length, ◌≡◌, refl, sym, subst, IsTrue}
+use Rattle.std.proofs.Common.{ℕ, List, [], Option, Some, None, Bool, true, false, nat_lt, length, ◌≡◌, refl, IsTrue}
 use Rattle.std.specs.Prelude.{is_some}
 use Rattle.at_base.specs.Numbers.{Numbers}
 use Rattle.at_base.specs.declared.epr.Reply.{Reply}
@@ -19,7 +19,7 @@ use Rattle.at_base.specs.declared.outs.Out.{Out}
 use Rattle.at_tables.specs.Names.{is_kind}
 use Rattle.at_model.specs.Book.{Book, Transaction, Leaf, next_id}
 use Rattle.at_model.specs.Moves.{Decision, Goes, Records}
-use Rattle.at_model.specs.Leaves.{Employment, refuse_work, work_for, on_work, on_leaf}
+use Rattle.at_model.specs.Leaves.{Employment, work_for, on_work, on_leaf}
 use Rattle.at_model.specs.Due.{leaf_due, leaf_reached}
 use Rattle.at_model.specs.Posts.{accepted}
 use Rattle.at_model.specs.Step.{moment_of, leaf_plan, employed_plan, work_plan, leaf_or_stranger_plan, participant_plan, arrived_plan, leaf_due_plan, due_plan, transaction_at, leaf_at}

@@ -1,5 +1,5 @@
 -- The plan of the leaves is the model's plan of the whole book, at each event that moves a leaf.
-use Rattle.std.specs.Prelude.{ℕ, List, Option, Some, None, Bool, false, true, ◌+◌, ◌≡◌, IsTrue, is_some}
+use Rattle.std.specs.Prelude.{ℕ, Some, None, ◌+◌, ◌≡◌, IsTrue, is_some}
 use Rattle.at_base.specs.declared.message.Message.{Message}
 use Rattle.at_base.specs.declared.message.Message.TheVariants as messages
 use Rattle.at_base.specs.declared.target.Target.{Target}

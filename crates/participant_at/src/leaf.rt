@@ -12,7 +12,7 @@ use std::alloc::AllocError;
 use std::marker::Model;
 
 /// A Work that is still to be answered.
-#[derive(Debug, Drop)]
+#[derive(Debug)]
 pub struct WorkRequest {
     /// Its MessageID.
     pub id: Option<Text>,
@@ -20,6 +20,16 @@ pub struct WorkRequest {
     pub reply: Epr,
     /// Where the leaf registers.
     pub registration: Epr,
+}
+
+impl Drop for WorkRequest {
+    fn drop(self) {
+        let WorkRequest {
+            id: _id,
+            reply: _reply,
+            registration: _registration,
+        } = self;
+    }
 }
 
 impl Model for WorkRequest {
@@ -46,7 +56,7 @@ impl Clone for WorkRequest {
 }
 
 /// A participant that does work of its own (WS-AtomicTransaction 1.2, section 3.3).
-#[derive(Debug, Drop)]
+#[derive(Debug)]
 pub struct Leaf {
     pub id: Id,
     pub kind: Kind,
@@ -65,6 +75,23 @@ pub struct Leaf {
     pub deadline: Option<u128>,
     /// When it last sent a message that is repeated, in milliseconds; none since it was recovered.
     pub sent: Option<u64>,
+}
+
+impl Drop for Leaf {
+    fn drop(self) {
+        let Leaf {
+            id: _id,
+            kind: _kind,
+            vote: _vote,
+            key: _key,
+            value: _value,
+            state: _state,
+            coordinator: _coordinator,
+            request: _request,
+            deadline: _deadline,
+            sent: _sent,
+        } = self;
+    }
 }
 
 impl Model for Leaf {

@@ -5,5 +5,6 @@ pub mod due;
 pub mod leaf;
 pub mod leaves;
 pub mod posts;
+mod recover;
 pub mod rules;
 pub mod work;

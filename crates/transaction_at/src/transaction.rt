@@ -15,7 +15,7 @@ use std::alloc::{AllocError, Global};
 use std::marker::Model;
 
 /// A participant that a transaction accepted, and its seat (WS-Coordination 1.2, section 3.2).
-#[derive(Debug, Drop)]
+#[derive(Debug)]
 pub struct Enlistment {
     /// 1 to 512, in the order of registration.
     pub number: u16,
@@ -25,6 +25,17 @@ pub struct Enlistment {
     pub participant: Epr,
     /// The state of its seat.
     pub state: State,
+}
+
+impl Drop for Enlistment {
+    fn drop(self) {
+        let Enlistment {
+            number: _number,
+            kind: _kind,
+            participant: _participant,
+            state: _state,
+        } = self;
+    }
 }
 
 impl Model for Enlistment {
@@ -132,12 +143,21 @@ impl Clone for Seats {
 }
 
 /// The initiator that registered for Completion (WS-AtomicTransaction 1.2, section 3.2).
-#[derive(Debug, Drop)]
+#[derive(Debug)]
 pub struct Completion {
     /// The initiator's endpoint.
     pub initiator: Epr,
     /// The state of its seat.
     pub state: State,
+}
+
+impl Drop for Completion {
+    fn drop(self) {
+        let Completion {
+            initiator: _initiator,
+            state: _state,
+        } = self;
+    }
 }
 
 impl Model for Completion {
@@ -161,11 +181,20 @@ impl Clone for Completion {
 }
 
 /// One of a subordinate's two registrations at its superior.
-#[derive(Debug, Drop)]
+#[derive(Debug)]
 pub struct Link {
     pub state: State,
     /// The endpoint of the superior's seat for it, once that is known.
     pub coordinator: Option<Epr>,
+}
+
+impl Drop for Link {
+    fn drop(self) {
+        let Link {
+            state: _state,
+            coordinator: _coordinator,
+        } = self;
+    }
 }
 
 impl Model for Link {
@@ -189,7 +218,7 @@ impl Clone for Link {
 }
 
 /// A subordinate's CreateCoordinationContext that is still to be answered (WS-Coordination 1.2, section 3.1).
-#[derive(Debug, Drop)]
+#[derive(Debug)]
 pub struct Request {
     /// Its MessageID.
     pub id: Option<Text>,
@@ -201,6 +230,18 @@ pub struct Request {
     pub expires: Option<u32>,
     /// Where the subordinate registers.
     pub registration: Epr,
+}
+
+impl Drop for Request {
+    fn drop(self) {
+        let Request {
+            id: _id,
+            reply: _reply,
+            fault: _fault,
+            expires: _expires,
+            registration: _registration,
+        } = self;
+    }
 }
 
 impl Model for Request {
@@ -236,7 +277,7 @@ impl Clone for Request {
 }
 
 /// What makes a transaction a subordinate: its links to its superior.
-#[derive(Debug, Drop)]
+#[derive(Debug)]
 pub struct Superior {
     /// Its registration for Volatile Two-Phase Commit.
     pub volatile: Link,
@@ -244,6 +285,16 @@ pub struct Superior {
     pub durable: Link,
     /// The CreateCoordinationContext that made it, until it is answered.
     pub request: Option<Request>,
+}
+
+impl Drop for Superior {
+    fn drop(self) {
+        let Superior {
+            volatile: _volatile,
+            durable: _durable,
+            request: _request,
+        } = self;
+    }
 }
 
 impl Model for Superior {
@@ -287,7 +338,7 @@ pub enum Phase {
 }
 
 /// A transaction that this node coordinates (WS-AtomicTransaction 1.2, section 3).
-#[derive(Debug, Drop)]
+#[derive(Debug)]
 pub struct Transaction {
     pub id: Id,
     /// The Identifier of its coordination context.
@@ -304,6 +355,22 @@ pub struct Transaction {
     pub seats: Seats,
     /// None before an initiator registered for Completion.
     pub completion: Option<Completion>,
+}
+
+impl Drop for Transaction {
+    fn drop(self) {
+        let Transaction {
+            id: _id,
+            identifier: _identifier,
+            superior: _superior,
+            phase: _phase,
+            deadline: _deadline,
+            sent: _sent,
+            aborted: _aborted,
+            seats: _seats,
+            completion: _completion,
+        } = self;
+    }
 }
 
 impl Model for Transaction {

@@ -1,6 +1,8 @@
 //! A node of a world: its book where it is up, the records of its journal, and its clock.
 
-ghost use Rattle.std.specs.Prelude.{◌≡◌, IfOk, OnOk, map, option_map, option_copied, option_and_then};
+ghost use Rattle.std.specs.Prelude.{◌≡◌, ◌∷◌, [], IfOk, OnOk, map, option_map, option_copied, option_and_then};
+ghost use Rattle.at_base.specs.declared.record.Record.TheVariants as records;
+ghost use Rattle.at_model.specs.Recover.{recover};
 ghost use Rattle.at_model.specs.Step.{refuses};
 ghost use Rattle.at_model.specs.World.{new_node};
 ghost use Rattle.completion_at.specs.Names.{refusal_of};
@@ -37,6 +39,13 @@ impl Model for Node {
     ghost Value = { Known };
 
     ghost view = { λ x. record { base = x.base; book = x.book; journal = x.journal.items; clock = x.clock } };
+}
+
+/// The book of a node that starts for the first time.
+fn first_book(alloc: Global, base: &Text) -> Result<Book, AllocError>
+    ensures { IfOk result (λ book. book ≡ recover base.now (records.Start 1 ∷ [])) }
+{
+    Book::recover(alloc, base, &[], &[], 1)
 }
 
 impl Node {
@@ -154,9 +163,8 @@ impl Node {
         ensures { OnOk result (self.new ≡ (start_move self.old self.old.book).node) }
     {
         if self.book.is_none() {
-            let base = self.base.clone()?;
             self.journal.push(Record::Start { incarnation: 1 })?;
-            let book = Book::new(alloc, base, 1)?;
+            let book = first_book(alloc, &self.base)?;
             self.book = Some(book);
         }
         Ok(())

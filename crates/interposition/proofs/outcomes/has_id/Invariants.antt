@@ -1,5 +1,4 @@
 use Rattle.std.proofs.Common.{◌≡◌, drop}
-use Rattle.at_model.specs.Book.{is_id}
 use Rattle.at_model.specs.Outcomes.{is_kept}
 use Rattle.interposition.proofs.outcomes.has_id.Given as goal
 

@@ -1,0 +1,5 @@
+pub mod Leaving
+pub mod Machine
+pub mod Refining
+pub mod Running
+pub mod Stages

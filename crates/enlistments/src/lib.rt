@@ -1,0 +1,4 @@
+//! Whom coordinators, participants and initiators know, in every run.
+#![tactic(auto)]
+
+pub mod laws;

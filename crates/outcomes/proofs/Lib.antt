@@ -1,0 +1,12 @@
+pub mod Agreeing
+pub mod Completed
+pub mod Completing
+pub mod Decisions
+pub mod Depth
+pub mod Founded
+pub mod Founding
+pub mod Kept
+pub mod Layers
+pub mod Once
+pub mod Telling
+pub mod Upwards

@@ -1,0 +1,5 @@
+pub mod Voting
+pub mod Saying
+pub mod Answering
+pub mod Backing
+pub mod Joint
