@@ -1,7 +1,7 @@
 -- Every round drains, and all rounds are few events.
 use Rattle.std.specs.Prelude.{ℕ, List, [], ◌∷◌, Option, Some, None, ◌+◌, ◌*◌, drop, length, zero, suc, ◌≡◌, ◌≤◌, ◌<◌, refl}
 use Rattle.std.specs.List.{sum_by}
-use Rattle.std.proofs.Common.{arith, sym, subst, ap, ◌∙◌}
+use Rattle.std.proofs.Common.{arith, sym, subst, ap}
 use Rattle.std.proofs.lemmas.List.{drop_all}
 use Rattle.std.proofs.lemmas.List.Sums.{sum_by-cons}
 use Rattle.at_model.specs.Book.{Book}
