@@ -6,9 +6,12 @@ pub mod Costs
 pub mod Delivering
 pub mod Draining
 pub mod Entries
+pub mod Joining
+pub mod Known
 pub mod Leaving
 pub mod Links
 pub mod Numbering
+pub mod Ordering
 pub mod Paying
 pub mod Phasing
 pub mod Places

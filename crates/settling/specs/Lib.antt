@@ -1,3 +1,4 @@
 pub mod Drains
 pub mod Load
+pub mod Order
 pub mod Pays

@@ -1,6 +1,7 @@
 //! What leads to settling.
 
 ghost use Rattle.settling.specs.Drains.{Drains};
+ghost use Rattle.settling.specs.Order.{SubordinatesRegisterFirst};
 ghost use Rattle.settling.specs.Pays.{Pays};
 
 /// Whatever a book posts it pays for with its load: each message that comes, and isn't one that makes something, leaves the
@@ -15,4 +16,11 @@ pub fn pays()
 #[tactic(auto, using(crate::proofs::Draining::drains))]
 pub fn drains()
     ensures { Drains }
+{}
+
+/// In every run each subordinate that has participants has registered itself before the first of them, so registrations have an
+/// order.
+#[tactic(auto, using(crate::proofs::Ordering::subordinates_register_first))]
+pub fn subordinates_register_first()
+    ensures { SubordinatesRegisterFirst }
 {}
