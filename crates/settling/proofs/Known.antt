@@ -140,5 +140,5 @@ abbrev pub LeadsIfKnown : ℕ → Option Epr → Type 0
 LeadsIfKnown count None = Unit {0}
 LeadsIfKnown count (Some c) = Leads count c
 
-abbrev AnswerLeads : ℕ → Posted → Type 0
+abbrev pub AnswerLeads : ℕ → Posted → Type 0
 AnswerLeads count p = (c : Epr) → p.content.message ≡ messages.RegisterResponse c → Leads count c

@@ -8,6 +8,7 @@ pub mod Draining
 pub mod Entries
 pub mod Joining
 pub mod Known
+pub mod Leading
 pub mod Leaving
 pub mod Links
 pub mod Numbering

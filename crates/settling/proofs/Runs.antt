@@ -1,5 +1,5 @@
 -- The worlds on the way to rest are worlds of runs.
-use Rattle.std.specs.Prelude.{ℕ, List, [], ◌∷◌, ◌++◌, Option, Some, None, ◌+◌, ◌-◌, zero, suc, length, ◌≡◌, refl}
+use Rattle.std.specs.Prelude.{ℕ, List, [], ◌∷◌, ◌++◌, Option, Some, None, ◌+◌, ◌-◌, zero, suc, length, ◌≡◌, ◌≤◌, refl}
 use Rattle.std.specs.List.{AllByRecursion}
 use Rattle.std.proofs.Common.{arith, sym, subst, ap, ◌∙◌}
 use Rattle.at_model.specs.Book.{Book}
@@ -38,7 +38,7 @@ new_length : (k n : ℕ) → length (new_nodes k n) ≡ k
 new_length zero n = refl
 new_length (suc k) n = let rest : length (new_nodes k (n + 1)) ≡ k = new_length k (n + 1) in omega (arith, rest)
 
-reached_length : (count : ℕ) (w : World) → Reached count w → length w.nodes ≡ count
+pub reached_length : (count : ℕ) (w : World) → Reached count w → length w.nodes ≡ count
 reached_length count w (opened is) = ap (λ (v : World). length v.nodes) is ∙ new_length count 1
 reached_length count w (stepped u n x b e now landed ps reached found up heard those is) =
     ap (λ (v : World). length v.nodes) is ∙ ap length (posts_nodes n ps (counts u n x b e now landed)) ∙ length_put n _ u.nodes ∙ reached_length count u reached
@@ -57,6 +57,10 @@ nth_zero (x ∷ xs) = nth_zero xs
 
 none_there : {A : Type 0} (o : Option A) (x : A) → o ≡ None → o ≡ Some x → ⊥
 none_there o x e f = cc
+
+pub nth_least : {A : Type 0} (n : ℕ) (xs : List A) (x : A) → nth n xs ≡ Some x → 1 ≤ n
+nth_least zero xs x e = absurd (none_there (nth 0 xs) x (nth_zero xs) e)
+nth_least (suc n) xs x e = omega arith
 
 all_from_nth : {A : Type 0} (P : A → Type 0) (xs : List A) → ((n : ℕ) (x : A) → nth n xs ≡ Some x → P x) → AllByRecursion P xs
 all_from_nth P [] h = tt
