@@ -1,7 +1,7 @@
 -- Past Registering a subordinate knows a coordinator: a decision keeps it so.
-use Rattle.std.specs.Prelude.{ℕ, List, [], ◌∷◌, Option, Some, None, Bool, true, false, is_none, ◌≡◌, refl, if◌then◌else◌, ◌&&◌, ◌||◌, bytes_eq, nat_lt}
+use Rattle.std.specs.Prelude.{ℕ, List, [], ◌∷◌, Option, Some, None, Bool, true, false, is_none, ◌≡◌, refl, if◌then◌else◌, ◌&&◌, bytes_eq, nat_lt}
 use Rattle.std.specs.List.{list_any, AllByRecursion}
-use Rattle.std.proofs.Common.{ap, sym, subst}
+use Rattle.std.proofs.Common.{sym, subst}
 use Rattle.at_base.specs.Numbers.{Numbers}
 use Rattle.at_base.specs.declared.epr.Epr.{Epr}
 use Rattle.at_base.specs.declared.epr.Reply.{Reply}
@@ -12,7 +12,6 @@ use Rattle.at_base.specs.declared.message.Context.{Context}
 use Rattle.at_base.specs.declared.message.Create.{Create}
 use Rattle.at_base.specs.declared.message.Message.{Message}
 use Rattle.at_base.specs.declared.message.Message.TheVariants as messages
-use Rattle.at_base.specs.declared.message.Register.{Register}
 use Rattle.at_base.specs.declared.record.Record.{Record}
 use Rattle.at_base.specs.declared.record.Record.TheVariants as records
 use Rattle.at_base.specs.declared.record.Seated.{Seated}
@@ -35,7 +34,7 @@ use Rattle.at_model.specs.Phases.{decided, committed, root_answered, voted, sub_
 use Rattle.at_model.specs.Arrivals.{asked, seat_act, seat_notice, commit_voted, link_act, link_notice, completion_act, completion_notice, link_registered, link_fault, on_link, on_seat, on_completion, registered, relates_to, request_answered, with_answer}
 use Rattle.at_model.specs.Create.{create_in, create_under, on_create, refuse_create}
 use Rattle.at_model.specs.Due.{Reached, Expired, Over, Unanswered, Nothing, transaction_reached}
-use Rattle.at_model.specs.Recover.{recovered_voted, recovered_decided, transactions_of, is_sub_committed}
+use Rattle.at_model.specs.Recover.{recovered_voted, transactions_of, is_sub_committed}
 use Rattle.model_laws.specs.Links.{AreLinked}
 use Rattle.model_laws.proofs.Asking.{ActsAt, CellAt, table_acts}
 use Rattle.model_laws.proofs.Deciding.{DecisionHas, IfThere, either_has, either_change, either_of, with_answer_has}

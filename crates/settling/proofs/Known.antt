@@ -1,62 +1,35 @@
 -- In every run a subordinate that is past Registering knows a coordinator, and each coordinator that one knows is a seat of a node.
-use Rattle.std.specs.Prelude.{ℕ, List, [], ◌∷◌, Option, Some, None, Bool, true, false, is_none, ◌^◌, option_map, ◌≡◌, ◌<◌, ◌≤◌, refl}
-use Rattle.std.specs.List.{list_any, AllByRecursion}
-use Rattle.std.proofs.Common.{sym, subst, ap, inl, inr, arith, ◌∙◌}
-use Rattle.at_base.specs.Numbers.{Numbers}
-use Rattle.at_base.specs.IdText.{IsId}
+use Rattle.std.specs.Prelude.{ℕ, List, [], ◌∷◌, Option, Some, None, Bool, ◌≡◌}
+use Rattle.std.proofs.Common.{sym, subst}
 use Rattle.at_base.specs.declared.epr.Epr.{Epr}
 use Rattle.at_base.specs.declared.event.Arrived.{Arrived}
 use Rattle.at_base.specs.declared.event.Event.{Event}
-use Rattle.at_base.specs.declared.event.Event.TheVariants as events
 use Rattle.at_base.specs.declared.message.Message.TheVariants as messages
 use Rattle.at_base.specs.declared.message.Register.{Register}
-use Rattle.at_base.specs.declared.notice.Kind.{Kind}
-use Rattle.at_base.specs.declared.notice.Kind.TheVariants as kinds
-use Rattle.at_base.specs.declared.outs.Out.TheVariants as outs
-use Rattle.at_base.specs.declared.outs.Post.{Post}
 use Rattle.at_base.specs.declared.record.Record.{Record}
-use Rattle.at_base.specs.declared.record.Record.TheVariants as records
-use Rattle.at_base.specs.declared.record.Seated.{Seated}
 use Rattle.at_base.specs.declared.target.Target.{Target}
-use Rattle.at_base.specs.declared.target.Target.TheVariants as targets
-use Rattle.at_model.specs.Addresses.{endpoint_of}
 use Rattle.at_model.specs.Arrivals.{with_answer}
-use Rattle.at_model.specs.Book.{Book, Enlistment, Phase, Transaction, transaction_id}
+use Rattle.at_model.specs.Book.{Book, Transaction, transaction_id}
 use Rattle.at_model.specs.Moves.{Decision}
 use Rattle.at_model.specs.Posts.{accepted}
-use Rattle.at_model.specs.Recover.{live, recover, recovered_voted, transactions_of}
+use Rattle.at_model.specs.Recover.{live, recover, transactions_of}
 use Rattle.at_model.specs.Register.{Registration, on_register}
-use Rattle.at_model.specs.Seats.{seat_target}
 use Rattle.at_model.specs.Step.{Outcome, Plan, at_time, make_activity, make_leaf, make_transaction, moment_of, plan, put_activity, put_leaf, put_transaction, registration_outcome, step, still}
-use Rattle.at_model.specs.World.{Node, Posted, World, base_of, new_nodes, nth, place_of}
-use Rattle.model_laws.specs.Agreement.{IsIn}
+use Rattle.at_model.specs.World.{Node, Posted, World, nth}
 use Rattle.model_laws.specs.Behind.{IsInPhase}
-use Rattle.model_laws.specs.Drawn.{restarted, with_entry}
-use Rattle.model_laws.specs.Grows.{Grows}
-use Rattle.model_laws.specs.Reached.{Reached, counts}
+use Rattle.model_laws.specs.Drawn.{restarted}
+use Rattle.model_laws.specs.Reached.{Reached}
 use Rattle.model_laws.specs.Shapes.{MovesTransaction, Shape, activity_made, activity_moves, at_completion, at_link, at_seat, leaf_made, leaf_moves, nothing_moves, time_moves, time_passes, transaction_made, transaction_moves, transaction_registers, when_due}
 use Rattle.model_laws.proofs.Deciding.{Both, IfThere, all_find, all_join, all_put, decided_both, decision_both, in_branch, plain_both}
 use Rattle.model_laws.proofs.Linking.{AnyRecord, Linked}
 use Rattle.model_laws.proofs.Living.{all_in_order}
-use Rattle.model_laws.proofs.Naming.{leads_home}
 use Rattle.model_laws.proofs.Reaching.{NodeLaw, nodes_hold}
 use Rattle.model_laws.proofs.Shaping.{steps_touch_one}
 use Rattle.model_laws.proofs.Standing.{decides_behind_every_answer}
-use Rattle.agreement.specs.Deeds.{How, IsSameIfLeft, KeepsLink, KeepsLinksIfLeft, coordinator_at, recorded, superior_at}
-use Rattle.agreement.specs.Done.{standing}
 use Rattle.enlistments.specs.Enrolling.{Enrolls, has_completion, has_seat, refuses, takes_completion, takes_seat}
 use Rattle.enlistments.specs.Leads.{LeadsTo}
-use Rattle.enlistments.specs.Moves.{Registered, TransactionDid, TransactionMade}
-use Rattle.enlistments.specs.Telling.{Responds, names_completion, names_seat}
-use Rattle.enlistments.proofs.Answering.{steps_tell}
-use Rattle.enlistments.proofs.Answers.{held_after, keeps_id}
-use Rattle.enlistments.proofs.Arriving.{HasCome, Stepping, has_come, node_small, step_ready, then_reached, up_known}
 use Rattle.enlistments.proofs.Enrolling.{register_enrolls}
-use Rattle.enlistments.proofs.Fresh.{IsFresh, made_fresh}
-use Rattle.enlistments.proofs.Nodes.{NodesLaw, books_have}
-use Rattle.enlistments.proofs.Places.{IsPlaced, TransactionPlaced, transactions_placed}
-use Rattle.enlistments.proofs.Posts.{PostLaw, one_has}
-use Rattle.settling.specs.Order.{AreJoined, JoinsFirst}
+use Rattle.settling.specs.Order.{AreJoined}
 use Rattle.settling.proofs.Joining.{Joined, completion_joined, created_joined, due_joined, link_joined, records_joined, seat_joined, with_answer_joined, Joins}
 
 -- each way to move

@@ -1,19 +1,15 @@
 -- In every run each coordinator that a subordinate knows is a seat of a node.
-use Rattle.std.specs.Prelude.{ℕ, List, [], ◌∷◌, Option, Some, None, Bool, true, false, is_none, ◌^◌, option_map, ◌≡◌, ◌<◌, ◌≤◌, length, refl}
-use Rattle.std.specs.List.{list_any, AllByRecursion}
-use Rattle.std.proofs.Common.{sym, subst, ap, inl, inr, arith, ◌∙◌}
+use Rattle.std.specs.Prelude.{ℕ, List, Option, Some, None, Bool, true, false, ◌^◌, option_map, ◌≡◌, ◌<◌, ◌≤◌, length}
+use Rattle.std.specs.List.{AllByRecursion}
+use Rattle.std.proofs.Common.{sym, subst, inl, inr, arith, ◌∙◌}
 use Rattle.at_base.specs.Numbers.{Numbers}
-use Rattle.at_base.specs.IdText.{IsId}
 use Rattle.at_base.specs.declared.epr.Epr.{Epr}
 use Rattle.at_base.specs.declared.event.Arrived.{Arrived}
 use Rattle.at_base.specs.declared.event.Event.{Event}
 use Rattle.at_base.specs.declared.event.Moment.{Moment}
-use Rattle.at_base.specs.declared.event.Event.TheVariants as events
-use Rattle.at_base.specs.declared.message.Message.TheVariants as messages
 use Rattle.at_base.specs.declared.message.Register.{Register}
 use Rattle.at_base.specs.declared.notice.Kind.{Kind}
 use Rattle.at_base.specs.declared.notice.Kind.TheVariants as kinds
-use Rattle.at_base.specs.declared.outs.Out.TheVariants as outs
 use Rattle.at_base.specs.declared.outs.Post.{Post}
 use Rattle.at_base.specs.declared.record.Record.{Record}
 use Rattle.at_base.specs.declared.record.Record.TheVariants as records
@@ -21,47 +17,31 @@ use Rattle.at_base.specs.declared.record.Seated.{Seated}
 use Rattle.at_base.specs.declared.target.Target.{Target}
 use Rattle.at_base.specs.declared.target.Target.TheVariants as targets
 use Rattle.at_model.specs.Addresses.{endpoint_of}
-use Rattle.at_model.specs.Arrivals.{with_answer}
-use Rattle.at_model.specs.Book.{Book, Enlistment, Leaf, Phase, Transaction, transaction_id}
-use Rattle.at_model.specs.Moves.{Change, Decision}
-use Rattle.at_model.specs.Posts.{accepted}
-use Rattle.at_model.specs.Recover.{live, recover, recovered_voted, transactions_of}
-use Rattle.at_model.specs.Register.{Registration, on_register}
+use Rattle.at_model.specs.Book.{Book, Enlistment, Leaf, Transaction}
+use Rattle.at_model.specs.Moves.{Change}
+use Rattle.at_model.specs.Recover.{recovered_voted}
+use Rattle.at_model.specs.Register.{Registration}
 use Rattle.at_model.specs.Seats.{prepared, seat_target}
-use Rattle.at_model.specs.Step.{Outcome, Plan, at_time, make_activity, make_leaf, make_transaction, moment_of, plan, put_activity, put_leaf, put_transaction, registration_outcome, step, still}
+use Rattle.at_model.specs.Step.{moment_of, plan, step}
 use Rattle.at_model.specs.World.{Node, Posted, World, base_of, new_nodes, nth, place_of}
 use Rattle.model_laws.specs.Agreement.{IsIn}
-use Rattle.model_laws.specs.Behind.{IsInPhase, accepted_as}
-use Rattle.model_laws.specs.Drawn.{restarted, with_entry}
-use Rattle.model_laws.specs.Grows.{Grows}
+use Rattle.model_laws.specs.Behind.{accepted_as}
 use Rattle.model_laws.specs.Reached.{Reached, counts}
-use Rattle.model_laws.specs.Shapes.{MovesTransaction, Shape, activity_made, activity_moves, at_completion, at_link, at_seat, leaf_made, leaf_moves, nothing_moves, time_moves, time_passes, transaction_made, transaction_moves, transaction_registers, when_due}
-use Rattle.model_laws.proofs.Deciding.{Both, IfThere, all_find, all_join, all_put, decided_both, decision_both, in_branch, plain_both}
-use Rattle.model_laws.proofs.Linking.{AnyRecord, Linked}
-use Rattle.model_laws.proofs.Living.{all_in_order}
+use Rattle.model_laws.proofs.Deciding.{IfThere}
 use Rattle.model_laws.proofs.Naming.{IsWritten, leads_home}
-use Rattle.model_laws.proofs.Reaching.{NodeLaw, nodes_hold}
-use Rattle.model_laws.proofs.Shaping.{steps_touch_one}
-use Rattle.model_laws.proofs.Standing.{decides_behind_every_answer}
-use Rattle.agreement.specs.Deeds.{How, IsSameIfLeft, KeepsLink, KeepsLinksIfLeft, coordinator_at, recorded, superior_at}
+use Rattle.agreement.specs.Deeds.{How, KeepsLink, KeepsLinksIfLeft, coordinator_at, recorded, superior_at}
 use Rattle.agreement.specs.Done.{standing}
 use Rattle.agreement.specs.LeafDeeds.{LeafDeed, aborts, commits, dropped, for_durable, idles, leaves, prepares, rolls_back}
 use Rattle.enlistments.specs.Enrolling.{Enrolls, has_completion, has_seat, refuses, takes_completion, takes_seat}
-use Rattle.enlistments.specs.Leads.{LeadsTo}
-use Rattle.enlistments.specs.Moves.{Registered, TransactionDid, TransactionMade}
 use Rattle.enlistments.specs.Telling.{Responds, names_completion, names_seat}
 use Rattle.enlistments.proofs.Answering.{steps_tell}
 use Rattle.enlistments.proofs.Answers.{held_after, keeps_id}
-use Rattle.enlistments.proofs.Arriving.{HasCome, Stepping, has_come, node_small, step_ready, then_reached, up_known}
-use Rattle.enlistments.proofs.Enrolling.{register_enrolls}
-use Rattle.enlistments.proofs.Fresh.{IsFresh, made_fresh}
+use Rattle.enlistments.proofs.Arriving.{HasCome, Stepping, has_come, step_ready, up_known}
+use Rattle.enlistments.proofs.Fresh.{made_fresh}
 use Rattle.enlistments.proofs.Lasting.{Held}
 use Rattle.enlistments.proofs.Nodes.{NodesLaw, books_have}
 use Rattle.enlistments.proofs.Places.{IsPlaced, TransactionPlaced, transactions_placed}
 use Rattle.enlistments.proofs.Posts.{PostLaw, one_has}
-use Rattle.settling.specs.Order.{AreJoined, JoinsFirst}
-use Rattle.settling.proofs.Joining.{Joined, completion_joined, created_joined, due_joined, link_joined, records_joined, seat_joined, with_answer_joined, Joins}
-use Rattle.at_model.specs.World.{WorldEvent}
 use Rattle.agreement.specs.Places.{HasPath}
 use Rattle.agreement.proofs.SeatedEntries.{one_of}
 use Rattle.settling.proofs.Known.{AnswerLeads, Leads, LeadsIfKnown}

@@ -1,61 +1,53 @@
 -- A subordinate registers before its first participant.
-use Rattle.std.specs.Prelude.{ℕ, List, [], ◌∷◌, Option, Some, None, ◌++◌, Bool, true, false, is_none, nat_lt, ◌^◌, ◌&&◌, ◌⊎◌, if◌then◌else◌, filter, length, map, option_map, ◌≡◌, ◌<◌, refl}
-use Rattle.std.specs.List.{list_any, AllByRecursion}
+use Rattle.std.specs.Prelude.{ℕ, List, [], ◌∷◌, Option, Some, None, ◌++◌, Bool, true, false, is_none, nat_lt, ◌^◌, ◌&&◌, ◌⊎◌, filter, length, map, option_map, ◌≡◌, ◌<◌, refl}
+use Rattle.std.specs.List.{AllByRecursion}
 use Rattle.std.proofs.Common.{sym, subst, ap, inl, inr, arith, ◌∙◌}
 use Rattle.std.proofs.lemmas.List.{append_assoc}
 use Rattle.at_base.specs.Numbers.{Numbers}
-use Rattle.at_base.specs.IdText.{IsId}
 use Rattle.at_base.specs.declared.epr.Epr.{Epr}
-use Rattle.at_base.specs.declared.event.Arrived.{Arrived}
 use Rattle.at_base.specs.declared.event.Event.{Event}
 use Rattle.at_base.specs.declared.event.Moment.{Moment}
 use Rattle.at_base.specs.declared.limits.TheConstants.{MOST_SEATS}
-use Rattle.at_base.specs.declared.event.Event.TheVariants as events
-use Rattle.at_base.specs.declared.message.Message.TheVariants as messages
-use Rattle.at_base.specs.declared.message.Register.{Register}
 use Rattle.at_base.specs.declared.notice.Kind.{Kind}
 use Rattle.at_base.specs.declared.notice.Kind.TheVariants as kinds
 use Rattle.at_base.specs.declared.record.Record.{Record}
 use Rattle.at_base.specs.declared.record.Record.TheVariants as records
 use Rattle.at_base.specs.declared.record.Seated.{Seated}
-use Rattle.at_base.specs.declared.target.Target.{Target}
-use Rattle.at_base.specs.declared.target.Target.TheVariants as targets
-use Rattle.at_model.specs.Addresses.{endpoint_of}
-use Rattle.at_model.specs.Book.{Book, Enlistment, Leaf, Phase, Superior, Transaction, find_by, is_id, transaction_id}
+use Rattle.at_model.specs.Book.{Book, Enlistment, Leaf, Phase, Superior, Transaction, transaction_id}
 use Rattle.at_model.specs.Due.{may_expire}
 use Rattle.at_tables.specs.declared.cells.State.TheVariants as states
 use Rattle.at_model.specs.Moves.{Change}
-use Rattle.at_model.specs.Posts.{accepted}
 use Rattle.at_model.specs.Recover.{recovered_seat, recovered_voted}
-use Rattle.at_model.specs.Register.{Registration, accepts}
+use Rattle.at_model.specs.Register.{accepts}
 use Rattle.at_model.specs.Seats.{is_prepared_durable, prepared, seated}
-use Rattle.at_model.specs.Step.{Outcome, Plan, at_time, make_activity, make_leaf, make_transaction, moment_of, plan, put_activity, put_leaf, put_transaction, registration_outcome, step, transaction_at}
+use Rattle.at_model.specs.Step.{moment_of, plan, step, transaction_at}
 use Rattle.at_model.specs.World.{Accepted, Node, Who, World, accepted_seat, nth, run_of}
 use Rattle.model_laws.specs.Agreement.{IsIn}
-use Rattle.model_laws.specs.Behind.{IsInPhase}
-use Rattle.model_laws.specs.Drawn.{restarted, with_entry}
 use Rattle.model_laws.specs.Grows.{Grows}
 use Rattle.model_laws.specs.Reached.{Reached, counts}
 use Rattle.model_laws.proofs.Deciding.{IfThere, all_find, first_true}
 use Rattle.model_laws.proofs.Lasting.{grows_counts}
 use Rattle.model_laws.proofs.Reaching.{run_reached}
-use Rattle.model_laws.proofs.Shaping.{steps_touch_one}
-use Rattle.model_laws.proofs.Standing.{decides_behind_every_answer}
-use Rattle.agreement.specs.Deeds.{How, IsSameIfLeft, KeepsLink, KeepsLinksIfLeft, coordinator_at, recorded, superior_at}
+use Rattle.agreement.specs.Deeds.{How, IsSameIfLeft, coordinator_at, recorded, superior_at}
 use Rattle.agreement.specs.Done.{standing}
 use Rattle.agreement.specs.LeafDeeds.{LeafDeed, aborts, commits, dropped, for_durable, idles, leaves, prepares, rolls_back}
 use Rattle.agreement.specs.Seated.{SeatsEach}
 use Rattle.agreement.proofs.Seated.{seats_are_registered}
+use Rattle.agreement.proofs.LeafWaiting.{found_in}
 use Rattle.agreement.proofs.Seats.{deeds_move_seats}
 use Rattle.enlistments.specs.Enrolling.{Enrolls, has_completion, has_seat, refuses, takes_completion, takes_seat}
 use Rattle.enlistments.specs.Knowing.{TransactionKnows}
-use Rattle.enlistments.specs.Leads.{Enlists, EnlistsIfKnown, LeadsTo}
+use Rattle.enlistments.specs.Leads.{Enlists, EnlistsIfKnown}
 use Rattle.enlistments.proofs.Books.{books_know}
-use Rattle.enlistments.specs.Moves.{Registered, TransactionDid, TransactionMade}
-use Rattle.enlistments.proofs.Arriving.{HasCome, Stepping, has_come, node_small, step_ready, then_reached, up_known}
-use Rattle.enlistments.proofs.Fresh.{IsFresh, made_fresh}
+use Rattle.enlistments.specs.Moves.{Registered}
+use Rattle.enlistments.proofs.Arriving.{Stepping}
+use Rattle.enlistments.proofs.Fresh.{made_fresh}
 use Rattle.enlistments.proofs.Nodes.{NodesLaw, books_have}
-use Rattle.agreement.specs.Deeds.{AreCounted, AreSeatsAfter, AreSeatsIfLeft, Deed, StoodFor}
+use Rattle.at_base.specs.declared.target.Seat.{Seat}
+use Rattle.model_laws.specs.Agreement.{IsAccepted}
+use Rattle.at_model.specs.World.{WorldEvent}
+use Rattle.model_laws.proofs.Enrolled.{enlists_under_one}
+use Rattle.agreement.specs.Deeds.{AreCounted, AreSeatsAfter, AreSeatsIfLeft, StoodFor}
 use Rattle.agreement.proofs.SeatedEntries.{one_of}
 use Rattle.settling.specs.Order.{HasJoined, HasSome, JoinsFirst, IsSeatOf, KnowsOne, RegistersFirst, SubordinatesRegisterFirst}
 use Rattle.settling.proofs.Known.{Leads, LeadsIfKnown, books_joined}
@@ -69,7 +61,10 @@ first_on u w g x h = record {
   back = h.back ++ g.registrations;
   stands = g.accepted ∙ ap (λ l. l ++ g.registrations) h.stands ∙ append_assoc h.front (h.registration ∷ h.back) g.registrations;
   own = h.own;
+  seat = h.seat;
+  taken = h.taken;
   none_before = h.none_before;
+  none_here = h.none_here;
 }
 
 -- lists
@@ -165,33 +160,23 @@ coordinated t (Some s) e u a h = by_link (some_known s.volatile.coordinator s.du
     by_link (inl (c, k)) = record { kind = kinds.Volatile; coordinator = c; known = ap (coordinator_at kinds.Volatile) e ∙ k }
     by_link (inr (c, k)) = record { kind = kinds.Durable; coordinator = c; known = ap (coordinator_at kinds.Durable) e ∙ k }
 
-found_in : {A : Type 0} (key : A → Numbers) (id : Numbers) (xs : List A) (x : A) → find_by key id xs ≡ Some x → IsIn x xs
-found_in key id [] x e = absurd cc
-found_in key id (y ∷ ys) x e = by_test (is_id (key y) id) e (λ f. found_in key id ys x f)
-  where
-    by_test : (b : Bool) → (if b then Some y else find_by key id ys) ≡ Some x → (find_by key id ys ≡ Some x → IsIn x ys) → IsIn x (y ∷ ys)
-    by_test true f rest = let same : y ≡ x = cc in inl (sym same)
-    by_test false f rest = inr (rest f)
-
 first_participant : (count : ℕ) (u : World) (n : ℕ) (x : Node) (b : Book) (t : Transaction) → count < 2 ^ 64 → Reached count u → nth n u.nodes ≡ Some x → x.book ≡ Some b
     → transaction_at b t.id ≡ Some t → accepts t.phase ≡ true → is_none t.superior ≡ false → t.seats ≡ [] → RegistersFirst u (record { node = n; id = t.id })
 first_participant count u n x b t small reached found up there takes under none =
     let me : Who = record { node = n; id = t.id } in
     let c : Coordinated t =
-        coordinated t t.superior refl under takes (all_find (λ y. JoinsFirst y.phase y.superior) transaction_id t.id b.transactions t (books_joined count u reached n x b found up) there) in
+    coordinated t t.superior refl under takes (all_find (λ y. JoinsFirst y.phase y.superior) transaction_id t.id b.transactions t (books_joined count u reached n x b found up) there) in
     let l : Leads count c.coordinator =
-        subst (LeadsIfKnown count) c.known (all_find (CoordinatorsLead count) transaction_id t.id b.transactions t (coordinators_lead count u small reached n x b found up) there c.kind) in
+    subst (LeadsIfKnown count) c.known (all_find (CoordinatorsLead count) transaction_id t.id b.transactions t (coordinators_lead count u small reached n x b found up) there c.kind) in
     let knows : TransactionKnows count u n t = all_find (TransactionKnows count u n) transaction_id t.id b.transactions t (books_know count u small reached n x b found up).transactions there in
     let enlists : Enlists count u c.coordinator me c.kind = subst (λ o. EnlistsIfKnown count u o me c.kind) c.known (knows c.kind) in
     let (id, number, at, registered) = enlists l.node l.target l.leads in
     let each : SeatsEach u n t = (seats_are_registered.reached count u small reached).complete n x b t found up (found_in transaction_id t.id b.transactions t there) (undecided t.phase takes) in
     let nobody : (a : Accepted) → IsIn a u.accepted → IsSeatOf me a → ⊥ = λ a i of. subst (λ seats. IsIn a (map (accepted_seat n u.nodes t.id) seats)) none (each a of.0 i of.2 of.1) in
-    let (front, back, is, all) = in_split (λ a. IsSeatOf me a → ⊥) (record {
-      transaction = record { node = l.node; id = id };
-      seat = Some (record { number = number; kind = c.kind });
-      participant = Some me;
-    }) u.accepted registered (all_from_in (λ a. IsSeatOf me a → ⊥) u.accepted nobody) in
-    record { front = front; registration = _; back = back; stands = is; own = refl; none_before = all }
+    let seat : Seat = record { number = number; kind = c.kind } in
+    let r : Accepted = record { transaction = record { node = l.node; id = id }; seat = Some seat; participant = Some me } in
+    let (front, back, is, all) = in_split (λ a. IsSeatOf me a → ⊥) r u.accepted registered (all_from_in (λ a. IsSeatOf me a → ⊥) u.accepted nobody) in
+    record { front = front; registration = r; back = back; stands = is; own = refl; seat = seat; taken = refl; none_before = all; none_here = nobody r registered }
 
 enrolled_order : (count : ℕ) (u : World) (n : ℕ) (x : Node) (b : Book) (e : Event) (now : ℕ) (landed : Bool) → Stepping count u n x b e now landed
     → (d : Registered b e now (standing landed (plan b e now).entry) (step b e now landed)) → Enrolls (moment_of b now) d.arrived d.request d.old d.gives → OrderOf u n d.old
@@ -235,8 +220,7 @@ ordering count = record {
   record_on = record_on;
   did = λ u n x b e now landed s d h.
       let w : World = counts u n x b e now landed in
-      let k : OrderOf w n d.old = λ under some. first_on u w (grows_counts u n x b e now landed s.found) (record { node = n; id = d.old.id }) (h under some) in
-      (
+      let k : OrderOf w n d.old = λ under some. first_on u w (grows_counts u n x b e now landed s.found) (record { node = n; id = d.old.id }) (h under some) in (
         left_order w n e d.old d.deed.how d.change.item d.deed.same (deeds_move_seats.seats e d.old _ d.change d.deed) k,
         subst (IfThere (RecordOrder w n)) (sym d.deed.records) (recorded_order w n e d.deed.how d.old d.deed.at d.deed.stood d.deed.counted k),
       );
@@ -281,7 +265,32 @@ pub register_first : (count : ℕ) (w : World) → count < 2 ^ 64 → Reached co
 unfolding ordering
 register_first count w small reached n x b t found up i = one_of (OrderOf w n) b.transactions t (books_have count small (ordering count) w reached n x b found up).transactions i
 
+-- the first of two places
+first_place : {A : Type 0} (P : A → Type 0) (f g : List A) (r s : A) (b d : List A) → f ++ r ∷ b ≡ g ++ s ∷ d → AllByRecursion (λ a. P a → ⊥) f → (P r → ⊥) → P s → length f < length g
+first_place P [] [] r s b d e all not_r h = let same : r ≡ s = cc in absurd (not_r (subst P (sym same) h))
+first_place P [] (y ∷ g) r s b d e all not_r h = omega arith
+first_place P (x ∷ f) [] r s b d e (not_x, all) not_r h = let same : x ≡ s = cc in absurd (not_x (subst P (sym same) h))
+first_place P (x ∷ f) (y ∷ g) r s b d e (not_x, all) not_r h =
+    let rest : f ++ r ∷ b ≡ g ++ s ∷ d = cc in
+    let less : length f < length g = first_place P f g r s b d rest all not_r h in
+    omega (arith, less)
+
+in_middle : {A : Type 0} (front : List A) (x : A) (back : List A) → IsIn x (front ++ x ∷ back)
+in_middle [] x back = inl refl
+in_middle (y ∷ front) x back = inr (in_middle front x back)
+
+later_place : (count : ℕ) (es : List WorldEvent) (t x : Who) (s : Seat) (first : RegistersFirst (run_of count es) t) (second : RegistersFirst (run_of count es) x) → count < 2 ^ 64
+    → IsAccepted (run_of count es) t (Some s) x → length first.front < length second.front
+later_place count es t x s first second small there =
+    let r : Accepted = second.registration in
+    let in_all : IsIn r (run_of count es).accepted = subst (IsIn r) (sym second.stands) (in_middle second.front r second.back) in
+    let same : r ≡ record { transaction = r.transaction; seat = r.seat; participant = Some x } = λ i. record { transaction = r.transaction; seat = r.seat; participant = second.own i } in
+    let own : IsAccepted (run_of count es) r.transaction r.seat x = subst (λ a. IsIn a (run_of count es).accepted) same in_all in
+    let one : r.transaction ≡ t = enlists_under_one count es small x r.transaction t r.seat (Some s) own there in
+    first_place (IsSeatOf t) first.front second.front first.registration r first.back second.back (sym first.stands ∙ second.stands) first.none_before first.none_here (second.seat, second.taken, one)
+
 pub subordinates_register_first : SubordinatesRegisterFirst
 subordinates_register_first = record {
   runs = λ count es n x b t small found up i under some. register_first count (run_of count es) small (run_reached count es) n x b t found up i under some;
+  later = later_place;
 }
