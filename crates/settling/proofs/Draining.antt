@@ -36,7 +36,7 @@ deliveries_run count (suc most) j s r = by_next (next j s.world) (λ p t i. deli
     by_next None rest = r
     by_next (Some (k, n)) rest = rest k (also (Turn n (Deliver k) [] None) s) (further_run count s.world (Turn n (Deliver k) [] None) r)
 
-round_run : (count most : ℕ) (s : Settling) → IsOfRun count s.world → IsOfRun count (settle_round most s).world
+pub round_run : (count most : ℕ) (s : Settling) → IsOfRun count s.world → IsOfRun count (settle_round most s).world
 unfolding settle_round
 round_run count most s r = deliveries_run count most (length s.world.posted) (all_also (ticks 1 s.world.nodes) s) (all_further count (ticks 1 s.world.nodes) s r)
 
@@ -124,7 +124,7 @@ waiting_split [] = omega arith
 waiting_split (x ∷ xs) =
     omega (arith, sum_by-cons node_count x xs, sum_by-cons (λ y. seats_in y.book) x xs, sum_by-cons (λ y. others_in y.book) x xs, waiting_split xs)
 
-risen_run : (count : ℕ) (es : List WorldEvent) → IsOfRun count (risen count es).world
+pub risen_run : (count : ℕ) (es : List WorldEvent) → IsOfRun count (risen count es).world
 risen_run count es =
     all_further count (ups 1 (run_of count es).nodes) (record { world = run_of count es; events = [] }) (record { events = es; is = refl })
 

@@ -17,6 +17,7 @@ pub mod Paying
 pub mod Phasing
 pub mod Places
 pub mod Registering
+pub mod Rising
 pub mod Rounding
 pub mod Running
 pub mod Runs

@@ -30,7 +30,7 @@ pub all_further : (count : ℕ) (es : List WorldEvent) (s : Settling) → IsOfRu
 all_further count [] s h = h
 all_further count (e ∷ es) s h = all_further count es (also e s) (further_run count s.world e h)
 
-run_is : (count : ℕ) (w : World) → IsOfRun count w → Reached count w
+pub run_is : (count : ℕ) (w : World) → IsOfRun count w → Reached count w
 run_is count w h = subst (Reached count) (sym h.is) (run_reached count h.events)
 
 -- how many nodes it has
@@ -62,7 +62,7 @@ pub nth_least : {A : Type 0} (n : ℕ) (xs : List A) (x : A) → nth n xs ≡ So
 nth_least zero xs x e = absurd (none_there (nth 0 xs) x (nth_zero xs) e)
 nth_least (suc n) xs x e = omega arith
 
-all_from_nth : {A : Type 0} (P : A → Type 0) (xs : List A) → ((n : ℕ) (x : A) → nth n xs ≡ Some x → P x) → AllByRecursion P xs
+pub all_from_nth : {A : Type 0} (P : A → Type 0) (xs : List A) → ((n : ℕ) (x : A) → nth n xs ≡ Some x → P x) → AllByRecursion P xs
 all_from_nth P [] h = tt
 all_from_nth {A = A} P (x ∷ xs) h = (h 1 x refl, all_from_nth P xs behind)
   where

@@ -2,3 +2,4 @@ pub mod Drains
 pub mod Load
 pub mod Order
 pub mod Pays
+pub mod Rises

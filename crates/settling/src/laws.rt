@@ -3,6 +3,7 @@
 ghost use Rattle.settling.specs.Drains.{Drains};
 ghost use Rattle.settling.specs.Order.{SubordinatesRegisterFirst};
 ghost use Rattle.settling.specs.Pays.{Pays};
+ghost use Rattle.settling.specs.Rises.{NodesRise};
 
 /// Whatever a book posts it pays for with its load: each message that comes, and isn't one that makes something, leaves the
 /// load and the weight of what is posted lower than the load and its own weight were, and what is due leaves them no higher. So it
@@ -23,4 +24,10 @@ pub fn drains()
 #[tactic(auto, using(crate::proofs::Ordering::subordinates_register_first))]
 pub fn subordinates_register_first()
     ensures { SubordinatesRegisterFirst }
+{}
+
+/// Where no node has spent its incarnations, every node is up as the rounds of settling begin, and stays up.
+#[tactic(auto, using(crate::proofs::Rising::nodes_rise))]
+pub fn nodes_rise()
+    ensures { NodesRise }
 {}
