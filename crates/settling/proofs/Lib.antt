@@ -1,6 +1,7 @@
 pub mod Acting
 pub mod Affording
 pub mod Caps
+pub mod Clocks
 pub mod Completing
 pub mod Costs
 pub mod Delivering
@@ -13,6 +14,7 @@ pub mod Leaving
 pub mod Links
 pub mod Numbering
 pub mod Ordering
+pub mod Passing
 pub mod Paying
 pub mod Phasing
 pub mod Places
@@ -22,5 +24,7 @@ pub mod Rounding
 pub mod Running
 pub mod Runs
 pub mod Ticking
+pub mod Timely
+pub mod Timing
 pub mod Turning
 pub mod Weighing

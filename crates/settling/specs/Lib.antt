@@ -3,3 +3,4 @@ pub mod Load
 pub mod Order
 pub mod Pays
 pub mod Rises
+pub mod Times

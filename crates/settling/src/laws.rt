@@ -4,6 +4,7 @@ ghost use Rattle.settling.specs.Drains.{Drains};
 ghost use Rattle.settling.specs.Order.{SubordinatesRegisterFirst};
 ghost use Rattle.settling.specs.Pays.{Pays};
 ghost use Rattle.settling.specs.Rises.{NodesRise};
+ghost use Rattle.settling.specs.Times.{TimesPass};
 
 /// Whatever a book posts it pays for with its load: each message that comes, and isn't one that makes something, leaves the
 /// load and the weight of what is posted lower than the load and its own weight were, and what is due leaves them no higher. So it
@@ -30,4 +31,10 @@ pub fn subordinates_register_first()
 #[tactic(auto, using(crate::proofs::Rising::nodes_rise))]
 pub fn nodes_rise()
     ensures { NodesRise }
+{}
+
+/// In every run no item has sent later than its book has seen, and no book has seen a time that its node's clock hasn't shown.
+#[tactic(auto, using(crate::proofs::Timely::times_pass))]
+pub fn times_pass()
+    ensures { TimesPass }
 {}
