@@ -1,11 +1,14 @@
 pub mod Acting
 pub mod Affording
+pub mod Asking
 pub mod Caps
 pub mod Clocks
 pub mod Completing
 pub mod Costs
 pub mod Delivering
 pub mod Draining
+pub mod Due
+pub mod DueLeaves
 pub mod Entries
 pub mod Joining
 pub mod Known
@@ -23,6 +26,7 @@ pub mod Rising
 pub mod Rounding
 pub mod Running
 pub mod Runs
+pub mod Ticked
 pub mod Ticking
 pub mod Timely
 pub mod Timing

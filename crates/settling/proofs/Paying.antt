@@ -23,6 +23,7 @@ use Rattle.model_laws.specs.Shapes.{Answers, IsAnswer, MakesActivity, MovesActiv
 use Rattle.model_laws.proofs.Deciding.{Both, all_find, decided_says, found_id, in_branch, plain_both}
 use Rattle.model_laws.proofs.Keeping.{register_kept}
 use Rattle.model_laws.proofs.Linking.{Linked}
+use Rattle.model_laws.proofs.Ordering.{ids_rise}
 use Rattle.model_laws.proofs.Reaching.{run_reached}
 use Rattle.model_laws.proofs.Shaping.{steps_touch_one}
 use Rattle.model_laws.proofs.Standing.{decides_behind_every_answer}
@@ -238,10 +239,10 @@ pub step_within : (P : Prices) (b : Book) (e : Event) (now : ℕ) (landed : Bool
 step_within P b e now landed g h = in_branch (Within P now (load P now b + allowed P e)) (plan b e now) landed (by_shape P b e now (plan b e now) g h (steps_touch_one b e now))
 
 pub stays_steady : (b : Book) (e : Event) (now : ℕ) (landed : Bool) → IsSteady b → IsSteady (step b e now landed).book
-stays_steady b e now landed g = record { phases = decides_behind_every_answer.book b e now landed g.phases; finished = finishes_all.book b e now landed g.phases g.finished }
+stays_steady b e now landed g = record { order = ids_rise.stays b e now landed g.order; phases = decides_behind_every_answer.book b e now landed g.phases; finished = finishes_all.book b e now landed g.phases g.finished }
 
 pub steady_books : (count : ℕ) (w : World) → Reached count w → (n : ℕ) (x : Node) (b : Book) → nth n w.nodes ≡ Some x → x.book ≡ Some b → IsSteady b
-steady_books count w reached n x b found up = let sound : IsSoundBook x.journal b = book_sound count w reached n x b found up in record { phases = sound.phases; finished = sound.finished }
+steady_books count w reached n x b found up = let sound : IsSoundBook x.journal b = book_sound count w reached n x b found up in record { order = sound.order; phases = sound.phases; finished = sound.finished }
 
 pub pays : Pays
 pays = record {

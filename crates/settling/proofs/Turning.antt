@@ -36,7 +36,7 @@ send_calm n (outs.Post p ∷ os) w b = send_calm n os (with_post n p w) b
 send_calm n (outs.Answer status reply ∷ os) w b = send_calm n os w b
 
 -- what is posted
-abbrev posted_by : ℕ → List Node → Post → Posted
+abbrev pub posted_by : ℕ → List Node → Post → Posted
 posted_by n nodes p = record { sender = n; receiver = receiver_of nodes p.to; content = p }
 
 pub posts_nodes : (n : ℕ) (ps : List Post) (w : World) → (post_all n ps w).nodes ≡ w.nodes
@@ -69,50 +69,66 @@ pub record Goes (P : Prices) (n now budget : ℕ) (w : World) (r : Turning) : Ty
   pub is : r ≡ calm world book
   pub stands : Stands P n now budget w world book
 
-counted_goes : (P : Prices) (n now budget more limit : ℕ) (w u : World) (b : Book) (o : Outcome) → Stands P n now budget w u b → IsSteady o.book → after P now o ≤ load P now b + more
-    → budget + more ≤ limit → Goes P n now limit w (counted n o (calm u b))
-counted_goes P n now budget more limit w u b o s steady paid less =
+-- What a step of a turn leads to: this book, with these posts behind the others.
+pub record Took (P : Prices) (n now limit : ℕ) (w : World) (before : List Posted) (o : Outcome) (r : Turning) : Type 0 where
+  pub goes : Goes P n now limit w r
+  pub book : goes.book ≡ o.book
+  pub nodes : List Node
+  pub new : goes.stands.new ≡ before ++ map (posted_by n nodes) (posts_in o.outs)
+
+counted_took : (P : Prices) (n now budget more limit : ℕ) (w u : World) (b : Book) (o : Outcome) → (s : Stands P n now budget w u b) → IsSteady o.book → after P now o ≤ load P now b + more
+    → budget + more ≤ limit → Took P n now limit w s.new o (counted n o (calm u b))
+counted_took P n now budget more limit w u b o s steady paid less =
     let v : World = record u { accepted = u.accepted ++ accepted_in n u.nodes b o.book.transactions; happened = u.happened ++ map (happened_at n) o.effects } in
     let ps : List Post = posts_in o.outs in
     record {
-      world = post_all n ps v;
-      book = o.book;
-      is = send_calm n o.outs v o.book;
-      stands = record {
-        steady = steady;
-        node = s.node;
-        found = ap (nth n) (posts_nodes n ps v) ∙ s.found;
-        nodes = posts_nodes n ps v ∙ s.nodes;
-        clock = s.clock;
-        new = s.new ++ map (posted_by n u.nodes) ps;
-        posted = posts_posted n ps v ∙ ap (λ l. l ++ map (posted_by n u.nodes) ps) s.posted ∙ append_assoc w.posted s.new (map (posted_by n u.nodes) ps);
-        paid = omega (arith, s.paid, paid, less, sum_by-append (posted_weight P) s.new (map (posted_by n u.nodes) ps), posts_queued P n u.nodes ps);
+      goes = record {
+        world = post_all n ps v;
+        book = o.book;
+        is = send_calm n o.outs v o.book;
+        stands = record {
+          steady = steady;
+          node = s.node;
+          found = ap (nth n) (posts_nodes n ps v) ∙ s.found;
+          nodes = posts_nodes n ps v ∙ s.nodes;
+          clock = s.clock;
+          new = s.new ++ map (posted_by n u.nodes) ps;
+          posted = posts_posted n ps v ∙ ap (λ l. l ++ map (posted_by n u.nodes) ps) s.posted ∙ append_assoc w.posted s.new (map (posted_by n u.nodes) ps);
+          paid = omega (arith, s.paid, paid, less, sum_by-append (posted_weight P) s.new (map (posted_by n u.nodes) ps), posts_queued P n u.nodes ps);
+        };
       };
+      book = refl;
+      nodes = u.nodes;
+      new = refl;
     }
 
 journaled_stands : (P : Prices) (n now budget : ℕ) (w u : World) (b : Book) (entry : Record) → Stands P n now budget w u b → Stands P n now budget w (with_record n entry u (nth n u.nodes)) b
 journaled_stands P n now budget w u b entry s =
     let x : Node = record s.node { journal = s.node.journal ++ entry ∷ [] } in
-    subst (λ o. Stands P n now budget w (with_record n entry u o) b) (sym s.found)
-    (record {
+    record {
       steady = s.steady;
       node = x;
-      found = put_this u.nodes n s.node x s.found;
-      nodes = ap (put_nth n x) s.nodes ∙ put_put n s.node x w.nodes;
+      found = ap (λ o. nth n (with_record n entry u o).nodes) s.found ∙ put_this u.nodes n s.node x s.found;
+      nodes = ap (λ o. (with_record n entry u o).nodes) s.found ∙ ap (put_nth n x) s.nodes ∙ put_put n s.node x w.nodes;
       clock = s.clock;
       new = s.new;
-      posted = s.posted;
+      posted = ap (λ o. (with_record n entry u o).posted) s.found ∙ s.posted;
       paid = s.paid;
-    })
+    }
 
-pub take_goes : (P : Prices) (n now budget more limit : ℕ) (w u : World) (b : Book) (p : Plan) → Stands P n now budget w u b → IsSteady p.landed.book
-    → after P now p.landed ≤ load P now b + more → budget + more ≤ limit → Goes P n now limit w (take_step n p (calm u b))
-take_goes P n now budget more limit w u b p s steady paid less = by_entry p.entry
+pub take_took : (P : Prices) (n now budget more limit : ℕ) (w u : World) (b : Book) (p : Plan) → (s : Stands P n now budget w u b) → IsSteady p.landed.book
+    → after P now p.landed ≤ load P now b + more → budget + more ≤ limit → Took P n now limit w s.new p.landed (take_step n p (calm u b))
+unfolding journaled_stands
+take_took P n now budget more limit w u b p s steady paid less = by_entry p.entry
   where
-    by_entry : (entry : Option Record) → Goes P n now limit w (step_by n entry p (calm u b))
-    by_entry None = counted_goes P n now budget more limit w u b p.landed s steady paid less
+    by_entry : (entry : Option Record) → Took P n now limit w s.new p.landed (step_by n entry p (calm u b))
+    by_entry None = counted_took P n now budget more limit w u b p.landed s steady paid less
     by_entry (Some entry) =
-        counted_goes P n now budget more limit w (with_record n entry u (nth n u.nodes)) b p.landed (journaled_stands P n now budget w u b entry s) steady paid less
+        counted_took P n now budget more limit w (with_record n entry u (nth n u.nodes)) b p.landed (journaled_stands P n now budget w u b entry s) steady paid less
+
+take_goes : (P : Prices) (n now budget more limit : ℕ) (w u : World) (b : Book) (p : Plan) → Stands P n now budget w u b → IsSteady p.landed.book
+    → after P now p.landed ≤ load P now b + more → budget + more ≤ limit → Goes P n now limit w (take_step n p (calm u b))
+take_goes P n now budget more limit w u b p s steady paid less = (take_took P n now budget more limit w u b p s steady paid less).goes
 
 -- the due steps
 due_goes : (P : Prices) (n now budget : ℕ) (w u : World) (b : Book) (item : Item) → Stands P n now budget w u b → Goes P n now budget w (due_step n now item (calm u b))

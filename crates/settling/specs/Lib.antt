@@ -1,3 +1,4 @@
+pub mod Again
 pub mod Drains
 pub mod Load
 pub mod Order

@@ -10,6 +10,7 @@ use Rattle.at_model.specs.Book.{Book}
 use Rattle.at_model.specs.Step.{Outcome, step}
 use Rattle.at_model.specs.World.{Node, WorldEvent, nth, run_of}
 use Rattle.model_laws.specs.Behind.{IsInPhase}
+use Rattle.model_laws.specs.Order.{IsInOrder}
 use Rattle.agreement.specs.Finished.{AreFinished}
 use Rattle.settling.specs.Load.{Prices, load, posts_in, weight, weights}
 
@@ -19,8 +20,9 @@ MakesNothing (messages.Create c) = ⊥
 MakesNothing (messages.Work w) = ⊥
 MakesNothing other = Unit {0}
 
--- Links follow their phases, behind the answers that these want, and seats have numbers of their own.
+-- Links follow their phases, behind the answers that these want, seats have numbers of their own, and items ids of their own.
 pub record IsSteady (b : Book) : Type 0 where
+  pub order : IsInOrder b
   pub phases : IsInPhase b
   pub finished : AreFinished b
 

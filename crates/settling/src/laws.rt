@@ -1,5 +1,6 @@
 //! What leads to settling.
 
+ghost use Rattle.settling.specs.Again.{TicksAsk};
 ghost use Rattle.settling.specs.Drains.{Drains};
 ghost use Rattle.settling.specs.Order.{SubordinatesRegisterFirst};
 ghost use Rattle.settling.specs.Pays.{Pays};
@@ -37,4 +38,11 @@ pub fn nodes_rise()
 #[tactic(auto, using(crate::proofs::Timely::times_pass))]
 pub fn times_pass()
     ensures { TimesPass }
+{}
+
+/// In every run, once a node has ticked, long enough that all is quiet, each of its transactions and leaves has sent again what it
+/// waits for.
+#[tactic(auto, using(crate::proofs::Ticked::ticks_ask))]
+pub fn ticks_ask()
+    ensures { TicksAsk }
 {}
