@@ -22,6 +22,7 @@ pub mod Paying
 pub mod Phasing
 pub mod Places
 pub mod Registering
+pub mod Replying
 pub mod Rising
 pub mod Rounding
 pub mod Running

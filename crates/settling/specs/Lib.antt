@@ -3,5 +3,6 @@ pub mod Drains
 pub mod Load
 pub mod Order
 pub mod Pays
+pub mod Replies
 pub mod Rises
 pub mod Times

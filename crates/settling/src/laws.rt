@@ -4,6 +4,7 @@ ghost use Rattle.settling.specs.Again.{TicksAsk};
 ghost use Rattle.settling.specs.Drains.{Drains};
 ghost use Rattle.settling.specs.Order.{SubordinatesRegisterFirst};
 ghost use Rattle.settling.specs.Pays.{Pays};
+ghost use Rattle.settling.specs.Replies.{RegistersAreAnswered};
 ghost use Rattle.settling.specs.Rises.{NodesRise};
 ghost use Rattle.settling.specs.Times.{TimesPass};
 
@@ -45,4 +46,11 @@ pub fn times_pass()
 #[tactic(auto, using(crate::proofs::Ticked::ticks_ask))]
 pub fn ticks_ask()
     ensures { TicksAsk }
+{}
+
+/// A Register is answered with a RegisterResponse or a fault that relates to it, in each state of the transaction, also where it
+/// is unknown.
+#[tactic(auto, using(crate::proofs::Replying::registers_are_answered))]
+pub fn registers_are_answered()
+    ensures { RegistersAreAnswered }
 {}
