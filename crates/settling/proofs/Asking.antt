@@ -15,15 +15,12 @@ use Rattle.at_model.specs.World.{Node, Posted, Turning, World, due_step, due_ste
 use Rattle.model_laws.specs.Agreement.{IsIn}
 use Rattle.model_laws.proofs.Shaping.{steps_keep_place}
 use Rattle.model_laws.proofs.Recovering.{same_id, self_id}
-use Rattle.settling.specs.Load.{Prices, posts_in}
+use Rattle.settling.specs.Load.{posts_in}
 use Rattle.settling.specs.Pays.{IsSteady}
 use Rattle.settling.proofs.Due.{AreAmong, HasAsked, activity_due_same, due_none, due_other, due_transaction, leaf_due_same, more_asked, more_among, undue_transaction}
 use Rattle.settling.proofs.DueLeaves.{LeafAsked, activity_due_leaves, due_leaf, leaf_due_none, leaf_other, transaction_due_leaves, undue_leaf}
 use Rattle.settling.proofs.Paying.{stays_steady, step_within}
-use Rattle.settling.proofs.Turning.{Goes, Stands, Took, calm, posted_by, take_took}
-
-pub no_prices : Prices
-no_prices = record { seat = 0; other = 0; making = 0 }
+use Rattle.settling.proofs.Turning.{Goes, Stands, Took, calm, posted_by, take_took, no_prices}
 
 -- what was posted, and which items are still to come
 abbrev pub contents : List Posted → List Post

@@ -173,7 +173,7 @@ due_id m t Unanswered = refl
 due_id m t Nothing = refl
 
 -- The step of a transaction that is due: what it leaves has asked, where it had, or was quiet.
-left_found : {A : Type 0} (P : A → Type 0) (o : Option A) (x : A) → IfThere P o → o ≡ Some x → P x
+pub left_found : {A : Type 0} (P : A → Type 0) (o : Option A) (x : A) → IfThere P o → o ≡ Some x → P x
 left_found P o x h e = subst (IfThere P) e h
 
 pub due_transaction : (b : Book) (now : ℕ) (all : List Post) (id : Numbers) (t new : Transaction) → IsInOrder b → transaction_at b id ≡ Some t

@@ -20,7 +20,7 @@ use Rattle.agreement.proofs.Still.{find_other, find_this}
 use Rattle.settling.specs.Load.{posts_in}
 use Rattle.settling.proofs.Registering.{posts_of}
 use Rattle.at_model.specs.Step.{put_leaf}
-use Rattle.settling.proofs.Due.{AreAmong, behind_among, more_among, quiet_later, unreached}
+use Rattle.settling.proofs.Due.{AreAmong, behind_among, more_among, quiet_later, unreached, left_found}
 
 -- what is left of a leaf has asked
 abbrev pub LeafAsked : Moment → List Post → Leaf → Type 0
@@ -62,9 +62,6 @@ leaf_own m l Expired = gone (λ x. x.id ≡ l.id) m l
 leaf_own m l Over = refl
 leaf_own m l Unanswered = refl
 leaf_own m l Nothing = refl
-
-left_found : {A : Type 0} (P : A → Type 0) (o : Option A) (x : A) → IfThere P o → o ≡ Some x → P x
-left_found P o x h e = subst (IfThere P) e h
 
 pub due_leaf : (b : Book) (now : ℕ) (all : List Post) (id : Numbers) (l new : Leaf) → IsInOrder b → leaf_at b id ≡ Some l
     → (is_quiet now l.sent ≡ true) ⊎ LeafAsked (moment_of b now) all l → leaf_at (step b (events.Due (items.Leaf id)) now true).book id ≡ Some new

@@ -23,7 +23,7 @@ use Rattle.model_laws.proofs.Recovering.{incarnations_rise}
 use Rattle.model_laws.proofs.Running.{put_other, put_this}
 use Rattle.model_laws.proofs.Shaping.{steps_keep_place}
 use Rattle.settling.specs.Drains.{risen}
-use Rattle.settling.specs.Load.{Prices, load}
+use Rattle.settling.specs.Load.{load}
 use Rattle.settling.specs.Pays.{IsSteady, after}
 use Rattle.settling.specs.Rises.{AllUp, IsUp, NodesRise}
 use Rattle.settling.proofs.Delivering.{IsSteadyNode}
@@ -32,7 +32,7 @@ use Rattle.settling.proofs.Paying.{stays_steady}
 use Rattle.settling.proofs.Places.{all_nth, all_put_nth, length_put, nth_behind, nth_within}
 use Rattle.settling.proofs.Rounding.{next}
 use Rattle.settling.proofs.Runs.{IsOfRun, all_from_nth, all_further, further_run, nth_least, run_is, run_steady}
-use Rattle.settling.proofs.Turning.{Turned, turn_ends}
+use Rattle.settling.proofs.Turning.{Turned, turn_ends, no_prices}
 
 -- incarnations are counted
 record Counts (rs : List Record) (b : Book) : Type 0 where
@@ -100,9 +100,6 @@ data KeepsUp (w v : World) : Type 0 where
 kept_up : (w v : World) → KeepsUp w v → AllUp w → AllUp v
 kept_up w v (as_it_was e) h = subst AllUp (sym e) h
 kept_up w v (one_up n y up e) h = subst (AllByRecursion IsUp) (sym e) (all_put_nth IsUp n y w.nodes up h)
-
-no_prices : Prices
-no_prices = record { seat = 0; other = 0; making = 0 }
 
 turn_keeps : (n now : ℕ) (w : World) (x : Node) (b : Book) (p : Plan) → nth n w.nodes ≡ Some x → x.clock ≡ now → IsSteady b → IsSteady p.landed.book → KeepsUp w (take_turn n now p (turn_from w b [] None))
 turn_keeps n now w x b p found clock steady stays =

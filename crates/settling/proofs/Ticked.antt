@@ -19,7 +19,7 @@ use Rattle.settling.specs.Pays.{IsSteady}
 use Rattle.settling.proofs.Due.{AreAmong, HasAsked}
 use Rattle.settling.proofs.DueLeaves.{LeafAsked}
 use Rattle.settling.proofs.Paying.{stays_steady, step_within}
-use Rattle.settling.proofs.Turning.{Stands, Took, calm, take_took}
+use Rattle.settling.proofs.Turning.{Stands, Took, calm, take_took, no_prices}
 use Rattle.std.proofs.lemmas.List.{append-nil}
 use Rattle.at_model.specs.World.{at_some_node, later, on_book, put_book, ticked, turn, turned, world_step}
 use Rattle.model_laws.proofs.Deciding.{all_find, found_id}
@@ -28,7 +28,7 @@ use Rattle.model_laws.proofs.Reaching.{run_reached}
 use Rattle.model_laws.proofs.Running.{put_this}
 use Rattle.agreement.proofs.LeafWaiting.{found_in}
 use Rattle.settling.specs.Times.{IsBy, SentBy}
-use Rattle.settling.proofs.Asking.{Asked, AsksOn, contents, dues_on, no_prices, plain_moment, from_plain, took_asked}
+use Rattle.settling.proofs.Asking.{Asked, AsksOn, contents, dues_on, plain_moment, from_plain, took_asked}
 use Rattle.settling.proofs.Paying.{steady_books}
 use Rattle.settling.proofs.Timely.{times_pass}
 
@@ -121,7 +121,9 @@ tick_asks n w x b found up g sent seen =
       leaves = λ id l e. inl (leaf_listed b id l e, quiet_after b.seen x.clock l.sent (all_find (λ q. IsBy b.seen q.sent) leaf_id id b.leaves l sent.leaves e) seen);
     } in
     let a : AsksOn n now b.base v (items_of c) r = took_asked n now budget b.base v [] (plan b events.Tick now).landed r (items_of c) t first in
-    let listed : items_of r.book ≡ items_of c = ap (λ (q : Turning). items_of q.book) t.goes.is ∙ ap items_of t.book in
+    let so_far : items_of r.book ≡ items_of t.goes.book = ap (λ (q : Turning). items_of q.book) t.goes.is in
+    let as_before : items_of t.goes.book ≡ items_of c = ap items_of t.book in
+    let listed : items_of r.book ≡ items_of c = so_far ∙ as_before in
     turn_asks n now b.base w v (due_steps n now (items_of r.book) r) refl
     (dues_on n now b.base v (items_of r.book) r (subst (λ l. AsksOn n now b.base v l r) (sym listed) a))
 

@@ -20,6 +20,10 @@ use Rattle.settling.specs.Load.{Prices, load, post_weight, posts_in, weights}
 use Rattle.settling.specs.Pays.{IsSteady, after}
 use Rattle.settling.proofs.Paying.{stays_steady, step_within}
 
+-- prices of nothing, for what holds whatever it costs
+pub no_prices : Prices
+no_prices = record { seat = 0; other = 0; making = 0 }
+
 abbrev pub posted_weight : Prices → Posted → ℕ
 posted_weight P p = post_weight P p.content
 

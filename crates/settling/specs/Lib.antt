@@ -1,5 +1,6 @@
 pub mod Again
 pub mod Drains
+pub mod Examples
 pub mod Load
 pub mod Order
 pub mod Pays
