@@ -1,0 +1,16 @@
+-- Times pass as they should.
+use Rattle.std.specs.Prelude.{◌≤◌}
+use Rattle.std.proofs.Common.{subst}
+use Rattle.at_model.specs.World.{run_of}
+use Rattle.model_laws.proofs.Deciding.{IfThere}
+use Rattle.model_laws.proofs.Reaching.{run_reached}
+use Rattle.settling.specs.Times.{TimesPass}
+use Rattle.settling.proofs.Clocks.{IsTimed, run_timed}
+use Rattle.settling.proofs.Passing.{books_timely}
+use Rattle.settling.proofs.Places.{all_nth}
+
+pub times_pass : TimesPass
+times_pass = record {
+  sent = λ count es n x b found up. books_timely count (run_of count es) (run_reached count es) n x b found up;
+  seen = λ count es n x b found up. subst (IfThere (λ c. c.seen ≤ x.clock)) up (all_nth IsTimed n x (run_of count es).nodes (run_timed count es) found);
+}

@@ -1,0 +1,9 @@
+pub mod Again
+pub mod Drains
+pub mod Examples
+pub mod Load
+pub mod Order
+pub mod Pays
+pub mod Replies
+pub mod Rises
+pub mod Times

@@ -1,0 +1,20 @@
+-- Every node comes up, and stays up.
+use Rattle.std.specs.Prelude.{ℕ, List, Some, false, is_none, ◌≡◌, ◌≤◌}
+use Rattle.std.specs.List.{AllByRecursion}
+use Rattle.at_model.specs.Book.{last_counter}
+use Rattle.at_model.specs.Recover.{last_incarnation}
+use Rattle.at_model.specs.World.{Node, World, WorldEvent, nth, run_of}
+use Rattle.model_laws.specs.Settle.{MayStart, settle_rounds}
+use Rattle.settling.specs.Drains.{risen}
+
+abbrev pub IsUp : Node → Type 0
+IsUp x = is_none x.book ≡ false
+
+abbrev pub AllUp : World → Type 0
+AllUp w = AllByRecursion IsUp w.nodes
+
+pub record NodesRise : Type 0 where
+  -- in every run no incarnation is behind the last one
+  pub counted : (count : ℕ) (es : List WorldEvent) (n : ℕ) (x : Node) → nth n (run_of count es).nodes ≡ Some x → last_incarnation x.journal ≤ last_counter
+  -- where each node may start, each is up as the rounds begin, and behind each round
+  pub rounds : (count : ℕ) (es : List WorldEvent) (n most : ℕ) → AllByRecursion MayStart (run_of count es).nodes → AllUp (settle_rounds n most (risen count es)).world
