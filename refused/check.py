@@ -1,7 +1,8 @@
 #!/usr/bin/env python3
 """Shows that a program which makes a token outside its crate, and one which sends an out twice, don't compile.
 
-Each program is checked as a crate above `decision_log`, in a copy of the repository's crates. Run it at the top, once
+Each program (NAME.txt, since the gate reads each .rt file) is checked as a crate above `decision_log`, in a copy of the
+repository's crates. Run it at the top, once
 `rt check` has passed in `crates/decision_log`: python3 refused/check.py
 """
 
@@ -72,7 +73,7 @@ def main():
         names = [n for n in below(lines, NEEDS) if (top / "crates" / n).is_dir()]
         copied(top, to, names, lines)
         for name, error in PROGRAMS:
-            passed, text = says(to, top / "refused" / f"{name}.rt")
+            passed, text = says(to, top / "refused" / f"{name}.txt")
             right = passed if error is None else not passed and "error" in text and error in text
             wrong += not right
             print(f"{name}: {'as wanted' if right else 'not as wanted'}")

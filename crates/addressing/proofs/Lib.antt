@@ -1,5 +1,3 @@
-pub mod Ahead
-pub mod Contexts
 pub mod Kept
 pub mod LookedUp
 pub mod Marks
@@ -9,3 +7,4 @@ pub mod Spelled
 pub mod Understood
 pub mod Utf8
 pub mod Lengths
+pub mod Repeated

@@ -8,11 +8,12 @@ use Rattle.xml_profile.specs.declared.name.QName.{QName}
 use Rattle.xml_profile.specs.declared.tree.Tree.{Tree}
 use Rattle.xml_profile.specs.Prefixes.{addressing, coordination}
 use Rattle.soap_profile.specs.Building.{qualified}
+use Rattle.soap_profile.specs.Children.{named}
 use Rattle.soap_profile.specs.Envelopes.{first_of}
 use Rattle.soap_profile.specs.Values.{is_named, unqualified_attribute}
 use Rattle.addressing.specs.declared.writer.Endpoint.{Endpoint}
 use Rattle.addressing.specs.declared.writer.OutgoingHeaders.{OutgoingHeaders}
-use Rattle.addressing.specs.Endpoints.{anonymous, named}
+use Rattle.addressing.specs.Endpoints.{anonymous}
 use Rattle.addressing.specs.Headers.{is_reply, is_reply_type}
 use Rattle.addressing.specs.Writing.{IsContext, context_blocks, endpoint_blocks, text_blocks, text_element, to_blocks}
 use Rattle.addressing.proofs.Marks.{heads}

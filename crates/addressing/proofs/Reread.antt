@@ -8,16 +8,17 @@ use Rattle.url.specs.Parser.{parse_url}
 use Rattle.xml_profile.specs.declared.tree.Tree.{Tree}
 use Rattle.xml_profile.specs.Prefixes.{addressing, coordination}
 use Rattle.soap_profile.specs.Building.{qualified}
+use Rattle.soap_profile.specs.Children.{at_most_one, named}
 use Rattle.soap_profile.specs.Envelopes.{first_of}
 use Rattle.soap_profile.specs.Values.{is_empty, text_value, trim}
 use Rattle.at_base.specs.declared.epr.Epr.{Epr}
 use Rattle.addressing.specs.declared.headers.AddressingRefusal.{AddressingRefusal}
 use Rattle.addressing.specs.declared.headers.Header.{Header}
 use Rattle.addressing.specs.declared.headers.Header.TheVariants.{To, Action, MessageId, From, ReplyTo, FaultTo}
-use Rattle.addressing.specs.declared.headers.Headers.{Headers}
 use Rattle.addressing.specs.declared.writer.Endpoint.{Endpoint}
 use Rattle.addressing.specs.declared.writer.OutgoingHeaders.{OutgoingHeaders}
-use Rattle.addressing.specs.Endpoints.{anonymous, at_most_one, named}
+use Rattle.addressing.specs.Endpoints.{anonymous}
+use Rattle.addressing.specs.Message.{Headers}
 use Rattle.addressing.specs.Headers.{◌>>=◌, action_of, context_of, endpoint_of, header_in, headers_of, is_many, is_parsed, is_repeated, is_reply, local_name, readable, relates_of, said_action, said_once, singles, source_of, to_of, unless_repeated, with_context}
 use Rattle.addressing.specs.Writing.{AreLegible, IsTrimmed, IsContext, IsDestination, IsLegible, blocks_of, context_block, context_blocks, destination_in, endpoint_blocks, epr_in, headers_in, text_blocks, text_element, to_blocks}
 use Rattle.addressing.proofs.LookedUp.{action_named, context_named, fault_named, found, from_named, id_named, relates_named, reply_found, reply_named, to_named}

@@ -9,7 +9,8 @@ use Rattle.soap_profile.specs.Building.{text_children}
 use Rattle.soap_profile.specs.Values.{direct_text, is_named, text_value, trim}
 use Rattle.at_base.specs.declared.epr.Epr.{Epr}
 use Rattle.addressing.specs.declared.writer.Endpoint.{Endpoint}
-use Rattle.addressing.specs.Endpoints.{at_most_one, bounded, epr_of, is_within, joined, params_of}
+use Rattle.soap_profile.specs.Children.{at_most_one}
+use Rattle.addressing.specs.Endpoints.{bounded, epr_of, is_within, joined, params_of}
 use Rattle.addressing.specs.Writing.{IsLegible, IsParameters, endpoint_tree, epr_in, text_element}
 
 -- the text of an element of one text

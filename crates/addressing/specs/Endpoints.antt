@@ -1,27 +1,17 @@
 -- What endpoint an element spells (WS-Addressing 1.0 Core, section 2).
-use Rattle.std.specs.Prelude.{ℕ, List, [], ◌∷◌, ◌+◌, Bool, ◌&&◌, nat_le, not, Option, Some, None, if◌then◌else◌, codes, length}
+use Rattle.std.specs.Prelude.{ℕ, List, [], ◌+◌, Bool, ◌&&◌, nat_le, not, Option, Some, None, if◌then◌else◌, codes, length}
 use Rattle.std.specs.Str.{bytes_eq, is_utf8}
 use Rattle.xml_profile.specs.declared.tree.Tree.{Tree}
 use Rattle.xml_profile.specs.Canonical.{canonical_text}
 use Rattle.xml_profile.specs.Prefixes.{addressing}
-use Rattle.soap_profile.specs.Values.{elements, is_named, is_empty, text_value}
+use Rattle.soap_profile.specs.Children.{child_of}
+use Rattle.soap_profile.specs.Values.{is_empty, text_value}
 use Rattle.at_base.specs.declared.epr.Epr.{Epr}
 use Rattle.at_base.specs.declared.epr.Reply.{Reply}
 use Rattle.at_base.specs.declared.epr.Reply.TheVariants.{Anonymous, Nobody, At}
 
--- the elements of a list that have this name
-abbrev pub named : List Tree → List ℕ → List ℕ → List Tree
-named [] space local = []
-named (t ∷ ts) space local = if is_named t.name space local then t ∷ named ts space local else named ts space local
-
--- the only one of a list, or none where it is empty; nothing where there are more
-abbrev pub at_most_one : List Tree → Option (Option Tree)
-at_most_one [] = Some None
-at_most_one (t ∷ []) = Some (Some t)
-at_most_one (t ∷ u ∷ ts) = None
-
 abbrev pub part_of : Tree → List ℕ → Option (Option Tree)
-part_of t local = at_most_one (named (elements t.children) addressing local)
+part_of t local = child_of t (Some addressing) local
 
 -- the canonical text of the reference parameters, empty where there are none
 abbrev pub params_of : Option Tree → List ℕ

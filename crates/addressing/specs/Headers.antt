@@ -1,5 +1,5 @@
 -- What the header blocks of an envelope say (WS-Addressing 1.0 Core, section 3.1, and SOAP Binding, section 3).
-use Rattle.std.specs.Prelude.{ℕ, List, [], ◌∷◌, Bool, true, false, ◌&&◌, ◌||◌, not, Option, Some, None, Result, Ok, Err, if◌then◌else◌, codes, ◌≡◌}
+use Rattle.std.specs.Prelude.{ℕ, List, [], ◌∷◌, Bool, true, false, ◌&&◌, ◌||◌, Option, Some, None, Result, Ok, Err, if◌then◌else◌, codes, ◌≡◌}
 use Rattle.std.specs.List.{find}
 use Rattle.std.specs.Option.{option_map}
 use Rattle.std.specs.Str.{bytes_eq}
@@ -7,15 +7,16 @@ use Rattle.url.specs.Parts.{Parts}
 use Rattle.url.specs.Parser.{parse_url, Parsed}
 use Rattle.xml_profile.specs.declared.tree.Tree.{Tree}
 use Rattle.xml_profile.specs.Prefixes.{addressing, coordination}
+use Rattle.soap_profile.specs.Children.{at_most_one, named}
 use Rattle.soap_profile.specs.Envelopes.{is_reference_parameter}
 use Rattle.soap_profile.specs.Values.{is_named, is_empty, text_value, unqualified_attribute}
 use Rattle.at_base.specs.declared.epr.Epr.{Epr}
 use Rattle.addressing.specs.declared.headers.Header.{Header}
 use Rattle.addressing.specs.declared.headers.Header.TheVariants.{To, Action, MessageId, From, ReplyTo, FaultTo, CoordinationContext}
-use Rattle.addressing.specs.declared.headers.Headers.{Headers}
 use Rattle.addressing.specs.declared.headers.AddressingRefusal.{AddressingRefusal}
 use Rattle.addressing.specs.declared.headers.AddressingRefusal.TheVariants.{MissingHeader, InvalidHeader, NoMemory}
-use Rattle.addressing.specs.Endpoints.{anonymous, at_most_one, epr_of, is_anonymous, is_nobody, named}
+use Rattle.addressing.specs.Endpoints.{anonymous, epr_of, is_anonymous, is_nobody}
+use Rattle.addressing.specs.Message.{Headers}
 
 abbrev pub local_name : Header → List ℕ
 local_name To = codes "To"
@@ -66,10 +67,6 @@ is_context t = is_named t.name coordination (codes "CoordinationContext")
 abbrev pub context_of : List Tree → Option Tree
 context_of blocks = find is_context blocks
 
--- whether a block is a context and no reference parameter
-abbrev pub is_own_context : Tree → Bool
-is_own_context t = is_context t && not (is_reference_parameter t)
-
 -- an action is there and isn't empty
 abbrev pub said_action : List ℕ → Result (List ℕ) AddressingRefusal
 said_action text = if is_empty text then Err (InvalidHeader Action) else Ok text
@@ -81,6 +78,10 @@ action_of (Some t) = said_action (text_value t)
 abbrev pub is_parsed : Parsed Parts → Bool
 is_parsed (Ok url) = true
 is_parsed (Err fault) = false
+
+-- a text that is a URL
+abbrev pub url_text : List ℕ → Option (List ℕ)
+url_text text = if is_parsed (parse_url None text) then Some text else None
 
 -- a destination is a URL, or anonymous, which is the same as none
 abbrev pub destination : List ℕ → Result (Option (List ℕ)) AddressingRefusal

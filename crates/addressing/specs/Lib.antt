@@ -1,6 +1,7 @@
 pub mod Endpoints
 pub mod Examples
 pub mod Headers
+pub mod Message
 pub mod Posting
 pub mod Requests
 pub mod Stored

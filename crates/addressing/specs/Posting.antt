@@ -11,6 +11,11 @@ abbrev pub with_query : List ℕ → Option (List ℕ) → List ℕ
 with_query path None = path
 with_query path (Some query) = path ++ codes "?" ++ query
 
+-- the path of a URL, without its query
+abbrev pub path_in : Parsed Parts → Option (List ℕ)
+path_in (Ok url) = Some url.path
+path_in (Err fault) = None
+
 -- only an http URL can be posted to
 abbrev pub postable : Parts → Option PostTo
 postable url =

@@ -2,15 +2,14 @@
 use Rattle.std.specs.Prelude.{ℕ, List, Bool, true, ◌&&◌, ◌||◌, not, is_some, Option, Some, None, Result, Ok, Err, if◌then◌else◌, codes}
 use Rattle.std.specs.Str.{bytes_eq}
 use Rattle.xml_profile.specs.declared.name.QName.{QName}
-use Rattle.xml_profile.specs.Prefixes.{soap}
-use Rattle.soap_profile.specs.Values.{is_named}
+use Rattle.soap_profile.specs.Faults.{is_fault}
 use Rattle.at_base.specs.declared.epr.Epr.{Epr}
 use Rattle.addressing.specs.declared.headers.Header.{Header}
 use Rattle.addressing.specs.declared.headers.Header.TheVariants.{MessageId, ReplyTo, FaultTo, CoordinationContext}
-use Rattle.addressing.specs.declared.headers.Headers.{Headers}
 use Rattle.addressing.specs.declared.headers.AddressingRefusal.{AddressingRefusal}
 use Rattle.addressing.specs.declared.headers.AddressingRefusal.TheVariants.{MissingHeader, InvalidHeader}
 use Rattle.addressing.specs.Endpoints.{is_anonymous, is_nobody}
+use Rattle.addressing.specs.Message.{Headers}
 use Rattle.addressing.specs.Headers.{◌>>=◌}
 use Rattle.addressing.specs.Posting.{post_to_of}
 
@@ -27,7 +26,7 @@ work_action = codes "http://example.org/atx/work/1/Work"
 -- a fault asks for no answer, whatever its action
 abbrev pub is_request : Headers → QName → Bool
 is_request headers body =
-    not (is_named body soap (codes "Fault"))
+    not (is_fault body)
     && (bytes_eq headers.action create_action || (bytes_eq headers.action register_action || bytes_eq headers.action work_action))
 
 -- an endpoint can be answered: on the connection, not at all, or by a post

@@ -11,10 +11,10 @@ use Rattle.xml_profile.specs.Prefixes.{addressing, coordination, soap}
 use Rattle.soap_profile.specs.Building.{children_of, element, qualified, text_children}
 use Rattle.soap_profile.specs.Values.{elements, is_empty, is_named, trim}
 use Rattle.at_base.specs.declared.epr.Epr.{Epr}
-use Rattle.addressing.specs.declared.headers.Headers.{Headers}
 use Rattle.addressing.specs.declared.writer.Endpoint.{Endpoint}
 use Rattle.addressing.specs.declared.writer.OutgoingHeaders.{OutgoingHeaders}
 use Rattle.addressing.specs.Endpoints.{anonymous, is_within, params_of}
+use Rattle.addressing.specs.Message.{Headers}
 use Rattle.addressing.specs.Headers.{is_parsed, source_of}
 
 -- an element of addressing with a text

@@ -5,10 +5,10 @@ ghost use Rattle.std.specs.Option.{option_copied, option_map};
 ghost use Rattle.soap_profile.specs.Values.{text_value};
 ghost use Rattle.addressing.specs.Endpoints.{bounded, epr_of, fault_of, is_anonymous, is_nobody, joined, params_of, reply_at, reply_of};
 
-use crate::elements::Elements;
 use crate::long::has_long_space;
 use at_base::epr::{Epr, Reply};
 use at_base::text::Text;
+use soap_profile::elements::child;
 use soap_profile::value::text_value;
 use std::alloc::{AllocError, Global};
 use std::str;
@@ -29,10 +29,9 @@ const MOST_BYTES: usize = 2048;
 pub fn read_epr(alloc: Global, tree: &Tree) -> Result<Option<Epr>, AllocError>
     ensures { IfOk result (λ epr. epr ≡ epr_of tree.now) }
 {
-    let parts = Elements::within(alloc, &tree.children)?;
-    let address = parts.one(ADDRESSING, "Address");
-    let params = parts.one(ADDRESSING, "ReferenceParameters");
-    let metadata = parts.one(ADDRESSING, "Metadata");
+    let address = child(tree, Some(ADDRESSING), "Address");
+    let params = child(tree, Some(ADDRESSING), "ReferenceParameters");
+    let metadata = child(tree, Some(ADDRESSING), "Metadata");
     joined(alloc, address, params, metadata)
 }
 

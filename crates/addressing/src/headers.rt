@@ -4,19 +4,18 @@ ghost use Rattle.std.specs.Prelude.{◌≡◌, IfOk, None};
 ghost use Rattle.std.specs.List.{find};
 ghost use Rattle.std.specs.Option.{option_copied, option_map};
 ghost use Rattle.soap_profile.specs.Values.{text_value};
-ghost use Rattle.addressing.specs.Headers.{Answers, action_of, context_of, destination, endpoint_of, header_in, headers_of, is_context, is_own_context, is_parsed, is_repeated, local_name, own_blocks, said_once, singles, source_of, to_of, unless_repeated};
-ghost use Rattle.url.specs.Parser.{parse_url};
+ghost use Rattle.addressing.specs.Headers.{Answers, action_of, destination, endpoint_of, header_in, headers_of, is_repeated, is_reply, is_reply_type, local_name, own_blocks, said_once, singles, source_of, to_of, unless_repeated, with_context};
 
-use crate::elements::Elements;
+use crate::destination::Destination;
 use crate::endpoint::{ANONYMOUS, is_anonymous, is_nobody, read_epr};
 use at_base::epr::Epr;
 use at_base::text::Text;
+use soap_profile::elements::Elements;
 use soap_profile::envelope::is_reference_parameter;
-use soap_profile::trees::Trees;
-use soap_profile::value::{is_named, text_value};
+use soap_profile::value::{is_named, text_value, unqualified_attribute};
 use std::alloc::{AllocError, Global};
+use std::marker::Model;
 use thiserror::Error;
-use url::{ParseError, Url};
 use xml_profile::names::{ADDRESSING, COORDINATION};
 use xml_profile::tree::Tree;
 
@@ -50,10 +49,10 @@ impl Header {
 }
 
 /// What the header blocks of an envelope say.
-#[derive(Debug, Drop)]
-pub struct Headers {
+#[derive(Drop)]
+pub struct Headers<'a> {
     /// The destination, absent where it is anonymous.
-    pub to: Option<Text>,
+    pub to: Option<Destination>,
     pub action: Text,
     /// It may be empty.
     pub id: Option<Text>,
@@ -64,7 +63,18 @@ pub struct Headers {
     pub reply: Option<Epr>,
     pub fault: Option<Epr>,
     /// The element of a coordination context (WS-Coordination 1.2, section 2).
-    pub context: Option<Tree>,
+    pub context: Option<&'a Tree>,
+}
+
+impl<'a> Model for Headers<'a> {
+    ghost use Rattle.std.specs.Option.{option_copied};
+    ghost use Rattle.addressing.specs.Message.{Headers, coded_headers};
+
+    ghost Value = { Headers };
+
+    ghost coded = { coded_headers };
+
+    ghost view = { λ h. record { to = h.to; action = h.action; id = h.id; relates = h.relates; from = h.from; reply = h.reply; fault = h.fault; context = option_copied h.context } };
 }
 
 /// Why header blocks are refused (WS-Addressing 1.0 SOAP Binding, section 6.4).
@@ -101,47 +111,47 @@ const SINGLES: [Header; 6] = [
 
 /// What header blocks say, or the first refusal that holds: a repeated header, then no Action, then an Action, To,
 /// From, ReplyTo or FaultTo that says nothing.
-pub fn read_headers(alloc: Global, blocks: Trees) -> Result<Headers, AddressingRefusal>
-    ensures { Answers (headers_of blocks) result }
+pub fn read_headers<'a>(
+    alloc: Global,
+    blocks: &Elements<'a>,
+) -> Result<Headers<'a>, AddressingRefusal>
+    ensures { Answers (headers_of blocks.now) result }
 {
-    let mut headers = read_lent(alloc, blocks.as_slice())?;
-    headers.context = into_context(blocks);
-    Ok(headers)
+    let own = own_blocks(alloc, blocks)?;
+    let headers = read_own(alloc, &own)?;
+    let context = own.first(COORDINATION, "CoordinationContext");
+    Ok(with_context(headers, context))
 }
 
-#[tactic(auto, using(crate::proofs::Contexts::context_of_own))]
-fn into_context(blocks: Trees) -> Option<Tree>
-    ensures { result ≡ context_of (own_blocks blocks) }
+fn with_context<'a>(headers: Headers<'a>, context: Option<&'a Tree>) -> Headers<'a>
+    ensures { result ≡ with_context (option_copied context.entry) headers.entry }
 {
-    first_context(blocks.into_vec())
+    let mut headers = headers;
+    headers.context = context;
+    headers
 }
 
-fn first_context(blocks: Vec<Tree>) -> Option<Tree>
-    ensures { result ≡ find is_own_context blocks.items }
+/// The blocks that are no reference parameters.
+fn own_blocks<'a>(alloc: Global, blocks: &Elements<'a>) -> Result<Elements<'a>, AllocError>
+    ensures { IfOk result (λ own. own ≡ own_blocks blocks.now) }
 {
-    blocks.into_iter().find(is_own_context)
-}
-
-fn is_own_context(block: &Tree) -> bool
-    ensures { result ≡ is_own_context block.now }
-{
-    is_context(block) && !is_reference_parameter(block)
-}
-
-fn is_context(block: &Tree) -> bool
-    ensures { result ≡ is_context block.now }
-{
-    is_named(&block.name, COORDINATION, "CoordinationContext")
+    let mut own = Elements::new(alloc);
+    for block in blocks.as_slice() {
+        let block: &'a Tree = *block;
+        if !is_reference_parameter(block) {
+            own.push(block)?;
+        }
+    }
+    Ok(own)
 }
 
 /// All but the context.
-fn read_lent(alloc: Global, blocks: &[Tree]) -> Result<Headers, AddressingRefusal>
-    ensures { Answers (unless_repeated (find (is_repeated (own_blocks blocks.now)) singles) (said_once (own_blocks blocks.now))) result }
+fn read_own<'a>(alloc: Global, headers: &Elements<'a>) -> Result<Headers<'a>, AddressingRefusal>
+    ensures { Answers (unless_repeated (find (is_repeated headers.now) singles) (said_once headers.now)) result }
 {
-    let headers = Elements::headers(alloc, blocks)?;
-    match first_repeated(&headers, &SINGLES) {
+    match first_repeated(headers, &SINGLES) {
         Some(name) => Err(AddressingRefusal::InvalidHeader { name }),
-        None => read_once(alloc, &headers),
+        None => read_once(alloc, headers),
     }
 }
 
@@ -163,7 +173,7 @@ fn is_repeated(headers: &Elements<'_>, header: Header) -> bool
     headers.one(ADDRESSING, header.local_name()).is_none()
 }
 
-fn read_once(alloc: Global, headers: &Elements<'_>) -> Result<Headers, AddressingRefusal>
+fn read_once<'a>(alloc: Global, headers: &Elements<'a>) -> Result<Headers<'a>, AddressingRefusal>
     ensures { Answers (said_once headers.now) result }
 {
     let action = read_action(alloc, header_in(headers, Header::Action))?;
@@ -172,7 +182,7 @@ fn read_once(alloc: Global, headers: &Elements<'_>) -> Result<Headers, Addressin
     let reply = read_endpoint(alloc, header_in(headers, Header::ReplyTo), Header::ReplyTo)?;
     let fault = read_endpoint(alloc, header_in(headers, Header::FaultTo), Header::FaultTo)?;
     let id = read_text(alloc, header_in(headers, Header::MessageId))?;
-    let relates = read_text(alloc, headers.first_reply())?;
+    let relates = read_text(alloc, first_reply(headers))?;
     Ok(Headers {
         to,
         action,
@@ -190,6 +200,38 @@ fn header_in<'a>(headers: &Elements<'a>, header: Header) -> Option<&'a Tree>
 {
     headers.first(ADDRESSING, header.local_name())
 }
+
+/// The first RelatesTo of a reply.
+fn first_reply<'a>(headers: &Elements<'a>) -> Option<&'a Tree>
+    ensures { option_copied result ≡ find is_reply headers.now }
+{
+    for block in headers.as_slice() {
+        let block: &'a Tree = *block;
+        if is_reply(block) {
+            return Some(block);
+        }
+    }
+    None
+}
+
+fn is_reply(block: &Tree) -> bool
+    ensures { result ≡ is_reply block.now }
+{
+    is_named(&block.name, ADDRESSING, "RelatesTo")
+        && is_reply_type(unqualified_attribute(block.attributes.as_slice(), "RelationshipType"))
+}
+
+fn is_reply_type(relationship: Option<&str>) -> bool
+    ensures { result ≡ is_reply_type (option_map (λ t. t.now) relationship.entry) }
+{
+    match relationship {
+        Some(relationship) => relationship == REPLY,
+        None => true,
+    }
+}
+
+/// The type of the relationship of a reply (WS-Addressing 1.0 Core, section 3.2).
+const REPLY: &str = "http://www.w3.org/2005/08/addressing/reply";
 
 fn read_text(alloc: Global, block: Option<&Tree>) -> Result<Option<Text>, AllocError>
     ensures { IfOk result (λ text. text ≡ option_map text_value (option_copied block.entry)) }
@@ -217,7 +259,7 @@ fn read_action(alloc: Global, block: Option<&Tree>) -> Result<Text, AddressingRe
     Ok(text)
 }
 
-fn read_to(alloc: Global, block: Option<&Tree>) -> Result<Option<Text>, AddressingRefusal>
+fn read_to(alloc: Global, block: Option<&Tree>) -> Result<Option<Destination>, AddressingRefusal>
     ensures { Answers (to_of (option_copied block.entry)) result }
 {
     match block {
@@ -226,27 +268,15 @@ fn read_to(alloc: Global, block: Option<&Tree>) -> Result<Option<Text>, Addressi
     }
 }
 
-fn destination(alloc: Global, text: Text) -> Result<Option<Text>, AddressingRefusal>
+fn destination(alloc: Global, text: Text) -> Result<Option<Destination>, AddressingRefusal>
     ensures { Answers (destination text) result }
 {
     if text.as_str() == ANONYMOUS {
         return Ok(None);
     }
-    if is_url(alloc, text.as_str())? {
-        Ok(Some(text))
-    } else {
-        Err(AddressingRefusal::InvalidHeader { name: Header::To })
-    }
-}
-
-/// Whether a text is a URL.
-fn is_url(alloc: Global, text: &str) -> Result<bool, AllocError>
-    ensures { IfOk result (λ is. is ≡ is_parsed (parse_url None text.now)) }
-{
-    match Url::parse(alloc, text) {
-        Ok(_) => Ok(true),
-        Err(ParseError::OutOfMemory | ParseError::Overflow) => Err(AllocError),
-        Err(_) => Ok(false),
+    match Destination::read(alloc, text)? {
+        Some(destination) => Ok(Some(destination)),
+        None => Err(AddressingRefusal::InvalidHeader { name: Header::To }),
     }
 }
 

@@ -1,7 +1,7 @@
 //! WS-Addressing 1.0: endpoints, and where what is sent to them goes.
 #![tactic(auto)]
 
-mod elements;
+pub mod destination;
 pub mod endpoint;
 pub mod headers;
 mod long;

@@ -1,6 +1,6 @@
 //! Where a post to an endpoint goes.
 
-ghost use Rattle.std.specs.Prelude.{◌≡◌, IfOk};
+ghost use Rattle.std.specs.Prelude.{◌≡◌, IfOk, is_some};
 ghost use Rattle.addressing.specs.Posting.{post_to_of, postable};
 
 use at_base::epr::Epr;
@@ -41,4 +41,21 @@ fn parts_of(alloc: Global, url: &Url) -> Result<Option<PostTo>, AllocError>
         path.push_str(query)?;
     }
     Ok(Some(PostTo { host, port, path }))
+}
+
+/// Whether something can be posted to an address: whether it is an http URL.
+pub fn is_postable(alloc: Global, address: &str) -> Result<bool, AllocError>
+    ensures { IfOk result (λ is. is ≡ is_some (post_to_of address.now)) }
+{
+    match Url::parse(alloc, address) {
+        Ok(url) => Ok(is_http(&url)),
+        Err(ParseError::OutOfMemory | ParseError::Overflow) => Err(AllocError),
+        Err(_) => Ok(false),
+    }
+}
+
+fn is_http(url: &Url) -> bool
+    ensures { result ≡ is_some (postable url.now) }
+{
+    url.scheme() == "http"
 }

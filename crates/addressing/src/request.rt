@@ -6,12 +6,11 @@ ghost use Rattle.addressing.specs.Requests.{answerable_of, is_answerable, is_req
 
 use crate::endpoint::{is_anonymous, is_nobody};
 use crate::headers::{AddressingRefusal, Header, Headers};
-use crate::post_to::post_to;
+use crate::post_to::is_postable;
 use at_base::epr::Epr;
-use soap_profile::value::is_named;
+use soap_profile::fault::is_fault;
 use std::alloc::{AllocError, Global};
 use xml_profile::name::QName;
-use xml_profile::names::SOAP;
 
 /// The action of CreateCoordinationContext (WS-Coordination 1.2, section 3.1).
 pub const CREATE_ACTION: &str =
@@ -26,7 +25,7 @@ pub const WORK_ACTION: &str = "http://example.org/atx/work/1/Work";
 /// context.
 pub fn check_request(
     alloc: Global,
-    headers: &Headers,
+    headers: &Headers<'_>,
     body: &QName,
 ) -> Result<(), AddressingRefusal>
     ensures { Answers (request_of headers.now body.now) result }
@@ -38,15 +37,15 @@ pub fn check_request(
     }
 }
 
-fn is_request(headers: &Headers, body: &QName) -> bool
+fn is_request(headers: &Headers<'_>, body: &QName) -> bool
     ensures { result ≡ is_request headers.now body.now }
 {
     let action = headers.action.as_str();
-    !is_named(body, SOAP, "Fault")
+    !is_fault(body)
         && (action == CREATE_ACTION || action == REGISTER_ACTION || action == WORK_ACTION)
 }
 
-fn check_answerable(alloc: Global, headers: &Headers) -> Result<(), AddressingRefusal>
+fn check_answerable(alloc: Global, headers: &Headers<'_>) -> Result<(), AddressingRefusal>
     ensures { Answers (answerable_of headers.now) result }
 {
     if headers.id.is_none() {
@@ -87,5 +86,5 @@ fn is_answerable(alloc: Global, endpoint: &Option<Epr>) -> Result<bool, AllocErr
     if is_anonymous(epr) || is_nobody(epr) {
         return Ok(true);
     }
-    Ok(post_to(alloc, epr)?.is_some())
+    is_postable(alloc, epr.address.as_str())
 }

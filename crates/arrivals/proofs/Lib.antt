@@ -1,3 +1,5 @@
 pub mod Again
 pub mod Soundness
 pub mod Worldly
+pub mod Paths
+pub mod Bases

@@ -1,8 +1,6 @@
 -- A post reaches the book as the world says.
-use Rattle.std.proofs.Common.{◌≡◌, refl, sym, subst, ap, ◌∙◌, ℕ, List, ◌++◌, Bool, true, false, cond, ◌||◌, length, take, drop, take-append-drop, IfSome, Option, Some, None}
+use Rattle.std.proofs.Common.{◌≡◌, refl, sym, subst, ap, ◌∙◌, ℕ, ◌<◌, ◌^◌, List, ◌++◌, Bool, true, false, cond, ◌||◌, IfSome, Option, Some, None}
 use Rattle.std.specs.Option.{option_and_then, option_map}
-use Rattle.std.specs.Str.{bytes_eq}
-use Rattle.std.proofs.lemmas.Slice.Eq.{bytes_eq-Decides}
 use Rattle.url.specs.Parser.{parse_url}
 use Rattle.xml_grammar.specs.Refusals.{IsShort}
 use Rattle.at_base.specs.declared.epr.Epr.{Epr}
@@ -12,15 +10,17 @@ use Rattle.at_base.specs.declared.event.Arrived.{Arrived}
 use Rattle.at_base.specs.declared.outs.Post.{Post}
 use Rattle.at_base.specs.declared.target.Target.{Target}
 use Rattle.at_model.specs.Addresses.{after_prefix, target_of}
-use Rattle.at_model.specs.World.{arrival_of, decoded, decoded_at, reply_of as model_reply_of, takes, target_at}
+use Rattle.at_model.specs.World.{arrival_of, base_of, decoded, decoded_at, reply_of as model_reply_of, takes, target_at}
 use Rattle.addressing.specs.Endpoints.{is_anonymous, is_nobody, reply_of}
-use Rattle.wire_msgs.specs.Targets.{path_in}
+use Rattle.addressing.specs.Posting.{path_in}
 use Rattle.wire_msgs.specs.Targets.{target_at as wire_target_at}
 use Rattle.wire_msgs.specs.Whole.{IsClean}
 use Rattle.wire_posts.specs.Envelopes.{IsTextOf, reply_epr}
 use Rattle.wire_posts.specs.Returning.{CanReturn, IsInLimits, returned, written_to}
 use Rattle.wire_posts.proofs.Arriving.{text_returns}
 use Rattle.arrivals.specs.Reaching.{can_be_sent_to, is_postable, reaches, sender_of}
+use Rattle.arrivals.proofs.Bases.{node_base}
+use Rattle.arrivals.proofs.Paths.{behind_prefix}
 use Rattle.arrivals.specs.Worlds.{CanArrive, IsBase, IsProper, IsProperReply, IsWritten, Reaches}
 
 sender_same : (from : Option Epr) → IfSome from (λ epr. is_postable epr ≡ true) → sender_of (can_be_sent_to from) from ≡ from
@@ -84,19 +84,6 @@ post_reaches base post arrived text path e of c w s p = at_address post text pat
 
 -- at the node to whose address it goes
 
-some_text : (x y : List ℕ) → Some x ≡ Some y → x ≡ y
-some_text x y e = cc
-
-behind_prefix : (prefix bytes rest : List ℕ) → after_prefix prefix bytes ≡ Some rest → bytes ≡ prefix ++ rest
-behind_prefix prefix bytes rest e = by_test (bytes_eq (take (length prefix) bytes) prefix) refl e
-  where
-    by_test : (b : Bool) → bytes_eq (take (length prefix) bytes) prefix ≡ b → cond b (Some (drop (length prefix) bytes)) None ≡ Some rest → bytes ≡ prefix ++ rest
-    by_test false t h = absurd cc
-    by_test true t h =
-        let front : take (length prefix) bytes ≡ prefix = (bytes_eq-Decides (take (length prefix) bytes) prefix).0 t in
-        let back : drop (length prefix) bytes ≡ rest = some_text (drop (length prefix) bytes) rest h in
-        sym (take-append-drop (length prefix) bytes) ∙ (λ i. front i ++ back i)
-
 wire_named : (base address path : List ℕ) (target : Target) → IsBase base → target_at base address ≡ Some target → wire_target_at (Some address) path ≡ Some target
 wire_named base address path target b e = by_prefix (after_prefix base address) refl e
   where
@@ -152,3 +139,7 @@ node_reaches base post arrived text path b e of c w s p =
       request = c.request;
     } in
     post_reaches base post arrived text path e of can w s p
+
+pub world_reaches : (n : ℕ) (post : Post) (arrived : Arrived) (text path : List ℕ) → n < 2 ^ 64 → decoded (base_of n) post ≡ Some arrived → IsTextOf post text
+    → CanArrive post → IsInLimits post → IsShort text → IsProper post → Reaches text path arrived
+world_reaches n post arrived text path small = node_reaches (base_of n) post arrived text path (node_base n small)

@@ -13,7 +13,7 @@ use Rattle.at_model.specs.Addresses.{target_of}
 use Rattle.addressing.specs.Endpoints.{is_anonymous, is_nobody}
 use Rattle.wire_msgs.specs.declared.decode.Arrival.{Arrival}
 use Rattle.wire_msgs.specs.Arrivals.{Arrives}
-use Rattle.wire_msgs.specs.Targets.{path_in}
+use Rattle.addressing.specs.Posting.{path_in}
 use Rattle.wire_msgs.specs.Whole.{IsClean, IsSource}
 use Rattle.wire_posts.specs.Returning.{CanBeWritten, IsProtocolFault, IsRequest, IsWholeReply}
 use Rattle.arrivals.specs.Reaching.{has_postable, is_postable, reaches}

@@ -1,12 +1,12 @@
 //! Laws of what arrives.
 
-ghost use Rattle.std.specs.Prelude.{◌≡◌, ℕ, List, Some};
+ghost use Rattle.std.specs.Prelude.{◌≡◌, ◌<◌, ◌^◌, ℕ, List, Some};
 ghost use Rattle.xml_grammar.specs.Refusals.{IsShort};
 ghost use Rattle.at_base.specs.declared.event.Arrived.{Arrived};
 ghost use Rattle.at_base.specs.declared.event.Event.TheVariants.{Arrived as AsEvent};
 ghost use Rattle.at_base.specs.declared.outs.Post.{Post};
 ghost use Rattle.at_base.specs.declared.target.Target.{Target};
-ghost use Rattle.at_model.specs.World.{decoded};
+ghost use Rattle.at_model.specs.World.{base_of, decoded};
 ghost use Rattle.model_laws.specs.Sound.{IsSoundEvent, IsSoundMessage};
 ghost use Rattle.wire_msgs.specs.declared.decode.Arrival.{Arrival};
 ghost use Rattle.wire_msgs.specs.Arrivals.{Arrives};
@@ -28,10 +28,16 @@ pub fn what_arrives_can_return()
     ensures { (text : List ℕ) → (path : List ℕ) → (post : Post) → (target : Target) → HasProtocolFault post.message → Arrives text path (returned post target) → CanReturn post path target }
 {}
 
+/// Under the base of each node of a world, the address of each of its items is a URL with the item's path.
+pub fn nodes_have_bases()
+    ensures { (n : ℕ) → n < 2 ^ 64 → IsBase (base_of n) }
+{}
+
 /// A post whose endpoints can be posted to reaches the book as the world of the model says: where it can be read at the
-/// target that the world has for it, and at any path where the address of the node is a URL.
+/// target that the world has for it, and at any path where the address of the node is a URL, as those of a world's nodes are.
 #[tactic(auto, using(crate::proofs::Worldly::post_reaches, crate::proofs::Worldly::node_reaches))]
 pub fn what_is_posted_reaches_the_book()
     ensures at { (base : List ℕ) → (post : Post) → (arrived : Arrived) → (text : List ℕ) → (path : List ℕ) → decoded base post ≡ Some arrived → IsTextOf post text → CanReturn post path arrived.target → IsInLimits post → IsShort text → IsProper post → Reaches text path arrived }
+    ensures on_a_node { (n : ℕ) → (post : Post) → (arrived : Arrived) → (text : List ℕ) → (path : List ℕ) → n < 2 ^ 64 → decoded (base_of n) post ≡ Some arrived → IsTextOf post text → CanArrive post → IsInLimits post → IsShort text → IsProper post → Reaches text path arrived }
     ensures addressed { (base : List ℕ) → (post : Post) → (arrived : Arrived) → (text : List ℕ) → (path : List ℕ) → IsBase base → decoded base post ≡ Some arrived → IsTextOf post text → CanArrive post → IsInLimits post → IsShort text → IsProper post → Reaches text path arrived }
 {}

@@ -4,7 +4,7 @@ ghost use Rattle.std.specs.Prelude.{◌≡◌, IfOk};
 ghost use Rattle.arrivals.specs.Reaching.{can_be_sent_to, has_postable, is_postable, reaches, sender_of};
 
 use addressing::endpoint::{fault_to, reply_to};
-use addressing::post_to::post_to;
+use addressing::post_to;
 use at_base::epr::{Epr, Reply};
 use at_base::event::Arrived;
 use at_base::message::Message;
@@ -64,7 +64,7 @@ fn can_be_sent_to(alloc: Global, from: &Option<Epr>) -> Result<bool, AllocError>
 fn is_postable(alloc: Global, epr: &Epr) -> Result<bool, AllocError>
     ensures { IfOk result (λ is. is ≡ is_postable epr.now) }
 {
-    Ok(post_to(alloc, epr)?.is_some())
+    post_to::is_postable(alloc, epr.address.as_str())
 }
 
 fn has_postable(alloc: Global, message: &Message) -> Result<bool, AllocError>

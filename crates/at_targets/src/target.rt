@@ -6,9 +6,10 @@ ghost use Rattle.at_model.specs.Addresses.{after_prefix, behind, id_of, number_o
 ghost use Rattle.at_model.specs.World.{takes, target_at};
 ghost use Rattle.at_targets.specs.Paths.{id_behind, item_of, participant_of, party_of};
 
+use crate::form::{Form, takes_any};
 use at_base::id::Id;
 use at_base::message::Message;
-use at_base::notice::{Kind, Notice};
+use at_base::notice::Kind;
 use at_base::target::{Seat, Target};
 
 /// The target on the node at this base that an address names. None where it names none there.
@@ -128,37 +129,9 @@ fn read_number(text: &str) -> Option<u16>
 }
 
 /// Whether a target takes a message of this kind (WS-Coordination 1.2, section 3; WS-AtomicTransaction 1.2, section 3).
+#[tactic(auto, using(crate::proofs::Forms::as_modelled))]
 pub fn takes(target: Target, message: &Message) -> bool
     ensures { result ≡ takes target message.now }
 {
-    match target {
-        Target::Activation => matches!(message, Message::Create(_)),
-        Target::Registration(_) => matches!(message, Message::Register(_)),
-        Target::Completion(_) => matches!(
-            message,
-            Message::Notice(Notice::Commit | Notice::Rollback) | Message::Fault { .. }
-        ),
-        Target::Coordinator { .. } => matches!(
-            message,
-            Message::Notice(
-                Notice::Prepared | Notice::ReadOnly | Notice::Aborted | Notice::Committed
-            ) | Message::Fault { .. }
-        ),
-        Target::Participant { .. } => matches!(
-            message,
-            Message::Notice(Notice::Prepare | Notice::Commit | Notice::Rollback)
-                | Message::RegisterResponse(_)
-                | Message::Fault { .. }
-        ),
-        Target::Initiator(_) => matches!(
-            message,
-            Message::CreateResponse(_)
-                | Message::RegisterResponse(_)
-                | Message::Notice(Notice::Committed | Notice::Aborted)
-                | Message::WorkDone
-                | Message::WorkRefused
-                | Message::Fault { .. }
-        ),
-        Target::Work => matches!(message, Message::Work(_)),
-    }
+    takes_any(target, Form::of(message))
 }

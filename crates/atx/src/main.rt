@@ -1,16 +1,10 @@
 //! atx: atomic transactions between web services (WS-Coordination 1.2, WS-AtomicTransaction 1.2).
 #![tactic(auto)]
 
-mod commands;
-mod job;
 mod outside;
-mod replay;
-pub mod run;
-#[cfg(test)]
-mod tests;
 
 use crate::outside::{Reading, Writing};
-use crate::run::{NO_JOB, NO_MEMORY, run};
+use command_line::run::{NO_JOB, NO_MEMORY, run};
 use site_model::sure::SureSite;
 use std::env;
 use std::io::ErrorKind;

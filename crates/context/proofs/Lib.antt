@@ -1,4 +1,3 @@
-pub mod Ahead
 pub mod Numbers
 pub mod Order
 pub mod Returned

@@ -11,7 +11,8 @@ use Rattle.at_base.specs.declared.epr.Epr.{Epr}
 use Rattle.at_base.specs.declared.message.Context.{Context}
 use Rattle.at_base.specs.declared.message.Create.{Create}
 use Rattle.at_base.specs.declared.message.Register.{Register}
-use Rattle.addressing.specs.Endpoints.{at_most_one, epr_of, named}
+use Rattle.addressing.specs.Endpoints.{epr_of}
+use Rattle.soap_profile.specs.Children.{at_most_one, named}
 use Rattle.context.specs.declared.parameter.ContextFault.{ContextFault}
 use Rattle.context.specs.declared.parameter.Parameter.{Parameter}
 use Rattle.context.specs.declared.parameter.Parameter.TheVariants.{Identifier, Expires, CoordinationType, RegistrationService, CurrentContext, CoordinationContext, ProtocolIdentifier, ParticipantProtocolService, CoordinatorProtocolService}

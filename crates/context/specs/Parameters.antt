@@ -1,9 +1,8 @@
 -- The children of the bodies of coordination, looked up by name (WS-Coordination 1.2, sections 2 and 3).
-use Rattle.std.specs.Prelude.{ℕ, List, Option, codes}
+use Rattle.std.specs.Prelude.{ℕ, List, Option, Some, codes}
 use Rattle.xml_profile.specs.declared.tree.Tree.{Tree}
 use Rattle.xml_profile.specs.Prefixes.{coordination}
-use Rattle.soap_profile.specs.Values.{elements}
-use Rattle.addressing.specs.Endpoints.{at_most_one, named}
+use Rattle.soap_profile.specs.Children.{child_of}
 use Rattle.context.specs.declared.parameter.Parameter.{Parameter}
 use Rattle.context.specs.declared.parameter.Parameter.TheVariants.{Identifier, Expires, CoordinationType, RegistrationService, CurrentContext, CoordinationContext, ProtocolIdentifier, ParticipantProtocolService, CoordinatorProtocolService}
 
@@ -20,4 +19,4 @@ local_name CoordinatorProtocolService = codes "CoordinatorProtocolService"
 
 -- the child of this name: nothing where it stands more than once, an inner nothing where it isn't there
 abbrev pub child_in : Tree → Parameter → Option (Option Tree)
-child_in t parameter = at_most_one (named (elements t.children) coordination (local_name parameter))
+child_in t parameter = child_of t (Some coordination) (local_name parameter)

@@ -3,13 +3,13 @@
 ghost use Rattle.std.specs.Prelude.{◌≡◌};
 ghost use Rattle.std.specs.Option.{option_copied, option_map};
 ghost use Rattle.std.specs.Result.{result_map_both};
-ghost use Rattle.context.specs.Parameters.{child_in, local_name};
+ghost use Rattle.context.specs.Parameters.{child_in};
 ghost use Rattle.context.specs.Reading.{optional, required};
 
 use crate::parameter::{ContextFault, Parameter};
-use soap_profile::value::is_named;
+use soap_profile::elements::child;
 use xml_profile::names::COORDINATION;
-use xml_profile::tree::{Child, Tree};
+use xml_profile::tree::Tree;
 
 /// The child that must be there once.
 pub fn required(tree: &Tree, name: Parameter) -> Result<&Tree, ContextFault>
@@ -35,18 +35,5 @@ pub fn optional(tree: &Tree, name: Parameter) -> Result<Option<&Tree>, ContextFa
 fn child_in(tree: &Tree, name: Parameter) -> Option<Option<&Tree>>
     ensures { option_map option_copied result ≡ child_in tree.now name }
 {
-    let local = name.local_name();
-    let mut found = None;
-    for child in tree.children.as_slice() {
-        match child {
-            Child::Element(element) if is_named(&element.name, COORDINATION, local) => {
-                if found.is_some() {
-                    return None;
-                }
-                found = Some(element);
-            }
-            _ => {}
-        }
-    }
-    Some(found)
+    child(tree, Some(COORDINATION), name.local_name())
 }

@@ -9,8 +9,9 @@ use Rattle.at_base.specs.declared.notice.Vote.{Vote}
 use Rattle.at_base.specs.declared.notice.Vote.TheVariants as votes
 use Rattle.at_base.specs.declared.target.Target.{Target}
 use Rattle.at_base.specs.declared.target.Target.TheVariants as targets
-use Rattle.wire_msgs.specs.declared.form.Form.{Form}
-use Rattle.wire_msgs.specs.Forms.{form_of, local_of}
+use Rattle.at_targets.specs.declared.form.Form.{Form}
+use Rattle.at_targets.specs.Forms.{form_of}
+use Rattle.wire_msgs.specs.Forms.{local_of}
 
 abbrev pub kind_name : Kind → List ℕ
 kind_name kinds.Durable = codes "durable"

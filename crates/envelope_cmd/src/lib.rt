@@ -4,8 +4,8 @@
 pub mod cell;
 pub mod check;
 pub mod laws;
-pub mod lines;
-pub mod names;
+mod lines;
+mod names;
 pub mod printed;
-pub mod refusals;
-pub mod table;
+mod refusals;
+mod table;

@@ -10,9 +10,10 @@ use at_base::id::Id;
 use at_base::message::Message;
 use at_base::notice::{Kind, Vote};
 use at_base::target::{Seat, Target};
+use at_targets::form::Form;
 use itoa::Buffer;
 use std::alloc::{AllocError, Global};
-use wire_msgs::form::Form;
+use wire_msgs::form::local_of;
 
 /// The name of a protocol's kind.
 pub fn kind_name(kind: Kind) -> &'static str
@@ -39,16 +40,9 @@ pub fn vote_name(vote: Vote) -> &'static str
 pub fn message_name(message: &Message) -> &'static str
     ensures { result.now ≡ message_name message.now }
 {
-    match message {
-        Message::Create(_) => Form::Create.local(),
-        Message::CreateResponse(_) => Form::CreateResponse.local(),
-        Message::Register(_) => Form::Register.local(),
-        Message::RegisterResponse(_) => Form::RegisterResponse.local(),
-        Message::Notice(notice) => Form::Notice(*notice).local(),
-        Message::Work(_) => Form::Work.local(),
-        Message::WorkDone => Form::WorkDone.local(),
-        Message::WorkRefused => Form::WorkRefused.local(),
-        Message::Fault { .. } => "Fault",
+    match Form::of(message) {
+        Some(form) => local_of(form),
+        None => "Fault",
     }
 }
 

@@ -77,6 +77,13 @@ impl Outcomes {
         Ok(Outcomes { ids })
     }
 
+    /// The ids, the newest last.
+    pub fn as_slice(&self) -> &[Id]
+        ensures { result.now ≡ self.now }
+    {
+        self.ids.as_slice()
+    }
+
     /// Whether the root of this id committed, as far as it is kept.
     pub fn has(&self, id: Id) -> bool
         ensures { result ≡ is_kept id self.now }

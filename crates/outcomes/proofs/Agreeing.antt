@@ -37,7 +37,7 @@ use Rattle.outcomes.proofs.Founded.{all_founded, all_told}
 use Rattle.outcomes.proofs.Layers.{Layers, world_premises}
 use Rattle.outcomes.proofs.Once.{once}
 
-layers : Layers
+pub layers : Layers
 layers = record { moves = steps_move; tells = steps_tell; known = coordinators_are_known; kept = votes_are_kept; backed = outcomes_are_backed }
 
 pub outcomes_are_founded : OutcomesAreFounded

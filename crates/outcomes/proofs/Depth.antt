@@ -38,7 +38,7 @@ no_leaf_above S kind (inl e) f = let g : Root ≡ LeafOf kind = sym e ∙ f in c
 no_leaf_above S kind (inr e) f = let g : Subordinate ≡ LeafOf kind = sym e ∙ f in cc
 
 -- Who committed and is registered durably committed as a participant; so the one above it has committed.
-as_participant : (w : World) (h : IsBound w) (t x : Who) → IsUnder w t x → HasCommitted w x → CommittedBelow w x
+pub as_participant : (w : World) (h : IsBound w) (t x : Who) → IsUnder w t x → HasCommitted w x → CommittedBelow w x
 as_participant w h t x under (inl i) = absurd (no_root_below (sort_of w h x) (fits w h t x under).1 (fits_effect w h _ i))
 as_participant w h t x under (inr c) = c
 
@@ -53,7 +53,7 @@ up w h x root (itself e) c = subst (HasCommitted w) e c
 up w h x root (below t number i of) c = up w h t root of (up_one w h t x (number, i) c)
 
 -- What never aborts: it has voted ReadOnly, or it has voted Prepared and hasn't aborted.
-abbrev Sealed : World → Who → Type 0
+abbrev pub Sealed : World → Who → Type 0
 Sealed w x = HasPosted w x kinds.Durable notices.ReadOnly ⊎ (HasVoted w x × (HasAborted w x → ⊥))
 
 -- a vote is that of its item

@@ -3,10 +3,15 @@ pub mod Completed
 pub mod Completing
 pub mod Decisions
 pub mod Depth
+pub mod Examples
 pub mod Founded
 pub mod Founding
 pub mod Kept
 pub mod Layers
+pub mod Machine
 pub mod Once
+pub mod Statuses
 pub mod Telling
+pub mod Unfolding
 pub mod Upwards
+pub mod VotesFirst

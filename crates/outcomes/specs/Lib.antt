@@ -1,2 +1,5 @@
+pub mod AtomicCommit
 pub mod Bound
+pub mod Examples
 pub mod Founded
+pub mod Statuses

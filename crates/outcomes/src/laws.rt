@@ -1,6 +1,8 @@
 //! Agreement over every run.
 
 ghost use Rattle.model_laws.specs.Agreement.{Agrees};
+ghost use Rattle.outcomes.specs.Statuses.{RunsCommitAtomically};
+ghost use Rattle.outcomes.specs.Examples.{StatusesAreSeen};
 ghost use Rattle.outcomes.specs.Founded.{OutcomesAreFounded};
 
 /// In every run a root commits behind its recorded decision, a subordinate behind its recorded vote, and a participant under
@@ -11,9 +13,24 @@ pub fn outcomes_are_founded()
 {}
 
 /// Agreement: in every run of fewer than 2^64 nodes, whatever is delivered, lost, repeated, reordered, stopped or crashed, and
-/// through any depth of subordinates, no activity is split, nothing ends twice, every commit and every vote stands behind every
-/// answer, and every initiator is told what its root did (WS-AtomicTransaction 1.2, section 1).
+/// through any depth of subordinates, no activity is split and nothing ends twice; a root's commit and a subordinate's vote stand
+/// behind every answer; and an activity is told what its root did (WS-AtomicTransaction 1.2, section 1).
 #[tactic(auto, using(crate::proofs::Agreeing::agrees))]
 pub fn agrees()
     ensures { Agrees }
+{}
+
+/// Every run, seen at one root, is a run of a small machine of atomic commit, and that machine is consistent: a member votes;
+/// it commits where everybody is ready, the root by its decision and any other behind its vote; it aborts where nobody has
+/// committed; nothing is undone, and nobody joins once one has committed.
+#[tactic(auto, using(crate::proofs::Unfolding::runs_commit_atomically))]
+pub fn runs_commit_atomically()
+    ensures { RunsCommitAtomically }
+{}
+
+/// Statuses along worked runs: a root and its durable participant register, vote, decide and commit; the participant votes
+/// ReadOnly; and both abort where another participant does.
+#[tactic(auto, using(crate::proofs::Examples::statuses_are_seen))]
+pub fn statuses_are_seen()
+    ensures { StatusesAreSeen }
 {}

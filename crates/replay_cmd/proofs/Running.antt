@@ -7,23 +7,22 @@ use Rattle.at_model.specs.Views.{up, deliver_to, tick_at, request, begin_at, int
 use Rattle.at_model.specs.World.{World, WorldEvent, nth, opening, run_on, world_step}
 use Rattle.schedules.specs.declared.line.Line.{Line}
 use Rattle.schedules.specs.declared.line.Line.TheVariants as lines
-use Rattle.world_laws.specs.Steps.{IsCalm}
 use Rattle.replay_cmd.specs.Delivered.{lowest}
 use Rattle.replay_cmd.specs.ReportOf.{Course, all_taken, all_up, begun, delivered_to, delivers_lowest, delivers_where, flushes, happens, nodes_of, receiver_in, taken}
-use Rattle.replay_cmd.specs.Laws.{IsOfRun, ReportsRuns}
+use Rattle.replay_cmd.specs.Laws.{IsOfRun, IsSmooth, ReportsRuns}
 
 run_append : (w : World) (es : List WorldEvent) (e : WorldEvent) → run_on w (es ++ e ∷ []) ≡ world_step (run_on w es) e
 run_append w [] e = refl
 run_append w (x ∷ es) e = run_append (world_step w x) es e
 
-calm_append : (es : List WorldEvent) (e : WorldEvent) → AllByRecursion IsCalm es → IsCalm e → AllByRecursion IsCalm (es ++ e ∷ [])
-calm_append [] e h k = (k, tt)
-calm_append (x ∷ es) e h k = (h.0, calm_append es e h.1 k)
+smooth_append : (es : List WorldEvent) (e : WorldEvent) → AllByRecursion IsSmooth es → IsSmooth e → AllByRecursion IsSmooth (es ++ e ∷ [])
+smooth_append [] e h k = (k, tt)
+smooth_append (x ∷ es) e h k = (h.0, smooth_append es e h.1 k)
 
-step_on : (count : ℕ) (w : World) (e : WorldEvent) → IsOfRun count w → IsCalm e → IsOfRun count (world_step w e)
-step_on count w e r calm = record {
+step_on : (count : ℕ) (w : World) (e : WorldEvent) → IsOfRun count w → IsSmooth e → IsOfRun count (world_step w e)
+step_on count w e r smooth = record {
   events = r.events ++ e ∷ [];
-  calm = calm_append r.events e r.calm calm;
+  smooth = smooth_append r.events e r.smooth smooth;
   run = ap (λ v. world_step v e) r.run ∙ sym (run_append (opening count) r.events e);
 }
 
@@ -70,4 +69,4 @@ pub reports_runs : ReportsRuns
 reports_runs all =
     all_on (nodes_of all) all (begun (nodes_of all))
     (up_on (nodes_of all) (nodes_of all) 1 (record { world = opening (nodes_of all); delivered = []; text = [] })
-    (record { events = []; calm = tt; run = refl }))
+    (record { events = []; smooth = tt; run = refl }))

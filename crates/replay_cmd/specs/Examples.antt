@@ -15,22 +15,23 @@ use Rattle.uuid.specs.Text.{by_index}
 use Rattle.at_base.specs.declared.notice.Kind.TheVariants as kinds
 use Rattle.at_base.specs.declared.notice.Vote.TheVariants as votes
 use Rattle.at_model.specs.World.{world_step}
-use Rattle.world_laws.specs.Steps.{outcomes_in}
+use Rattle.world_laws.specs.Moves.{moved_in}
+use Rattle.world_laws.specs.Walks.{sends}
 use Rattle.schedules.specs.declared.line.Line.TheVariants as lines
 use Rattle.replay_cmd.specs.Lines.{up_line, deliver_line, no_message_line, refused_line, item_line, leaf_words, message_start, end_line}
-use Rattle.replay_cmd.specs.ReportOf.{steps_of, report_of}
+use Rattle.replay_cmd.specs.ReportOf.{report_of}
 
 -- A node comes up, and nothing happens.
 pub one_node :
     report_of (lines.Nodes 1 ∷ []) ≡ codes "up 1 1\nend messages 0 committed 0 aborted 0 lost 0\n"
-unfolding digits world_step outcomes_in steps_of up_line end_line
+unfolding digits world_step moved_in sends up_line end_line
 one_node = refl
 
 -- There is no such activity, and no such message.
 pub nothing_there :
     report_of (lines.Nodes 1 ∷ lines.Commit 1 (record { incarnation = 1; counter = 1 }) ∷ lines.Deliver 1 ∷ [])
     ≡ codes "up 1 1\nrefused state\ndeliver 1 none\nend messages 0 committed 0 aborted 0 lost 0\n"
-unfolding digits world_step outcomes_in steps_of up_line refused_line no_message_line end_line
+unfolding digits world_step moved_in sends up_line refused_line no_message_line end_line
 nothing_there = refl
 
 -- No participant: the root commits at once.
@@ -50,7 +51,7 @@ pub no_participant :
     ++ (codes "deliver 4 1 202\nmsg 5 1>2 Commit /completion/1-1\n"
     ++ (codes "deliver 5 2 202\nroot 2 1-1 committed\nmsg 6 2>1 Committed /i/1-1\n"
     ++ codes "deliver 6 1 202\ntold 1 1-1 committed\nend messages 6 committed 0 aborted 0 lost 0\n"))))))
-unfolding abort decided committed root_answered voted sub_answered go_durable volatile_answered all_committed advance_in go_volatile seat_act seat_notice commit_voted link_act link_notice completion_act completion_notice link_registered link_fault on_link on_seat on_completion accept register_new register_again on_register register_unknown create_under create_in on_create leaf_votes leaf_commit leaf_roll_back leaf_act leaf_notice leaf_registered leaf_fault on_leaf on_work activity_act activity_notice activity_created activity_registered activity_fault on_activity on_begin on_interpose on_ask on_complete transaction_reached leaf_reached activity_reached activation_plan registration_plan completion_plan coordinator_plan participant_plan initiator_plan work_plan arrived_plan request_plan due_plan world_step sha1 first_words schedule rounds compress hash_after digest_bytes by_index digits outcomes_in steps_of up_line deliver_line item_line message_start end_line
+unfolding abort decided committed root_answered voted sub_answered go_durable volatile_answered all_committed advance_in go_volatile seat_act seat_notice commit_voted link_act link_notice completion_act completion_notice link_registered link_fault on_link on_seat on_completion accept register_new register_again on_register register_unknown create_under create_in on_create leaf_votes leaf_commit leaf_roll_back leaf_act leaf_notice leaf_registered leaf_fault on_leaf on_work activity_act activity_notice activity_created activity_registered activity_fault on_activity on_begin on_interpose on_ask on_complete transaction_reached leaf_reached activity_reached activation_plan registration_plan completion_plan coordinator_plan participant_plan initiator_plan work_plan arrived_plan request_plan due_plan world_step sha1 first_words schedule rounds compress hash_after digest_bytes by_index digits moved_in sends up_line deliver_line item_line message_start end_line
 no_participant = refl
 
 -- The plain path: a durable participant votes Prepared, and both sides commit.
@@ -76,5 +77,5 @@ pub plain_path :
     ++ (codes "msg 13 2>1 Committed /i/1-1\ndeliver 12 3 202\nleaf 3 1-1 d committed\n"
     ++ (codes "msg 14 3>2 Committed /c/d/1-1/1\ndeliver 13 1 202\ntold 1 1-1 committed\n"
     ++ codes "deliver 14 2 202\nend messages 14 committed 1 aborted 0 lost 0\n"))))))))))
-unfolding abort decided committed root_answered voted sub_answered go_durable volatile_answered all_committed advance_in go_volatile seat_act seat_notice commit_voted link_act link_notice completion_act completion_notice link_registered link_fault on_link on_seat on_completion accept register_new register_again on_register register_unknown create_under create_in on_create leaf_votes leaf_commit leaf_roll_back leaf_act leaf_notice leaf_registered leaf_fault on_leaf on_work activity_act activity_notice activity_created activity_registered activity_fault on_activity on_begin on_interpose on_ask on_complete transaction_reached leaf_reached activity_reached activation_plan registration_plan completion_plan coordinator_plan participant_plan initiator_plan work_plan arrived_plan request_plan due_plan world_step sha1 first_words schedule rounds compress hash_after digest_bytes by_index digits outcomes_in steps_of up_line deliver_line item_line leaf_words message_start end_line
+unfolding abort decided committed root_answered voted sub_answered go_durable volatile_answered all_committed advance_in go_volatile seat_act seat_notice commit_voted link_act link_notice completion_act completion_notice link_registered link_fault on_link on_seat on_completion accept register_new register_again on_register register_unknown create_under create_in on_create leaf_votes leaf_commit leaf_roll_back leaf_act leaf_notice leaf_registered leaf_fault on_leaf on_work activity_act activity_notice activity_created activity_registered activity_fault on_activity on_begin on_interpose on_ask on_complete transaction_reached leaf_reached activity_reached activation_plan registration_plan completion_plan coordinator_plan participant_plan initiator_plan work_plan arrived_plan request_plan due_plan world_step sha1 first_words schedule rounds compress hash_after digest_bytes by_index digits moved_in sends up_line deliver_line item_line leaf_words message_start end_line
 plain_path = refl

@@ -1,10 +1,9 @@
 -- What a schedule that was read says of its nodes, and what world a report is of.
-use Rattle.std.specs.Prelude.{ℕ, List, ◌≡◌, ◌≤◌, Ok}
+use Rattle.std.specs.Prelude.{ℕ, List, [], Option, None, Bool, true, false, not, ◌&&◌, ◌≡◌, ◌≤◌, Ok}
 use Rattle.std.specs.List.{AllByRecursion}
-use Rattle.at_model.specs.World.{World, WorldEvent, run_of}
+use Rattle.at_model.specs.World.{World, WorldEvent, Deliver, Tick, Raw, Turn, Ask, Crash, Up, run_of}
 use Rattle.schedules.specs.declared.line.Line.{Line}
 use Rattle.schedules.specs.Schedules.{schedule_of}
-use Rattle.world_laws.specs.Steps.{IsCalm}
 use Rattle.replay_cmd.specs.ReportOf.{all_taken, begun, nodes_of}
 
 -- There are 1 to 8 nodes.
@@ -16,10 +15,26 @@ pub record IsReplayable (lines : List Line) : Type 0 where
 abbrev pub ReadIsReplayable : Type 0
 ReadIsReplayable = (text : List ℕ) (lines : List Line) → schedule_of text ≡ Ok lines → IsReplayable lines
 
+-- Nothing fails: no call of a node's site does, and no node goes down.
+abbrev pub is_whole : List Bool → Option ℕ → Bool
+is_whole [] None = true
+is_whole fates until = false
+
+abbrev pub is_smooth : WorldEvent → Bool
+is_smooth (Turn n (Deliver k) fates until) = is_whole fates until
+is_smooth (Turn n (Tick ms) fates until) = is_whole fates until
+is_smooth (Turn n Raw fates until) = false
+is_smooth (Ask n l fates until) = is_whole fates until
+is_smooth (Crash n) = false
+is_smooth (Up n landed stop) = landed && not stop
+
+abbrev pub IsSmooth : WorldEvent → Type 0
+IsSmooth e = is_smooth e ≡ true
+
 -- The world of a run of so many nodes in which nothing fails.
 pub record IsOfRun (count : ℕ) (w : World) : Type 0 where
   pub events : List WorldEvent
-  pub calm : AllByRecursion IsCalm events
+  pub smooth : AllByRecursion IsSmooth events
   pub run : w ≡ run_of count events
 
 -- A report is that of a run.

@@ -7,9 +7,6 @@ use Rattle.at_base.specs.declared.outs.Effect.{Effect}
 use Rattle.at_base.specs.declared.outs.Effect.TheVariants as effects
 use Rattle.at_base.specs.declared.outs.Ending.{Ending}
 use Rattle.at_base.specs.declared.outs.Ending.TheVariants as endings
-use Rattle.at_base.specs.declared.outs.Outs.{Outs}
-use Rattle.at_base.specs.declared.outs.Out.{Out}
-use Rattle.at_base.specs.declared.outs.Out.TheVariants as outs
 use Rattle.at_tables.specs.Names.{is_kind}
 use Rattle.at_model.specs.Activities.{Refusal}
 use Rattle.at_model.specs.Book.{Book}
@@ -19,20 +16,21 @@ use Rattle.at_model.specs.World.{World, WorldEvent, Posted, Happened, Turn, Ask,
 use Rattle.schedules.specs.declared.line.Line.{Line}
 use Rattle.schedules.specs.declared.line.Line.TheVariants as lines
 use Rattle.world_laws.specs.Runs.{clock_at, book_at, incarnation_at}
-use Rattle.world_laws.specs.Steps.{outcomes, outs_of}
+use Rattle.world_laws.specs.Moves.{steps_of}
+use Rattle.world_laws.specs.declared.posted.Counted.{Counted}
+use Rattle.world_laws.specs.declared.taken.Answer.{Answer}
 use Rattle.replay_cmd.specs.Delivered.{yes_at, lowest}
 use Rattle.replay_cmd.specs.Lines.{up_line, deliver_line, no_message_line, tick_line, refused_line, refusal_word, effect_line, message_line, end_line}
 
--- The HTTP status of the first answer among these, 0 where there is none.
-abbrev pub status_in : List Out → ℕ
-status_in [] = 0
-status_in (outs.Answer status reply ∷ rest) = status
-status_in (outs.Post p ∷ rest) = status_in rest
+-- The HTTP status of an answer, 0 where there is none.
+abbrev pub status_of : Option Answer → ℕ
+status_of None = 0
+status_of (Some a) = a.status
 
 -- What a turn of these steps answers; a node that is down takes no step.
-abbrev pub answer_of : List Outs → Option ℕ
+abbrev pub answer_of : List Counted → Option ℕ
 answer_of [] = None
-answer_of (first ∷ rest) = Some (status_in first.outs)
+answer_of (first ∷ rest) = Some (status_of first.answer)
 
 abbrev pub or_zero : Option ℕ → ℕ
 or_zero None = 0
@@ -48,7 +46,7 @@ request_result l None = refused_line (codes "down")
 request_result l (Some b) = unless_taken (refuses b l)
 
 -- The line of an event's result, from the world before it and the one behind it.
-abbrev pub result_line : WorldEvent → World → World → List Outs → List ℕ
+abbrev pub result_line : WorldEvent → World → World → List Counted → List ℕ
 result_line (Up n landed stop) before behind steps = up_line n (incarnation_at behind n)
 result_line (Turn n (Deliver k) fates until) before behind steps = deliver_line k n (answer_of steps)
 result_line (Turn n (Tick ms) fates until) before behind steps = tick_line n (or_zero (clock_at behind n)) (answer_of steps)
@@ -65,26 +63,17 @@ abbrev pub message_lines : ℕ → List Posted → List ℕ
 message_lines k [] = []
 message_lines k (p ∷ rest) = message_line k (line_of p) ++ message_lines (k + 1) rest
 
-abbrev pub post_count : List Out → ℕ
-post_count [] = 0
-post_count (outs.Answer status reply ∷ rest) = post_count rest
-post_count (outs.Post p ∷ rest) = suc (post_count rest)
-
 -- how many of these messages a step posted
-abbrev pub own_count : Outs → List Posted → ℕ
-own_count o messages = min (post_count o.outs) (length messages)
+abbrev pub own_count : Counted → List Posted → ℕ
+own_count o messages = min o.posts (length messages)
 
 -- Of each step its effects, and then its posts, which are the next of these messages.
-abbrev pub step_lines : ℕ → ℕ → List Posted → List Outs → List ℕ
+abbrev pub step_lines : ℕ → ℕ → List Posted → List Counted → List ℕ
 step_lines n k messages [] = []
 step_lines n k messages (o ∷ rest) =
     effect_lines n o.effects
     ++ (message_lines k (take (own_count o messages) messages)
     ++ step_lines n (k + own_count o messages) (drop (own_count o messages) messages) rest)
-
--- What the steps of an event send and bring about.
-unfoldable pub steps_of : World → WorldEvent → List Outs
-steps_of w e = map outs_of (outcomes w e)
 
 -- What is printed of an event in a world: its result, then its steps.
 abbrev pub event_lines : World → WorldEvent → List ℕ

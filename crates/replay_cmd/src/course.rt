@@ -5,10 +5,10 @@ ghost use Rattle.at_model.specs.Views.{deliver_to, request, tick_at, up};
 ghost use Rattle.at_model.specs.World.{Turn, Ask, nth, opening, world_step};
 ghost use Rattle.world_laws.specs.Events.{event_of, input_of};
 ghost use Rattle.world_laws.specs.Runs.{book_at, world_of};
-ghost use Rattle.world_laws.specs.Steps.{IsCalm};
+ghost use Rattle.world_laws.specs.Moves.{steps_of};
 ghost use Rattle.replay_cmd.specs.Delivered.{lowest, yes_at};
 ghost use Rattle.replay_cmd.specs.Lines.{no_message_line};
-ghost use Rattle.replay_cmd.specs.ReportOf.{all_up, delivers, flushes, goes_to, happens, printed, receiver_in, request_result, step_lines, steps_of, whole, begun};
+ghost use Rattle.replay_cmd.specs.ReportOf.{all_up, delivers, flushes, goes_to, happens, printed, receiver_in, request_result, step_lines, whole, begun};
 
 use crate::delivered::Delivered;
 use crate::endings::push_ended;
@@ -41,9 +41,7 @@ impl Model for Course {
     ghost view = { λ c. record { world = world_of c.world; delivered = c.delivered; text = c.lines } };
 }
 
-#[tactic(auto, unfolding(crate::specs::ReportOf::steps_of))]
 fn stepped(world: World, alloc: Global, event: WorldEvent) -> Result<Stepped, AllocError>
-    requires { IsCalm (event_of event) }
     ensures world { IfOk result (λ s. world_of s.world ≡ world_step (world_of world) (event_of event)) }
     ensures steps { IfOk result (λ s. s.steps ≡ steps_of (world_of world) (event_of event)) }
 {
@@ -150,7 +148,11 @@ impl Course {
             landed: true,
             stop: false,
         };
-        let Stepped { world, steps } = stepped(world, alloc, event)?;
+        let Stepped {
+            world,
+            steps,
+            lost: _lost,
+        } = stepped(world, alloc, event)?;
         lines.push_up(alloc, node, world.incarnation(node))?;
         push_behind(alloc, &mut lines, node, before, &world, &steps)?;
         Ok(Course {
@@ -183,7 +185,11 @@ impl Course {
         } = self;
         let before = world.all_posted().len();
         push_refusal(alloc, &mut lines, &world, node, &local)?;
-        let Stepped { world, steps } = stepped(world, alloc, asking(alloc, node, local))?;
+        let Stepped {
+            world,
+            steps,
+            lost: _lost,
+        } = stepped(world, alloc, asking(alloc, node, local))?;
         push_behind(alloc, &mut lines, node, before, &world, &steps)?;
         Ok(Course {
             world,
@@ -203,7 +209,11 @@ impl Course {
         } = self;
         let before = world.all_posted().len();
         let event = turn(alloc, node, Input::Tick(ms));
-        let Stepped { world, steps } = stepped(world, alloc, event)?;
+        let Stepped {
+            world,
+            steps,
+            lost: _lost,
+        } = stepped(world, alloc, event)?;
         let clock = world.clock(node).unwrap_or(0);
         lines.push_tick(alloc, node, clock, answer_of(steps.as_slice()))?;
         push_behind(alloc, &mut lines, node, before, &world, &steps)?;
@@ -224,7 +234,11 @@ impl Course {
         } = self;
         let before = world.all_posted().len();
         let event = turn(alloc, node, Input::Deliver(number));
-        let Stepped { world, steps } = stepped(world, alloc, event)?;
+        let Stepped {
+            world,
+            steps,
+            lost: _lost,
+        } = stepped(world, alloc, event)?;
         lines.push_deliver(alloc, number, node, answer_of(steps.as_slice()))?;
         push_behind(alloc, &mut lines, node, before, &world, &steps)?;
         Ok(Course {

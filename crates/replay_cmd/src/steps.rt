@@ -1,53 +1,40 @@
 //! The lines of an event's steps: of each its effects, and then its posts.
 
 ghost use Rattle.std.specs.Prelude.{◌≡◌, ◌≤◌, ◌<◌, ◌+◌, ◌^◌, ◌++◌, OnOk, length, take};
-ghost use Rattle.replay_cmd.specs.ReportOf.{answer_of, effect_lines, message_lines, own_count, post_count, status_in, step_lines};
+ghost use Rattle.replay_cmd.specs.ReportOf.{answer_of, effect_lines, message_lines, own_count, status_of, step_lines};
 
 use crate::lines::Lines;
-use at_base::outs::{Effect, Out, Outs};
+use at_base::outs::Effect;
 use std::alloc::{AllocError, Global};
-use world_laws::posted::Posted;
+use world_laws::posted::{Counted, Posted};
+use world_laws::taken::Answer;
 
-/// The HTTP status of the first answer among these; 0 where there is none.
-fn status_in(outs: &[Out]) -> u16
-    ensures { result ≡ status_in outs.now }
+/// The HTTP status of an answer; 0 where there is none.
+fn status_of(answer: &Option<Answer>) -> u16
+    ensures { result ≡ status_of answer.now }
 {
-    for out in outs {
-        if let Out::Answer { status, .. } = out {
-            return *status;
-        }
+    match answer {
+        Some(answer) => answer.status,
+        None => 0,
     }
-    0
 }
 
 /// The HTTP status that a turn of these steps answers; none where the node is down.
-pub fn answer_of(steps: &[Outs]) -> Option<u16>
+pub fn answer_of(steps: &[Counted]) -> Option<u16>
     ensures { result ≡ answer_of steps.now }
 {
     match steps.first() {
-        Some(first) => Some(status_in(first.outs.as_slice())),
+        Some(first) => Some(status_of(&first.answer)),
         None => None,
     }
 }
 
-fn post_count(outs: &[Out]) -> usize
-    ensures { result ≡ post_count outs.now }
-{
-    let mut count = 0;
-    for out in outs {
-        if let Out::Post(_) = out {
-            count += 1;
-        }
-    }
-    count
-}
-
 /// How many of these messages a step posted.
-fn own_count(outs: &Outs, messages: &[Posted]) -> usize
-    ensures own { result ≡ own_count outs.now messages.now }
+fn own_count(counted: &Counted, messages: &[Posted]) -> usize
+    ensures own { result ≡ own_count counted.now messages.now }
     ensures most { result ≤ length messages.now }
 {
-    post_count(outs.outs.as_slice()).min(messages.len())
+    counted.posts.min(messages.len())
 }
 
 fn push_effects(
@@ -102,17 +89,17 @@ pub fn push_steps(
     node: u8,
     number: usize,
     messages: &[Posted],
-    steps: &[Outs],
+    steps: &[Counted],
 ) -> Result<(), AllocError>
     requires { number + length messages.now < 2 ^ 64 }
     ensures { OnOk result (lines.new ≡ lines.old ++ step_lines node number messages.now steps.now) }
 {
     let mut next = number;
     let mut rest = messages;
-    for outs in steps {
-        let count = own_count(outs, rest);
+    for counted in steps {
+        let count = own_count(counted, rest);
         let (own, others) = rest.split_at(count);
-        push_step(alloc, lines, node, next, own, outs.effects.as_slice())?;
+        push_step(alloc, lines, node, next, own, counted.effects.as_slice())?;
         next += count;
         rest = others;
     }

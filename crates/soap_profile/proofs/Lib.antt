@@ -1,2 +1,5 @@
 pub mod Trimming
 pub mod Lists
+pub mod Ahead
+pub mod Colons
+pub mod Faults

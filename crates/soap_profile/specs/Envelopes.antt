@@ -4,7 +4,7 @@ use Rattle.std.specs.Str.{bytes_eq}
 use Rattle.xml_profile.specs.declared.name.QName.{QName}
 use Rattle.xml_profile.specs.declared.tree.Tree.{Tree}
 use Rattle.xml_profile.specs.Prefixes.{soap, addressing, coordination}
-use Rattle.soap_profile.specs.declared.envelope.Envelope.{Envelope}
+use Rattle.soap_profile.specs.Opened.{Envelope}
 use Rattle.soap_profile.specs.declared.envelope.SoapRefusal.{SoapRefusal}
 use Rattle.soap_profile.specs.declared.envelope.SoapRefusal.TheVariants.{VersionMismatch, NotEnvelope, MustUnderstand, NoMemory}
 use Rattle.soap_profile.specs.Building.{children_of, element, qualified}

@@ -1,27 +1,45 @@
 //! Envelopes (SOAP 1.1, section 4).
 
 ghost use Rattle.std.specs.Prelude.{◌≡◌, IfOk, Ok, None};
-ghost use Rattle.std.specs.Option.{option_map};
-ghost use Rattle.soap_profile.specs.Envelopes.{Answers, envelope_of, envelope_tree, is_one, is_for_this_node, sole, is_message_header, is_endpoint_header, is_mandatory, is_obstacle, is_reference_parameter, is_understood_name, judged, not_understood, parts_of, root_refusal, with_body};
+ghost use Rattle.std.specs.Option.{option_copied, option_map};
+ghost use Rattle.soap_profile.specs.Envelopes.{Answers, envelope_of, envelope_tree, first_of, is_one, is_for_this_node, sole, is_message_header, is_endpoint_header, is_mandatory, is_obstacle, is_reference_parameter, is_understood_name, judged, not_understood, parts_of, root_refusal, with_body};
 ghost use Rattle.soap_profile.specs.Building.{children_of, element, qualified};
+ghost use Rattle.xml_profile.specs.Children.{forest_of};
 ghost use Rattle.xml_profile.specs.Prefixes.{soap};
 ghost use Rattle.soap_profile.specs.Values.{elements};
 
 use crate::build::{children_of, element, qualified};
+use crate::elements::{Elements, first_element};
 use crate::trees::Trees;
-use crate::value::{attribute, into_elements, is_named};
+use crate::value::{attribute, is_named};
 use at_base::text::Text;
 use std::alloc::{AllocError, AllocFailed, Global};
+use std::marker::Model;
 use thiserror::Error;
 use xml_profile::name::QName;
 use xml_profile::names::{ADDRESSING, COORDINATION, SOAP};
-use xml_profile::tree::{Children, Tree};
+use xml_profile::tree::{Child, Children, Tree};
 
-/// An envelope: its header blocks, and the one element in its body.
-#[derive(Debug, Drop)]
-pub struct Envelope {
-    pub headers: Trees,
-    pub body: Tree,
+/// An envelope that is lent: its header blocks, and the one element in its body.
+#[derive(Drop)]
+pub struct Envelope<'a> {
+    pub headers: Elements<'a>,
+    pub body: &'a Tree,
+}
+
+impl<'a> Model for Envelope<'a> {
+    ghost use Rattle.std.specs.Prelude.{List, refl};
+    ghost use Rattle.std.specs.Coded.{coded×, code_by};
+    ghost use Rattle.xml_profile.specs.declared.tree.Tree.{Tree};
+    ghost use Rattle.xml_profile.specs.contracts.tree.Tree.{the_row};
+    ghost use Rattle.soap_profile.specs.Opened.{Envelope};
+    ghost use base.Stored.{coded_list};
+
+    ghost Value = { Envelope };
+
+    ghost coded = { code_by (List Tree × Tree) (coded× (coded_list the_row.coded) the_row.coded) (λ e. (e.headers, e.body)) (λ p. record { headers = p.0; body = p.1 }) (λ _. refl) };
+
+    ghost view = { λ e. record { headers = e.headers; body = e.body.now } };
 }
 
 /// Why a tree is no envelope that this node takes.
@@ -52,14 +70,13 @@ impl From<AllocError> for SoapRefusal {
 }
 
 /// The envelope that a tree is, or the first refusal that holds: VersionMismatch, NotEnvelope, MustUnderstand.
-pub fn open_envelope(alloc: Global, tree: Tree) -> Result<Envelope, SoapRefusal>
-    ensures { Answers (envelope_of tree) result }
+pub fn open_envelope(alloc: Global, tree: &Tree) -> Result<Envelope<'_>, SoapRefusal>
+    ensures { Answers (envelope_of tree.now) result }
 {
-    let Tree { name, children, .. } = tree;
-    if let Some(refusal) = root_refusal(&name) {
+    if let Some(refusal) = root_refusal(&tree.name) {
         return Err(refusal);
     }
-    match parts(alloc, children)? {
+    match parts(alloc, &tree.children)? {
         Some(envelope) => judge(envelope),
         None => Err(SoapRefusal::NotEnvelope),
     }
@@ -77,57 +94,54 @@ fn root_refusal(name: &QName) -> Option<SoapRefusal>
     }
 }
 
-fn parts(alloc: Global, children: Children) -> Result<Option<Envelope>, AllocError>
-    ensures { IfOk result (λ envelope. envelope ≡ parts_of (elements children)) }
+fn parts(alloc: Global, children: &Children) -> Result<Option<Envelope<'_>>, AllocError>
+    ensures { IfOk result (λ envelope. envelope ≡ parts_of (elements children.now)) }
 {
-    let mut items = into_elements(alloc, children)?.into_iter();
-    let Some(first) = items.next() else {
+    let Some((first, rest)) = first_element(children.as_slice()) else {
         return Ok(None);
     };
     if is_named(&first.name, SOAP, "Header") {
-        let body = items.next();
-        let headers = into_elements(alloc, first.children)?;
-        with_body(alloc, Trees::from_vec(headers), body)
+        let headers = Elements::within(alloc, &first.children)?;
+        Ok(with_body(headers, next(rest)))
     } else {
-        with_body(alloc, Trees::new(alloc), Some(first))
+        Ok(with_body(Elements::new(alloc), Some(first)))
     }
 }
 
-fn with_body(
-    alloc: Global,
-    headers: Trees,
-    body: Option<Tree>,
-) -> Result<Option<Envelope>, AllocError>
-    ensures { IfOk result (λ envelope. envelope ≡ with_body headers body) }
+/// The first element of these children.
+fn next(children: &[Child]) -> Option<&Tree>
+    ensures { option_copied result ≡ first_of (elements (forest_of children.now)) }
 {
-    let Some(body) = body else {
-        return Ok(None);
-    };
+    let (first, _) = first_element(children)?;
+    Some(first)
+}
+
+fn with_body<'a>(headers: Elements<'a>, body: Option<&'a Tree>) -> Option<Envelope<'a>>
+    ensures { result ≡ with_body headers.entry (option_copied body.entry) }
+{
+    let body = body?;
     if !is_named(&body.name, SOAP, "Body") {
-        return Ok(None);
+        return None;
     }
-    match sole(into_elements(alloc, body.children)?) {
-        Some(body) => Ok(Some(Envelope { headers, body })),
-        None => Ok(None),
-    }
+    let body = sole(body.children.as_slice())?;
+    Some(Envelope { headers, body })
 }
 
-/// The one element of a list of one.
-fn sole(items: Vec<Tree>) -> Option<Tree>
-    ensures { result ≡ sole items.items }
+/// The one element of children that have one.
+fn sole(children: &[Child]) -> Option<&Tree>
+    ensures { option_copied result ≡ sole (elements (forest_of children.now)) }
 {
-    let mut items = items.into_iter();
-    let first = items.next()?;
-    match items.next() {
+    let (first, rest) = first_element(children)?;
+    match first_element(rest) {
         Some(_) => None,
         None => Some(first),
     }
 }
 
-fn judge(envelope: Envelope) -> Result<Envelope, SoapRefusal>
-    ensures { Answers (judged envelope (not_understood envelope.headers)) result }
+fn judge(envelope: Envelope<'_>) -> Result<Envelope<'_>, SoapRefusal>
+    ensures { Answers (judged envelope.entry (not_understood envelope.entry.headers)) result }
 {
-    match not_understood(envelope.headers.as_slice()) {
+    match not_understood(&envelope.headers) {
         Some(block) => Err(SoapRefusal::MustUnderstand {
             name: block.name.local.clone()?,
         }),
@@ -135,10 +149,11 @@ fn judge(envelope: Envelope) -> Result<Envelope, SoapRefusal>
     }
 }
 
-fn not_understood(blocks: &[Tree]) -> Option<&Tree>
+fn not_understood<'a>(blocks: &Elements<'a>) -> Option<&'a Tree>
     ensures { option_map (λ block. block.now.name.local) result ≡ not_understood blocks.now }
 {
-    for block in blocks {
+    for block in blocks.as_slice() {
+        let block: &'a Tree = *block;
         if is_obstacle(block) {
             return Some(block);
         }

@@ -2,6 +2,7 @@
 #![tactic(auto)]
 
 pub mod build;
+pub mod elements;
 pub mod envelope;
 pub mod fault;
 pub mod trees;

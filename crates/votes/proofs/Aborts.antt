@@ -65,7 +65,7 @@ pub no_good : (what : Ending) → IsBad what → endings.Committed ≡ what → 
 no_good what (inl f) e = let g : endings.Committed ≡ endings.Aborted = e ∙ f in cc
 no_good what (inr f) e = let g : endings.Committed ≡ endings.Lost = e ∙ f in cc
 
-only_one : (f g : Effect) → IsIn f (g ∷ []) → f ≡ g
+pub only_one : (f g : Effect) → IsIn f (g ∷ []) → f ≡ g
 only_one f g (inl e) = e
 only_one f g (inr i) = absurd i
 

@@ -108,19 +108,19 @@ filtered_from {A = A} q y (x ∷ xs) i = by_test (q x) refl (filtered_from q y x
     by_test false f rest k = let (l, g) = rest k in (inr l, g)
 
 -- what is lost: an undecided transaction, or a leaf that hasn't voted
-record LosesTransaction (b : Book) (f : Effect) : Type 0 where
-  one : Transaction
+pub record LosesTransaction (b : Book) (f : Effect) : Type 0 where
+  pub one : Transaction
   among : IsIn one b.transactions
   undecided : may_expire one.phase ≡ true
-  is : f ≡ ending one endings.Lost
+  pub is : f ≡ ending one endings.Lost
 
-record LosesLeaf (b : Book) (f : Effect) : Type 0 where
-  one : Leaf
+pub record LosesLeaf (b : Book) (f : Effect) : Type 0 where
+  pub one : Leaf
   among : IsIn one b.leaves
   open_still : is_lost_leaf one ≡ true
-  is : f ≡ leaf_ended one endings.Lost
+  pub is : f ≡ leaf_ended one endings.Lost
 
-in_lost : (b : Book) (f : Effect) → IsIn f (lost b) → LosesTransaction b f ⊎ LosesLeaf b f
+pub in_lost : (b : Book) (f : Effect) → IsIn f (lost b) → LosesTransaction b f ⊎ LosesLeaf b f
 in_lost b f i = first (in_either f (map (λ t. ending t endings.Lost) (filter is_lost_root b.transactions)) _ i)
   where
     transaction : (q : Transaction → Bool) → ((t : Transaction) → q t ≡ true → may_expire t.phase ≡ true) → IsIn f (map (λ t. ending t endings.Lost) (filter q b.transactions)) → LosesTransaction b f
@@ -153,7 +153,7 @@ map_twice : {A B C : Type 0} (f : A → B) (g : B → C) (xs : List A) → map g
 map_twice f g [] = refl
 map_twice f g (x ∷ xs) = ap (λ zs. g (f x) ∷ zs) (map_twice f g xs)
 
-lost_maps : (n : ℕ) (b : Book) → lost_in n b ≡ map (happened_at n) (lost b)
+pub lost_maps : (n : ℕ) (b : Book) → lost_in n b ≡ map (happened_at n) (lost b)
 lost_maps n b =
     sym (map_join (happened_at n) (map (λ t. ending t endings.Lost) (filter is_lost_root b.transactions)) _
     ∙ (λ i. map_twice (λ (t : Transaction). ending t endings.Lost) (happened_at n) (filter is_lost_root b.transactions) i

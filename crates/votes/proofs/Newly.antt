@@ -81,7 +81,7 @@ pub record EndsNow (n : ℕ) (es : List Effect) (y : Who) (what : Ending) : Type
   pub among : IsIn effect es
   pub its : IsEnd y.id what effect
 
-happened_of : (n : ℕ) (es : List Effect) (k : ℕ) (f : Effect) → IsIn (happened_at k f) (map (happened_at n) es) → (k ≡ n) × IsIn f es
+pub happened_of : (n : ℕ) (es : List Effect) (k : ℕ) (f : Effect) → IsIn (happened_at k f) (map (happened_at n) es) → (k ≡ n) × IsIn f es
 happened_of n es k f i =
     let (g, j, e) = mapped_from (happened_at n) (happened_at k f) es i in
     (ap (λ (h : Happened). h.node) e, subst (λ q. IsIn q es) (sym (ap (λ (h : Happened). h.what) e)) j)

@@ -7,11 +7,11 @@ use Rattle.xml_profile.specs.Prefixes.{soap}
 use Rattle.soap_profile.specs.Values.{is_named}
 use Rattle.addressing.specs.declared.headers.AddressingRefusal.{AddressingRefusal}
 use Rattle.addressing.specs.declared.headers.Header.TheVariants.{MessageId, ReplyTo, FaultTo, CoordinationContext}
-use Rattle.addressing.specs.declared.headers.Headers.{Headers}
+use Rattle.addressing.specs.Message.{Headers}
 use Rattle.addressing.specs.Headers.{◌>>=◌}
 use Rattle.addressing.specs.Requests.{answerable_of, create_action, is_answerable, register_action, request_of, required, valid, work_action}
-use Rattle.wire_msgs.specs.declared.form.Form.{Form}
-use Rattle.wire_msgs.specs.declared.form.Form.TheVariants as forms
+use Rattle.at_targets.specs.declared.form.Form.{Form}
+use Rattle.at_targets.specs.declared.form.Form.TheVariants as forms
 use Rattle.wire_msgs.specs.Forms.{action_of}
 
 pub record Answerable (headers : Headers) : Type 0 where

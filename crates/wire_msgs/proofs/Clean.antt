@@ -12,9 +12,9 @@ use Rattle.xml_roundtrip.proofs.Kept.{Fine, XmlText, is_text as text_from, text_
 use Rattle.xml_roundtrip.proofs.Written.{high_bytes}
 use Rattle.soap_profile.specs.Values.{direct_text, is_empty, is_white, trim, trim_end, trim_start}
 use Rattle.addressing.specs.Writing.{IsTrimmed}
-use Rattle.wire_msgs.specs.Bodies.{has_colon, local_part}
+use Rattle.soap_profile.specs.Faults.{has_colon, local_part}
 use Rattle.wire_msgs.specs.Whole.{IsClean}
-use Rattle.wire_msgs.proofs.Colons.{local_goes, local_stops}
+use Rattle.soap_profile.proofs.Colons.{local_goes, local_stops}
 
 white_low : (b : ℕ) → is_white b ≡ true → b < 128
 white_low b w = grind (arith)

@@ -9,12 +9,10 @@ use Rattle.xml_grammar.specs.Limits.{IsWithin, levels, elements as count, widest
 use Rattle.xml_grammar.specs.Refusals.{Reads}
 use Rattle.xml_roundtrip.proofs.Bools.{and_true, both_true}
 use Rattle.xml_roundtrip.proofs.Trees.{spelled_well}
+use Rattle.soap_profile.specs.Children.{all_named, at_most_one, child_of, has_name, named}
 use Rattle.soap_profile.specs.Envelopes.{is_reference_parameter}
 use Rattle.soap_profile.specs.Values.{elements, is_named, text_value}
-use Rattle.addressing.specs.Endpoints.{at_most_one, named}
 use Rattle.addressing.specs.Headers.{own_blocks}
-use Rattle.wire_msgs.specs.declared.part.Part.{Part}
-use Rattle.wire_msgs.specs.Parts.{is_part, parts_in}
 use Rattle.wire_msgs.specs.Whole.{IsClean}
 use Rattle.wire_msgs.proofs.Clean.{direct_fine, trim_clean}
 
@@ -100,13 +98,17 @@ looser P Q f None h = tt
 looser P Q f (Some None) h = tt
 looser P Q f (Some (Some t)) h = f t h
 
-pub parts_fit : (ts : List Tree) (part : Part) → AllFit ts → AllFit (parts_in ts part)
-parts_fit [] part h = tt
-parts_fit (t ∷ ts) part h = by_part (is_part part t.name) (parts_fit ts part h.1)
+pub all_fit : (ts : List Tree) (space : Option (List ℕ)) (local : List ℕ) → AllFit ts → AllFit (all_named ts space local)
+all_fit [] space local h = tt
+all_fit (t ∷ ts) space local h = by_name (has_name space local t.name) (all_fit ts space local h.1)
   where
-    by_part : (b : Bool) → AllFit (parts_in ts part) → AllFit (cond b (t ∷ parts_in ts part) (parts_in ts part))
-    by_part true rest = (h.0, rest)
-    by_part false rest = rest
+    by_name : (b : Bool) → AllFit (all_named ts space local) → AllFit (cond b (t ∷ all_named ts space local) (all_named ts space local))
+    by_name true rest = (h.0, rest)
+    by_name false rest = rest
+
+pub child_fit : (t : Tree) (space : Option (List ℕ)) (local : List ℕ) → Fit t → IfOne Fit (child_of t space local)
+child_fit t space local f =
+    one_of Fit (all_named (elements t.children) space local) (all_fit (elements t.children) space local (fit_elements t f))
 
 pub own_fit : (ts : List Tree) → AllFit ts → AllFit (own_blocks ts)
 own_fit [] h = tt

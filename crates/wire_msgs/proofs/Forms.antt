@@ -1,28 +1,13 @@
--- What a target takes, and actions, case by case.
+-- Actions, case by case.
 use Rattle.std.proofs.Common.{◌≡◌, ℕ, List, [], ◌∷◌, Bool, true, false, Option, Some, None, IfSome, cond, refl, ap, ◌∙◌, subst, sym}
 use Rattle.std.specs.Prelude.{◌≢◌}
 use Rattle.std.specs.List.{find}
 use Rattle.std.specs.Str.{bytes_eq}
 use Rattle.std.proofs.lemmas.Slice.Eq.{bytes_eq-Decides}
-use Rattle.at_base.specs.declared.message.Message.{Message}
-use Rattle.at_base.specs.declared.message.Message.TheVariants as messages
 use Rattle.at_base.specs.declared.notice.Notice.TheVariants as notices
-use Rattle.at_base.specs.declared.target.Target.{Target}
-use Rattle.at_base.specs.declared.target.Target.TheVariants as targets
-use Rattle.at_model.specs.World.{takes}
-use Rattle.wire_msgs.specs.declared.form.Form.{Form}
-use Rattle.wire_msgs.specs.declared.form.Form.TheVariants as forms
-use Rattle.wire_msgs.specs.Forms.{action_of, every_form, form_at, form_of, takes_any}
-
-pub takes_as_modelled : (target : Target) (message : Message) → takes target message ≡ takes_any target (form_of message)
-takes_as_modelled targets.Activation (messages.Notice notices.Prepare) = refl
-takes_as_modelled (targets.Registration id) (messages.Notice notices.Prepare) = refl
-takes_as_modelled (targets.Completion id) (messages.Notice notices.Prepare) = refl
-takes_as_modelled (targets.Coordinator id seat) (messages.Notice notices.Prepare) = refl
-takes_as_modelled (targets.Participant id kind) (messages.Notice notices.Prepare) = refl
-takes_as_modelled (targets.Initiator id) (messages.Notice notices.Prepare) = refl
-takes_as_modelled targets.Work (messages.Notice notices.Prepare) = refl
-takes_as_modelled target message = refl
+use Rattle.at_targets.specs.declared.form.Form.{Form}
+use Rattle.at_targets.specs.declared.form.Form.TheVariants as forms
+use Rattle.wire_msgs.specs.Forms.{action_of, every_form, form_at}
 
 pub actions_differ : (form : Form) → form_at (action_of form) ≡ Some form
 actions_differ forms.Create = refl

@@ -11,7 +11,7 @@ use Rattle.addressing.specs.declared.headers.AddressingRefusal.{AddressingRefusa
 use Rattle.addressing.specs.declared.headers.AddressingRefusal.TheVariants.{InvalidHeader}
 use Rattle.addressing.specs.declared.headers.Header.{Header}
 use Rattle.addressing.specs.declared.headers.Header.TheVariants.{To, Action, MessageId, From, ReplyTo, FaultTo}
-use Rattle.addressing.specs.declared.headers.Headers.{Headers}
+use Rattle.addressing.specs.Message.{Headers}
 use Rattle.addressing.specs.Endpoints.{anonymous, epr_of, is_anonymous, is_nobody}
 use Rattle.addressing.specs.Headers.{◌>>=◌, action_of, context_of, destination, endpoint_of, header_in, headers_of, is_context, is_parsed, is_repeated, is_reply, own_blocks, readable, said_once, singles, source_of, to_of, unless_repeated, with_context}
 use Rattle.wire_msgs.specs.Whole.{IsClean, IsSource, IsWholeEndpoint}

@@ -20,7 +20,7 @@ use Rattle.context.specs.Parameters.{child_in, local_name}
 use Rattle.context.specs.Reading.{◌>>=◌, are_digits, context_of, create_of, create_response_of, current_in, digits_number, endpoint_in, expires_in, identifier, identifier_in, is_identifier, number_of, optional, readable, register_of, register_response_of, required, said_current, said_expires, text_in}
 use Rattle.context.specs.Writing.{IsNarrow}
 use Rattle.wire_msgs.specs.Whole.{IsClean, IsWholeContext, IsWholeCreate, IsWholeEndpoint, IsWholeRegister}
-use Rattle.wire_msgs.proofs.Fitting.{Fit, FitNamed, IfOne, fit_elements, looser, one_named, value_clean}
+use Rattle.wire_msgs.proofs.Fitting.{Fit, child_fit, FitNamed, IfOne, fit_elements, looser, one_named, value_clean}
 
 -- endpoints
 
@@ -86,10 +86,8 @@ readable_keeps P parameter (Some x) h = h
 
 -- children
 
-child_fit : (t : Tree) (parameter : Parameter) → Fit t → IfOne Fit (child_in t parameter)
-child_fit t parameter f =
-    looser (FitNamed coordination_space (local_name parameter)) Fit (λ u h. h.0) (child_in t parameter)
-    (one_named (elements t.children) coordination_space (local_name parameter) (fit_elements t f))
+parameter_fit : (t : Tree) (parameter : Parameter) → Fit t → IfOne Fit (child_in t parameter)
+parameter_fit t parameter f = child_fit t (Some coordination_space) (local_name parameter) f
 
 required_fit : (parameter : Parameter) (child : Option (Option Tree)) → IfOne Fit child → IfOk (required parameter child) Fit
 required_fit parameter None h = tt
@@ -101,7 +99,7 @@ optional_fit parameter None h = tt
 optional_fit parameter (Some child) h = h
 
 child_kept : (t : Tree) (parameter : Parameter) → Fit t → IfOk (required parameter (child_in t parameter)) Fit
-child_kept t parameter f = required_fit parameter (child_in t parameter) (child_fit t parameter f)
+child_kept t parameter f = required_fit parameter (child_in t parameter) (parameter_fit t parameter f)
 
 text_clean : (t : Tree) (parameter : Parameter) → Fit t → IfOk (text_in t parameter) IsClean
 text_clean t parameter f =
@@ -153,7 +151,7 @@ said_narrow (Some child) =
 expires_kept : (t : Tree) → Fit t → IfOk (expires_in t) IsNarrow
 expires_kept t f =
     chain (λ o. IfSome o Fit) IsNarrow (optional Expires (child_in t Expires)) said_expires
-    (optional_fit Expires (child_in t Expires) (child_fit t Expires f)) (λ o h. said_narrow o)
+    (optional_fit Expires (child_in t Expires) (parameter_fit t Expires f)) (λ o h. said_narrow o)
 
 -- the five bodies
 
@@ -172,7 +170,7 @@ said_whole (Some child) h = chain IsWholeContext (λ o. IfSome o IsWholeContext)
 current_whole : (t : Tree) → Fit t → IfOk (current_in t) (λ o. IfSome o IsWholeContext)
 current_whole t f =
     chain (λ o. IfSome o Fit) (λ o. IfSome o IsWholeContext) (optional CurrentContext (child_in t CurrentContext)) said_current
-    (optional_fit CurrentContext (child_in t CurrentContext) (child_fit t CurrentContext f)) said_whole
+    (optional_fit CurrentContext (child_in t CurrentContext) (parameter_fit t CurrentContext f)) said_whole
 
 pub create_whole : (t : Tree) → Fit t → IfOk (create_of t) IsWholeCreate
 create_whole t f =

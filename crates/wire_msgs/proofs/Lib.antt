@@ -1,7 +1,5 @@
-pub mod Ahead
 pub mod Asking
 pub mod Clean
-pub mod Colons
 pub mod Decoded
 pub mod Fitting
 pub mod Forms

@@ -5,13 +5,16 @@ use Rattle.context.specs.declared.parameter.ContextFault.TheVariants as contexts
 use Rattle.context.specs.Reading.{Answers as ContextAnswers}
 use Rattle.soap_profile.specs.declared.envelope.SoapRefusal.{SoapRefusal}
 use Rattle.soap_profile.specs.declared.envelope.SoapRefusal.TheVariants as soaps
+use Rattle.soap_profile.specs.declared.fault.FaultRefusal.{FaultRefusal}
+use Rattle.soap_profile.specs.declared.fault.FaultRefusal.TheVariants as faults
 use Rattle.soap_profile.specs.Envelopes.{Answers as SoapAnswers}
+use Rattle.soap_profile.specs.Faults.{Answers as FaultAnswers}
 use Rattle.addressing.specs.declared.headers.AddressingRefusal.{AddressingRefusal}
 use Rattle.addressing.specs.declared.headers.AddressingRefusal.TheVariants as headers
 use Rattle.addressing.specs.Headers.{Answers as HeaderAnswers}
 use Rattle.wire_msgs.specs.declared.refusal.Refusal.{Refusal}
 use Rattle.wire_msgs.specs.declared.refusal.Refusal.TheVariants.{TooLong, NotUtf8, NotSpelled, TooDeep, TooMany, VersionMismatch, NotEnvelope, MustUnderstand, MissingHeader, InvalidHeader, NoTarget, Action, Parameters, NoMemory}
-use Rattle.wire_msgs.specs.Refusals.{Answers, Refuses, addressing, coordination, of_addressing, of_coordination, of_soap, soap, ◌>>=◌}
+use Rattle.wire_msgs.specs.Refusals.{Answers, Refuses, addressing, coordination, fault, of_addressing, of_coordination, of_fault, of_soap, soap, ◌>>=◌}
 
 pub refused_first : {A B : Type 0} (first : Result A Refusal) (next : A → Result B Refusal) (r : Refusal) → Refuses first r
     → Refuses (first >>= next) r
@@ -40,6 +43,15 @@ pub coordination_refused : {A B : Type 0} (first : Result A ContextFault) (next 
 coordination_refused first next f r h e =
     subst (Refuses (coordination first >>= next)) (sym e)
     (refused_first (coordination first) next (of_coordination f) (by_fault first f h))
+
+by_refusal : {A : Type 0} (first : Result A FaultRefusal) (f : FaultRefusal) → FaultAnswers first (Err f) → Refuses (fault first) (of_fault f)
+by_refusal first (faults.Unreadable part) h = ap fault h
+by_refusal first faults.NoMemory h = tt
+
+pub fault_refused : {A B : Type 0} (first : Result A FaultRefusal) (next : A → Result B Refusal) (f : FaultRefusal) (r : Refusal)
+    → FaultAnswers first (Err f) → r ≡ of_fault f → Refuses (fault first >>= next) r
+fault_refused first next f r h e =
+    subst (Refuses (fault first >>= next)) (sym e) (refused_first (fault first) next (of_fault f) (by_refusal first f h))
 
 by_soap : {A : Type 0} (first : Result A SoapRefusal) (f : SoapRefusal) → SoapAnswers first (Err f) → Refuses (soap first) (of_soap f)
 by_soap first soaps.VersionMismatch h = ap soap h

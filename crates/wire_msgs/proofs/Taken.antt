@@ -5,6 +5,7 @@ use Rattle.xml_profile.specs.declared.tree.Tree.{Tree}
 use Rattle.xml_profile.specs.Prefixes.{soap as soap_space}
 use Rattle.soap_profile.specs.Values.{is_named}
 use Rattle.soap_profile.specs.Envelopes.{envelope_of}
+use Rattle.soap_profile.specs.Faults.{fault_of}
 use Rattle.addressing.specs.Headers.{headers_of}
 use Rattle.addressing.specs.Requests.{request_of}
 use Rattle.context.specs.Reading.{create_of, create_response_of, register_of, register_response_of}
@@ -13,17 +14,18 @@ use Rattle.at_base.specs.declared.message.Message.TheVariants as messages
 use Rattle.at_base.specs.declared.target.Target.{Target}
 use Rattle.at_model.specs.World.{takes}
 use Rattle.wire_msgs.specs.declared.decode.Arrival.{Arrival}
-use Rattle.wire_msgs.specs.declared.form.Form.{Form}
-use Rattle.wire_msgs.specs.declared.form.Form.TheVariants as forms
+use Rattle.at_targets.specs.declared.form.Form.{Form}
+use Rattle.at_targets.specs.declared.form.Form.TheVariants as forms
 use Rattle.wire_msgs.specs.declared.refusal.ParameterName.TheVariants.{Body}
 use Rattle.wire_msgs.specs.declared.refusal.Refusal.{Refusal}
 use Rattle.wire_msgs.specs.declared.refusal.Refusal.TheVariants.{Action, Parameters}
 use Rattle.wire_msgs.specs.Arrivals.{Arrives, arrival_of, arrival_in, arrival_under, arrived, fault_at, message_of, named_at, said_at, said_in, targeted}
-use Rattle.wire_msgs.specs.Bodies.{body_of, fault_of, work_of}
-use Rattle.wire_msgs.specs.Forms.{form_at, form_of, local_of, space_of, takes_any, takes_fault, takes_form}
-use Rattle.wire_msgs.specs.Refusals.{Answers, addressing, coordination, soap, ◌>>=◌}
+use Rattle.wire_msgs.specs.Bodies.{body_of, work_of}
+use Rattle.at_targets.specs.Forms.{form_of, takes_any, takes_fault, takes_form}
+use Rattle.wire_msgs.specs.Forms.{form_at, local_of, space_of}
+use Rattle.wire_msgs.specs.Refusals.{Answers, addressing, coordination, fault, soap, ◌>>=◌}
 use Rattle.wire_msgs.specs.Targets.{target_at}
-use Rattle.wire_msgs.proofs.Forms.{takes_as_modelled}
+use Rattle.at_targets.proofs.Forms.{takes_as_modelled}
 
 -- a chain that ends well has begun well
 both_ok : {A B : Type 0} (first : Result A Refusal) (next : A → Result B Refusal) (b : B) → (first >>= next) ≡ Ok b
@@ -58,8 +60,8 @@ body_form forms.WorkRefused context t m e = sym (ap form_of (same_ok messages.Wo
 
 fault_taken : (target : Target) (t : Tree) (m : Message) → fault_at target t ≡ Ok m → takes_any target (form_of m) ≡ true
 fault_taken target t m e =
-    let (takes, said) = then_ok (takes_fault target) (fault_of t >>= λ name. Ok (messages.Fault name)) Action m e in
-    let (name, found, made) = both_ok (fault_of t) (λ x. Ok (messages.Fault x)) m said in
+    let (takes, said) = then_ok (takes_fault target) (fault (fault_of t) >>= λ name. Ok (messages.Fault name)) Action m e in
+    let (name, found, made) = both_ok (fault (fault_of t)) (λ x. Ok (messages.Fault x)) m said in
     sym (ap (λ (n : Message). takes_any target (form_of n)) (same_ok (messages.Fault name) m made)) ∙ takes
 
 said_taken : (form : Option Form) (context : Option Tree) (target : Target) (t : Tree) (m : Message) → said_at form context target t ≡ Ok m

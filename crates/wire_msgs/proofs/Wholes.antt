@@ -3,40 +3,46 @@ use Rattle.std.proofs.Common.{◌≡◌, refl, subst, ℕ, ◌≤◌, List, [], 
 use Rattle.std.specs.Prelude.{codes}
 use Rattle.std.proofs.lemmas.Bool.{leb-true}
 use Rattle.xml_profile.specs.declared.tree.Tree.{Tree}
-use Rattle.xml_profile.specs.Prefixes.{soap as soap_space}
+use Rattle.xml_profile.specs.Prefixes.{soap as soap_space, work as work_space}
 use Rattle.xml_profile.specs.Spellable.{is_text}
 use Rattle.xml_grammar.specs.Refusals.{Reads}
-use Rattle.soap_profile.specs.declared.envelope.Envelope.{Envelope}
+use Rattle.soap_profile.specs.Opened.{Envelope}
 use Rattle.soap_profile.specs.declared.envelope.SoapRefusal.{SoapRefusal}
+use Rattle.soap_profile.specs.declared.fault.FaultPart.{FaultPart}
+use Rattle.soap_profile.specs.declared.fault.FaultPart.TheVariants.{Code, Text, Actor, Detail}
+use Rattle.soap_profile.specs.declared.fault.FaultRefusal.{FaultRefusal}
+use Rattle.soap_profile.specs.Faults as faults
+use Rattle.soap_profile.specs.Faults.{fault_of}
 use Rattle.soap_profile.specs.Envelopes.{enveloped, envelope_of, first_of, judged, not_understood, opened, parts_of, root_refusal, rooted, sole, with_body}
 use Rattle.soap_profile.specs.Values.{elements, is_named, text_value}
 use Rattle.at_base.specs.declared.message.Message.{Message}
 use Rattle.at_base.specs.declared.message.Message.TheVariants as messages
 use Rattle.at_base.specs.declared.target.Target.{Target}
 use Rattle.addressing.specs.declared.headers.AddressingRefusal.{AddressingRefusal}
-use Rattle.addressing.specs.declared.headers.Headers.{Headers}
+use Rattle.addressing.specs.Message.{Headers}
 use Rattle.addressing.specs.Headers.{headers_of}
 use Rattle.addressing.specs.Requests.{request_of}
 use Rattle.context.specs.declared.parameter.ContextFault.{ContextFault}
 use Rattle.context.specs.Reading.{context_of, create_of, create_response_of, register_of, register_response_of}
 use Rattle.wire_msgs.specs.declared.decode.Arrival.{Arrival}
-use Rattle.wire_msgs.specs.declared.form.Form.{Form}
-use Rattle.wire_msgs.specs.declared.form.Form.TheVariants as forms
+use Rattle.at_targets.specs.declared.form.Form.{Form}
+use Rattle.at_targets.specs.declared.form.Form.TheVariants as forms
 use Rattle.wire_msgs.specs.declared.part.Part.{Part}
 use Rattle.wire_msgs.specs.declared.part.Part.TheVariants as parts
 use Rattle.wire_msgs.specs.declared.refusal.ParameterName.TheVariants.{Body}
 use Rattle.wire_msgs.specs.declared.refusal.Refusal.{Refusal}
 use Rattle.wire_msgs.specs.declared.refusal.Refusal.TheVariants.{Action, Parameters}
 use Rattle.wire_msgs.specs.Arrivals.{Arrives, arrival_of, arrival_in, arrival_under, arrived, fault_at, message_of, said_at, said_in, targeted}
-use Rattle.wire_msgs.specs.Bodies.{body_of, fault_of, kind_in, once, present, readable, required, short, short_in, text_in, vote_in, work_of}
-use Rattle.wire_msgs.specs.Forms.{action_of, form_at, local_of, space_of, takes_fault, takes_form}
-use Rattle.wire_msgs.specs.Parts.{child_in, parts_in}
-use Rattle.wire_msgs.specs.Refusals.{Answers, addressing, coordination, soap, ◌>>=◌}
+use Rattle.wire_msgs.specs.Bodies.{body_of, kind_in, readable, required, short, short_in, text_in, vote_in, work_of}
+use Rattle.at_targets.specs.Forms.{takes_fault, takes_form}
+use Rattle.wire_msgs.specs.Forms.{action_of, form_at, local_of, space_of}
+use Rattle.wire_msgs.specs.Parts.{child_in, part_name}
+use Rattle.wire_msgs.specs.Refusals.{Answers, addressing, coordination, fault, soap, ◌>>=◌}
 use Rattle.wire_msgs.specs.Targets.{target_at}
 use Rattle.wire_msgs.specs.Whole.{IsAskedWell, IsClean, IsWhole, IsWholeContext, IsWholeCreate, IsWholeEndpoint, IsWholeMessage, IsWholeRegister, IsWholeWork}
 use Rattle.wire_msgs.proofs.Asking.{asked_well, create_asks, register_asks, work_asks}
 use Rattle.wire_msgs.proofs.Clean.{local_spelled}
-use Rattle.wire_msgs.proofs.Fitting.{AllFit, Fit, IfOne, fit_elements, one_of, parts_fit, read_fit, value_clean}
+use Rattle.wire_msgs.proofs.Fitting.{AllFit, Fit, IfOne, child_fit, fit_elements, read_fit, value_clean}
 use Rattle.wire_msgs.proofs.Headed.{AreWhole, headers_whole}
 use Rattle.wire_msgs.proofs.Kept.{context_whole, create_response_whole, create_whole, register_response_whole, register_whole}
 use Rattle.wire_msgs.proofs.Forms.{is_named as action_named}
@@ -125,7 +131,7 @@ required_fit part (Some (Some t)) h = h
 text_clean : (t : Tree) (part : Part) → Fit t → IfOk (text_in t part) IsClean
 text_clean t part f =
     chain Fit IsClean (required part (child_in t part)) (λ child. Ok (text_value child))
-    (required_fit part (child_in t part) (one_of Fit (parts_in (elements t.children) part) (parts_fit (elements t.children) part (fit_elements t f))))
+    (required_fit part (child_in t part) (child_fit t (Some work_space) (part_name part) f))
     (λ u h. value_clean u h)
 
 record IsShortText (text : List ℕ) : Type 0 where
@@ -160,13 +166,34 @@ work_whole (Some header) t h f =
 
 -- a fault
 
-fault_name : (t : Tree) → Fit t → IfOk (fault_of t) (λ name. is_text name ≡ true)
+abbrev IsFaultName : List ℕ → Type 0
+IsFaultName name = is_text name ≡ true
+
+fault_chain : {A B : Type 0} (P : A → Type 0) (Q : B → Type 0) (first : Result A FaultRefusal) (next : A → Result B FaultRefusal)
+    → IfOk first P → ((x : A) → P x → IfOk (next x) Q) → IfOk (faults.◌>>=◌ first next) Q
+fault_chain P Q (Ok x) next h k = k x h
+fault_chain P Q (Err f) next h k = tt
+
+fault_part : (part : FaultPart) (child : Option (Option Tree)) → IfOne Fit child → IfOk (faults.required part child) Fit
+fault_part part None h = tt
+fault_part part (Some None) h = tt
+fault_part part (Some (Some t)) h = h
+
+anything : {A : Type 0} (r : Result A FaultRefusal) → IfOk r (λ x. Unit {0})
+anything (Ok x) = tt
+anything (Err f) = tt
+
+fault_name : (t : Tree) → Fit t → IfOk (fault_of t) IsFaultName
 fault_name t f =
-    chain IsClean (λ name. is_text name ≡ true) (text_in t parts.FaultCode) _ (text_clean t parts.FaultCode f)
-    (λ code c. any (λ name. is_text name ≡ true) (present parts.FaultString (child_in t parts.FaultString)) _
-    (λ string. any (λ name. is_text name ≡ true) (once parts.FaultActor (child_in t parts.FaultActor)) _
-    (λ actor. any (λ name. is_text name ≡ true) (once parts.Detail (child_in t parts.Detail)) _
-    (λ detail. local_spelled code c))))
+    fault_chain Fit IsFaultName (faults.required Code (faults.part_of t Code)) _ (fault_part Code (faults.part_of t Code) (child_fit t None (faults.part_name Code) f))
+    (λ code c. fault_chain (λ x. Unit {0}) IsFaultName (faults.required Text (faults.part_of t Text)) _ (anything (faults.required Text (faults.part_of t Text)))
+    (λ text _. fault_chain (λ x. Unit {0}) IsFaultName (faults.optional Actor (faults.part_of t Actor)) _ (anything (faults.optional Actor (faults.part_of t Actor)))
+    (λ actor _. fault_chain (λ x. Unit {0}) IsFaultName (faults.optional Detail (faults.part_of t Detail)) _ (anything (faults.optional Detail (faults.part_of t Detail)))
+    (λ detail _. local_spelled (text_value code) (value_clean code c)))))
+
+of_fault : {A : Type 0} (P : A → Type 0) (r : Result A FaultRefusal) → IfOk r P → IfOk (fault r) P
+of_fault P (Ok x) h = h
+of_fault P (Err f) h = tt
 
 -- a message, and what its action asks of the headers
 
@@ -178,9 +205,10 @@ module _ (headers : Headers) (target : Target) (body : Tree) (w : AreWhole heade
   fault_said : IfOk (fault_at target body) (IsSaid headers target)
   fault_said = by_target (takes_fault target)
     where
-      by_target : (b : Bool) → IfOk {E = Refusal} (cond b (fault_of body >>= λ name. Ok (messages.Fault name)) (Err Action)) (IsSaid headers target)
+      by_target : (b : Bool) → IfOk {E = Refusal} (cond b (fault (fault_of body) >>= λ name. Ok (messages.Fault name)) (Err Action)) (IsSaid headers target)
       by_target true =
-          chain (λ name. is_text name ≡ true) (IsSaid headers target) (fault_of body) _ (fault_name body f) (λ name h. record { whole = h; request = tt })
+          chain IsFaultName (IsSaid headers target) (fault (fault_of body)) _ (of_fault IsFaultName (fault_of body) (fault_name body f))
+          (λ name h. record { whole = h; request = tt })
       by_target false = tt
 
   body_said : (form : Form) → headers.action ≡ action_of form → is_named body.name soap_space (codes "Fault") ≡ false

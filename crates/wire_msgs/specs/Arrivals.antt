@@ -1,27 +1,28 @@
 -- The message that arrives with a request: what its bytes and its path mean, or the first refusal that holds.
-use Rattle.std.specs.Prelude.{◌≡◌, ℕ, List, Option, Some, None, Result, Ok, Err, if◌then◌else◌, codes}
+use Rattle.std.specs.Prelude.{◌≡◌, ℕ, List, Option, Some, None, Result, Ok, Err, if◌then◌else◌}
 use Rattle.xml_profile.specs.declared.tree.Tree.{Tree}
-use Rattle.xml_profile.specs.Prefixes.{soap as soap_space}
 use Rattle.xml_grammar.specs.Refusals.{Reads}
 use Rattle.xml_grammar.specs.Refusals.{Refuses as RefusesTree}
 use Rattle.xml_grammar.specs.declared.reader.TreeRefusal.TheVariants as trees
 use Rattle.soap_profile.specs.Values.{is_named}
 use Rattle.soap_profile.specs.Envelopes.{envelope_of}
-use Rattle.soap_profile.specs.declared.envelope.Envelope.{Envelope}
+use Rattle.soap_profile.specs.Faults.{fault_of, is_fault}
+use Rattle.soap_profile.specs.Opened.{Envelope}
 use Rattle.addressing.specs.Headers.{headers_of}
 use Rattle.addressing.specs.Requests.{request_of}
-use Rattle.addressing.specs.declared.headers.Headers.{Headers}
+use Rattle.addressing.specs.Message.{Headers}
 use Rattle.at_base.specs.declared.message.Message.{Message}
 use Rattle.at_base.specs.declared.message.Message.TheVariants.{Fault}
 use Rattle.at_base.specs.declared.target.Target.{Target}
 use Rattle.wire_msgs.specs.declared.decode.Arrival.{Arrival}
-use Rattle.wire_msgs.specs.declared.form.Form.{Form}
+use Rattle.at_targets.specs.declared.form.Form.{Form}
 use Rattle.wire_msgs.specs.declared.refusal.ParameterName.TheVariants.{Body}
 use Rattle.wire_msgs.specs.declared.refusal.Refusal.{Refusal}
 use Rattle.wire_msgs.specs.declared.refusal.Refusal.TheVariants.{TooLong, NotUtf8, NotSpelled, TooDeep, TooMany, VersionMismatch, NotEnvelope, MustUnderstand, MissingHeader, InvalidHeader, NoTarget, Action, Parameters, NoMemory}
-use Rattle.wire_msgs.specs.Bodies.{body_of, fault_of}
-use Rattle.wire_msgs.specs.Forms.{form_at, local_of, space_of, takes_fault, takes_form}
-use Rattle.wire_msgs.specs.Refusals.{addressing, soap, ◌>>=◌}
+use Rattle.wire_msgs.specs.Bodies.{body_of}
+use Rattle.at_targets.specs.Forms.{takes_fault, takes_form}
+use Rattle.wire_msgs.specs.Forms.{form_at, local_of, space_of}
+use Rattle.wire_msgs.specs.Refusals.{addressing, fault, soap, ◌>>=◌}
 use Rattle.wire_msgs.specs.Targets.{target_at}
 
 -- the path names a service or an item
@@ -32,7 +33,7 @@ targeted (Some target) = Ok target
 -- a fault at a target that takes faults
 abbrev pub fault_at : Target → Tree → Result Message Refusal
 fault_at target body =
-    if takes_fault target then (fault_of body >>= λ name. Ok (Fault name))
+    if takes_fault target then (fault (fault_of body) >>= λ name. Ok (Fault name))
     else Err Action
 
 -- the element in the body is the action's (WS-Coordination 1.2 and WS-AtomicTransaction 1.2, section 1.3)
@@ -49,7 +50,7 @@ said_at (Some form) context target body = if takes_form target form then named_a
 -- a body that is a Fault is one whatever the action (SOAP 1.1, section 4.4)
 abbrev pub message_of : Headers → Target → Tree → Result Message Refusal
 message_of headers target body =
-    if is_named body.name soap_space (codes "Fault") then fault_at target body
+    if is_fault body.name then fault_at target body
     else said_at (form_at headers.action) headers.context target body
 
 abbrev pub arrived : Headers → Target → Message → Arrival

@@ -1,6 +1,6 @@
--- What the body of each message says (WS-Coordination 1.2, section 3; SOAP 1.1, section 4.4; this project's Work).
+-- What the body of each message but a fault says (WS-Coordination 1.2, section 3; this project's Work).
 -- Children stand in any order, and others are skipped.
-use Rattle.std.specs.Prelude.{◌≡◌, refl, ℕ, List, [], ◌∷◌, Bool, false, ◌||◌, nat_eq, nat_le, length, Option, Some, None, Result, Ok, Err, if◌then◌else◌, codes}
+use Rattle.std.specs.Prelude.{ℕ, List, nat_le, length, Option, Some, None, Result, Ok, Err, if◌then◌else◌, codes}
 use Rattle.std.specs.Str.{bytes_eq}
 use Rattle.xml_profile.specs.declared.tree.Tree.{Tree}
 use Rattle.soap_profile.specs.Values.{text_value}
@@ -13,8 +13,8 @@ use Rattle.at_base.specs.declared.message.Message.{Message}
 use Rattle.at_base.specs.declared.message.Message.TheVariants as messages
 use Rattle.at_base.specs.declared.message.Work.{Work}
 use Rattle.context.specs.Reading.{context_of, create_of, create_response_of, register_of, register_response_of}
-use Rattle.wire_msgs.specs.declared.form.Form.{Form}
-use Rattle.wire_msgs.specs.declared.form.Form.TheVariants as forms
+use Rattle.at_targets.specs.declared.form.Form.{Form}
+use Rattle.at_targets.specs.declared.form.Form.TheVariants as forms
 use Rattle.wire_msgs.specs.declared.part.Part.{Part}
 use Rattle.wire_msgs.specs.declared.part.Part.TheVariants as parts
 use Rattle.wire_msgs.specs.declared.refusal.ParameterName.TheVariants as names
@@ -32,15 +32,6 @@ abbrev pub required : Part → Option (Option Tree) → Result Tree Refusal
 required part None = Err (unreadable part)
 required part (Some None) = Err (unreadable part)
 required part (Some (Some t)) = Ok t
-
--- that a child is there
-abbrev pub present : Part → Option (Option Tree) → Result (Unit {0}) Refusal
-present part child = required part child >>= λ t. Ok tt
-
--- that a child isn't there twice
-abbrev pub once : Part → Option (Option Tree) → Result (Unit {0}) Refusal
-once part None = Err (unreadable part)
-once part (Some child) = Ok tt
 
 -- a value that can be read
 abbrev pub readable : {A : Type 0} → Part → Option A → Result A Refusal
@@ -95,24 +86,6 @@ work_of (Some header) t = do
   vote ← vote_in t
   Ok (record { context = context; key = key; value = value; kind = kind; vote = vote })
 
-abbrev pub has_colon : List ℕ → Bool
-has_colon [] = false
-has_colon (c ∷ cs) = nat_eq c 58 || has_colon cs
-
--- what stands behind the last colon of a qualified name (Namespaces in XML 1.0, section 4)
-abbrev pub local_part : List ℕ → List ℕ
-local_part [] = []
-local_part (c ∷ cs) = if has_colon (c ∷ cs) then local_part cs else c ∷ cs
-
--- the local name of a fault's code; a fault has a code and a string (SOAP 1.1, section 4.4)
-abbrev pub fault_of : Tree → Result (List ℕ) Refusal
-fault_of t = do
-  code ← text_in t parts.FaultCode
-  string ← present parts.FaultString (child_in t parts.FaultString)
-  actor ← once parts.FaultActor (child_in t parts.FaultActor)
-  detail ← once parts.Detail (child_in t parts.Detail)
-  Ok (local_part code)
-
 -- the message that a body of this form says; a notification says nothing more (WS-AtomicTransaction 1.2, section 3)
 abbrev pub body_of : Form → Option Tree → Tree → Result Message Refusal
 body_of forms.Create context t = coordination (create_of t) >>= λ body. Ok (messages.Create body)
@@ -123,12 +96,3 @@ body_of (forms.Notice notice) context t = Ok (messages.Notice notice)
 body_of forms.Work context t = work_of context t >>= λ body. Ok (messages.Work body)
 body_of forms.WorkDone context t = Ok messages.WorkDone
 body_of forms.WorkRefused context t = Ok messages.WorkRefused
-
-pub behind_the_last : local_part (codes "a:b:c") ≡ codes "c"
-behind_the_last = refl
-
-pub without_colon : local_part (codes "Client") ≡ codes "Client"
-without_colon = refl
-
-pub nothing_behind : local_part (codes "a:") ≡ []
-nothing_behind = refl

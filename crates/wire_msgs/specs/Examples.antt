@@ -2,7 +2,7 @@
 use Rattle.std.specs.Prelude.{[], ◌∷◌, ◌≡◌, refl, Ok, Err, None, codes}
 use Rattle.std.specs.Fmt.{digits}
 use Rattle.xml_profile.specs.Forest.Forest.{End}
-use Rattle.xml_profile.specs.Prefixes.{addressing}
+use Rattle.xml_profile.specs.Prefixes.{addressing, transaction}
 use Rattle.xml_profile.specs.declared.tree.Tree.{Tree}
 use Rattle.soap_profile.specs.Building.{element, qualified, text_children}
 use Rattle.soap_profile.specs.Envelopes.{envelope_tree}
@@ -12,8 +12,8 @@ use Rattle.at_base.specs.declared.notice.Kind.TheVariants as kinds
 use Rattle.at_base.specs.declared.notice.Notice.TheVariants as notices
 use Rattle.at_base.specs.declared.target.Target.TheVariants as targets
 use Rattle.addressing.specs.declared.headers.Header.TheVariants as headers
-use Rattle.wire_msgs.specs.declared.form.Form.{Form}
-use Rattle.wire_msgs.specs.declared.form.Form.TheVariants as forms
+use Rattle.at_targets.specs.declared.form.Form.{Form}
+use Rattle.at_targets.specs.declared.form.Form.TheVariants as forms
 use Rattle.wire_msgs.specs.declared.refusal.ParameterName.TheVariants as names
 use Rattle.wire_msgs.specs.declared.refusal.Refusal.TheVariants as refusals
 use Rattle.wire_msgs.specs.Arrivals.{arrival_of}
@@ -46,7 +46,7 @@ prepare_arrives = refl
 
 -- a fault is one whatever its action
 pub fault_arrives :
-    arrival_of (enveloped forms.WorkDone (fault_tree (codes "w:UnknownTransaction") (codes "unknown") None)) (codes "/completion/1-2")
+    arrival_of (enveloped forms.WorkDone (fault_tree transaction (codes "UnknownTransaction") (codes "unknown") None)) (codes "/completion/1-2")
     ≡ Ok (record {
       message = messages.Fault (codes "UnknownTransaction");
       target = targets.Completion (record { incarnation = 1; counter = 2 });

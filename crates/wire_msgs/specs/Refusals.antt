@@ -4,6 +4,8 @@ use Rattle.xml_grammar.specs.declared.reader.TreeRefusal.{TreeRefusal}
 use Rattle.xml_grammar.specs.declared.reader.TreeRefusal.TheVariants as trees
 use Rattle.soap_profile.specs.declared.envelope.SoapRefusal.{SoapRefusal}
 use Rattle.soap_profile.specs.declared.envelope.SoapRefusal.TheVariants as soaps
+use Rattle.soap_profile.specs.declared.fault.FaultRefusal.{FaultRefusal}
+use Rattle.soap_profile.specs.declared.fault.FaultRefusal.TheVariants as faults
 use Rattle.addressing.specs.declared.headers.AddressingRefusal.{AddressingRefusal}
 use Rattle.addressing.specs.declared.headers.AddressingRefusal.TheVariants as addressings
 use Rattle.context.specs.declared.parameter.ContextFault.{ContextFault}
@@ -31,6 +33,10 @@ of_addressing (addressings.MissingHeader name) = MissingHeader name
 of_addressing (addressings.InvalidHeader name) = InvalidHeader name
 of_addressing addressings.NoMemory = NoMemory
 
+abbrev pub of_fault : FaultRefusal → Refusal
+of_fault (faults.Unreadable part) = Parameters (names.Fault part)
+of_fault faults.NoMemory = NoMemory
+
 abbrev pub of_coordination : ContextFault → Refusal
 of_coordination (contexts.Parameters name) = Parameters (names.Coordination name)
 of_coordination contexts.NoMemory = NoMemory
@@ -43,6 +49,10 @@ soap (Err refusal) = Err (of_soap refusal)
 abbrev pub addressing : {A : Type 0} → Result A AddressingRefusal → Result A Refusal
 addressing (Ok value) = Ok value
 addressing (Err refusal) = Err (of_addressing refusal)
+
+abbrev pub fault : {A : Type 0} → Result A FaultRefusal → Result A Refusal
+fault (Ok value) = Ok value
+fault (Err refusal) = Err (of_fault refusal)
 
 abbrev pub coordination : {A : Type 0} → Result A ContextFault → Result A Refusal
 coordination (Ok value) = Ok value

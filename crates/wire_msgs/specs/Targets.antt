@@ -1,9 +1,9 @@
 -- What a message is for: the path of its To, or else of the request, names a service or an item.
-use Rattle.std.specs.Prelude.{ℕ, List, [], ◌∷◌, Option, Some, None, Ok, Err, nat_eq, if◌then◌else◌, codes, ◌≡◌, refl}
+use Rattle.std.specs.Prelude.{ℕ, List, [], ◌∷◌, Option, Some, None, nat_eq, if◌then◌else◌, codes, ◌≡◌, refl}
 use Rattle.std.specs.Option.{option_and_then}
 use Rattle.std.specs.Fmt.{digits}
-use Rattle.url.specs.Parts.{Parts}
-use Rattle.url.specs.Parser.{parse_url, Parsed}
+use Rattle.url.specs.Parser.{parse_url}
+use Rattle.addressing.specs.Posting.{path_in}
 use Rattle.at_base.specs.declared.notice.Kind.TheVariants as kinds
 use Rattle.at_base.specs.declared.target.Target.{Target}
 use Rattle.at_base.specs.declared.target.Target.TheVariants as targets
@@ -13,11 +13,6 @@ use Rattle.at_model.specs.Addresses.{target_of}
 abbrev pub without_query : List ℕ → List ℕ
 without_query [] = []
 without_query (b ∷ bytes) = if nat_eq b 63 then [] else b ∷ without_query bytes
-
--- the path of a URL, without its query
-abbrev pub path_in : Parsed Parts → Option (List ℕ)
-path_in (Ok url) = Some url.path
-path_in (Err fault) = None
 
 -- the path of the destination where there is one, or else that of the request (WS-Addressing 1.0 Core, section 3.1)
 abbrev pub place_of : Option (List ℕ) → List ℕ → Option (List ℕ)

@@ -1,17 +1,17 @@
-//! What the body of each message says (WS-Coordination 1.2, section 3; SOAP 1.1, section 4.4).
+//! What the body of each message but a fault says (WS-Coordination 1.2, section 3).
 
 ghost use Rattle.std.specs.Prelude.{◌≡◌};
-ghost use Rattle.wire_msgs.specs.Bodies.{body_of, fault_of, kind_in, kind_named, local_part, once, present, short_in, text_in, unreadable, vote_in, vote_named, work_of};
-ghost use Rattle.wire_msgs.specs.Parts.{child_in};
+ghost use Rattle.std.specs.Option.{option_copied};
+ghost use Rattle.wire_msgs.specs.Bodies.{body_of, kind_in, kind_named, short_in, text_in, unreadable, vote_in, vote_named, work_of};
 ghost use Rattle.wire_msgs.specs.Refusals.{Answers};
 
-use crate::form::Form;
 use crate::part::{Part, child_in};
 use crate::refusal::{ParameterName, Refusal};
 use addressing::headers::Header;
 use at_base::message::{Message, Work};
 use at_base::notice::{Kind, Vote};
 use at_base::text::Text;
+use at_targets::form::Form;
 use context::reader::{
     read_context, read_create, read_create_response, read_register, read_register_response,
 };
@@ -26,10 +26,10 @@ const MOST_BYTES: usize = 256;
 pub fn read_body(
     alloc: Global,
     form: Form,
-    context: &Option<Tree>,
+    context: Option<&Tree>,
     body: &Tree,
 ) -> Result<Message, Refusal>
-    ensures { Answers (body_of form context.now body.now) result }
+    ensures { Answers (body_of form (option_copied context.entry) body.now) result }
 {
     match form {
         Form::Create => Ok(Message::Create(read_create(alloc, body)?)),
@@ -45,8 +45,8 @@ pub fn read_body(
     }
 }
 
-fn read_work(alloc: Global, context: &Option<Tree>, body: &Tree) -> Result<Work, Refusal>
-    ensures { Answers (work_of context.now body.now) result }
+fn read_work(alloc: Global, context: Option<&Tree>, body: &Tree) -> Result<Work, Refusal>
+    ensures { Answers (work_of (option_copied context.entry) body.now) result }
 {
     let Some(context) = context else {
         return Err(Refusal::MissingHeader {
@@ -67,50 +67,12 @@ fn read_work(alloc: Global, context: &Option<Tree>, body: &Tree) -> Result<Work,
     })
 }
 
-/// The local name of the code of a fault. It may be empty.
-pub fn read_fault(alloc: Global, body: &Tree) -> Result<Text, Refusal>
-    ensures { Answers (fault_of body.now) result }
-{
-    let code = read_text(alloc, body, Part::FaultCode)?;
-    require(body, Part::FaultString)?;
-    allow(body, Part::FaultActor)?;
-    allow(body, Part::Detail)?;
-    Ok(Text::copied(alloc, local_part(code.as_str()))?)
-}
-
-fn local_part(name: &str) -> &str
-    ensures { result.now ≡ local_part name.now }
-{
-    match name.rsplit_once(':') {
-        Some((_, local)) => local,
-        None => name,
-    }
-}
-
 fn read_text(alloc: Global, body: &Tree, part: Part) -> Result<Text, Refusal>
     ensures { Answers (text_in body.now part) result }
 {
     match child_in(body, part) {
         Some(Some(child)) => Ok(text_value(alloc, child)?),
         _ => Err(unreadable(part)),
-    }
-}
-
-fn require(body: &Tree, part: Part) -> Result<(), Refusal>
-    ensures { Answers (present part (child_in body.now part)) result }
-{
-    match child_in(body, part) {
-        Some(Some(_)) => Ok(()),
-        _ => Err(unreadable(part)),
-    }
-}
-
-fn allow(body: &Tree, part: Part) -> Result<(), Refusal>
-    ensures { Answers (once part (child_in body.now part)) result }
-{
-    match child_in(body, part) {
-        Some(_) => Ok(()),
-        None => Err(unreadable(part)),
     }
 }
 

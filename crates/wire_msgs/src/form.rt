@@ -1,86 +1,71 @@
-//! The messages by the element in their body, and what a target takes (WS-Coordination 1.2, section 3;
-//! WS-AtomicTransaction 1.2, section 3).
+//! The names and the action of each message (WS-Coordination 1.2, section 3; WS-AtomicTransaction 1.2, section 3).
 
 ghost use Rattle.std.specs.Prelude.{◌≡◌, IfSome, Some};
-ghost use Rattle.wire_msgs.specs.Forms.{ActionsDiffer, TakesAsModelled, action_of, every_notice, first_at, form_at, local_of, notice_name, space_of, takes_fault, takes_form};
-ghost use Rattle.wire_msgs.specs.declared.form.Form.TheVariants as forms;
+ghost use Rattle.wire_msgs.specs.Forms.{ActionsDiffer, action_of, every_notice, first_at, form_at, local_of, notice_name, space_of};
+ghost use Rattle.at_targets.specs.declared.form.Form.{Form};
+ghost use Rattle.at_targets.specs.declared.form.Form.TheVariants as forms;
 
 use addressing::request::{CREATE_ACTION, REGISTER_ACTION, WORK_ACTION};
 use at_base::notice::Notice;
-use at_base::target::Target;
+use at_targets::form::Form;
 use xml_profile::names::{COORDINATION, TRANSACTION, WORK};
 
-/// What a message is, but for faults, which their body alone tells.
-#[derive(Clone, Copy, Debug, PartialEq, Eq)]
-pub enum Form {
-    Create,
-    CreateResponse,
-    Register,
-    RegisterResponse,
-    Notice(Notice),
-    Work,
-    WorkDone,
-    WorkRefused,
+/// The message that an action names. None exactly where none has it.
+#[tactic(auto, using(crate::proofs::Forms::is_named, crate::proofs::Forms::is_found))]
+pub fn of_action(action: &str) -> Option<Form>
+    ensures value { result ≡ form_at action.now }
+    ensures named { IfSome result (λ form. action.now ≡ action_of form) }
+    ensures every { (form : Form) → action.now ≡ action_of form → result ≡ Some form }
+{
+    form_at(action)
 }
 
-impl Form {
-    /// The message that an action names. None exactly where none has it.
-    #[tactic(auto, using(crate::proofs::Forms::is_named, crate::proofs::Forms::is_found))]
-    pub fn of_action(action: &str) -> Option<Form>
-        ensures value { result ≡ form_at action.now }
-        ensures named { IfSome result (λ form. action.now ≡ action_of form) }
-        ensures every { (form : Form) → action.now ≡ action_of form → result ≡ Some form }
-    {
-        form_at(action)
-    }
-
-    /// The namespace of the element in its body.
-    pub fn space(self) -> &'static str
-        ensures { result.now ≡ space_of self }
-    {
-        match self {
-            Form::Create | Form::CreateResponse | Form::Register | Form::RegisterResponse => {
-                COORDINATION
-            }
-            Form::Notice(_) => TRANSACTION,
-            Form::Work | Form::WorkDone | Form::WorkRefused => WORK,
+/// The namespace of the element in the body.
+pub fn space_of(form: Form) -> &'static str
+    ensures { result.now ≡ space_of form }
+{
+    match form {
+        Form::Create | Form::CreateResponse | Form::Register | Form::RegisterResponse => {
+            COORDINATION
         }
+        Form::Notice(_) => TRANSACTION,
+        Form::Work | Form::WorkDone | Form::WorkRefused => WORK,
     }
+}
 
-    /// The local name of the element in its body.
-    pub fn local(self) -> &'static str
-        ensures { result.now ≡ local_of self }
-    {
-        match self {
-            Form::Create => "CreateCoordinationContext",
-            Form::CreateResponse => "CreateCoordinationContextResponse",
-            Form::Register => "Register",
-            Form::RegisterResponse => "RegisterResponse",
-            Form::Notice(notice) => notice_name(notice),
-            Form::Work => "Work",
-            Form::WorkDone => "WorkDone",
-            Form::WorkRefused => "WorkRefused",
-        }
+/// The local name of the element in the body.
+pub fn local_of(form: Form) -> &'static str
+    ensures { result.now ≡ local_of form }
+{
+    match form {
+        Form::Create => "CreateCoordinationContext",
+        Form::CreateResponse => "CreateCoordinationContextResponse",
+        Form::Register => "Register",
+        Form::RegisterResponse => "RegisterResponse",
+        Form::Notice(notice) => notice_name(notice),
+        Form::Work => "Work",
+        Form::WorkDone => "WorkDone",
+        Form::WorkRefused => "WorkRefused",
     }
+}
 
-    /// Its action: the namespace, `/`, and the local name (WS-Coordination 1.2 and WS-AtomicTransaction 1.2, section 1.3).
-    pub fn action(self) -> &'static str
-        ensures { result.now ≡ action_of self }
-    {
-        match self {
-            Form::Create => CREATE_ACTION,
-            Form::CreateResponse => {
-                "http://docs.oasis-open.org/ws-tx/wscoor/2006/06/CreateCoordinationContextResponse"
-            }
-            Form::Register => REGISTER_ACTION,
-            Form::RegisterResponse => {
-                "http://docs.oasis-open.org/ws-tx/wscoor/2006/06/RegisterResponse"
-            }
-            Form::Notice(notice) => notice_action(notice),
-            Form::Work => WORK_ACTION,
-            Form::WorkDone => "http://example.org/atx/work/1/WorkDone",
-            Form::WorkRefused => "http://example.org/atx/work/1/WorkRefused",
+/// The action: the namespace, `/`, and the local name (WS-Coordination 1.2 and WS-AtomicTransaction 1.2, section 1.3).
+pub fn action_of(form: Form) -> &'static str
+    ensures { result.now ≡ action_of form }
+{
+    match form {
+        Form::Create => CREATE_ACTION,
+        Form::CreateResponse => {
+            "http://docs.oasis-open.org/ws-tx/wscoor/2006/06/CreateCoordinationContextResponse"
         }
+        Form::Register => REGISTER_ACTION,
+        Form::RegisterResponse => {
+            "http://docs.oasis-open.org/ws-tx/wscoor/2006/06/RegisterResponse"
+        }
+        Form::Notice(notice) => notice_action(notice),
+        Form::Work => WORK_ACTION,
+        Form::WorkDone => "http://example.org/atx/work/1/WorkDone",
+        Form::WorkRefused => "http://example.org/atx/work/1/WorkRefused",
     }
 }
 
@@ -148,54 +133,6 @@ fn notice_name(notice: Notice) -> &'static str
         Notice::Committed => "Committed",
     }
 }
-
-/// Whether a target takes messages of this form.
-pub fn takes(target: Target, form: Form) -> bool
-    ensures { result ≡ takes_form target form }
-{
-    match target {
-        Target::Activation => matches!(form, Form::Create),
-        Target::Registration(_) => matches!(form, Form::Register),
-        Target::Completion(_) => matches!(form, Form::Notice(Notice::Commit | Notice::Rollback)),
-        Target::Coordinator { .. } => matches!(
-            form,
-            Form::Notice(Notice::Prepared | Notice::ReadOnly | Notice::Aborted | Notice::Committed)
-        ),
-        Target::Participant { .. } => matches!(
-            form,
-            Form::Notice(Notice::Prepare | Notice::Commit | Notice::Rollback)
-                | Form::RegisterResponse
-        ),
-        Target::Initiator(_) => matches!(
-            form,
-            Form::CreateResponse
-                | Form::RegisterResponse
-                | Form::Notice(Notice::Committed | Notice::Aborted)
-                | Form::WorkDone
-                | Form::WorkRefused
-        ),
-        Target::Work => matches!(form, Form::Work),
-    }
-}
-
-/// Whether a target takes faults: those that ask for something do.
-pub fn takes_fault(target: Target) -> bool
-    ensures { result ≡ takes_fault target }
-{
-    match target {
-        Target::Completion(_)
-        | Target::Coordinator { .. }
-        | Target::Participant { .. }
-        | Target::Initiator(_) => true,
-        Target::Activation | Target::Registration(_) | Target::Work => false,
-    }
-}
-
-/// A target takes on the wire what it takes in the model of the protocol.
-#[tactic(auto, using(crate::proofs::Forms::takes_as_modelled))]
-pub fn takes_as_modelled()
-    ensures { TakesAsModelled }
-{}
 
 /// Each message has an action of its own.
 #[tactic(auto, using(crate::proofs::Forms::actions_differ))]

@@ -2,9 +2,9 @@
 //! 1.1, WS-Addressing 1.0).
 #![tactic(auto)]
 
-pub mod body;
+mod body;
 pub mod decode;
 pub mod form;
 pub mod part;
 pub mod refusal;
-pub mod target;
+mod target;

@@ -5,6 +5,7 @@ use addressing::headers::{AddressingRefusal, Header};
 use at_base::text::Text;
 use context::parameter::{ContextFault, Parameter};
 use soap_profile::envelope::SoapRefusal;
+use soap_profile::fault::{FaultPart, FaultRefusal};
 use std::alloc::AllocError;
 use thiserror::Error;
 use xml_grammar::reader::TreeRefusal;
@@ -16,8 +17,10 @@ pub enum ParameterName {
     Body,
     /// A child of a body of WS-Coordination.
     Coordination(Parameter),
-    /// A child of a Work or of a fault.
+    /// A child of a Work.
     Part(Part),
+    /// A child of a fault.
+    Fault(FaultPart),
 }
 
 /// Why a request is refused: the first that holds, in this order; a header may be missing before another is invalid.
@@ -102,6 +105,22 @@ impl From<SoapRefusal> for Refusal {
             SoapRefusal::NotEnvelope => Refusal::NotEnvelope,
             SoapRefusal::MustUnderstand { name } => Refusal::MustUnderstand { name },
             SoapRefusal::NoMemory => Refusal::NoMemory,
+        }
+    }
+}
+
+impl From<FaultRefusal> for Refusal {
+    ghost use Rattle.std.specs.Prelude.{◌≡◌};
+    ghost use Rattle.wire_msgs.specs.Refusals.{of_fault};
+
+    ghost from_gives = { λ refusal r. r ≡ of_fault refusal };
+
+    fn from(refusal: FaultRefusal) -> Refusal {
+        match refusal {
+            FaultRefusal::Unreadable { part } => Refusal::Parameters {
+                name: ParameterName::Fault(part),
+            },
+            FaultRefusal::NoMemory => Refusal::NoMemory,
         }
     }
 }

@@ -28,7 +28,7 @@ use Rattle.at_base.specs.declared.outs.Post.{Post}
 use Rattle.at_base.specs.declared.target.Target.{Target}
 use Rattle.at_model.specs.Addresses.{target_of}
 use Rattle.at_model.specs.World.{takes}
-use Rattle.addressing.specs.declared.headers.Headers.{Headers}
+use Rattle.addressing.specs.Message.{Headers}
 use Rattle.addressing.specs.declared.writer.Endpoint.{Endpoint}
 use Rattle.addressing.specs.declared.writer.OutgoingHeaders.{OutgoingHeaders}
 use Rattle.addressing.specs.Endpoints.{anonymous, is_anonymous, is_nobody}
@@ -39,14 +39,16 @@ use Rattle.addressing.specs.Writing.{AreLegible, IsContext, IsDestination, IsLeg
 use Rattle.addressing.proofs.Reread.{headers_return}
 use Rattle.addressing.proofs.Understood.{all_understood}
 use Rattle.wire_msgs.specs.declared.decode.Arrival.{Arrival}
-use Rattle.wire_msgs.specs.declared.form.Form.{Form}
-use Rattle.wire_msgs.specs.declared.form.Form.TheVariants as forms
+use Rattle.at_targets.specs.declared.form.Form.{Form}
+use Rattle.at_targets.specs.declared.form.Form.TheVariants as forms
 use Rattle.wire_msgs.specs.declared.refusal.Refusal.{Refusal}
 use Rattle.wire_msgs.specs.Arrivals.{Arrives, arrival_in, arrival_of, arrival_under, arrived, message_of, targeted}
-use Rattle.wire_msgs.specs.Forms.{action_of, form_of, local_of, space_of, takes_any}
+use Rattle.at_targets.specs.Forms.{form_of, takes_any}
+use Rattle.wire_msgs.specs.Forms.{action_of, local_of, space_of}
 use Rattle.wire_msgs.specs.Refusals.{addressing, soap, ◌>>=◌}
-use Rattle.wire_msgs.specs.Targets.{path_in, target_at}
-use Rattle.wire_msgs.proofs.Forms.{takes_as_modelled}
+use Rattle.addressing.specs.Posting.{path_in}
+use Rattle.wire_msgs.specs.Targets.{target_at}
+use Rattle.at_targets.proofs.Forms.{takes_as_modelled}
 use Rattle.wire_posts.specs.declared.fault.WrittenFault.{WrittenFault}
 use Rattle.wire_posts.specs.declared.fault.WrittenFault.TheVariants.{NotProfileDocument, VersionMismatch, NotEnvelope, MustUnderstand, HeaderRequired, InvalidHeader, ActionNotSupported, InvalidState, InvalidProtocol, InvalidParameters, CannotCreateContext, CannotRegisterParticipant, UnknownTransaction, Other}
 use Rattle.wire_posts.specs.Envelopes.{AreBoth, AreHeadersOf, IsBodyOf, IsEnvelopeOf, IsReplyOf, IsTextOf, IsWorkContext, action_in, context_in, reply_epr}

@@ -9,6 +9,7 @@ use Rattle.xml_profile.specs.declared.name.QName.{QName}
 use Rattle.xml_profile.specs.declared.tree.Tree.{Tree}
 use Rattle.xml_profile.specs.Prefixes.{coordination as coordination_space, soap as soap_space}
 use Rattle.soap_profile.specs.Building.{qualified, text_children}
+use Rattle.soap_profile.specs.Faults.{fault_of}
 use Rattle.soap_profile.specs.Values.{direct_text, is_named, text_value, trim}
 use Rattle.at_base.specs.declared.epr.Epr.{Epr}
 use Rattle.at_base.specs.declared.message.Context.{Context}
@@ -22,7 +23,7 @@ use Rattle.at_base.specs.declared.notice.Kind.TheVariants as kinds
 use Rattle.at_base.specs.declared.notice.Vote.{Vote}
 use Rattle.at_base.specs.declared.notice.Vote.TheVariants as votes
 use Rattle.at_base.specs.declared.target.Target.{Target}
-use Rattle.addressing.specs.declared.headers.Headers.{Headers}
+use Rattle.addressing.specs.Message.{Headers}
 use Rattle.addressing.specs.declared.writer.Endpoint.{Endpoint}
 use Rattle.addressing.specs.Stored.{IsEndpointOf}
 use Rattle.addressing.specs.Writing.{IsTrimmed, context_block, epr_in}
@@ -35,17 +36,18 @@ use Rattle.context.specs.declared.writer.OutgoingRegister.{OutgoingRegister}
 use Rattle.context.specs.Reading.{context_of, create_of, create_response_of, is_identifier, readable as context_readable, register_of, register_response_of}
 use Rattle.context.specs.Writing.{CurrentReturns, IsLegibleContext, IsLegibleCreate, IsLegibleRegister, IsNarrow, context_in as context_read_in, context_tree, create_in, create_tree, parameter_name, register_in, register_response_tree, register_tree}
 use Rattle.context.proofs.Returned.{context_returns, create_returns, register_returns}
-use Rattle.wire_msgs.specs.declared.form.Form.{Form}
-use Rattle.wire_msgs.specs.declared.form.Form.TheVariants as forms
+use Rattle.at_targets.specs.declared.form.Form.{Form}
+use Rattle.at_targets.specs.declared.form.Form.TheVariants as forms
 use Rattle.wire_msgs.specs.declared.part.Part.{Part}
 use Rattle.wire_msgs.specs.declared.part.Part.TheVariants as parts
 use Rattle.wire_msgs.specs.declared.refusal.ParameterName.TheVariants.{Body}
 use Rattle.wire_msgs.specs.declared.refusal.Refusal.{Refusal}
 use Rattle.wire_msgs.specs.declared.refusal.Refusal.TheVariants.{Action, Parameters}
 use Rattle.wire_msgs.specs.Arrivals.{fault_at, message_of, named_at, said_at}
-use Rattle.wire_msgs.specs.Bodies.{body_of, fault_of, kind_in, readable, short, vote_in, work_of}
-use Rattle.wire_msgs.specs.Forms.{action_of, form_at, form_of, local_of, space_of, takes_fault, takes_form}
-use Rattle.wire_msgs.specs.Refusals.{coordination, ◌>>=◌}
+use Rattle.wire_msgs.specs.Bodies.{body_of, kind_in, readable, short, vote_in, work_of}
+use Rattle.at_targets.specs.Forms.{form_of, takes_fault, takes_form}
+use Rattle.wire_msgs.specs.Forms.{action_of, form_at, local_of, space_of}
+use Rattle.wire_msgs.specs.Refusals.{coordination, fault, ◌>>=◌}
 use Rattle.wire_msgs.proofs.Forms.{actions_differ}
 use Rattle.wire_posts.specs.declared.fault.WrittenFault.{WrittenFault}
 use Rattle.wire_posts.specs.declared.fault.WrittenFault.TheVariants.{InvalidState, InvalidProtocol, InvalidParameters, CannotCreateContext, CannotRegisterParticipant, UnknownTransaction}
@@ -247,10 +249,10 @@ pub said_message : (form : Form) (headers : Headers) (target : Target) (message 
     → IsSaid form headers.context message body → headers.action ≡ action_of form → takes_form target form ≡ true
     → message_of headers target body ≡ Ok message
 said_message form headers target message body h a t =
-    let fault : is_named body.name soap_space (codes "Fault") ≡ false = ap (λ n. is_named n soap_space (codes "Fault")) h.named ∙ no_fault form in
+    let other : is_named body.name soap_space (codes "Fault") ≡ false = ap (λ n. is_named n soap_space (codes "Fault")) h.named ∙ no_fault form in
     let own : is_named body.name (space_of form) (local_of form) ≡ true = ap (λ n. is_named n (space_of form) (local_of form)) h.named ∙ form_named form in
     let found : form_at headers.action ≡ Some form = ap form_at a ∙ actions_differ form in
-    ap (λ b. cond b (fault_at target body) (said_at (form_at headers.action) headers.context target body)) fault
+    ap (λ b. cond b (fault_at target body) (said_at (form_at headers.action) headers.context target body)) other
     ∙ (ap (λ f. said_at f headers.context target body) found
     ∙ (ap (λ b. cond b (named_at form headers.context body) (Err Action)) t
     ∙ (ap (λ b. cond b (body_of form headers.context body) (Err (Parameters Body))) own ∙ h.said)))
@@ -261,8 +263,8 @@ fault_message name headers target h t =
     let body : Tree = fault_body (fault_named name) in
     let said : fault_of body ≡ Ok name =
     subst (λ n. fault_of (fault_body (fault_named n)) ≡ Ok n) (sym h.named) (fault_read h.fault h.protocol) in
-    ap (λ b. cond b (fault_of body >>= λ n. Ok (messages.Fault n)) (Err Action)) t
-    ∙ ap (λ (r : Result (List ℕ) Refusal). r >>= λ n. Ok (messages.Fault n)) said
+    ap (λ b. cond b (fault (fault_of body) >>= λ n. Ok (messages.Fault n)) (Err Action)) t
+    ∙ ap (λ r. fault r >>= λ n. Ok (messages.Fault n)) said
 
 -- what a form's body says
 pub said_body : (message : Message) (form : Form) → form_of message ≡ Some form → (context : Option Tree) (body : Tree) → IsBodyOf message body

@@ -39,8 +39,8 @@ use Rattle.context.specs.declared.writer.OutgoingContext.{OutgoingContext}
 use Rattle.context.specs.declared.writer.OutgoingCreate.{OutgoingCreate}
 use Rattle.context.specs.declared.writer.OutgoingRegister.{OutgoingRegister}
 use Rattle.context.specs.Writing.{IsNarrow, context_tree, create_tree, current_parameter, endpoint_parameter, expires_parameter, parameter_name, register_tree, text_parameter}
-use Rattle.wire_msgs.specs.declared.form.Form.{Form}
-use Rattle.wire_msgs.specs.declared.form.Form.TheVariants as forms
+use Rattle.at_targets.specs.declared.form.Form.{Form}
+use Rattle.at_targets.specs.declared.form.Form.TheVariants as forms
 use Rattle.wire_msgs.specs.declared.part.Part.{Part}
 use Rattle.wire_msgs.specs.declared.part.Part.TheVariants as parts
 use Rattle.wire_msgs.specs.Forms.{action_of, local_of, space_of}
@@ -93,10 +93,6 @@ part_named parts.Key = refl
 part_named parts.Value = refl
 part_named parts.Kind = refl
 part_named parts.Vote = refl
-part_named parts.FaultCode = refl
-part_named parts.FaultString = refl
-part_named parts.FaultActor = refl
-part_named parts.Detail = refl
 
 to_named : is_name (qualified addressing (codes "To")) ≡ true
 unfolding chars is_utf8 lib.Utf8.encode

@@ -7,7 +7,7 @@ use Rattle.std.specs.Str.{bytes_eq}
 use Rattle.xml_profile.specs.declared.name.QName.{QName}
 use Rattle.xml_profile.specs.declared.tree.Tree.{Tree}
 use Rattle.xml_profile.specs.Canonical.{canonical_text}
-use Rattle.xml_profile.specs.Prefixes.{addressing, coordination, fixed_prefix, soap, transaction}
+use Rattle.xml_profile.specs.Prefixes.{addressing, coordination, soap, transaction}
 use Rattle.soap_profile.specs.Building.{qualified}
 use Rattle.soap_profile.specs.Envelopes.{envelope_tree}
 use Rattle.soap_profile.specs.Faults.{fault_tree}
@@ -68,10 +68,6 @@ text_of CannotRegisterParticipant = codes "cannot register participant"
 text_of UnknownTransaction = codes "unknown transaction"
 text_of Other = codes "other fault"
 
--- the code, with the prefix that its namespace has in canonical texts
-abbrev pub code_of : WrittenFault → List ℕ
-code_of fault = unwrap_or (fixed_prefix (space_of fault)) [] ++ codes ":" ++ name_of fault
-
 -- the action: a fault of SOAP has one of WS-Addressing's (SOAP Binding, section 6), another that of its namespace
 abbrev pub fault_action : WrittenFault → List ℕ
 fault_action fault =
@@ -98,7 +94,7 @@ abbrev pub fault_named : List ℕ → WrittenFault
 fault_named name = unwrap_or (first_named name protocol_faults) Other
 
 abbrev pub fault_body : WrittenFault → Tree
-fault_body fault = fault_tree (code_of fault) (text_of fault) (detail_of fault)
+fault_body fault = fault_tree (space_of fault) (name_of fault) (text_of fault) (detail_of fault)
 
 -- the fault that a refusal is answered with: none where the answer has no body
 abbrev pub refusal_fault : Refusal → Option WrittenFault
@@ -145,9 +141,6 @@ refusal_status (refusals.MissingHeader name) = 500
 refusal_status (refusals.InvalidHeader name) = 500
 refusal_status refusals.Action = 500
 refusal_status (refusals.Parameters name) = 500
-
-pub code_of_a_missing_header : code_of HeaderRequired ≡ codes "wsa:MessageAddressingHeaderRequired"
-code_of_a_missing_header = refl
 
 pub action_of_a_state : fault_action InvalidState ≡ codes "http://docs.oasis-open.org/ws-tx/wscoor/2006/06/fault"
 action_of_a_state = refl

@@ -1,3 +1,4 @@
 pub mod Envelopes
 pub mod Faults
 pub mod Returning
+pub mod Examples

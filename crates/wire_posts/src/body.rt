@@ -11,13 +11,14 @@ use addressing::stored::endpoint_of;
 use at_base::epr::Epr;
 use at_base::message::{Context, Create, Message, Register, Work};
 use at_base::notice::{Kind, Vote};
+use at_targets::form::Form;
 use context::writer::{
     OutgoingContext, OutgoingCreate, OutgoingRegister, write_create, write_create_response,
     write_register, write_register_response,
 };
 use soap_profile::build::{children_of, element, qualified, text_children};
 use std::alloc::{AllocError, Global};
-use wire_msgs::form::Form;
+use wire_msgs::form::{local_of, space_of};
 use wire_msgs::part::Part;
 use xml_profile::names::WORK;
 use xml_profile::tree::{Children, Tree};
@@ -105,7 +106,7 @@ fn register_response_body(alloc: Global, coordinator: &Epr) -> Result<Tree, Allo
 fn empty_body(alloc: Global, form: Form) -> Result<Tree, AllocError>
     ensures { IfOk result (λ t. t ≡ empty_tree form) }
 {
-    let name = qualified(alloc, form.space(), form.local())?;
+    let name = qualified(alloc, space_of(form), local_of(form))?;
     Ok(element(alloc, name, Children::new(alloc)))
 }
 

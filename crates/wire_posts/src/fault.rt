@@ -2,7 +2,7 @@
 //! section 4; WS-AtomicTransaction 1.2, section 7).
 
 ghost use Rattle.std.specs.Prelude.{◌≡◌, IfOk};
-ghost use Rattle.wire_posts.specs.Faults.{code_of, detail_of, fault_action, fault_body, fault_named, first_named, name_of, protocol_faults, refusal_fault, space_of, text_of};
+ghost use Rattle.wire_posts.specs.Faults.{detail_of, fault_action, fault_body, fault_named, first_named, name_of, protocol_faults, refusal_fault, space_of, text_of};
 
 use soap_profile::build::qualified;
 use soap_profile::fault::fault_tree;
@@ -59,27 +59,6 @@ impl WrittenFault {
             Refusal::InvalidHeader { .. } => Some(WrittenFault::InvalidHeader),
             Refusal::Action => Some(WrittenFault::ActionNotSupported),
             Refusal::Parameters { .. } => Some(WrittenFault::InvalidParameters),
-        }
-    }
-
-    /// The qualified name that is its code.
-    pub fn code(self) -> &'static str
-        ensures { result.now ≡ code_of self }
-    {
-        match self {
-            WrittenFault::NotProfileDocument | WrittenFault::NotEnvelope => "s:Client",
-            WrittenFault::VersionMismatch => "s:VersionMismatch",
-            WrittenFault::MustUnderstand => "s:MustUnderstand",
-            WrittenFault::HeaderRequired => "wsa:MessageAddressingHeaderRequired",
-            WrittenFault::InvalidHeader => "wsa:InvalidAddressingHeader",
-            WrittenFault::ActionNotSupported => "wsa:ActionNotSupported",
-            WrittenFault::InvalidState => "wscoor:InvalidState",
-            WrittenFault::InvalidProtocol => "wscoor:InvalidProtocol",
-            WrittenFault::InvalidParameters => "wscoor:InvalidParameters",
-            WrittenFault::CannotCreateContext => "wscoor:CannotCreateContext",
-            WrittenFault::CannotRegisterParticipant => "wscoor:CannotRegisterParticipant",
-            WrittenFault::UnknownTransaction => "wsat:UnknownTransaction",
-            WrittenFault::Other => "s:Server",
         }
     }
 
@@ -192,7 +171,13 @@ impl WrittenFault {
         ensures { IfOk result (λ t. t ≡ fault_body self) }
     {
         let detail = self.detail(alloc)?;
-        fault_tree(alloc, self.code(), self.text(), detail.as_ref())
+        fault_tree(
+            alloc,
+            self.space(),
+            self.local(),
+            self.text(),
+            detail.as_ref(),
+        )
     }
 }
 

@@ -12,10 +12,11 @@ use at_base::epr::{Epr, Reply};
 use at_base::message::{Context, Message, cloned_option};
 use at_base::outs::Post;
 use at_base::text::Text;
+use at_targets::form::Form;
 use context::writer::{OutgoingContext, write_context};
 use soap_profile::build::qualified;
 use std::alloc::{AllocError, Global};
-use wire_msgs::form::Form;
+use wire_msgs::form::action_of;
 use xml_profile::names::COORDINATION;
 use xml_profile::tree::Tree;
 
@@ -23,7 +24,7 @@ use xml_profile::tree::Tree;
 pub fn headers_of(alloc: Global, post: &Post) -> Result<OutgoingHeaders, AllocError>
     ensures { IfOk result (AreHeadersOf post.now) }
 {
-    let action = Text::copied(alloc, action_of(&post.message))?;
+    let action = Text::copied(alloc, action_in(&post.message))?;
     let id = cloned_option(&post.id)?;
     let relates = cloned_option(&post.relates)?;
     let to = optional_endpoint(alloc, &post.to)?;
@@ -41,18 +42,18 @@ pub fn headers_of(alloc: Global, post: &Post) -> Result<OutgoingHeaders, AllocEr
     })
 }
 
-fn action_of(message: &Message) -> &'static str
+fn action_in(message: &Message) -> &'static str
     ensures { result.now ≡ action_in message.now }
 {
     match message {
-        Message::Create(_) => Form::Create.action(),
-        Message::CreateResponse(_) => Form::CreateResponse.action(),
-        Message::Register(_) => Form::Register.action(),
-        Message::RegisterResponse(_) => Form::RegisterResponse.action(),
-        Message::Notice(notice) => Form::Notice(*notice).action(),
-        Message::Work(_) => Form::Work.action(),
-        Message::WorkDone => Form::WorkDone.action(),
-        Message::WorkRefused => Form::WorkRefused.action(),
+        Message::Create(_) => action_of(Form::Create),
+        Message::CreateResponse(_) => action_of(Form::CreateResponse),
+        Message::Register(_) => action_of(Form::Register),
+        Message::RegisterResponse(_) => action_of(Form::RegisterResponse),
+        Message::Notice(notice) => action_of(Form::Notice(*notice)),
+        Message::Work(_) => action_of(Form::Work),
+        Message::WorkDone => action_of(Form::WorkDone),
+        Message::WorkRefused => action_of(Form::WorkRefused),
         Message::Fault { name } => WrittenFault::named(name.as_str()).action(),
     }
 }

@@ -2,8 +2,8 @@
 //! WS-AtomicTransaction 1.2, SOAP 1.1, WS-Addressing 1.0).
 #![tactic(auto)]
 
-pub mod body;
+mod body;
 pub mod encode;
 pub mod fault;
-pub mod headers;
+mod headers;
 pub mod laws;

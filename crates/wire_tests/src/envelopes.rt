@@ -1,16 +1,17 @@
 use soap_profile::envelope::{SoapRefusal, envelope_tree, open_envelope};
-use soap_profile::fault::fault_tree;
+use soap_profile::fault::{fault_tree, is_fault, read_fault};
 use soap_profile::trees::Trees;
 use std::alloc::Global;
 use std::test::Fail;
 use xml_grammar::reader::read_tree;
+use xml_profile::names::TRANSACTION;
 use xml_profile::tree::Tree;
 use xml_profile::writer::write_tree;
 
 /// How many header blocks a spelled envelope has and the local name in its body, or its refusal.
 fn outcome(alloc: Global, spelled: &str) -> Result<String, Fail> {
     let tree = read_tree(alloc, spelled.as_bytes())?;
-    match open_envelope(alloc, tree) {
+    match open_envelope(alloc, &tree) {
         Ok(envelope) => {
             let count = envelope.headers.as_slice().len();
             Ok(format!(in alloc; "{count} {}", envelope.body.name.local)?)
@@ -120,8 +121,13 @@ fn fault(alloc: Global) -> Result<Tree, Fail> {
         alloc,
         b"<UnknownTransaction xmlns=\"http://docs.oasis-open.org/ws-tx/wsat/2006/06\"/>",
     )?;
-    let code = "wsat:UnknownTransaction";
-    Ok(fault_tree(alloc, code, "unknown transaction", Some(&detail.name))?)
+    Ok(fault_tree(
+        alloc,
+        TRANSACTION,
+        "UnknownTransaction",
+        "unknown transaction",
+        Some(&detail.name),
+    )?)
 }
 
 /// The canonical text of an envelope with this body alone.
@@ -138,5 +144,22 @@ fn builds_a_fault(rt: HostRuntime) -> Result<(), Fail> {
     let wanted =
         "<s:Envelope xmlns:s=\"http://schemas.xmlsoap.org/soap/envelope/\" xmlns:wsat=\"http://docs.oasis-open.org/ws-tx/wsat/2006/06\"><s:Header/><s:Body><s:Fault><faultcode>wsat:UnknownTransaction</faultcode><faultstring>unknown transaction</faultstring><detail><wsat:UnknownTransaction/></detail></s:Fault></s:Body></s:Envelope>";
     assert!(rt; out.as_slice() == wanted.as_bytes());
+    Ok(())
+}
+
+/// The local name of the code of a fault that is built.
+fn told(alloc: Global) -> Result<String, Fail> {
+    let fault = fault(alloc)?;
+    if !is_fault(&fault.name) {
+        return Ok(format!(in alloc; "no fault")?);
+    }
+    let name = read_fault(alloc, &fault)?;
+    Ok(format!(in alloc; "{name}")?)
+}
+
+#[test]
+fn reads_a_fault_that_is_built(rt: HostRuntime) -> Result<(), Fail> {
+    let name = told(rt.alloc())?;
+    assert!(rt; name.as_str() == "UnknownTransaction");
     Ok(())
 }

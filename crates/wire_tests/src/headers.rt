@@ -1,3 +1,4 @@
+use addressing::destination::Destination;
 use addressing::endpoint::{fault_to, read_epr, reply_to};
 use addressing::headers::{AddressingRefusal, Headers, read_headers};
 use addressing::post_to::{PostTo, post_to};
@@ -7,12 +8,12 @@ use addressing::writer::{Endpoint, OutgoingHeaders, header_blocks};
 use at_base::epr::{Epr, Reply};
 use at_base::text::Text;
 use soap_profile::build::qualified;
+use soap_profile::elements::Elements;
 use soap_profile::envelope::envelope_tree;
-use soap_profile::trees::Trees;
-use soap_profile::value::into_elements;
 use std::alloc::Global;
 use std::test::Fail;
 use xml_grammar::reader::read_tree;
+use xml_profile::tree::Tree;
 use xml_profile::writer::write_tree;
 
 /// The address and the reference parameters of the endpoint with these parts in it.
@@ -218,9 +219,9 @@ fn told(alloc: Global, refusal: &AddressingRefusal) -> Result<String, Fail> {
 
 /// The texts and addresses of headers, `-` where there is none, in the order To, Action, MessageID, RelatesTo, From,
 /// ReplyTo, FaultTo, and how many attributes the context has.
-fn listed(alloc: Global, headers: &Headers) -> Result<String, Fail> {
+fn listed(alloc: Global, headers: &Headers<'_>) -> Result<String, Fail> {
     let mut out = String::new(alloc);
-    push_word(&headers.to, &mut out)?;
+    push_destination(&headers.to, &mut out)?;
     out.push_str(headers.action.as_str())?;
     out.push_str(" ")?;
     push_word(&headers.id, &mut out)?;
@@ -228,10 +229,18 @@ fn listed(alloc: Global, headers: &Headers) -> Result<String, Fail> {
     push_address(&headers.from, &mut out)?;
     push_address(&headers.reply, &mut out)?;
     push_address(&headers.fault, &mut out)?;
-    if let Some(context) = &headers.context {
+    if let Some(context) = headers.context {
         write!(out, "{}", context.attributes.as_slice().len())?;
     }
     Ok(out)
+}
+
+fn push_destination(to: &Option<Destination>, out: &mut String) -> Result<(), Fail> {
+    match to {
+        Some(to) => out.push_str(to.as_str())?,
+        None => out.push_str("-")?,
+    }
+    Ok(out.push_str(" ")?)
 }
 
 fn push_word(text: &Option<Text>, out: &mut String) -> Result<(), Fail> {
@@ -250,16 +259,16 @@ fn push_address(epr: &Option<Epr>, out: &mut String) -> Result<(), Fail> {
     Ok(out.push_str(" ")?)
 }
 
-fn blocks_of(alloc: Global, blocks: &str) -> Result<Trees, Fail> {
+/// An element with these header blocks in it.
+fn blocks_in(alloc: Global, blocks: &str) -> Result<Tree, Fail> {
     let spelled = format!(in alloc;
         "<h xmlns:w=\"http://www.w3.org/2005/08/addressing\" xmlns:c=\"http://docs.oasis-open.org/ws-tx/wscoor/2006/06\">{blocks}</h>"
     )?;
-    let tree = read_tree(alloc, spelled.as_bytes())?;
-    Ok(Trees::from_vec(into_elements(alloc, tree.children)?))
+    Ok(read_tree(alloc, spelled.as_bytes())?)
 }
 
 /// What headers say to a message with this body.
-fn checked(alloc: Global, headers: &Headers, body: &str) -> Result<String, Fail> {
+fn checked(alloc: Global, headers: &Headers<'_>, body: &str) -> Result<String, Fail> {
     let body = read_tree(alloc, body.as_bytes())?;
     match check_request(alloc, headers, &body.name) {
         Ok(()) => listed(alloc, headers),
@@ -269,7 +278,9 @@ fn checked(alloc: Global, headers: &Headers, body: &str) -> Result<String, Fail>
 
 /// What these header blocks say to a message with this body.
 fn outcome(alloc: Global, blocks: &str, body: &str) -> Result<String, Fail> {
-    match read_headers(alloc, blocks_of(alloc, blocks)?) {
+    let tree = blocks_in(alloc, blocks)?;
+    let blocks = Elements::within(alloc, &tree.children)?;
+    match read_headers(alloc, &blocks) {
         Ok(headers) => checked(alloc, &headers, body),
         Err(refusal) => told(alloc, &refusal),
     }

@@ -3,10 +3,11 @@ use at_base::message::Message;
 use at_base::notice::{Kind, Vote};
 use at_base::target::Target;
 use at_base::text::Text;
+use at_targets::form::Form;
 use std::alloc::Global;
 use std::test::Fail;
 use wire_msgs::decode::{Arrival, decode};
-use wire_msgs::form::Form;
+use wire_msgs::form::local_of;
 use wire_msgs::refusal::{ParameterName, Refusal};
 
 /// The namespace of a prefix in the tables below.
@@ -64,7 +65,7 @@ fn told_message(alloc: Global, message: &Message) -> Result<String, Fail> {
         }
         Message::Register(body) => format!(in alloc; "Register {}", body.protocol)?,
         Message::RegisterResponse(epr) => format!(in alloc; "RegisterResponse {}", epr.address)?,
-        Message::Notice(notice) => format!(in alloc; "{}", Form::Notice(*notice).local())?,
+        Message::Notice(notice) => format!(in alloc; "{}", local_of(Form::Notice(*notice)))?,
         Message::Work(work) => format!(in alloc;
             "Work {} {} {} {} {}",
             work.context.identifier,
@@ -102,6 +103,7 @@ fn told_name(name: ParameterName) -> &'static str {
         ParameterName::Body => "body",
         ParameterName::Coordination(parameter) => parameter.local_name(),
         ParameterName::Part(part) => part.local_name(),
+        ParameterName::Fault(part) => part.local_name(),
     }
 }
 

@@ -1,9 +1,15 @@
-mod Asking
-mod Changing
-mod Fitting
-mod Found
-mod Named
-mod Nodes
-mod Running
-mod Taking
-mod Walking
+pub mod Asking
+pub mod Bases
+pub mod Changing
+pub mod Fates
+pub mod Fitting
+pub mod Found
+pub mod Inserting
+pub mod Named
+pub mod Nodes
+pub mod Orders
+pub mod Running
+pub mod Sending
+pub mod Starting
+pub mod Taking
+pub mod Walking

@@ -3,16 +3,19 @@ use Rattle.std.proofs.Common.{ℕ, zero, suc, List, [], ◌∷◌, ◌++◌, ◌
 use Rattle.std.specs.Prelude.{map, slice_get, slice_set}
 use Rattle.std.proofs.lemmas.List.{append-nil, append_assoc, drop_all, map-append}
 use Rattle.std.proofs.lemmas.Option.{slice_get_past}
-use Rattle.at_base.specs.declared.outs.Outs.{Outs}
+use Rattle.at_base.specs.declared.outs.Effect.{Effect}
 use Rattle.model_laws.specs.Order.{IdsRise}
 use Rattle.at_model.specs.World.{World, Node, Posted, WorldEvent, nth, new_node, new_nodes, node_of, put_nth, run_of, run_on, opening, world_step}
 use Rattle.world_laws.specs.declared.event.WorldEvent.{WorldEvent as Given}
-use Rattle.world_laws.specs.Events.{event_of}
-use Rattle.world_laws.specs.Runs.{IsFit, IsRun, Run, ms_of, world_of}
-use Rattle.world_laws.specs.Steps.{ChangesByOutcomes, IsCalm, Scene, after, happened_by, move_of, nodes_by, outcomes_by, outcomes_in, outs_of, posted_by, seen}
+use Rattle.world_laws.specs.Events.{event_of, ms_of}
+use Rattle.world_laws.specs.declared.posted.Counted.{Counted}
+use Rattle.world_laws.specs.declared.taken.Moved.{Moved}
+use Rattle.world_laws.specs.declared.taken.Taken.{Taken}
+use Rattle.world_laws.specs.Runs.{IsFit, IsRun, Run, world_of}
+use Rattle.world_laws.specs.Moves.{ChangesByMoves, Scene, after, move_of, moved_by, moved_in, nodes_by, nothing, numbered, seen, steps_in, with_all, with_lost, with_nodes}
 use Rattle.world_laws.proofs.Fitting.{fit_after, opening_fits}
 use Rattle.world_laws.proofs.Found.{nth_back, put_back}
-use Rattle.world_laws.proofs.Nodes.{nodes_length, posted_moved}
+use Rattle.world_laws.proofs.Nodes.{nodes_length}
 
 run_more : (w : World) (es : List WorldEvent) (e : WorldEvent) → run_on w (es ++ e ∷ []) ≡ world_step (run_on w es) e
 run_more w [] e = refl
@@ -34,9 +37,9 @@ pub none_moves : (e : WorldEvent) (posted : List Posted) (n : ℕ) (nodes : List
     → nodes ≡ nodes_by e posted nodes (nth n nodes)
 none_moves e posted n nodes h = rw h refl
 
-pub no_steps : (e : WorldEvent) (posted : List Posted) (n : ℕ) (nodes : List Node) (steps : List Outs) → nth n nodes ≡ None
-    → steps ≡ [] → steps ≡ map outs_of (outcomes_by e posted (nth n nodes))
-no_steps e posted n nodes steps h g = rw h g
+pub no_steps : (e : WorldEvent) (posted : List Posted) (n : ℕ) (nodes : List Node) (m : Moved) → nth n nodes ≡ None
+    → m ≡ nothing → m ≡ moved_by e posted (nth n nodes)
+no_steps e posted n nodes m h g = rw h g
 
 pub one_moves : (e : WorldEvent) (posted : List Posted) (n : ℕ) (nodes ys : List Node) (x : Node) → n ≡ node_of e → (n ≡ 0 → ⊥)
     → slice_get nodes (n - 1) ≡ Some x → ys ≡ slice_set nodes (n - 1) (move_of e posted x).node
@@ -46,24 +49,34 @@ one_moves e posted n nodes ys x same some h g =
     ∙ sym (put_back n (move_of e posted x).node nodes some)
     ∙ ap (λ k. put_nth k (move_of e posted x).node nodes) same)
 
-pub one_steps : (e : WorldEvent) (posted : List Posted) (n : ℕ) (nodes : List Node) (x : Node) (steps : List Outs) → (n ≡ 0 → ⊥)
-    → slice_get nodes (n - 1) ≡ Some x → steps ≡ map outs_of (move_of e posted x).outcomes
-    → steps ≡ map outs_of (outcomes_by e posted (nth n nodes))
-one_steps e posted n nodes x steps some h g = rw (nth_back n nodes some ∙ h) g
+pub one_steps : (e : WorldEvent) (posted : List Posted) (n : ℕ) (nodes : List Node) (x : Node) (m : Moved) → (n ≡ 0 → ⊥)
+    → slice_get nodes (n - 1) ≡ Some x → m ≡ (move_of e posted x).moved
+    → m ≡ moved_by e posted (nth n nodes)
+one_steps e posted n nodes x m some h g = rw (nth_back n nodes some ∙ h) g
 
--- A scene behind an event: its node moves, and then its posts and effects are kept.
-pub kept_after : (s t u : Scene) (e : WorldEvent) (n : ℕ) (steps : List Outs)
-    → t ≡ record s { nodes = nodes_by e s.posted s.nodes (nth (node_of e) s.nodes) }
-    → steps ≡ map outs_of (outcomes_by e s.posted (nth (node_of e) s.nodes))
-    → n ≡ node_of e
-    → u ≡ record t { posted = t.posted ++ posted_by n t.nodes steps; happened = t.happened ++ happened_by n steps }
-    → u ≡ after s e
-unfolding after outcomes_in
-kept_after s t u e n steps moved taken at kept =
-    rw (kept, moved, taken, at, posted_moved (node_of e) e s.posted s.nodes (nth (node_of e) s.nodes) (map outs_of (outcomes_by e s.posted (nth (node_of e) s.nodes))) refl) refl
+-- A scene behind an event: its node moves, and then what its steps gave and what it lost is kept.
+parts_of : (s : Scene) (e : WorldEvent) (m : Moved) (p : List Taken × List Effect) → p ≡ (m.taken, m.lost)
+    → m ≡ moved_by e s.posted (nth (node_of e) s.nodes) → p ≡ ((moved_in s e).taken, (moved_in s e).lost)
+unfolding moved_in
+parts_of s e m p parts is = parts ∙ (λ i. ((is i).taken, (is i).lost))
 
-pub few_after : (s t : Scene) (e : WorldEvent) → t ≡ record s { nodes = nodes_by e s.posted s.nodes (nth (node_of e) s.nodes) }
-    → length s.nodes ≤ 8 → length t.nodes ≤ 8
+pub kept_after : (s t u v : Scene) (e : WorldEvent) (n k : ℕ) (m : Moved) (p : List Taken × List Effect) → t ≡ with_nodes s e
+    → m ≡ moved_by e s.posted (nth (node_of e) s.nodes) → p ≡ (m.taken, m.lost) → n ≡ node_of e → k ≡ node_of e
+    → u ≡ with_all n p.0 t → v ≡ with_lost k p.1 u → v ≡ after s e
+unfolding after
+kept_after s t u v e n k m p moved is parts at again kept lost =
+    lost ∙ ap (with_lost k p.1) kept
+    ∙ (λ i. with_lost (again i) (parts_of s e m p parts is i).1 (with_all (at i) (parts_of s e m p parts is i).0 (moved i)))
+
+pub steps_after : (s t : Scene) (e : WorldEvent) (m : Moved) (p : List Taken × List Effect) (steps : List Counted) → t ≡ with_nodes s e
+    → m ≡ moved_by e s.posted (nth (node_of e) s.nodes) → p ≡ (m.taken, m.lost) → steps ≡ numbered (length t.posted) p.0 → steps ≡ steps_in s e
+steps_after s t e m p steps moved is parts gave = gave ∙ (λ i. numbered (length (moved i).posted) (parts_of s e m p parts is i).0)
+
+pub lost_after : (s : Scene) (e : WorldEvent) (m : Moved) (p : List Taken × List Effect) → m ≡ moved_by e s.posted (nth (node_of e) s.nodes)
+    → p ≡ (m.taken, m.lost) → p.1 ≡ (moved_in s e).lost
+lost_after s e m p is parts = ap (λ (q : List Taken × List Effect). q.1) (parts_of s e m p parts is)
+
+pub few_after : (s t : Scene) (e : WorldEvent) → t ≡ with_nodes s e → length s.nodes ≤ 8 → length t.nodes ≤ 8
 few_after s t e moved few =
     let same = ap (λ (z : Scene). length z.nodes) moved ∙ nodes_length e s.posted s.nodes (nth (node_of e) s.nodes) in
     omega (arith, same, few)
@@ -88,27 +101,33 @@ one_new count number nodes more x within is pushed all =
     ∙ ap (λ ys. nodes ++ ys) (sym (first_node (count - number) (number + 1) (omega (arith, within))))
     ∙ all
 
-pub opened : (count : ℕ) (s : Scene) (events : List Given) → count ≤ 8 → s ≡ seen (opening count) → events ≡ []
+pub opened : (count : ℕ) (s : Scene) (events : List Given) → 1 ≤ count → count ≤ 8 → s ≡ seen (opening count) → events ≡ []
     → IsRun count s events
 unfolding world_of
-opened count s events few is none = rw none (record {
+opened count s events least most is none = rw none (record {
   scene = is;
-  fit = subst (IsFit 0) (sym is) (opening_fits count few);
+  fit = subst (IsFit 0) (sym is) (opening_fits count most);
+  least = least;
+  most = most;
+  few = omega arith;
 })
 
 -- one event more
-pub stepped : IdsRise → ChangesByOutcomes → (count : ℕ) (s t : Scene) (events more : List Given) (e : Given) → IsRun count s events
-    → IsCalm (event_of e) → ms_of (event_of e) ≤ 4294967295 → t ≡ after s (event_of e) → more ≡ events ++ e ∷ []
+pub stepped : IdsRise → ChangesByMoves → (count : ℕ) (s t : Scene) (events more : List Given) (e : Given) → IsRun count s events
+    → length events < 4294967295 → ms_of (event_of e) ≤ 4294967295 → t ≡ after s (event_of e) → more ≡ events ++ e ∷ []
     → IsRun count t more
-stepped ids changes count s t events more e h calm short is pushed = rw pushed (record {
+stepped ids changes count s t events more e h room short is pushed = rw pushed (record {
   scene = is
       ∙ ap (λ z. after z (event_of e)) h.scene
-      ∙ sym (changes (world_of (record { count = count; events = events })) (event_of e) calm)
+      ∙ sym (changes (world_of (record { count = count; events = events })) (event_of e))
       ∙ ap seen (sym (one_more count events e));
   fit =
       let same : length events + 1 ≡ length (events ++ e ∷ []) = sym (length-append events (e ∷ [])) in
       subst (λ k. IsFit k t) same
       (subst (IsFit (length events + 1)) (sym is) (fit_after ids (event_of e) (length events) s short h.fit));
+  least = h.least;
+  most = h.most;
+  few = let same : length (events ++ e ∷ []) ≡ length events + 1 = length-append events (e ∷ []) in omega (arith, same, room);
 })
 
 abbrev run : ℕ → List Given → Run

@@ -1,124 +1,308 @@
--- The steps of a turn where nothing fails.
+-- The steps of a turn in a world are those of a walk.
 use Rattle.std.proofs.Common.{ℕ, List, [], ◌∷◌, ◌++◌, ◌≡◌, Option, Some, None, Bool, true, false, ap, sym, ◌∙◌, refl}
-use Rattle.std.specs.Prelude.{map}
+use Rattle.std.specs.Prelude.{map, if◌then◌else◌}
 use Rattle.std.proofs.lemmas.List.{append-nil, append_assoc}
 use Rattle.at_base.specs.declared.record.Record.{Record}
 use Rattle.at_base.specs.declared.event.Item.{Item}
 use Rattle.at_base.specs.declared.event.Event.TheVariants as events
-use Rattle.at_base.specs.declared.outs.Out.{Out}
-use Rattle.at_base.specs.declared.outs.Out.TheVariants as outs
 use Rattle.at_model.specs.Book.{Book}
 use Rattle.at_model.specs.Step.{Outcome, Plan, plan, is_due, items_of}
-use Rattle.at_model.specs.World.{World, Node, Posted, Accepted, Happened, nth, put_nth, turn_from, send_all, counted, take_step, take_turn, after_input, turned, due_steps, accepted_in, happened_at, journaled}
+use Rattle.at_model.specs.World.{World, Node, Posted, Accepted, Happened, Turning, nth, put_nth, turn_from, send_all, after_fate, fate, counted as counted_there, step_by, landed_step, absent_step, take_step, take_turn, after_input, turned as turned_there, goes_down, put_book, lost_in, due_steps, accepted_in, happened_at, with_record}
 use Rattle.interposition.specs.Due.{due_outcome, due_outcomes}
-use Rattle.world_laws.specs.Steps.{posts_in, outs_of, posted_at, posted_by, happened_by, last_book, turn_outcomes, with_entry}
-use Rattle.world_laws.proofs.Nodes.{put_same}
+use Rattle.interposition.specs.Whole.{LosesAsTheModel}
+use Rattle.world_laws.specs.declared.taken.Taken.{Taken}
+use Rattle.world_laws.specs.Moves.{Move, Scene, ended, lost_of, posted_at, seen}
+use Rattle.world_laws.specs.Walks.{Sending, Walk, asked, begin, branch, counted, counted_all, counted_by, is_over, outs_of, recorded, sending, sends, stepped, turned, used}
+use Rattle.world_laws.proofs.Asking.{over_stays}
+use Rattle.world_laws.proofs.Nodes.{nth_put, posts_put, put_put, put_same}
+use Rattle.world_laws.proofs.Sending.{Amid, amid, sent_effects, whole_sent}
 
--- a world with more posts, registrations and effects
-abbrev pub grown : World → List Posted → List Accepted → List Happened → World
-grown w ps rs es = record w { posted = w.posted ++ ps; accepted = w.accepted ++ rs; happened = w.happened ++ es }
+-- what steps posted and brought about
+abbrev pub posted_by : ℕ → List Node → List Taken → List Posted
+posted_by n nodes [] = []
+posted_by n nodes (t ∷ ts) = map (posted_at n nodes) t.posts ++ posted_by n nodes ts
 
-grown_none : (w : World) → grown w [] [] [] ≡ w
-grown_none w = rw (append-nil w.posted, append-nil w.accepted, append-nil w.happened) refl
+abbrev pub happened_by : ℕ → List Taken → List Happened
+happened_by n [] = []
+happened_by n (t ∷ ts) = map (happened_at n) t.effects ++ happened_by n ts
 
-grown_twice : (w : World) (ps qs : List Posted) (rs ss : List Accepted) (es fs : List Happened)
-    → grown (grown w ps rs es) qs ss fs ≡ grown w (ps ++ qs) (rs ++ ss) (es ++ fs)
-grown_twice w ps qs rs ss es fs =
-    rw (append_assoc w.posted ps qs, append_assoc w.accepted rs ss, append_assoc w.happened es fs) refl
+posted_more : (n : ℕ) (nodes : List Node) (ts : List Taken) (t : Taken)
+    → posted_by n nodes (ts ++ t ∷ []) ≡ posted_by n nodes ts ++ map (posted_at n nodes) t.posts
+posted_more n nodes [] t = append-nil (map (posted_at n nodes) t.posts)
+posted_more n nodes (u ∷ us) t =
+    ap (λ ps. map (posted_at n nodes) u.posts ++ ps) (posted_more n nodes us t)
+    ∙ sym (append_assoc (map (posted_at n nodes) u.posts) (posted_by n nodes us) (map (posted_at n nodes) t.posts))
 
-sends : (n : ℕ) (os : List Out) (w : World) (b : Book)
-    → send_all n os (turn_from w b [] None)
-    ≡ turn_from (record w { posted = w.posted ++ map (posted_at n w.nodes) (posts_in os) }) b [] None
-sends n [] w b = rw (append-nil w.posted) refl
-sends n (outs.Post p ∷ rest) w b =
-    sends n rest (record w { posted = w.posted ++ posted_at n w.nodes p ∷ [] }) b
-    ∙ ap (λ ps. turn_from (record w { posted = ps }) b [] None)
-    (append_assoc w.posted (posted_at n w.nodes p ∷ []) (map (posted_at n w.nodes) (posts_in rest)))
-sends n (outs.Answer status reply ∷ rest) w b = sends n rest w b
+happened_more : (n : ℕ) (ts : List Taken) (t : Taken) → happened_by n (ts ++ t ∷ []) ≡ happened_by n ts ++ map (happened_at n) t.effects
+happened_more n [] t = append-nil (map (happened_at n) t.effects)
+happened_more n (u ∷ us) t =
+    ap (λ es. map (happened_at n) u.effects ++ es) (happened_more n us t)
+    ∙ sym (append_assoc (map (happened_at n) u.effects) (happened_by n us) (map (happened_at n) t.effects))
 
--- what one outcome adds, and several
-abbrev pub adds : ℕ → World → Book → Outcome → World
-adds n w b o =
-    grown w (map (posted_at n w.nodes) (posts_in o.outs)) (accepted_in n w.nodes b o.book.transactions)
-    (map (happened_at n) o.effects)
+abbrev pub noted : List Record → Node → Node
+noted journal x = record x { journal = journal }
 
-pub counts : (n : ℕ) (o : Outcome) (w : World) (b : Book)
-    → counted n o (turn_from w b [] None) ≡ turn_from (adds n w b o) o.book [] None
-counts n o w b =
-    sends n o.outs (record w {
-      accepted = w.accepted ++ accepted_in n w.nodes b o.book.transactions;
-      happened = w.happened ++ map (happened_at n) o.effects;
-    }) o.book
-
-abbrev pub accepted_by_all : ℕ → List Node → Book → List Outcome → List Accepted
-accepted_by_all n nodes b [] = []
-accepted_by_all n nodes b (o ∷ os) = accepted_in n nodes b o.book.transactions ++ accepted_by_all n nodes o.book os
-
-abbrev pub adds_all : ℕ → World → Book → List Outcome → World
-adds_all n w b os =
-    grown w (posted_by n w.nodes (map outs_of os)) (accepted_by_all n w.nodes b os) (happened_by n (map outs_of os))
-
-one_more : (n : ℕ) (w : World) (b : Book) (o : Outcome) (os : List Outcome)
-    → adds_all n (adds n w b o) o.book os ≡ adds_all n w b (o ∷ os)
-one_more n w b o os =
-    grown_twice w (map (posted_at n w.nodes) (posts_in o.outs)) (posted_by n w.nodes (map outs_of os))
-    (accepted_in n w.nodes b o.book.transactions) (accepted_by_all n w.nodes o.book os)
-    (map (happened_at n) o.effects) (happened_by n (map outs_of os))
-
-pub only_one : (n : ℕ) (w : World) (b : Book) (o : Outcome) → adds n w b o ≡ adds_all n w b (o ∷ [])
-only_one n w b o = sym (grown_none (adds n w b o)) ∙ one_more n w b o []
-
--- The first step: its record stands in the journal.
-abbrev pub entered : ℕ → Node → Plan → World → World
-entered n x p w = record w { nodes = put_nth n (record x { journal = with_entry x.journal p.entry }) w.nodes }
-
-first_by : (entry : Option Record) (n : ℕ) (p : Plan) (w : World) (x : Node) (b : Book) → p.entry ≡ entry
-    → nth n w.nodes ≡ Some x
-    → take_step n p (turn_from w b [] None) ≡ turn_from (adds n (entered n x p w) b p.landed) p.landed.book [] None
-first_by None n p w x b e h = rw (e, put_same n w.nodes x h) (counts n p.landed w b)
-first_by (Some entry) n p w x b e h = rw (e, h) (counts n p.landed (journaled n entry x w) b)
-
-pub first : (n : ℕ) (p : Plan) (w : World) (x : Node) (b : Book) → nth n w.nodes ≡ Some x
-    → take_step n p (turn_from w b [] None) ≡ turn_from (adds n (entered n x p w) b p.landed) p.landed.book [] None
-first n p w x b h = first_by p.entry n p w x b refl h
+-- a turn of the node in a world, as far as the walk came
+abbrev pub shown : ℕ → World → Node → List Accepted → Walk → Turning
+shown n w x acc v = record {
+  world = record {
+    nodes = put_nth n (noted v.journal x) w.nodes;
+    posted = w.posted ++ posted_by n w.nodes v.taken;
+    accepted = acc;
+    happened = w.happened ++ happened_by n v.taken;
+  };
+  book = v.book;
+  fates = v.luck.fates;
+  until = v.luck.until;
+}
 
 abbrev pub Unrecorded : Type 0
 Unrecorded = (b : Book) (now : ℕ) (item : Item) → (plan b (events.Due item) now).entry ≡ None
 
-taken : Unrecorded → (n now : ℕ) (item : Item) (w : World) (b : Book)
-    → take_step n (plan b (events.Due item) now) (turn_from w b [] None)
-    ≡ turn_from (adds n w b (due_outcome b now item)) (due_outcome b now item).book [] None
-taken none n now item w b = rw (none b now item) (counts n (due_outcome b now item) w b)
+abbrev pub at_move : ℕ → World → Move → Scene
+at_move n w m = record {
+  nodes = put_nth n m.node w.nodes;
+  posted = w.posted ++ posted_by n w.nodes m.moved.taken;
+  happened = (w.happened ++ happened_by n m.moved.taken) ++ map (happened_at n) m.moved.lost;
+}
 
-abbrev Walks : ℕ → ℕ → List Item → Type 0
-Walks n now items = (w : World) (b : Book)
-    → due_steps n now items (turn_from w b [] None)
-    ≡ turn_from (adds_all n w b (due_outcomes now items b)) (last_book b (due_outcomes now items b)) [] None
+module _ (n : ℕ) (w : World) (x : Node) (there : nth n w.nodes ≡ Some x) where
+  -- a turn is shown by a walk, whatever was accepted
+  abbrev Becomes : Turning → Walk → Type 0
+  Becomes r v = (acc : List Accepted) × (r ≡ shown n w x acc v)
 
-walk_by : Unrecorded → (t : Bool) (n now : ℕ) (item : Item) (rest : List Item) (w : World) (b : Book) → is_due b now item ≡ t
-    → Walks n now rest
-    → due_steps n now (item ∷ rest) (turn_from w b [] None)
-    ≡ turn_from (adds_all n w b (due_outcomes now (item ∷ rest) b)) (last_book b (due_outcomes now (item ∷ rest) b)) [] None
-walk_by none false n now item rest w b e f = rw e (f w b)
-walk_by none true n now item rest w b e f =
-    let o : Outcome = due_outcome b now item in
-    let os : List Outcome = due_outcomes now rest o.book in
-    rw e (ap (due_steps n now rest) (taken none n now item w b)
-    ∙ f (adds n w b o) o.book
-    ∙ ap (λ v. turn_from v (last_book o.book os) [] None) (one_more n w b o os))
+  abbrev nodes_of : Walk → List Node
+  nodes_of v = put_nth n (noted v.journal x) w.nodes
 
-walks : Unrecorded → (n now : ℕ) (items : List Item) → Walks n now items
-walks none n now [] w b = ap (λ v. turn_from v b [] None) (sym (grown_none w))
-walks none n now (item ∷ rest) w b = walk_by none (is_due b now item) n now item rest w b refl (walks none n now rest)
+  abbrev accepted_of : List Accepted → Walk → Outcome → List Accepted
+  accepted_of acc v o = acc ++ accepted_in n (nodes_of v) v.book o.book.transactions
 
--- The whole turn.
-pub all_taken : Unrecorded → (n now : ℕ) (p : Plan) (w : World) (x : Node) (b : Book) → nth n w.nodes ≡ Some x
-    → take_turn n now p (turn_from w b [] None)
-    ≡ turned n (turn_from (adds_all n (entered n x p w) b (turn_outcomes now p.landed))
-    (last_book p.landed.book (turn_outcomes now p.landed)) [] None)
-all_taken none n now p w x b h =
-    let o : Outcome = p.landed in
-    let os : List Outcome = due_outcomes now (items_of o.book) o.book in
-    ap (after_input n now) (first n p w x b h)
-    ∙ ap (turned n) (walks none n now (items_of o.book) (adds n (entered n x p w) b o) o.book
-    ∙ ap (λ v. turn_from v (last_book o.book os) [] None) (one_more n (entered n x p w) b o os))
+  abbrev amid_of : List Accepted → Walk → Outcome → Amid
+  amid_of acc v o = record {
+    nodes = nodes_of v;
+    posted = w.posted ++ posted_by n w.nodes v.taken;
+    accepted = accepted_of acc v o;
+    happened = (w.happened ++ happened_by n v.taken) ++ map (happened_at n) o.effects;
+    book = o.book;
+  }
+
+  all_posted : (v : Walk) (t : Taken)
+      → (w.posted ++ posted_by n w.nodes v.taken) ++ map (posted_at n (nodes_of v)) t.posts ≡ w.posted ++ posted_by n w.nodes (v.taken ++ t ∷ [])
+  all_posted v t =
+      ap (λ ps. (w.posted ++ posted_by n w.nodes v.taken) ++ ps) (posts_put n n w.nodes x (noted v.journal x) t.posts refl there)
+      ∙ append_assoc w.posted (posted_by n w.nodes v.taken) (map (posted_at n w.nodes) t.posts)
+      ∙ ap (λ ps. w.posted ++ ps) (sym (posted_more n w.nodes v.taken t))
+
+  all_happened : (v : Walk) (o : Outcome) (t : Taken) → t.effects ≡ o.effects
+      → (w.happened ++ happened_by n v.taken) ++ map (happened_at n) o.effects ≡ w.happened ++ happened_by n (v.taken ++ t ∷ [])
+  all_happened v o t e =
+      ap (λ es. (w.happened ++ happened_by n v.taken) ++ map (happened_at n) es) (sym e)
+      ∙ append_assoc w.happened (happened_by n v.taken) (map (happened_at n) t.effects)
+      ∙ ap (λ es. w.happened ++ es) (sym (happened_more n v.taken t))
+
+  counted_end : (acc : List Accepted) (v : Walk) (o : Outcome) (s : Sending) → s.taken.effects ≡ o.effects
+      → amid n (amid_of acc v o) s
+      ≡ shown n w x (accepted_of acc v o) (record v { book = o.book; luck = s.luck; taken = v.taken ++ s.taken ∷ [] })
+  counted_end acc v o s e = λ i. record {
+    world = record {
+      nodes = nodes_of v;
+      posted = all_posted v s.taken i;
+      accepted = accepted_of acc v o;
+      happened = all_happened v o s.taken e i;
+    };
+    book = o.book;
+    fates = s.luck.fates;
+    until = s.luck.until;
+  }
+
+  counted_begin : (acc : List Accepted) (v : Walk) (o : Outcome)
+      → record (shown n w x acc v) {
+        book = o.book;
+        world = record (shown n w x acc v).world {
+          accepted = accepted_of acc v o;
+          happened = (w.happened ++ happened_by n v.taken) ++ map (happened_at n) o.effects;
+        };
+      }
+      ≡ amid n (amid_of acc v o) (sending (outs_of o) v.luck)
+  counted_begin acc v o = λ i. record {
+    world = record {
+      nodes = nodes_of v;
+      posted = sym (append-nil (w.posted ++ posted_by n w.nodes v.taken)) i;
+      accepted = accepted_of acc v o;
+      happened = (w.happened ++ happened_by n v.taken) ++ map (happened_at n) o.effects;
+    };
+    book = o.book;
+    fates = v.luck.fates;
+    until = v.luck.until;
+  }
+
+  counted_on : (acc : List Accepted) (v : Walk) (o : Outcome) → Becomes (counted_there n o (shown n w x acc v)) (counted o v)
+  counted_on acc v o = (
+    accepted_of acc v o,
+    ap (send_all n o.outs) (counted_begin acc v o)
+        ∙ whole_sent n (amid_of acc v o) (outs_of o) v.luck
+        ∙ counted_end acc v o (sends (outs_of o) v.luck) (sent_effects (outs_of o) v.luck),
+  )
+
+  -- a record that landed
+  abbrev landed : Record → Walk → Walk
+  landed entry v = record v { luck = used v.luck; journal = v.journal ++ entry ∷ [] }
+
+  landed_on : (acc : List Accepted) (entry : Record) (v : Walk)
+      → record (after_fate (shown n w x acc v)) { world = with_record n entry (shown n w x acc v).world (nth n (nodes_of v)) }
+      ≡ shown n w x acc (landed entry v)
+  landed_on acc entry v =
+      ap (λ o. record (after_fate (shown n w x acc v)) { world = with_record n entry (shown n w x acc v).world o })
+      (nth_put n w.nodes x (noted v.journal x) there)
+      ∙ ap (λ nodes. record (shown n w x acc (landed entry v)) { world = record (shown n w x acc (landed entry v)).world { nodes = nodes } })
+      (put_put n w.nodes (noted v.journal x) (noted (v.journal ++ entry ∷ []) x))
+
+  landed_becomes : (acc : List Accepted) (entry : Record) (p : Plan) (v : Walk)
+      → Becomes (landed_step n entry p (shown n w x acc v)) (counted p.landed (landed entry v))
+  landed_becomes acc entry p v =
+      let (more, f) = counted_on acc (landed entry v) p.landed in
+      (more, ap (counted_there n p.landed) (landed_on acc entry v) ∙ f)
+
+  absent_becomes : (acc : List Accepted) (p : Plan) (v : Walk) (b : Bool)
+      → Becomes (if b then after_fate (shown n w x acc v) else counted_there n p.absent (after_fate (shown n w x acc v)))
+      (counted_by (if b then None else Some false) p (record v { luck = used v.luck }))
+  absent_becomes acc p v true = (acc, refl)
+  absent_becomes acc p v false = counted_on acc (record v { luck = used v.luck }) p.absent
+
+  fate_becomes : (acc : List Accepted) (entry : Record) (p : Plan) (v : Walk) (f : Bool)
+      → Becomes (if f then landed_step n entry p (shown n w x acc v) else absent_step n p (shown n w x acc v))
+      (counted_by (if f then Some true else (if is_over (used v.luck) then None else Some false)) p
+      (record v { luck = used v.luck; journal = if f then v.journal ++ entry ∷ [] else v.journal }))
+  fate_becomes acc entry p v true = landed_becomes acc entry p v
+  fate_becomes acc entry p v false = absent_becomes acc p v (is_over (used v.luck))
+
+  entry_on : (acc : List Accepted) (entry : Option Record) (p : Plan) (v : Walk)
+      → Becomes (step_by n entry p (shown n w x acc v)) (counted_by (branch entry v.luck) p (recorded entry v))
+  entry_on acc None p v = counted_on acc v p.landed
+  entry_on acc (Some entry) p v = fate_becomes acc entry p v (fate v.luck.fates)
+
+  pub stepped_on : (acc : List Accepted) (p : Plan) (v : Walk) → Becomes (take_step n p (shown n w x acc v)) (stepped p v)
+  stepped_on acc p v = at (is_over v.luck)
+    where
+      at : (b : Bool)
+          → Becomes (if b then shown n w x acc v else step_by n p.entry p (shown n w x acc v))
+          (if b then v else counted_by (branch p.entry v.luck) p (recorded p.entry v))
+      at true = (acc, refl)
+      at false = entry_on acc p.entry p v
+
+  -- the steps of the items that are due
+  abbrev Asks : ℕ → List Item → Type 0
+  Asks now items = (acc : List Accepted) (v : Walk) → Becomes (due_steps n now items (shown n w x acc v)) (counted_all (due_outcomes now items v.book) v)
+
+  over_becomes : (now : ℕ) (item : Item) (rest : List Item) → Asks now rest → (acc : List Accepted) (v : Walk) → is_over v.luck ≡ true
+      → Becomes (due_steps n now rest (shown n w x acc v)) (counted_all (due_outcomes now rest (due_outcome v.book now item).book) v)
+  over_becomes now item rest again acc v e =
+      let (more, f) = again acc v in (
+        more,
+        f
+            ∙ ap (shown n w x more)
+            (over_stays (due_outcomes now rest v.book) v e ∙ sym (over_stays (due_outcomes now rest (due_outcome v.book now item).book) v e)),
+      )
+
+  goes_becomes : Unrecorded → (now : ℕ) (item : Item) (rest : List Item) → Asks now rest → (acc : List Accepted) (v : Walk)
+      → Becomes (due_steps n now rest (step_by n (plan v.book (events.Due item) now).entry (plan v.book (events.Due item) now) (shown n w x acc v)))
+      (counted_all (due_outcomes now rest (due_outcome v.book now item).book) (counted (due_outcome v.book now item) v))
+  goes_becomes none now item rest again acc v =
+      let (more, f) = counted_on acc v (due_outcome v.book now item) in
+      let (last, g) = again more (counted (due_outcome v.book now item) v) in (
+        last,
+        ap (λ e. due_steps n now rest (step_by n e (plan v.book (events.Due item) now) (shown n w x acc v))) (none v.book now item)
+            ∙ ap (due_steps n now rest) f
+            ∙ g,
+      )
+
+  stop_becomes : Unrecorded → (now : ℕ) (item : Item) (rest : List Item) → Asks now rest → (acc : List Accepted) (v : Walk) (b : Bool) → is_over v.luck ≡ b
+      → Becomes
+      (due_steps n now rest (if b then shown n w x acc v else step_by n (plan v.book (events.Due item) now).entry (plan v.book (events.Due item) now) (shown n w x acc v)))
+      (counted_all (due_outcomes now rest (due_outcome v.book now item).book) (if b then v else counted (due_outcome v.book now item) v))
+  stop_becomes none now item rest again acc v true e = over_becomes now item rest again acc v e
+  stop_becomes none now item rest again acc v false e = goes_becomes none now item rest again acc v
+
+  due_becomes : Unrecorded → (now : ℕ) (item : Item) (rest : List Item) → Asks now rest → (acc : List Accepted) (v : Walk) (t : Bool)
+      → Becomes (due_steps n now rest (if t then take_step n (plan v.book (events.Due item) now) (shown n w x acc v) else shown n w x acc v))
+      (counted_all (if t then due_outcome v.book now item ∷ due_outcomes now rest (due_outcome v.book now item).book else due_outcomes now rest v.book) v)
+  due_becomes none now item rest again acc v true = stop_becomes none now item rest again acc v (is_over v.luck) refl
+  due_becomes none now item rest again acc v false = again acc v
+
+  pub due_on : Unrecorded → (now : ℕ) (items : List Item) → Asks now items
+  due_on none now [] acc v = (acc, refl)
+  due_on none now (item ∷ rest) acc v = due_becomes none now item rest (due_on none now rest) acc v (is_due v.book now item)
+
+  -- the end of a turn
+  ended_on : LosesAsTheModel → (acc : List Accepted) (v : Walk) → seen (turned_there n (shown n w x acc v)) ≡ at_move n w (ended x v)
+  ended_on loses acc v = at (is_over v.luck)
+    where
+      r : Turning
+      r = shown n w x acc v
+
+      z : Node
+      z = noted v.journal x
+
+      placed : (book : Option Book) → put_nth n (record z { book = book }) (nodes_of v) ≡ put_nth n (record x { book = book; journal = v.journal }) w.nodes
+      placed book = put_put n w.nodes z (record z { book = book })
+
+      down : Move
+      down = record { node = record x { book = None; journal = v.journal }; moved = record { taken = v.taken; lost = lost_of v.book } }
+
+      stays : Move
+      stays = record { node = record x { book = Some v.book; journal = v.journal }; moved = record { taken = v.taken; lost = [] } }
+
+      at : (b : Bool)
+          → seen (if b then goes_down n v.book r.world else put_book n (Some v.book) r.world (nth n (nodes_of v)))
+          ≡ at_move n w (if b then down else stays)
+      at true =
+          ap (λ o. seen (put_book n None (record r.world { happened = r.world.happened ++ lost_in n v.book }) o)) (nth_put n w.nodes x z there)
+          ∙ (λ i. record {
+            nodes = placed None i;
+            posted = w.posted ++ posted_by n w.nodes v.taken;
+            happened = (w.happened ++ happened_by n v.taken) ++ sym (loses n v.book) i;
+          })
+      at false =
+          ap (λ o. seen (put_book n (Some v.book) r.world o)) (nth_put n w.nodes x z there)
+          ∙ (λ i. record {
+            nodes = placed (Some v.book) i;
+            posted = w.posted ++ posted_by n w.nodes v.taken;
+            happened = sym (append-nil (w.happened ++ happened_by n v.taken)) i;
+          })
+
+  -- the beginning
+  begun_on : (b : Book) (fates : List Bool) (until : Option ℕ)
+      → turn_from w b fates until ≡ shown n w x w.accepted (begin b x.journal (record { fates = fates; until = until }))
+  begun_on b fates until = λ i. record {
+    world = record {
+      nodes = sym (put_same n w.nodes x there) i;
+      posted = sym (append-nil w.posted) i;
+      accepted = w.accepted;
+      happened = sym (append-nil w.happened) i;
+    };
+    book = b;
+    fates = fates;
+    until = until;
+  }
+
+  pub turned_on : Unrecorded → LosesAsTheModel → (now : ℕ) (p : Plan) (b : Book) (fates : List Bool) (until : Option ℕ)
+      → seen (take_turn n now p (turn_from w b fates until))
+      ≡ at_move n w (ended x (turned now p (begin b x.journal (record { fates = fates; until = until }))))
+  turned_on none loses now p b fates until =
+      let v : Walk = begin b x.journal (record { fates = fates; until = until }) in
+      let (more, f) = stepped_on w.accepted p v in
+      let (last, g) = due_on none now (items_of (stepped p v).book) more (stepped p v) in
+      ap (λ r. seen (take_turn n now p r)) (begun_on b fates until)
+      ∙ ap (λ r. seen (after_input n now r)) f
+      ∙ ap (λ r. seen (turned_there n r)) g
+      ∙ ended_on loses last (asked now (stepped p v))
+
+  pub asked_on : LosesAsTheModel → (p : Plan) (b : Book) (fates : List Bool) (until : Option ℕ)
+      → seen (turned_there n (take_step n p (turn_from w b fates until)))
+      ≡ at_move n w (ended x (stepped p (begin b x.journal (record { fates = fates; until = until }))))
+  asked_on loses p b fates until =
+      let v : Walk = begin b x.journal (record { fates = fates; until = until }) in
+      let (more, f) = stepped_on w.accepted p v in
+      ap (λ r. seen (turned_there n (take_step n p r))) (begun_on b fates until)
+      ∙ ap (λ r. seen (turned_there n r)) f
+      ∙ ended_on loses more (stepped p v)

@@ -1,3 +1,5 @@
 pub mod Events
+pub mod Left
+pub mod Moves
 pub mod Runs
-pub mod Steps
+pub mod Walks

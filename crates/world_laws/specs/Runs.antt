@@ -1,15 +1,15 @@
 -- The world of a run, and what it shows of its nodes.
-use Rattle.std.specs.Prelude.{ℕ, List, [], Option, Some, None, map, option_map, option_and_then, length, ◌≡◌, ◌≤◌, ◌<◌, ◌+◌, ◌*◌}
+use Rattle.std.specs.Prelude.{ℕ, List, Option, Some, map, option_map, option_and_then, length, ◌≡◌, ◌≤◌, ◌<◌, ◌+◌, ◌*◌}
 use Rattle.std.specs.List.{AllByRecursion}
 use Rattle.at_base.specs.declared.event.Local.{Local}
 use Rattle.at_model.specs.Activities.{Refusal}
 use Rattle.at_model.specs.Book.{Book}
 use Rattle.model_laws.specs.Order.{IsInOrder}
 use Rattle.at_model.specs.Step.{refuses}
-use Rattle.at_model.specs.World.{World, Node, WorldEvent, Turn, Ask, Crash, Up, Deliver, Tick, Raw, nth, run_of}
+use Rattle.at_model.specs.World.{World, Node, nth, run_of}
 use Rattle.world_laws.specs.declared.event.WorldEvent.{WorldEvent as Given}
 use Rattle.world_laws.specs.Events.{event_of}
-use Rattle.world_laws.specs.Steps.{Scene, seen}
+use Rattle.world_laws.specs.Moves.{Scene, seen}
 
 -- A run: how many nodes there are, and what happened, in order.
 pub record Run : Type 0 where
@@ -44,25 +44,14 @@ incarnation_at w n = option_map incarnation_of (book_at w n)
 abbrev pub refused_at : World → ℕ → Local → Option Refusal
 refused_at w n l = option_and_then (λ b. refuses b l) (book_at w n)
 
--- how much time an event lets go by, in milliseconds
-abbrev pub ms_of : WorldEvent → ℕ
-ms_of (Turn n (Tick ms) fates until) = ms
-ms_of (Turn n (Deliver k) fates until) = 0
-ms_of (Turn n Raw fates until) = 0
-ms_of (Ask n l fates until) = 0
-ms_of (Crash n) = 0
-ms_of (Up n landed stop) = 0
-
--- A node of a run in which nothing fails: one that is down never started, the lists of a book are in the order of making,
--- and the clock shows no more than so many of the longest ticks.
+-- A node of a run: the lists of its book are in the order of making, and its clock shows no more than so many of the
+-- longest ticks.
 pub record IsNode (ticks : ℕ) (x : Node) : Type 0 where
-  pub fresh : x.book ≡ None → x.journal ≡ []
   pub order : (b : Book) → x.book ≡ Some b → IsInOrder b
   pub clock : x.clock ≤ ticks * 4294967295
 
 -- A node at which an event may happen: there is room for one tick more.
 pub record IsReady (x : Node) : Type 0 where
-  pub fresh : x.book ≡ None → x.journal ≡ []
   pub order : (b : Book) → x.book ≡ Some b → IsInOrder b
   pub clock : x.clock + 4294967295 < 18446744073709551616
 
@@ -78,3 +67,6 @@ pub record IsFit (ticks : ℕ) (s : Scene) : Type 0 where
 pub record IsRun (count : ℕ) (s : Scene) (events : List Given) : Type 0 where
   pub scene : s ≡ seen (world_of (record { count = count; events = events }))
   pub fit : IsFit (length events) s
+  pub least : 1 ≤ count
+  pub most : count ≤ 8
+  pub few : length events ≤ 4294967295

@@ -2,8 +2,7 @@
 
 ghost use Rattle.std.specs.Prelude.{◌≡◌, ◌≤◌};
 ghost use Rattle.at_model.specs.World.{node_of};
-ghost use Rattle.world_laws.specs.Events.{event_of};
-ghost use Rattle.world_laws.specs.Runs.{ms_of};
+ghost use Rattle.world_laws.specs.Events.{event_of, ms_of};
 
 use at_base::event::Local;
 use std::alloc::AllocError;

@@ -1,12 +1,14 @@
 //! What an event changes in a world.
 
-ghost use Rattle.world_laws.specs.Steps.{ChangesByOutcomes};
+ghost use Rattle.world_laws.specs.Moves.{ChangesByMoves};
 
+use interposition::book::loses_as_the_model;
 use model_laws::rules::ids_rise;
 
-/// An event at which nothing fails changes a world by the outcomes of its steps, and by nothing else.
-pub fn changes_by_outcomes()
-    ensures { ChangesByOutcomes }
+/// An event changes a world by the moves of its node, and by nothing else.
+pub fn changes_by_moves()
+    ensures { ChangesByMoves }
 {
     ids_rise();
+    loses_as_the_model();
 }

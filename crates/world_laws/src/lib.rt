@@ -4,10 +4,13 @@
 mod arrivals;
 pub mod event;
 pub mod laws;
+mod left;
+mod luck;
 mod node;
 mod places;
 pub mod posted;
 mod posting;
 mod scene;
-mod turn;
+pub mod taken;
+mod walk;
 pub mod world;

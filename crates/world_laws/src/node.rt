@@ -1,21 +1,23 @@
 //! A node of a world: its book where it is up, the records of its journal, and its clock.
 
-ghost use Rattle.std.specs.Prelude.{◌≡◌, ◌∷◌, [], IfOk, OnOk, map, option_map, option_copied, option_and_then};
-ghost use Rattle.at_base.specs.declared.record.Record.TheVariants as records;
-ghost use Rattle.at_model.specs.Recover.{recover};
+ghost use Rattle.std.specs.Prelude.{ℕ, List, ◌≡◌, ◌≤◌, [], IfOk, OnOk, None, map, option_map, option_copied, option_and_then};
 ghost use Rattle.at_model.specs.Step.{refuses};
-ghost use Rattle.at_model.specs.World.{new_node};
+ghost use Rattle.at_model.specs.World.{new_node, started, up_after};
 ghost use Rattle.completion_at.specs.Names.{refusal_of};
 ghost use Rattle.world_laws.specs.Events.{event_of, input_of};
+ghost use Rattle.world_laws.specs.Moves.{arrival_move, crash_move, delivery_move, ended, input_move, move_of, raw_move, request_move, start_move, tick_move};
 ghost use Rattle.world_laws.specs.Runs.{IsReady, incarnation_of};
-ghost use Rattle.world_laws.specs.declared.event.Input.TheVariants as inputs;
-ghost use Rattle.world_laws.specs.Steps.{IsCalm, arrival_move, delivery_move, input_move, move_of, outs_of, request_move, start_move, tick_move};
+ghost use Rattle.world_laws.specs.Walks.{begin};
 
 use crate::arrivals::decoded;
 use crate::event::{Input, WorldEvent};
-use crate::posted::{Posted, Steps, posted_at};
-use crate::turn::{arrive, take, tick};
+use crate::left::{last_incarnation, recovered};
+use crate::luck::Luck;
+use crate::posted::{Posted, posted_at};
+use crate::taken::{Moved, TakenList};
+use crate::walk::Walk;
 use at_base::event::{Arrived, Event, Local};
+use at_base::outs::Effects;
 use at_base::record::Record;
 use at_base::text::Text;
 use completion_at::activities::refuses_as_the_model;
@@ -23,6 +25,7 @@ use completion_at::requests::Refusal;
 use interposition::book::Book;
 use std::alloc::{AllocError, Global};
 use std::marker::Model;
+use std::mem::replace;
 
 /// A node.
 #[derive(Drop)]
@@ -39,13 +42,6 @@ impl Model for Node {
     ghost Value = { Known };
 
     ghost view = { λ x. record { base = x.base; book = x.book; journal = x.journal.items; clock = x.clock } };
-}
-
-/// The book of a node that starts for the first time.
-fn first_book(alloc: Global, base: &Text) -> Result<Book, AllocError>
-    ensures { IfOk result (λ book. book ≡ recover base.now (records.Start 1 ∷ [])) }
-{
-    Book::recover(alloc, base, &[], &[], 1)
 }
 
 impl Node {
@@ -77,6 +73,13 @@ impl Node {
         self.clock
     }
 
+    /// Its book, where it is up.
+    pub fn book(&self) -> Option<&Book>
+        ensures { option_copied result ≡ self.now.book }
+    {
+        self.book.as_ref()
+    }
+
     /// The incarnation of its book, where it is up.
     pub fn incarnation(&self) -> Option<u32>
         ensures { result ≡ option_map incarnation_of self.now.book }
@@ -92,15 +95,57 @@ impl Node {
         self.book.as_ref()?.refuses(local)
     }
 
-    /// A message as its target takes it.
-    fn arrive(&mut self, alloc: Global, arrived: Option<Arrived>) -> Result<Steps, AllocError>
-        requires { IsReady self.old }
-        ensures node { OnOk result (self.new ≡ (arrival_move arrived self.old self.old.book).node) }
-        ensures steps { IfOk result (λ s. s ≡ map outs_of (arrival_move arrived self.old self.old.book).outcomes) }
+    /// The way through an event begins: the journal goes along with the book.
+    fn set_out(&mut self, alloc: Global, book: Book, luck: Luck) -> Walk
+        ensures walk { result ≡ begin book self.old.journal luck }
+        ensures node { self.new ≡ record self.old { journal = [] } }
     {
-        match &mut self.book {
-            None => Ok(Steps::new(alloc)),
-            Some(book) => arrive(alloc, book, &mut self.journal, arrived, self.clock),
+        let journal = replace(&mut self.journal, Vec::new(alloc));
+        Walk::new(alloc, book, journal, luck)
+    }
+
+    /// The way is over: at the stop the node goes down.
+    fn settle(&mut self, alloc: Global, walk: Walk) -> Result<Moved, AllocError>
+        ensures node { OnOk result (self.new ≡ (ended self.old walk).node) }
+        ensures moved { IfOk result (λ m. m ≡ (ended self.old walk).moved) }
+    {
+        let Walk {
+            book,
+            journal,
+            luck,
+            taken,
+        } = walk;
+        self.journal = journal;
+        if luck.is_over() {
+            let lost = book.lost(alloc)?;
+            self.book = None;
+            return Ok(Moved { taken, lost });
+        }
+        self.book = Some(book);
+        Ok(Moved {
+            taken,
+            lost: Effects::from_vec(Vec::new(alloc)),
+        })
+    }
+
+    /// A message as its target takes it.
+    fn arrive(
+        &mut self,
+        alloc: Global,
+        arrived: Option<Arrived>,
+        luck: Luck,
+    ) -> Result<Moved, AllocError>
+        requires { IsReady self.old }
+        ensures node { OnOk result (self.new ≡ (arrival_move arrived luck self.old self.old.book).node) }
+        ensures moved { IfOk result (λ m. m ≡ (arrival_move arrived luck self.old self.old.book).moved) }
+    {
+        match self.book.take() {
+            None => Ok(Moved::nothing(alloc)),
+            Some(book) => {
+                let mut walk = self.set_out(alloc, book, luck);
+                walk.arrive(alloc, arrived, self.clock)?;
+                self.settle(alloc, walk)
+            }
         }
     }
 
@@ -110,64 +155,116 @@ impl Node {
         alloc: Global,
         number: u8,
         found: Option<&Posted>,
-    ) -> Result<Steps, AllocError>
+        luck: Luck,
+    ) -> Result<Moved, AllocError>
         requires { IsReady self.old }
         ensures node { OnOk result
-            (self.new ≡ (delivery_move number (option_copied found.entry) self.old self.old.book).node) }
-        ensures steps { IfOk result
-            (λ s. s ≡ map outs_of (delivery_move number (option_copied found.entry) self.old self.old.book).outcomes) }
+            (self.new ≡ (delivery_move number (option_copied found.entry) luck self.old self.old.book).node) }
+        ensures moved { IfOk result
+            (λ m. m ≡ (delivery_move number (option_copied found.entry) luck self.old self.old.book).moved) }
     {
         match found {
             Some(posted) if posted.receiver == Some(number) => {
                 let arrived = decoded(&self.base, &posted.content)?;
-                self.arrive(alloc, arrived)
+                self.arrive(alloc, arrived, luck)
             }
-            _ => Ok(Steps::new(alloc)),
+            _ => Ok(Moved::nothing(alloc)),
         }
     }
 
     /// Time goes by.
-    fn tick(&mut self, alloc: Global, ms: u32) -> Result<Steps, AllocError>
+    fn tick(&mut self, alloc: Global, ms: u32, luck: Luck) -> Result<Moved, AllocError>
         requires { IsReady self.old }
-        ensures node { OnOk result (self.new ≡ (tick_move ms self.old self.old.book).node) }
-        ensures steps { IfOk result (λ s. s ≡ map outs_of (tick_move ms self.old self.old.book).outcomes) }
+        ensures node { OnOk result (self.new ≡ (tick_move ms luck self.old self.old.book).node) }
+        ensures moved { IfOk result (λ m. m ≡ (tick_move ms luck self.old self.old.book).moved) }
     {
-        match &mut self.book {
-            None => Ok(Steps::new(alloc)),
+        match self.book.take() {
+            None => Ok(Moved::nothing(alloc)),
             Some(book) => {
-                let now = self.clock + ms as u64;
-                let steps = tick(alloc, book, &mut self.journal, now)?;
-                self.clock = now;
-                Ok(steps)
+                self.clock += ms as u64;
+                let mut walk = self.set_out(alloc, book, luck);
+                walk.tick(alloc, self.clock)?;
+                self.settle(alloc, walk)
+            }
+        }
+    }
+
+    /// Bytes arrive that are no message.
+    fn raw(&mut self, alloc: Global, luck: Luck) -> Result<Moved, AllocError>
+        requires { IsReady self.old }
+        ensures node { OnOk result (self.new ≡ (raw_move luck self.old self.old.book).node) }
+        ensures moved { IfOk result (λ m. m ≡ (raw_move luck self.old self.old.book).moved) }
+    {
+        match self.book.take() {
+            None => Ok(Moved::nothing(alloc)),
+            Some(book) => {
+                let mut walk = self.set_out(alloc, book, luck);
+                walk.raw(alloc, self.clock)?;
+                self.settle(alloc, walk)
             }
         }
     }
 
     /// A request of its own program.
-    fn ask(&mut self, alloc: Global, local: &Local) -> Result<Steps, AllocError>
-        ensures node { OnOk result (self.new ≡ (request_move local.now self.old self.old.book).node) }
-        ensures steps { IfOk result (λ s. s ≡ map outs_of (request_move local.now self.old self.old.book).outcomes) }
+    fn ask(&mut self, alloc: Global, local: &Local, luck: Luck) -> Result<Moved, AllocError>
+        ensures node { OnOk result (self.new ≡ (request_move local.now luck self.old self.old.book).node) }
+        ensures moved { IfOk result (λ m. m ≡ (request_move local.now luck self.old self.old.book).moved) }
     {
         let event = Event::Local(local.clone()?);
-        let mut steps = Steps::new(alloc);
-        if let Some(book) = &mut self.book {
-            let outs = take(alloc, book, &mut self.journal, &event, self.clock)?;
-            steps.push(outs)?;
+        match self.book.take() {
+            None => Ok(Moved::nothing(alloc)),
+            Some(book) => {
+                let mut walk = self.set_out(alloc, book, luck);
+                walk.step(alloc, &event, self.clock)?;
+                self.settle(alloc, walk)
+            }
         }
-        Ok(steps)
     }
 
-    /// It starts, for the first time.
-    fn start(&mut self, alloc: Global) -> Result<(), AllocError>
-        requires { IsReady self.old }
-        ensures { OnOk result (self.new ≡ (start_move self.old self.old.book).node) }
+    /// It goes down.
+    fn crash(&mut self, alloc: Global) -> Result<Moved, AllocError>
+        ensures node { OnOk result (self.new ≡ (crash_move self.old self.old.book).node) }
+        ensures moved { IfOk result (λ m. m ≡ (crash_move self.old self.old.book).moved) }
     {
-        if self.book.is_none() {
-            self.journal.push(Record::Start { incarnation: 1 })?;
-            let book = first_book(alloc, &self.base)?;
-            self.book = Some(book);
+        match self.book.take() {
+            None => Ok(Moved::nothing(alloc)),
+            Some(book) => {
+                let lost = book.lost(alloc)?;
+                Ok(Moved {
+                    taken: TakenList::new(alloc),
+                    lost,
+                })
+            }
         }
+    }
+
+    /// Its Start record stands in its journal; where no stop comes, it is up.
+    #[tactic(auto, using(crate::proofs::Starting::started_some))]
+    fn begin(&mut self, alloc: Global, incarnation: u32, stop: bool) -> Result<(), AllocError>
+        requires { 1 ≤ incarnation }
+        ensures { OnOk result (self.new ≡ up_after (started incarnation self.old) stop) }
+    {
+        self.journal.push(Record::Start { incarnation })?;
+        self.book = if stop {
+            None
+        } else {
+            Some(recovered(alloc, &self.base, self.journal.as_slice())?)
+        };
         Ok(())
+    }
+
+    /// It starts, where it is down.
+    fn start(&mut self, alloc: Global, landed: bool, stop: bool) -> Result<(), AllocError>
+        ensures { OnOk result (self.new ≡ (start_move landed stop self.old self.old.book).node) }
+    {
+        if self.book.is_some() || !landed {
+            return Ok(());
+        }
+        let last = last_incarnation(self.journal.as_slice());
+        if last == u32::MAX {
+            return Ok(());
+        }
+        self.begin(alloc, last + 1, stop)
     }
 
     /// A turn at it, with this input.
@@ -176,42 +273,61 @@ impl Node {
         alloc: Global,
         number: u8,
         input: Input,
+        luck: Luck,
         posted: &[Posted],
-    ) -> Result<Steps, AllocError>
-        requires ready { IsReady self.old }
-        requires calm { input ≡ inputs.Raw → ⊥ }
+    ) -> Result<Moved, AllocError>
+        requires { IsReady self.old }
         ensures node { OnOk result
-            (self.new ≡ (input_move number (input_of input) posted.now self.old self.old.book).node) }
-        ensures steps { IfOk result
-            (λ s. s ≡ map outs_of (input_move number (input_of input) posted.now self.old self.old.book).outcomes) }
+            (self.new ≡ (input_move number (input_of input) luck posted.now self.old self.old.book).node) }
+        ensures moved { IfOk result
+            (λ m. m ≡ (input_move number (input_of input) luck posted.now self.old self.old.book).moved) }
     {
         match input {
-            Input::Deliver(wanted) => self.deliver(alloc, number, posted_at(posted, wanted)),
-            Input::Tick(ms) => self.tick(alloc, ms),
-            Input::Raw => unreachable!(),
+            Input::Deliver(wanted) => self.deliver(alloc, number, posted_at(posted, wanted), luck),
+            Input::Tick(ms) => self.tick(alloc, ms, luck),
+            Input::Raw => self.raw(alloc, luck),
         }
     }
 
-    /// What an event makes of it, and the event's steps.
+    /// What an event makes of it, and what its steps gave.
     pub fn happen(
         &mut self,
         alloc: Global,
         event: &WorldEvent,
         posted: &[Posted],
-    ) -> Result<Steps, AllocError>
-        requires calm { IsCalm (event_of event.now) }
-        requires ready { IsReady self.old }
+    ) -> Result<Moved, AllocError>
+        requires { IsReady self.old }
         ensures node { OnOk result (self.new ≡ (move_of (event_of event.now) posted.now self.old).node) }
-        ensures steps { IfOk result (λ s. s ≡ map outs_of (move_of (event_of event.now) posted.now self.old).outcomes) }
+        ensures moved { IfOk result (λ m. m ≡ (move_of (event_of event.now) posted.now self.old).moved) }
     {
         match event {
-            WorldEvent::Turn { node, input, .. } => self.turn(alloc, *node, *input, posted),
-            WorldEvent::Ask { local, .. } => self.ask(alloc, local),
-            WorldEvent::Up { .. } => {
-                self.start(alloc)?;
-                Ok(Steps::new(alloc))
+            WorldEvent::Turn {
+                node,
+                input,
+                fates,
+                until,
+            } => {
+                let luck = Luck::new(fates, *until)?;
+                self.turn(alloc, *node, *input, luck, posted)
             }
-            WorldEvent::Crash { .. } => unreachable!(),
+            WorldEvent::Ask {
+                node: _node,
+                local,
+                fates,
+                until,
+            } => {
+                let luck = Luck::new(fates, *until)?;
+                self.ask(alloc, local, luck)
+            }
+            WorldEvent::Crash { .. } => self.crash(alloc),
+            WorldEvent::Up {
+                node: _node,
+                landed,
+                stop,
+            } => {
+                self.start(alloc, *landed, *stop)?;
+                Ok(Moved::nothing(alloc))
+            }
         }
     }
 }

@@ -3,7 +3,8 @@
 ghost use Rattle.std.specs.Prelude.{◌≡◌, ◌++◌, ◌∷◌, [], OnOk, option_copied};
 ghost use Rattle.at_model.specs.World.{nth};
 
-use at_base::outs::{Effect, Outs, Post};
+use crate::taken::Answer;
+use at_base::outs::{Effect, Effects, Post};
 use std::alloc::{AllocError, Global};
 use std::marker::Model;
 
@@ -52,17 +53,40 @@ impl Model for NodeEffect {
     ghost inverse = { λ h. record { node = h.node; what = h.what } };
 }
 
-/// What the steps of an event send and bring about, in order, one for each step.
+/// What a step that counted gave.
+#[derive(Debug)]
+pub struct Counted {
+    pub effects: Effects,
+    /// The answer on the connection, where it was sent.
+    pub answer: Option<Answer>,
+    /// The number of the first message that it posted, if it posted one.
+    pub first: usize,
+    /// How many messages it posted, numbered from that one on.
+    pub posts: usize,
+}
+
+impl Drop for Counted {
+    fn drop(self) {
+        let Counted {
+            effects: _effects,
+            answer: _answer,
+            first: _first,
+            posts: _posts,
+        } = self;
+    }
+}
+
+/// What the steps of an event gave, in order.
 #[derive(Debug, Drop)]
 pub struct Steps {
-    items: Vec<Outs>,
+    items: Vec<Counted>,
 }
 
 impl Model for Steps {
     ghost use Rattle.std.specs.Prelude.{List};
-    ghost use Rattle.at_base.specs.declared.outs.Outs.{Outs};
+    ghost use Rattle.world_laws.specs.declared.posted.Counted.{Counted as Known};
 
-    ghost Value = { List Outs };
+    ghost Value = { List Known };
 
     ghost view = { λ s. s.items.items };
 }
@@ -78,17 +102,17 @@ impl Steps {
     }
 
     /// The steps as a slice.
-    pub fn as_slice(&self) -> &[Outs]
+    pub fn as_slice(&self) -> &[Counted]
         ensures { result.now ≡ self.now }
     {
         self.items.as_slice()
     }
 
     /// Adds one at the end.
-    pub fn push(&mut self, outs: Outs) -> Result<(), AllocError>
-        ensures { OnOk result (self.new ≡ self.old ++ outs ∷ []) }
+    pub fn push(&mut self, counted: Counted) -> Result<(), AllocError>
+        ensures { OnOk result (self.new ≡ self.old ++ counted ∷ []) }
     {
-        self.items.push(outs)?;
+        self.items.push(counted)?;
         Ok(())
     }
 }

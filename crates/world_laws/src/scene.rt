@@ -1,15 +1,17 @@
 //! The nodes of a world, the messages that they posted, and what happened to them.
 
 ghost use Rattle.std.specs.Prelude.{◌≡◌, ◌≤◌, ◌<◌, ◌++◌, IfOk, OnOk, Some, map, length, option_copied, slice_get, slice_set};
-ghost use Rattle.at_model.specs.World.{Node as Known, new_nodes, node_of, nth, opening};
+ghost use Rattle.at_model.specs.World.{Node as Known, happened_at, new_nodes, node_of, nth, opening};
 ghost use Rattle.world_laws.specs.Events.{event_of};
 ghost use Rattle.world_laws.specs.Runs.{AreReady, IsReady};
-ghost use Rattle.world_laws.specs.Steps.{IsCalm, after, happened_by, move_of, nodes_by, outcomes_by, outcomes_in, outs_of, posted_by, seen};
+ghost use Rattle.world_laws.specs.Moves.{after, counted_in, move_of, moved_by, moved_in, nodes_by, numbered, seen, steps_in, with_all, with_lost, with_nodes, with_taken};
 
 use crate::event::WorldEvent;
 use crate::node::Node;
-use crate::posted::{NodeEffect, Posted, Steps, posted_at};
+use crate::posted::{Counted, NodeEffect, Posted, Steps, posted_at};
 use crate::posting::{push_effects, push_posts};
+use crate::taken::{Moved, Taken, TakenList};
+use at_base::outs::Effects;
 use std::alloc::{AllocError, Global};
 use std::marker::Model;
 
@@ -22,7 +24,7 @@ pub struct Scene {
 }
 
 impl Model for Scene {
-    ghost use Rattle.world_laws.specs.Steps.{Scene as Seen};
+    ghost use Rattle.world_laws.specs.Moves.{Scene as Seen};
 
     ghost Value = { Seen };
 
@@ -46,45 +48,52 @@ fn new_nodes(alloc: Global, count: u8) -> Result<Vec<Node>, AllocError>
     Ok(nodes)
 }
 
-/// What an event makes of the node at this place, and the event's steps.
+/// What an event makes of the node at this place, and what its steps gave.
 fn happen_in(
     alloc: Global,
     nodes: &mut Vec<Node>,
     place: usize,
     event: &WorldEvent,
     posted: &[Posted],
-) -> Result<Steps, AllocError>
-    requires calm { IsCalm (event_of event.now) }
+) -> Result<Moved, AllocError>
     requires place { place < length nodes.old.items }
     requires ready { (x : Known) → slice_get nodes.old.items place ≡ Some x → IsReady x }
     ensures nodes { (x : Known) → slice_get nodes.old.items place ≡ Some x
         → OnOk result (nodes.new.items ≡ slice_set nodes.old.items place (move_of (event_of event.now) posted.now x).node) }
-    ensures steps { (x : Known) → slice_get nodes.old.items place ≡ Some x
-        → IfOk result (λ steps. steps ≡ map outs_of (move_of (event_of event.now) posted.now x).outcomes) }
+    ensures moved { (x : Known) → slice_get nodes.old.items place ≡ Some x
+        → IfOk result (λ m. m ≡ (move_of (event_of event.now) posted.now x).moved) }
 {
     nodes[place].happen(alloc, event, posted)
 }
 
-/// What an event makes of the node of this number, where there is one, and the event's steps.
+/// What an event makes of the node of this number, where there is one, and what its steps gave.
 fn happen_at(
     alloc: Global,
     nodes: &mut Vec<Node>,
     number: u8,
     event: &WorldEvent,
     posted: &[Posted],
-) -> Result<Steps, AllocError>
-    requires calm { IsCalm (event_of event.now) }
+) -> Result<Moved, AllocError>
     requires number { number ≡ node_of (event_of event.now) }
     requires ready { AreReady nodes.old.items }
     ensures nodes { OnOk result
         (nodes.new.items ≡ nodes_by (event_of event.now) posted.now nodes.old.items (nth number nodes.old.items)) }
-    ensures steps { IfOk result
-        (λ steps. steps ≡ map outs_of (outcomes_by (event_of event.now) posted.now (nth number nodes.old.items))) }
+    ensures moved { IfOk result
+        (λ m. m ≡ moved_by (event_of event.now) posted.now (nth number nodes.old.items)) }
 {
     if number == 0 || nodes.as_slice().len() < number as usize {
-        return Ok(Steps::new(alloc));
+        return Ok(Moved::nothing(alloc));
     }
     happen_in(alloc, nodes, number as usize - 1, event, posted)
+}
+
+/// What an event gave.
+#[derive(Debug, Drop)]
+pub struct Happening {
+    /// What each step that counted gave.
+    pub steps: Steps,
+    /// What going down lost.
+    pub lost: Effects,
 }
 
 impl Scene {
@@ -137,19 +146,12 @@ impl Scene {
         self.happened.as_slice()
     }
 
-    /// What an event makes of the nodes, and the event's steps.
-    fn happen(&mut self, alloc: Global, event: &WorldEvent) -> Result<Steps, AllocError>
-        requires calm { IsCalm (event_of event.now) }
-        requires ready { AreReady self.old.nodes }
-        ensures scene { OnOk result
-            (self.new ≡ record self.old {
-              nodes = nodes_by (event_of event.now) self.old.posted self.old.nodes
-                  (nth (node_of (event_of event.now)) self.old.nodes);
-            }) }
-        ensures steps { IfOk result
-            (λ steps. steps
-            ≡ map outs_of (outcomes_by (event_of event.now) self.old.posted
-            (nth (node_of (event_of event.now)) self.old.nodes))) }
+    /// What an event makes of the nodes, and what its steps gave.
+    fn happen(&mut self, alloc: Global, event: &WorldEvent) -> Result<Moved, AllocError>
+        requires { AreReady self.old.nodes }
+        ensures scene { OnOk result (self.new ≡ with_nodes self.old (event_of event.now)) }
+        ensures moved { IfOk result
+            (λ m. m ≡ moved_by (event_of event.now) self.old.posted (nth (node_of (event_of event.now)) self.old.nodes)) }
     {
         happen_at(
             alloc,
@@ -160,34 +162,57 @@ impl Scene {
         )
     }
 
-    /// Adds what steps posted and brought about.
-    fn keep(&mut self, number: u8, steps: &Steps) -> Result<(), AllocError>
+    /// Keeps what a step gave: its posts move into the world.
+    fn keep(&mut self, number: u8, taken: Taken) -> Result<Counted, AllocError>
         requires { length self.old.nodes ≤ 8 }
-        ensures { OnOk result
-            (self.new ≡ record self.old {
-              posted = self.old.posted ++ posted_by number self.old.nodes steps.now;
-              happened = self.old.happened ++ happened_by number steps.now;
-            }) }
+        ensures scene { OnOk result (self.new ≡ with_taken number taken self.old) }
+        ensures counted { IfOk result (λ c. c ≡ counted_in (length self.old.posted) taken) }
     {
-        push_posts(
-            self.nodes.as_slice(),
-            &mut self.posted,
-            number,
-            steps.as_slice(),
-        )?;
-        push_effects(&mut self.happened, number, steps.as_slice())
+        let first = self.posted.len() + 1;
+        let (effects, answer, posts) = taken.into_parts();
+        let count = posts.len();
+        push_effects(&mut self.happened, number, effects.as_slice())?;
+        push_posts(self.nodes.as_slice(), &mut self.posted, number, posts)?;
+        Ok(Counted {
+            effects,
+            answer,
+            first,
+            posts: count,
+        })
     }
 
-    /// What an event makes of it, and what the event's steps send and bring about.
-    pub fn step(&mut self, alloc: Global, event: &WorldEvent) -> Result<Steps, AllocError>
-        requires calm { IsCalm (event_of event.now) }
+    /// Keeps what steps gave.
+    fn keep_all(&mut self, alloc: Global, number: u8, taken: TakenList) -> Result<Steps, AllocError>
+        requires { length self.old.nodes ≤ 8 }
+        ensures scene { OnOk result (self.new ≡ with_all number taken self.old) }
+        ensures steps { IfOk result (λ steps. steps ≡ numbered (length self.old.posted) taken) }
+    {
+        let mut steps = Steps::new(alloc);
+        for one in taken.into_vec() {
+            let counted = self.keep(number, one)?;
+            steps.push(counted)?;
+        }
+        Ok(steps)
+    }
+
+    /// Keeps what going down lost.
+    fn keep_lost(&mut self, number: u8, lost: &Effects) -> Result<(), AllocError>
+        ensures { OnOk result (self.new ≡ with_lost number lost.now self.old) }
+    {
+        push_effects(&mut self.happened, number, lost.as_slice())
+    }
+
+    /// What an event makes of it, and what the event gave.
+    pub fn step(&mut self, alloc: Global, event: &WorldEvent) -> Result<Happening, AllocError>
         requires ready { AreReady self.old.nodes }
         requires few { length self.old.nodes ≤ 8 }
         ensures scene { OnOk result (self.new ≡ after self.old (event_of event.now)) }
-        ensures steps { IfOk result (λ steps. steps ≡ map outs_of (outcomes_in self.old (event_of event.now))) }
+        ensures steps { IfOk result (λ h. h.steps ≡ steps_in self.old (event_of event.now)) }
+        ensures lost { IfOk result (λ h. h.lost ≡ (moved_in self.old (event_of event.now)).lost) }
     {
-        let steps = self.happen(alloc, event)?;
-        self.keep(event.node(), &steps)?;
-        Ok(steps)
+        let (taken, lost) = self.happen(alloc, event)?.into_parts();
+        let steps = self.keep_all(alloc, event.node(), taken)?;
+        self.keep_lost(event.node(), &lost)?;
+        Ok(Happening { steps, lost })
     }
 }

@@ -1,23 +1,26 @@
 //! A world of nodes, and its runs.
 
 ghost use Rattle.std.specs.Prelude.{ℕ, ◌≡◌, ◌<◌, ◌≤◌, ◌++◌, ◌∷◌, [], IfOk, map, length, option_map, option_copied};
-ghost use Rattle.std.specs.List.{AllByRecursion};
-ghost use Rattle.model_laws.specs.Agreement.{HasOneSuperior};
+ghost use Rattle.model_laws.specs.Agreement.{Agrees, HasOneSuperior, IsAgreed, IsBehindAnswers, IsToldTruly};
 ghost use Rattle.model_laws.specs.Drawn.{AreApart};
-ghost use Rattle.model_laws.specs.Made.{made_on};
+ghost use Rattle.model_laws.specs.Enlisted.{EnlistsUnderOne};
+ghost use Rattle.model_laws.specs.Made.{MakesNoIdTwice, made_on};
 ghost use Rattle.at_model.specs.World.{nth, opening, run_of, world_step};
 ghost use Rattle.completion_at.specs.Names.{refusal_of};
 ghost use Rattle.world_laws.specs.Events.{event_of};
+ghost use Rattle.world_laws.specs.Moves.{losses_of, steps_of};
 ghost use Rattle.world_laws.specs.Runs.{book_at, clock_at, incarnation_at, refused_at, world_of};
-ghost use Rattle.world_laws.specs.Steps.{IsCalm, outcomes, outs_of};
 
 use crate::event::WorldEvent;
-use crate::laws::changes_by_outcomes;
+use crate::laws::changes_by_moves;
 use crate::posted::{NodeEffect, Posted, Steps};
-use crate::scene::Scene;
+use crate::scene::{Happening, Scene};
 use at_base::event::Local;
+use at_base::outs::Effects;
 use completion_at::requests::Refusal;
+use interposition::book::Book;
 use model_laws::rules::{enlists_under_one, ids_rise, makes_no_id_twice};
+use outcomes::laws::agrees;
 use std::alloc::{AllocError, Global};
 use std::marker::Model;
 
@@ -39,11 +42,14 @@ impl Model for World {
     ghost invariant = { λ w. IsRun w.count w.scene w.events.items };
 }
 
-/// A world behind an event, and the event's steps.
+/// A world behind an event, and what the event gave.
 #[derive(Drop)]
 pub struct Stepped {
     pub world: World,
+    /// What each step that counted gave, in order.
     pub steps: Steps,
+    /// And then what going down lost.
+    pub lost: Effects,
 }
 
 impl World {
@@ -59,24 +65,24 @@ impl World {
         })
     }
 
-    /// The world behind an event at which nothing fails, and what the event's steps send and bring about.
+    /// The world behind an event, and what the event gave.
     pub fn step(self, alloc: Global, event: WorldEvent) -> Result<Stepped, AllocError>
-        requires calm { IsCalm (event_of event) }
-        requires few { length self.events < 4294967295 }
+        requires { length self.events < 4294967295 }
         ensures run { IfOk result
             (λ s. s.world ≡ record { count = self.count; events = self.events ++ event ∷ [] }) }
         ensures world { IfOk result (λ s. world_of s.world ≡ world_step (world_of self) (event_of event)) }
-        ensures steps { IfOk result (λ s. s.steps ≡ map outs_of (outcomes (world_of self) (event_of event))) }
+        ensures steps { IfOk result (λ s. s.steps ≡ steps_of (world_of self) (event_of event)) }
+        ensures lost { IfOk result (λ s. s.lost ≡ losses_of (world_of self) (event_of event)) }
     {
         ids_rise();
-        changes_by_outcomes();
+        changes_by_moves();
         let World {
             count,
             mut scene,
             mut events,
         } = self;
         let _ms = event.ms();
-        let steps = scene.step(alloc, &event)?;
+        let Happening { steps, lost } = scene.step(alloc, &event)?;
         events.push(event)?;
         Ok(Stepped {
             world: World {
@@ -85,19 +91,22 @@ impl World {
                 events,
             },
             steps,
+            lost,
         })
     }
 
     /// How many nodes there are.
     pub fn count(&self) -> u8
-        ensures { result ≡ self.now.count }
+        ensures value { result ≡ self.now.count }
+        ensures nodes { (1 ≤ result) × (result ≤ 8) }
     {
         self.count
     }
 
     /// What happened to the world, in order.
     pub fn events(&self) -> &[WorldEvent]
-        ensures { result.now ≡ self.now.events }
+        ensures value { result.now ≡ self.now.events }
+        ensures few { length result.now ≤ 4294967295 }
     {
         self.events.as_slice()
     }
@@ -137,6 +146,13 @@ impl World {
         Some(self.scene.node(node)?.clock())
     }
 
+    /// The book of a node that is up.
+    pub fn book(&self, node: u8) -> Option<&Book>
+        ensures { option_copied result ≡ book_at (world_of self.now) node }
+    {
+        self.scene.node(node)?.book()
+    }
+
     /// The incarnation of a node that is up.
     pub fn incarnation(&self, node: u8) -> Option<u32>
         ensures { result ≡ incarnation_at (world_of self.now) node }
@@ -155,7 +171,6 @@ impl World {
 fn ran(alloc: Global, nodes: u8, events: &[WorldEvent]) -> Result<World, AllocError>
     requires nodes { (1 ≤ nodes) × (nodes ≤ 8) }
     requires few { length events.now ≤ 4294967295 }
-    requires calm { AllByRecursion (λ e. IsCalm (event_of e)) events.now }
     ensures run { IfOk result (λ world. world ≡ record { count = nodes; events = events.now }) }
     ensures world { IfOk result (λ world. world_of world ≡ run_of nodes (map event_of events.now)) }
 {
@@ -164,27 +179,43 @@ fn ran(alloc: Global, nodes: u8, events: &[WorldEvent]) -> Result<World, AllocEr
         let Stepped {
             world: next,
             steps: _steps,
+            lost: _lost,
         } = world.step(alloc, event.clone()?)?;
         world = next;
     }
     Ok(world)
 }
 
-/// The world of a run of events at which nothing fails.
+/// What holds in every run: no node makes an id twice, all registrations of one item are with one transaction, and agreement.
+fn laws()
+    ensures ids { MakesNoIdTwice }
+    ensures superior { EnlistsUnderOne }
+    ensures agreement { Agrees }
+{
+    makes_no_id_twice();
+    enlists_under_one();
+    agrees();
+}
+
+/// The world of a run of events, whatever fails in it: calls of a site, a node that stops in the middle of a turn or goes
+/// down, a record that doesn't land, a message that is delivered late, again or never.
 ///
-/// No node of it made an id twice, and all registrations of one item that were accepted were accepted by one transaction
-/// (WS-AtomicTransaction 1.2, section 3).
+/// In it no two participants of one transaction ended differently, through any depth of interposition, and nothing ended twice
+/// (`agreed`); a root committed, and a subordinate voted, only where everybody that it ever accepted had answered (`behind`);
+/// an activity was told what its root did (`told`); all registrations of one item were accepted by one transaction
+/// (`superior`); and no node made an id twice (`ids`; WS-AtomicTransaction 1.2, sections 1 and 3).
 pub fn run_world(alloc: Global, nodes: u8, events: &[WorldEvent]) -> Result<World, AllocError>
     requires nodes { (1 ≤ nodes) × (nodes ≤ 8) }
     requires few { length events.now ≤ 4294967295 }
-    requires calm { AllByRecursion (λ e. IsCalm (event_of e)) events.now }
     ensures run { IfOk result (λ world. world ≡ record { count = nodes; events = events.now }) }
     ensures world { IfOk result (λ world. world_of world ≡ run_of nodes (map event_of events.now)) }
     ensures ids { (n : ℕ) → AreApart (made_on n (opening nodes) (map event_of events.now)) }
     ensures superior { IfOk result (λ world. HasOneSuperior (world_of world)) }
+    ensures agreed { IfOk result (λ world. IsAgreed (world_of world)) }
+    ensures behind { IfOk result (λ world. IsBehindAnswers (world_of world)) }
+    ensures told { IfOk result (λ world. IsToldTruly (world_of world)) }
 {
-    makes_no_id_twice();
-    enlists_under_one();
+    laws();
     let world = ran(alloc, nodes, events)?;
     Ok(world)
 }

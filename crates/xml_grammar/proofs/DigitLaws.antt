@@ -4,7 +4,7 @@ use Rattle.std.proofs.lemmas.Bool.{ne_eqb, lt-leb, cases_lt}
 use Rattle.at_base.specs.Chars.{is_xml_char}
 use Rattle.xml_grammar.specs.Characters.{found}
 use Rattle.xml_grammar.specs.Tokens.{hexadecimal, decimal_digit, digits_from, numbered}
-use Rattle.xml_grammar.specs.Digits.{digit_in, base_of, add_digit, capped_from}
+use Rattle.xml_grammar.specs.Code.Digits.{digit_in, base_of, add_digit, capped_from}
 
 add_same : (hex : Bool) (n m d : ℕ) → m ≡ min n 1114112 → add_digit hex m d ≡ min (n * base_of hex + d) 1114112
 add_same true n m d e = omega arith

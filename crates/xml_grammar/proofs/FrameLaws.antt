@@ -2,8 +2,8 @@
 use Rattle.std.proofs.Common.{◌≡◌, refl, sym, ap, ◌∙◌, ℕ, List, [], ◌∷◌, ◌++◌, map, reverse}
 use Rattle.std.proofs.lemmas.List.{map-append, reverse-append}
 use Rattle.xml_grammar.specs.Spells.{add_text}
-use Rattle.xml_grammar.specs.Machine.{append, Frame, flushed}
-use Rattle.xml_grammar.specs.Open.{frame_of, frames_of}
+use Rattle.xml_grammar.specs.Code.Machine.{append, Frame, flushed}
+use Rattle.xml_grammar.specs.Code.Open.{frame_of, frames_of}
 use Rattle.xml_grammar.specs.declared.machine.Frame.{Frame as FrameRead}
 use Rattle.xml_profile.specs.Forest.{Forest}
 use Rattle.xml_profile.specs.Forest.Forest.{End as Nothing, Text_then, Element_then}

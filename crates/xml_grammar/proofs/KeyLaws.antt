@@ -8,8 +8,8 @@ use Rattle.std.specs.Option.{option_cmp}
 use Rattle.std.specs.Ordering.{nat_cmp, is_eq, ordering_then}
 use Rattle.xml_grammar.specs.Characters.{same}
 use Rattle.xml_grammar.specs.Namespaces.{are_apart, names, same_name, same_space, Binding, declares, may_bind, may_declare}
-use Rattle.xml_grammar.specs.Keys.{name_of}
-use Rattle.xml_grammar.specs.Places.{binding_of}
+use Rattle.xml_grammar.specs.Code.Keys.{name_of}
+use Rattle.xml_grammar.specs.Code.Places.{binding_of}
 use Rattle.xml_grammar.specs.declared.scope.Binding.{Binding as BindingRead}
 use Rattle.xml_grammar.proofs.MeaningLaws.{bytes_same, same_sym}
 use Rattle.xml_profile.specs.declared.name.QName.{QName}

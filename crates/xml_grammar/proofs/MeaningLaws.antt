@@ -5,7 +5,7 @@ use Rattle.std.proofs.lemmas.Slice.Eq.{bytes_eq-Decides}
 use Rattle.xml_grammar.specs.Characters.{◌>>=◌, same, Parts, parts}
 use Rattle.xml_grammar.specs.Tokens.{Pair}
 use Rattle.xml_grammar.specs.Namespaces.{Binding, Spelled, Sorted, sort, sort_in, declared_by, attribute_name, attributes_of}
-use Rattle.xml_grammar.specs.Joining.{joined, sort_one}
+use Rattle.xml_grammar.specs.Code.Joining.{joined, sort_one}
 use Rattle.xml_grammar.proofs.StepLaws.{same_is, same_same}
 use Rattle.xml_profile.specs.declared.name.Attribute.{Attribute}
 use Rattle.xml_profile.specs.declared.name.QName.{QName}

@@ -2,8 +2,8 @@
 use Rattle.std.proofs.Common.{◌≡◌, refl, ap, ℕ, zero, suc, ◌-◌, ◌<◌, List, [], ◌∷◌, ◌++◌, Bool, true, false, Option, Some, None, append_assoc, append-nil, arith, codes, map}
 use Rattle.xml_grammar.specs.Characters.{◌>>=◌, given, strip_at, behind_white, begins_white}
 use Rattle.xml_grammar.specs.Tokens.{Pair}
-use Rattle.xml_grammar.specs.Reading.{Ending, with_pair, pair_at, pairs_at}
-use Rattle.xml_grammar.specs.Views.{with_pairs, pair_of}
+use Rattle.xml_grammar.specs.Code.Reading.{Ending, with_pair, pair_at, pairs_at}
+use Rattle.xml_grammar.specs.Code.Views.{with_pairs, pair_of}
 use Rattle.xml_grammar.specs.declared.markup.Pair.{Pair as PairRead}
 
 abbrev pub ending : List Pair → Bool → List ℕ → Ending

@@ -8,7 +8,7 @@ use Rattle.std.specs.Map.{update}
 use Rattle.std.specs.Str.{bytes_eq}
 use Rattle.xml_grammar.specs.Characters.{◌>>=◌, same}
 use Rattle.xml_grammar.specs.Namespaces.{Binding, or_else, lookup}
-use Rattle.xml_grammar.specs.Places.{Finds, HidesEach, held_of, last_of, place_in}
+use Rattle.xml_grammar.specs.Code.Places.{Finds, HidesEach, held_of, last_of, place_in}
 use Rattle.xml_grammar.specs.declared.scope.Held.{Held}
 use Rattle.xml_grammar.proofs.MeaningLaws.{bytes_same, same_sym}
 use Rattle.xml_grammar.proofs.StepLaws.{same_is, same_same}

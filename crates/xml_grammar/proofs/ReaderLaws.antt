@@ -5,14 +5,14 @@ use Rattle.std.specs.Str.{IsUtf8}
 use Rattle.at_base.specs.Chars.{is_xml_char}
 use Rattle.xml_grammar.specs.Tokens.{Token}
 use Rattle.xml_grammar.specs.Spells.{Document, Spells, body, line_ends}
-use Rattle.xml_grammar.specs.Reading.{next_at}
-use Rattle.xml_grammar.specs.Machine.{Frame, State, opening, advance}
-use Rattle.xml_grammar.specs.Whole.{finished}
-use Rattle.xml_grammar.specs.Shallow.{Reading, reading, read_with, shallow, cut_frames, cut_tree, levels_at}
+use Rattle.xml_grammar.specs.Code.Reading.{next_at}
+use Rattle.xml_grammar.specs.Code.Machine.{Frame, State, opening, advance}
+use Rattle.xml_grammar.specs.Code.Whole.{finished}
+use Rattle.xml_grammar.specs.Code.Shallow.{Reading, reading, read_with, shallow, cut_frames, cut_tree, levels_at}
 use Rattle.xml_grammar.specs.Limits.{IsWithin, levels_of, elements_of, widest_of}
-use Rattle.xml_grammar.specs.Found.{IsFound, Finds, ended_at, finish, Judged}
+use Rattle.xml_grammar.specs.Code.Found.{IsFound, Finds, ended_at, finish, Judged}
 use Rattle.xml_grammar.specs.Refusals.{IsShort, Reads, IsTooDeep, IsTooMany, Refuses, Answers}
-use Rattle.xml_grammar.specs.Open.{going}
+use Rattle.xml_grammar.specs.Code.Open.{going}
 use Rattle.xml_grammar.specs.declared.machine.Found.{Found}
 use Rattle.xml_grammar.specs.declared.reader.TreeRefusal.{TreeRefusal}
 use Rattle.xml_grammar.specs.declared.reader.TreeRefusal.TheVariants.{TooLong, NotUtf8, NotSpelled, TooDeep, TooMany, NoMemory}

@@ -6,8 +6,8 @@ use Rattle.xml_grammar.specs.Tokens.{Tag, Token}
 use Rattle.xml_grammar.specs.Tokens.Token.{Plain, Meant, Comment, Start, End}
 use Rattle.xml_grammar.specs.Namespaces.{Binding, Meaning, means}
 use Rattle.xml_grammar.specs.Spells.{add_text}
-use Rattle.xml_grammar.specs.Machine.{append, Frame, state, flushed, with_kid, closed, frame_of, begun, advance}
-use Rattle.xml_grammar.specs.Shallow.{kept_kid, shut, entered_by, entered, reading, read_on, cut, cut_frame, cut_frames, cut_tree, cut_state, open_levels, ended_levels, levels_at, shallow}
+use Rattle.xml_grammar.specs.Code.Machine.{append, Frame, state, flushed, with_kid, closed, frame_of, begun, advance}
+use Rattle.xml_grammar.specs.Code.Shallow.{kept_kid, shut, entered_by, entered, reading, read_on, cut, cut_frame, cut_frames, cut_tree, cut_state, open_levels, ended_levels, levels_at, shallow}
 use Rattle.xml_grammar.specs.Limits.{levels}
 use Rattle.xml_profile.specs.Forest.{Forest}
 use Rattle.xml_profile.specs.Forest.Forest.{End as Nothing, Text_then, Element_then}

@@ -1,7 +1,7 @@
 -- A start tag from its parts.
 use Rattle.std.proofs.Common.{◌≡◌, ap, ◌∙◌, subst, ℕ, suc, ◌+◌, List, Option, Some, length, codes, add-one}
 use Rattle.xml_grammar.specs.Characters.{◌>>=◌, strip_at, name_at}
-use Rattle.xml_grammar.specs.Reading.{Ending, pairs_at, tagged, start_at}
+use Rattle.xml_grammar.specs.Code.Reading.{Ending, pairs_at, tagged, start_at}
 
 pub start_gives : (cs inside name behind : List ℕ) (o : Option Ending) → strip_at (codes "<") cs ≡ Some inside → name_at inside ≡ Some (name, behind) → pairs_at (length behind + 1) behind ≡ o
     → start_at cs ≡ tagged name o

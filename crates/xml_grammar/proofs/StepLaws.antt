@@ -9,7 +9,7 @@ use Rattle.xml_grammar.specs.Spells.{add_text, said, Content, Epilog, Document, 
 use Rattle.xml_profile.specs.Forest.{Forest}
 use Rattle.xml_profile.specs.Forest.Forest.{End as Nothing, Text_then, Element_then}
 use Rattle.xml_grammar.proofs.TokenLaws.{one_token, next_complete, bind_some, nat_eq_is, nat_eq_same}
-use Rattle.xml_grammar.specs.Machine.{append, Frame, State, state, flushed, with_kid, closed, frame_of, begun, plain_on, meant_on, start_on, end_on, advance}
+use Rattle.xml_grammar.specs.Code.Machine.{append, Frame, State, state, flushed, with_kid, closed, frame_of, begun, plain_on, meant_on, start_on, end_on, advance}
 use Rattle.xml_profile.specs.declared.tree.Tree.{Tree}
 use Rattle.xml_profile.specs.declared.name.QName.{QName}
 use Rattle.xml_profile.specs.declared.name.Attribute.{Attribute}

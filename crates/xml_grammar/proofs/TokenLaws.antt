@@ -7,7 +7,7 @@ use Rattle.std.proofs.lemmas.Bool.{eqb-true, eq-eqb}
 use Rattle.xml_grammar.specs.Characters.{◌>>=◌, found, given, is_white, is_quote, strip_at, behind_white, begins_white, name_at, parts, is_name_char, name_before, until}
 use Rattle.xml_grammar.specs.Tokens.{Pair, Tag, Token, TokenAt, StartAt, PairAt, Pairs, Value, reference_at, is_plain, spaced, end_at, section_at, comment_at, numbered, digits_from, hexadecimal, decimal_digit}
 use Rattle.xml_grammar.specs.Tokens.Token.{Plain, Meant, Comment, Start, End}
-use Rattle.xml_grammar.specs.Reading.{with_front, piece_of, piece_at, value_behind, value_at, value_in, valued, pair_at, Ending, with_pair, pairs_at, tagged, start_at, end_token, section_token, comment_token, reference_token, plain_token, markup_at, next_at}
+use Rattle.xml_grammar.specs.Code.Reading.{with_front, piece_of, piece_at, value_behind, value_at, value_in, valued, pair_at, Ending, with_pair, pairs_at, tagged, start_at, end_token, section_token, comment_token, reference_token, plain_token, markup_at, next_at}
 
 pub nat_eq_same : (c : ℕ) → nat_eq c c ≡ true
 nat_eq_same c = eq-eqb c c refl

@@ -2,7 +2,7 @@
 use Rattle.std.proofs.Common.{◌≡◌, refl, sym, ap, ◌∙◌, subst, ℕ, suc, ◌+◌, ◌<◌, List, [], ◌∷◌, ◌++◌, Option, Some, None, take, drop, length, get_or, append_assoc, append-nil, ◌-◌, length-drop, drop-cons, take-suc, add-one}
 use Rattle.std.proofs.Math.Seq.{take-length}
 use Rattle.xml_grammar.specs.Characters.{◌>>=◌, found, strip_at, until}
-use Rattle.xml_grammar.specs.Reading.{with_front}
+use Rattle.xml_grammar.specs.Code.Reading.{with_front}
 
 until_yes : (word front : List ℕ) (c : ℕ) (more rest : List ℕ) → strip_at word (c ∷ more) ≡ Some rest → with_front front (until word (c ∷ more)) ≡ Some (front, rest)
 until_yes word front c more rest e = ap (λ o. with_front front (found o (λ rest. Some ([], rest)) (until word more >>= (λ p. Some (c ∷ p.0, p.1))))) e ∙ ap (λ v. Some (v, rest)) (append-nil front)

@@ -1,7 +1,7 @@
 -- A value, one piece further.
 use Rattle.std.proofs.Common.{◌≡◌, refl, sym, ap, ◌∙◌, ℕ, zero, suc, ◌-◌, ◌<◌, List, [], ◌++◌, Option, Some, None, append_assoc, append-nil, arith}
 use Rattle.xml_grammar.specs.Characters.{◌>>=◌}
-use Rattle.xml_grammar.specs.Reading.{with_front, piece_at, value_behind, value_at}
+use Rattle.xml_grammar.specs.Code.Reading.{with_front, piece_at, value_behind, value_at}
 
 value_with : (n quote : ℕ) (rest : List ℕ) (o : Option (Option (List ℕ) × List ℕ)) → piece_at quote rest ≡ o → value_at (suc n) quote rest ≡ (o >>= (λ p. value_behind p.0 p.1 (λ r. value_at n quote r)))
 value_with n quote rest o e = ap (λ o. o >>= (λ p. value_behind p.0 p.1 (λ r. value_at n quote r))) e

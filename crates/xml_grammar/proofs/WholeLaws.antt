@@ -6,9 +6,9 @@ use Rattle.xml_grammar.specs.Tokens.{Pair, Token, TokenAt, Pairs}
 use Rattle.xml_grammar.specs.Tokens.Token.{Plain, Comment, Start, End}
 use Rattle.xml_grammar.specs.Namespaces.{Binding}
 use Rattle.xml_grammar.specs.Spells.{Content, Epilog, Document, Spells, body, line_ends}
-use Rattle.xml_grammar.specs.Reading.{next_at}
-use Rattle.xml_grammar.specs.Machine.{Frame, State, opening, advance}
-use Rattle.xml_grammar.specs.Whole.{finished, read_from, read_text}
+use Rattle.xml_grammar.specs.Code.Reading.{next_at}
+use Rattle.xml_grammar.specs.Code.Machine.{Frame, State, opening, advance}
+use Rattle.xml_grammar.specs.Code.Whole.{finished, read_from, read_text}
 use Rattle.xml_grammar.proofs.TokenLaws.{next_complete, bind_some, strip_length, pair_shorter, begins_length, white_length, name_length, reference_shorter}
 use Rattle.xml_grammar.proofs.StepLaws.{Completes, Leads, goes_end, no_token, step_on, step_back}
 use Rattle.xml_profile.specs.declared.tree.Tree.{Tree}

@@ -1,18 +1,11 @@
+-- What public clauses speak of: the grammar, the limits and the refusals, in reading order.
 pub mod Characters
 pub mod Tokens
 pub mod Namespaces
 pub mod Spells
-pub mod Reading
-pub mod Machine
-pub mod Whole
-pub mod Views
-pub mod Digits
-pub mod Examples
 pub mod Limits
-pub mod Shallow
-pub mod Places
-pub mod Keys
-pub mod Open
-pub mod Joining
 pub mod Refusals
-pub mod Found
+pub mod Samples
+pub mod Examples
+-- What serves clauses of private functions alone: the reader's own steps. Proofs tie it to the grammar, so no reader needs it.
+pub mod Code

@@ -1,13 +1,13 @@
 //! Words, white space, names and references: what begins at a place of a text whose line ends are read.
 
 ghost use Rattle.std.specs.Prelude.{◌≡◌, ℕ, Option, option_map, encode_utf8, not, nat_eq, length, ◌≤◌, ◌<◌, IfSome, false};
-ghost use Rattle.xml_grammar.specs.Views.{parts_of};
+ghost use Rattle.xml_grammar.specs.Code.Views.{parts_of};
 ghost use Rattle.std.specs.List.{prefix_len};
 ghost use Rattle.xml_grammar.specs.Characters.{same, is_white, is_digit, is_letter, begins_part, continues_part, is_name_char, is_quote, strip_at, behind_white, begins_white, until, is_part, parts, name_at};
 ghost use Rattle.std.specs.List.{list_all};
 ghost use Rattle.xml_grammar.specs.Tokens.{is_plain, spaced, hexadecimal, decimal_digit, reference_at, numbered};
-ghost use Rattle.xml_grammar.specs.Digits.{digit_in, add_digit, capped_from};
-ghost use Rattle.xml_grammar.specs.Reading.{piece_at};
+ghost use Rattle.xml_grammar.specs.Code.Digits.{digit_in, add_digit, capped_from};
+ghost use Rattle.xml_grammar.specs.Code.Reading.{piece_at};
 
 use at_base::well_formed::is_xml_char;
 

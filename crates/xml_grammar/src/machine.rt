@@ -3,12 +3,12 @@
 
 ghost use Rattle.std.specs.Prelude.{◌≡◌, [], string_bytes, option_map, IfOk, OnOk};
 ghost use Rattle.xml_profile.specs.Children.{forest_of};
-ghost use Rattle.xml_grammar.specs.Machine.{flushed, opening, state};
-ghost use Rattle.xml_grammar.specs.Found.{finish};
-ghost use Rattle.xml_grammar.specs.Shallow.{entered_by, flushed_in, flushed_reading, kept_tree, shut, reading, read_with};
+ghost use Rattle.xml_grammar.specs.Code.Machine.{flushed, opening, state};
+ghost use Rattle.xml_grammar.specs.Code.Found.{finish};
+ghost use Rattle.xml_grammar.specs.Code.Shallow.{entered_by, flushed_in, flushed_reading, kept_tree, shut, reading, read_with};
 ghost use Rattle.xml_grammar.specs.Tokens.Token.{Plain, Meant, Start, End};
-ghost use Rattle.xml_grammar.specs.Views.{tag_of, token_of};
-ghost use Rattle.xml_grammar.specs.Open.{bindings_of, frame_of, frames_of, reading_of, going};
+ghost use Rattle.xml_grammar.specs.Code.Views.{tag_of, token_of};
+ghost use Rattle.xml_grammar.specs.Code.Open.{bindings_of, frame_of, frames_of, reading_of, going};
 
 use crate::lexing::{is_same, is_white};
 use crate::markup::{Tag, Token};

@@ -2,8 +2,8 @@
 
 ghost use Rattle.std.specs.Prelude.{◌≡◌, ℕ, ◌+◌, length, IfOk, option_map, encode_utf8_all};
 ghost use Rattle.xml_grammar.specs.Tokens.{end_at, section_at, comment_at, reference_at};
-ghost use Rattle.xml_grammar.specs.Reading.{value_at, value_in, pair_at, pairs_at, start_at, markup_at, section_token, reference_token, next_at};
-ghost use Rattle.xml_grammar.specs.Views.{pair_of, ending_of, token_of};
+ghost use Rattle.xml_grammar.specs.Code.Reading.{value_at, value_in, pair_at, pairs_at, start_at, markup_at, section_token, reference_token, next_at};
+ghost use Rattle.xml_grammar.specs.Code.Views.{pair_of, ending_of, token_of};
 
 use crate::lexing::{
     begins_white, is_quote, read_name, read_piece, read_reference, read_until, skip_white, strip,
@@ -78,7 +78,7 @@ fn read_quoted<'a>(alloc: Global, cs: &'a [char]) -> Result<Option<(Text, &'a [c
 }
 
 /// An attribute or a declaration (XML 1.0, section 3.1).
-#[tactic(auto, unfolding(crate::specs::Reading::pair_at))]
+#[tactic(auto, unfolding(crate::specs::Code::Reading::pair_at))]
 fn read_pair<'a>(
     alloc: Global,
     cs: &'a [char],
@@ -140,7 +140,7 @@ fn read_pairs<'a>(alloc: Global, cs: &'a [char]) -> Result<Option<Ending<'a>>, A
     Ok(None)
 }
 
-#[tactic(auto, unfolding(crate::specs::Reading::start_at))]
+#[tactic(auto, unfolding(crate::specs::Code::Reading::start_at))]
 fn read_start<'a>(
     alloc: Global,
     cs: &'a [char],
@@ -229,7 +229,7 @@ fn read_section_token<'a>(
 }
 
 /// What begins with `<`.
-#[tactic(auto, unfolding(crate::specs::Reading::markup_at))]
+#[tactic(auto, unfolding(crate::specs::Code::Reading::markup_at))]
 fn read_markup<'a>(
     alloc: Global,
     cs: &'a [char],

@@ -2,10 +2,10 @@
 
 ghost use Rattle.std.specs.Prelude.{◌≡◌, [], map, option_map, IfOk, OnOk};
 ghost use Rattle.xml_grammar.specs.Namespaces.{defaulted, lookup, sort, element_name, attribute_name, attributes_of, are_apart, means};
-ghost use Rattle.xml_grammar.specs.Keys.{name_of};
-ghost use Rattle.xml_grammar.specs.Views.{parts_of, pair_of, tag_of};
-ghost use Rattle.xml_grammar.specs.Open.{bindings_of, spelled_of, sorted_of, meaning_of};
-ghost use Rattle.xml_grammar.specs.Joining.{joined, sort_one, declared_prefix, prefixed_name};
+ghost use Rattle.xml_grammar.specs.Code.Keys.{name_of};
+ghost use Rattle.xml_grammar.specs.Code.Views.{parts_of, pair_of, tag_of};
+ghost use Rattle.xml_grammar.specs.Code.Open.{bindings_of, spelled_of, sorted_of, meaning_of};
+ghost use Rattle.xml_grammar.specs.Code.Joining.{joined, sort_one, declared_prefix, prefixed_name};
 
 use crate::declaration::is_word;
 use crate::lexing::{Parts, split_name};

@@ -5,7 +5,7 @@ ghost use Rattle.std.specs.Option.{option_copied};
 ghost use Rattle.std.specs.Map.{update};
 ghost use Rattle.std.specs.Str.{bytes_eq};
 ghost use Rattle.xml_grammar.specs.Namespaces.{defaulted, is_empty, lookup, may_bind, may_declare, space_of, xml_space};
-ghost use Rattle.xml_grammar.specs.Places.{Finds, HidesEach, binding_of, place_in};
+ghost use Rattle.xml_grammar.specs.Code.Places.{Finds, HidesEach, binding_of, place_in};
 
 use crate::declaration::is_word;
 use crate::lexing::is_same_text;
@@ -58,7 +58,7 @@ fn restore<'a>(latest: &mut BTreeMap<&'a [char], usize>, prefix: &'a [char], hid
 }
 
 impl<'a> Scope<'a> {
-    ghost use Rattle.xml_grammar.specs.Open.{bindings_of};
+    ghost use Rattle.xml_grammar.specs.Code.Open.{bindings_of};
 
     pub fn new(alloc: Global) -> Result<Scope<'a>, AllocError>
         ensures { IfOk result (λ s. bindings_of s ≡ []) }

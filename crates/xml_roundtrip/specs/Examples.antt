@@ -8,9 +8,9 @@ use Rattle.xml_profile.specs.Forest.Forest.{End, Text_then, Element_then}
 use Rattle.xml_profile.specs.Canonical.{canonical_text}
 use Rattle.xml_profile.specs.Spellable.{can_be_spelled}
 use Rattle.xml_grammar.specs.Namespaces.{means}
-use Rattle.xml_grammar.specs.Reading.{pair_at, start_at, markup_at}
+use Rattle.xml_grammar.specs.Code.Reading.{pair_at, start_at, markup_at}
 use Rattle.xml_grammar.specs.Spells.{declaration_at, body, line_ends}
-use Rattle.xml_grammar.specs.Whole.{read_text}
+use Rattle.xml_grammar.specs.Code.Whole.{read_text}
 
 abbrev plain : List ℕ → QName
 plain local = record { space = None; local = local }

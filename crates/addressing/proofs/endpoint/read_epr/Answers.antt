@@ -3,4 +3,4 @@ use Rattle.addressing.proofs.endpoint.read_epr.Goals as goal
 
 pub returns : goal.returns
 returns c =
-    from_parts c.joined.result c.args.tree.now c.in_ok-parts.parts _ _ _ c.in_ok-parts.ensures c.one-address.ensures c.one-params.ensures c.one-metadata.ensures c.joined.ensures
+    from_parts c.joined.result c.args.tree.now _ _ _ c.child-address.ensures c.child-params.ensures c.child-metadata.ensures c.joined.ensures

@@ -1,8 +1,8 @@
-use Rattle.std.proofs.Common.{◌≡◌, ◌++◌, drop}
-use Rattle.world_laws.specs.Steps.{happened_by}
+use Rattle.std.proofs.Common.{◌≡◌, ◌++◌, drop, map}
+use Rattle.at_model.specs.World.{happened_at}
 use Rattle.world_laws.proofs.posting.push_effects.Given as goal
 
-abbrev pub invariant-loop-outs : goal.invariant-loop-outs
-invariant-loop-outs l =
-    l.happened.items ++ happened_by l.number (drop l.outs-index l.steps)
-    ≡ l.fn.happened.items ++ happened_by l.number l.steps
+abbrev pub invariant-loop-effect : goal.invariant-loop-effect
+invariant-loop-effect l =
+    l.happened.items ++ map (happened_at l.number) (drop l.effect-index l.effects)
+    ≡ l.fn.happened.items ++ map (happened_at l.number) l.effects

@@ -1,8 +1,9 @@
-use Rattle.std.proofs.Common.{◌≡◌, ◌++◌, drop}
-use Rattle.world_laws.specs.Steps.{posted_by}
+use Rattle.std.proofs.Common.{◌≡◌, ◌++◌, map}
+use Rattle.std.specs.Vec.Iter.{into_iter_items}
+use Rattle.world_laws.specs.Moves.{posted_at}
 use Rattle.world_laws.proofs.posting.push_posts.Given as goal
 
-abbrev pub invariant-loop-outs : goal.invariant-loop-outs
-invariant-loop-outs l =
-    l.posted.items ++ posted_by l.number l.nodes (drop l.outs-index l.steps)
-    ≡ l.fn.posted.items ++ posted_by l.number l.nodes l.steps
+abbrev pub invariant-loop-post : goal.invariant-loop-post
+invariant-loop-post l =
+    l.posted.items ++ map (posted_at l.number l.nodes) (into_iter_items l.post-iterator)
+    ≡ l.fn.posted.items ++ map (posted_at l.number l.nodes) l.fn.posts

@@ -10,7 +10,7 @@ use Rattle.world_laws.proofs.Running.{none_moves, no_steps, nth_past, ok_more, o
 use Rattle.world_laws.proofs.scene.happen_at.Goals as goal
 use Rattle.world_laws.proofs.scene.happen_at.Goals.{then-number-eq0-via-then-number-eq0, then-number-eq0-via-else-number-eq0+then-as_slice-number}
 
-gone : (c : goal.After-new) → nth c.args.number c.args.nodes.now.items ≡ None
+gone : (c : goal.After-nothing) → nth c.args.number c.args.nodes.now.items ≡ None
 gone c = elim c.then-number-eq0.branch [
   | then-number-eq0-via-then-number-eq0 w ↦ rw w.if-number-eq0.true (nth_none c.args.nodes.now.items)
   | then-number-eq0-via-else-number-eq0+then-as_slice-number w ↦
@@ -22,9 +22,9 @@ pub returns-then-number-eq0-clause-nodes : goal.returns-then-number-eq0-clause-n
 returns-then-number-eq0-clause-nodes c =
     none_moves (event_of c.args.event.now) c.args.posted.now c.args.number c.args.nodes.now.items (gone c)
 
-pub returns-then-number-eq0-clause-steps : goal.returns-then-number-eq0-clause-steps
-returns-then-number-eq0-clause-steps c =
-    no_steps (event_of c.args.event.now) c.args.posted.now c.args.number c.args.nodes.now.items c.new.result (gone c) c.new.ensures
+pub returns-then-number-eq0-clause-moved : goal.returns-then-number-eq0-clause-moved
+returns-then-number-eq0-clause-moved c =
+    no_steps (event_of c.args.event.now) c.args.posted.now c.args.number c.args.nodes.now.items c.nothing.result (gone c) c.nothing.ensures
 
 pub happen_in-requires-clause-ready : goal.happen_in-requires-clause-ready
 happen_in-requires-clause-ready c = λ x e. all_at IsReady c.args.nodes.now.items (c.args.number - 1) x c.requires.ready e
@@ -43,11 +43,11 @@ returns-clause-nodes c = elim (slice_get_cases c.args.nodes.now.items (c.args.nu
   | inr p ↦ let within = inside c in let past = p.0 in absurd (omega (arith, within, past))
 ]
 
-pub returns-clause-steps : goal.returns-clause-steps
-returns-clause-steps c = elim (slice_get_cases c.args.nodes.now.items (c.args.number - 1)).1 [
+pub returns-clause-moved : goal.returns-clause-moved
+returns-clause-moved c = elim (slice_get_cases c.args.nodes.now.items (c.args.number - 1)).1 [
   | inl p ↦ ok_more _ _ c.happen_in.result
-      (λ steps h. one_steps (event_of c.args.event.now) c.args.posted.now c.args.number c.args.nodes.now.items p.0 steps
+      (λ m h. one_steps (event_of c.args.event.now) c.args.posted.now c.args.number c.args.nodes.now.items p.0 m
       c.if-number-eq0.false p.2 h)
-      (c.happen_in.ensures.steps p.0 p.2)
+      (c.happen_in.ensures.moved p.0 p.2)
   | inr p ↦ let within = inside c in let past = p.0 in absurd (omega (arith, within, past))
 ]

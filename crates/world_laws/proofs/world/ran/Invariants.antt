@@ -1,11 +1,5 @@
 use Rattle.std.proofs.Common.{◌≡◌, ◌++◌, drop}
-use Rattle.std.specs.List.{AllByRecursion}
-use Rattle.world_laws.specs.Events.{event_of}
-use Rattle.world_laws.specs.Steps.{IsCalm}
 use Rattle.world_laws.proofs.world.ran.Given as goal
 
 abbrev pub invariant-loop-event : goal.invariant-loop-event
-invariant-loop-event l =
-    (l.world.count ≡ l.nodes)
-    × (l.world.events ++ drop l.event-index l.events ≡ l.events)
-    × AllByRecursion (λ e. IsCalm (event_of e)) (drop l.event-index l.events)
+invariant-loop-event l = (l.world.count ≡ l.nodes) × (l.world.events ++ drop l.event-index l.events ≡ l.events)

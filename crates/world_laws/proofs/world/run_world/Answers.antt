@@ -1,10 +1,25 @@
 use Rattle.std.specs.Prelude.{map}
 use Rattle.std.proofs.Common.{arith, subst, sym}
-use Rattle.model_laws.specs.Agreement.{HasOneSuperior}
+use Rattle.model_laws.specs.Agreement.{HasOneSuperior, IsAgreed, IsBehindAnswers, IsToldTruly}
 use Rattle.world_laws.specs.Events.{event_of}
 use Rattle.world_laws.proofs.world.run_world.Goals as goal
 
 pub returns-clause-superior : goal.returns-clause-superior
 returns-clause-superior c =
     subst HasOneSuperior (sym c.in_ok-world.ensures.world)
-    (c.enlists_under_one.ensures c.args.nodes (map event_of c.args.events.now) (omega (arith, c.requires.nodes.1)))
+    (c.laws.ensures.superior c.args.nodes (map event_of c.args.events.now) (omega (arith, c.requires.nodes.1)))
+
+pub returns-clause-agreed : goal.returns-clause-agreed
+returns-clause-agreed c =
+    subst IsAgreed (sym c.in_ok-world.ensures.world)
+    (c.laws.ensures.agreement.agreed c.args.nodes (map event_of c.args.events.now) (omega (arith, c.requires.nodes.1)))
+
+pub returns-clause-behind : goal.returns-clause-behind
+returns-clause-behind c =
+    subst IsBehindAnswers (sym c.in_ok-world.ensures.world)
+    (c.laws.ensures.agreement.behind c.args.nodes (map event_of c.args.events.now) (omega (arith, c.requires.nodes.1)))
+
+pub returns-clause-told : goal.returns-clause-told
+returns-clause-told c =
+    subst IsToldTruly (sym c.in_ok-world.ensures.world)
+    (c.laws.ensures.agreement.told c.args.nodes (map event_of c.args.events.now) (omega (arith, c.requires.nodes.1)))

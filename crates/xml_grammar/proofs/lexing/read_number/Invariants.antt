@@ -1,5 +1,5 @@
 use Rattle.std.proofs.Common.{◌≡◌, ◌≤◌, ◌+◌, length, false}
-use Rattle.xml_grammar.specs.Digits.{capped_from}
+use Rattle.xml_grammar.specs.Code.Digits.{capped_from}
 use Rattle.xml_grammar.proofs.lexing.read_number.Given as goal
 
 abbrev pub invariant-loop : goal.invariant-loop

@@ -1,6 +1,6 @@
 use Rattle.std.proofs.Common.{◌≡◌, ◌≤◌, ◌-◌, length, drop, take}
 use Rattle.xml_grammar.specs.Characters.{until}
-use Rattle.xml_grammar.specs.Reading.{with_front}
+use Rattle.xml_grammar.specs.Code.Reading.{with_front}
 use Rattle.xml_grammar.proofs.lexing.read_until.Given as goal
 
 abbrev pub invariant-loop-n : goal.invariant-loop-n

@@ -1,5 +1,5 @@
 use Rattle.std.proofs.Common.{◌∙◌, sym, string_bytes}
-use Rattle.xml_grammar.specs.Open.{frame_of}
+use Rattle.xml_grammar.specs.Code.Open.{frame_of}
 use Rattle.xml_grammar.proofs.FrameLaws.{no_text_pushed}
 use Rattle.xml_grammar.proofs.Turns.{no_items}
 use Rattle.xml_grammar.proofs.machine.with_text.Goals as goal

@@ -1,7 +1,7 @@
 use Rattle.std.proofs.Common.{◌≡◌, sym, ap, ◌∙◌, subst, Some, None, ◌-◌, ◌+◌, length, option_map, map, codes, true}
 use Rattle.xml_grammar.specs.Characters.{strip_at, behind_white, begins_white}
-use Rattle.xml_grammar.specs.Reading.{pair_at, pairs_at}
-use Rattle.xml_grammar.specs.Views.{with_pairs, pair_of}
+use Rattle.xml_grammar.specs.Code.Reading.{pair_at, pairs_at}
+use Rattle.xml_grammar.specs.Code.Views.{with_pairs, pair_of}
 use Rattle.xml_grammar.proofs.PairLaws.{pairs_go, map_push}
 use Rattle.xml_grammar.proofs.markup.read_pairs.Goals as goal
 

@@ -1,6 +1,6 @@
 use Rattle.std.proofs.Common.{◌≡◌, ◌+◌, length, map}
-use Rattle.xml_grammar.specs.Reading.{pairs_at}
-use Rattle.xml_grammar.specs.Views.{with_pairs, pair_of}
+use Rattle.xml_grammar.specs.Code.Reading.{pairs_at}
+use Rattle.xml_grammar.specs.Code.Views.{with_pairs, pair_of}
 use Rattle.xml_grammar.proofs.markup.read_pairs.Given as goal
 
 abbrev pub invariant-loop-left : goal.invariant-loop-left

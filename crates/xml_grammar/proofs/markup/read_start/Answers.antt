@@ -1,5 +1,5 @@
 use Rattle.std.proofs.Common.{sym, ap, ◌∙◌, Some, None, option_map}
-use Rattle.xml_grammar.specs.Views.{ending_of}
+use Rattle.xml_grammar.specs.Code.Views.{ending_of}
 use Rattle.xml_grammar.proofs.StartLaws.{start_gives}
 use Rattle.xml_grammar.proofs.markup.read_start.Goals as goal
 

@@ -1,5 +1,5 @@
 use Rattle.std.proofs.Common.{◌≡◌, sym, ap, ◌∙◌, subst, Some, ◌-◌, ◌+◌, length, option_map, encode_utf8, string_bytes}
-use Rattle.xml_grammar.specs.Reading.{with_front, piece_at, value_at}
+use Rattle.xml_grammar.specs.Code.Reading.{with_front, piece_at, value_at}
 use Rattle.xml_grammar.proofs.ValueLaws.{value_goes}
 use Rattle.xml_grammar.proofs.markup.read_value.Goals as goal
 

@@ -1,5 +1,5 @@
 use Rattle.std.proofs.Common.{◌≡◌, ◌+◌, length, string_bytes}
-use Rattle.xml_grammar.specs.Reading.{with_front, value_at}
+use Rattle.xml_grammar.specs.Code.Reading.{with_front, value_at}
 use Rattle.xml_grammar.proofs.markup.read_value.Given as goal
 
 abbrev pub invariant-loop-left : goal.invariant-loop-left

@@ -1,6 +1,6 @@
 use Rattle.std.proofs.Common.{◌≡◌, sym, ap, ◌∙◌, true, false, drop, arith, ◌-◌}
 use Rattle.xml_grammar.specs.Namespaces.{are_apart, names}
-use Rattle.xml_grammar.specs.Keys.{name_of}
+use Rattle.xml_grammar.specs.Code.Keys.{name_of}
 use Rattle.xml_grammar.proofs.Turns.{one_more_behind, was_in, was_out}
 use Rattle.xml_grammar.proofs.KeyLaws.{has_name, name_added, apart_added, not_apart, not_apart_behind}
 use Rattle.xml_profile.specs.declared.name.Attribute.{Attribute}

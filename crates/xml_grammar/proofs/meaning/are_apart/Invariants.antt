@@ -1,6 +1,6 @@
 use Rattle.std.proofs.Common.{◌≡◌, ◌≤◌, drop, length, true, ℕ, List, Option, Bor}
 use Rattle.xml_grammar.specs.Namespaces.{are_apart, names}
-use Rattle.xml_grammar.specs.Keys.{name_of}
+use Rattle.xml_grammar.specs.Code.Keys.{name_of}
 use Rattle.xml_grammar.proofs.KeyLaws.{has_name}
 use Rattle.xml_grammar.proofs.meaning.are_apart.Given as goal
 

@@ -2,7 +2,7 @@ use Rattle.std.proofs.Common.{sym, ap, ◌∙◌, ◌∷◌, [], map, Some}
 use Rattle.std.proofs.lemmas.List.{map-append}
 use Rattle.std.specs.Vec.Iter.{into_iter_items}
 use Rattle.xml_grammar.specs.Namespaces.{attributes_of}
-use Rattle.xml_grammar.specs.Open.{bindings_of, spelled_of}
+use Rattle.xml_grammar.specs.Code.Open.{bindings_of, spelled_of}
 use Rattle.xml_grammar.proofs.Turns.{turn_all, turn_next}
 use Rattle.xml_grammar.proofs.MeaningLaws.{attributes_more, attributes_stop}
 use Rattle.xml_grammar.proofs.meaning.attributes_of.Goals as goal

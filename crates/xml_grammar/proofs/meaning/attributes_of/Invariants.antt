@@ -1,7 +1,7 @@
 use Rattle.std.proofs.Common.{◌≡◌, ◌++◌, Some, map}
 use Rattle.std.specs.Vec.Iter.{into_iter_items}
 use Rattle.xml_grammar.specs.Namespaces.{attributes_of}
-use Rattle.xml_grammar.specs.Open.{bindings_of, spelled_of}
+use Rattle.xml_grammar.specs.Code.Open.{bindings_of, spelled_of}
 use Rattle.xml_grammar.proofs.meaning.attributes_of.Given as goal
 
 abbrev pub invariant-loop-attribute : goal.invariant-loop-attribute

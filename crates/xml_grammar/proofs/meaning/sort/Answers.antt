@@ -2,8 +2,8 @@ use Rattle.std.proofs.Common.{sym, ap, ◌∙◌, ◌∷◌, [], map, Some, opti
 use Rattle.std.proofs.lemmas.List.{map-append}
 use Rattle.std.specs.Vec.Iter.{into_iter_items}
 use Rattle.xml_grammar.specs.Namespaces.{sort}
-use Rattle.xml_grammar.specs.Views.{pair_of, parts_of}
-use Rattle.xml_grammar.specs.Open.{sorted_of}
+use Rattle.xml_grammar.specs.Code.Views.{pair_of, parts_of}
+use Rattle.xml_grammar.specs.Code.Open.{sorted_of}
 use Rattle.xml_grammar.proofs.Turns.{turn_all, turn_next}
 use Rattle.xml_grammar.proofs.MeaningLaws.{sort_more, sort_stops}
 use Rattle.xml_grammar.proofs.meaning.sort.Goals as goal

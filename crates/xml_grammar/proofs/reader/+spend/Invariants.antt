@@ -1,7 +1,7 @@
 use Rattle.std.proofs.Common.{◌≡◌, ◌≤◌, drop}
 use Rattle.xml_profile.specs.Children.{forest_of, nodes}
 use Rattle.xml_grammar.specs.Limits.{elements}
-use Rattle.xml_grammar.specs.Found.{spent}
+use Rattle.xml_grammar.specs.Code.Found.{spent}
 use Rattle.xml_grammar.proofs.reader.+spend.Given as goal
 
 abbrev pub decreases-spend : goal.decreases-spend

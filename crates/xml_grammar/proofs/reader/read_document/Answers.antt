@@ -1,8 +1,8 @@
 use Rattle.std.proofs.Common.{◌≡◌, sym, ap, ◌∙◌, subst, [], option_map}
-use Rattle.xml_grammar.specs.Shallow.{read_with}
-use Rattle.xml_grammar.specs.Views.{token_of}
-use Rattle.xml_grammar.specs.Open.{reading_of}
-use Rattle.xml_grammar.specs.Found.{Finds}
+use Rattle.xml_grammar.specs.Code.Shallow.{read_with}
+use Rattle.xml_grammar.specs.Code.Views.{token_of}
+use Rattle.xml_grammar.specs.Code.Open.{reading_of}
+use Rattle.xml_grammar.specs.Code.Found.{Finds}
 use Rattle.xml_grammar.proofs.ReaderLaws.{Reaches, reaches_first, reaches_next, reaches_not, reaches_none, reaches_end, next_shorter, stops, goes_on}
 use Rattle.xml_grammar.proofs.Turns.{no_items, some_items}
 use Rattle.xml_grammar.proofs.reader.read_document.Goals as goal

@@ -1,5 +1,5 @@
 use Rattle.std.proofs.Common.{length}
-use Rattle.xml_grammar.specs.Open.{reading_of}
+use Rattle.xml_grammar.specs.Code.Open.{reading_of}
 use Rattle.xml_grammar.proofs.ReaderLaws.{Reaches}
 use Rattle.xml_grammar.proofs.reader.read_document.Given as goal
 

@@ -2,7 +2,7 @@ use Rattle.std.proofs.Common.{sym, ap, ◌∙◌, subst}
 use Rattle.std.specs.List.{list_all}
 use Rattle.at_base.specs.Chars.{is_xml_char}
 use Rattle.xml_grammar.specs.Spells.{body, line_ends}
-use Rattle.xml_grammar.specs.Found.{Finds}
+use Rattle.xml_grammar.specs.Code.Found.{Finds}
 use Rattle.xml_grammar.proofs.ReaderLaws.{text_ok, text_err, finds_found}
 use Rattle.xml_grammar.proofs.reader.read_text.Goals as goal
 

@@ -1,6 +1,6 @@
 use Rattle.std.proofs.Common.{◌≡◌, refl, sym, ap, ◌∙◌, true, false, map, drop, arith, ◌-◌}
 use Rattle.xml_grammar.specs.Namespaces.{declares, may_declare}
-use Rattle.xml_grammar.specs.Places.{binding_of}
+use Rattle.xml_grammar.specs.Code.Places.{binding_of}
 use Rattle.xml_grammar.proofs.Turns.{one_more_behind, was_in, was_out}
 use Rattle.xml_grammar.proofs.KeyLaws.{has_prefix, prefix_added, may_add, declared_twice, may_not_bind, may_not_behind}
 use Rattle.xml_grammar.proofs.scope.may_declare.Goals as goal

@@ -1,6 +1,6 @@
 use Rattle.std.proofs.Common.{◌≡◌, ◌≤◌, drop, length, map, true, ℕ, List, Bor}
 use Rattle.xml_grammar.specs.Namespaces.{may_declare, declares}
-use Rattle.xml_grammar.specs.Places.{binding_of}
+use Rattle.xml_grammar.specs.Code.Places.{binding_of}
 use Rattle.xml_grammar.proofs.KeyLaws.{has_prefix}
 use Rattle.xml_grammar.proofs.scope.may_declare.Given as goal
 

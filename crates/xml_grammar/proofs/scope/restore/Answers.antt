@@ -5,7 +5,7 @@ use Rattle.std.specs.Cmp.Lexicographic.{slice_cmp}
 use Rattle.std.specs.Map.{update}
 use Rattle.std.specs.Ordering.{nat_cmp}
 use Rattle.std.specs.Str.{bytes_eq}
-use Rattle.xml_grammar.specs.Places.{place_in}
+use Rattle.xml_grammar.specs.Code.Places.{place_in}
 use Rattle.xml_grammar.proofs.scope.restore.Goals as goal
 
 put_back : {E : Type 0} (r : Result (Option ℕ) E) (m n : BTreeMap (Bor (List ℕ)) ℕ) (p : Bor (List ℕ)) (place : ℕ)

@@ -1,7 +1,8 @@
-use Rattle.std.proofs.Common.{sym, ap, ◌∙◌}
-use Rattle.at_model.specs.World.{Node}
+use Rattle.std.proofs.Common.{ap, rules, subst, sym}
+use Rattle.model_laws.specs.Order.{IsInOrder}
+use Rattle.world_laws.specs.Walks.{Walk}
 use Rattle.world_laws.proofs.node.Node.arrive.Goals as goal
 
 pub arrive-requires : goal.arrive-requires
 arrive-requires c =
-    c.requires.order c.in-Some.book (sym (ap (λ (x : Node). x.book) c.self.view_is) ∙ c.in-Some.is)
+    subst IsInOrder (ap (λ (w : Walk). w.book) (sym c.set_out-walk.ensures.walk)) (c.requires.order c.in-Some.book (search rules))

@@ -1,16 +1,22 @@
 use Rattle.world_laws.specs.Events.{event_of}
-use Rattle.world_laws.specs.Steps.{outcomes_in}
-use Rattle.world_laws.proofs.Running.{few_after, kept_after}
+use Rattle.world_laws.proofs.Running.{few_after, kept_after, lost_after, steps_after}
 use Rattle.world_laws.proofs.scene.Scene.step.Goals as goal
 
-pub keep-requires : goal.keep-requires
-keep-requires c = few_after c.args.self.now c.happen.new.self (event_of c.args.event.now) c.in_ok-steps.ensures.scene c.requires.few
+pub keep_all-requires : goal.keep_all-requires
+keep_all-requires c = few_after c.args.self.now c.happen.new.self (event_of c.args.event.now) c.in_ok-happen.ensures.scene c.requires.few
 
 pub returns-clause-scene : goal.returns-clause-scene
 returns-clause-scene c =
-    kept_after c.args.self.now c.happen.new.self c.keep.new.self (event_of c.args.event.now) c.node.result c.in_ok-steps.steps
-    c.in_ok-steps.ensures.scene c.in_ok-steps.ensures.steps c.node.ensures c.in_ok-keep.ensures
+    kept_after c.args.self.now c.happen.new.self c.keep_all.new.self c.keep_lost.new.self (event_of c.args.event.now) c.node.result c.node-2.result
+    c.in_ok-happen.field-0 c.into_parts-taken.result c.in_ok-happen.ensures.scene c.in_ok-happen.ensures.moved c.into_parts-taken.ensures
+    c.node.ensures c.node-2.ensures c.in_ok-steps.ensures.scene c.in_ok-keep_lost.ensures
 
 pub returns-clause-steps : goal.returns-clause-steps
-unfolding outcomes_in
-returns-clause-steps c = c.in_ok-steps.ensures.steps
+returns-clause-steps c =
+    steps_after c.args.self.now c.happen.new.self (event_of c.args.event.now) c.in_ok-happen.field-0 c.into_parts-taken.result c.in_ok-steps.steps
+    c.in_ok-happen.ensures.scene c.in_ok-happen.ensures.moved c.into_parts-taken.ensures c.in_ok-steps.ensures.steps
+
+pub returns-clause-lost : goal.returns-clause-lost
+returns-clause-lost c =
+    lost_after c.args.self.now (event_of c.args.event.now) c.in_ok-happen.field-0 c.into_parts-taken.result c.in_ok-happen.ensures.moved
+    c.into_parts-taken.ensures

@@ -2,7 +2,7 @@ use Rattle.std.proofs.Common.{rules, ◌≡◌, sym, ap, ◌∙◌, subst, ◌++
 use Rattle.std.proofs.lemmas.Map.Text.{btree_map_updates_str}
 use Rattle.std.specs.Map.{update}
 use Rattle.std.specs.Str.{bytes_eq}
-use Rattle.xml_grammar.specs.Places.{Finds, HidesEach, place_in}
+use Rattle.xml_grammar.specs.Code.Places.{Finds, HidesEach, place_in}
 use Rattle.xml_grammar.specs.declared.scope.Held.{Held}
 use Rattle.xml_grammar.proofs.PlaceLaws.{held_found, held_hides}
 use Rattle.xml_grammar.proofs.scope.Scope.add.Goals as goal

@@ -1,5 +1,5 @@
 use Rattle.std.proofs.Common.{◌≡◌, length, take}
-use Rattle.xml_grammar.specs.Open.{bindings_of}
+use Rattle.xml_grammar.specs.Code.Open.{bindings_of}
 use Rattle.xml_grammar.proofs.scope.Scope.leave.Given as goal
 
 abbrev pub invariant-loop-self : goal.invariant-loop-self

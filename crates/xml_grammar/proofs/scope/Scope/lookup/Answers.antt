@@ -2,7 +2,7 @@ use Rattle.std.proofs.Common.{◌≡◌, sym, ap, ◌∙◌, refl, subst, Some, 
 use Rattle.std.proofs.lemmas.Option.{slice_get_read, slice_get_past}
 use Rattle.std.specs.List.{HoldsAt, slice_get}
 use Rattle.std.specs.Option.{MatchOption, option_copied}
-use Rattle.xml_grammar.specs.Places.{held_of, last_of}
+use Rattle.xml_grammar.specs.Code.Places.{held_of, last_of}
 use Rattle.xml_grammar.proofs.PlaceLaws.{unbound, bound_held, none_held}
 use Rattle.xml_grammar.proofs.scope.Scope.lookup.Goals as goal
 

@@ -1,5 +1,0 @@
-pub mod Leaving
-pub mod Machine
-pub mod Refining
-pub mod Running
-pub mod Stages

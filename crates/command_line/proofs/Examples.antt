@@ -1,0 +1,57 @@
+-- Words that are a job, that ask, and that are faulty.
+use Rattle.std.proofs.Common.{◌≡◌, [], ◌∷◌, codes, refl}
+use Rattle.at_tables.specs.declared.cells.State.TheVariants as states
+use Rattle.clap.specs.Faults.{fault_of}
+use Rattle.clap.specs.declared.error.kind.ErrorKind.TheVariants.{InvalidSubcommand, MissingRequiredArgument, MissingSubcommand, UnknownArgument}
+use Rattle.clap.proofs.OnLiterals.{clap_on_literals}
+use Rattle.command_line.specs.Commands.{whole}
+use Rattle.command_line.specs.Jobs.{IsJobOf, IsQuestion}
+use Rattle.command_line.specs.Jobs.Job.{Cell, Check, Replay}
+
+cell_in_state : IsJobOf (codes "cell" ∷ codes "--state" ∷ codes "None" ∷ []) (Cell states.None)
+unfolding clap_on_literals
+cell_in_state = (refl, (refl, refl))
+
+check_at_the_root : IsJobOf (codes "check" ∷ []) (Check (codes "/"))
+unfolding clap_on_literals
+check_at_the_root = (refl, (refl, refl))
+
+check_at_a_path : IsJobOf (codes "check" ∷ codes "--path=/work" ∷ []) (Check (codes "/work"))
+unfolding clap_on_literals
+check_at_a_path = (refl, (refl, refl))
+
+replay : IsJobOf (codes "replay" ∷ []) Replay
+unfolding clap_on_literals
+replay = (refl, refl)
+
+help_of_all : IsQuestion (codes "--help" ∷ [])
+unfolding clap_on_literals
+help_of_all = refl
+
+help_of_one : IsQuestion (codes "check" ∷ codes "-h" ∷ [])
+unfolding clap_on_literals
+help_of_one = refl
+
+version : IsQuestion (codes "--version" ∷ [])
+unfolding clap_on_literals
+version = refl
+
+no_word : fault_of whole [] ≡ MissingSubcommand ∷ []
+unfolding clap_on_literals
+no_word = refl
+
+no_state : fault_of whole (codes "cell" ∷ []) ≡ MissingRequiredArgument ∷ []
+unfolding clap_on_literals
+no_state = refl
+
+unknown_option : fault_of whole (codes "check" ∷ codes "--state" ∷ codes "None" ∷ []) ≡ UnknownArgument ∷ []
+unfolding clap_on_literals
+unknown_option = refl
+
+unknown_command : fault_of whole (codes "help" ∷ []) ≡ UnknownArgument ∷ InvalidSubcommand ∷ []
+unfolding clap_on_literals
+unknown_command = refl
+
+no_option_yet : fault_of whole (codes "replay" ∷ codes "--bytes" ∷ []) ≡ UnknownArgument ∷ []
+unfolding clap_on_literals
+no_option_yet = refl

@@ -1,0 +1,47 @@
+-- What was read and printed, as the clauses of the top call say it.
+use Rattle.std.proofs.Common.{◌≡◌, ℕ, List, [], ◌∷◌, Bool, true, false, Option, Some, None, IsTrue, IfSome, length, take, nat_eq, ◌≤◌, ◌||◌, refl, subst, ◌∙◌}
+use Rattle.std.proofs.lemmas.Bool.{eqb-true}
+use Rattle.std.specs.List.{list_any}
+use Rattle.std.specs.Io.KnownBytes.{Appends}
+use Rattle.site_model.specs.Counts.{RisesBy}
+use Rattle.site_model.specs.Source.{IsWhole}
+use Rattle.envelope_cmd.specs.Output.{Output}
+use Rattle.command_line.specs.Jobs.{Job}
+use Rattle.command_line.specs.Reports.{IsCut, IsDone, Reports, status_of}
+
+on_some : {P Q : List ℕ → Type 0} (left : Option (List ℕ)) → ((input : List ℕ) → P input → Q input) → IfSome left P → IfSome left Q
+on_some None f h = tt
+on_some (Some input) f h = f input h
+
+pub all_given : (left : Option (List ℕ)) (before now : ℕ) (bytes : List ℕ) → IsWhole left before now bytes
+    → IfSome left (λ input. RisesBy (length input) before now)
+all_given left before now bytes h =
+    on_some {P = λ input. bytes ≡ input} {Q = λ input. RisesBy (length input) before now} left (λ input e. subst (λ x. RisesBy (length x) before now) e h.given) h.all
+
+not_five : (status : ℕ) → status ≡ 5 → IsTrue (list_any (nat_eq status) (0 ∷ 3 ∷ [])) → ⊥
+not_five status e k = let no_more : IsTrue false = subst (λ n. IsTrue (list_any (nat_eq n) (0 ∷ 3 ∷ []))) e k in absurd cc
+
+settled_by : (status s : ℕ) (a b : Bool) → nat_eq status s ≡ a → nat_eq status 5 ≡ b → IsTrue (a || (b || false))
+    → IsTrue (list_any (nat_eq status) (0 ∷ 3 ∷ [])) → status ≡ s
+settled_by status s true b p q h k = eqb-true status s p
+settled_by status s false true p q h k = absurd (not_five status (eqb-true status 5 q) k)
+settled_by status s false false p q h k = let no_more : IsTrue false = h in absurd cc
+
+reported : (job : Job) (bytes told input : List ℕ) (output : Output) → told ≡ bytes → bytes ≡ input → Reports job told output → Reports job input output
+reported job bytes told input output f g h = subst (λ x. Reports job x output) (f ∙ g) h
+
+pub all_printed : (left : Option (List ℕ)) (before now : ℕ) (bytes told : List ℕ) (job : Job) (old new : Option (List ℕ)) (status : ℕ) (output : Output)
+    → IsWhole left before now bytes → told ≡ bytes → Reports job told output
+    → IsTrue (list_any (nat_eq status) (status_of output ∷ 5 ∷ [])) → (status ≡ status_of output → Appends old new output.text)
+    → IsTrue (list_any (nat_eq status) (0 ∷ 3 ∷ [])) → IfSome left (λ input. IsDone job input old new status)
+all_printed left before now bytes told job old new status output whole t reports statuses all done =
+    let e : status ≡ status_of output = settled_by status (status_of output) (nat_eq status (status_of output)) (nat_eq status 5) refl refl statuses done in
+    on_some {P = λ input. bytes ≡ input} {Q = λ input. IsDone job input old new status} left
+    (λ input f. record { output = output; reports = reported job bytes told input output t f reports; printed = all e; ended = e }) whole.all
+
+pub part_printed : (left : Option (List ℕ)) (before now : ℕ) (bytes told : List ℕ) (job : Job) (old new : Option (List ℕ)) (output : Output)
+    → IsWhole left before now bytes → told ≡ bytes → Reports job told output
+    → (n : ℕ) × ((n ≤ length output.text) × Appends old new (take n output.text)) → IfSome left (λ input. IsCut job input old new)
+part_printed left before now bytes told job old new output whole t reports (n, (within, part)) =
+    on_some {P = λ input. bytes ≡ input} {Q = λ input. IsCut job input old new} left
+    (λ input f. record { output = output; reports = reported job bytes told input output t f reports; count = n; within = within; printed = part }) whole.all

@@ -1,0 +1,57 @@
+-- What an error of clap's says of the words.
+use Rattle.std.proofs.Common.{◌≡◌, ◌≢◌, ℕ, List, [], ◌∷◌, Option, nat_eq, Bool, true, false, ap, subst, sym, ◌∙◌, inl, inr, IsTrue, ◌⊎◌}
+use Rattle.clap.specs.Faults.{fault_of}
+use Rattle.clap.specs.Kinds.{HasKind, IsAmong, Kinds}
+use Rattle.clap.specs.Values.{kind_of}
+use Rattle.clap.specs.Walk.{Text}
+use Rattle.clap.specs.declared.error.Error.{Error}
+use Rattle.clap.specs.declared.error.kind.ErrorKind.{ErrorKind}
+use Rattle.clap.specs.declared.error.kind.ErrorKind.TheVariants.{OutOfMemory}
+use Rattle.command_line.specs.Commands.{whole}
+use Rattle.command_line.specs.Jobs.{IsFaulty, IsJob, asks, asks_for}
+use Rattle.command_line.specs.Views.{Says, Tells, statuses_of, told, unknown_state}
+use Rattle.std.specs.List.{list_any}
+use Rattle.std.specs.Io.KnownBytes.{Appends}
+use Rattle.command_line.specs.declared.job.NoJob.{NoJob}
+use Rattle.command_line.specs.declared.job.NoJob.TheVariants.{NoMemory, Question, Refused, Unread}
+use Rattle.command_line.proofs.Purity.{IsPure, fault_is_pure}
+
+no_job : (words : List Text) → fault_of whole words ≢ [] → IsJob words → ⊥
+no_job words h (job, (e, means)) = h e
+
+none_among : (k : ErrorKind) (kinds : Kinds) → kinds ≡ [] → IsAmong k kinds → ⊥
+none_among k kinds e h = let none : IsAmong k [] = subst (IsAmong k) e h in none
+
+not_true : (b : Bool) → b ≡ false → IsTrue b → ⊥
+not_true b e h = let no_more : false ≡ true = sym e ∙ h in absurd cc
+
+asked : (kinds : Kinds) (k : ErrorKind) → IsPure kinds → (k ≡ OutOfMemory) ⊎ IsAmong k kinds → asks_for k ≡ true → IsTrue (asks kinds)
+asked kinds k pure (inl e) a = let no_more : false ≡ true = ap asks_for (sym e) ∙ a in absurd cc
+asked kinds k pure (inr h) a = sym (pure.agree k h) ∙ a
+
+refusal : (words : List Text) (k : ErrorKind) → IsPure (fault_of whole words) → (k ≡ OutOfMemory) ⊎ IsAmong k (fault_of whole words) → asks_for k ≡ false → k ≢ OutOfMemory
+    → IsFaulty words × (fault_of whole words ≢ [])
+refusal words k pure (inl e) a n = absurd (n e)
+refusal words k pure (inr h) a n =
+    ((no_job words (λ e. none_among k (fault_of whole words) e h), not_true (asks (fault_of whole words)) (sym (pure.agree k h) ∙ a)), (λ e. none_among k (fault_of whole words) e h))
+
+pub told_of : (words : List Text) (error : Error) (answer : NoJob) → HasKind (fault_of whole words) error → Says (kind_of error) answer → Tells words answer
+told_of words error NoMemory h s = tt
+told_of words error (Question text) h s = asked (fault_of whole words) (kind_of error) (fault_is_pure words) h s
+told_of words error (Refused text) h s = refusal words (kind_of error) (fault_is_pure words) h s.0 s.1
+told_of words error Unread h s = absurd s
+
+asks_nothing : (kinds : Kinds) → kinds ≡ [] → IsTrue (asks kinds) → ⊥
+asks_nothing kinds e h = not_true (asks kinds) (ap asks e) h
+
+pub unread : (words : List Text) → fault_of whole words ≡ [] → (IsJob words → ⊥) → Tells words Unread
+unread words e n = ((n, asks_nothing (fault_of whole words) e), e)
+
+-- 2 where clap has no fault: the states are said
+pub unknown_said : (words : List Text) (reason : NoJob) (old new : Option (List ℕ)) (status : ℕ) → Tells words reason
+    → IsTrue (list_any (nat_eq status) (statuses_of reason)) → ((status ≡ 5 → ⊥) → Appends old new (told reason))
+    → status ≡ 2 → fault_of whole words ≡ [] → Appends old new unknown_state
+unknown_said words NoMemory old new status h s t e f = let no_more : IsTrue false = subst (λ n. IsTrue (list_any (nat_eq n) (9 ∷ []))) e s in absurd cc
+unknown_said words (Question text) old new status h s t e f = let no_more : IsTrue false = subst (λ n. IsTrue (list_any (nat_eq n) (0 ∷ 5 ∷ []))) e s in absurd cc
+unknown_said words (Refused text) old new status h s t e f = absurd (h.1 f)
+unknown_said words Unread old new status h s t e f = t (λ five. let no_more : true ≡ false = ap (λ n. nat_eq n 5) (sym five ∙ e) in absurd cc)

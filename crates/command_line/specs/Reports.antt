@@ -1,0 +1,56 @@
+-- What a job prints of its input, and the status that it ends with.
+use Rattle.std.specs.Prelude.{ℕ, List, [], ◌++◌, codes, decimal, Result, Ok, Err, Option, length, take, if◌then◌else◌, ◌≡◌, ◌≤◌, ◌⊎◌}
+use Rattle.std.specs.Io.KnownBytes.{Appends}
+use Rattle.envelope_cmd.specs.Output.{Output, accepted, refused}
+use Rattle.envelope_cmd.specs.Cells.{IsCellOf}
+use Rattle.envelope_cmd.specs.Checks.{IsCheckOf}
+use Rattle.replay_cmd.specs.ReportOf.{report_of}
+use Rattle.schedules.specs.Causes.{number_of_cause}
+use Rattle.schedules.specs.Schedules.{schedule_of}
+use Rattle.schedules.specs.declared.line.BadLine.{BadLine}
+use Rattle.schedules.specs.declared.line.Line.{Line}
+use Rattle.command_line.specs.Jobs.{Job}
+use Rattle.command_line.specs.Jobs.Job.{Cell, Check, Replay}
+
+-- the line of the first bad line of a schedule
+unfoldable pub bad_line : BadLine → List ℕ
+bad_line bad = codes "line " ++ (decimal bad.line ++ (codes " cause " ++ (decimal (number_of_cause bad.cause) ++ codes "\n")))
+
+-- the report of a schedule, or of its first bad line
+abbrev pub replayed : Result (List Line) BadLine → Output
+replayed (Ok lines) = accepted (report_of lines)
+replayed (Err bad) = refused (bad_line bad)
+
+-- a job prints this of its input
+abbrev pub Reports : Job → List ℕ → Output → Type 0
+Reports (Cell state) input output = IsCellOf input state output
+Reports (Check path) input output = IsCheckOf input path output
+Reports Replay input output = output ≡ replayed (schedule_of input)
+
+-- 0 where the job ended, 3 where it refused its input
+abbrev pub status_of : Output → ℕ
+status_of output = if output.is_refusal then 3 else 0
+
+-- the whole report was printed
+pub record IsDone (job : Job) (input : List ℕ) (old new : Option (List ℕ)) (status : ℕ) : Type 0 where
+  pub output : Output
+  pub reports : Reports job input output
+  pub printed : Appends old new output.text
+  pub ended : status ≡ status_of output
+
+-- a beginning of the report was printed
+pub record IsCut (job : Job) (input : List ℕ) (old new : Option (List ℕ)) : Type 0 where
+  pub output : Output
+  pub reports : Reports job input output
+  pub count : ℕ
+  pub within : count ≤ length output.text
+  pub printed : Appends old new (take count output.text)
+
+-- memory ran out before anything was printed
+pub record IsUndone (old new : Option (List ℕ)) (status : ℕ) : Type 0 where
+  pub silent : Appends old new []
+  pub memory : status ≡ 9
+
+-- a job without faults
+abbrev pub IsReport : Job → List ℕ → Option (List ℕ) → Option (List ℕ) → ℕ → Type 0
+IsReport job input old new status = IsDone job input old new status ⊎ IsUndone old new status

@@ -1,0 +1,7 @@
+//! The command line of atx: which words are a command, and the top call `run`.
+#![tactic(auto)]
+
+mod commands;
+mod job;
+mod replay;
+pub mod run;

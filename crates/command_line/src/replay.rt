@@ -1,0 +1,44 @@
+//! What `replay` prints of its input.
+
+ghost use Rattle.std.specs.Prelude.{◌≡◌, IfOk};
+ghost use Rattle.envelope_cmd.specs.Output.{accepted, refused};
+ghost use Rattle.replay_cmd.specs.Laws.{IsReplayable};
+ghost use Rattle.replay_cmd.specs.ReportOf.{report_of};
+ghost use Rattle.schedules.specs.Schedules.{schedule_of};
+ghost use Rattle.command_line.specs.Reports.{bad_line, replayed};
+
+use envelope_cmd::printed::Printed;
+use replay_cmd::laws::what_is_read_is_replayable;
+use replay_cmd::replay::replay;
+use schedules::line::{BadLine, Schedule, ScheduleError};
+use schedules::reader::read_schedule;
+use std::alloc::{AllocError, Global};
+
+#[tactic(auto, unfolding(crate::specs::Reports::bad_line))]
+fn refusal(alloc: Global, bad: BadLine) -> Result<Printed, AllocError>
+    ensures { IfOk result (λ printed. printed ≡ refused (bad_line bad)) }
+{
+    let line = format!(in alloc; "line {} cause {}\n", bad.line, bad.cause.number())?;
+    Printed::refused(alloc, line.as_str())
+}
+
+fn report(alloc: Global, schedule: &Schedule) -> Result<Printed, AllocError>
+    requires { IsReplayable schedule.now }
+    ensures { IfOk result (λ printed. printed ≡ accepted (report_of schedule.now)) }
+{
+    let report = replay(alloc, schedule)?;
+    let text = Vec::from_slice(alloc, report.text.as_slice())?;
+    Ok(Printed::accepted(text))
+}
+
+/// The report of the schedule that the bytes are, or the line of their first bad line.
+pub fn replayed(alloc: Global, input: &[u8]) -> Result<Printed, AllocError>
+    ensures { IfOk result (λ printed. printed ≡ replayed (schedule_of input.now)) }
+{
+    what_is_read_is_replayable();
+    match read_schedule(alloc, input) {
+        Ok(schedule) => report(alloc, &schedule),
+        Err(ScheduleError::Bad(bad)) => refusal(alloc, bad),
+        Err(ScheduleError::OutOfMemory) => Err(AllocError),
+    }
+}

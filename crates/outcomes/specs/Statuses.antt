@@ -1,0 +1,73 @@
+-- How a run of the model is seen as one of the machine of atomic commit.
+use Rattle.std.specs.Prelude.{ℕ, List, Option, Some, None, Bool, true, false, if◌then◌else◌, nat_eq, ◌&&◌, ◌||◌, ◌≡◌, ◌^◌, ◌<◌}
+use Rattle.std.specs.List.{list_any}
+use Rattle.at_base.specs.Numbers.{Numbers}
+use Rattle.at_base.specs.declared.notice.Kind.TheVariants as kinds
+use Rattle.at_base.specs.declared.notice.Notice.TheVariants as notices
+use Rattle.at_base.specs.declared.message.Message.{Message}
+use Rattle.at_base.specs.declared.message.Message.TheVariants as messages
+use Rattle.at_base.specs.declared.outs.Ending.{Ending}
+use Rattle.at_base.specs.declared.outs.Ending.TheVariants as endings
+use Rattle.at_base.specs.declared.outs.Effect.{Effect}
+use Rattle.at_base.specs.declared.outs.Effect.TheVariants as effects
+use Rattle.at_base.specs.declared.target.Target.{Target}
+use Rattle.at_base.specs.declared.target.Target.TheVariants as targets
+use Rattle.at_tables.specs.Names.{is_notice}
+use Rattle.at_model.specs.Book.{is_id}
+use Rattle.at_model.specs.World.{Node, Who, World, WorldEvent, nth, run_of}
+use Rattle.model_laws.specs.Agreement.{IsOf}
+use Rattle.votes.specs.Voting.{is_vote}
+use Rattle.outcomes.specs.AtomicCommit.{Status, Step}
+
+-- what an effect says of the item: it ended so
+abbrev pub is_ending : Ending → Ending → Bool
+is_ending endings.Committed endings.Committed = true
+is_ending endings.Aborted endings.Aborted = true
+is_ending endings.Lost endings.Lost = true
+is_ending what other = false
+
+abbrev pub says_end : Numbers → Ending → Effect → Bool
+says_end id what (effects.Root i w) = is_id i id && is_ending w what
+says_end id what (effects.Sub i w) = is_id i id && is_ending w what
+says_end id what (effects.Leaf i kinds.Durable w) = is_id i id && is_ending w what
+says_end id what other = false
+
+abbrev pub has_ended : World → Who → Ending → Bool
+has_ended w x what = list_any (λ h. nat_eq h.node x.node && says_end x.id what h.what) w.happened
+
+-- it posted ReadOnly as a durable participant
+abbrev pub is_own : Numbers → Option Target → Bool
+is_own id (Some (targets.Participant i kinds.Durable)) = is_id i id
+is_own id other = false
+
+abbrev pub says_read_only : Message → Bool
+says_read_only (messages.Notice n) = is_notice n notices.ReadOnly
+says_read_only other = false
+
+abbrev pub has_left : World → Who → Bool
+has_left w x = list_any (λ p. nat_eq p.sender x.node && (is_own x.id p.content.own && says_read_only p.content.message)) w.posted
+
+-- its vote Prepared is recorded
+abbrev pub votes_in : Numbers → Option Node → Bool
+votes_in id None = false
+votes_in id (Some y) = list_any (is_vote id) y.journal
+
+abbrev pub status_of : World → Who → Status
+status_of w x =
+    if has_ended w x endings.Committed then Status.Committed
+    else if has_ended w x endings.Aborted || has_ended w x endings.Lost then Status.Aborted
+    else if has_left w x then Status.Left
+    else if votes_in x.id (nth x.node w.nodes) then Status.Prepared
+    else Status.Working
+
+-- A run of the machine, along the worlds of a run of the model: its members are those of the root.
+pub data Unfolds (count : ℕ) (root : Who) : World → Type 0 where
+  begins : {w : World} → ((x : Who) → status_of w x ≡ Status.Working) → Unfolds count root w
+  goes : {w : World} (u : World) → Unfolds count root u → Step root (λ x. IsOf u x root) (λ x. IsOf w x root) (status_of u) (status_of w) → Unfolds count root w
+
+pub record RunsCommitAtomically : Type 0 where
+  -- each run is one of the machine, for each root
+  pub runs : (count : ℕ) (es : List WorldEvent) (root : Who) → count < 2 ^ 64 → Unfolds count root (run_of count es)
+  -- and wherever the machine goes, none that committed is beside one that aborted
+  pub consistent : (count : ℕ) (root : Who) (w : World) → Unfolds count root w → (x y : Who) → IsOf w x root → IsOf w y root → status_of w x ≡ Status.Committed
+      → status_of w y ≡ Status.Aborted → ⊥

@@ -1,0 +1,78 @@
+//! The fates of a site's calls, and the stop, as an event uses them up.
+
+ghost use Rattle.std.specs.Prelude.{◌≡◌, IfOk, drop};
+ghost use Rattle.at_model.specs.World.{fate};
+ghost use Rattle.world_laws.specs.Walks.{is_over, used};
+
+use crate::event::Fates;
+use std::alloc::AllocError;
+use std::marker::Model;
+
+/// The fates that are left, and how many stand before the stop.
+#[derive(Drop)]
+pub struct Luck {
+    fates: Fates,
+    /// So many are used up.
+    used: usize,
+    until: Option<u64>,
+}
+
+impl Model for Luck {
+    ghost use Rattle.std.specs.Prelude.{drop};
+    ghost use Rattle.world_laws.specs.Walks.{Luck as Known};
+
+    ghost Value = { Known };
+
+    ghost view = { λ l. record { fates = drop l.used l.fates; until = l.until } };
+}
+
+/// The fate at this place; one behind the last is yes.
+#[tactic(auto, using(crate::proofs::Fates::fate_at, crate::proofs::Fates::fate_past))]
+fn fate_at(fates: &[bool], place: usize) -> bool
+    ensures { result ≡ fate (drop place fates.now) }
+{
+    match fates.get(place) {
+        Some(fate) => *fate,
+        None => true,
+    }
+}
+
+impl Luck {
+    /// All of an event's fates.
+    pub fn new(fates: &Fates, until: Option<u64>) -> Result<Luck, AllocError>
+        ensures { IfOk result (λ luck. luck ≡ record { fates = fates.now; until = until }) }
+    {
+        Ok(Luck {
+            fates: fates.clone()?,
+            used: 0,
+            until,
+        })
+    }
+
+    /// Whether the stop has come.
+    pub fn is_over(&self) -> bool
+        ensures { result ≡ is_over self.now }
+    {
+        match self.until {
+            Some(left) => left == 0,
+            None => false,
+        }
+    }
+
+    /// Uses the next fate up.
+    #[tactic(auto, using(crate::proofs::Fates::one_used, crate::proofs::Fates::none_left))]
+    pub fn next(&mut self) -> bool
+        ensures fate { result ≡ fate self.old.fates }
+        ensures left { self.new ≡ used self.old }
+    {
+        let fate = fate_at(self.fates.as_slice(), self.used);
+        if self.used < self.fates.as_slice().len() {
+            self.used += 1;
+        }
+        self.until = match self.until {
+            Some(left) => Some(left.saturating_sub(1)),
+            None => None,
+        };
+        fate
+    }
+}
