@@ -1,12 +1,12 @@
 -- The live records of live records are those.
-use Rattle.std.proofs.Common.{ℕ, List, [], ◌∷◌, ◌≡◌, ◌++◌, ◌||◌, Bool, true, false, refl, sym, ◌∙◌, ap, if◌then◌else◌}
+use Rattle.std.proofs.Common.{List, [], ◌∷◌, ◌≡◌, ◌++◌, ◌||◌, Bool, true, false, refl, ◌∙◌, if◌then◌else◌}
 use Rattle.std.specs.List.{list_any}
 use Rattle.at_base.specs.Numbers.{Numbers}
 use Rattle.at_base.specs.declared.epr.Epr.{Epr}
 use Rattle.at_base.specs.declared.record.Seated.{Seated}
 use Rattle.at_base.specs.declared.record.Record.{Record}
 use Rattle.at_base.specs.declared.record.Record.TheVariants as records
-use Rattle.at_model.specs.Recover.{ends_leaf, ends_transaction, is_sub_committed, live, no_seats}
+use Rattle.at_model.specs.Recover.{ends_leaf, ends_transaction, is_sub_committed, live}
 use Rattle.model_laws.proofs.Recovering.{none_live, self_id}
 
 -- a promise alone

@@ -1,13 +1,12 @@
 -- What is kept of well-formed records.
-use Rattle.std.proofs.Common.{ℕ, List, [], ◌∷◌, ◌≡◌, ◌++◌, refl, sym, ◌∙◌, ap, subst}
+use Rattle.std.proofs.Common.{ℕ, List, [], ◌∷◌, ◌++◌, sym, ◌∙◌, ap}
 use Rattle.std.specs.List.{AllByRecursion}
 use Rattle.at_base.specs.WellFormed.{IsWellFormed}
 use Rattle.at_base.specs.declared.record.Record.{Record}
 use Rattle.journal_at.specs.declared.version.Version.{Version}
 use Rattle.journal_at.specs.declared.version.Version.TheVariants.{One, Two}
-use Rattle.record_bytes.specs.Versions.{IsRecord}
 use Rattle.decision_log.specs.Folding.{AreRecords, IsFolded}
-use Rattle.decision_log.specs.Keeping.{IsKept, KeepsOn, Known, after, kept_of}
+use Rattle.decision_log.specs.Keeping.{IsKept, KeepsOn, Known, after}
 use Rattle.decision_log.proofs.Grown.{grows_by_one}
 use Rattle.decision_log.proofs.Moving.{moved, moved_formed, moves}
 

@@ -1,5 +1,5 @@
 -- Whether a token is of one of two kinds.
-use Rattle.std.proofs.Common.{◌≡◌, ◌⊎◌, inl, inr, refl, ap}
+use Rattle.std.proofs.Common.{◌≡◌, inl, inr, ap}
 use Rattle.at_base.specs.Numbers.{Numbers}
 use Rattle.decision_log.specs.declared.ready.Leave.TheVariants as leaves
 use Rattle.decision_log.specs.declared.token.What.{What}

@@ -1,5 +1,5 @@
 -- What is kept of a list of version 1 is kept of one of version 2.
-use Rattle.std.proofs.Common.{ℕ, zero, suc, List, [], ◌∷◌, ◌≡◌, ◌++◌, ◌+◌, ◌-◌, ◌<◌, ◌≤◌, Bool, true, false, not, refl, sym, ◌∙◌, ap, subst, max, drop, length, arith, if◌then◌else◌, true≢false}
+use Rattle.std.proofs.Common.{ℕ, zero, suc, List, [], ◌∷◌, ◌≡◌, ◌++◌, ◌+◌, ◌-◌, ◌<◌, ◌≤◌, Bool, true, false, not, refl, sym, ◌∙◌, ap, drop, length, arith, if◌then◌else◌}
 use Rattle.std.specs.List.{AllByRecursion, filter, list_any}
 use Rattle.std.proofs.lemmas.List.{append_assoc, append-nil, length-append, length-drop, drop-append-le, drop-drop}
 use Rattle.at_base.specs.Numbers.{Numbers}
@@ -8,14 +8,13 @@ use Rattle.at_base.specs.declared.record.Record.{Record}
 use Rattle.at_base.specs.declared.record.Record.TheVariants as records
 use Rattle.at_model.specs.Book.{is_id}
 use Rattle.at_model.specs.Outcomes.{newest, outcomes_after, put_last}
-use Rattle.at_model.specs.Recover.{ends_leaf, ends_transaction, in_order, incarnation_of, is_sub_committed, last_incarnation, live, no_seats}
+use Rattle.at_model.specs.Recover.{ends_leaf, ends_transaction, in_order, incarnation_of, is_sub_committed, last_incarnation, live}
 use Rattle.model_laws.specs.Compacted.{record_id}
 use Rattle.model_laws.proofs.Living.{all_live}
 use Rattle.model_laws.proofs.Recovering.{incarnations_rise, same_id}
 use Rattle.journal_at.specs.declared.version.Version.TheVariants.{One, Two}
 use Rattle.decision_log.specs.Keeping.{decided_in, kept_of}
 use Rattle.decision_log.specs.Shrinking.{start_of}
-use Rattle.decision_log.specs.Tokens.{about}
 use Rattle.decision_log.proofs.Again.{live_again}
 use Rattle.decision_log.proofs.Committing.{AreNotAbout, none_about}
 

@@ -1,19 +1,17 @@
 -- Shrunk records make the same Kept.
-use Rattle.std.proofs.Common.{ℕ, zero, suc, List, [], ◌∷◌, ◌≡◌, ◌++◌, ◌+◌, ◌≤◌, refl, sym, ◌∙◌, ap, subst, max, map, arith}
+use Rattle.std.proofs.Common.{ℕ, zero, suc, List, [], ◌∷◌, ◌≡◌, ◌++◌, refl, sym, ◌∙◌, ap, max, map, arith}
 use Rattle.std.proofs.lemmas.List.{append_assoc, append-nil}
 use Rattle.at_base.specs.declared.record.Record.{Record}
 use Rattle.at_base.specs.declared.record.Record.TheVariants as records
-use Rattle.at_model.specs.Book.{Book}
 use Rattle.at_model.specs.Outcomes.{outcomes_after}
-use Rattle.at_model.specs.Recover.{in_order, last_incarnation, live, recover}
+use Rattle.at_model.specs.Recover.{in_order, last_incarnation, live}
 use Rattle.model_laws.specs.Compacted.{RecoversTheCompacted, compacted, record_id}
 use Rattle.journal_at.specs.declared.version.Version.TheVariants.{One, Two}
 use Rattle.decision_log.specs.Keeping.{Known, after, kept_of}
 use Rattle.decision_log.specs.Shrinking.{ShrinksTheSame, shrunk, start_of}
-use Rattle.decision_log.specs.Tokens.{about}
-use Rattle.decision_log.proofs.Grown.{grows_by_one, one_order}
+use Rattle.decision_log.proofs.Grown.{grows_by_one}
 use Rattle.decision_log.proofs.Moving.{moved, moves}
-use Rattle.decision_log.proofs.Order.{IsSorted, in_order_sorted, sorted_again}
+use Rattle.decision_log.proofs.Order.{in_order_sorted, sorted_again}
 
 -- one record after the other
 abbrev run : Known → List Record → Known

@@ -27,5 +27,6 @@ pub record IsAppended (a : Append) (r : Record) (body : List ℕ) (before after 
   pub reason : HasReason a before old new
   pub full : (a ≡ appends.Full) ↔ ((before.unsure ≡ false) × (before.limit < before.end + 6 + length body))
   pub unsure : (after.unsure ≡ true) ↔ (a ≡ appends.Unsure)
+  pub stuck : before.unsure ≡ true → a ≡ appends.Unsure
   pub live : after.live ≡ before.live
   pub limit : after.limit ≡ before.limit

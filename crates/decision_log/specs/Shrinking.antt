@@ -1,7 +1,5 @@
 -- The records that a journal comes to when its dead ones are left out.
 use Rattle.std.specs.Prelude.{ℕ, List, [], ◌∷◌, ◌++◌, ◌+◌, ◌-◌, ◌<◌, ◌≡◌, ◌↔◌, true, false, zero, suc, length, map}
-use Rattle.std.specs.List.{AllByRecursion}
-use Rattle.at_base.specs.WellFormed.{IsWellFormed}
 use Rattle.at_base.specs.declared.record.Record.{Record}
 use Rattle.at_base.specs.declared.record.Record.TheVariants as records
 use Rattle.site_model.specs.Told.{Told}
@@ -39,6 +37,7 @@ pub record IsCompacted (result : Compact) (texts : List (List ℕ)) (before afte
   pub ground : HasGround result before old new
   pub full : (result ≡ compacts.Full) ↔ ((before.unsure ≡ false) × (before.limit < length (frames (mark_body (before.generation + 1) ∷ texts)) + 1))
   pub unsure : (after.unsure ≡ true) ↔ (result ≡ compacts.Unsure)
+  pub stuck : before.unsure ≡ true → result ≡ compacts.Unsure
 
 abbrev pub texts_of : List Record → List (List ℕ)
 texts_of rs = map bytes_of rs

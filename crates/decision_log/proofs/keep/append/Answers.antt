@@ -14,6 +14,7 @@ returns-clause-appended g c = record {
   reason = c.append.ensures.reason;
   full = c.append.ensures.full;
   unsure = c.append.ensures.unsure;
+  stuck = λ e. (c.append.ensures.nothing e).0;
   live = c.append.ensures.same.0;
   limit = c.append.ensures.same.1;
 }
