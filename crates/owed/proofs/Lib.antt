@@ -1,0 +1,4 @@
+pub mod Tables
+pub mod Along
+pub mod Rules
+pub mod Advancing
