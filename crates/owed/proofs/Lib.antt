@@ -2,3 +2,5 @@ pub mod Tables
 pub mod Along
 pub mod Rules
 pub mod Advancing
+pub mod AtSeats
+pub mod Hearing
