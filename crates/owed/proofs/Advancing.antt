@@ -46,7 +46,7 @@ known_as m e old p q id seats ps b ((i, (a, k)), r) = ((i, (b, k)), r)
 abbrev is_ready : Kind → State → Bool
 is_ready k s = is_state s states.Prepared
 
-commits : (m : Moment) (e : Event) (old : Transaction) (id : Numbers) (seats : List Enlistment) (ps : List Post) → Along m e old (suits Phase.Voted) id seats ps
+pub commits : (m : Moment) (e : Event) (old : Transaction) (id : Numbers) (seats : List Enlistment) (ps : List Post) → Along m e old (suits Phase.Voted) id seats ps
     → Along m e old (suits Phase.Committing) id (moved (in_state states.Prepared) states.Committing seats) (ps ++ notices_to m.base id notices.Commit seats (in_state states.Prepared))
 commits m e old id seats ps ((i, (a, k)), q) =
     ((i, (are_moved (suits Phase.Voted) (suits Phase.Committing) is_ready states.Committing refl seats a,
@@ -56,7 +56,7 @@ commits m e old id seats ps ((i, (a, k)), q) =
 abbrev is_committing_seat : Kind → State → Bool
 is_committing_seat k s = is_kind k kinds.Durable && is_state s states.Committing
 
-commit_waits : (seats : List Enlistment) → list_any is_prepared_durable seats ≡ true → Waits Phase.Committing (moved (in_state states.Prepared) states.Committing seats)
+pub commit_waits : (seats : List Enlistment) → list_any is_prepared_durable seats ≡ true → Waits Phase.Committing (moved (in_state states.Prepared) states.Committing seats)
 commit_waits seats h = some_moved waits_on is_ready is_committing_seat states.Committing refl seats h
 
 done_seat : (c : Option Completion) → IsSeatIn states.Done (completion_in states.Done c)

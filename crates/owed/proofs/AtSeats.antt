@@ -66,12 +66,12 @@ one_notice e t n v s o h k =
     cc
 
 -- Nothing at this seat is answered by the event.
-abbrev pub Unanswered : Event → Transaction → List Post → Enlistment → Type 0
-Unanswered e t ps s =
+abbrev pub Unheard : Event → Transaction → List Post → Enlistment → Type 0
+Unheard e t ps s =
     (s.state ≡ states.Preparing → HasAnswered e t s → ⊥) × ((s.state ≡ states.Committing → ParticipantSaid notices.Committed e t s → ⊥)
     × (s.kind ≡ kinds.Durable → ParticipantSaid notices.Prepared e t s → (s.state ≡ states.Prepared) ⊎ IsTold ps s))
 
-same_owed : (m : Moment) (e : Event) (t : Transaction) (ps : List Post) (seats : List Enlistment) → AllByRecursion (Unanswered e t ps) seats → Pairs (IsOwed m.base e t ps) seats seats
+same_owed : (m : Moment) (e : Event) (t : Transaction) (ps : List Post) (seats : List Enlistment) → AllByRecursion (Unheard e t ps) seats → Pairs (IsOwed m.base e t ps) seats seats
 same_owed m e t ps [] h = tt
 same_owed m e t ps (s ∷ ss) ((f, (g, k)), hs) =
     (((refl, λ d x. by_case d x), ((λ d. inl (d, f d)), (λ d. inl (d, g d)))), same_owed m e t ps ss hs)
@@ -92,12 +92,12 @@ asked_of m e t ps [] (n ∷ ns) h = absurd h
 asked_of m e t ps (o ∷ os) [] h = absurd h
 asked_of m e t ps (o ∷ os) (n ∷ ns) (h, hs) = (h.1, asked_of m e t ps os ns hs)
 
-pub same_along : (m : Moment) (e : Event) (t : Transaction) (ps : List Post) → IsShaped t → AllByRecursion (Unanswered e t ps) t.seats → Along m e t (suits t.phase) t.id t.seats ps
+pub same_along : (m : Moment) (e : Event) (t : Transaction) (ps : List Post) → IsShaped t → AllByRecursion (Unheard e t ps) t.seats → Along m e t (suits t.phase) t.id t.seats ps
 same_along m e t ps h u =
     ((refl, (h.0, kept_of m e t ps t.seats t.seats (same_owed m e t ps t.seats u))), asked_of m e t ps t.seats t.seats (same_owed m e t ps t.seats u))
 
 -- it stays as it was, but for when it last sent
-pub same_left : (m : Moment) (e : Event) (t : Transaction) (sent : Option ℕ) (ps : List Post) → IsShaped t → AllByRecursion (Unanswered e t ps) t.seats
+pub same_left : (m : Moment) (e : Event) (t : Transaction) (sent : Option ℕ) (ps : List Post) → IsShaped t → AllByRecursion (Unheard e t ps) t.seats
     → Left m e t (record { item = Some (record t { sent = sent }); posts = ps; effects = [] })
 same_left m e t sent ps h u = (h, (refl, same_owed m e t ps t.seats u))
 
@@ -118,7 +118,7 @@ LeavesAs ps s n =
     × (s.kind ≡ kinds.Durable → n ≡ notices.Prepared → (s.state ≡ states.Prepared) ⊎ IsTold ps s))
 
 pub unanswered_all : (e : Event) (t : Transaction) (s : Enlistment) (n : Notice) (ps : List Post) (seats : List Enlistment) → ParticipantSaid n e t s
-    → AllByRecursion (λ x. x.number ≡ s.number → x ≡ s) seats → LeavesAs ps s n → AllByRecursion (Unanswered e t ps) seats
+    → AllByRecursion (λ x. x.number ≡ s.number → x ≡ s) seats → LeavesAs ps s n → AllByRecursion (Unheard e t ps) seats
 unanswered_all e t s n ps [] said h l = tt
 unanswered_all e t s n ps (x ∷ xs) said (h, hs) (a, (b, c)) =
     (((λ d k. a (subst (λ y. y.state ≡ states.Preparing) (is k.0 k.2) d) (subst AnswersSeat (one_notice e t n k.0 s x said k.2) k.1)),

@@ -38,7 +38,7 @@ use Rattle.agreement.specs.Deeds.{ParticipantSaid}
 use Rattle.enlistments.proofs.Finding.{found_seat}
 use Rattle.owed.specs.Seats.{AnswersSeat, HasAnswered, IsAsked, IsKept, IsOwed, IsTold, Pairs, SaysPrepared, TellsOutcome}
 use Rattle.owed.specs.Shape.{IsShaped, suits}
-use Rattle.owed.proofs.AtSeats.{AtSeat, Goes, Leaves, LeavesAs, Unanswered, are_in, asked_of, goes_are, goes_owed, kept_of, open_pairs, same_along, same_left, unanswered_all}
+use Rattle.owed.proofs.AtSeats.{AtSeat, Goes, Leaves, LeavesAs, Unheard, are_in, asked_of, goes_are, goes_owed, kept_of, open_pairs, same_along, same_left, unanswered_all}
 use Rattle.owed.proofs.Advancing.{advance_owes}
 use Rattle.owed.proofs.Rules.{Along, From, FromOpen, Left, Loose, On, Owes, aborts, aborts_open, either, stays_so}
 use Rattle.owed.proofs.Tables.{Are, at_kind, at_seat, every_kind, every_seat, implied}
@@ -374,7 +374,7 @@ seat_notice_owes m e i t s n None h l at k = stands_still m e t s n t.sent [] h 
 seat_notice_owes m e i t s n (Some c) h l at k = seat_act_owes m e i t s n c.act h l at k
 
 pub seat_owes : (m : Moment) (e : Event) (a : Arrived) (t : Transaction) (s : Enlistment) (x : Message) → IsShaped t → Linked t → ((n : Notice) → x ≡ messages.Notice n → AtSeat e t s n)
-    → AllByRecursion (Unanswered e t []) t.seats ⊎ ((n : Notice) × (x ≡ messages.Notice n)) → Owes m e t (on_seat m a t s x)
+    → AllByRecursion (Unheard e t []) t.seats ⊎ ((n : Notice) × (x ≡ messages.Notice n)) → Owes m e t (on_seat m a t s x)
 unfolding on_seat
 seat_owes m e a t s (messages.Notice n) h l at u =
     let sits : IsIn s t.seats = (at n refl).sits in

@@ -4,3 +4,5 @@ pub mod Rules
 pub mod Advancing
 pub mod AtSeats
 pub mod Hearing
+pub mod LinkTable
+pub mod OnLinks
