@@ -71,7 +71,7 @@ Unheard e t ps s =
     (s.state ≡ states.Preparing → HasAnswered e t s → ⊥) × ((s.state ≡ states.Committing → ParticipantSaid notices.Committed e t s → ⊥)
     × (s.kind ≡ kinds.Durable → ParticipantSaid notices.Prepared e t s → (s.state ≡ states.Prepared) ⊎ IsTold ps s))
 
-same_owed : (m : Moment) (e : Event) (t : Transaction) (ps : List Post) (seats : List Enlistment) → AllByRecursion (Unheard e t ps) seats → Pairs (IsOwed m.base e t ps) seats seats
+pub same_owed : (m : Moment) (e : Event) (t : Transaction) (ps : List Post) (seats : List Enlistment) → AllByRecursion (Unheard e t ps) seats → Pairs (IsOwed m.base e t ps) seats seats
 same_owed m e t ps [] h = tt
 same_owed m e t ps (s ∷ ss) ((f, (g, k)), hs) =
     (((refl, λ d x. by_case d x), ((λ d. inl (d, f d)), (λ d. inl (d, g d)))), same_owed m e t ps ss hs)

@@ -6,3 +6,4 @@ pub mod AtSeats
 pub mod Hearing
 pub mod LinkTable
 pub mod OnLinks
+pub mod Others

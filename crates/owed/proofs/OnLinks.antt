@@ -51,11 +51,11 @@ pub quiet_all : (e : Event) (t : Transaction) (ps : List Post) (seats : List Enl
 quiet_all e t ps [] q = tt
 quiet_all e t ps (s ∷ ss) q = (((λ d k. q k.0 s k.2), ((λ d k. q notices.Committed s k), (λ d k. absurd (q notices.Prepared s k)))), quiet_all e t ps ss q)
 
-still_left : (m : Moment) (e : Event) (t : Transaction) (sent : Option ℕ) (ps : List Post) → IsShaped t → IsQuiet e t
+pub still_left : (m : Moment) (e : Event) (t : Transaction) (sent : Option ℕ) (ps : List Post) → IsShaped t → IsQuiet e t
     → Left m e t (record { item = Some (record t { sent = sent }); posts = ps; effects = [] })
 still_left m e t sent ps h q = same_left m e t sent ps h (quiet_all e t ps t.seats q)
 
-begin_along : (m : Moment) (e : Event) (t : Transaction) (ps : List Post) → IsShaped t → IsQuiet e t → Along m e t (suits t.phase) t.id t.seats ps
+pub begin_along : (m : Moment) (e : Event) (t : Transaction) (ps : List Post) → IsShaped t → IsQuiet e t → Along m e t (suits t.phase) t.id t.seats ps
 begin_along m e t ps h q = same_along m e t ps h (quiet_all e t ps t.seats q)
 
 loose_but : (phase : Phase) → (phase ≡ Phase.Committing → ⊥) → Loose (suits phase)
@@ -68,11 +68,11 @@ loose_but Phase.Committing f = absurd (f refl)
 loose_but Phase.Aborting f = refl
 
 -- a link that aborts isn't one of a transaction that commits
-rolls_undecided : (phase : Phase) (kind : Kind) (s : Superior) → AreIn phase s.volatile.state s.durable.state → MayRoll (link_of kind s).state → phase ≡ Phase.Committing → ⊥
+pub rolls_undecided : (phase : Phase) (kind : Kind) (s : Superior) → AreIn phase s.volatile.state s.durable.state → MayRoll (link_of kind s).state → phase ≡ Phase.Committing → ⊥
 rolls_undecided phase kinds.Volatile s h r f = let k : AreIn Phase.Committing s.volatile.state s.durable.state = subst (λ p. AreIn p s.volatile.state s.durable.state) f h in subst MayRoll k.0 r
 rolls_undecided phase kinds.Durable s h r f = let k : AreIn Phase.Committing s.volatile.state s.durable.state = subst (λ p. AreIn p s.volatile.state s.durable.state) f h in subst MayRoll k.1 r
 
-aborts_from : (m : Moment) (e : Event) (reason : Reason) (t : Transaction) (ps : List Post) → IsShaped t → IsQuiet e t → (t.phase ≡ Phase.Committing → ⊥)
+pub aborts_from : (m : Moment) (e : Event) (reason : Reason) (t : Transaction) (ps : List Post) → IsShaped t → IsQuiet e t → (t.phase ≡ Phase.Committing → ⊥)
     → Left m e t (Rattle.at_model.specs.Abort.abort m reason (record { item = t; posts = ps; effects = [] }))
 aborts_from m e reason t ps h q f = aborts m e t (suits t.phase) reason (record { item = t; posts = ps; effects = [] }) (loose_but t.phase f) (begin_along m e t ps h q).0
 
@@ -162,7 +162,7 @@ link_act_owes m e from i kind s t n acts.FaultInvalidState u l h q k =
     still_left m e t t.sent (to_each (stored_or (link_of kind s).coordinator from) (λ to. fault_post (Some to) i invalid_state)) h q
 link_act_owes m e from i kind s t n other u l h q k = still_left m e t t.sent [] h q
 
-link_notice_owes : (m : Moment) (e : Event) (from : Option Epr) (i : Option (List ℕ)) (kind : Kind) (s : Superior) (t : Transaction) (n : Notice) (c : Option Cell) → t.superior ≡ Some s → Linked t
+pub link_notice_owes : (m : Moment) (e : Event) (from : Option Epr) (i : Option (List ℕ)) (kind : Kind) (s : Superior) (t : Transaction) (n : Notice) (c : Option Cell) → t.superior ≡ Some s → Linked t
     → IsShaped t → IsQuiet e t → LinkHearsCell (link_of kind s).state n c → Owes m e t (link_notice m from i kind s t c)
 unfolding link_notice
 link_notice_owes m e from i kind s t n None u l h q k = still_left m e t t.sent [] h q
