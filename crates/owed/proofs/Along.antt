@@ -229,3 +229,7 @@ commit_sent base id ev t ps test olds news same h k =
     one o n i true f ((e, x), y) =
         ((λ d. absurd cc),
         (λ d. inr (as_before base id t.id notices.Commit o n _ e same (in_back _ ps (notices_to base id notices.Commit news test) (sent_in base id notices.Commit news test n i f)))))
+
+pub owed_on : (base : List ℕ) (e : Event) (t : Transaction) (ps qs : List Post) (olds news : List Enlistment) → Pairs (IsOwed base e t ps) olds news → Pairs (IsOwed base e t (ps ++ qs)) olds news
+owed_on base e t ps qs olds news h =
+    pairs_more (IsOwed base e t ps) (IsOwed base e t (ps ++ qs)) olds news (λ o n x. (kept_one e t ps qs o n x.0, asked_one base e t ps qs o n x.1)) h

@@ -7,3 +7,5 @@ pub mod Hearing
 pub mod LinkTable
 pub mod OnLinks
 pub mod Others
+pub mod Steps
+pub mod Books

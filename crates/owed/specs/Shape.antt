@@ -16,8 +16,9 @@ use Rattle.at_model.specs.Seats.{in_state, is_of, is_prepared_durable}
 use Rattle.at_model.specs.Recover.{no_seats, recover}
 use Rattle.at_model.specs.Step.{plan, step}
 use Rattle.at_model.specs.World.{Node, World, WorldEvent, nth, run_of}
+use Rattle.model_laws.specs.Behind.{IsInPhase}
 use Rattle.model_laws.specs.Reached.{Reached}
-use Rattle.enlistments.specs.Moves.{IsReady}
+use Rattle.agreement.specs.Finished.{AreFinished}
 
 -- The states of volatile and of durable seats. Volatile participants are asked before the durable ones, and may still be
 -- Prepared where a superior asked for the volatile ones alone (WS-AtomicTransaction 1.2, section 3.3.1).
@@ -96,8 +97,8 @@ NamesSomebody other = Unit {0}
 -- Each step of a book as in every run keeps its transactions so, and records such votes; so does recovery from such votes.
 -- So each transaction of every run stands so.
 pub record BooksAreShaped : Type 0 where
-  pub book : (b : Book) (e : Event) (now : ℕ) (landed : Bool) → IsReady b → AreShaped b → AreShaped (step b e now landed).book
-  pub entry : (b : Book) (e : Event) (now : ℕ) (r : Record) → IsReady b → AreShaped b → (plan b e now).entry ≡ Some r → NamesSomebody r
+  pub book : (b : Book) (e : Event) (now : ℕ) (landed : Bool) → IsInPhase b → AreFinished b → AreShaped b → AreShaped (step b e now landed).book
+  pub entry : (b : Book) (e : Event) (now : ℕ) (r : Record) → IsInPhase b → AreFinished b → AreShaped b → (plan b e now).entry ≡ Some r → NamesSomebody r
   pub recovered : (base : List ℕ) (rs : List Record) → AllByRecursion NamesSomebody rs → AreShaped (recover base rs)
   pub reached : (count : ℕ) (w : World) → Reached count w → (n : ℕ) (x : Node) (b : Book) → nth n w.nodes ≡ Some x → x.book ≡ Some b → AreShaped b
   pub runs : (count : ℕ) (es : List WorldEvent) → (n : ℕ) (x : Node) (b : Book) → nth n (run_of count es).nodes ≡ Some x → x.book ≡ Some b → AreShaped b
