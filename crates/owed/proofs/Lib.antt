@@ -9,3 +9,5 @@ pub mod OnLinks
 pub mod Others
 pub mod Steps
 pub mod Books
+pub mod Seating
+pub mod Owing

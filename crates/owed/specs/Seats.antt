@@ -1,5 +1,6 @@
 -- What a step owes the participants of a seat.
-use Rattle.std.specs.Prelude.{ℕ, List, [], ◌∷◌, Option, Some, ◌≡◌, ◌⊎◌}
+use Rattle.std.specs.List.{AllByRecursion}
+use Rattle.std.specs.Prelude.{ℕ, List, [], ◌∷◌, Option, Some, None, Bool, true, ◌≡◌, ◌⊎◌}
 use Rattle.at_base.specs.Numbers.{Numbers}
 use Rattle.at_base.specs.declared.epr.Epr.{Epr}
 use Rattle.at_base.specs.declared.message.Message.TheVariants as messages
@@ -7,14 +8,24 @@ use Rattle.at_base.specs.declared.notice.Kind.TheVariants as kinds
 use Rattle.at_base.specs.declared.notice.Notice.{Notice}
 use Rattle.at_base.specs.declared.notice.Notice.TheVariants as notices
 use Rattle.at_base.specs.declared.event.Event.{Event}
+use Rattle.at_base.specs.declared.event.Arrived.{Arrived}
+use Rattle.at_base.specs.declared.event.Event.TheVariants as events
+use Rattle.at_base.specs.declared.outs.Out.{Out}
+use Rattle.at_base.specs.declared.outs.Out.TheVariants as outs
 use Rattle.at_base.specs.declared.outs.Post.{Post}
+use Rattle.at_base.specs.declared.target.Seat.{Seat}
+use Rattle.at_base.specs.declared.target.Target.TheVariants as targets
 use Rattle.at_tables.specs.declared.cells.State.TheVariants as states
-use Rattle.at_model.specs.Book.{Enlistment, Transaction}
+use Rattle.at_model.specs.Book.{Book, Enlistment, Transaction}
 use Rattle.at_model.specs.Posts.{notice_post}
 use Rattle.at_model.specs.Seats.{seat_target}
+use Rattle.at_model.specs.Step.{step, transaction_at}
 use Rattle.model_laws.specs.Agreement.{IsIn}
 use Rattle.model_laws.specs.Behind.{accepted_as}
+use Rattle.model_laws.specs.Shapes.{IsUnknownAt}
 use Rattle.agreement.specs.Deeds.{ParticipantSaid}
+use Rattle.enlistments.specs.Moves.{IsReady}
+use Rattle.owed.specs.Shape.{AreShaped}
 
 -- the notification that goes from this seat to its participant
 abbrev pub seat_post : List ℕ → Numbers → Enlistment → Notice → Post
@@ -67,3 +78,36 @@ abbrev pub Pairs : (Enlistment → Enlistment → Type 0) → List Enlistment �
 Pairs R [] [] = Unit {0}
 Pairs R (o ∷ os) (n ∷ ns) = R o n × Pairs R os ns
 Pairs R olds news = ⊥
+
+-- what a step posts
+abbrev pub posts_of : List Out → List Post
+posts_of [] = []
+posts_of (outs.Post p ∷ os) = p ∷ posts_of os
+posts_of (outs.Answer status reply ∷ os) = posts_of os
+
+-- A participant that registers is asked at once, or later.
+abbrev pub IsNew : List ℕ → Transaction → List Post → Enlistment → Type 0
+IsNew base t ps s =
+    (s.state ≡ states.Preparing → IsIn (seat_post base t.id s notices.Prepare) ps) × ((s.state ≡ states.Committing → ⊥) × (s.state ≡ states.Prepared → ⊥))
+
+-- seat by seat, and seats that are new
+abbrev pub PairsOrNew : (Enlistment → Enlistment → Type 0) → (Enlistment → Type 0) → List Enlistment → List Enlistment → Type 0
+PairsOrNew R N [] news = AllByRecursion N news
+PairsOrNew R N (o ∷ os) [] = ⊥
+PairsOrNew R N (o ∷ os) (n ∷ ns) = R o n × PairsOrNew R N os ns
+
+-- A transaction before and behind a step that posts these: it posts what it then owes the participants of its seats, and
+-- where it is forgotten, it tells the outcome to each that is Prepared. One that is made has no seats.
+abbrev pub AreOwed : List ℕ → Event → List Post → Option Transaction → Option Transaction → Type 0
+AreOwed base e ps None None = Unit {0}
+AreOwed base e ps None (Some new) = new.seats ≡ []
+AreOwed base e ps (Some old) None = AllByRecursion (λ s. s.kind ≡ kinds.Durable → SaysPrepared e old s → IsTold ps s) old.seats
+AreOwed base e ps (Some old) (Some new) = (new.id ≡ old.id) × PairsOrNew (IsOwed base e old ps) (IsNew base old ps) old.seats new.seats
+
+-- So does each step whose record lands; and a Prepared of a durable participant that isn't known is answered with Rollback:
+-- abort is presumed (WS-AtomicTransaction 1.2, section 3.3.4).
+pub record StepsOweSeats : Type 0 where
+  pub seats : (b : Book) (e : Event) (now : ℕ) → IsReady b → AreShaped b → (id : Numbers)
+      → AreOwed b.base e (posts_of (step b e now true).outs) (transaction_at b id) (transaction_at (step b e now true).book id)
+  pub unknown : (b : Book) (a : Arrived) (now : ℕ) (id : Numbers) (s : Seat) → a.target ≡ targets.Coordinator id s → s.kind ≡ kinds.Durable → IsUnknownAt b (targets.Coordinator id s)
+      → a.message ≡ messages.Notice notices.Prepared → (to : Epr) → a.from ≡ Some to → Tells (Some to) notices.Rollback (posts_of (step b (events.Arrived a) now true).outs)

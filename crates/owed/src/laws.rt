@@ -1,9 +1,17 @@
 //! How transactions stand in their phases, and what each step owes.
 
+ghost use Rattle.owed.specs.Seats.{StepsOweSeats};
 ghost use Rattle.owed.specs.Shape.{BooksAreShaped};
 
 /// In every run each transaction stands as its phase wants: its seats, whom it waits for, its links and its initiator.
 #[tactic(auto, using(crate::proofs::Books::books_are_shaped))]
 pub fn books_are_shaped()
     ensures { BooksAreShaped }
+{}
+
+/// Each step posts what it then owes the participants of its seats: Prepare to whom it asks, Commit to whom it has told to
+/// commit, and the outcome to whoever is Prepared no more, also where no seat is known.
+#[tactic(auto, using(crate::proofs::Owing::steps_owe_seats))]
+pub fn steps_owe_seats()
+    ensures { StepsOweSeats }
 {}
