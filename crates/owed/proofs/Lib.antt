@@ -11,3 +11,4 @@ pub mod Steps
 pub mod Books
 pub mod Seating
 pub mod Owing
+pub mod Upwards

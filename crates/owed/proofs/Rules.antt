@@ -117,7 +117,7 @@ rolled_back m e old g f (i, (a, k)) h = by_test (list_any (in_state states.Abort
     by_test false j = none_left e old (suits Phase.Aborting) g.item.id g.item.seats g.posts refl (i, (a, k))
 
 -- the transaction with everybody told to roll back
-abbrev rolling : Moment → Reason → Moving Transaction → Moving Transaction
+abbrev pub rolling : Moment → Reason → Moving Transaction → Moving Transaction
 rolling m reason g =
     posts (initiator_posts m.base g.item.id notices.Aborted g.item.completion)
     (send_each m notices.Rollback states.Aborting is_open

@@ -15,3 +15,8 @@ pub fn books_are_shaped()
 pub fn steps_owe_seats()
     ensures { StepsOweSeats }
 {}
+
+#[tactic(auto, using(crate::proofs::Upwards::go_volatile_keeps))]
+pub fn links_owe()
+    ensures { StepsOweSeats }
+{}
