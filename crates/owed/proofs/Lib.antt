@@ -12,3 +12,4 @@ pub mod Books
 pub mod Seating
 pub mod Owing
 pub mod Upwards
+pub mod UpLinks

@@ -11,6 +11,7 @@ use Rattle.at_tables.specs.declared.cells.Act.{Act}
 use Rattle.at_tables.specs.declared.cells.Act.TheVariants as acts
 use Rattle.at_tables.specs.declared.cells.Cell.{Cell}
 use Rattle.at_tables.specs.Tables.{participant_of}
+use Rattle.owed.specs.Upwards.{IsEarly}
 
 -- a link that aborts
 abbrev pub MayRoll : State → Type 0
@@ -54,7 +55,7 @@ LinkHears state n acts.SendCommitted = (state ≡ states.None) × (n ≡ notices
 LinkHears state n acts.SendAborted = (state ≡ states.None) × ((n ≡ notices.Prepare) ⊎ (n ≡ notices.Rollback))
 LinkHears state n acts.AbortAndSendAborted = MayRoll state × (n ≡ notices.Rollback)
 LinkHears state n acts.RecordAndSendAborted = MayRoll state × (n ≡ notices.Rollback)
-LinkHears state n acts.FaultInvalidStateAndAbort = MayRoll state × (n ≡ notices.Commit)
+LinkHears state n acts.FaultInvalidStateAndAbort = (MayRoll state × IsEarly state) × (n ≡ notices.Commit)
 LinkHears state n acts.FaultInvalidState = ((state ≡ states.Committing) × (n ≡ notices.Rollback)) ⊎ ((state ≡ states.Prepared) × (n ≡ notices.Commit))
 LinkHears state n other = Passes state n
 
@@ -71,21 +72,21 @@ link_hears kinds.Volatile states.None notices.ReadOnly = tt
 link_hears kinds.Volatile states.None notices.Aborted = tt
 link_hears kinds.Volatile states.None notices.Committed = tt
 link_hears kinds.Volatile states.Registering notices.Prepare = tt
-link_hears kinds.Volatile states.Registering notices.Commit = (tt, refl)
+link_hears kinds.Volatile states.Registering notices.Commit = ((tt, tt), refl)
 link_hears kinds.Volatile states.Registering notices.Rollback = (tt, refl)
 link_hears kinds.Volatile states.Registering notices.Prepared = tt
 link_hears kinds.Volatile states.Registering notices.ReadOnly = tt
 link_hears kinds.Volatile states.Registering notices.Aborted = tt
 link_hears kinds.Volatile states.Registering notices.Committed = tt
 link_hears kinds.Volatile states.Active notices.Prepare = (refl, refl)
-link_hears kinds.Volatile states.Active notices.Commit = (tt, refl)
+link_hears kinds.Volatile states.Active notices.Commit = ((tt, tt), refl)
 link_hears kinds.Volatile states.Active notices.Rollback = (tt, refl)
 link_hears kinds.Volatile states.Active notices.Prepared = tt
 link_hears kinds.Volatile states.Active notices.ReadOnly = tt
 link_hears kinds.Volatile states.Active notices.Aborted = tt
 link_hears kinds.Volatile states.Active notices.Committed = tt
 link_hears kinds.Volatile states.Preparing notices.Prepare = tt
-link_hears kinds.Volatile states.Preparing notices.Commit = (tt, refl)
+link_hears kinds.Volatile states.Preparing notices.Commit = ((tt, tt), refl)
 link_hears kinds.Volatile states.Preparing notices.Rollback = (tt, refl)
 link_hears kinds.Volatile states.Preparing notices.Prepared = tt
 link_hears kinds.Volatile states.Preparing notices.ReadOnly = tt
@@ -141,21 +142,21 @@ link_hears kinds.Durable states.None notices.ReadOnly = tt
 link_hears kinds.Durable states.None notices.Aborted = tt
 link_hears kinds.Durable states.None notices.Committed = tt
 link_hears kinds.Durable states.Registering notices.Prepare = tt
-link_hears kinds.Durable states.Registering notices.Commit = (tt, refl)
+link_hears kinds.Durable states.Registering notices.Commit = ((tt, tt), refl)
 link_hears kinds.Durable states.Registering notices.Rollback = (tt, refl)
 link_hears kinds.Durable states.Registering notices.Prepared = tt
 link_hears kinds.Durable states.Registering notices.ReadOnly = tt
 link_hears kinds.Durable states.Registering notices.Aborted = tt
 link_hears kinds.Durable states.Registering notices.Committed = tt
 link_hears kinds.Durable states.Active notices.Prepare = (refl, refl)
-link_hears kinds.Durable states.Active notices.Commit = (tt, refl)
+link_hears kinds.Durable states.Active notices.Commit = ((tt, tt), refl)
 link_hears kinds.Durable states.Active notices.Rollback = (tt, refl)
 link_hears kinds.Durable states.Active notices.Prepared = tt
 link_hears kinds.Durable states.Active notices.ReadOnly = tt
 link_hears kinds.Durable states.Active notices.Aborted = tt
 link_hears kinds.Durable states.Active notices.Committed = tt
 link_hears kinds.Durable states.Preparing notices.Prepare = tt
-link_hears kinds.Durable states.Preparing notices.Commit = (tt, refl)
+link_hears kinds.Durable states.Preparing notices.Commit = ((tt, tt), refl)
 link_hears kinds.Durable states.Preparing notices.Rollback = (tt, refl)
 link_hears kinds.Durable states.Preparing notices.Prepared = tt
 link_hears kinds.Durable states.Preparing notices.ReadOnly = tt

@@ -93,7 +93,7 @@ asks_first Phase.Voted s (v, d) e = absurd (never_active s.volatile.state e v re
 asks_first Phase.Committing s (v, d) e = absurd (never_active s.volatile.state e v refl)
 asks_first Phase.Aborting s (v, d) e = absurd (never_active s.volatile.state e v refl)
 
-asked_in : (phase : Phase) (kind : Kind) (s : Superior) → AreIn phase s.volatile.state s.durable.state → (link_of kind s).state ≡ states.Active
+pub asked_in : (phase : Phase) (kind : Kind) (s : Superior) → AreIn phase s.volatile.state s.durable.state → (link_of kind s).state ≡ states.Active
     → AreIn Phase.Volatile (asked kind s).volatile.state (asked kind s).durable.state
 asked_in phase kinds.Volatile s h e = inl (refl, asks_first phase s h e)
 asked_in phase kinds.Durable s h e = inr (refl, refl)
@@ -157,7 +157,7 @@ link_act_owes m e from i kind s t n acts.RecordAndSendAborted u l h q k = record
   otherwise = tt;
 }
 link_act_owes m e from i kind s t n acts.FaultInvalidStateAndAbort u l h q k =
-    aborts_from m e (Faulted kind) t (to_each (stored_or (link_of kind s).coordinator from) (λ to. fault_post (Some to) i invalid_state)) h q (rolls_undecided t.phase kind s (known t s u l).0 k.0)
+    aborts_from m e (Faulted kind) t (to_each (stored_or (link_of kind s).coordinator from) (λ to. fault_post (Some to) i invalid_state)) h q (rolls_undecided t.phase kind s (known t s u l).0 k.0.0)
 link_act_owes m e from i kind s t n acts.FaultInvalidState u l h q k =
     still_left m e t t.sent (to_each (stored_or (link_of kind s).coordinator from) (λ to. fault_post (Some to) i invalid_state)) h q
 link_act_owes m e from i kind s t n other u l h q k = still_left m e t t.sent [] h q

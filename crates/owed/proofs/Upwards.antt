@@ -50,7 +50,7 @@ pub same_rel : (base : List ℕ) (id : Numbers) (s : Superior) (ps : List Post) 
 same_rel base id s ps o e = subst (Rel base id s ps) (sym e) ((λ kind to b c. inl (b, c)), ((λ to d c. inl (d, c)), (λ d. inl (d, refl))))
 
 -- what goes up
-up_in : (base : List ℕ) (id : Numbers) (kind : Kind) (n : Notice) (link : Link) (to : Epr) → link.coordinator ≡ Some to
+pub up_in : (base : List ℕ) (id : Numbers) (kind : Kind) (n : Notice) (link : Link) (to : Epr) → link.coordinator ≡ Some to
     → IsIn (notice_post base (targets.Participant id kind) to n) (upwards base id kind n link)
 up_in base id kind n link to e =
     subst (λ c. IsIn (notice_post base (targets.Participant id kind) to n) (to_each c (λ x. notice_post base (targets.Participant id kind) x n))) (sym e) (inl refl)
@@ -59,7 +59,7 @@ up_tells : (base : List ℕ) (id : Numbers) (kind : Kind) (n : Notice) (link : L
 up_tells base id kind n link to ps e =
     (notice_post base (targets.Participant id kind) to n, in_back _ ps (upwards base id kind n link) (up_in base id kind n link to e), refl, refl)
 
-idle : (x y : State) → x ≡ y → (IsBusy y → ⊥) → IsBusy x → ⊥
+pub idle : (x y : State) → x ≡ y → (IsBusy y → ⊥) → IsBusy x → ⊥
 idle x y e f b = f (subst IsBusy e b)
 
 -- Abort: a link that is busy says Aborted, unless it just drew a fault.
@@ -85,37 +85,54 @@ links_in : (base : List ℕ) (id : Numbers) (reason : Reason) (s : Superior) (ki
 links_in base id reason s kinds.Volatile to b f e = in_front _ _ _ (aborted_in base id reason kinds.Volatile s.volatile to b f e)
 links_in base id reason s kinds.Durable to b f e = in_back _ (link_aborted base id reason kinds.Volatile s.volatile) _ (aborted_in base id reason kinds.Durable s.durable to b f e)
 
-rolling_rel : (m : Moment) (id : Numbers) (s : Superior) (reason : Reason) (g : Moving Transaction) (o : Option Superior) → g.item.superior ≡ Some s
-    → ((kind : Kind) → IsBusy (link_of kind s).state → is_silent reason kind ≡ false) → (s.durable.state ≡ states.Committing → ⊥) → (o ≡ None) ⊎ (o ≡ without_links g.item.superior)
-    → Rel m.base id s (rolling m reason g).posts o
-rolling_rel m id s reason g o e quiet f left = ((λ kind to b c. by_left kind to (tells kind to b c) left), ((λ to d c. absurd (f d)), by_vote left))
+-- no link has voted
+abbrev pub NeverVoted : Option Superior → Type 0
+NeverVoted None = Unit {0}
+NeverVoted (Some s) = s.durable.state ≡ states.PreparedSuccess → ⊥
+
+abbrev pub Aborted : Superior → Reason → List Post → Option Superior → Type 0
+Aborted s reason ps o =
+    ((kind : Kind) (to : Epr) → is_silent reason kind ≡ false → IsBusy (link_of kind s).state → (link_of kind s).coordinator ≡ Some to → StaysBusy kind to ps o) × NeverVoted o
+
+rolling_rel : (m : Moment) (s : Superior) (reason : Reason) (g : Moving Transaction) (o : Option Superior) → g.item.superior ≡ Some s → (o ≡ None) ⊎ (o ≡ without_links g.item.superior)
+    → Aborted s reason (rolling m reason g).posts o
+rolling_rel m s reason g o e left = ((λ kind to f b c. by_left kind to (tells kind to f b c) left), by_vote left)
   where
-    tells : (kind : Kind) (to : Epr) → IsBusy (link_of kind s).state → (link_of kind s).coordinator ≡ Some to → TellsAnswer to (rolling m reason g).posts
-    tells kind to b c =
+    tells : (kind : Kind) (to : Epr) → is_silent reason kind ≡ false → IsBusy (link_of kind s).state → (link_of kind s).coordinator ≡ Some to → TellsAnswer to (rolling m reason g).posts
+    tells kind to f b c =
         (notices.Aborted, tt, (notice_post m.base (targets.Participant g.item.id kind) to notices.Aborted,
         in_front _ _ (initiator_posts m.base g.item.id notices.Aborted g.item.completion)
         (in_front _ _ (notices_to m.base g.item.id notices.Rollback g.item.seats is_open)
         (in_back _ g.posts (links_aborted m.base g.item.id reason g.item.superior)
         (subst (λ x. IsIn (notice_post m.base (targets.Participant g.item.id kind) to notices.Aborted) (links_aborted m.base g.item.id reason x)) (sym e)
-        (links_in m.base g.item.id reason s kind to b (quiet kind b) c)))), refl, refl))
+        (links_in m.base g.item.id reason s kind to b f c)))), refl, refl))
 
     by_left : (kind : Kind) (to : Epr) → TellsAnswer to (rolling m reason g).posts → (o ≡ None) ⊎ (o ≡ without_links g.item.superior) → StaysBusy kind to (rolling m reason g).posts o
     by_left kind to h (inl k) = subst (StaysBusy kind to (rolling m reason g).posts) (sym k) h
     by_left kind to h (inr k) = subst (StaysBusy kind to (rolling m reason g).posts) (sym (k ∙ ap without_links e)) (inr h)
 
-    by_vote : (o ≡ None) ⊎ (o ≡ without_links g.item.superior) → HasVotedSo m.base id s (rolling m reason g).posts o
-    by_vote (inl k) = subst (HasVotedSo m.base id s (rolling m reason g).posts) (sym k) tt
-    by_vote (inr k) = subst (HasVotedSo m.base id s (rolling m reason g).posts) (sym (k ∙ ap without_links e)) (λ d. absurd cc)
+    by_vote : (o ≡ None) ⊎ (o ≡ without_links g.item.superior) → NeverVoted o
+    by_vote (inl k) = subst NeverVoted (sym k) tt
+    by_vote (inr k) = subst NeverVoted (sym (k ∙ ap without_links e)) (λ d. absurd cc)
+
+pub aborts_up : (m : Moment) (s : Superior) (reason : Reason) (g : Moving Transaction) → g.item.superior ≡ Some s → Aborted s reason (abort m reason g).posts (superior_left (abort m reason g).item)
+unfolding abort
+aborts_up m s reason g e =
+    either_left (λ c. Aborted s reason c.posts (superior_left c.item)) (list_any (in_state states.Aborting) (rolling m reason g).item.seats) (stays (rolling m reason g)) (forgotten (rolling m reason g))
+    (rolling_rel m s reason g (without_links g.item.superior) e (inr refl)) (rolling_rel m s reason g None e (inl refl))
+
+voted_never : (base : List ℕ) (id : Numbers) (s : Superior) (ps : List Post) (o : Option Superior) → NeverVoted o → HasVotedSo base id s ps o
+voted_never base id s ps None h = tt
+voted_never base id s ps (Some x) h = λ d. absurd (h d)
 
 pub abort_keeps : (m : Moment) (id : Numbers) (s : Superior) (reason : Reason) (g : Moving Transaction) → g.item.superior ≡ Some s
     → ((kind : Kind) → IsBusy (link_of kind s).state → is_silent reason kind ≡ false) → (s.durable.state ≡ states.Committing → ⊥) → Keeps m.base id s (abort m reason g)
-unfolding abort
 abort_keeps m id s reason g e quiet f =
-    either_left (Keeps m.base id s) (list_any (in_state states.Aborting) (rolling m reason g).item.seats) (stays (rolling m reason g)) (forgotten (rolling m reason g))
-    (rolling_rel m id s reason g (without_links g.item.superior) e quiet f (inr refl)) (rolling_rel m id s reason g None e quiet f (inl refl))
+    let (busy, never) = aborts_up m s reason g e in
+    ((λ kind to b c. busy kind to (quiet kind b) b c), ((λ to d c. absurd (f d)), voted_never m.base id s (abort m reason g).posts (superior_left (abort m reason g).item) never))
 
 -- where the durable link was asked
-differs : (x y z : State) → x ≡ y → is_state y z ≡ false → x ≡ z → ⊥
+pub differs : (x y z : State) → x ≡ y → is_state y z ≡ false → x ≡ z → ⊥
 differs x y z e f g = let h : is_state z z ≡ false = subst (λ w. is_state w z ≡ false) (sym e ∙ g) f in itself z h
   where
     itself : (w : State) → is_state w w ≡ false → ⊥

@@ -6,14 +6,16 @@ use Rattle.at_base.specs.declared.notice.Kind.{Kind}
 use Rattle.at_base.specs.declared.notice.Kind.TheVariants as kinds
 use Rattle.at_base.specs.declared.notice.Notice.{Notice}
 use Rattle.at_base.specs.declared.notice.Notice.TheVariants as notices
+use Rattle.at_base.specs.declared.event.Event.{Event}
 use Rattle.at_base.specs.declared.outs.Post.{Post}
 use Rattle.at_base.specs.declared.target.Target.TheVariants as targets
 use Rattle.at_tables.specs.declared.cells.State.{State}
 use Rattle.at_tables.specs.declared.cells.State.TheVariants as states
 use Rattle.at_model.specs.Book.{Superior, Transaction}
-use Rattle.at_model.specs.Posts.{notice_post}
+use Rattle.at_model.specs.Posts.{notice_post, stored_or}
 use Rattle.at_model.specs.Seats.{link_of}
 use Rattle.model_laws.specs.Agreement.{IsIn}
+use Rattle.agreement.specs.Deeds.{SuperiorSaid}
 use Rattle.owed.specs.Seats.{AnswersSeat, Tells}
 
 -- a link that is asked, or told to commit, and hasn't answered
@@ -51,3 +53,56 @@ HasVotedSo base id s ps None = Unit {0}
 HasVotedSo base id s ps (Some new) =
     new.durable.state ≡ states.PreparedSuccess
     → ((s.durable.state ≡ states.PreparedSuccess) × (new.durable.coordinator ≡ s.durable.coordinator)) ⊎ SaysVote base id new.durable.coordinator ps
+
+-- one that hasn't voted
+abbrev pub IsEarly : State → Type 0
+IsEarly states.Registering = Unit {0}
+IsEarly states.Active = Unit {0}
+IsEarly states.Preparing = Unit {0}
+IsEarly other = ⊥
+
+abbrev pub LinkIsBusy : Kind → Option Superior → Type 0
+LinkIsBusy kind None = ⊥
+LinkIsBusy kind (Some s) = IsBusy (link_of kind s).state
+
+abbrev pub CommitsIn : Option Superior → Type 0
+CommitsIn None = ⊥
+CommitsIn (Some s) = s.durable.state ≡ states.Committing
+
+-- A Prepare that comes on a link which has registered is answered, or the link is busy with it: the answer goes to the
+-- coordinator where that is known, else to the message's From.
+abbrev pub AnswersPrepare : Event → Transaction → Superior → List Post → Option Superior → Type 0
+AnswersPrepare e t s ps o =
+    (kind : Kind) (h : SuperiorSaid kind notices.Prepare e t) (to : Epr) → ((link_of kind s).state ≡ states.Registering → ⊥)
+    → stored_or (link_of kind s).coordinator h.message.from ≡ Some to → LinkIsBusy kind o ⊎ TellsAnswer to ps
+
+-- A Commit that comes behind the vote is answered with Committed, or the link commits.
+abbrev pub AnswersCommit : Event → Transaction → Superior → List Post → Option Superior → Type 0
+AnswersCommit e t s ps o =
+    (h : SuperiorSaid kinds.Durable notices.Commit e t) (to : Epr) → (IsEarly s.durable.state → ⊥) → stored_or s.durable.coordinator h.message.from ≡ Some to
+    → CommitsIn o ⊎ Tells (Some to) notices.Committed ps
+
+-- A busy link stays busy or answers, but where a Commit comes before its vote, or a durable Prepare beside a volatile link.
+abbrev pub IsExcused : Event → Transaction → Kind → Superior → Type 0
+IsExcused e t kind s =
+    (((link_of kind s).state ≡ states.Preparing) × SuperiorSaid kind notices.Commit e t) ⊎ ((kind ≡ kinds.Volatile) × SuperiorSaid kinds.Durable notices.Prepare e t)
+
+abbrev pub KeepsBusy : Event → Transaction → Superior → List Post → Option Superior → Type 0
+KeepsBusy e t s ps o =
+    (kind : Kind) (to : Epr) → (IsExcused e t kind s → ⊥) → IsBusy (link_of kind s).state → (link_of kind s).coordinator ≡ Some to → StaysBusy kind to ps o
+
+abbrev pub KeepsCommitting : Superior → List Post → Option Superior → Type 0
+KeepsCommitting s ps o = (to : Epr) → s.durable.state ≡ states.Committing → s.durable.coordinator ≡ Some to → StaysCommitting to ps o
+
+-- A link that has voted had voted, with the same coordinator, and no outcome came by this event; or it says Prepared now.
+abbrev pub KeepsVote : List ℕ → Event → Transaction → Superior → List Post → Option Superior → Type 0
+KeepsVote base e t s ps None = Unit {0}
+KeepsVote base e t s ps (Some new) =
+    new.durable.state ≡ states.PreparedSuccess
+    → (((s.durable.state ≡ states.PreparedSuccess) × (new.durable.coordinator ≡ s.durable.coordinator))
+    × ((SuperiorSaid kinds.Durable notices.Commit e t → ⊥) × (SuperiorSaid kinds.Durable notices.Rollback e t → ⊥)))
+    ⊎ SaysVote base t.id new.durable.coordinator ps
+
+abbrev pub LinksOwed : List ℕ → Event → Transaction → Superior → List Post → Option Superior → Type 0
+LinksOwed base e t s ps o =
+    AnswersPrepare e t s ps o × (AnswersCommit e t s ps o × (KeepsBusy e t s ps o × (KeepsCommitting s ps o × KeepsVote base e t s ps o)))

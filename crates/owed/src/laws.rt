@@ -16,7 +16,7 @@ pub fn steps_owe_seats()
     ensures { StepsOweSeats }
 {}
 
-#[tactic(auto, using(crate::proofs::Upwards::go_volatile_keeps))]
+#[tactic(auto, using(crate::proofs::UpLinks::said_owed))]
 pub fn links_owe()
     ensures { StepsOweSeats }
 {}
