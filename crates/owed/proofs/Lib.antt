@@ -13,3 +13,4 @@ pub mod Seating
 pub mod Owing
 pub mod Upwards
 pub mod UpLinks
+pub mod UpActs

@@ -44,7 +44,7 @@ use Rattle.owed.proofs.OnLinks.{asked_in, links_know}
 use Rattle.owed.proofs.Upwards.{Aborted, Keeps, KeepsAll, NeverVoted, Rel, aborts_up, differs, go_volatile_keeps, idle, same_rel, up_in}
 
 -- the states of links
-abbrev IsLinkState : State → Type 0
+abbrev pub IsLinkState : State → Type 0
 IsLinkState states.None = Unit {0}
 IsLinkState states.Registering = Unit {0}
 IsLinkState states.Active = Unit {0}
@@ -76,7 +76,7 @@ link_states Phase.Voted v d (h, k) = (this_state v states.None h tt, this_state 
 link_states Phase.Committing v d (h, k) = (this_state v states.None h tt, this_state d states.Committing k tt)
 link_states Phase.Aborting v d (h, k) = (this_state v states.None h tt, this_state d states.None k tt)
 
-link_state : (phase : Phase) (kind : Kind) (s : Superior) → AreIn phase s.volatile.state s.durable.state → IsLinkState (link_of kind s).state
+pub link_state : (phase : Phase) (kind : Kind) (s : Superior) → AreIn phase s.volatile.state s.durable.state → IsLinkState (link_of kind s).state
 link_state phase kinds.Volatile s h = (link_states phase s.volatile.state s.durable.state h).0
 link_state phase kinds.Durable s h = (link_states phase s.volatile.state s.durable.state h).1
 
@@ -91,7 +91,7 @@ committing_alone Phase.Voted v d (h, k) e = h
 committing_alone Phase.Committing v d (h, k) e = h
 committing_alone Phase.Aborting v d (h, k) e = h
 
-rolls_uncommitted : (phase : Phase) (kind : Kind) (s : Superior) → AreIn phase s.volatile.state s.durable.state → MayRoll (link_of kind s).state → s.durable.state ≡ states.Committing → ⊥
+pub rolls_uncommitted : (phase : Phase) (kind : Kind) (s : Superior) → AreIn phase s.volatile.state s.durable.state → MayRoll (link_of kind s).state → s.durable.state ≡ states.Committing → ⊥
 rolls_uncommitted phase kinds.Volatile s h r e = subst MayRoll (committing_alone phase s.volatile.state s.durable.state h e) r
 rolls_uncommitted phase kinds.Durable s h r e = subst MayRoll e r
 
@@ -100,7 +100,7 @@ abbrev kind_in : Target → Kind
 kind_in (targets.Participant id kind) = kind
 kind_in other = kinds.Volatile
 
-one_link : (e : Event) (t : Transaction) (k j : Kind) (n v : Notice) → SuperiorSaid k n e t → SuperiorSaid j v e t → (j ≡ k) × (v ≡ n)
+pub one_link : (e : Event) (t : Transaction) (k j : Kind) (n v : Notice) → SuperiorSaid k n e t → SuperiorSaid j v e t → (j ≡ k) × (v ≡ n)
 one_link e t k j n v h i =
     let came : events.Arrived h.message ≡ events.Arrived i.message = sym h.came ∙ i.came in
     let same : h.message ≡ i.message = cc in
@@ -120,7 +120,7 @@ one_from e t k j n v h i =
 abbrev pub SuperiorIsQuiet : Event → Transaction → Type 0
 SuperiorIsQuiet e t = (kind : Kind) (n : Notice) → SuperiorSaid kind n e t → ⊥
 
-vote_on : (base : List ℕ) (e : Event) (t : Transaction) (s : Superior) (ps : List Post) (o : Option Superior)
+pub vote_on : (base : List ℕ) (e : Event) (t : Transaction) (s : Superior) (ps : List Post) (o : Option Superior)
     → (s.durable.state ≡ states.PreparedSuccess → (SuperiorSaid kinds.Durable notices.Commit e t → ⊥) × (SuperiorSaid kinds.Durable notices.Rollback e t → ⊥)) → HasVotedSo base t.id s ps o
     → KeepsVote base e t s ps o
 vote_on base e t s ps None q h = tt
@@ -138,7 +138,7 @@ quiet_links base e t s ps o q (busy, (commits, votes)) =
     vote_on base e t s ps o (λ d. (q kinds.Durable notices.Commit, q kinds.Durable notices.Rollback)) votes))))
 
 -- A notification on a link, and what is done about it.
-abbrev Said : Event → Transaction → Kind → Notice → Superior → List Post → Option Superior → Type 0
+abbrev pub Said : Event → Transaction → Kind → Notice → Superior → List Post → Option Superior → Type 0
 Said e t kind n s ps o =
     (h : SuperiorSaid kind n e t)
     → ((to : Epr) → n ≡ notices.Prepare → ((link_of kind s).state ≡ states.Registering → ⊥) → stored_or (link_of kind s).coordinator h.message.from ≡ Some to → LinkIsBusy kind o ⊎ TellsAnswer to ps)

@@ -16,7 +16,7 @@ pub fn steps_owe_seats()
     ensures { StepsOweSeats }
 {}
 
-#[tactic(auto, using(crate::proofs::UpLinks::said_owed))]
+#[tactic(auto, using(crate::proofs::UpActs::says_more))]
 pub fn links_owe()
     ensures { StepsOweSeats }
 {}
