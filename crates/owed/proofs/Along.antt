@@ -74,7 +74,7 @@ pub in_back : {A : Type 0} (x : A) (xs ys : List A) → IsIn x ys → IsIn x (xs
 in_back x [] ys h = h
 in_back x (y ∷ xs) ys h = inr (in_back x xs ys h)
 
-tells_on : (to : Option Epr) (n : Notice) (ps qs : List Post) → Tells to n ps → Tells to n (ps ++ qs)
+pub tells_on : (to : Option Epr) (n : Notice) (ps qs : List Post) → Tells to n ps → Tells to n (ps ++ qs)
 tells_on to n ps qs (p, i, h, k) = (p, in_front p ps qs i, h, k)
 
 pub told_on : (to : Option Epr) (ps qs : List Post) → TellsOutcome to ps → TellsOutcome to (ps ++ qs)

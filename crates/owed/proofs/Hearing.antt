@@ -81,7 +81,7 @@ abbrev NeverSays : Notice → Type 0
 NeverSays notices.Prepared = ⊥
 NeverSays other = Unit {0}
 
-abbrev HearsAt : Kind → State → Notice → Act → Type 0
+abbrev pub HearsAt : Kind → State → Notice → Act → Type 0
 HearsAt kind state n acts.Vote = state ≡ states.Preparing
 HearsAt kind state n acts.Leave = MovesOn state × NeverSays n
 HearsAt kind state n acts.LeaveAndAbort = IsUnanswered state × NeverSays n
@@ -90,12 +90,12 @@ HearsAt kind state n acts.SendCommit = (state ≡ states.Committing) × (n ≡ n
 HearsAt kind state n acts.SendRollback = (state ≡ states.Aborting) ⊎ ((state ≡ states.None) × (kind ≡ kinds.Durable))
 HearsAt kind state n other = Leaves kind state n
 
-abbrev HearsCell : Kind → State → Notice → Option Cell → Type 0
+abbrev pub HearsCell : Kind → State → Notice → Option Cell → Type 0
 HearsCell kind state n None = Leaves kind state n
 HearsCell kind state n (Some c) = HearsAt kind state n c.act
 
 -- the states that a seat may have
-abbrev IsSeatState : State → Type 0
+abbrev pub IsSeatState : State → Type 0
 IsSeatState states.None = Unit {0}
 IsSeatState states.Active = Unit {0}
 IsSeatState states.Preparing = Unit {0}
@@ -111,7 +111,7 @@ unheard kind state n f g h = ((λ e a. f a), ((λ e a. g a), (λ d a. absurd (h 
 other_state : (kind : Kind) (state : State) (n : Notice) → (state ≡ states.Preparing → ⊥) → (state ≡ states.Committing → ⊥) → (n ≡ notices.Prepared → ⊥) → Leaves kind state n
 other_state kind state n f g h = ((λ e a. f e), ((λ e a. g e), (λ d a. absurd (h a))))
 
-table : (kind : Kind) (state : State) (n : Notice) → IsSeatState state → HearsCell kind state n (coordinator_of kind state n)
+pub table : (kind : Kind) (state : State) (n : Notice) → IsSeatState state → HearsCell kind state n (coordinator_of kind state n)
 table kinds.Volatile states.None notices.Prepared h = ((λ e a. absurd cc), ((λ e a. absurd cc), (λ e a. absurd cc)))
 table kinds.Volatile states.None notices.ReadOnly h = other_state kinds.Volatile states.None notices.ReadOnly (λ e. absurd cc) (λ e. absurd cc) (λ e. absurd cc)
 table kinds.Volatile states.None notices.Aborted h = other_state kinds.Volatile states.None notices.Aborted (λ e. absurd cc) (λ e. absurd cc) (λ e. absurd cc)

@@ -14,3 +14,7 @@ pub mod Owing
 pub mod Upwards
 pub mod UpLinks
 pub mod UpActs
+pub mod UpMoves
+pub mod UpSteps
+pub mod UpBooks
+pub mod UpStrangers

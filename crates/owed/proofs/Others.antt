@@ -183,13 +183,13 @@ completion_owes m e a t c (messages.Notice n) there l h q = completion_notice_ow
 completion_owes m e a t c other there l h q = still_left m e t t.sent [] h q
 
 -- time
-abbrev DueSays : Transaction → Reached → Type 0
+abbrev pub DueSays : Transaction → Reached → Type 0
 DueSays t Expired = may_expire t.phase ≡ true
 DueSays t Over = is_aborting t.phase ≡ true
 DueSays t Unanswered = Unit {0}
 DueSays t Nothing = Unit {0}
 
-due_says : (m : Moment) (t : Transaction) → DueSays t (transaction_due m t)
+pub due_says : (m : Moment) (t : Transaction) → DueSays t (transaction_due m t)
 due_says m t =
     by_tests (may_expire t.phase) (has_come m.now t.deadline) (is_aborting t.phase) (is_over m.now t.aborted) (is_quiet m.now t.sent && is_some_post (transaction_again m.base t)) refl refl
   where

@@ -85,7 +85,7 @@ left_owed : (m : Moment) (e : Event) (t : Transaction) (ps : List Post) (o : Opt
 left_owed m e t ps None h = h
 left_owed m e t ps (Some x) (h, (i, k)) = (i, or_new (IsOwed m.base e t ps) (IsNew m.base t ps) t.seats x.seats k)
 
-left_id : (m : Moment) (e : Event) (t : Transaction) (ps : List Post) (o : Option Transaction) → LeftIn m e t ps o → IfThere (λ x. transaction_id x ≡ t.id) o
+pub left_id : (m : Moment) (e : Event) (t : Transaction) (ps : List Post) (o : Option Transaction) → LeftIn m e t ps o → IfThere (λ x. transaction_id x ≡ t.id) o
 left_id m e t ps None h = tt
 left_id m e t ps (Some x) (h, (i, k)) = i
 

@@ -148,7 +148,7 @@ at_its_seat e a t s n came why says h =
       only = only_one 0 why.number why.kind t.seats s (kept_rise t.phase t.seats h.numbers) why.found;
     }
 
-came_so : (e : Event) (a b : Arrived) → e ≡ events.Arrived a → e ≡ events.Arrived b → a ≡ b
+pub came_so : (e : Event) (a b : Arrived) → e ≡ events.Arrived a → e ≡ events.Arrived b → a ≡ b
 came_so e a b f g = let h : events.Arrived a ≡ events.Arrived b = sym f ∙ g in cc
 
 heard_or : (e : Event) (a : Arrived) (t : Transaction) (x : Message) → e ≡ events.Arrived a → a.message ≡ x → AllByRecursion (Unheard e t []) t.seats ⊎ ((n : Notice) × (x ≡ messages.Notice n))

@@ -60,7 +60,7 @@ known_to None from to e f = absurd cc
 known_to (Some x) from to e f = f
 
 -- the transaction stands as it did
-same_said : (base : List ℕ) (e : Event) (t : Transaction) (kind : Kind) (n : Notice) (s : Superior) (ps : List Post) → SuperiorSaid kind n e t → t.superior ≡ Some s → Said e t kind n s ps (Some s)
+pub same_said : (base : List ℕ) (e : Event) (t : Transaction) (kind : Kind) (n : Notice) (s : Superior) (ps : List Post) → SuperiorSaid kind n e t → t.superior ≡ Some s → Said e t kind n s ps (Some s)
     → ((link_of kind s).state ≡ states.PreparedSuccess → (n ≡ notices.Commit → ⊥) × (n ≡ notices.Rollback → ⊥)) → LinksOwed base e t s ps t.superior
 same_said base e t kind n s ps h u says q =
     subst (LinksOwed base e t s ps) (sym u)
@@ -73,14 +73,14 @@ same_said base e t kind n s ps h u says q =
         f (q (subst (λ x. (link_of x s).state ≡ states.PreparedSuccess) k d)) (sym w)
 
 -- nothing to say
-says_none : (e : Event) (t : Transaction) (kind : Kind) (n : Notice) (s : Superior) (ps : List Post) (o : Option Superior) → (n ≡ notices.Prepare → ⊥) → (n ≡ notices.Commit → ⊥) → Said e t kind n s ps o
+pub says_none : (e : Event) (t : Transaction) (kind : Kind) (n : Notice) (s : Superior) (ps : List Post) (o : Option Superior) → (n ≡ notices.Prepare → ⊥) → (n ≡ notices.Commit → ⊥) → Said e t kind n s ps o
 says_none e t kind n s ps o f g h = ((λ to x r k. absurd (f x)), (λ to x r k d. absurd (g x)))
 
-one_post : (base : List ℕ) (c : Option Epr) (p : Epr → Post) (n : Notice) (to : Epr) → c ≡ Some to → (p to).to ≡ Some to → (p to).message ≡ messages.Notice n → Tells (Some to) n (to_each c p)
+pub one_post : (base : List ℕ) (c : Option Epr) (p : Epr → Post) (n : Notice) (to : Epr) → c ≡ Some to → (p to).to ≡ Some to → (p to).message ≡ messages.Notice n → Tells (Some to) n (to_each c p)
 one_post base c p n to e f g = subst (λ x. Tells (Some to) n (to_each x p)) (sym e) (p to, inl refl, f, g)
 
 -- a message that passes
-passes : (base : List ℕ) (e : Event) (kind : Kind) (n : Notice) (s : Superior) (t : Transaction) → t.superior ≡ Some s → Linked t → SuperiorSaid kind n e t → Passes (link_of kind s).state n
+pub passes : (base : List ℕ) (e : Event) (kind : Kind) (n : Notice) (s : Superior) (t : Transaction) → t.superior ≡ Some s → Linked t → SuperiorSaid kind n e t → Passes (link_of kind s).state n
     → LinksOwed base e t s [] t.superior
 passes base e kind n s t u l h p =
     same_said base e t kind n s [] h u (λ i. ((λ to x r k. inl (deaf (link_of kind s).state (link_state t.phase kind s (known t s u l).0) (subst (Passes (link_of kind s).state) x p) r)),
@@ -117,7 +117,7 @@ is_or_tells kind to ps (Some s) (inr h) = inr h
 active_idle : (x : State) → x ≡ states.Active → IsBusy x → ⊥
 active_idle x e b = idle x states.Active e (λ y. y) b
 
-asked_owed : (base : List ℕ) (e : Event) (t : Transaction) (kind : Kind) (n : Notice) (s : Superior) (ps : List Post) (o : Option Superior) → SuperiorSaid kind n e t → n ≡ notices.Prepare
+pub asked_owed : (base : List ℕ) (e : Event) (t : Transaction) (kind : Kind) (n : Notice) (s : Superior) (ps : List Post) (o : Option Superior) → SuperiorSaid kind n e t → n ≡ notices.Prepare
     → (link_of kind s).state ≡ states.Active → LinksKnow s → Rel base t.id (asked kind s) ps o → LinksOwed base e t s ps o
 asked_owed base e t kinds.Volatile n s ps o h p a (v, d) (busy, (commits, votes)) =
     said_owed base e t kinds.Volatile n s ps o h
@@ -171,14 +171,14 @@ early_busy states.Registering a b = absurd b
 early_busy states.Active a b = absurd b
 early_busy other a b = absurd a
 
-asked_aborts : (base : List ℕ) (e : Event) (t : Transaction) (kind : Kind) (n : Notice) (s : Superior) (from : Option Epr) (ps : List Post) (o : Option Superior) → SuperiorSaid kind n e t
+pub asked_aborts : (base : List ℕ) (e : Event) (t : Transaction) (kind : Kind) (n : Notice) (s : Superior) (from : Option Epr) (ps : List Post) (o : Option Superior) → SuperiorSaid kind n e t
     → n ≡ notices.Rollback → (s.durable.state ≡ states.Committing → ⊥) → Aborted s (Asked kind from) ps o → LinksOwed base e t s ps o
 asked_aborts base e t kind n s from ps o h r f (busy, never) =
     said_owed base e t kind n s ps o h
     (says_none e t kind n s ps o (λ x. let g : notices.Rollback ≡ notices.Prepare = sym r ∙ x in cc) (λ x. let g : notices.Rollback ≡ notices.Commit = sym r ∙ x in cc))
     (λ j to x b c. busy j to refl b c) (λ to d c. absurd (f d)) (never_vote base e t s ps o never)
 
-fault_aborts : (base : List ℕ) (e : Event) (t : Transaction) (kind : Kind) (n : Notice) (s : Superior) (ps : List Post) (o : Option Superior) → SuperiorSaid kind n e t
+pub fault_aborts : (base : List ℕ) (e : Event) (t : Transaction) (kind : Kind) (n : Notice) (s : Superior) (ps : List Post) (o : Option Superior) → SuperiorSaid kind n e t
     → n ≡ notices.Commit → IsEarly (link_of kind s).state → (s.durable.state ≡ states.Committing → ⊥) → Aborted s (Faulted kind) ps o → LinksOwed base e t s ps o
 fault_aborts base e t kind n s ps o h r early f (busy, never) =
     said_owed base e t kind n s ps o h
@@ -192,7 +192,7 @@ fault_aborts base e t kind n s ps o h r early f (busy, never) =
         absurd (x (inl (early_busy (link_of j s).state (subst (λ y. IsEarly (link_of y s).state) (sym same) early) b, subst (λ y. SuperiorSaid y notices.Commit e t) (sym same) (subst (λ y. SuperiorSaid kind y e t) r h))))
 
 -- the superior's Commit
-commit_up : (m : Moment) (e : Event) (s : Superior) (t : Transaction) (kind : Kind) (n : Notice) → SuperiorSaid kind n e t → n ≡ notices.Commit → AreIn Phase.Voted s.volatile.state s.durable.state
+pub commit_up : (m : Moment) (e : Event) (s : Superior) (t : Transaction) (kind : Kind) (n : Notice) → SuperiorSaid kind n e t → n ≡ notices.Commit → AreIn Phase.Voted s.volatile.state s.durable.state
     → UpOwes m.base e t s (commit_voted m s t)
 unfolding commit_voted
 commit_up m e s t kind n h r (v, d) = record {

@@ -110,7 +110,7 @@ one_link e t k j n v h i =
     one_of : (x y : Notice) → messages.Notice x ≡ messages.Notice y → x ≡ y
     one_of x y f = cc
 
-one_from : (e : Event) (t : Transaction) (k j : Kind) (n v : Notice) (h : SuperiorSaid k n e t) (i : SuperiorSaid j v e t) → i.message.from ≡ h.message.from
+pub one_from : (e : Event) (t : Transaction) (k j : Kind) (n v : Notice) (h : SuperiorSaid k n e t) (i : SuperiorSaid j v e t) → i.message.from ≡ h.message.from
 one_from e t k j n v h i =
     let came : events.Arrived h.message ≡ events.Arrived i.message = sym h.came ∙ i.came in
     let same : h.message ≡ i.message = cc in

@@ -1,22 +1,29 @@
 -- What a subordinate's link owes its coordinator.
-use Rattle.std.specs.Prelude.{ℕ, List, Option, Some, None, ◌≡◌, ◌⊎◌}
+use Rattle.std.specs.Prelude.{ℕ, List, Option, Some, None, true, ◌≡◌, ◌⊎◌}
 use Rattle.at_base.specs.Numbers.{Numbers}
 use Rattle.at_base.specs.declared.epr.Epr.{Epr}
 use Rattle.at_base.specs.declared.notice.Kind.{Kind}
 use Rattle.at_base.specs.declared.notice.Kind.TheVariants as kinds
 use Rattle.at_base.specs.declared.notice.Notice.{Notice}
 use Rattle.at_base.specs.declared.notice.Notice.TheVariants as notices
+use Rattle.at_base.specs.declared.message.Message.TheVariants as messages
+use Rattle.at_base.specs.declared.event.Arrived.{Arrived}
 use Rattle.at_base.specs.declared.event.Event.{Event}
+use Rattle.at_base.specs.declared.event.Event.TheVariants as events
 use Rattle.at_base.specs.declared.outs.Post.{Post}
 use Rattle.at_base.specs.declared.target.Target.TheVariants as targets
 use Rattle.at_tables.specs.declared.cells.State.{State}
 use Rattle.at_tables.specs.declared.cells.State.TheVariants as states
-use Rattle.at_model.specs.Book.{Superior, Transaction}
+use Rattle.at_model.specs.Book.{Book, Superior, Transaction}
 use Rattle.at_model.specs.Posts.{notice_post, stored_or}
 use Rattle.at_model.specs.Seats.{link_of}
+use Rattle.at_model.specs.Step.{step, transaction_at}
 use Rattle.model_laws.specs.Agreement.{IsIn}
+use Rattle.model_laws.specs.Shapes.{IsUnknownAt}
 use Rattle.agreement.specs.Deeds.{SuperiorSaid}
-use Rattle.owed.specs.Seats.{AnswersSeat, Tells}
+use Rattle.enlistments.specs.Moves.{IsReady}
+use Rattle.owed.specs.Seats.{AnswersSeat, Tells, posts_of}
+use Rattle.owed.specs.Shape.{AreShaped}
 
 -- a link that is asked, or told to commit, and hasn't answered
 abbrev pub IsBusy : State → Type 0
@@ -106,3 +113,13 @@ KeepsVote base e t s ps (Some new) =
 abbrev pub LinksOwed : List ℕ → Event → Transaction → Superior → List Post → Option Superior → Type 0
 LinksOwed base e t s ps o =
     AnswersPrepare e t s ps o × (AnswersCommit e t s ps o × (KeepsBusy e t s ps o × (KeepsCommitting s ps o × KeepsVote base e t s ps o)))
+
+-- So does each step of a book whose record lands; and where no participant is known, a Prepare is answered with Aborted, and
+-- a Commit with Committed (WS-AtomicTransaction 1.2, section 3.3.4).
+pub record StepsOweLinks : Type 0 where
+  pub links : (b : Book) (e : Event) (now : ℕ) → IsReady b → AreShaped b → (t : Transaction) (s : Superior) → transaction_at b t.id ≡ Some t → t.superior ≡ Some s
+      → LinksOwed b.base e t s (posts_of (step b e now true).outs) (superior_left (transaction_at (step b e now true).book t.id))
+  pub unprepared : (b : Book) (a : Arrived) (now : ℕ) (id : Numbers) (kind : Kind) (to : Epr) → a.target ≡ targets.Participant id kind → IsUnknownAt b (targets.Participant id kind)
+      → a.message ≡ messages.Notice notices.Prepare → a.from ≡ Some to → Tells (Some to) notices.Aborted (posts_of (step b (events.Arrived a) now true).outs)
+  pub uncommitted : (b : Book) (a : Arrived) (now : ℕ) (id : Numbers) (kind : Kind) (to : Epr) → a.target ≡ targets.Participant id kind → IsUnknownAt b (targets.Participant id kind)
+      → a.message ≡ messages.Notice notices.Commit → a.from ≡ Some to → Tells (Some to) notices.Committed (posts_of (step b (events.Arrived a) now true).outs)

@@ -2,6 +2,7 @@
 
 ghost use Rattle.owed.specs.Seats.{StepsOweSeats};
 ghost use Rattle.owed.specs.Shape.{BooksAreShaped};
+ghost use Rattle.owed.specs.Upwards.{StepsOweLinks};
 
 /// In every run each transaction stands as its phase wants: its seats, whom it waits for, its links and its initiator.
 #[tactic(auto, using(crate::proofs::Books::books_are_shaped))]
@@ -16,7 +17,9 @@ pub fn steps_owe_seats()
     ensures { StepsOweSeats }
 {}
 
-#[tactic(auto, using(crate::proofs::UpActs::says_more))]
-pub fn links_owe()
-    ensures { StepsOweSeats }
+/// Each step leaves a subordinate's link busy with what it was asked, or answers its coordinator, or the From of a message
+/// where no participant is known.
+#[tactic(auto, using(crate::proofs::UpStrangers::steps_owe_links))]
+pub fn steps_owe_links()
+    ensures { StepsOweLinks }
 {}
