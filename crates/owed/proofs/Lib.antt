@@ -18,3 +18,4 @@ pub mod UpMoves
 pub mod UpSteps
 pub mod UpBooks
 pub mod UpStrangers
+pub mod LeafRules

@@ -1,3 +1,4 @@
 pub mod Shape
 pub mod Seats
 pub mod Upwards
+pub mod Leaves

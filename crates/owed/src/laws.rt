@@ -23,3 +23,8 @@ pub fn steps_owe_seats()
 pub fn steps_owe_links()
     ensures { StepsOweLinks }
 {}
+
+#[tactic(auto, using(crate::proofs::LeafRules::same_leaf))]
+pub fn steps_owe_leaves()
+    ensures { StepsOweLinks }
+{}
