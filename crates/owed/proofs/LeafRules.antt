@@ -50,7 +50,7 @@ abbrev pub LeafIsQuiet : Event → Leaf → Type 0
 LeafIsQuiet e l = (n : Notice) → Notified e l n → ⊥
 
 -- a leaf that is gone
-gone : (base : List ℕ) (e : Event) (l : Leaf) (ps : List Post) → ((h : Notified e l notices.Prepare) (to : Epr) → (l.state ≡ states.Registering → ⊥) → stored_or l.coordinator h.arrived.from ≡ Some to → TellsAnswer to ps)
+pub gone : (base : List ℕ) (e : Event) (l : Leaf) (ps : List Post) → ((h : Notified e l notices.Prepare) (to : Epr) → (l.state ≡ states.Registering → ⊥) → stored_or l.coordinator h.arrived.from ≡ Some to → TellsAnswer to ps)
     → ((h : Notified e l notices.Commit) (to : Epr) → l.state ≡ states.PreparedSuccess → stored_or l.coordinator h.arrived.from ≡ Some to → Tells (Some to) notices.Committed ps)
     → LeafOwed base e l ps None
 gone base e l ps f g = (f, (g, (tt, tt)))
@@ -61,13 +61,13 @@ same_leaf base e l sent ps q r =
     ((λ h to x y. absurd (q notices.Prepare h)), ((λ h to x y. absurd (q notices.Commit h)), ((λ d. inl ((d, refl), (q notices.Commit, q notices.Rollback))), (λ d. ((d, refl), r d)))))
 
 -- one message says one thing
-one_message : (e : Event) (l : Leaf) (x y : Message) → CameTo e l x → CameTo e l y → x ≡ y
+pub one_message : (e : Event) (l : Leaf) (x y : Message) → CameTo e l x → CameTo e l y → x ≡ y
 one_message e l x y h k =
     let came : events.Arrived h.arrived ≡ events.Arrived k.arrived = sym h.event ∙ k.event in
     let same : h.arrived ≡ k.arrived = cc in
     sym h.message ∙ (ap (λ (a : Arrived). a.message) same ∙ k.message)
 
-one_notice : (e : Event) (l : Leaf) (n v : Notice) → Notified e l n → Notified e l v → n ≡ v
+pub one_notice : (e : Event) (l : Leaf) (n v : Notice) → Notified e l n → Notified e l v → n ≡ v
 one_notice e l n v h k = let f : messages.Notice n ≡ messages.Notice v = one_message e l (messages.Notice n) (messages.Notice v) h k in cc
 
 one_from : (e : Event) (l : Leaf) (x y : Message) (h : CameTo e l x) (k : CameTo e l y) → h.arrived.from ≡ k.arrived.from
@@ -76,14 +76,14 @@ one_from e l x y h k =
     let same : h.arrived ≡ k.arrived = cc in
     ap (λ (a : Arrived). a.from) same
 
-no_answer : (base : List ℕ) (e : Event) (l : Leaf) (x : Message) → CameTo e l x → (AnswersRegister x → ⊥) → IsRegistered base e l → ⊥
+pub no_answer : (base : List ℕ) (e : Event) (l : Leaf) (x : Message) → CameTo e l x → (AnswersRegister x → ⊥) → IsRegistered base e l → ⊥
 no_answer base e l x h f r =
     let came : events.Arrived h.arrived ≡ events.Arrived r.message = sym h.event ∙ r.came in
     let same : h.arrived ≡ r.message = cc in
     f (subst AnswersRegister (sym (ap (λ (a : Arrived). a.message) same) ∙ h.message) r.answers)
 
 -- what a notification does
-said : (base : List ℕ) (e : Event) (l : Leaf) (n : Notice) (h : Notified e l n) (ps : List Post) (o : Option Leaf)
+pub said : (base : List ℕ) (e : Event) (l : Leaf) (n : Notice) (h : Notified e l n) (ps : List Post) (o : Option Leaf)
     → ((to : Epr) → n ≡ notices.Prepare → (l.state ≡ states.Registering → ⊥) → stored_or l.coordinator h.arrived.from ≡ Some to → TellsAnswer to ps)
     → ((to : Epr) → n ≡ notices.Commit → l.state ≡ states.PreparedSuccess → stored_or l.coordinator h.arrived.from ≡ Some to → Tells (Some to) notices.Committed ps)
     → KeepsLeafVote base e l ps o → RegistersStill base e l o → LeafOwed base e l ps o
@@ -92,7 +92,7 @@ said base e l n h ps o f g v r =
     ((λ k to x y. g to (one_notice e l n notices.Commit h k) x (subst (λ z. stored_or l.coordinator z ≡ Some to) (one_from e l _ _ k h) y)), (v, r)))
 
 -- the leaf's words
-says : (m : Moment) (from : Option Epr) (n : Notice) (l : Leaf) (to : Epr) → stored_or l.coordinator from ≡ Some to → Tells (Some to) n (leaf_says m from n l)
+pub says : (m : Moment) (from : Option Epr) (n : Notice) (l : Leaf) (to : Epr) → stored_or l.coordinator from ≡ Some to → Tells (Some to) n (leaf_says m from n l)
 says m from n l to e = one_post m.base (stored_or l.coordinator from) (λ x. notice_post m.base (leaf_target l) x n) n to e refl refl
 
 known_says : (m : Moment) (n : Notice) (l : Leaf) (c to : Epr) (from : Option Epr) → l.coordinator ≡ Some c → stored_or l.coordinator from ≡ Some to → Tells (Some to) n (leaf_says m None n l)
@@ -103,7 +103,7 @@ says_in : (m : Moment) (n : Notice) (l : Leaf) (c : Epr) → l.coordinator ≡ S
 says_in m n l c e = subst (λ x. IsIn (notice_post m.base (leaf_target l) c n) (to_each (stored_or x None) (λ to. notice_post m.base (leaf_target l) to n))) (sym e) (inl refl)
 
 -- the leaf's states
-is_not : (l : Leaf) (x y : State) → l.state ≡ x → is_state x y ≡ false → l.state ≡ y → ⊥
+pub is_not : (l : Leaf) (x y : State) → l.state ≡ x → is_state x y ≡ false → l.state ≡ y → ⊥
 is_not l x y e f g = Rattle.owed.proofs.Upwards.differs l.state x y e f g
 
 -- it votes
@@ -129,7 +129,7 @@ records_vote : (m : Moment) (e : Event) (l : Leaf) (n : Notice) (h : Notified e 
 records_vote m e l n h c None p k f = absurd cc
 records_vote m e l n h c (Some x) p k f = record { entry = tt; landed = prepares m e l n h c p k; otherwise = aborts_unknown m e l n h c p k }
 
-votes_owe : (m : Moment) (e : Event) (l : Leaf) (n : Notice) (h : Notified e l n) (from : Option Epr) (c : Epr) (kind : Kind) (vote : Vote) → h.arrived.from ≡ from → n ≡ notices.Prepare
+pub votes_owe : (m : Moment) (e : Event) (l : Leaf) (n : Notice) (h : Notified e l n) (from : Option Epr) (c : Epr) (kind : Kind) (vote : Vote) → h.arrived.from ≡ from → n ≡ notices.Prepare
     → l.coordinator ≡ Some c → LeafOwes m.base e l (leaf_votes m from l kind vote)
 unfolding leaf_votes
 votes_owe m e l n h from c kinds.Durable votes.Prepared f p k = records_vote m e l n h c l.coordinator p k k
@@ -145,16 +145,16 @@ commits_with m e l n h from f p =
     said m.base e l n h (leaf_says m from notices.Committed l) None (λ to x y z. let g : notices.Commit ≡ notices.Prepare = sym p ∙ x in absurd cc)
     (λ to x y z. says m from notices.Committed l to (subst (λ w. stored_or l.coordinator w ≡ Some to) f z)) tt tt
 
-commit_owes : (m : Moment) (e : Event) (l : Leaf) (n : Notice) (h : Notified e l n) (from : Option Epr) (kind : Kind) → h.arrived.from ≡ from → n ≡ notices.Commit → LeafOwes m.base e l (leaf_commit m from l kind)
+pub commit_owes : (m : Moment) (e : Event) (l : Leaf) (n : Notice) (h : Notified e l n) (from : Option Epr) (kind : Kind) → h.arrived.from ≡ from → n ≡ notices.Commit → LeafOwes m.base e l (leaf_commit m from l kind)
 unfolding leaf_commit
 commit_owes m e l n h from kinds.Durable f p = record { entry = tt; landed = commits_with m e l n h from f p; otherwise = tt }
 commit_owes m e l n h from kinds.Volatile f p = commits_with m e l n h from f p
 
-ends_with : (m : Moment) (e : Event) (l : Leaf) (n : Notice) (h : Notified e l n) (ps : List Post) → (n ≡ notices.Prepare → ⊥) → (n ≡ notices.Commit → l.state ≡ states.PreparedSuccess → ⊥)
+pub ends_with : (m : Moment) (e : Event) (l : Leaf) (n : Notice) (h : Notified e l n) (ps : List Post) → (n ≡ notices.Prepare → ⊥) → (n ≡ notices.Commit → l.state ≡ states.PreparedSuccess → ⊥)
     → LeafOwed m.base e l ps None
 ends_with m e l n h ps f g = said m.base e l n h ps None (λ to x y z. absurd (f x)) (λ to x y z. absurd (g x y)) tt tt
 
-roll_owes : (m : Moment) (e : Event) (l : Leaf) (n : Notice) (h : Notified e l n) (from : Option Epr) (kind : Kind) → n ≡ notices.Rollback → LeafOwes m.base e l (leaf_roll_back m from l kind)
+pub roll_owes : (m : Moment) (e : Event) (l : Leaf) (n : Notice) (h : Notified e l n) (from : Option Epr) (kind : Kind) → n ≡ notices.Rollback → LeafOwes m.base e l (leaf_roll_back m from l kind)
 unfolding leaf_roll_back
 roll_owes m e l n h from kinds.Durable p = record {
   entry = tt;

@@ -19,3 +19,4 @@ pub mod UpSteps
 pub mod UpBooks
 pub mod UpStrangers
 pub mod LeafRules
+pub mod LeafSteps

@@ -24,7 +24,7 @@ pub fn steps_owe_links()
     ensures { StepsOweLinks }
 {}
 
-#[tactic(auto, using(crate::proofs::LeafRules::same_leaf))]
+#[tactic(auto, using(crate::proofs::LeafSteps::at_target))]
 pub fn steps_owe_leaves()
     ensures { StepsOweLinks }
 {}
