@@ -20,3 +20,4 @@ pub mod UpBooks
 pub mod UpStrangers
 pub mod LeafRules
 pub mod LeafSteps
+pub mod Replying

@@ -67,7 +67,7 @@ seat_added m e t ps s seats h k = behind seats (same_owed m e t ps seats h)
     behind [] i = (k, tt)
     behind (x ∷ xs) (i, is) = (i, behind xs is)
 
-posts_join : (xs ys : List Out) → posts_of (xs ++ ys) ≡ posts_of xs ++ posts_of ys
+pub posts_join : (xs ys : List Out) → posts_of (xs ++ ys) ≡ posts_of xs ++ posts_of ys
 posts_join [] ys = refl
 posts_join (outs.Post p ∷ xs) ys = ap (λ z. p ∷ z) (posts_join xs ys)
 posts_join (outs.Answer status reply ∷ xs) ys = posts_join xs ys

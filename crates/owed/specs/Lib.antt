@@ -2,3 +2,4 @@ pub mod Shape
 pub mod Seats
 pub mod Upwards
 pub mod Leaves
+pub mod Registers

@@ -1,5 +1,7 @@
 //! How transactions stand in their phases, and what each step owes.
 
+ghost use Rattle.owed.specs.Leaves.{StepsOweLeaves};
+ghost use Rattle.owed.specs.Registers.{RegistersAreAnswered};
 ghost use Rattle.owed.specs.Seats.{StepsOweSeats};
 ghost use Rattle.owed.specs.Shape.{BooksAreShaped};
 ghost use Rattle.owed.specs.Upwards.{StepsOweLinks};
@@ -24,7 +26,15 @@ pub fn steps_owe_links()
     ensures { StepsOweLinks }
 {}
 
-#[tactic(auto, using(crate::proofs::LeafSteps::at_target))]
+/// Each step answers for its leaves: a Prepare once the leaf has registered, a Commit behind its vote; and a leaf that
+/// registers waits for the answer to its Register.
+#[tactic(auto, using(crate::proofs::Replying::steps_owe_leaves))]
 pub fn steps_owe_leaves()
-    ensures { StepsOweLinks }
+    ensures { StepsOweLeaves }
+{}
+
+/// Every Register with an endpoint to answer to is answered there.
+#[tactic(auto, using(crate::proofs::Replying::registers_are_answered))]
+pub fn registers_are_answered()
+    ensures { RegistersAreAnswered }
 {}
