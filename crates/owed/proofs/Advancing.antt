@@ -48,10 +48,16 @@ is_ready k s = is_state s states.Prepared
 
 pub commits : (m : Moment) (e : Event) (old : Transaction) (id : Numbers) (seats : List Enlistment) (ps : List Post) → Along m e old (suits Phase.Voted) id seats ps
     → Along m e old (suits Phase.Committing) id (moved (in_state states.Prepared) states.Committing seats) (ps ++ notices_to m.base id notices.Commit seats (in_state states.Prepared))
-commits m e old id seats ps ((i, (a, k)), q) =
-    ((i, (are_moved (suits Phase.Voted) (suits Phase.Committing) is_ready states.Committing refl seats a,
-    commit_kept m.base id e old ps (in_state states.Prepared) old.seats seats k)),
-    commit_sent m.base id e old ps (in_state states.Prepared) old.seats seats i k q)
+commits m e old id seats ps ((i, (a, k)), q) = (
+  (
+    i,
+    (
+      are_moved (suits Phase.Voted) (suits Phase.Committing) is_ready states.Committing refl seats a,
+      commit_kept m.base id e old ps (in_state states.Prepared) old.seats seats k,
+    ),
+  ),
+  commit_sent m.base id e old ps (in_state states.Prepared) old.seats seats i k q,
+)
 
 abbrev is_committing_seat : Kind → State → Bool
 is_committing_seat k s = is_kind k kinds.Durable && is_state s states.Committing
@@ -176,11 +182,17 @@ not_ready kinds.Durable = refl
 prepares : (m : Moment) (e : Event) (old : Transaction) (kind : Kind) (p q : Kind → State → Bool) → every_seat (λ k s. not (p k s) || q k (if is_to_ask kind k s then states.Preparing else s)) ≡ true
     → (id : Numbers) (seats : List Enlistment) (ps : List Post) → Along m e old p id seats ps
     → Along m e old q id (moved (is_of kind states.Active) states.Preparing seats) (ps ++ notices_to m.base id notices.Prepare seats (is_of kind states.Active))
-prepares m e old kind p q c id seats ps ((i, (a, k)), r) =
-    ((i, (are_moved p q (is_to_ask kind) states.Preparing c seats a,
-    kept_on e old ps (notices_to m.base id notices.Prepare seats (is_of kind states.Active)) old.seats (moved (is_of kind states.Active) states.Preparing seats)
-    (asked_kept e old ps (is_to_ask kind) old.seats seats (not_ready kind) k))),
-    asked_sent m.base id e old ps (is_of kind states.Active) old.seats seats i k r)
+prepares m e old kind p q c id seats ps ((i, (a, k)), r) = (
+  (
+    i,
+    (
+      are_moved p q (is_to_ask kind) states.Preparing c seats a,
+      kept_on e old ps (notices_to m.base id notices.Prepare seats (is_of kind states.Active)) old.seats (moved (is_of kind states.Active) states.Preparing seats)
+          (asked_kept e old ps (is_to_ask kind) old.seats seats (not_ready kind) k),
+    ),
+  ),
+  asked_sent m.base id e old ps (is_of kind states.Active) old.seats seats i k r,
+)
 
 -- the volatile ones have answered
 abbrev is_volatile_answered : Kind → State → Bool

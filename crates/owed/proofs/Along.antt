@@ -212,9 +212,10 @@ asked_sent base id ev t ps test olds news same h k =
     one : (o n : Enlistment) → IsIn n news → (b : Bool) → test n ≡ b → IsOwed base ev t ps o n
         → IsAsked base ev t (ps ++ notices_to base id notices.Prepare news test) o (record n { state = if b then states.Preparing else n.state })
     one o n i false f (x, y) = asked_one base ev t ps (notices_to base id notices.Prepare news test) o n y
-    one o n i true f ((e, x), y) =
-        ((λ d. inr (as_before base id t.id notices.Prepare o n _ e same (in_back _ ps (notices_to base id notices.Prepare news test) (sent_in base id notices.Prepare news test n i f)))),
-        (λ d. absurd cc))
+    one o n i true f ((e, x), y) = (
+      (λ d. inr (as_before base id t.id notices.Prepare o n _ e same (in_back _ ps (notices_to base id notices.Prepare news test) (sent_in base id notices.Prepare news test n i f)))),
+      (λ d. absurd cc),
+    )
 
 pub commit_sent : (base : List ℕ) (id : Numbers) (ev : Event) (t : Transaction) (ps : List Post) (test : Enlistment → Bool) (olds news : List Enlistment) → id ≡ t.id
     → Pairs (IsKept ev t ps) olds news → Pairs (IsAsked base ev t ps) olds news
@@ -226,9 +227,10 @@ commit_sent base id ev t ps test olds news same h k =
     one : (o n : Enlistment) → IsIn n news → (b : Bool) → test n ≡ b → IsOwed base ev t ps o n
         → IsAsked base ev t (ps ++ notices_to base id notices.Commit news test) o (record n { state = if b then states.Committing else n.state })
     one o n i false f (x, y) = asked_one base ev t ps (notices_to base id notices.Commit news test) o n y
-    one o n i true f ((e, x), y) =
-        ((λ d. absurd cc),
-        (λ d. inr (as_before base id t.id notices.Commit o n _ e same (in_back _ ps (notices_to base id notices.Commit news test) (sent_in base id notices.Commit news test n i f)))))
+    one o n i true f ((e, x), y) = (
+      (λ d. absurd cc),
+      (λ d. inr (as_before base id t.id notices.Commit o n _ e same (in_back _ ps (notices_to base id notices.Commit news test) (sent_in base id notices.Commit news test n i f)))),
+    )
 
 pub owed_on : (base : List ℕ) (e : Event) (t : Transaction) (ps qs : List Post) (olds news : List Enlistment) → Pairs (IsOwed base e t ps) olds news → Pairs (IsOwed base e t (ps ++ qs)) olds news
 owed_on base e t ps qs olds news h =

@@ -120,12 +120,17 @@ LeavesAs ps s n =
 pub unanswered_all : (e : Event) (t : Transaction) (s : Enlistment) (n : Notice) (ps : List Post) (seats : List Enlistment) → ParticipantSaid n e t s
     → AllByRecursion (λ x. x.number ≡ s.number → x ≡ s) seats → LeavesAs ps s n → AllByRecursion (Unheard e t ps) seats
 unanswered_all e t s n ps [] said h l = tt
-unanswered_all e t s n ps (x ∷ xs) said (h, hs) (a, (b, c)) =
-    (((λ d k. a (subst (λ y. y.state ≡ states.Preparing) (is k.0 k.2) d) (subst AnswersSeat (one_notice e t n k.0 s x said k.2) k.1)),
-    ((λ d k. b (subst (λ y. y.state ≡ states.Committing) (is notices.Committed k) d) (sym (one_notice e t n notices.Committed s x said k))),
-    (λ d k. subst (λ y. (y.state ≡ states.Prepared) ⊎ IsTold ps y) (sym (is notices.Prepared k))
-    (c (subst (λ y. y.kind ≡ kinds.Durable) (is notices.Prepared k) d) (sym (one_notice e t n notices.Prepared s x said k)))))),
-    unanswered_all e t s n ps xs said hs (a, (b, c)))
+unanswered_all e t s n ps (x ∷ xs) said (h, hs) (a, (b, c)) = (
+  (
+    (λ d k. a (subst (λ y. y.state ≡ states.Preparing) (is k.0 k.2) d) (subst AnswersSeat (one_notice e t n k.0 s x said k.2) k.1)),
+    (
+      (λ d k. b (subst (λ y. y.state ≡ states.Committing) (is notices.Committed k) d) (sym (one_notice e t n notices.Committed s x said k))),
+      (λ d k. subst (λ y. (y.state ≡ states.Prepared) ⊎ IsTold ps y) (sym (is notices.Prepared k))
+          (c (subst (λ y. y.kind ≡ kinds.Durable) (is notices.Prepared k) d) (sym (one_notice e t n notices.Prepared s x said k)))),
+    ),
+  ),
+  unanswered_all e t s n ps xs said hs (a, (b, c)),
+)
   where
     is : (v : Notice) → ParticipantSaid v e t x → x ≡ s
     is v k = h (one_number e t n v s x said k)

@@ -307,9 +307,10 @@ differs s x y e f g = let h : is_state y y ≡ false = subst (λ z. is_state z y
 moves_along : (m : Moment) (e : Event) (t : Transaction) (s : Enlistment) (n : Notice) (new : State) → IsShaped t → AtSeat e t s n → Goes s.kind s.state n new → suits t.phase s.kind new ≡ true
     → Along m e t (suits t.phase) t.id (moved (λ x. nat_eq x.number s.number) new t.seats) []
 moves_along m e t s n new h at g f =
-    let owed : Pairs (IsOwed m.base e t []) t.seats (moved (λ x. nat_eq x.number s.number) new t.seats) = goes_owed m e t s n new t.seats at.said at.only g in
-    ((refl, (goes_are (suits t.phase) s new t.seats f at.only h.0, kept_of m e t [] t.seats (moved (λ x. nat_eq x.number s.number) new t.seats) owed)),
-    asked_of m e t [] t.seats (moved (λ x. nat_eq x.number s.number) new t.seats) owed)
+    let owed : Pairs (IsOwed m.base e t []) t.seats (moved (λ x. nat_eq x.number s.number) new t.seats) = goes_owed m e t s n new t.seats at.said at.only g in (
+      (refl, (goes_are (suits t.phase) s new t.seats f at.only h.0, kept_of m e t [] t.seats (moved (λ x. nat_eq x.number s.number) new t.seats) owed)),
+      asked_of m e t [] t.seats (moved (λ x. nat_eq x.number s.number) new t.seats) owed,
+    )
 
 advances : (m : Moment) (e : Event) (t : Transaction) (s : Enlistment) (n : Notice) (new : State) → IsShaped t → Linked t → AtSeat e t s n → Goes s.kind s.state n new → suits t.phase s.kind new ≡ true
     → (t.phase ≡ Phase.Voted → ⊥) → Owes m e t (advance m (begin (seat_in s.number new t)))

@@ -87,9 +87,10 @@ pub said : (base : List ℕ) (e : Event) (l : Leaf) (n : Notice) (h : Notified e
     → ((to : Epr) → n ≡ notices.Prepare → (l.state ≡ states.Registering → ⊥) → stored_or l.coordinator h.arrived.from ≡ Some to → TellsAnswer to ps)
     → ((to : Epr) → n ≡ notices.Commit → l.state ≡ states.PreparedSuccess → stored_or l.coordinator h.arrived.from ≡ Some to → Tells (Some to) notices.Committed ps)
     → KeepsLeafVote base e l ps o → RegistersStill base e l o → LeafOwed base e l ps o
-said base e l n h ps o f g v r =
-    ((λ k to x y. f to (one_notice e l n notices.Prepare h k) x (subst (λ z. stored_or l.coordinator z ≡ Some to) (one_from e l _ _ k h) y)),
-    ((λ k to x y. g to (one_notice e l n notices.Commit h k) x (subst (λ z. stored_or l.coordinator z ≡ Some to) (one_from e l _ _ k h) y)), (v, r)))
+said base e l n h ps o f g v r = (
+  (λ k to x y. f to (one_notice e l n notices.Prepare h k) x (subst (λ z. stored_or l.coordinator z ≡ Some to) (one_from e l _ _ k h) y)),
+  ((λ k to x y. g to (one_notice e l n notices.Commit h k) x (subst (λ z. stored_or l.coordinator z ≡ Some to) (one_from e l _ _ k h) y)), (v, r)),
+)
 
 -- the leaf's words
 pub says : (m : Moment) (from : Option Epr) (n : Notice) (l : Leaf) (to : Epr) → stored_or l.coordinator from ≡ Some to → Tells (Some to) n (leaf_says m from n l)

@@ -38,7 +38,6 @@ use Rattle.owed.specs.Seats.{Tells}
 use Rattle.owed.specs.Upwards.{TellsAnswer}
 use Rattle.owed.proofs.LinkTable.{IsDeaf, IsDone, LinkHears, LinkHearsCell, Passes, link_hears}
 use Rattle.owed.proofs.UpActs.{one_post}
-
 use Rattle.at_base.specs.Numbers.{Numbers}
 use Rattle.at_base.specs.declared.target.Target.{Target}
 use Rattle.at_base.specs.declared.target.Target.TheVariants as targets
@@ -111,8 +110,13 @@ leaf_act_owes m e from i l n acts.SendPrepared h f stands (a, p) =
     said m.base e l n h (leaf_says m from notices.Prepared l) (Some (record l { sent = Some m.now }))
     (λ to x y z. (notices.Prepared, tt, says m from notices.Prepared l to (subst (λ w. stored_or l.coordinator w ≡ Some to) f z)))
     (λ to x y z. let g : notices.Prepare ≡ notices.Commit = sym p ∙ x in absurd cc)
-    (λ d. inl ((a, refl), ((λ k. let g : notices.Prepare ≡ notices.Commit = sym p ∙ one_notice e l n notices.Commit h k in cc),
-    (λ k. let g : notices.Prepare ≡ notices.Rollback = sym p ∙ one_notice e l n notices.Rollback h k in cc))))
+    (λ d. inl (
+      (a, refl),
+      (
+        (λ k. let g : notices.Prepare ≡ notices.Commit = sym p ∙ one_notice e l n notices.Commit h k in cc),
+        (λ k. let g : notices.Prepare ≡ notices.Rollback = sym p ∙ one_notice e l n notices.Rollback h k in cc),
+      ),
+    ))
     (λ d. absurd (is_not l states.PreparedSuccess states.Registering a refl d))
 leaf_act_owes m e from i l n acts.Commit h f stands (a, p) = commit_owes m e l n h from l.kind f p
 leaf_act_owes m e from i l n acts.AbortAndSendAborted h f stands (a, p) =

@@ -21,3 +21,4 @@ pub mod UpStrangers
 pub mod LeafRules
 pub mod LeafSteps
 pub mod Replying
+pub mod Joining

@@ -71,8 +71,10 @@ registered_owes : (m : Moment) (e : Event) (relates : Option (List ℕ)) (coordi
 unfolding link_registered
 registered_owes m e relates coordinator kind s t u h q =
     either m e t (is_state (link_of kind s).state states.Registering && relates_to relates (register_id m.base (targets.Participant t.id kind))) _ _
-    (λ f. (registered_shaped t (set_link kind (record { state = states.Active; coordinator = Some coordinator }) s) (joined_knows kind s coordinator (links_know t s u h)) h,
-    (refl, same_owed m e t [] t.seats (quiet_all e t [] t.seats q))))
+    (λ f. (
+      registered_shaped t (set_link kind (record { state = states.Active; coordinator = Some coordinator }) s) (joined_knows kind s coordinator (links_know t s u h)) h,
+      (refl, same_owed m e t [] t.seats (quiet_all e t [] t.seats q)),
+    ))
     (λ f. still_left m e t t.sent [] h q)
 
 rolls_so : (state : State) → is_state state states.Registering ≡ true → MayRoll state

@@ -80,12 +80,13 @@ new_asked m a t participant kind = by_late (is_late t.phase kind) refl
     reply = registered_reply a (seat_endpoint m.base t.id (new_seat t participant kind))
 
     by_late : (b : Bool) → is_late t.phase kind ≡ b → IsNew m.base t (posts_of (accept_seat m a t (new_seat t participant kind)).outs) (new_seat t participant kind)
-    by_late true f =
-        ((λ d. subst (IsIn (Rattle.owed.specs.Seats.seat_post m.base t.id (new_seat t participant kind) notices.Prepare))
-        (sym (posts_join (registered_reply a (seat_endpoint m.base t.id (new_seat t participant kind))) (late_prepare m t.id (is_late t.phase kind) (new_seat t participant kind))))
-        (in_back _ (posts_of (registered_reply a (seat_endpoint m.base t.id (new_seat t participant kind)))) (posts_of (late_prepare m t.id (is_late t.phase kind) (new_seat t participant kind)))
-        (subst (λ c. IsIn (Rattle.owed.specs.Seats.seat_post m.base t.id (new_seat t participant kind) notices.Prepare) (posts_of (late_prepare m t.id c (new_seat t participant kind)))) (sym f) (inl refl)))),
-        ((λ d. other states.Committing refl refl d), (λ d. other states.Prepared refl refl d)))
+    by_late true f = (
+      (λ d. subst (IsIn (Rattle.owed.specs.Seats.seat_post m.base t.id (new_seat t participant kind) notices.Prepare))
+          (sym (posts_join (registered_reply a (seat_endpoint m.base t.id (new_seat t participant kind))) (late_prepare m t.id (is_late t.phase kind) (new_seat t participant kind))))
+          (in_back _ (posts_of (registered_reply a (seat_endpoint m.base t.id (new_seat t participant kind)))) (posts_of (late_prepare m t.id (is_late t.phase kind) (new_seat t participant kind)))
+          (subst (λ c. IsIn (Rattle.owed.specs.Seats.seat_post m.base t.id (new_seat t participant kind) notices.Prepare) (posts_of (late_prepare m t.id c (new_seat t participant kind)))) (sym f) (inl refl)))),
+      ((λ d. other states.Committing refl refl d), (λ d. other states.Prepared refl refl d)),
+    )
       where
         other : (s : State) → Rattle.at_tables.specs.Names.is_state states.Preparing s ≡ false → Rattle.at_tables.specs.Names.is_state states.Active s ≡ false
             → (if is_late t.phase kind then states.Preparing else states.Active) ≡ s → ⊥
@@ -105,9 +106,11 @@ kept_seats m e t ps q = or_new (IsOwed m.base e t ps) (IsNew m.base t ps) t.seat
 
 enrolls_owed : (m : Moment) (e : Event) (a : Arrived) (r : Register) (t : Transaction) (g : Registration) → Enrolls m a r t g → IsQuiet e t → Taken m e t g
 enrolls_owed m e a r t g (takes_seat kind p may is) q =
-    subst (Taken m e t) (sym is)
-    (refl, seat_added m e t (posts_of (accept_seat m a t (new_seat t r.participant kind)).outs) (new_seat t r.participant kind) t.seats
-    (quiet_all e t (posts_of (accept_seat m a t (new_seat t r.participant kind)).outs) t.seats q) (new_asked m a t r.participant kind))
+    subst (Taken m e t) (sym is) (
+      refl,
+      seat_added m e t (posts_of (accept_seat m a t (new_seat t r.participant kind)).outs) (new_seat t r.participant kind) t.seats
+          (quiet_all e t (posts_of (accept_seat m a t (new_seat t r.participant kind)).outs) t.seats q) (new_asked m a t r.participant kind),
+    )
 enrolls_owed m e a r t g (takes_completion p may is) q = subst (Taken m e t) (sym is) (refl, kept_seats m e t _ q)
 enrolls_owed m e a r t g (has_seat kind s p i k f is) q = subst (Taken m e t) (sym is) (refl, kept_seats m e t _ q)
 enrolls_owed m e a r t g (has_completion c p there f is) q = subst (Taken m e t) (sym is) (refl, kept_seats m e t _ q)

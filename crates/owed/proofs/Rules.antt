@@ -111,9 +111,10 @@ rolled_back m e old g f (i, (a, k)) h = by_test (list_any (in_state states.Abort
         no_asked k s z q r u = let v : suits Phase.Aborting k z ≡ true = subst (λ w. suits Phase.Aborting k w ≡ true) q r in cc
 
     by_test : (b : Bool) → list_any (in_state states.Aborting) g.item.seats ≡ b → Left m e old (if b then stays g else forgotten g)
-    by_test true j =
-        (subst (λ p. AreSuited p g.item.seats × (Waits p g.item.seats × StandsUnder p g.item.superior g.item.completion)) (sym f) (a, (j, h)),
-        (i, pairs_are (IsKept e old g.posts) (IsOwed m.base e old g.posts) (suits Phase.Aborting) old.seats g.item.seats unasked k a))
+    by_test true j = (
+      subst (λ p. AreSuited p g.item.seats × (Waits p g.item.seats × StandsUnder p g.item.superior g.item.completion)) (sym f) (a, (j, h)),
+      (i, pairs_are (IsKept e old g.posts) (IsOwed m.base e old g.posts) (suits Phase.Aborting) old.seats g.item.seats unasked k a),
+    )
     by_test false j = none_left e old (suits Phase.Aborting) g.item.id g.item.seats g.posts refl (i, (a, k))
 
 -- the transaction with everybody told to roll back
@@ -137,11 +138,15 @@ stands_aborted (Some s) c = (tt, tt)
 
 rolling_from : (m : Moment) (e : Event) (old : Transaction) (p : Kind → State → Bool) (reason : Reason) (g : Moving Transaction) → Loose p → FromOpen e old p g.item.id g.item.seats g.posts
     → From e old (suits Phase.Aborting) (rolling m reason g).item.id (rolling m reason g).item.seats (rolling m reason g).posts
-rolling_from m e old p reason g l (i, (a, k)) =
-    (i, (are_moved p (suits Phase.Aborting) opens states.Aborting l g.item.seats a,
+rolling_from m e old p reason g l (i, (a, k)) = (
+  i,
+  (
+    are_moved p (suits Phase.Aborting) opens states.Aborting l g.item.seats a,
     kept_on e old _ (initiator_posts m.base g.item.id notices.Aborted g.item.completion) old.seats (moved is_open states.Aborting g.item.seats)
-    (rollback_kept m.base g.item.id e old (g.posts ++ links_aborted m.base g.item.id reason g.item.superior) old.seats g.item.seats
-    (opened_on e old g.posts (links_aborted m.base g.item.id reason g.item.superior) old.seats g.item.seats k))))
+        (rollback_kept m.base g.item.id e old (g.posts ++ links_aborted m.base g.item.id reason g.item.superior) old.seats g.item.seats
+        (opened_on e old g.posts (links_aborted m.base g.item.id reason g.item.superior) old.seats g.item.seats k)),
+  ),
+)
 
 pub aborts_open : (m : Moment) (e : Event) (old : Transaction) (p : Kind → State → Bool) (reason : Reason) (g : Moving Transaction) → Loose p → FromOpen e old p g.item.id g.item.seats g.posts
     → Left m e old (abort m reason g)

@@ -206,12 +206,14 @@ seat_shaped t s kinds.Volatile Phase.Active e f k i h =
     (joins_are (suits t.phase) t.seats s h.0 (λ j. suits (e j) (k j) (i j)), subst (λ p. Waits p (t.seats ++ s ∷ [])) (sym e) tt)
 seat_shaped t s kinds.Durable Phase.Active e f k i h =
     (joins_are (suits t.phase) t.seats s h.0 (λ j. suits (e j) (k j) (i j)), subst (λ p. Waits p (t.seats ++ s ∷ [])) (sym e) tt)
-seat_shaped t s kinds.Volatile Phase.Volatile e f k i h =
-    (joins_are (suits t.phase) t.seats s h.0 (λ j. suits (e j) (k j) (i j)),
-    subst (λ p. Waits p (t.seats ++ s ∷ [])) (sym e) (some_front (is_of kinds.Volatile states.Preparing) t.seats (s ∷ []) (subst (λ p. Waits p t.seats) e h.1.0)))
-seat_shaped t s kinds.Durable Phase.Volatile e f k i h =
-    (joins_are (suits t.phase) t.seats s h.0 (λ j. suits (e j) (k j) (i j)),
-    subst (λ p. Waits p (t.seats ++ s ∷ [])) (sym e) (some_front (is_of kinds.Volatile states.Preparing) t.seats (s ∷ []) (subst (λ p. Waits p t.seats) e h.1.0)))
+seat_shaped t s kinds.Volatile Phase.Volatile e f k i h = (
+  joins_are (suits t.phase) t.seats s h.0 (λ j. suits (e j) (k j) (i j)),
+  subst (λ p. Waits p (t.seats ++ s ∷ [])) (sym e) (some_front (is_of kinds.Volatile states.Preparing) t.seats (s ∷ []) (subst (λ p. Waits p t.seats) e h.1.0)),
+)
+seat_shaped t s kinds.Durable Phase.Volatile e f k i h = (
+  joins_are (suits t.phase) t.seats s h.0 (λ j. suits (e j) (k j) (i j)),
+  subst (λ p. Waits p (t.seats ++ s ∷ [])) (sym e) (some_front (is_of kinds.Volatile states.Preparing) t.seats (s ∷ []) (subst (λ p. Waits p t.seats) e h.1.0)),
+)
 seat_shaped t s kind Phase.Registering e f k i h = absurd cc
 seat_shaped t s kind Phase.Durable e f k i h = absurd cc
 seat_shaped t s kind Phase.Voted e f k i h = absurd cc
@@ -246,9 +248,14 @@ enrolled_shaped m a r t g (takes_seat kind p may is) h =
     let (suited, waits) = seat_shaped t (new_seat t r.participant kind) kind t.phase refl (then_accepts t (Some kind) may) refl refl h in
     subst (λ x. IsShaped x.transaction) (sym is) (suited, (waits, h.1.1))
 enrolled_shaped m a r t g (takes_completion p may is) h =
-    subst (λ x. IsShaped x.transaction) (sym is)
-    (h.0, (h.1.0, initiator_stands t (record { initiator = r.participant; state = states.Active }) t.phase refl (then_accepts t None may)
-    (second_true (accepts t.phase && nat_lt (length t.seats) MOST_SEATS) (may_complete t None) may) refl h))
+    subst (λ x. IsShaped x.transaction) (sym is) (
+      h.0,
+      (
+        h.1.0,
+        initiator_stands t (record { initiator = r.participant; state = states.Active }) t.phase refl (then_accepts t None may)
+            (second_true (accepts t.phase && nat_lt (length t.seats) MOST_SEATS) (may_complete t None) may) refl h,
+      ),
+    )
 enrolled_shaped m a r t g (has_seat kind s p i k e is) h = subst (λ x. IsShaped x.transaction) (sym is) h
 enrolled_shaped m a r t g (has_completion c p there e is) h = subst (λ x. IsShaped x.transaction) (sym is) h
 enrolled_shaped m a r t g (refuses name is) h = subst (λ x. IsShaped x.transaction) (sym is) h

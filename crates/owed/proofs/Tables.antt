@@ -71,9 +71,10 @@ Are p seats = AllByRecursion (λ s. p s.kind s.state ≡ true) seats
 pub are_moved : (p q test : Kind → State → Bool) (state : State) → every_seat (λ k s. not (p k s) || q k (if test k s then state else s)) ≡ true → (seats : List Enlistment) → Are p seats
     → Are q (moved (λ s. test s.kind s.state) state seats)
 are_moved p q test state e [] h = tt
-are_moved p q test state e (s ∷ ss) (h, k) =
-    (implied (p s.kind s.state) (q s.kind (if test s.kind s.state then state else s.state)) (at_seat (λ j x. not (p j x) || q j (if test j x then state else x)) e s.kind s.state) h,
-    are_moved p q test state e ss k)
+are_moved p q test state e (s ∷ ss) (h, k) = (
+  implied (p s.kind s.state) (q s.kind (if test s.kind s.state then state else s.state)) (at_seat (λ j x. not (p j x) || q j (if test j x then state else x)) e s.kind s.state) h,
+  are_moved p q test state e ss k,
+)
 
 pub are_more : (p q : Kind → State → Bool) → every_seat (λ k s. not (p k s) || q k s) ≡ true → (seats : List Enlistment) → Are p seats → Are q seats
 are_more p q e [] h = tt

@@ -83,8 +83,10 @@ one_post base c p n to e f g = subst (λ x. Tells (Some to) n (to_each x p)) (sy
 pub passes : (base : List ℕ) (e : Event) (kind : Kind) (n : Notice) (s : Superior) (t : Transaction) → t.superior ≡ Some s → Linked t → SuperiorSaid kind n e t → Passes (link_of kind s).state n
     → LinksOwed base e t s [] t.superior
 passes base e kind n s t u l h p =
-    same_said base e t kind n s [] h u (λ i. ((λ to x r k. inl (deaf (link_of kind s).state (link_state t.phase kind s (known t s u l).0) (subst (Passes (link_of kind s).state) x p) r)),
-    (λ to x r k d. inl (subst (λ j. (link_of j s).state ≡ states.Committing) d (done (link_of kind s).state (link_state t.phase kind s (known t s u l).0) (subst (Passes (link_of kind s).state) x p))))))
+    same_said base e t kind n s [] h u (λ i. (
+      (λ to x r k. inl (deaf (link_of kind s).state (link_state t.phase kind s (known t s u l).0) (subst (Passes (link_of kind s).state) x p) r)),
+      (λ to x r k d. inl (subst (λ j. (link_of j s).state ≡ states.Committing) d (done (link_of kind s).state (link_state t.phase kind s (known t s u l).0) (subst (Passes (link_of kind s).state) x p)))),
+    ))
     (λ d. ((λ x. voted_done (link_of kind s).state d (subst (Passes (link_of kind s).state) x p)), (λ x. voted_done (link_of kind s).state d (subst (Passes (link_of kind s).state) x p))))
   where
     deaf : (x : State) → IsLinkState x → IsDeaf x → (x ≡ states.Registering → ⊥) → IsBusy x
@@ -121,8 +123,10 @@ pub asked_owed : (base : List ℕ) (e : Event) (t : Transaction) (kind : Kind) (
     → (link_of kind s).state ≡ states.Active → LinksKnow s → Rel base t.id (asked kind s) ps o → LinksOwed base e t s ps o
 asked_owed base e t kinds.Volatile n s ps o h p a (v, d) (busy, (commits, votes)) =
     said_owed base e t kinds.Volatile n s ps o h
-    (λ i. ((λ to x r k. is_or_tells kinds.Volatile to ps o (busy kinds.Volatile to tt (known_to s.volatile.coordinator i.message.from to (subst (λ y. LinkKnows s.request y s.volatile.coordinator) a v) k))),
-    (λ to x r k z. let f : notices.Prepare ≡ notices.Commit = sym p ∙ x in absurd cc)))
+    (λ i. (
+      (λ to x r k. is_or_tells kinds.Volatile to ps o (busy kinds.Volatile to tt (known_to s.volatile.coordinator i.message.from to (subst (λ y. LinkKnows s.request y s.volatile.coordinator) a v) k))),
+      (λ to x r k z. let f : notices.Prepare ≡ notices.Commit = sym p ∙ x in absurd cc),
+    ))
     busy_so commits
     (vote_on base e t s ps o (λ z. ((λ i. other notices.Commit i refl), (λ i. other notices.Rollback i refl))) votes)
   where
@@ -136,8 +140,10 @@ asked_owed base e t kinds.Volatile n s ps o h p a (v, d) (busy, (commits, votes)
     busy_so kinds.Durable to x b c = busy kinds.Durable to b c
 asked_owed base e t kinds.Durable n s ps o h p a (v, d) (busy, (commits, votes)) =
     said_owed base e t kinds.Durable n s ps o h
-    (λ i. ((λ to x r k. is_or_tells kinds.Durable to ps o (busy kinds.Durable to tt (known_to s.durable.coordinator i.message.from to (subst (λ y. LinkKnows s.request y s.durable.coordinator) a d) k))),
-    (λ to x r k z. let f : notices.Prepare ≡ notices.Commit = sym p ∙ x in absurd cc)))
+    (λ i. (
+      (λ to x r k. is_or_tells kinds.Durable to ps o (busy kinds.Durable to tt (known_to s.durable.coordinator i.message.from to (subst (λ y. LinkKnows s.request y s.durable.coordinator) a d) k))),
+      (λ to x r k z. let f : notices.Prepare ≡ notices.Commit = sym p ∙ x in absurd cc),
+    ))
     busy_so (λ to x c. let f : states.Active ≡ states.Committing = sym a ∙ x in absurd cc) (vote_so o votes)
   where
     busy_so : KeepsBusy e t s ps o

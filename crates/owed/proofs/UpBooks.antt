@@ -45,7 +45,6 @@ use Rattle.owed.proofs.OnLinks.{asked_in, links_know}
 use Rattle.owed.proofs.UpLinks.{IsLinkState, Said, SuperiorIsQuiet, link_state, one_link, quiet_links, rolls_uncommitted, said_owed, vote_on}
 use Rattle.owed.proofs.UpActs.{UpChange, UpOwes, asked_aborts, asked_owed, commit_up, fault_aborts, one_post, passes, same_said, says_more, says_none}
 use Rattle.owed.proofs.Upwards.{Aborted, Keeps, KeepsAll, NeverVoted, Rel, abort_keeps, aborts_up, differs, advance_keeps, go_volatile_keeps, idle, same_rel, up_in}
-
 use Rattle.at_model.specs.Due.{Reached, Expired, Over, Unanswered, Nothing, is_aborting, may_expire, transaction_again, transaction_due, transaction_reached}
 use Rattle.at_model.specs.Phases.{advance}
 use Rattle.at_model.specs.Seats.{in_state, seat_in, seat_target}
@@ -60,7 +59,6 @@ use Rattle.owed.proofs.Along.{told_on}
 use Rattle.owed.proofs.AtSeats.{are_in}
 use Rattle.owed.proofs.Hearing.{HearsAt, HearsCell, seat_state, table}
 use Rattle.owed.proofs.Others.{due_says, DueSays}
-
 use Rattle.at_base.specs.declared.outs.Out.{Out}
 use Rattle.at_base.specs.declared.outs.Out.TheVariants as outs
 use Rattle.at_model.specs.Book.{Leaf, find_by, is_id, put_by, transaction_id}
@@ -85,7 +83,6 @@ use Rattle.owed.proofs.Along.{tells_on}
 use Rattle.owed.proofs.Hearing.{IsSeatState}
 use Rattle.owed.proofs.Seating.{posts_all}
 use Rattle.owed.proofs.UpMoves.{link_up, quiet_up}
-
 use Rattle.at_base.specs.declared.message.Register.{Register}
 use Rattle.at_model.specs.Leaves.{on_leaf}
 use Rattle.at_model.specs.Step.{leaf_plan, transaction_plan}

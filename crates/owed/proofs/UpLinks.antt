@@ -133,9 +133,19 @@ vote_on base e t s ps (Some x) q h = λ d. by_case (h d)
     by_case (inr k) = inr k
 
 pub quiet_links : (base : List ℕ) (e : Event) (t : Transaction) (s : Superior) (ps : List Post) (o : Option Superior) → SuperiorIsQuiet e t → Rel base t.id s ps o → LinksOwed base e t s ps o
-quiet_links base e t s ps o q (busy, (commits, votes)) =
-    ((λ kind h to r c. absurd (q kind notices.Prepare h)), ((λ h to r c. absurd (q kinds.Durable notices.Commit h)), ((λ kind to x b c. busy kind to b c), (commits,
-    vote_on base e t s ps o (λ d. (q kinds.Durable notices.Commit, q kinds.Durable notices.Rollback)) votes))))
+quiet_links base e t s ps o q (busy, (commits, votes)) = (
+  (λ kind h to r c. absurd (q kind notices.Prepare h)),
+  (
+    (λ h to r c. absurd (q kinds.Durable notices.Commit h)),
+    (
+      (λ kind to x b c. busy kind to b c),
+      (
+        commits,
+        vote_on base e t s ps o (λ d. (q kinds.Durable notices.Commit, q kinds.Durable notices.Rollback)) votes,
+      ),
+    ),
+  ),
+)
 
 -- A notification on a link, and what is done about it.
 abbrev pub Said : Event → Transaction → Kind → Notice → Superior → List Post → Option Superior → Type 0

@@ -44,7 +44,6 @@ use Rattle.owed.proofs.OnLinks.{asked_in, links_know}
 use Rattle.owed.proofs.UpLinks.{IsLinkState, Said, SuperiorIsQuiet, link_state, one_link, quiet_links, rolls_uncommitted, said_owed, vote_on}
 use Rattle.owed.proofs.UpActs.{UpChange, UpOwes, asked_aborts, asked_owed, commit_up, fault_aborts, one_post, passes, same_said, says_more, says_none}
 use Rattle.owed.proofs.Upwards.{Aborted, Keeps, KeepsAll, NeverVoted, Rel, abort_keeps, aborts_up, differs, advance_keeps, go_volatile_keeps, idle, same_rel, up_in}
-
 use Rattle.at_model.specs.Due.{Reached, Expired, Over, Unanswered, Nothing, is_aborting, may_expire, transaction_again, transaction_due, transaction_reached}
 use Rattle.at_model.specs.Phases.{advance}
 use Rattle.at_model.specs.Seats.{in_state, seat_in}
@@ -75,9 +74,15 @@ link_act_up m e from i kind s t n acts.Commit u l g h f (a, p) =
     commit_up m e s t kind n h p (subst (λ x. AreIn x s.volatile.state s.durable.state) (has_voted t.phase kind s (known t s u l).0 a) (known t s u l).0)
 link_act_up m e from i kind s t n acts.SendPrepared u l g h f (a, p) =
     same_said m.base e t kind n s (upwards m.base t.id kind notices.Prepared (link_of kind s)) h u
-    (λ j. ((λ to x r k. inr (notices.Prepared, tt, one_post m.base (link_of kind s).coordinator (λ z. notice_post m.base (targets.Participant t.id kind) z notices.Prepared) notices.Prepared to
-    (known_so to j k) refl refl)),
-    (λ to x r k d. let y : notices.Prepare ≡ notices.Commit = sym p ∙ x in absurd cc)))
+    (λ j. (
+      (λ to x r k. inr (
+        notices.Prepared,
+        tt,
+        one_post m.base (link_of kind s).coordinator (λ z. notice_post m.base (targets.Participant t.id kind) z notices.Prepared) notices.Prepared to
+            (known_so to j k) refl refl,
+      )),
+      (λ to x r k d. let y : notices.Prepare ≡ notices.Commit = sym p ∙ x in absurd cc),
+    ))
     (λ d. ((λ x. let y : notices.Prepare ≡ notices.Commit = sym p ∙ x in cc), (λ x. let y : notices.Prepare ≡ notices.Rollback = sym p ∙ x in cc)))
   where
     known_link : (k : Kind) → LinksKnow s → (link_of k s).state ≡ states.PreparedSuccess → is_none (link_of k s).coordinator ≡ false
@@ -92,18 +97,26 @@ link_act_up m e from i kind s t n acts.SendPrepared u l g h f (a, p) =
     known_so to j k = known_one (link_of kind s).coordinator j.message.from to (known_link kind (links_know t s u g) a) k
 link_act_up m e from i kind s t n acts.SendCommitted u l g h f (a, p) =
     same_said m.base e t kind n s (to_each (stored_or (link_of kind s).coordinator from) (λ to. stranger_post m.base (targets.Participant t.id kind) to notices.Committed)) h u
-    (λ j. ((λ to x r k. let y : notices.Commit ≡ notices.Prepare = sym p ∙ x in absurd cc),
-    (λ to x r k d. inr (one_post m.base (stored_or (link_of kind s).coordinator from) (λ z. stranger_post m.base (targets.Participant t.id kind) z notices.Committed) notices.Committed to
-    (same_from to j k) refl refl))))
+    (λ j. (
+      (λ to x r k. let y : notices.Commit ≡ notices.Prepare = sym p ∙ x in absurd cc),
+      (λ to x r k d. inr (one_post m.base (stored_or (link_of kind s).coordinator from) (λ z. stranger_post m.base (targets.Participant t.id kind) z notices.Committed) notices.Committed to
+          (same_from to j k) refl refl)),
+    ))
     (λ d. let y : states.None ≡ states.PreparedSuccess = sym a ∙ d in absurd cc)
   where
     same_from : (to : Epr) (j : SuperiorSaid kind n e t) → stored_or (link_of kind s).coordinator j.message.from ≡ Some to → stored_or (link_of kind s).coordinator from ≡ Some to
     same_from to j k = subst (λ x. stored_or (link_of kind s).coordinator x ≡ Some to) (Rattle.owed.proofs.UpLinks.one_from e t kind kind n n h j ∙ f) k
 link_act_up m e from i kind s t n acts.SendAborted u l g h f (a, p) =
     same_said m.base e t kind n s (to_each (stored_or (link_of kind s).coordinator from) (λ to. stranger_post m.base (targets.Participant t.id kind) to notices.Aborted)) h u
-    (λ j. ((λ to x r k. inr (notices.Aborted, tt, one_post m.base (stored_or (link_of kind s).coordinator from) (λ z. stranger_post m.base (targets.Participant t.id kind) z notices.Aborted) notices.Aborted to
-    (same_from to j k) refl refl)),
-    (λ to x r k d. absurd (no_commit p x))))
+    (λ j. (
+      (λ to x r k. inr (
+        notices.Aborted,
+        tt,
+        one_post m.base (stored_or (link_of kind s).coordinator from) (λ z. stranger_post m.base (targets.Participant t.id kind) z notices.Aborted) notices.Aborted to
+            (same_from to j k) refl refl,
+      )),
+      (λ to x r k d. absurd (no_commit p x)),
+    ))
     (λ d. let y : states.None ≡ states.PreparedSuccess = sym a ∙ d in absurd cc)
   where
     same_from : (to : Epr) (j : SuperiorSaid kind n e t) → stored_or (link_of kind s).coordinator j.message.from ≡ Some to → stored_or (link_of kind s).coordinator from ≡ Some to

@@ -44,7 +44,6 @@ use Rattle.owed.proofs.OnLinks.{asked_in, links_know}
 use Rattle.owed.proofs.UpLinks.{IsLinkState, Said, SuperiorIsQuiet, link_state, one_link, quiet_links, rolls_uncommitted, said_owed, vote_on}
 use Rattle.owed.proofs.UpActs.{UpChange, UpOwes, asked_aborts, asked_owed, commit_up, fault_aborts, one_post, passes, same_said, says_more, says_none}
 use Rattle.owed.proofs.Upwards.{Aborted, Keeps, KeepsAll, NeverVoted, Rel, abort_keeps, aborts_up, differs, advance_keeps, go_volatile_keeps, idle, same_rel, up_in}
-
 use Rattle.at_model.specs.Due.{Reached, Expired, Over, Unanswered, Nothing, is_aborting, may_expire, transaction_again, transaction_due, transaction_reached}
 use Rattle.at_model.specs.Phases.{advance}
 use Rattle.at_model.specs.Seats.{in_state, seat_in, seat_target}
@@ -59,7 +58,6 @@ use Rattle.owed.proofs.Along.{told_on}
 use Rattle.owed.proofs.AtSeats.{are_in}
 use Rattle.owed.proofs.Hearing.{HearsAt, HearsCell, seat_state, table}
 use Rattle.owed.proofs.Others.{due_says, DueSays}
-
 use Rattle.at_base.specs.declared.outs.Out.{Out}
 use Rattle.at_base.specs.declared.outs.Out.TheVariants as outs
 use Rattle.at_model.specs.Book.{Leaf, find_by, is_id, put_by, transaction_id}
@@ -179,9 +177,13 @@ vote_more base e t s ps qs None h = tt
 vote_more base e t s ps qs (Some x) h = λ d. or_on (vote_said_on base t.id x.durable.coordinator ps qs) (h d)
 
 up_on : (base : List ℕ) (e : Event) (t : Transaction) (s : Superior) (ps qs : List Post) (o : Option Superior) → LinksOwed base e t s ps o → LinksOwed base e t s (ps ++ qs) o
-up_on base e t s ps qs o (p, (c, (b, (k, v)))) =
-    ((λ kind h to r f. or_on (answer_on to ps qs) (p kind h to r f)), ((λ h to r f. or_on (tells_on (Some to) notices.Committed ps qs) (c h to r f)),
-    ((λ kind to x y z. busy_on kind to ps qs o (b kind to x y z)), ((λ to d z. commit_on to ps qs o (k to d z)), vote_more base e t s ps qs o v))))
+up_on base e t s ps qs o (p, (c, (b, (k, v)))) = (
+  (λ kind h to r f. or_on (answer_on to ps qs) (p kind h to r f)),
+  (
+    (λ h to r f. or_on (tells_on (Some to) notices.Committed ps qs) (c h to r f)),
+    ((λ kind to x y z. busy_on kind to ps qs o (b kind to x y z)), ((λ to d z. commit_on to ps qs o (k to d z)), vote_more base e t s ps qs o v)),
+  ),
+)
 
 -- the request is answered
 up_answered : (base : List ℕ) (e : Event) (t : Transaction) (s : Superior) (ps : List Post) (z : Superior) → LinksOwed base e t s ps (Some z) → LinksOwed base e t s ps (Some (request_answered z))

@@ -65,7 +65,7 @@ pub steps_owe_links : StepsOweLinks
 steps_owe_links = record {
   links = λ b e now ready shaped t s found f. steps_fine b e now ready shaped t s found f;
   unprepared = λ b a now id kind to at u f g.
-    subst (λ T. Tells (Some to) notices.Aborted (posts_of (arrived_plan b now a T).landed.outs)) (sym at) (replies_at notices.Prepare notices.Aborted prepare_reply b now a id kind to f g u);
+      subst (λ T. Tells (Some to) notices.Aborted (posts_of (arrived_plan b now a T).landed.outs)) (sym at) (replies_at notices.Prepare notices.Aborted prepare_reply b now a id kind to f g u);
   uncommitted = λ b a now id kind to at u f g.
-    subst (λ T. Tells (Some to) notices.Committed (posts_of (arrived_plan b now a T).landed.outs)) (sym at) (replies_at notices.Commit notices.Committed commit_reply b now a id kind to f g u);
+      subst (λ T. Tells (Some to) notices.Committed (posts_of (arrived_plan b now a T).landed.outs)) (sym at) (replies_at notices.Commit notices.Committed commit_reply b now a id kind to f g u);
 }

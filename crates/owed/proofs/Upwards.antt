@@ -99,13 +99,20 @@ rolling_rel : (m : Moment) (s : Superior) (reason : Reason) (g : Moving Transact
 rolling_rel m s reason g o e left = ((λ kind to f b c. by_left kind to (tells kind to f b c) left), by_vote left)
   where
     tells : (kind : Kind) (to : Epr) → is_silent reason kind ≡ false → IsBusy (link_of kind s).state → (link_of kind s).coordinator ≡ Some to → TellsAnswer to (rolling m reason g).posts
-    tells kind to f b c =
-        (notices.Aborted, tt, (notice_post m.base (targets.Participant g.item.id kind) to notices.Aborted,
+    tells kind to f b c = (
+      notices.Aborted,
+      tt,
+      (
+        notice_post m.base (targets.Participant g.item.id kind) to notices.Aborted,
         in_front _ _ (initiator_posts m.base g.item.id notices.Aborted g.item.completion)
-        (in_front _ _ (notices_to m.base g.item.id notices.Rollback g.item.seats is_open)
-        (in_back _ g.posts (links_aborted m.base g.item.id reason g.item.superior)
-        (subst (λ x. IsIn (notice_post m.base (targets.Participant g.item.id kind) to notices.Aborted) (links_aborted m.base g.item.id reason x)) (sym e)
-        (links_in m.base g.item.id reason s kind to b f c)))), refl, refl))
+            (in_front _ _ (notices_to m.base g.item.id notices.Rollback g.item.seats is_open)
+            (in_back _ g.posts (links_aborted m.base g.item.id reason g.item.superior)
+            (subst (λ x. IsIn (notice_post m.base (targets.Participant g.item.id kind) to notices.Aborted) (links_aborted m.base g.item.id reason x)) (sym e)
+            (links_in m.base g.item.id reason s kind to b f c)))),
+        refl,
+        refl,
+      ),
+    )
 
     by_left : (kind : Kind) (to : Epr) → TellsAnswer to (rolling m reason g).posts → (o ≡ None) ⊎ (o ≡ without_links g.item.superior) → StaysBusy kind to (rolling m reason g).posts o
     by_left kind to h (inl k) = subst (StaysBusy kind to (rolling m reason g).posts) (sym k) h
@@ -163,12 +170,19 @@ durable_tells base id s n kinds.Durable to ps v h b c = (n, h, up_tells base id 
 voted_keeps : (m : Moment) (id : Numbers) (s : Superior) (g : Moving Transaction) → g.item.id ≡ id → (c : Epr) → s.durable.coordinator ≡ Some c → AreIn Phase.Durable s.volatile.state s.durable.state
     → Keeps m.base id s (stays (voted m s g))
 unfolding voted
-voted_keeps m id s g i c e (v, d) =
-    ((λ kind to b f. inr (durable_tells m.base g.item.id s notices.Prepared kind to g.posts v tt b f)),
-    ((λ to x f. absurd (differs s.durable.state states.Preparing states.Committing d refl x)),
-    (λ x. inr (c, e, in_back _ g.posts (upwards m.base g.item.id kinds.Durable notices.Prepared s.durable)
-    (subst (λ j. IsIn (notice_post m.base (targets.Participant j kinds.Durable) c notices.Prepared) (upwards m.base g.item.id kinds.Durable notices.Prepared s.durable)) i
-    (up_in m.base g.item.id kinds.Durable notices.Prepared s.durable c e))))))
+voted_keeps m id s g i c e (v, d) = (
+  (λ kind to b f. inr (durable_tells m.base g.item.id s notices.Prepared kind to g.posts v tt b f)),
+  (
+    (λ to x f. absurd (differs s.durable.state states.Preparing states.Committing d refl x)),
+    (λ x. inr (
+      c,
+      e,
+      in_back _ g.posts (upwards m.base g.item.id kinds.Durable notices.Prepared s.durable)
+          (subst (λ j. IsIn (notice_post m.base (targets.Participant j kinds.Durable) c notices.Prepared) (upwards m.base g.item.id kinds.Durable notices.Prepared s.durable)) i
+          (up_in m.base g.item.id kinds.Durable notices.Prepared s.durable c e)),
+    )),
+  ),
+)
 
 sub_keeps : (m : Moment) (id : Numbers) (s : Superior) (o : Option Epr) (g : Moving Transaction) → g.item.id ≡ id → g.item.superior ≡ Some s → s.durable.coordinator ≡ o
     → AreIn Phase.Durable s.volatile.state s.durable.state → KeepsAll m.base id s (sub_answered m s o g)
@@ -177,8 +191,10 @@ sub_keeps m id s None g i e f h = abort_alone m id s g e h
 sub_keeps m id s (Some c) g i e f h =
     either m.base id s (list_any is_prepared_durable g.item.seats) _ _
     (λ w. record { entry = tt; landed = voted_keeps m id s g i c f h; otherwise = abort_alone m id s g e h })
-    (λ w. ((λ kind to b k. durable_tells m.base g.item.id s notices.ReadOnly kind to g.posts h.0 tt b k),
-    ((λ to x k. absurd (differs s.durable.state states.Preparing states.Committing h.1 refl x)), tt)))
+    (λ w. (
+      (λ kind to b k. durable_tells m.base g.item.id s notices.ReadOnly kind to g.posts h.0 tt b k),
+      ((λ to x k. absurd (differs s.durable.state states.Preparing states.Committing h.1 refl x)), tt),
+    ))
 
 durable_keeps : (m : Moment) (id : Numbers) (s : Superior) (o : Option Superior) (g : Moving Transaction) → g.item.id ≡ id → g.item.superior ≡ Some s → o ≡ Some s
     → AreIn Phase.Durable s.volatile.state s.durable.state → KeepsAll m.base id s (durable_answered m o g)
@@ -230,9 +246,10 @@ all_committed_keeps : (m : Moment) (id : Numbers) (s : Superior) (g : Moving Tra
 unfolding all_committed
 all_committed_keeps m id s g e (v, d) = record {
   entry = tt;
-  landed = subst (λ o. Rel m.base id s (g.posts ++ ended_posts m.base g.item.id o) None) (sym e)
-      ((λ kind to b c. durable_tells m.base g.item.id s notices.Committed kind to g.posts v tt b c),
-      ((λ to x c. up_tells m.base g.item.id kinds.Durable notices.Committed s.durable to g.posts c), tt));
+  landed = subst (λ o. Rel m.base id s (g.posts ++ ended_posts m.base g.item.id o) None) (sym e) (
+    (λ kind to b c. durable_tells m.base g.item.id s notices.Committed kind to g.posts v tt b c),
+    ((λ to x c. up_tells m.base g.item.id kinds.Durable notices.Committed s.durable to g.posts c), tt),
+  );
   otherwise = tt;
 }
 

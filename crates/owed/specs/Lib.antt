@@ -3,3 +3,4 @@ pub mod Seats
 pub mod Upwards
 pub mod Leaves
 pub mod Registers
+pub mod Joining

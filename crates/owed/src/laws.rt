@@ -38,3 +38,8 @@ pub fn steps_owe_leaves()
 pub fn registers_are_answered()
     ensures { RegistersAreAnswered }
 {}
+
+#[tactic(auto, using(crate::proofs::Joining::reached_since))]
+pub fn links_join()
+    ensures { RegistersAreAnswered }
+{}
