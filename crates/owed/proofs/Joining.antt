@@ -108,14 +108,14 @@ AllSince s d = DecisionSays (SinceLeft s) (λ r c. Unit {0}) d
 either : (s : Superior) (b : Bool) (c d : Decision Transaction) → (b ≡ true → AllSince s c) → (b ≡ false → AllSince s d) → AllSince s (if b then c else d)
 either s b c d h k = either_says (SinceLeft s) (λ r x. Unit {0}) b c d h k
 
-same_since : (s : Superior) (o : Option Superior) → o ≡ Some s → Since s o
+pub same_since : (s : Superior) (o : Option Superior) → o ≡ Some s → Since s o
 same_since s o e = subst (Since s) (sym e) (refl, λ kind d. d)
 
 no_links : (s : Superior) (kind : Kind) → (link_of kind (link_in kinds.Volatile states.None (link_in kinds.Durable states.None s))).state ≡ states.Registering → (link_of kind s).state ≡ states.Registering
 no_links s kinds.Volatile d = absurd cc
 no_links s kinds.Durable d = absurd cc
 
-abort_since : (m : Moment) (s : Superior) (reason : Reason) (g : Moving Transaction) → g.item.superior ≡ Some s → SinceLeft s (abort m reason g)
+pub abort_since : (m : Moment) (s : Superior) (reason : Reason) (g : Moving Transaction) → g.item.superior ≡ Some s → SinceLeft s (abort m reason g)
 unfolding abort
 abort_since m s reason g e =
     either_left (SinceLeft s) (list_any (in_state states.Aborting) (rolling m reason g).item.seats) (stays (rolling m reason g)) (forgotten (rolling m reason g))

@@ -22,3 +22,4 @@ pub mod LeafRules
 pub mod LeafSteps
 pub mod Replying
 pub mod Joining
+pub mod JoinRules

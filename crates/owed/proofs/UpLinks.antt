@@ -96,7 +96,7 @@ rolls_uncommitted phase kinds.Volatile s h r e = subst MayRoll (committing_alone
 rolls_uncommitted phase kinds.Durable s h r e = subst MayRoll e r
 
 -- A superior says one thing on one link.
-abbrev kind_in : Target → Kind
+abbrev pub kind_in : Target → Kind
 kind_in (targets.Participant id kind) = kind
 kind_in other = kinds.Volatile
 

@@ -39,7 +39,7 @@ pub fn registers_are_answered()
     ensures { RegistersAreAnswered }
 {}
 
-#[tactic(auto, using(crate::proofs::Joining::reached_since))]
+#[tactic(auto, using(crate::proofs::JoinRules::moved_joins))]
 pub fn links_join()
     ensures { RegistersAreAnswered }
 {}
