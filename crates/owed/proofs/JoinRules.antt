@@ -97,16 +97,16 @@ use Rattle.owed.proofs.UpLinks.{kind_in}
 use Rattle.owed.proofs.UpActs.{says_more}
 
 -- no Register of its links is answered
-abbrev NotAnswered : List ℕ → Event → Transaction → Type 0
+abbrev pub NotAnswered : List ℕ → Event → Transaction → Type 0
 NotAnswered base e t = (kind : Kind) → IsAnsweredOn base e t kind → ⊥
 
-abbrev Joins : List ℕ → Event → Transaction → Superior → Change Transaction → Type 0
+abbrev pub Joins : List ℕ → Event → Transaction → Superior → Change Transaction → Type 0
 Joins base e t s c = JoinsStill base e t s (superior_left c.item)
 
-abbrev JoinsAll : List ℕ → Event → Transaction → Superior → Decision Transaction → Type 0
+abbrev pub JoinsAll : List ℕ → Event → Transaction → Superior → Decision Transaction → Type 0
 JoinsAll base e t s d = DecisionSays (Joins base e t s) (λ r c. Unit {0}) d
 
-joins_so : (base : List ℕ) (e : Event) (t : Transaction) (s : Superior) (o : Option Superior) → NotAnswered base e t → Since s o → JoinsStill base e t s o
+pub joins_so : (base : List ℕ) (e : Event) (t : Transaction) (s : Superior) (o : Option Superior) → NotAnswered base e t → Since s o → JoinsStill base e t s o
 joins_so base e t s None f h = tt
 joins_so base e t s (Some x) f (r, h) = λ kind d. ((h kind d, r), f kind)
 
@@ -258,7 +258,7 @@ with_answer_joins m e t s (Records r c (Some d)) l h = record {
   otherwise = answer_joins m e t s (request_of t.superior) d l.otherwise h.otherwise;
 }
 
-not_at : (base : List ℕ) (e : Event) (a : Arrived) (t : Transaction) → e ≡ events.Arrived a → ((kind : Kind) → a.target ≡ targets.Participant t.id kind → ⊥) → NotAnswered base e t
+pub not_at : (base : List ℕ) (e : Event) (a : Arrived) (t : Transaction) → e ≡ events.Arrived a → ((kind : Kind) → a.target ≡ targets.Participant t.id kind → ⊥) → NotAnswered base e t
 not_at base e a t came f kind h =
     let same : h.message ≡ a = Rattle.owed.proofs.Steps.came_so e h.message a h.came came in
     f kind (sym (ap (λ (x : Arrived). x.target) same) ∙ h.target)

@@ -23,3 +23,4 @@ pub mod LeafSteps
 pub mod Replying
 pub mod Joining
 pub mod JoinRules
+pub mod JoinBooks

@@ -98,7 +98,7 @@ same_up : (base : List ℕ) (e : Event) (u : Transaction) (s : Superior) (ps : L
     → LinksOwed base e u s ps (superior_left o)
 same_up base e u s ps o q f g = subst (λ x. LinksOwed base e u s ps (superior_left x)) (sym g) (quiet_links base e u s ps u.superior q (same_rel base u.id s ps u.superior f))
 
-one_of : (t u : Transaction) (o : Option Transaction) → o ≡ Some t → o ≡ Some u → t ≡ u
+pub one_of : (t u : Transaction) (o : Option Transaction) → o ≡ Some t → o ≡ Some u → t ≡ u
 one_of t u o e f = let g : Some t ≡ Some u = sym e ∙ f in cc
 
 -- one transaction moves
@@ -145,7 +145,7 @@ others_fine b e u s put answer (Records r c absent) q f found same =
     same_up b.base e u s (posts_of (answer ++ map outs.Post c.posts)) (transaction_at (put c.item) u.id) q f (ap (λ ts. find_by transaction_id u.id ts) (same c.item) ∙ found)
 
 -- a registration leaves the links as they are
-enrolled_superior : (m : Moment) (a : Arrived) (r : Register) (t : Transaction) (g : Registration) → Enrolls m a r t g
+pub enrolled_superior : (m : Moment) (a : Arrived) (r : Register) (t : Transaction) (g : Registration) → Enrolls m a r t g
     → g.transaction.superior ≡ t.superior
 enrolled_superior m a r t g (takes_seat kind p may is) = ap (λ x. x.transaction.superior) is
 enrolled_superior m a r t g (takes_completion p may is) = ap (λ x. x.transaction.superior) is
@@ -153,7 +153,7 @@ enrolled_superior m a r t g (has_seat kind s p i k f is) = ap (λ x. x.transacti
 enrolled_superior m a r t g (has_completion c p there f is) = ap (λ x. x.transaction.superior) is
 enrolled_superior m a r t g (refuses name is) = ap (λ x. x.transaction.superior) is
 
-joined_found : (u t : Transaction) (xs : List Transaction) → find_by transaction_id u.id xs ≡ Some u → find_by transaction_id u.id (xs ++ t ∷ []) ≡ Some u
+pub joined_found : (u t : Transaction) (xs : List Transaction) → find_by transaction_id u.id xs ≡ Some u → find_by transaction_id u.id (xs ++ t ∷ []) ≡ Some u
 joined_found u t [] e = absurd cc
 joined_found u t (x ∷ xs) e = by_test (joined_found u t xs) (is_id x.id u.id) e
   where

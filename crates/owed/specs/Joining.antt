@@ -13,6 +13,7 @@ use Rattle.at_model.specs.Seats.{link_of}
 use Rattle.at_model.specs.Step.{step, transaction_at}
 use Rattle.enlistments.specs.Moves.{IsReady}
 use Rattle.owed.specs.Leaves.{AnswersRegister}
+use Rattle.owed.specs.Shape.{AreShaped}
 use Rattle.owed.specs.Upwards.{superior_left}
 
 -- the Register of this link is answered by this event
@@ -31,5 +32,5 @@ JoinsStill base e t s (Some x) =
 
 -- So it is over each step whose record lands.
 pub record LinksJoin : Type 0 where
-  pub joins : (b : Book) (e : Event) (now : ℕ) → IsReady b → (t : Transaction) (s : Superior) → transaction_at b t.id ≡ Some t → t.superior ≡ Some s
+  pub joins : (b : Book) (e : Event) (now : ℕ) → IsReady b → AreShaped b → (t : Transaction) (s : Superior) → transaction_at b t.id ≡ Some t → t.superior ≡ Some s
       → JoinsStill b.base e t s (superior_left (transaction_at (step b e now true).book t.id))

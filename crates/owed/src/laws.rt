@@ -1,5 +1,6 @@
 //! How transactions stand in their phases, and what each step owes.
 
+ghost use Rattle.owed.specs.Joining.{LinksJoin};
 ghost use Rattle.owed.specs.Leaves.{StepsOweLeaves};
 ghost use Rattle.owed.specs.Registers.{RegistersAreAnswered};
 ghost use Rattle.owed.specs.Seats.{StepsOweSeats};
@@ -39,7 +40,8 @@ pub fn registers_are_answered()
     ensures { RegistersAreAnswered }
 {}
 
-#[tactic(auto, using(crate::proofs::JoinRules::moved_joins))]
+/// A subordinate's link that registers goes on to, until its Register is answered.
+#[tactic(auto, using(crate::proofs::JoinBooks::links_join))]
 pub fn links_join()
-    ensures { RegistersAreAnswered }
+    ensures { LinksJoin }
 {}
