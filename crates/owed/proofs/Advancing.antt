@@ -1,32 +1,28 @@
 -- What a phase waits for, and what follows: the transaction stands as its phase wants, and owes nothing that isn't posted.
-use Rattle.std.specs.Prelude.{ℕ, List, [], ◌∷◌, ◌++◌, Option, Some, None, Bool, true, false, not, ◌&&◌, ◌||◌, if◌then◌else◌, filter, map, is_none, ◌≡◌, ◌⊎◌, refl}
-use Rattle.std.specs.List.{list_any, AllByRecursion}
-use Rattle.std.proofs.Common.{inl, inr, ap, sym, subst, ◌∙◌}
+use Rattle.std.specs.Prelude.{List, [], ◌∷◌, ◌++◌, Option, Some, None, Bool, true, false, not, ◌&&◌, ◌||◌, if◌then◌else◌, filter, map, is_none, ◌≡◌, refl}
+use Rattle.std.specs.List.{list_any}
+use Rattle.std.proofs.Common.{inl, inr, ap, sym, subst}
 use Rattle.at_base.specs.Numbers.{Numbers}
 use Rattle.at_base.specs.declared.epr.Epr.{Epr}
 use Rattle.at_base.specs.declared.notice.Kind.{Kind}
 use Rattle.at_base.specs.declared.notice.Kind.TheVariants as kinds
 use Rattle.at_base.specs.declared.notice.Notice.TheVariants as notices
-use Rattle.at_base.specs.declared.record.Record.TheVariants as records
 use Rattle.at_base.specs.declared.event.Event.{Event}
 use Rattle.at_base.specs.declared.event.Moment.{Moment}
 use Rattle.at_base.specs.declared.outs.Post.{Post}
-use Rattle.at_base.specs.declared.outs.Ending.TheVariants as endings
 use Rattle.at_tables.specs.declared.cells.State.{State}
 use Rattle.at_tables.specs.declared.cells.State.TheVariants as states
 use Rattle.at_tables.specs.Names.{is_kind, is_state}
 use Rattle.at_model.specs.Book.{Completion, Enlistment, Phase, Superior, Transaction}
-use Rattle.at_model.specs.Moves.{Moving, Change, Decision, Goes, Records, become, effect, posts, stays, forgotten}
-use Rattle.at_model.specs.Seats.{answered, all_left, completion_in, ending, in_phase, in_state, initiator_posts, is_of, is_prepared_durable, link_in, moved, notices_to, prepared, seated}
-use Rattle.at_model.specs.Abort.{Alone, abort, until_rolled_back}
-use Rattle.at_model.specs.Phases.{advance_in, all_committed, commit_seats, committed, decided, durable_answered, ended_posts, go_durable, go_volatile, if_durable_answered, prepare_seats, root_answered, sub_answered, upwards, volatile_answered, voted}
+use Rattle.at_model.specs.Moves.{Moving, become, posts, stays, forgotten}
+use Rattle.at_model.specs.Seats.{answered, all_left, completion_in, in_phase, in_state, initiator_posts, is_of, is_prepared_durable, link_in, moved, notices_to, prepared, seated}
+use Rattle.at_model.specs.Abort.{Alone}
+use Rattle.at_model.specs.Phases.{advance_in, all_committed, committed, decided, durable_answered, ended_posts, go_durable, go_volatile, if_durable_answered, prepare_seats, root_answered, sub_answered, upwards, volatile_answered, voted}
 use Rattle.at_model.specs.Recover.{no_seats}
 use Rattle.model_laws.specs.Links.{AreIn, AreLinked}
-use Rattle.model_laws.proofs.Deciding.{either_left}
-use Rattle.owed.specs.Seats.{IsAsked, IsKept, Pairs}
 use Rattle.owed.specs.Shape.{AreSuited, IsSeatIn, IsShaped, LinksKnow, StandsUnder, Waits, suits}
 use Rattle.owed.proofs.Along.{asked_kept, asked_on, asked_sent, commit_kept, commit_sent, kept_on}
-use Rattle.owed.proofs.Rules.{From, Along, On, AllTold, Left, Owes, aborts, all_told, either, none_left, rolled_back, stays_so, waits_on}
+use Rattle.owed.proofs.Rules.{From, Along, On, Left, Owes, aborts, all_told, either, none_left, rolled_back, stays_so, waits_on}
 use Rattle.owed.proofs.Tables.{Are, are_both, are_more, are_moved, every_seat, none_is, some_more, some_moved}
 
 -- more is posted

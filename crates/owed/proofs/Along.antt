@@ -1,6 +1,6 @@
 -- Seats on their way through a step: what is posted to them.
-use Rattle.std.specs.Prelude.{ℕ, List, [], ◌∷◌, ◌++◌, Option, Some, None, Bool, true, false, not, ◌&&◌, ◌||◌, if◌then◌else◌, map, filter, ◌≡◌, ◌⊎◌, refl}
-use Rattle.std.specs.List.{list_any, AllByRecursion}
+use Rattle.std.specs.Prelude.{ℕ, List, [], ◌∷◌, ◌++◌, Option, Some, Bool, true, false, not, ◌&&◌, ◌||◌, if◌then◌else◌, map, filter, ◌≡◌, ◌⊎◌, refl}
+use Rattle.std.specs.List.{AllByRecursion}
 use Rattle.std.proofs.Common.{inl, inr, ap, sym, subst, ◌∙◌}
 use Rattle.at_base.specs.Numbers.{Numbers}
 use Rattle.at_base.specs.declared.epr.Epr.{Epr}
@@ -10,21 +10,18 @@ use Rattle.at_base.specs.declared.notice.Notice.{Notice}
 use Rattle.at_base.specs.declared.notice.Notice.TheVariants as notices
 use Rattle.at_base.specs.declared.target.Target.TheVariants as targets
 use Rattle.at_base.specs.declared.event.Event.{Event}
-use Rattle.at_base.specs.declared.event.Moment.{Moment}
 use Rattle.at_base.specs.declared.outs.Post.{Post}
 use Rattle.at_tables.specs.declared.cells.State.{State}
 use Rattle.at_tables.specs.declared.cells.State.TheVariants as states
-use Rattle.at_tables.specs.Names.{is_kind, is_state}
+use Rattle.at_tables.specs.Names.{is_state}
 use Rattle.at_model.specs.Book.{Enlistment, Transaction}
-use Rattle.at_model.specs.Moves.{Moving}
 use Rattle.at_model.specs.Posts.{notice_post}
 use Rattle.at_model.specs.Seats.{is_open, move_if, moved, notices_to}
 use Rattle.model_laws.specs.Agreement.{IsIn}
 use Rattle.model_laws.specs.Behind.{accepted_as}
 use Rattle.model_laws.proofs.Deciding.{in_front}
-use Rattle.agreement.specs.Deeds.{ParticipantSaid}
-use Rattle.owed.specs.Seats.{seat_post, HasAnswered, IsTold, IsKept, IsAsked, IsOwed, Pairs, SaysPrepared, Tells, TellsOutcome}
-use Rattle.owed.proofs.Tables.{Are, at_seat, every_seat, implied}
+use Rattle.owed.specs.Seats.{seat_post, IsTold, IsKept, IsAsked, IsOwed, Pairs, SaysPrepared, Tells, TellsOutcome}
+use Rattle.owed.proofs.Tables.{Are, at_seat, every_seat}
 
 -- on the way to an abort it may also be open
 abbrev pub IsOpened : Event → Transaction → List Post → Enlistment → Enlistment → Type 0

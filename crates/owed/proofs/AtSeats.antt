@@ -1,13 +1,12 @@
 -- A message at a seat.
-use Rattle.std.specs.Prelude.{ℕ, List, [], ◌∷◌, ◌++◌, Option, Some, None, Bool, true, false, not, nat_eq, ◌&&◌, ◌||◌, if◌then◌else◌, ◌≡◌, ◌⊎◌, refl}
-use Rattle.std.specs.List.{list_any, AllByRecursion}
+use Rattle.std.specs.Prelude.{ℕ, List, [], ◌∷◌, Option, Some, Bool, true, false, nat_eq, ◌||◌, if◌then◌else◌, ◌≡◌, ◌⊎◌, refl}
+use Rattle.std.specs.List.{AllByRecursion}
 use Rattle.std.proofs.Common.{inl, inr, ap, sym, subst, ◌∙◌}
 use Rattle.std.proofs.lemmas.Bool.{eqb-true, eq-eqb}
 use Rattle.at_base.specs.declared.notice.Kind.{Kind}
 use Rattle.at_base.specs.declared.notice.Kind.TheVariants as kinds
 use Rattle.at_base.specs.declared.notice.Notice.{Notice}
 use Rattle.at_base.specs.declared.notice.Notice.TheVariants as notices
-use Rattle.at_base.specs.declared.message.Message.{Message}
 use Rattle.at_base.specs.declared.message.Message.TheVariants as messages
 use Rattle.at_base.specs.declared.target.Target.{Target}
 use Rattle.at_base.specs.declared.target.Target.TheVariants as targets
@@ -18,28 +17,16 @@ use Rattle.at_base.specs.declared.event.Moment.{Moment}
 use Rattle.at_base.specs.declared.outs.Post.{Post}
 use Rattle.at_tables.specs.declared.cells.State.{State}
 use Rattle.at_tables.specs.declared.cells.State.TheVariants as states
-use Rattle.at_tables.specs.declared.cells.Act.{Act}
-use Rattle.at_tables.specs.declared.cells.Act.TheVariants as acts
-use Rattle.at_tables.specs.declared.cells.Cell.{Cell}
 use Rattle.at_tables.specs.Names.{is_state}
-use Rattle.at_tables.specs.Tables.{coordinator_of}
-use Rattle.at_model.specs.Book.{Enlistment, Phase, Transaction}
-use Rattle.at_model.specs.Moves.{Decision, begin, ignored, post}
-use Rattle.at_model.specs.Posts.{fault_post, invalid_state, notice_post, stranger_post}
-use Rattle.at_model.specs.Seats.{in_state, is_open, moved, seat_in, seat_target}
-use Rattle.at_model.specs.Abort.{Alone}
-use Rattle.at_model.specs.Phases.{advance}
-use Rattle.at_model.specs.Arrivals.{answer_left_seat, answer_seat, on_seat, seat_act, seat_notice}
+use Rattle.at_model.specs.Book.{Enlistment, Transaction}
+use Rattle.at_model.specs.Seats.{is_open, moved}
 use Rattle.model_laws.specs.Agreement.{IsIn}
-use Rattle.model_laws.specs.Behind.{IsUnanswered}
-use Rattle.model_laws.proofs.Linking.{Linked}
 use Rattle.agreement.specs.Deeds.{ParticipantSaid}
-use Rattle.owed.specs.Seats.{AnswersSeat, HasAnswered, IsAsked, IsKept, IsOwed, IsTold, Pairs, SaysPrepared, TellsOutcome}
+use Rattle.owed.specs.Seats.{AnswersSeat, HasAnswered, IsAsked, IsKept, IsOwed, IsTold, Pairs, SaysPrepared}
 use Rattle.owed.specs.Shape.{IsShaped, suits}
-use Rattle.owed.proofs.Along.{IsOpened, in_back, kept_on}
-use Rattle.owed.proofs.Advancing.{advance_owes}
-use Rattle.owed.proofs.Rules.{Along, From, FromOpen, Left, Loose, On, Owes, aborts, aborts_open, either, stays_so}
-use Rattle.owed.proofs.Tables.{Are, at_seat, every_seat, implied}
+use Rattle.owed.proofs.Along.{IsOpened}
+use Rattle.owed.proofs.Rules.{Along, Left}
+use Rattle.owed.proofs.Tables.{Are}
 
 -- what one finds in a list
 pub are_in : (p : Kind → State → Bool) (seats : List Enlistment) (s : Enlistment) → Are p seats → IsIn s seats → p s.kind s.state ≡ true

@@ -1,5 +1,5 @@
 -- Books of transactions that stand as their phases want: over steps, recovery and runs.
-use Rattle.std.specs.Prelude.{ℕ, List, [], ◌∷◌, ◌++◌, Option, Some, None, Bool, true, false, ◌||◌, if◌then◌else◌, length, map, ◌≡◌, ◌<◌, refl}
+use Rattle.std.specs.Prelude.{ℕ, List, [], ◌∷◌, Option, Some, None, Bool, true, false, ◌||◌, if◌then◌else◌, length, map, ◌≡◌, refl}
 use Rattle.std.specs.List.{list_any, AllByRecursion}
 use Rattle.std.proofs.Common.{sym, subst, ap, ◌∙◌}
 use Rattle.at_base.specs.Numbers.{Numbers}
@@ -12,19 +12,18 @@ use Rattle.at_base.specs.declared.event.Event.{Event}
 use Rattle.at_tables.specs.declared.cells.State.{State}
 use Rattle.at_tables.specs.declared.cells.State.TheVariants as states
 use Rattle.at_model.specs.Posts.{accepted}
-use Rattle.at_model.specs.Book.{Book, Enlistment, Phase, Transaction, last_counter, transaction_id}
-use Rattle.at_model.specs.Moves.{Decision}
+use Rattle.at_model.specs.Book.{Book, Phase, Transaction, transaction_id}
 use Rattle.at_model.specs.Arrivals.{with_answer}
 use Rattle.at_model.specs.Register.{on_register}
 use Rattle.at_model.specs.Step.{Outcome, Plan, still, at_time, moment_of, put_transaction, put_leaf, put_activity, make_transaction, make_leaf, make_activity, registration_outcome, plan, step}
 use Rattle.at_model.specs.Recover.{ends_transaction, is_sub_committed, kept, live, no_seats, recover, recovered_decided, recovered_seat, recovered_voted, transactions_of, with_commit}
-use Rattle.at_model.specs.World.{Node, World, WorldEvent, nth, run_of}
+use Rattle.at_model.specs.World.{Node, World, nth, run_of}
 use Rattle.model_laws.specs.Behind.{IsInPhase}
 use Rattle.model_laws.specs.Drawn.{restarted, with_entry}
 use Rattle.model_laws.specs.Laws.{HasLeafId}
 use Rattle.model_laws.specs.Reached.{Reached}
 use Rattle.model_laws.specs.Shapes.{Shape, nothing_moves, time_moves, time_passes, transaction_moves, leaf_moves, activity_moves, transaction_registers, transaction_made, leaf_made, activity_made}
-use Rattle.model_laws.proofs.Deciding.{Both, in_branch, plain_both, decision_both, IfThere, decided_says, decided_entry, says_entry, all_find, all_put, all_join, all_more}
+use Rattle.model_laws.proofs.Deciding.{Both, in_branch, plain_both, decision_both, IfThere, decided_says, decided_entry, says_entry, all_find, all_put, all_join}
 use Rattle.model_laws.proofs.Drawing.{leaf_moved_kept, activity_moved_kept}
 use Rattle.model_laws.proofs.Keeping.{IsOfLeaf, NamesLeaf, HasBoth, NoRecord}
 use Rattle.model_laws.proofs.Linking.{Linked}
@@ -34,7 +33,7 @@ use Rattle.model_laws.proofs.Shaping.{steps_touch_one}
 use Rattle.model_laws.proofs.Standing.{decides_behind_every_answer}
 use Rattle.agreement.specs.Finished.{IsFinished, AreFinished, NamesRising}
 use Rattle.agreement.proofs.Finishing.{finishes_all}
-use Rattle.owed.specs.Shape.{AreShaped, AreSuited, BooksAreShaped, IsShaped, NamesSomebody, Waits, suits}
+use Rattle.owed.specs.Shape.{AreShaped, AreSuited, BooksAreShaped, IsShaped, NamesSomebody, suits}
 use Rattle.owed.proofs.Rules.{Left, LeftIn}
 use Rattle.owed.proofs.Steps.{created_shaped, moved_owes, register_shaped}
 use Rattle.at_base.specs.declared.outs.Post.{Post}

@@ -1,17 +1,15 @@
 -- What a seat's message does.
-use Rattle.std.specs.Prelude.{ℕ, List, [], ◌∷◌, ◌++◌, Option, Some, None, Bool, true, false, not, nat_eq, ◌&&◌, ◌||◌, if◌then◌else◌, ◌≡◌, ◌⊎◌, ◌<◌, ◌≤◌, refl}
-use Rattle.std.specs.List.{list_any, AllByRecursion}
-use Rattle.std.proofs.Common.{arith, inl, inr, ap, sym, subst, ◌∙◌}
+use Rattle.std.specs.Prelude.{ℕ, List, [], ◌∷◌, Option, Some, None, Bool, true, false, not, nat_eq, ◌&&◌, ◌||◌, if◌then◌else◌, ◌≡◌, ◌⊎◌, ◌<◌, ◌≤◌, refl}
+use Rattle.std.specs.List.{AllByRecursion}
+use Rattle.std.proofs.Common.{arith, inl, inr, sym, subst, ◌∙◌}
 use Rattle.at_base.specs.declared.notice.Kind.{Kind}
 use Rattle.at_base.specs.declared.notice.Kind.TheVariants as kinds
 use Rattle.at_base.specs.declared.notice.Notice.{Notice}
 use Rattle.at_base.specs.declared.notice.Notice.TheVariants as notices
 use Rattle.at_base.specs.declared.message.Message.{Message}
 use Rattle.at_base.specs.declared.message.Message.TheVariants as messages
-use Rattle.at_base.specs.declared.target.Target.TheVariants as targets
 use Rattle.at_base.specs.declared.event.Arrived.{Arrived}
 use Rattle.at_base.specs.declared.event.Event.{Event}
-use Rattle.at_base.specs.declared.event.Event.TheVariants as events
 use Rattle.at_base.specs.declared.event.Moment.{Moment}
 use Rattle.at_base.specs.declared.outs.Post.{Post}
 use Rattle.at_tables.specs.declared.cells.State.{State}
@@ -22,7 +20,7 @@ use Rattle.at_tables.specs.declared.cells.Cell.{Cell}
 use Rattle.at_tables.specs.Names.{is_kind, is_state}
 use Rattle.at_tables.specs.Tables.{coordinator_of}
 use Rattle.at_model.specs.Book.{Enlistment, Phase, Transaction}
-use Rattle.at_model.specs.Moves.{Decision, begin, ignored, post}
+use Rattle.at_model.specs.Moves.{begin, post}
 use Rattle.at_model.specs.Posts.{fault_post, invalid_state, notice_post, stranger_post, unknown_transaction}
 use Rattle.at_model.specs.Seats.{in_state, is_open, moved, seat_in, seat_target}
 use Rattle.at_model.specs.Abort.{Alone}
@@ -31,17 +29,14 @@ use Rattle.at_model.specs.Arrivals.{answer_left_seat, answer_seat, on_seat, seat
 use Rattle.at_model.specs.Step.{find_seat}
 use Rattle.model_laws.specs.Agreement.{IsIn}
 use Rattle.model_laws.specs.Behind.{IsUnanswered}
-use Rattle.model_laws.specs.Shapes.{IsAtSeat}
 use Rattle.model_laws.specs.Sound.{SeatsRise}
 use Rattle.model_laws.proofs.Linking.{Linked}
-use Rattle.agreement.specs.Deeds.{ParticipantSaid}
-use Rattle.enlistments.proofs.Finding.{found_seat}
-use Rattle.owed.specs.Seats.{AnswersSeat, HasAnswered, IsAsked, IsKept, IsOwed, IsTold, Pairs, SaysPrepared, TellsOutcome}
+use Rattle.owed.specs.Seats.{AnswersSeat, IsOwed, IsTold, Pairs}
 use Rattle.owed.specs.Shape.{IsShaped, suits}
-use Rattle.owed.proofs.AtSeats.{AtSeat, Goes, Leaves, LeavesAs, Unheard, are_in, asked_of, goes_are, goes_owed, kept_of, open_pairs, same_along, same_left, unanswered_all}
+use Rattle.owed.proofs.AtSeats.{AtSeat, Goes, Leaves, LeavesAs, Unheard, are_in, asked_of, goes_are, goes_owed, kept_of, open_pairs, same_left, unanswered_all}
 use Rattle.owed.proofs.Advancing.{advance_owes}
-use Rattle.owed.proofs.Rules.{Along, From, FromOpen, Left, Loose, On, Owes, aborts, aborts_open, either, stays_so}
-use Rattle.owed.proofs.Tables.{Are, at_kind, at_seat, every_kind, every_seat, implied}
+use Rattle.owed.proofs.Rules.{Along, Left, Loose, Owes, aborts, aborts_open, either}
+use Rattle.owed.proofs.Tables.{at_kind, at_seat, every_kind, every_seat, implied}
 
 -- A number names one seat.
 found_above : (last number : ℕ) (kind : Kind) (seats : List Enlistment) (s : Enlistment) → SeatsRise last seats → find_seat number kind seats ≡ Some s → last < s.number

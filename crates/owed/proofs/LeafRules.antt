@@ -1,5 +1,5 @@
 -- What moves a leaf, and what it says.
-use Rattle.std.specs.Prelude.{ℕ, List, [], ◌∷◌, ◌++◌, Option, Some, None, Bool, true, false, ◌&&◌, ◌||◌, if◌then◌else◌, bytes_eq, ◌≡◌, ◌⊎◌, refl}
+use Rattle.std.specs.Prelude.{ℕ, List, Option, Some, None, false, ◌≡◌, refl}
 use Rattle.std.proofs.Common.{inl, inr, ap, sym, subst, ◌∙◌}
 use Rattle.at_base.specs.declared.epr.Epr.{Epr}
 use Rattle.at_base.specs.declared.notice.Kind.{Kind}
@@ -14,29 +14,20 @@ use Rattle.at_base.specs.declared.event.Arrived.{Arrived}
 use Rattle.at_base.specs.declared.event.Event.{Event}
 use Rattle.at_base.specs.declared.event.Event.TheVariants as events
 use Rattle.at_base.specs.declared.event.Moment.{Moment}
-use Rattle.at_base.specs.declared.outs.Ending.TheVariants as endings
 use Rattle.at_base.specs.declared.outs.Post.{Post}
 use Rattle.at_tables.specs.declared.cells.State.{State}
 use Rattle.at_tables.specs.declared.cells.State.TheVariants as states
-use Rattle.at_tables.specs.declared.cells.Act.{Act}
-use Rattle.at_tables.specs.declared.cells.Act.TheVariants as acts
-use Rattle.at_tables.specs.declared.cells.Cell.{Cell}
 use Rattle.at_tables.specs.Names.{is_state}
-use Rattle.at_tables.specs.Tables.{participant_of}
-use Rattle.at_model.specs.Addresses.{register_id}
-use Rattle.at_model.specs.Arrivals.{relates_to}
 use Rattle.at_model.specs.Book.{Leaf}
-use Rattle.at_model.specs.Due.{Reached, Expired, Over, Unanswered, Nothing, leaf_again, leaf_due, leaf_expires, leaf_reached}
-use Rattle.at_model.specs.Leaves.{answers_leaf, drops_leaf, leaf_aborts, leaf_act, leaf_commit, leaf_commits, leaf_fault, leaf_faults, leaf_notice, leaf_prepares, leaf_records_vote, leaf_refused, leaf_registered, leaf_roll_back, leaf_says, leaf_target, leaf_votes, on_leaf, work_answer}
-use Rattle.at_model.specs.Moves.{Change, Decision, Goes, Records, ignored}
+use Rattle.at_model.specs.Leaves.{leaf_aborts, leaf_commit, leaf_commits, leaf_prepares, leaf_records_vote, leaf_roll_back, leaf_says, leaf_target, leaf_votes}
+use Rattle.at_model.specs.Moves.{Change, Decision}
 use Rattle.at_model.specs.Posts.{notice_post, stored_or, to_each}
 use Rattle.model_laws.specs.Agreement.{IsIn}
-use Rattle.model_laws.proofs.Deciding.{DecisionSays, either_left, either_says, first_true, second_true}
-use Rattle.agreement.specs.LeafDeeds.{CameTo, LeafStands, Notified, registers, works, waits}
+use Rattle.model_laws.proofs.Deciding.{DecisionSays}
+use Rattle.agreement.specs.LeafDeeds.{CameTo, Notified}
 use Rattle.owed.specs.Leaves.{AnswersRegister, IsRegistered, KeepsLeafVote, LeafOwed, RegistersStill}
 use Rattle.owed.specs.Seats.{Tells}
 use Rattle.owed.specs.Upwards.{TellsAnswer}
-use Rattle.owed.proofs.LinkTable.{IsDeaf, IsDone, LinkHears, LinkHearsCell, Passes, link_hears}
 use Rattle.owed.proofs.UpActs.{one_post}
 
 abbrev pub LeafChange : List ℕ → Event → Leaf → Change Leaf → Type 0

@@ -1,11 +1,9 @@
 -- Each step answers for its leaves.
-use Rattle.std.specs.Prelude.{ℕ, List, [], ◌∷◌, ◌++◌, Option, Some, None, Bool, true, false, length, map, ◌&&◌, ◌||◌, if◌then◌else◌, bytes_eq, ◌≡◌, ◌⊎◌, refl}
+use Rattle.std.specs.Prelude.{ℕ, List, [], ◌∷◌, ◌++◌, Option, Some, None, Bool, true, false, map, ◌&&◌, if◌then◌else◌, ◌≡◌, refl}
 use Rattle.std.proofs.Common.{inl, inr, ap, sym, subst, ◌∙◌}
 use Rattle.at_base.specs.declared.epr.Epr.{Epr}
 use Rattle.at_base.specs.declared.notice.Kind.{Kind}
 use Rattle.at_base.specs.declared.notice.Kind.TheVariants as kinds
-use Rattle.at_base.specs.declared.notice.Vote.{Vote}
-use Rattle.at_base.specs.declared.notice.Vote.TheVariants as votes
 use Rattle.at_base.specs.declared.notice.Notice.{Notice}
 use Rattle.at_base.specs.declared.notice.Notice.TheVariants as notices
 use Rattle.at_base.specs.declared.message.Message.{Message}
@@ -14,7 +12,6 @@ use Rattle.at_base.specs.declared.event.Arrived.{Arrived}
 use Rattle.at_base.specs.declared.event.Event.{Event}
 use Rattle.at_base.specs.declared.event.Event.TheVariants as events
 use Rattle.at_base.specs.declared.event.Moment.{Moment}
-use Rattle.at_base.specs.declared.outs.Ending.TheVariants as endings
 use Rattle.at_base.specs.declared.outs.Post.{Post}
 use Rattle.at_tables.specs.declared.cells.State.{State}
 use Rattle.at_tables.specs.declared.cells.State.TheVariants as states
@@ -26,42 +23,30 @@ use Rattle.at_tables.specs.Tables.{participant_of}
 use Rattle.at_model.specs.Addresses.{register_id}
 use Rattle.at_model.specs.Arrivals.{relates_to}
 use Rattle.at_model.specs.Book.{Book, Leaf, Transaction, find_by, is_id, leaf_id, put_by}
-use Rattle.at_model.specs.Due.{Reached, Expired, Over, Unanswered, Nothing, leaf_again, leaf_due, leaf_expires, leaf_reached}
-use Rattle.at_model.specs.Leaves.{answers_leaf, drops_leaf, leaf_aborts, leaf_act, leaf_commit, leaf_commits, leaf_fault, leaf_faults, leaf_notice, leaf_prepares, leaf_records_vote, leaf_refused, leaf_registered, leaf_roll_back, leaf_says, leaf_target, leaf_votes, on_leaf, work_answer}
-use Rattle.at_model.specs.Moves.{Change, Decision, Goes, Records, ignored}
-use Rattle.at_model.specs.Posts.{notice_post, stored_or, to_each}
-use Rattle.model_laws.specs.Agreement.{IsIn}
-use Rattle.model_laws.proofs.Deciding.{DecisionSays, either_left, either_says, first_true, second_true}
+use Rattle.at_model.specs.Due.{Reached, Expired, Over, Unanswered, Nothing, leaf_again, leaf_due, leaf_reached}
+use Rattle.at_model.specs.Leaves.{answers_leaf, drops_leaf, leaf_aborts, leaf_act, leaf_fault, leaf_faults, leaf_notice, leaf_refused, leaf_registered, leaf_says, leaf_target, on_leaf}
+use Rattle.at_model.specs.Moves.{Decision, Goes, Records, ignored}
+use Rattle.at_model.specs.Posts.{stored_or}
+use Rattle.model_laws.proofs.Deciding.{either_left, either_says}
 use Rattle.agreement.specs.LeafDeeds.{CameTo, LeafStands, Notified, registers, works, waits}
-use Rattle.owed.specs.Leaves.{AnswersRegister, IsRegistered, KeepsLeafVote, LeafOwed, RegistersStill}
-use Rattle.owed.specs.Seats.{Tells}
-use Rattle.owed.specs.Upwards.{TellsAnswer}
+use Rattle.owed.specs.Leaves.{IsRegistered, LeafOwed}
 use Rattle.owed.proofs.LinkTable.{IsDeaf, IsDone, LinkHears, LinkHearsCell, Passes, link_hears}
-use Rattle.owed.proofs.UpActs.{one_post}
-use Rattle.at_base.specs.Numbers.{Numbers}
-use Rattle.at_base.specs.declared.target.Target.{Target}
-use Rattle.at_base.specs.declared.target.Target.TheVariants as targets
 use Rattle.at_base.specs.declared.outs.Out.{Out}
 use Rattle.at_base.specs.declared.outs.Out.TheVariants as outs
 use Rattle.at_tables.specs.Names.{is_kind}
 use Rattle.at_model.specs.Arrivals.{with_answer}
-use Rattle.at_model.specs.Moves.{begin, forgotten, posts, stays}
 use Rattle.at_model.specs.Posts.{accepted}
-use Rattle.at_model.specs.Step.{Outcome, Plan, arrived_plan, at_time, leaf_at, leaf_or_stranger_plan, leaf_plan, moment_of, participant_plan, plan, plan_of, put_activity, put_leaf, put_transaction, step, stranger_plan, transaction_at}
+use Rattle.at_model.specs.Step.{Plan, arrived_plan, at_time, leaf_at, leaf_or_stranger_plan, leaf_plan, moment_of, participant_plan, plan_of, put_activity, put_leaf, put_transaction, stranger_plan, transaction_at}
 use Rattle.model_laws.specs.Order.{AreRising}
 use Rattle.model_laws.specs.Shapes.{IsAnswer, MovesLeaf, Shape, at_leaf, leaf_when_due, nothing_moves, time_moves, time_passes, transaction_moves, leaf_moves, activity_moves, transaction_registers, transaction_made, leaf_made, activity_made}
 use Rattle.model_laws.proofs.Deciding.{IfThere, all_find, found_id}
 use Rattle.model_laws.proofs.Recovering.{same_id, self_id}
-use Rattle.model_laws.proofs.Shaping.{steps_touch_one}
-use Rattle.model_laws.proofs.Keeping.{NamesLeaf}
 use Rattle.model_laws.proofs.Drawing.{leaf_moved_kept}
 use Rattle.model_laws.specs.Laws.{HasLeafId}
 use Rattle.agreement.proofs.Still.{find_other, find_this}
 use Rattle.enlistments.specs.Moves.{IsReady}
-use Rattle.owed.specs.Leaves.{StepsOweLeaves}
 use Rattle.owed.specs.Seats.{posts_of}
 use Rattle.owed.specs.Upwards.{IsEarly}
-use Rattle.owed.proofs.LinkTable.{MayRoll}
 use Rattle.owed.proofs.LeafRules.{LeafChange, LeafIsQuiet, LeafOwes, commit_owes, ends_with, gone, is_not, no_answer, one_message, one_notice, roll_owes, said, same_leaf, says, votes_owe}
 use Rattle.owed.proofs.Seating.{posts_all}
 

@@ -1,18 +1,14 @@
 -- A message on a link, at the completion seat, and what is due.
-use Rattle.std.specs.Prelude.{ℕ, List, [], ◌∷◌, ◌++◌, Option, Some, None, Bool, true, false, not, ◌&&◌, ◌||◌, if◌then◌else◌, is_none, ◌≡◌, ◌⊎◌, refl}
+use Rattle.std.specs.Prelude.{ℕ, List, [], ◌∷◌, Option, Some, None, true, false, ◌≡◌, refl}
 use Rattle.std.specs.List.{list_any, AllByRecursion}
-use Rattle.std.proofs.Common.{inl, inr, ap, sym, subst, ◌∙◌}
+use Rattle.std.proofs.Common.{inl, inr, sym, subst, ◌∙◌}
 use Rattle.at_base.specs.declared.epr.Epr.{Epr}
 use Rattle.at_base.specs.declared.notice.Kind.{Kind}
 use Rattle.at_base.specs.declared.notice.Kind.TheVariants as kinds
 use Rattle.at_base.specs.declared.notice.Notice.{Notice}
 use Rattle.at_base.specs.declared.notice.Notice.TheVariants as notices
-use Rattle.at_base.specs.declared.message.Message.{Message}
-use Rattle.at_base.specs.declared.message.Message.TheVariants as messages
 use Rattle.at_base.specs.declared.target.Target.TheVariants as targets
-use Rattle.at_base.specs.declared.event.Arrived.{Arrived}
 use Rattle.at_base.specs.declared.event.Event.{Event}
-use Rattle.at_base.specs.declared.event.Event.TheVariants as events
 use Rattle.at_base.specs.declared.event.Moment.{Moment}
 use Rattle.at_base.specs.declared.outs.Post.{Post}
 use Rattle.at_base.specs.declared.outs.Ending.TheVariants as endings
@@ -22,26 +18,21 @@ use Rattle.at_tables.specs.declared.cells.Act.{Act}
 use Rattle.at_tables.specs.declared.cells.Act.TheVariants as acts
 use Rattle.at_tables.specs.declared.cells.Cell.{Cell}
 use Rattle.at_tables.specs.Names.{is_state}
-use Rattle.at_tables.specs.Tables.{completion_of, participant_of}
-use Rattle.at_model.specs.Addresses.{register_id}
-use Rattle.at_model.specs.Book.{Completion, Enlistment, Phase, Superior, Transaction}
-use Rattle.at_model.specs.Moves.{Decision, Goes, begin, effect, become, ignored, posts, stays}
-use Rattle.at_model.specs.Posts.{fault_post, invalid_state, notice_post, stored_or, stranger_post, to_each}
-use Rattle.at_model.specs.Seats.{ending, in_state, is_prepared_durable, link_in, link_of, set_link, under}
+use Rattle.at_model.specs.Book.{Enlistment, Phase, Superior, Transaction}
+use Rattle.at_model.specs.Moves.{begin, effect, become}
+use Rattle.at_model.specs.Posts.{fault_post, invalid_state, stored_or, stranger_post, to_each}
+use Rattle.at_model.specs.Seats.{ending, is_prepared_durable, link_in, link_of, under}
 use Rattle.at_model.specs.Abort.{Reason, Alone, Asked, Faulted}
 use Rattle.at_model.specs.Phases.{upwards, commit_seats, go_volatile}
-use Rattle.at_model.specs.Arrivals.{asked, commit_voted, completion_act, completion_notice, link_act, link_fault, link_notice, link_registered, on_completion, on_link, registered, relates_to}
-use Rattle.at_model.specs.Due.{Reached, Expired, Over, Unanswered, Nothing, may_expire, has_come, is_aborting, transaction_again, transaction_reached}
-use Rattle.model_laws.specs.Links.{AreIn, AreLinked, IsIdle, IsJoining}
-use Rattle.model_laws.proofs.Deciding.{first_true}
+use Rattle.at_model.specs.Arrivals.{asked, commit_voted, link_act, link_notice}
+use Rattle.model_laws.specs.Links.{AreIn, IsJoining}
 use Rattle.model_laws.proofs.Linking.{Linked, has_voted, known}
 use Rattle.agreement.specs.Deeds.{ParticipantSaid}
-use Rattle.owed.specs.Shape.{IsShaped, LinkKnows, LinksKnow, RootStands, StandsUnder, Waits, suits}
-use Rattle.owed.specs.Seats.{IsOwed, Pairs}
+use Rattle.owed.specs.Shape.{IsShaped, LinkKnows, LinksKnow, StandsUnder, Waits, suits}
 use Rattle.owed.proofs.Advancing.{Askable, commit_waits, commits, go_volatile_owes}
 use Rattle.owed.proofs.AtSeats.{Unheard, same_along, same_left}
-use Rattle.owed.proofs.LinkTable.{LinkHears, LinkHearsCell, MayRoll, link_hears}
-use Rattle.owed.proofs.Rules.{Along, Left, Loose, On, Owes, aborts, either, none_left, stays_so}
+use Rattle.owed.proofs.LinkTable.{LinkHears, LinkHearsCell, MayRoll}
+use Rattle.owed.proofs.Rules.{Along, Left, Loose, Owes, aborts, stays_so}
 
 -- no participant says anything
 abbrev pub IsQuiet : Event → Transaction → Type 0

@@ -1,7 +1,6 @@
 -- What else moves a transaction: an answer to its Register, its initiator, and time; and the answer to its request.
-use Rattle.std.specs.Prelude.{ℕ, List, [], ◌∷◌, ◌++◌, Option, Some, None, Bool, true, false, not, ◌&&◌, ◌||◌, if◌then◌else◌, is_none, ◌≡◌, ◌⊎◌, refl}
-use Rattle.std.specs.List.{list_any, AllByRecursion}
-use Rattle.std.proofs.Common.{inl, inr, ap, sym, subst, ◌∙◌}
+use Rattle.std.specs.Prelude.{ℕ, List, [], ◌∷◌, Option, Some, None, Bool, true, false, ◌&&◌, ◌||◌, if◌then◌else◌, ◌≡◌, refl}
+use Rattle.std.proofs.Common.{sym, subst, ◌∙◌}
 use Rattle.at_base.specs.declared.epr.Epr.{Epr}
 use Rattle.at_base.specs.declared.notice.Kind.{Kind}
 use Rattle.at_base.specs.declared.notice.Kind.TheVariants as kinds
@@ -10,11 +9,9 @@ use Rattle.at_base.specs.declared.notice.Notice.TheVariants as notices
 use Rattle.at_base.specs.declared.message.Message.{Message}
 use Rattle.at_base.specs.declared.message.Message.TheVariants as messages
 use Rattle.at_base.specs.declared.target.Target.TheVariants as targets
-use Rattle.at_base.specs.declared.record.Record.{Record}
 use Rattle.at_base.specs.declared.event.Arrived.{Arrived}
 use Rattle.at_base.specs.declared.event.Event.{Event}
 use Rattle.at_base.specs.declared.event.Moment.{Moment}
-use Rattle.at_base.specs.declared.outs.Post.{Post}
 use Rattle.at_tables.specs.declared.cells.State.{State}
 use Rattle.at_tables.specs.declared.cells.State.TheVariants as states
 use Rattle.at_tables.specs.declared.cells.Act.{Act}
@@ -23,20 +20,17 @@ use Rattle.at_tables.specs.declared.cells.Cell.{Cell}
 use Rattle.at_tables.specs.Names.{is_state}
 use Rattle.at_tables.specs.Tables.{completion_of, participant_of}
 use Rattle.at_model.specs.Addresses.{register_id}
-use Rattle.at_model.specs.Book.{Completion, Enlistment, Phase, Request, Superior, Transaction}
-use Rattle.at_model.specs.Moves.{Change, Decision, Goes, Records, begin, forgotten, ignored, posts, stays}
-use Rattle.at_model.specs.Posts.{fault_post, invalid_state, notice_post, reply_post, to_each, unknown_transaction}
-use Rattle.at_model.specs.Seats.{link_of, set_link, under}
+use Rattle.at_model.specs.Book.{Completion, Phase, Superior, Transaction}
+use Rattle.at_model.specs.Moves.{begin}
+use Rattle.at_model.specs.Posts.{fault_post, invalid_state, notice_post, to_each, unknown_transaction}
+use Rattle.at_model.specs.Seats.{link_of, set_link}
 use Rattle.at_model.specs.Abort.{Alone}
-use Rattle.at_model.specs.Phases.{go_volatile}
-use Rattle.at_model.specs.Arrivals.{answer_request, completion_act, completion_notice, context_of, is_registering, link_fault, link_registered, on_completion, on_link, refused_request, registered, relates_to, request_answered, request_left, request_of, request_stands, request_under, with_answer}
+use Rattle.at_model.specs.Arrivals.{completion_act, completion_notice, link_fault, link_registered, on_completion, on_link, registered, relates_to}
 use Rattle.at_model.specs.Due.{Reached, Expired, Over, Unanswered, Nothing, has_come, is_aborting, is_over, is_quiet, is_some_post, may_expire, transaction_again, transaction_due, transaction_reached}
-use Rattle.model_laws.specs.Links.{AreIn, AreLinked}
-use Rattle.model_laws.proofs.Deciding.{DecisionHas, IfThere, first_true}
-use Rattle.model_laws.proofs.Linking.{Linked, Links, known}
-use Rattle.owed.specs.Seats.{IsAsked, IsKept, IsOwed, IsTold, Pairs, SaysPrepared}
-use Rattle.owed.specs.Shape.{AreSuited, IsSeatIn, IsShaped, LinkKnows, LinksKnow, NamesSomebody, RootStands, StandsUnder, Waits, suits}
-use Rattle.owed.proofs.Along.{pairs_more, told_on}
+use Rattle.model_laws.specs.Links.{AreLinked}
+use Rattle.model_laws.proofs.Deciding.{first_true}
+use Rattle.model_laws.proofs.Linking.{Linked, known}
+use Rattle.owed.specs.Shape.{AreSuited, IsShaped, LinksKnow, RootStands, StandsUnder, Waits, suits}
 use Rattle.owed.proofs.Advancing.{Askable, go_volatile_owes}
 use Rattle.owed.proofs.AtSeats.{same_owed}
 use Rattle.owed.proofs.LinkTable.{MayRoll, link_hears}

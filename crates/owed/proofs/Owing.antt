@@ -1,14 +1,13 @@
 -- So does each step: messages that are for no seat, requests and time.
-use Rattle.std.specs.Prelude.{ℕ, List, [], ◌∷◌, ◌++◌, Option, Some, None, Bool, true, false, if◌then◌else◌, length, map, nat_lt, bytes_eq, ◌&&◌, ◌≡◌, ◌⊎◌, refl}
+use Rattle.std.specs.Prelude.{ℕ, List, [], ◌∷◌, ◌++◌, Option, Some, None, Bool, true, false, if◌then◌else◌, length, map, nat_lt, bytes_eq, ◌&&◌, ◌≡◌, refl}
 use Rattle.std.specs.List.{AllByRecursion}
-use Rattle.std.proofs.Common.{inl, inr, ap, sym, subst, ◌∙◌}
+use Rattle.std.proofs.Common.{inl, ap, sym, subst, ◌∙◌}
 use Rattle.at_base.specs.Numbers.{Numbers}
 use Rattle.at_base.specs.declared.epr.Epr.{Epr}
 use Rattle.at_base.specs.declared.epr.Reply.{Reply}
 use Rattle.at_base.specs.declared.epr.Reply.TheVariants as replies
 use Rattle.at_base.specs.declared.notice.Kind.{Kind}
 use Rattle.at_base.specs.declared.notice.Kind.TheVariants as kinds
-use Rattle.at_base.specs.declared.notice.Notice.{Notice}
 use Rattle.at_base.specs.declared.notice.Notice.TheVariants as notices
 use Rattle.at_base.specs.declared.message.Context.{Context}
 use Rattle.at_base.specs.declared.message.Create.{Create}
@@ -31,21 +30,17 @@ use Rattle.at_tables.specs.Tables.{coordinator_of}
 use Rattle.at_model.specs.Addresses.{atomic}
 use Rattle.at_model.specs.Book.{Book, Enlistment, Phase, Transaction, find_by, next_id, put_by, transaction_id}
 use Rattle.at_model.specs.Create.{create_in, create_under, on_create, refuse_create}
-use Rattle.at_model.specs.Moves.{Change, Decision, Goes, Records}
-use Rattle.at_model.specs.Posts.{accepted, replied, reply_post, stranger_post}
+use Rattle.at_model.specs.Moves.{Decision, Goes, Records}
+use Rattle.at_model.specs.Posts.{stranger_post}
 use Rattle.at_model.specs.Arrivals.{with_answer}
 use Rattle.at_model.specs.Register.{Registration, accept_seat, is_late, late_prepare, new_seat, on_register, registered_reply, seat_endpoint}
-use Rattle.at_model.specs.Seats.{seat_target}
 use Rattle.at_model.specs.Step.{Outcome, Plan, activation_plan, arrived_plan, at_time, coordinator_plan, find_seat, make_activity, make_leaf, make_transaction, moment_of, outcome_of, plain, plan, plan_of, put_activity, put_leaf, put_transaction, registration_outcome, seat_plan, step, still, transaction_at}
 use Rattle.model_laws.specs.Agreement.{IsIn}
-use Rattle.model_laws.specs.Behind.{IsInPhase}
 use Rattle.model_laws.specs.Shapes.{IfFound, IsUnknownAt, Shape, nothing_moves, time_moves, time_passes, transaction_moves, leaf_moves, activity_moves, transaction_registers, transaction_made, leaf_made, activity_made}
-use Rattle.model_laws.proofs.Deciding.{IfThere, all_find, either_of, found_id, in_front}
+use Rattle.model_laws.proofs.Deciding.{IfThere, all_find, either_of, found_id}
 use Rattle.model_laws.proofs.Linking.{Linked}
 use Rattle.model_laws.proofs.Shaping.{steps_touch_one}
-use Rattle.agreement.specs.Deeds.{ParticipantSaid}
 use Rattle.agreement.specs.Finished.{IsFinished}
-use Rattle.agreement.proofs.Still.{find_this}
 use Rattle.enlistments.specs.Enrolling.{Enrolls, has_completion, has_seat, refuses, takes_completion, takes_seat}
 use Rattle.enlistments.specs.Moves.{IsReady}
 use Rattle.enlistments.proofs.Answers.{keeps_id}
@@ -55,7 +50,7 @@ use Rattle.owed.specs.Shape.{AreShaped, IsShaped}
 use Rattle.owed.proofs.Along.{in_back}
 use Rattle.owed.proofs.AtSeats.{Unheard, same_owed}
 use Rattle.owed.proofs.OnLinks.{IsQuiet, quiet_all}
-use Rattle.owed.proofs.Seating.{HearsNothing, at_coordinator, decision_owed, one_moves, or_new, same_so}
+use Rattle.owed.proofs.Seating.{at_coordinator, decision_owed, one_moves, or_new, same_so}
 use Rattle.owed.proofs.Steps.{moved_owes}
 
 -- a new seat behind those that were

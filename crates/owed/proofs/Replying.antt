@@ -1,6 +1,6 @@
 -- Every Register is answered; and each step answers for its leaves.
-use Rattle.std.specs.Prelude.{ℕ, List, [], ◌∷◌, ◌++◌, Option, Some, None, Bool, true, false, if◌then◌else◌, ◌&&◌, ◌≡◌, ◌⊎◌, refl}
-use Rattle.std.proofs.Common.{inl, inr, ap, sym, subst, ◌∙◌}
+use Rattle.std.specs.Prelude.{ℕ, List, ◌++◌, Option, Some, None, Bool, true, false, if◌then◌else◌, ◌&&◌, ◌≡◌, refl}
+use Rattle.std.proofs.Common.{inl, ap, sym, subst, ◌∙◌}
 use Rattle.at_base.specs.Numbers.{Numbers}
 use Rattle.at_base.specs.declared.epr.Epr.{Epr}
 use Rattle.at_base.specs.declared.epr.Reply.{Reply}
@@ -11,34 +11,27 @@ use Rattle.at_base.specs.declared.event.Arrived.{Arrived}
 use Rattle.at_base.specs.declared.event.Event.{Event}
 use Rattle.at_base.specs.declared.event.Event.TheVariants as events
 use Rattle.at_base.specs.declared.event.Moment.{Moment}
-use Rattle.at_base.specs.declared.message.Message.{Message}
 use Rattle.at_base.specs.declared.message.Message.TheVariants as messages
 use Rattle.at_base.specs.declared.message.Register.{Register}
 use Rattle.at_base.specs.declared.outs.Out.{Out}
-use Rattle.at_base.specs.declared.outs.Out.TheVariants as outs
-use Rattle.at_base.specs.declared.outs.Post.{Post}
 use Rattle.at_base.specs.declared.target.Target.{Target}
 use Rattle.at_base.specs.declared.target.Target.TheVariants as targets
 use Rattle.at_tables.specs.Names.{is_kind}
 use Rattle.at_model.specs.Book.{Book, Leaf, Transaction, is_id}
 use Rattle.at_model.specs.Leaves.{leaf_target}
 use Rattle.at_model.specs.Posts.{cannot_register, fault_post, faulted, invalid_parameters, invalid_protocol, replied, reply_post}
-use Rattle.at_model.specs.Register.{Registration, completion_endpoint, late_prepare, is_late, new_seat, on_register, protocol_named, refuse_register, register_unknown, registered_reply, seat_endpoint}
+use Rattle.at_model.specs.Register.{Registration, completion_endpoint, late_prepare, is_late, new_seat, on_register, protocol_named, register_unknown, seat_endpoint}
 use Rattle.at_model.specs.Step.{Plan, arrived_plan, leaf_at, moment_of, plan, registration_plan, transaction_at}
-use Rattle.model_laws.specs.Agreement.{IsIn}
-use Rattle.model_laws.specs.Shapes.{Shape}
-use Rattle.model_laws.proofs.Deciding.{in_front, same_kind}
+use Rattle.model_laws.proofs.Deciding.{same_kind}
 use Rattle.model_laws.proofs.Recovering.{same_id, self_id}
 use Rattle.model_laws.proofs.Shaping.{steps_touch_one}
 use Rattle.enlistments.specs.Enrolling.{Enrolls, has_completion, has_seat, refuses, takes_completion, takes_seat}
 use Rattle.enlistments.specs.Moves.{IsReady}
 use Rattle.enlistments.proofs.Enrolling.{register_enrolls}
-use Rattle.owed.specs.Leaves.{AnswersRegister, IsRegistered, LeafOwed, StepsOweLeaves}
+use Rattle.owed.specs.Leaves.{LeafOwed, StepsOweLeaves}
 use Rattle.owed.specs.Registers.{RegistersAreAnswered, TellsRegistered}
 use Rattle.owed.specs.Seats.{posts_of}
-use Rattle.owed.proofs.LeafRules.{LeafIsQuiet}
 use Rattle.owed.proofs.LeafSteps.{at_target, quiet_fine}
-use Rattle.owed.proofs.Owing.{posts_join}
 
 -- an answer, and more behind it
 replies_to : (reply : Reply) (id : Option (List ℕ)) (c to : Epr) (more : List Out) → reply ≡ replies.At to → TellsRegistered to id (posts_of (replied reply id (messages.RegisterResponse c) ++ more))

@@ -1,14 +1,11 @@
 -- The rules of a transaction keep it as its phase wants, and post what they owe its participants.
-use Rattle.std.specs.Prelude.{ℕ, List, [], ◌∷◌, ◌++◌, Option, Some, None, Bool, true, false, not, ◌&&◌, ◌||◌, if◌then◌else◌, is_none, ◌≡◌, ◌⊎◌, refl}
+use Rattle.std.specs.Prelude.{List, ◌++◌, Option, Some, None, Bool, true, false, not, ◌&&◌, ◌||◌, if◌then◌else◌, ◌≡◌, ◌⊎◌, refl}
 use Rattle.std.specs.List.{list_any, AllByRecursion}
 use Rattle.std.proofs.Common.{inl, inr, ap, sym, subst, ◌∙◌}
 use Rattle.at_base.specs.Numbers.{Numbers}
-use Rattle.at_base.specs.declared.epr.Epr.{Epr}
 use Rattle.at_base.specs.declared.notice.Kind.{Kind}
 use Rattle.at_base.specs.declared.notice.Kind.TheVariants as kinds
 use Rattle.at_base.specs.declared.notice.Notice.TheVariants as notices
-use Rattle.at_base.specs.declared.record.Record.{Record}
-use Rattle.at_base.specs.declared.record.Record.TheVariants as records
 use Rattle.at_base.specs.declared.event.Event.{Event}
 use Rattle.at_base.specs.declared.event.Moment.{Moment}
 use Rattle.at_base.specs.declared.outs.Post.{Post}
@@ -17,19 +14,14 @@ use Rattle.at_tables.specs.declared.cells.State.{State}
 use Rattle.at_tables.specs.declared.cells.State.TheVariants as states
 use Rattle.at_tables.specs.Names.{is_kind, is_state}
 use Rattle.at_model.specs.Book.{Completion, Enlistment, Phase, Superior, Transaction}
-use Rattle.at_model.specs.Moves.{Moving, Change, Decision, Goes, Records, begin, become, effect, posts, stays, forgotten}
-use Rattle.at_model.specs.Seats.{answered, all_left, completion_in, ending, in_phase, in_state, initiator_posts, is_of, is_open, is_prepared_durable, link_in, moved, notices_to, prepared, send_each}
-use Rattle.at_model.specs.Abort.{Reason, Alone, abort, links_aborted, until_rolled_back, without_links}
-use Rattle.at_model.specs.Phases.{advance_in, all_committed, commit_seats, committed, decided, durable_answered, ended_posts, go_durable, go_volatile, if_durable_answered, prepare_seats, root_answered, sub_answered, upwards, volatile_answered, voted}
-use Rattle.at_model.specs.Recover.{no_seats}
-use Rattle.model_laws.specs.Agreement.{IsIn}
-use Rattle.model_laws.specs.Links.{AreIn, AreLinked}
-use Rattle.model_laws.proofs.Deciding.{DecisionSays, either_left, either_says}
-use Rattle.agreement.specs.Deeds.{ParticipantSaid}
+use Rattle.at_model.specs.Moves.{Moving, Change, Decision, become, effect, posts, stays, forgotten}
+use Rattle.at_model.specs.Seats.{completion_in, ending, in_state, initiator_posts, is_open, moved, send_each}
+use Rattle.at_model.specs.Abort.{Reason, abort, links_aborted, until_rolled_back, without_links}
+use Rattle.model_laws.proofs.Deciding.{DecisionSays, either_says}
 use Rattle.owed.specs.Seats.{IsAsked, IsKept, IsOwed, IsTold, Pairs, SaysPrepared}
-use Rattle.owed.specs.Shape.{AreSuited, IsSeatIn, IsShaped, LinkKnows, LinksKnow, NamesSomebody, RootStands, StandsUnder, Waits, suits}
+use Rattle.owed.specs.Shape.{AreSuited, IsShaped, NamesSomebody, StandsUnder, Waits, suits}
 use Rattle.owed.proofs.Along.{IsOpened, kept_on, kept_opened, opened_on, pairs_are, pairs_both, pairs_first, rollback_kept}
-use Rattle.owed.proofs.Tables.{Are, are_both, are_more, are_moved, every_seat, none_is, some_more, some_moved}
+use Rattle.owed.proofs.Tables.{Are, are_more, are_moved, every_seat}
 
 -- A transaction on its way: of these kinds and states are its seats, and each durable one that was Prepared is told the
 -- outcome, or is Prepared still.

@@ -1,17 +1,14 @@
 -- Each step posts what it owes the participants of its seats.
-use Rattle.std.specs.Prelude.{ℕ, List, [], ◌∷◌, ◌++◌, Option, Some, None, Bool, true, false, nat_eq, ◌&&◌, if◌then◌else◌, length, map, find, ◌≡◌, ◌⊎◌, refl}
+use Rattle.std.specs.Prelude.{ℕ, List, [], ◌∷◌, ◌++◌, Option, Some, None, Bool, true, false, nat_eq, ◌&&◌, if◌then◌else◌, map, ◌≡◌, refl}
 use Rattle.std.specs.List.{AllByRecursion}
 use Rattle.std.proofs.Common.{eq-eqb, inl, inr, ap, sym, subst, ◌∙◌}
 use Rattle.at_base.specs.Numbers.{Numbers}
-use Rattle.at_base.specs.declared.epr.Epr.{Epr}
 use Rattle.at_base.specs.declared.notice.Kind.{Kind}
 use Rattle.at_base.specs.declared.notice.Kind.TheVariants as kinds
 use Rattle.at_base.specs.declared.notice.Notice.{Notice}
 use Rattle.at_base.specs.declared.notice.Notice.TheVariants as notices
 use Rattle.at_base.specs.declared.message.Message.{Message}
 use Rattle.at_base.specs.declared.message.Message.TheVariants as messages
-use Rattle.at_base.specs.declared.message.Create.{Create}
-use Rattle.at_base.specs.declared.message.Register.{Register}
 use Rattle.at_base.specs.declared.target.Seat.{Seat}
 use Rattle.at_base.specs.declared.target.Target.{Target}
 use Rattle.at_base.specs.declared.target.Target.TheVariants as targets
@@ -22,18 +19,17 @@ use Rattle.at_base.specs.declared.event.Moment.{Moment}
 use Rattle.at_base.specs.declared.outs.Out.{Out}
 use Rattle.at_base.specs.declared.outs.Out.TheVariants as outs
 use Rattle.at_base.specs.declared.outs.Post.{Post}
-use Rattle.at_tables.specs.declared.cells.State.{State}
 use Rattle.at_tables.specs.declared.cells.State.TheVariants as states
 use Rattle.at_tables.specs.declared.cells.Cell.{Cell}
 use Rattle.at_tables.specs.Names.{is_kind}
 use Rattle.at_tables.specs.Tables.{coordinator_of}
 use Rattle.at_model.specs.Book.{Book, Enlistment, Transaction, find_by, is_id, put_by, transaction_id}
-use Rattle.at_model.specs.Moves.{Change, Decision, Goes, Records}
+use Rattle.at_model.specs.Moves.{Decision, Goes, Records}
 use Rattle.at_model.specs.Posts.{accepted}
 use Rattle.at_model.specs.Arrivals.{on_seat, with_answer}
-use Rattle.at_model.specs.Step.{Outcome, Plan, answered_with, arrived_plan, at_time, coordinator_plan, find_seat, moment_of, nothing, plan_of, put_transaction, seat_plan, still, stranger_cell, stranger_plan, transaction_at}
+use Rattle.at_model.specs.Step.{Plan, arrived_plan, at_time, coordinator_plan, find_seat, moment_of, plan_of, put_transaction, seat_plan, stranger_cell, stranger_plan, transaction_at}
 use Rattle.model_laws.specs.Agreement.{IsIn}
-use Rattle.model_laws.specs.Order.{AreRising, IsInOrder}
+use Rattle.model_laws.specs.Order.{AreRising}
 use Rattle.model_laws.specs.Shapes.{IsAnswer, IsAtSeat, at_seat}
 use Rattle.model_laws.proofs.Deciding.{IfThere, all_find, found_id}
 use Rattle.model_laws.proofs.Linking.{Linked}
@@ -42,10 +38,10 @@ use Rattle.agreement.specs.Deeds.{ParticipantSaid}
 use Rattle.agreement.specs.Finished.{IsFinished}
 use Rattle.agreement.proofs.Still.{find_other, find_this}
 use Rattle.enlistments.specs.Moves.{IsReady}
-use Rattle.owed.specs.Seats.{AreOwed, HasAnswered, IsNew, IsOwed, IsTold, Pairs, PairsOrNew, SaysPrepared, posts_of}
+use Rattle.owed.specs.Seats.{AreOwed, IsNew, IsOwed, Pairs, PairsOrNew, posts_of}
 use Rattle.owed.specs.Shape.{AreShaped, IsShaped}
 use Rattle.owed.proofs.AtSeats.{Unheard, same_owed}
-use Rattle.owed.proofs.Rules.{AllTold, Left, LeftIn, Owes}
+use Rattle.owed.proofs.Rules.{LeftIn, Owes}
 use Rattle.owed.proofs.Steps.{moved_owes}
 
 -- posts

@@ -1,5 +1,5 @@
 -- Whatever moves a transaction keeps it as its phase wants, and posts what is owed.
-use Rattle.std.specs.Prelude.{ℕ, List, [], ◌∷◌, ◌++◌, Option, Some, None, Bool, true, false, not, nat_lt, ◌&&◌, ◌||◌, if◌then◌else◌, is_none, length, bytes_eq, ◌≡◌, ◌⊎◌, refl}
+use Rattle.std.specs.Prelude.{ℕ, List, [], ◌∷◌, ◌++◌, Option, Some, None, Bool, true, false, nat_lt, ◌&&◌, ◌||◌, if◌then◌else◌, is_none, length, bytes_eq, ◌≡◌, ◌⊎◌, refl}
 use Rattle.std.specs.List.{list_any, AllByRecursion}
 use Rattle.std.proofs.Common.{inl, inr, ap, sym, subst, ◌∙◌}
 use Rattle.at_base.specs.Numbers.{Numbers}
@@ -30,30 +30,28 @@ use Rattle.at_model.specs.Book.{Book, Completion, Enlistment, Phase, Request, Su
 use Rattle.at_model.specs.Create.{create_in, create_under, on_create, refuse_create}
 use Rattle.at_model.specs.Moves.{Change, Decision, Goes, Records}
 use Rattle.at_model.specs.Posts.{reply_post}
-use Rattle.at_model.specs.Register.{Registration, accepts, is_late, may_complete, may_register, new_seat, on_register}
+use Rattle.at_model.specs.Register.{Registration, accepts, is_late, may_complete, new_seat, on_register}
 use Rattle.at_model.specs.Seats.{is_of, under}
 use Rattle.at_model.specs.Arrivals.{answer_request, context_of, is_registering, refused_request, request_answered, request_left, request_of, request_stands, request_under, with_answer}
 use Rattle.at_model.specs.Step.{moment_of}
-use Rattle.model_laws.specs.Links.{AreIn, AreLinked}
+use Rattle.model_laws.specs.Links.{AreIn}
 use Rattle.model_laws.specs.Shapes.{IsAtSeat, MovesTransaction, at_completion, at_link, at_seat, when_due}
 use Rattle.model_laws.proofs.Deciding.{DecisionHas, IfThere, either_of, second_true}
 use Rattle.model_laws.proofs.Linking.{Linked, Links, completion_links, due_links, link_links, seat_links, known}
 use Rattle.model_laws.proofs.Standing.{then_accepts}
-use Rattle.agreement.specs.Deeds.{ParticipantSaid}
 use Rattle.agreement.specs.Finished.{IsFinished}
 use Rattle.agreement.proofs.Ending.{kept_rise}
 use Rattle.enlistments.specs.Enrolling.{Enrolls, has_completion, has_seat, refuses, takes_completion, takes_seat}
 use Rattle.enlistments.proofs.Enrolling.{register_enrolls}
 use Rattle.enlistments.proofs.Finding.{found_seat}
-use Rattle.owed.specs.Seats.{IsAsked, IsKept, IsOwed, IsTold, Pairs, SaysPrepared}
-use Rattle.owed.specs.Shape.{AreSuited, IsSeatIn, IsShaped, LinkKnows, LinksKnow, NamesSomebody, RootStands, StandsUnder, Waits, suits}
-use Rattle.owed.proofs.Along.{pairs_more, owed_on, told_on}
+use Rattle.owed.specs.Seats.{IsTold, SaysPrepared}
+use Rattle.owed.specs.Shape.{AreSuited, IsShaped, LinkKnows, LinksKnow, RootStands, StandsUnder, Waits, suits}
+use Rattle.owed.proofs.Along.{owed_on, told_on}
 use Rattle.owed.proofs.AtSeats.{AtSeat, Unheard}
 use Rattle.owed.proofs.Hearing.{only_one, seat_owes}
 use Rattle.owed.proofs.OnLinks.{IsQuiet, quiet_all}
 use Rattle.owed.proofs.Others.{completion_owes, due_owes, link_owes}
-use Rattle.owed.proofs.Rules.{AllTold, Left, LeftIn, Owes}
-use Rattle.owed.proofs.Tables.{are_more}
+use Rattle.owed.proofs.Rules.{Left, LeftIn, Owes}
 
 -- more is posted
 all_told_on : (e : Event) (old : Transaction) (ps qs : List Post) (seats : List Enlistment) → AllByRecursion (λ s. s.kind ≡ kinds.Durable → SaysPrepared e old s → IsTold ps s) seats

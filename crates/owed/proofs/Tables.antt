@@ -1,15 +1,12 @@
 -- Tests over all kinds and states, and seats under them.
-use Rattle.std.specs.Prelude.{ℕ, List, [], ◌∷◌, ◌++◌, Option, Some, None, Bool, true, false, not, ◌&&◌, ◌||◌, if◌then◌else◌, map, ◌≡◌, refl}
+use Rattle.std.specs.Prelude.{List, [], ◌∷◌, Bool, true, false, not, ◌&&◌, ◌||◌, if◌then◌else◌, ◌≡◌, refl}
 use Rattle.std.specs.List.{list_any, AllByRecursion}
-use Rattle.std.proofs.Common.{inl, inr, sym, subst}
-use Rattle.at_base.specs.declared.epr.Epr.{Epr}
 use Rattle.at_base.specs.declared.notice.Kind.{Kind}
 use Rattle.at_base.specs.declared.notice.Kind.TheVariants as kinds
 use Rattle.at_tables.specs.declared.cells.State.{State}
 use Rattle.at_tables.specs.declared.cells.State.TheVariants as states
 use Rattle.at_model.specs.Book.{Enlistment}
-use Rattle.at_model.specs.Seats.{move_if, moved}
-use Rattle.model_laws.specs.Agreement.{IsIn}
+use Rattle.at_model.specs.Seats.{moved}
 
 pub both : (a b : Bool) → (a && b) ≡ true → (a ≡ true) × (b ≡ true)
 both true b e = (refl, e)

@@ -1,48 +1,34 @@
 -- What a link's message does upwards.
-use Rattle.std.specs.Prelude.{ℕ, List, [], ◌∷◌, ◌++◌, Option, Some, None, Bool, true, false, ◌&&◌, ◌||◌, if◌then◌else◌, is_none, ◌≡◌, ◌⊎◌, refl}
-use Rattle.std.proofs.Common.{inl, inr, ap, sym, subst, ◌∙◌}
-use Rattle.at_base.specs.Numbers.{Numbers}
+use Rattle.std.specs.Prelude.{ℕ, List, [], Option, Some, None, Bool, true, false, is_none, ◌≡◌, ◌⊎◌, refl}
+use Rattle.std.proofs.Common.{inl, inr, sym, subst, ◌∙◌}
 use Rattle.at_base.specs.declared.epr.Epr.{Epr}
 use Rattle.at_base.specs.declared.notice.Kind.{Kind}
 use Rattle.at_base.specs.declared.notice.Kind.TheVariants as kinds
 use Rattle.at_base.specs.declared.notice.Notice.{Notice}
 use Rattle.at_base.specs.declared.notice.Notice.TheVariants as notices
-use Rattle.at_base.specs.declared.message.Message.{Message}
 use Rattle.at_base.specs.declared.message.Message.TheVariants as messages
-use Rattle.at_base.specs.declared.target.Target.TheVariants as targets
-use Rattle.at_base.specs.declared.record.Record.{Record}
-use Rattle.at_base.specs.declared.event.Arrived.{Arrived}
 use Rattle.at_base.specs.declared.event.Event.{Event}
-use Rattle.at_base.specs.declared.event.Event.TheVariants as events
 use Rattle.at_base.specs.declared.event.Moment.{Moment}
 use Rattle.at_base.specs.declared.outs.Post.{Post}
 use Rattle.at_tables.specs.declared.cells.State.{State}
 use Rattle.at_tables.specs.declared.cells.State.TheVariants as states
-use Rattle.at_tables.specs.declared.cells.Act.{Act}
-use Rattle.at_tables.specs.declared.cells.Act.TheVariants as acts
-use Rattle.at_tables.specs.declared.cells.Cell.{Cell}
 use Rattle.at_tables.specs.Names.{is_kind, is_state}
-use Rattle.at_tables.specs.Tables.{participant_of}
-use Rattle.at_model.specs.Addresses.{register_id}
 use Rattle.at_model.specs.Book.{Phase, Superior, Transaction}
-use Rattle.at_model.specs.Moves.{Change, Decision, Goes, Records, begin, ignored, posts, stays}
-use Rattle.at_model.specs.Posts.{fault_post, invalid_state, notice_post, stored_or, stranger_post, to_each}
-use Rattle.at_model.specs.Seats.{link_in, link_of, set_link, under}
-use Rattle.at_model.specs.Abort.{Reason, Alone, Asked, Faulted, abort, is_silent}
-use Rattle.at_model.specs.Phases.{go_volatile, upwards}
-use Rattle.at_model.specs.Arrivals.{asked, commit_voted, link_act, link_fault, link_notice, link_registered, on_link, registered, relates_to}
-use Rattle.model_laws.specs.Agreement.{IsIn}
+use Rattle.at_model.specs.Moves.{Change, Decision, Goes, Records}
+use Rattle.at_model.specs.Posts.{stored_or, to_each}
+use Rattle.at_model.specs.Seats.{link_in, link_of}
+use Rattle.at_model.specs.Abort.{Asked, Faulted}
+use Rattle.at_model.specs.Arrivals.{asked, commit_voted}
 use Rattle.model_laws.specs.Links.{AreIn}
-use Rattle.model_laws.proofs.Deciding.{DecisionSays, either_says, first_true}
-use Rattle.model_laws.proofs.Linking.{Linked, has_voted, known}
+use Rattle.model_laws.proofs.Deciding.{DecisionSays}
+use Rattle.model_laws.proofs.Linking.{Linked, known}
 use Rattle.agreement.specs.Deeds.{SuperiorSaid}
-use Rattle.owed.specs.Seats.{AnswersSeat, Tells}
-use Rattle.owed.specs.Shape.{IsShaped, LinkKnows, LinksKnow}
-use Rattle.owed.specs.Upwards.{CommitsIn, HasVotedSo, IsBusy, IsEarly, IsExcused, KeepsBusy, KeepsCommitting, KeepsVote, LinkIsBusy, LinksOwed, SaysVote, StaysBusy, StaysCommitting, TellsAnswer, superior_left}
-use Rattle.owed.proofs.LinkTable.{IsDeaf, IsDone, LinkHears, LinkHearsCell, MayRoll, Passes, link_hears}
-use Rattle.owed.proofs.OnLinks.{asked_in, links_know}
-use Rattle.owed.proofs.UpLinks.{IsLinkState, Said, SuperiorIsQuiet, link_state, one_link, quiet_links, rolls_uncommitted, said_owed, vote_on}
-use Rattle.owed.proofs.Upwards.{Aborted, Keeps, KeepsAll, NeverVoted, Rel, abort_keeps, aborts_up, differs, go_volatile_keeps, idle, same_rel, up_in}
+use Rattle.owed.specs.Seats.{Tells}
+use Rattle.owed.specs.Shape.{LinkKnows, LinksKnow}
+use Rattle.owed.specs.Upwards.{HasVotedSo, IsBusy, IsEarly, IsExcused, KeepsBusy, KeepsVote, LinkIsBusy, LinksOwed, SaysVote, StaysBusy, TellsAnswer, superior_left}
+use Rattle.owed.proofs.LinkTable.{IsDeaf, IsDone, Passes}
+use Rattle.owed.proofs.UpLinks.{IsLinkState, Said, link_state, one_link, said_owed, vote_on}
+use Rattle.owed.proofs.Upwards.{Aborted, NeverVoted, Rel, idle}
 
 abbrev pub UpChange : List ℕ → Event → Transaction → Superior → Change Transaction → Type 0
 UpChange base e t s c = LinksOwed base e t s c.posts (superior_left c.item)

@@ -1,47 +1,29 @@
 -- A message on a link is answered, or keeps it busy.
-use Rattle.std.specs.Prelude.{ℕ, List, [], ◌∷◌, ◌++◌, Option, Some, None, Bool, true, false, ◌&&◌, ◌||◌, if◌then◌else◌, is_none, ◌≡◌, ◌⊎◌, refl}
+use Rattle.std.specs.Prelude.{ℕ, List, Option, Some, None, ◌≡◌, ◌⊎◌}
 use Rattle.std.proofs.Common.{inl, inr, ap, sym, subst, ◌∙◌}
-use Rattle.at_base.specs.Numbers.{Numbers}
 use Rattle.at_base.specs.declared.epr.Epr.{Epr}
 use Rattle.at_base.specs.declared.notice.Kind.{Kind}
 use Rattle.at_base.specs.declared.notice.Kind.TheVariants as kinds
 use Rattle.at_base.specs.declared.notice.Notice.{Notice}
 use Rattle.at_base.specs.declared.notice.Notice.TheVariants as notices
-use Rattle.at_base.specs.declared.message.Message.{Message}
 use Rattle.at_base.specs.declared.message.Message.TheVariants as messages
 use Rattle.at_base.specs.declared.target.Target.{Target}
 use Rattle.at_base.specs.declared.target.Target.TheVariants as targets
 use Rattle.at_base.specs.declared.event.Arrived.{Arrived}
 use Rattle.at_base.specs.declared.event.Event.{Event}
 use Rattle.at_base.specs.declared.event.Event.TheVariants as events
-use Rattle.at_base.specs.declared.event.Moment.{Moment}
 use Rattle.at_base.specs.declared.outs.Post.{Post}
 use Rattle.at_tables.specs.declared.cells.State.{State}
 use Rattle.at_tables.specs.declared.cells.State.TheVariants as states
-use Rattle.at_tables.specs.declared.cells.Act.{Act}
-use Rattle.at_tables.specs.declared.cells.Act.TheVariants as acts
-use Rattle.at_tables.specs.declared.cells.Cell.{Cell}
-use Rattle.at_tables.specs.Names.{is_kind, is_state}
-use Rattle.at_tables.specs.Tables.{participant_of}
-use Rattle.at_model.specs.Addresses.{register_id}
 use Rattle.at_model.specs.Book.{Phase, Superior, Transaction}
-use Rattle.at_model.specs.Moves.{Change, Decision, Goes, Records, begin, ignored, posts, stays}
-use Rattle.at_model.specs.Posts.{fault_post, invalid_state, notice_post, stored_or, stranger_post, to_each}
-use Rattle.at_model.specs.Seats.{link_in, link_of, set_link, under}
-use Rattle.at_model.specs.Abort.{Reason, Alone, Asked, Faulted, abort, is_silent}
-use Rattle.at_model.specs.Phases.{upwards}
-use Rattle.at_model.specs.Arrivals.{asked, commit_voted, link_act, link_fault, link_notice, link_registered, on_link, registered, relates_to}
-use Rattle.model_laws.specs.Agreement.{IsIn}
+use Rattle.at_model.specs.Posts.{stored_or}
+use Rattle.at_model.specs.Seats.{link_of}
 use Rattle.model_laws.specs.Links.{AreIn, IsIdle, IsJoining}
-use Rattle.model_laws.proofs.Deciding.{DecisionSays, either_says}
-use Rattle.model_laws.proofs.Linking.{Linked, has_voted, known}
 use Rattle.agreement.specs.Deeds.{SuperiorSaid}
-use Rattle.owed.specs.Seats.{AnswersSeat, Tells}
-use Rattle.owed.specs.Shape.{IsShaped, LinkKnows, LinksKnow}
-use Rattle.owed.specs.Upwards.{AnswersCommit, AnswersPrepare, CommitsIn, HasVotedSo, IsBusy, IsEarly, IsExcused, KeepsBusy, KeepsCommitting, KeepsVote, LinkIsBusy, LinksOwed, SaysVote, StaysBusy, StaysCommitting, TellsAnswer, superior_left}
-use Rattle.owed.proofs.LinkTable.{IsDeaf, IsDone, LinkHears, LinkHearsCell, MayRoll, Passes, link_hears}
-use Rattle.owed.proofs.OnLinks.{asked_in, links_know}
-use Rattle.owed.proofs.Upwards.{Aborted, Keeps, KeepsAll, NeverVoted, Rel, aborts_up, differs, go_volatile_keeps, idle, same_rel, up_in}
+use Rattle.owed.specs.Seats.{Tells}
+use Rattle.owed.specs.Upwards.{AnswersCommit, AnswersPrepare, CommitsIn, HasVotedSo, IsEarly, KeepsBusy, KeepsCommitting, KeepsVote, LinkIsBusy, LinksOwed, SaysVote, TellsAnswer}
+use Rattle.owed.proofs.LinkTable.{MayRoll}
+use Rattle.owed.proofs.Upwards.{Rel}
 
 -- the states of links
 abbrev pub IsLinkState : State → Type 0

@@ -1,5 +1,5 @@
 -- Each step leaves links busy, or answers upwards.
-use Rattle.std.specs.Prelude.{ℕ, List, [], ◌∷◌, ◌++◌, Option, Some, None, Bool, true, false, ◌&&◌, ◌||◌, if◌then◌else◌, is_none, ◌≡◌, ◌⊎◌, refl}
+use Rattle.std.specs.Prelude.{ℕ, List, [], ◌∷◌, ◌++◌, Option, Some, None, true, ◌≡◌, ◌⊎◌, refl}
 use Rattle.std.proofs.Common.{inl, inr, ap, sym, subst, ◌∙◌}
 use Rattle.at_base.specs.Numbers.{Numbers}
 use Rattle.at_base.specs.declared.epr.Epr.{Epr}
@@ -10,7 +10,6 @@ use Rattle.at_base.specs.declared.notice.Notice.TheVariants as notices
 use Rattle.at_base.specs.declared.message.Message.{Message}
 use Rattle.at_base.specs.declared.message.Message.TheVariants as messages
 use Rattle.at_base.specs.declared.target.Target.TheVariants as targets
-use Rattle.at_base.specs.declared.record.Record.{Record}
 use Rattle.at_base.specs.declared.event.Arrived.{Arrived}
 use Rattle.at_base.specs.declared.event.Event.{Event}
 use Rattle.at_base.specs.declared.event.Event.TheVariants as events
@@ -21,66 +20,35 @@ use Rattle.at_tables.specs.declared.cells.State.TheVariants as states
 use Rattle.at_tables.specs.declared.cells.Act.{Act}
 use Rattle.at_tables.specs.declared.cells.Act.TheVariants as acts
 use Rattle.at_tables.specs.declared.cells.Cell.{Cell}
-use Rattle.at_tables.specs.Names.{is_kind, is_state}
-use Rattle.at_tables.specs.Tables.{participant_of}
-use Rattle.at_model.specs.Addresses.{register_id}
-use Rattle.at_model.specs.Book.{Book, Completion, Enlistment, Phase, Request, Superior, Transaction}
-use Rattle.at_model.specs.Moves.{Change, Decision, Goes, Records, begin, forgotten, ignored, post, posts, stays}
-use Rattle.at_model.specs.Posts.{fault_post, invalid_state, notice_post, reply_post, unknown_transaction, stored_or, stranger_post, to_each}
-use Rattle.at_model.specs.Seats.{link_in, link_of, set_link, under}
-use Rattle.at_model.specs.Abort.{Reason, Alone, Asked, Faulted, abort, is_silent}
-use Rattle.at_model.specs.Phases.{go_volatile, upwards}
-use Rattle.at_model.specs.Arrivals.{asked, commit_voted, link_act, link_fault, link_notice, link_registered, on_link, registered, relates_to, answer_left_seat, answer_request, answer_seat, context_of, is_registering, on_completion, on_seat, refused_request, request_answered, request_left, request_of, request_stands, request_under, seat_act, seat_notice, with_answer}
+use Rattle.at_model.specs.Book.{Book, Enlistment, Phase, Request, Superior, Transaction}
+use Rattle.at_model.specs.Moves.{Change, Decision, Goes, Records, begin}
+use Rattle.at_model.specs.Posts.{fault_post, invalid_state, notice_post, reply_post, unknown_transaction, stranger_post}
+use Rattle.at_model.specs.Seats.{link_of, under}
+use Rattle.at_model.specs.Abort.{Alone, abort}
+use Rattle.at_model.specs.Arrivals.{on_link, answer_request, context_of, is_registering, on_seat, refused_request, request_answered, request_left, request_of, request_stands, request_under, seat_act, seat_notice, with_answer}
 use Rattle.model_laws.specs.Agreement.{IsIn}
 use Rattle.model_laws.specs.Links.{AreIn}
 use Rattle.model_laws.proofs.Deciding.{DecisionSays, either_says, first_true}
-use Rattle.model_laws.proofs.Linking.{Linked, has_voted, known}
-use Rattle.agreement.specs.Deeds.{SuperiorSaid}
-use Rattle.owed.specs.Seats.{AnswersSeat, Tells}
-use Rattle.owed.specs.Shape.{IsShaped, LinkKnows, LinksKnow}
-use Rattle.owed.specs.Upwards.{CommitsIn, HasVotedSo, IsBusy, IsEarly, IsExcused, KeepsBusy, KeepsCommitting, KeepsVote, LinkIsBusy, LinksOwed, SaysVote, StaysBusy, StaysCommitting, TellsAnswer, superior_left}
-use Rattle.owed.proofs.LinkTable.{IsDeaf, IsDone, LinkHears, LinkHearsCell, MayRoll, Passes, link_hears}
-use Rattle.owed.proofs.OnLinks.{asked_in, links_know}
-use Rattle.owed.proofs.UpLinks.{IsLinkState, Said, SuperiorIsQuiet, link_state, one_link, quiet_links, rolls_uncommitted, said_owed, vote_on}
-use Rattle.owed.proofs.UpActs.{UpChange, UpOwes, asked_aborts, asked_owed, commit_up, fault_aborts, one_post, passes, same_said, says_more, says_none}
+use Rattle.model_laws.proofs.Linking.{Linked, known}
+use Rattle.owed.specs.Shape.{IsShaped}
+use Rattle.owed.specs.Upwards.{IsBusy, KeepsVote, LinksOwed, SaysVote, StaysBusy, StaysCommitting, TellsAnswer, superior_left}
+use Rattle.owed.proofs.UpLinks.{SuperiorIsQuiet}
+use Rattle.owed.proofs.UpActs.{UpChange, UpOwes}
 use Rattle.owed.proofs.Upwards.{Aborted, Keeps, KeepsAll, NeverVoted, Rel, abort_keeps, aborts_up, differs, advance_keeps, go_volatile_keeps, idle, same_rel, up_in}
-use Rattle.at_model.specs.Due.{Reached, Expired, Over, Unanswered, Nothing, is_aborting, may_expire, transaction_again, transaction_due, transaction_reached}
-use Rattle.at_model.specs.Phases.{advance}
+use Rattle.at_model.specs.Due.{Reached, Expired, Over, Unanswered, Nothing, is_aborting, may_expire, transaction_due, transaction_reached}
 use Rattle.at_model.specs.Seats.{in_state, seat_in, seat_target}
 use Rattle.at_model.specs.Step.{moment_of}
 use Rattle.at_tables.specs.Tables.{coordinator_of}
 use Rattle.model_laws.specs.Behind.{IsUnanswered}
-use Rattle.model_laws.specs.Links.{AreLinked, IsJoining}
-use Rattle.model_laws.specs.Shapes.{IsAtSeat, MovesTransaction, at_completion, at_link, at_seat, when_due}
+use Rattle.model_laws.specs.Links.{IsJoining}
+use Rattle.model_laws.specs.Shapes.{MovesTransaction, at_completion, at_link, at_seat, when_due}
 use Rattle.enlistments.proofs.Finding.{found_seat}
 use Rattle.owed.specs.Shape.{suits}
-use Rattle.owed.proofs.Along.{told_on}
 use Rattle.owed.proofs.AtSeats.{are_in}
 use Rattle.owed.proofs.Hearing.{HearsAt, HearsCell, seat_state, table}
 use Rattle.owed.proofs.Others.{due_says, DueSays}
-use Rattle.at_base.specs.declared.outs.Out.{Out}
-use Rattle.at_base.specs.declared.outs.Out.TheVariants as outs
-use Rattle.at_model.specs.Book.{Leaf, find_by, is_id, put_by, transaction_id}
-use Rattle.at_model.specs.Posts.{accepted}
-use Rattle.at_model.specs.Register.{Registration, on_register}
-use Rattle.at_model.specs.Step.{Outcome, Plan, arrived_plan, at_time, leaf_at, leaf_or_stranger_plan, link_plan, make_transaction, participant_plan, plan, plan_of, put_activity, put_leaf, put_transaction, registration_outcome, step, still, stranger_cell, stranger_plan, transaction_at}
-use Rattle.model_laws.specs.Order.{AreRising}
-use Rattle.model_laws.specs.Shapes.{IsAnswer, Shape, nothing_moves, time_moves, time_passes, transaction_moves, leaf_moves, activity_moves, transaction_registers, transaction_made, leaf_made, activity_made}
 use Rattle.model_laws.proofs.Deciding.{IfThere, all_find, found_id, in_front}
-use Rattle.model_laws.proofs.Recovering.{same_id, self_id}
-use Rattle.model_laws.proofs.Shaping.{steps_touch_one}
-use Rattle.agreement.specs.Finished.{IsFinished}
-use Rattle.agreement.proofs.Still.{find_other, find_this}
-use Rattle.enlistments.specs.Enrolling.{Enrolls, has_completion, has_seat, refuses, takes_completion, takes_seat}
-use Rattle.enlistments.specs.Moves.{IsReady}
-use Rattle.enlistments.proofs.Answers.{keeps_id}
-use Rattle.enlistments.proofs.Enrolling.{register_enrolls}
-use Rattle.owed.specs.Seats.{posts_of}
-use Rattle.owed.specs.Shape.{AreShaped}
-use Rattle.owed.specs.Upwards.{AnswersCommit, AnswersPrepare}
 use Rattle.owed.proofs.Along.{tells_on}
-use Rattle.owed.proofs.Hearing.{IsSeatState}
-use Rattle.owed.proofs.Seating.{posts_all}
 use Rattle.owed.proofs.UpMoves.{link_up, quiet_up}
 
 -- a subordinate that commits has its phase

@@ -1,5 +1,5 @@
 -- Where no participant is known.
-use Rattle.std.specs.Prelude.{ℕ, List, [], ◌∷◌, Option, Some, None, Bool, true, false, if◌then◌else◌, ◌≡◌, refl}
+use Rattle.std.specs.Prelude.{ℕ, Option, Some, None, false, if◌then◌else◌, ◌≡◌, refl}
 use Rattle.std.proofs.Common.{inl, sym, subst}
 use Rattle.at_base.specs.Numbers.{Numbers}
 use Rattle.at_base.specs.declared.epr.Epr.{Epr}
@@ -10,14 +10,13 @@ use Rattle.at_base.specs.declared.message.Message.{Message}
 use Rattle.at_base.specs.declared.message.Message.TheVariants as messages
 use Rattle.at_base.specs.declared.target.Target.TheVariants as targets
 use Rattle.at_base.specs.declared.event.Arrived.{Arrived}
-use Rattle.at_base.specs.declared.event.Moment.{Moment}
 use Rattle.at_tables.specs.declared.cells.State.TheVariants as states
 use Rattle.at_tables.specs.Names.{is_kind}
 use Rattle.at_tables.specs.Tables.{participant_of}
 use Rattle.at_model.specs.Book.{Book, Leaf, Transaction}
 use Rattle.at_model.specs.Leaves.{on_leaf}
 use Rattle.at_model.specs.Posts.{accepted, stranger_post}
-use Rattle.at_model.specs.Step.{Plan, arrived_plan, leaf_at, leaf_or_stranger_plan, leaf_plan, link_plan, moment_of, participant_plan, stranger_plan, transaction_at}
+use Rattle.at_model.specs.Step.{arrived_plan, leaf_at, leaf_or_stranger_plan, leaf_plan, link_plan, moment_of, participant_plan, stranger_plan, transaction_at}
 use Rattle.model_laws.specs.Shapes.{IfFound, IsUnknownAt, NoParticipant}
 use Rattle.owed.specs.Seats.{Tells, posts_of}
 use Rattle.owed.specs.Upwards.{StepsOweLinks}

@@ -1,5 +1,5 @@
 -- The rules of a subordinate leave its links busy, or answer its coordinator.
-use Rattle.std.specs.Prelude.{ℕ, List, [], ◌∷◌, ◌++◌, Option, Some, None, Bool, true, false, ◌&&◌, ◌||◌, if◌then◌else◌, ◌≡◌, ◌⊎◌, refl}
+use Rattle.std.specs.Prelude.{ℕ, List, [], ◌++◌, Option, Some, None, Bool, true, false, ◌||◌, if◌then◌else◌, ◌≡◌, ◌⊎◌, refl}
 use Rattle.std.specs.List.{list_any}
 use Rattle.std.proofs.Common.{inl, inr, ap, sym, subst, ◌∙◌}
 use Rattle.at_base.specs.Numbers.{Numbers}
@@ -9,24 +9,22 @@ use Rattle.at_base.specs.declared.notice.Kind.TheVariants as kinds
 use Rattle.at_base.specs.declared.notice.Notice.{Notice}
 use Rattle.at_base.specs.declared.notice.Notice.TheVariants as notices
 use Rattle.at_base.specs.declared.target.Target.TheVariants as targets
-use Rattle.at_base.specs.declared.record.Record.{Record}
 use Rattle.at_base.specs.declared.event.Moment.{Moment}
-use Rattle.at_base.specs.declared.outs.Ending.TheVariants as endings
 use Rattle.at_base.specs.declared.outs.Post.{Post}
 use Rattle.at_tables.specs.declared.cells.State.{State}
 use Rattle.at_tables.specs.declared.cells.State.TheVariants as states
 use Rattle.at_tables.specs.Names.{is_state}
 use Rattle.at_model.specs.Book.{Link, Phase, Superior, Transaction}
-use Rattle.at_model.specs.Moves.{Moving, Change, Decision, Goes, Records, become, effect, posts, stays, forgotten}
+use Rattle.at_model.specs.Moves.{Moving, Change, Decision, Goes, become, posts, stays, forgotten}
 use Rattle.at_model.specs.Posts.{notice_post, stored_or, to_each}
-use Rattle.at_model.specs.Seats.{answered, all_left, completion_in, ending, in_phase, in_state, initiator_posts, is_open, is_prepared_durable, link_in, link_of, notices_to, send_each}
-use Rattle.at_model.specs.Abort.{Reason, Alone, abort, from_of, is_silent, link_aborted, links_aborted, until_rolled_back, without_links}
+use Rattle.at_model.specs.Seats.{answered, all_left, in_phase, in_state, initiator_posts, is_open, is_prepared_durable, link_in, link_of, notices_to}
+use Rattle.at_model.specs.Abort.{Reason, Alone, abort, from_of, is_silent, link_aborted, links_aborted, without_links}
 use Rattle.at_model.specs.Phases.{advance_in, all_committed, durable_answered, ended_posts, go_durable, go_volatile, if_durable_answered, prepare_seats, sub_answered, upwards, volatile_answered, voted}
 use Rattle.model_laws.specs.Agreement.{IsIn}
 use Rattle.model_laws.specs.Links.{AreIn}
 use Rattle.model_laws.proofs.Deciding.{DecisionSays, either_left, either_says, in_front}
 use Rattle.owed.specs.Seats.{AnswersSeat, Tells}
-use Rattle.owed.specs.Upwards.{HasVotedSo, IsBusy, SaysVote, StaysBusy, StaysCommitting, TellsAnswer, superior_left}
+use Rattle.owed.specs.Upwards.{HasVotedSo, IsBusy, StaysBusy, StaysCommitting, TellsAnswer, superior_left}
 use Rattle.owed.proofs.Along.{in_back}
 use Rattle.owed.proofs.Rules.{rolling}
 

@@ -1,5 +1,5 @@
 -- A link that registers waits for the answer to its Register.
-use Rattle.std.specs.Prelude.{ℕ, List, Option, Some, None, Bool, true, ◌≡◌}
+use Rattle.std.specs.Prelude.{ℕ, List, Option, Some, None, true, ◌≡◌}
 use Rattle.at_base.specs.declared.event.Arrived.{Arrived}
 use Rattle.at_base.specs.declared.event.Event.{Event}
 use Rattle.at_base.specs.declared.event.Event.TheVariants as events
