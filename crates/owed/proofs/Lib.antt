@@ -24,3 +24,5 @@ pub mod Replying
 pub mod Joining
 pub mod JoinRules
 pub mod JoinBooks
+pub mod Asking
+pub mod AskingMoves

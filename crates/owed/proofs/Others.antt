@@ -95,16 +95,16 @@ link_owes m e a kind t s (messages.Fault name) u l h q = fault_owes m e a.relate
 link_owes m e a kind t s other u l h q = still_left m e t t.sent [] h q
 
 -- the initiator
-abbrev Hears : State → Act → Type 0
+abbrev pub Hears : State → Act → Type 0
 Hears state acts.Complete = state ≡ states.Active
 Hears state acts.AbortAndSendAborted = state ≡ states.Active
 Hears state other = Unit {0}
 
-abbrev HearsCell : State → Option Cell → Type 0
+abbrev pub HearsCell : State → Option Cell → Type 0
 HearsCell state None = Unit {0}
 HearsCell state (Some c) = Hears state c.act
 
-completion_hears : (state : State) (n : Notice) → HearsCell state (completion_of state n)
+pub completion_hears : (state : State) (n : Notice) → HearsCell state (completion_of state n)
 completion_hears states.Active notices.Commit = refl
 completion_hears states.Active notices.Rollback = refl
 completion_hears states.Active other = tt
@@ -144,7 +144,7 @@ active_root Phase.Voted c h e = absurd h
 active_root Phase.Committing c h e = let f : states.Done ≡ states.Active = sym h ∙ e in absurd cc
 active_root Phase.Aborting c h e = let f : states.None ≡ states.Active = sym h ∙ e in absurd cc
 
-is_active : (t : Transaction) (c : Completion) → t.completion ≡ Some c → Linked t → IsShaped t → c.state ≡ states.Active → t.phase ≡ Phase.Active
+pub is_active : (t : Transaction) (c : Completion) → t.completion ≡ Some c → Linked t → IsShaped t → c.state ≡ states.Active → t.phase ≡ Phase.Active
 is_active t c there l h e =
     active_root t.phase c
     (subst (λ x. RootStands t.phase x) there (subst (λ x. StandsUnder t.phase x t.completion) (root_alone t.phase t.superior t.completion c l there) h.1.1)) e

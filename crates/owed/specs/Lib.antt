@@ -4,3 +4,4 @@ pub mod Upwards
 pub mod Leaves
 pub mod Registers
 pub mod Joining
+pub mod Asking

@@ -45,3 +45,8 @@ pub fn registers_are_answered()
 pub fn links_join()
     ensures { LinksJoin }
 {}
+
+#[tactic(auto, using(crate::proofs::AskingMoves::completion_goes))]
+pub fn asking_goes_on()
+    ensures { LinksJoin }
+{}
