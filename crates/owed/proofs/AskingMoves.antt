@@ -47,7 +47,7 @@ use Rattle.owed.proofs.Others.{Hears, HearsCell, completion_hears, is_active}
 use Rattle.owed.proofs.Upwards.{differs}
 
 -- it stays in its phase
-stays_goes : (t x : Transaction) (ps : List Post) → has_asked x.phase ≡ has_asked t.phase → Clean ps → GoesOn (has_asked t.phase) t.id (record { item = Some x; posts = ps; effects = [] })
+pub stays_goes : (t x : Transaction) (ps : List Post) → has_asked x.phase ≡ has_asked t.phase → Clean ps → GoesOn (has_asked t.phase) t.id (record { item = Some x; posts = ps; effects = [] })
 stays_goes t x ps e h = by_case (has_asked t.phase) refl
   where
     by_case : (b : Bool) → has_asked t.phase ≡ b → (( has_asked x.phase ≡ true) × Mine t.id ps) ⊎ ((has_asked t.phase ≡ false) × Clean ps)
@@ -78,7 +78,7 @@ unfolding seat_notice
 seat_notice_goes m i t s None = stays_goes t t [] refl tt
 seat_notice_goes m i t s (Some c) = seat_act_goes m i t s c.act
 
-seat_goes : (m : Moment) (a : Arrived) (t : Transaction) (s : Enlistment) (x : Message) → AllGo (has_asked t.phase) t.id (on_seat m a t s x)
+pub seat_goes : (m : Moment) (a : Arrived) (t : Transaction) (s : Enlistment) (x : Message) → AllGo (has_asked t.phase) t.id (on_seat m a t s x)
 unfolding on_seat
 seat_goes m a t s (messages.Notice n) = seat_notice_goes m a.id t s (coordinator_of s.kind s.state n)
 seat_goes m a t s other = stays_goes t t [] refl tt
@@ -165,7 +165,7 @@ fault_goes m relates kind s t =
     either (has_asked t.phase) t.id (is_state (link_of kind s).state states.Registering && relates_to relates (register_id m.base (targets.Participant t.id kind))) _ _
     (λ f. abort_goes (has_asked t.phase) t.id m Alone (begin t) refl tt) (λ f. stays_goes t t [] refl tt)
 
-link_goes : (m : Moment) (a : Arrived) (kind : Kind) (t : Transaction) (s : Superior) (x : Message) → t.superior ≡ Some s → Linked t → AllGo (has_asked t.phase) t.id (on_link m a kind t s x)
+pub link_goes : (m : Moment) (a : Arrived) (kind : Kind) (t : Transaction) (s : Superior) (x : Message) → t.superior ≡ Some s → Linked t → AllGo (has_asked t.phase) t.id (on_link m a kind t s x)
 unfolding on_link
 link_goes m a kind t s (messages.Notice n) u l = link_notice_goes m a.from a.id kind s t n (participant_of kind (link_of kind s).state n) u l (link_hears kind (link_of kind s).state n)
 link_goes m a kind t s (messages.RegisterResponse coordinator) u l = registered_goes m a.relates coordinator kind s t

@@ -26,3 +26,4 @@ pub mod JoinRules
 pub mod JoinBooks
 pub mod Asking
 pub mod AskingMoves
+pub mod AskingDue

@@ -1,5 +1,6 @@
 //! How transactions stand in their phases, and what each step owes.
 
+ghost use Rattle.owed.specs.Asking.{AskingGoesOn};
 ghost use Rattle.owed.specs.Joining.{LinksJoin};
 ghost use Rattle.owed.specs.Leaves.{StepsOweLeaves};
 ghost use Rattle.owed.specs.Registers.{RegistersAreAnswered};
@@ -46,7 +47,9 @@ pub fn links_join()
     ensures { LinksJoin }
 {}
 
-#[tactic(auto, using(crate::proofs::AskingMoves::completion_goes))]
+/// Whatever moves a transaction doesn't lead back behind the first Prepare to a durable participant, and a transaction that
+/// posts one goes on from there.
+#[tactic(auto, using(crate::proofs::AskingDue::asking_goes_on))]
 pub fn asking_goes_on()
-    ensures { LinksJoin }
+    ensures { AskingGoesOn }
 {}
