@@ -40,7 +40,8 @@ use Rattle.model_laws.specs.Shapes.{MovesTransaction, at_completion, at_link, at
 use Rattle.model_laws.proofs.Deciding.{DecisionSays, all_find, all_join, either_left}
 use Rattle.model_laws.proofs.Linking.{Linked, known}
 use Rattle.owed.specs.Asking.{AskingGoesOn, GoesOn, GoesOnBoth, HasAskedIfLeft, IsDurablePrepare, NoAsk, Own, has_asked}
-use Rattle.owed.specs.Shape.{IsShaped, suits}
+use Rattle.enlistments.specs.Moves.{IsReady}
+use Rattle.owed.specs.Shape.{AreShaped, IsShaped, suits}
 use Rattle.owed.proofs.Asking.{AllGo, Clean, Mine, abort_goes, advance_goes, clean_mine, each_clean, either, go_volatile_goes, more_clean, more_mine, no_own, notices_clean, other_notice, other_own, upwards_clean, volatile_post}
 use Rattle.owed.proofs.LinkTable.{LinkHears, LinkHearsCell, link_hears}
 use Rattle.owed.proofs.Others.{Hears, HearsCell, completion_hears, is_active}
@@ -172,9 +173,8 @@ moved_goes b e now t d l h (at_link a kind s came why u is) = subst (AllGo (has_
 moved_goes b e now t d l h (at_completion a c came why there is) = subst (AllGo (has_asked t.phase) t.id) (sym is) (completion_goes (moment_of b now) a t c a.message there l h)
 moved_goes b e now t d l h (when_due came is) = subst (AllGo (has_asked t.phase) t.id) (sym is) (reached_goes (moment_of b now) t (transaction_due (moment_of b now) t) h)
 
-pub asking_goes_on : AskingGoesOn
-asking_goes_on = record {
-  moves = λ b e now id t d ready shaped stands how.
+pub both_go : (b : Book) (e : Event) (now : ℕ) (id : Numbers) (t : Transaction) (d : Decision Transaction) → IsReady b → AreShaped b → transaction_at b id ≡ Some t → MovesTransaction b e now t d
+    → GoesOnBoth (has_asked t.phase) t.id (with_answer (moment_of b now) t d)
+both_go b e now id t d ready shaped stands how =
     with_answer_goes (has_asked t.phase) (moment_of b now) t d
-    (moved_goes b e now t d (all_find Linked transaction_id id b.transactions t ready.phases.links stands) (all_find IsShaped transaction_id id b.transactions t shaped stands) how);
-}
+    (moved_goes b e now t d (all_find Linked transaction_id id b.transactions t ready.phases.links stands) (all_find IsShaped transaction_id id b.transactions t shaped stands) how)

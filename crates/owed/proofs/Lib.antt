@@ -27,3 +27,4 @@ pub mod JoinBooks
 pub mod Asking
 pub mod AskingMoves
 pub mod AskingDue
+pub mod AskingBooks

@@ -11,7 +11,7 @@ use Rattle.at_base.specs.declared.target.Target.TheVariants as targets
 use Rattle.at_model.specs.Book.{Book, Phase, Transaction}
 use Rattle.at_model.specs.Arrivals.{with_answer}
 use Rattle.at_model.specs.Moves.{Change, Decision, Goes, Records}
-use Rattle.at_model.specs.Step.{moment_of, transaction_at}
+use Rattle.at_model.specs.Step.{moment_of, step, transaction_at}
 use Rattle.model_laws.specs.Shapes.{MovesTransaction}
 use Rattle.enlistments.specs.Moves.{IsReady}
 use Rattle.owed.specs.Shape.{AreShaped}
@@ -52,7 +52,9 @@ GoesOnBoth late id (Goes c) = GoesOn late id c
 GoesOnBoth late id (Records r c None) = GoesOn late id c
 GoesOnBoth late id (Records r c (Some d)) = GoesOn late id c × GoesOn late id d
 
--- So goes whatever moves a transaction.
+-- So goes whatever moves a transaction; and so, over each step, one that has asked has asked still, or is forgotten.
 pub record AskingGoesOn : Type 0 where
   pub moves : (b : Book) (e : Event) (now : ℕ) (id : Numbers) (t : Transaction) (d : Decision Transaction) → IsReady b → AreShaped b → transaction_at b id ≡ Some t
       → MovesTransaction b e now t d → GoesOnBoth (has_asked t.phase) t.id (with_answer (moment_of b now) t d)
+  pub steps : (b : Book) (e : Event) (now : ℕ) (landed : Bool) → IsReady b → AreShaped b → (t : Transaction) → transaction_at b t.id ≡ Some t → has_asked t.phase ≡ true
+      → HasAskedIfLeft (transaction_at (step b e now landed).book t.id)

@@ -49,7 +49,7 @@ pub fn links_join()
 
 /// Whatever moves a transaction doesn't lead back behind the first Prepare to a durable participant, and a transaction that
 /// posts one goes on from there.
-#[tactic(auto, using(crate::proofs::AskingDue::asking_goes_on))]
+#[tactic(auto, using(crate::proofs::AskingBooks::asking_goes_on))]
 pub fn asking_goes_on()
     ensures { AskingGoesOn }
 {}
