@@ -1,5 +1,5 @@
 -- Once a transaction has asked its durable participants, it doesn't go back.
-use Rattle.std.specs.Prelude.{ℕ, List, [], ◌∷◌, ◌++◌, Option, Some, None, Bool, true, false, not, ◌&&◌, ◌||◌, if◌then◌else◌, filter, map, ◌≡◌, ◌⊎◌, refl}
+use Rattle.std.specs.Prelude.{ℕ, List, [], ◌∷◌, ◌++◌, Option, Some, None, Bool, true, false, ◌||◌, if◌then◌else◌, filter, map, ◌≡◌, refl}
 use Rattle.std.specs.List.{list_any, AllByRecursion}
 use Rattle.std.proofs.Common.{inl, inr, ap, sym, subst, ◌∙◌}
 use Rattle.at_base.specs.Numbers.{Numbers}
@@ -16,13 +16,13 @@ use Rattle.at_base.specs.declared.outs.Post.{Post}
 use Rattle.at_tables.specs.declared.cells.State.TheVariants as states
 use Rattle.at_tables.specs.Names.{is_kind, is_state}
 use Rattle.at_model.specs.Book.{Completion, Enlistment, Link, Phase, Superior, Transaction}
-use Rattle.at_model.specs.Moves.{Moving, Change, Decision, Goes, Records, become, forgotten, posts, stays}
+use Rattle.at_model.specs.Moves.{Moving, Decision, become, forgotten, stays}
 use Rattle.at_model.specs.Posts.{notice_post, stored_or, to_each}
-use Rattle.at_model.specs.Seats.{all_left, answered, in_phase, in_state, initiator_posts, is_of, is_open, is_prepared_durable, link_in, notices_to, seat_target}
+use Rattle.at_model.specs.Seats.{all_left, answered, in_phase, in_state, initiator_posts, is_of, is_open, is_prepared_durable, notices_to, seat_target}
 use Rattle.at_model.specs.Abort.{Reason, Alone, abort, from_of, is_silent, link_aborted, links_aborted}
 use Rattle.at_model.specs.Phases.{advance_in, all_committed, committed, decided, durable_answered, ended_posts, go_durable, go_volatile, if_durable_answered, prepare_seats, root_answered, sub_answered, upwards, volatile_answered, voted}
 use Rattle.model_laws.proofs.Deciding.{DecisionSays, all_join, all_map, all_more, either_left, either_says, first_true}
-use Rattle.owed.specs.Asking.{GoesOn, HasAskedIfLeft, IsDurablePrepare, NoAsk, Own, has_asked}
+use Rattle.owed.specs.Asking.{GoesOn, NoAsk, Own, has_asked}
 use Rattle.owed.proofs.Rules.{rolling}
 
 -- no Prepare of a durable seat
@@ -147,11 +147,13 @@ abort_goes late id m reason g e h =
 
 decided_mine : (id : Numbers) (m : Moment) (g : Moving Transaction) → Mine id g.posts → (has_asked (decided m g).item.phase ≡ true) × Mine id (decided m g).posts
 unfolding decided
-decided_mine id m g h =
-    (refl, more_mine id _ (initiator_posts m.base g.item.id notices.Committed g.item.completion)
-    (more_mine id g.posts (notices_to m.base g.item.id notices.Commit g.item.seats (in_state states.Prepared)) h
-    (notices_clean m.base g.item.id notices.Commit g.item.seats (in_state states.Prepared) (λ f. cc)))
-    (initiator_clean m.base g.item.id notices.Committed g.item.completion))
+decided_mine id m g h = (
+  refl,
+  more_mine id _ (initiator_posts m.base g.item.id notices.Committed g.item.completion)
+      (more_mine id g.posts (notices_to m.base g.item.id notices.Commit g.item.seats (in_state states.Prepared)) h
+      (notices_clean m.base g.item.id notices.Commit g.item.seats (in_state states.Prepared) (λ f. cc)))
+      (initiator_clean m.base g.item.id notices.Committed g.item.completion),
+)
 
 committed_goes : (late : Bool) (id : Numbers) (m : Moment) (g : Moving Transaction) → Mine id g.posts → GoesOn late id (committed m g)
 unfolding committed

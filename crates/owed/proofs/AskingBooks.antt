@@ -1,6 +1,5 @@
 -- Over each step a transaction that has asked its durable participants has asked still, or is forgotten.
-use Rattle.std.specs.Prelude.{ℕ, List, [], ◌∷◌, ◌++◌, Option, Some, None, Bool, true, false, if◌then◌else◌, map, ◌≡◌, ◌⊎◌, refl}
-use Rattle.std.specs.List.{AllByRecursion}
+use Rattle.std.specs.Prelude.{ℕ, List, [], ◌∷◌, ◌++◌, Option, Some, None, Bool, true, false, map, ◌≡◌, refl}
 use Rattle.std.proofs.Common.{inl, inr, ap, sym, subst, ◌∙◌}
 use Rattle.at_base.specs.Numbers.{Numbers}
 use Rattle.at_base.specs.declared.event.Arrived.{Arrived}
@@ -28,7 +27,6 @@ use Rattle.enlistments.proofs.Answers.{keeps_id}
 use Rattle.enlistments.proofs.Enrolling.{register_enrolls}
 use Rattle.owed.specs.Asking.{AskingGoesOn, GoesOn, GoesOnBoth, HasAskedIfLeft, has_asked}
 use Rattle.owed.specs.Shape.{AreShaped, IsShaped}
-use Rattle.owed.proofs.Asking.{Clean, Mine}
 use Rattle.owed.proofs.AskingDue.{both_go}
 use Rattle.owed.proofs.Rules.{Owes}
 use Rattle.owed.proofs.Seating.{left_id}
@@ -63,7 +61,7 @@ decision_still : (b : Book) (e : Event) (now : ℕ) (t u : Transaction) (answer 
 unfolding StillAsked
 decision_still b e now t u answer (Goes c) rising stands found asked own h =
     let r : HasAskedIfLeft (find_by transaction_id u.id (put_by transaction_id t.id c.item b.transactions)) =
-        one_put b t u c.item rising stands found asked (left_id (moment_of b now) e t c.posts c.item own) (λ f. left_so (has_asked t.phase) t.id c f h) in
+    one_put b t u c.item rising stands found asked (left_id (moment_of b now) e t c.posts c.item own) (λ f. left_so (has_asked t.phase) t.id c f h) in
     record { landed = r; absent = r }
 decision_still b e now t u answer (Records r c None) rising stands found asked own h = record {
   landed = one_put b t u c.item rising stands found asked (left_id (moment_of b now) e t c.posts c.item own.landed) (λ f. left_so (has_asked t.phase) t.id c f h);

@@ -1,53 +1,39 @@
 -- What is due, and the answer to a request.
-use Rattle.std.specs.Prelude.{ℕ, List, [], ◌∷◌, ◌++◌, Option, Some, None, Bool, true, false, not, ◌&&◌, ◌||◌, if◌then◌else◌, ◌≡◌, ◌⊎◌, refl}
+use Rattle.std.specs.Prelude.{ℕ, List, [], ◌∷◌, ◌++◌, Option, Some, None, Bool, true, false, if◌then◌else◌, ◌≡◌, ◌⊎◌, refl}
 use Rattle.std.specs.List.{AllByRecursion}
 use Rattle.std.proofs.Common.{inl, inr, ap, sym, subst, ◌∙◌}
 use Rattle.at_base.specs.Numbers.{Numbers}
-use Rattle.at_base.specs.declared.epr.Epr.{Epr}
 use Rattle.at_base.specs.declared.epr.Reply.{Reply}
 use Rattle.at_base.specs.declared.epr.Reply.TheVariants as replies
 use Rattle.at_base.specs.declared.notice.Kind.{Kind}
 use Rattle.at_base.specs.declared.notice.Kind.TheVariants as kinds
 use Rattle.at_base.specs.declared.notice.Notice.{Notice}
 use Rattle.at_base.specs.declared.notice.Notice.TheVariants as notices
-use Rattle.at_base.specs.declared.message.Message.{Message}
 use Rattle.at_base.specs.declared.message.Message.TheVariants as messages
 use Rattle.at_base.specs.declared.target.Target.TheVariants as targets
-use Rattle.at_base.specs.declared.event.Arrived.{Arrived}
 use Rattle.at_base.specs.declared.event.Event.{Event}
 use Rattle.at_base.specs.declared.event.Moment.{Moment}
 use Rattle.at_base.specs.declared.outs.Post.{Post}
 use Rattle.at_tables.specs.declared.cells.State.{State}
 use Rattle.at_tables.specs.declared.cells.State.TheVariants as states
-use Rattle.at_tables.specs.declared.cells.Act.{Act}
-use Rattle.at_tables.specs.declared.cells.Act.TheVariants as acts
-use Rattle.at_tables.specs.declared.cells.Cell.{Cell}
 use Rattle.at_tables.specs.Names.{is_kind, is_state}
-use Rattle.at_tables.specs.Tables.{completion_of, coordinator_of, participant_of}
-use Rattle.at_model.specs.Addresses.{register_id}
-use Rattle.at_model.specs.Book.{Book, Completion, Enlistment, Link, Phase, Request, Superior, Transaction, transaction_id}
+use Rattle.at_model.specs.Book.{Book, Enlistment, Link, Phase, Request, Superior, Transaction, transaction_id}
 use Rattle.at_model.specs.Create.{link_register}
-use Rattle.at_model.specs.Moves.{Moving, Change, Decision, Goes, Records, begin, become, effect, forgotten, ignored, post, posts, stays}
-use Rattle.at_model.specs.Posts.{fault_post, invalid_state, notice_post, reply_post, stored_or, stranger_post, to_each, unknown_transaction}
-use Rattle.at_model.specs.Seats.{in_state, link_of, notices_to, seat_in, seat_target, set_link, under}
-use Rattle.at_model.specs.Abort.{Alone, Asked, Faulted}
-use Rattle.at_model.specs.Phases.{advance, go_volatile, upwards}
-use Rattle.at_model.specs.Arrivals.{answer_left_seat, answer_request, answer_seat, asked, commit_voted, completion_act, completion_notice, context_of, is_registering, link_act, link_fault, link_notice, link_registered, on_completion, on_link, on_seat, refused_at, refused_request, registered, relates_to, request_answered, request_left, request_of, request_stands, request_under, seat_act, seat_notice, with_answer}
+use Rattle.at_model.specs.Moves.{Change, Decision, Goes, Records, begin}
+use Rattle.at_model.specs.Posts.{notice_post, reply_post}
+use Rattle.at_model.specs.Seats.{seat_target, under}
+use Rattle.at_model.specs.Abort.{Alone}
+use Rattle.at_model.specs.Phases.{upwards}
+use Rattle.at_model.specs.Arrivals.{answer_request, context_of, is_registering, refused_at, refused_request, request_answered, request_left, request_of, request_stands, request_under, with_answer}
 use Rattle.at_model.specs.Due.{Reached, Expired, Over, Unanswered, Nothing, link_again, links_again, register_again_at, seat_again, seats_again, transaction_again, transaction_due, transaction_reached, unanswered_seat}
 use Rattle.at_model.specs.Step.{moment_of, transaction_at}
-use Rattle.model_laws.specs.Links.{AreIn, IsIdle, IsJoining}
 use Rattle.model_laws.specs.Shapes.{MovesTransaction, at_completion, at_link, at_seat, when_due}
-use Rattle.model_laws.proofs.Deciding.{DecisionSays, all_find, all_join, either_left}
-use Rattle.model_laws.proofs.Linking.{Linked, known}
-use Rattle.owed.specs.Asking.{AskingGoesOn, GoesOn, GoesOnBoth, HasAskedIfLeft, IsDurablePrepare, NoAsk, Own, has_asked}
+use Rattle.model_laws.proofs.Deciding.{all_find, all_join, either_left}
+use Rattle.model_laws.proofs.Linking.{Linked}
+use Rattle.owed.specs.Asking.{GoesOn, GoesOnBoth, HasAskedIfLeft, Own, has_asked}
 use Rattle.enlistments.specs.Moves.{IsReady}
 use Rattle.owed.specs.Shape.{AreShaped, IsShaped, suits}
-use Rattle.owed.proofs.Asking.{AllGo, Clean, Mine, abort_goes, advance_goes, clean_mine, each_clean, either, go_volatile_goes, more_clean, more_mine, no_own, notices_clean, other_notice, other_own, upwards_clean, volatile_post}
-use Rattle.owed.proofs.LinkTable.{LinkHears, LinkHearsCell, link_hears}
-use Rattle.owed.proofs.Others.{Hears, HearsCell, completion_hears, is_active}
-use Rattle.owed.proofs.Upwards.{differs}
-
-use Rattle.model_laws.proofs.Deciding.{IfThere}
+use Rattle.owed.proofs.Asking.{AllGo, Clean, Mine, abort_goes, clean_mine, more_clean, more_mine, no_own, other_notice, upwards_clean, volatile_post}
 use Rattle.owed.proofs.AskingMoves.{completion_goes, link_goes, seat_goes, stays_goes}
 
 -- sending again

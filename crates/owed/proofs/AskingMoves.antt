@@ -1,11 +1,7 @@
 -- So goes whatever moves a transaction.
-use Rattle.std.specs.Prelude.{ℕ, List, [], ◌∷◌, ◌++◌, Option, Some, None, Bool, true, false, not, ◌&&◌, ◌||◌, if◌then◌else◌, ◌≡◌, ◌⊎◌, refl}
-use Rattle.std.specs.List.{AllByRecursion}
+use Rattle.std.specs.Prelude.{ℕ, List, [], ◌∷◌, Option, Some, None, Bool, true, false, ◌&&◌, ◌||◌, if◌then◌else◌, ◌≡◌, ◌⊎◌, refl}
 use Rattle.std.proofs.Common.{inl, inr, ap, sym, subst, ◌∙◌}
-use Rattle.at_base.specs.Numbers.{Numbers}
 use Rattle.at_base.specs.declared.epr.Epr.{Epr}
-use Rattle.at_base.specs.declared.epr.Reply.{Reply}
-use Rattle.at_base.specs.declared.epr.Reply.TheVariants as replies
 use Rattle.at_base.specs.declared.notice.Kind.{Kind}
 use Rattle.at_base.specs.declared.notice.Kind.TheVariants as kinds
 use Rattle.at_base.specs.declared.notice.Notice.{Notice}
@@ -14,34 +10,27 @@ use Rattle.at_base.specs.declared.message.Message.{Message}
 use Rattle.at_base.specs.declared.message.Message.TheVariants as messages
 use Rattle.at_base.specs.declared.target.Target.TheVariants as targets
 use Rattle.at_base.specs.declared.event.Arrived.{Arrived}
-use Rattle.at_base.specs.declared.event.Event.{Event}
 use Rattle.at_base.specs.declared.event.Moment.{Moment}
 use Rattle.at_base.specs.declared.outs.Post.{Post}
-use Rattle.at_tables.specs.declared.cells.State.{State}
 use Rattle.at_tables.specs.declared.cells.State.TheVariants as states
 use Rattle.at_tables.specs.declared.cells.Act.{Act}
 use Rattle.at_tables.specs.declared.cells.Act.TheVariants as acts
 use Rattle.at_tables.specs.declared.cells.Cell.{Cell}
-use Rattle.at_tables.specs.Names.{is_kind, is_state}
+use Rattle.at_tables.specs.Names.{is_state}
 use Rattle.at_tables.specs.Tables.{completion_of, coordinator_of, participant_of}
 use Rattle.at_model.specs.Addresses.{register_id}
-use Rattle.at_model.specs.Book.{Book, Completion, Enlistment, Link, Phase, Request, Superior, Transaction, transaction_id}
-use Rattle.at_model.specs.Create.{link_register}
-use Rattle.at_model.specs.Moves.{Moving, Change, Decision, Goes, Records, begin, become, effect, forgotten, ignored, post, posts, stays}
-use Rattle.at_model.specs.Posts.{fault_post, invalid_state, notice_post, reply_post, stored_or, stranger_post, to_each, unknown_transaction}
+use Rattle.at_model.specs.Book.{Completion, Enlistment, Phase, Superior, Transaction}
+use Rattle.at_model.specs.Moves.{begin, post, posts}
+use Rattle.at_model.specs.Posts.{fault_post, invalid_state, notice_post, stored_or, stranger_post, to_each, unknown_transaction}
 use Rattle.at_model.specs.Seats.{in_state, link_of, notices_to, seat_in, seat_target, set_link, under}
 use Rattle.at_model.specs.Abort.{Alone, Asked, Faulted}
-use Rattle.at_model.specs.Phases.{advance, go_volatile, upwards}
-use Rattle.at_model.specs.Arrivals.{answer_left_seat, answer_request, answer_seat, asked, commit_voted, completion_act, completion_notice, context_of, is_registering, link_act, link_fault, link_notice, link_registered, on_completion, on_link, on_seat, refused_at, refused_request, registered, relates_to, request_answered, request_left, request_of, request_stands, request_under, seat_act, seat_notice, with_answer}
-use Rattle.at_model.specs.Due.{Reached, Expired, Over, Unanswered, Nothing, link_again, links_again, register_again_at, seat_again, seats_again, transaction_again, transaction_due, transaction_reached, unanswered_seat}
-use Rattle.at_model.specs.Step.{moment_of, transaction_at}
-use Rattle.model_laws.specs.Links.{AreIn, IsIdle, IsJoining}
-use Rattle.model_laws.specs.Shapes.{MovesTransaction, at_completion, at_link, at_seat, when_due}
-use Rattle.model_laws.proofs.Deciding.{DecisionSays, all_find, all_join, either_left}
+use Rattle.at_model.specs.Phases.{go_volatile, upwards}
+use Rattle.at_model.specs.Arrivals.{asked, commit_voted, completion_act, completion_notice, link_act, link_fault, link_notice, link_registered, on_completion, on_link, on_seat, registered, relates_to, seat_act, seat_notice}
+use Rattle.model_laws.specs.Links.{AreIn}
 use Rattle.model_laws.proofs.Linking.{Linked, known}
-use Rattle.owed.specs.Asking.{AskingGoesOn, GoesOn, GoesOnBoth, HasAskedIfLeft, IsDurablePrepare, NoAsk, Own, has_asked}
-use Rattle.owed.specs.Shape.{IsShaped, suits}
-use Rattle.owed.proofs.Asking.{AllGo, Clean, Mine, abort_goes, advance_goes, clean_mine, each_clean, either, go_volatile_goes, more_clean, more_mine, no_own, notices_clean, other_notice, other_own, upwards_clean, volatile_post}
+use Rattle.owed.specs.Asking.{GoesOn, has_asked}
+use Rattle.owed.specs.Shape.{IsShaped}
+use Rattle.owed.proofs.Asking.{AllGo, Clean, Mine, abort_goes, advance_goes, clean_mine, each_clean, either, go_volatile_goes, no_own, notices_clean, other_notice, other_own, upwards_clean}
 use Rattle.owed.proofs.LinkTable.{LinkHears, LinkHearsCell, link_hears}
 use Rattle.owed.proofs.Others.{Hears, HearsCell, completion_hears, is_active}
 use Rattle.owed.proofs.Upwards.{differs}
@@ -50,7 +39,7 @@ use Rattle.owed.proofs.Upwards.{differs}
 pub stays_goes : (t x : Transaction) (ps : List Post) → has_asked x.phase ≡ has_asked t.phase → Clean ps → GoesOn (has_asked t.phase) t.id (record { item = Some x; posts = ps; effects = [] })
 stays_goes t x ps e h = by_case (has_asked t.phase) refl
   where
-    by_case : (b : Bool) → has_asked t.phase ≡ b → (( has_asked x.phase ≡ true) × Mine t.id ps) ⊎ ((has_asked t.phase ≡ false) × Clean ps)
+    by_case : (b : Bool) → has_asked t.phase ≡ b → ((has_asked x.phase ≡ true) × Mine t.id ps) ⊎ ((has_asked t.phase ≡ false) × Clean ps)
     by_case true f = inl (e ∙ f, clean_mine t.id ps h)
     by_case false f = inr (f, h)
 
