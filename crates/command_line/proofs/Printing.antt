@@ -7,7 +7,9 @@ use Rattle.site_model.specs.Counts.{RisesBy}
 use Rattle.site_model.specs.Source.{IsWhole}
 use Rattle.envelope_cmd.specs.Output.{Output}
 use Rattle.command_line.specs.Jobs.{Job}
-use Rattle.command_line.specs.Reports.{IsCut, IsDone, Reports, status_of}
+use Rattle.replay_cmd.specs.Laws.{ReadIsReplayable, ReportsAreSafe}
+use Rattle.schedules.specs.Schedules.{schedule_of}
+use Rattle.command_line.specs.Reports.{IsCut, IsDone, IsReplayOf, Reports, replayed, status_of}
 
 on_some : {P Q : List ℕ → Type 0} (left : Option (List ℕ)) → ((input : List ℕ) → P input → Q input) → IfSome left P → IfSome left Q
 on_some None f h = tt
@@ -45,3 +47,7 @@ pub part_printed : (left : Option (List ℕ)) (before now : ℕ) (bytes told : L
 part_printed left before now bytes told job old new output whole t reports (n, (within, part)) =
     on_some {P = λ input. bytes ≡ input} {Q = λ input. IsCut job input old new} left
     (λ input f. record { output = output; reports = reported job bytes told input output t f reports; count = n; within = within; printed = part }) whole.all
+
+pub replay_of :
+    (input : List ℕ) (output : Output) → ReadIsReplayable → ReportsAreSafe → output ≡ replayed (schedule_of input) → IsReplayOf input output
+replay_of input output reads safe e = record { is = e; safe = λ lines f. safe lines (reads input lines f) }

@@ -4,7 +4,8 @@ use Rattle.std.specs.Io.KnownBytes.{Appends}
 use Rattle.envelope_cmd.specs.Output.{Output, accepted, refused}
 use Rattle.envelope_cmd.specs.Cells.{IsCellOf}
 use Rattle.envelope_cmd.specs.Checks.{IsCheckOf}
-use Rattle.replay_cmd.specs.ReportOf.{report_of}
+use Rattle.replay_cmd.specs.Laws.{IsSafe, world_of}
+use Rattle.replay_cmd.specs.ReportOf.{nodes_of, report_of}
 use Rattle.schedules.specs.Causes.{number_of_cause}
 use Rattle.schedules.specs.Schedules.{schedule_of}
 use Rattle.schedules.specs.declared.line.BadLine.{BadLine}
@@ -21,11 +22,17 @@ abbrev pub replayed : Result (List Line) BadLine → Output
 replayed (Ok lines) = accepted (report_of lines)
 replayed (Err bad) = refused (bad_line bad)
 
+-- The report of a schedule is of a world in which no two participants of one transaction end differently, with all else that
+-- holds of every run.
+pub record IsReplayOf (input : List ℕ) (output : Output) : Type 0 where
+  pub is : output ≡ replayed (schedule_of input)
+  pub safe : (lines : List Line) → schedule_of input ≡ Ok lines → IsSafe (nodes_of lines) (world_of lines)
+
 -- a job prints this of its input
 abbrev pub Reports : Job → List ℕ → Output → Type 0
 Reports (Cell state) input output = IsCellOf input state output
 Reports (Check path) input output = IsCheckOf input path output
-Reports Replay input output = output ≡ replayed (schedule_of input)
+Reports Replay input output = IsReplayOf input output
 
 -- 0 where the job ended, 3 where it refused its input
 abbrev pub status_of : Output → ℕ

@@ -5,10 +5,10 @@ ghost use Rattle.envelope_cmd.specs.Output.{accepted, refused};
 ghost use Rattle.replay_cmd.specs.Laws.{IsReplayable};
 ghost use Rattle.replay_cmd.specs.ReportOf.{report_of};
 ghost use Rattle.schedules.specs.Schedules.{schedule_of};
-ghost use Rattle.command_line.specs.Reports.{bad_line, replayed};
+ghost use Rattle.command_line.specs.Reports.{IsReplayOf, bad_line, replayed};
 
 use envelope_cmd::printed::Printed;
-use replay_cmd::laws::what_is_read_is_replayable;
+use replay_cmd::laws::{reports_are_safe, what_is_read_is_replayable};
 use replay_cmd::replay::replay;
 use schedules::line::{BadLine, Schedule, ScheduleError};
 use schedules::reader::read_schedule;
@@ -31,8 +31,7 @@ fn report(alloc: Global, schedule: &Schedule) -> Result<Printed, AllocError>
     Ok(Printed::accepted(text))
 }
 
-/// The report of the schedule that the bytes are, or the line of their first bad line.
-pub fn replayed(alloc: Global, input: &[u8]) -> Result<Printed, AllocError>
+fn printed(alloc: Global, input: &[u8]) -> Result<Printed, AllocError>
     ensures { IfOk result (λ printed. printed ≡ replayed (schedule_of input.now)) }
 {
     what_is_read_is_replayable();
@@ -41,4 +40,16 @@ pub fn replayed(alloc: Global, input: &[u8]) -> Result<Printed, AllocError>
         Err(ScheduleError::Bad(bad)) => refusal(alloc, bad),
         Err(ScheduleError::OutOfMemory) => Err(AllocError),
     }
+}
+
+/// The report of the schedule that the bytes are, or the line of their first bad line. In the world of the report no two
+/// participants of one transaction ended differently (WS-AtomicTransaction 1.2, section 1).
+#[tactic(auto, using(crate::proofs::Printing::replay_of))]
+pub fn replayed(alloc: Global, input: &[u8]) -> Result<Printed, AllocError>
+    ensures { IfOk result (λ printed. IsReplayOf input.now printed) }
+{
+    what_is_read_is_replayable();
+    reports_are_safe();
+    let printed = printed(alloc, input)?;
+    Ok(printed)
 }

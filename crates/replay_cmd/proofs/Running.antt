@@ -1,15 +1,18 @@
 -- The world of a replay is that of a run, line by line.
-use Rattle.std.proofs.Common.{ℕ, zero, suc, ◌+◌, ◌≡◌, refl, List, [], ◌∷◌, ◌++◌, length, ap, ◌∙◌, sym}
+use Rattle.std.proofs.Common.{ℕ, zero, suc, ◌+◌, ◌≡◌, ◌<◌, ◌^◌, refl, List, [], ◌∷◌, ◌++◌, length, ap, ◌∙◌, arith, subst, sym}
 use Rattle.std.specs.Prelude.{Option, Some, None, option_map}
 use Rattle.std.specs.List.{AllByRecursion}
 use Rattle.at_base.specs.declared.event.Local.TheVariants as locals
 use Rattle.at_model.specs.Views.{up, deliver_to, tick_at, request, begin_at, interpose_at, work_at, commit_at}
 use Rattle.at_model.specs.World.{World, WorldEvent, nth, opening, run_on, world_step}
+use Rattle.model_laws.specs.Agreement.{Agrees, HasOneSuperior, IsAgreed, IsBehindAnswers, IsToldTruly}
+use Rattle.model_laws.specs.Enlisted.{EnlistsUnderOne}
+use Rattle.model_laws.specs.Made.{MakesNoIdTwice}
 use Rattle.schedules.specs.declared.line.Line.{Line}
 use Rattle.schedules.specs.declared.line.Line.TheVariants as lines
 use Rattle.replay_cmd.specs.Delivered.{lowest}
 use Rattle.replay_cmd.specs.ReportOf.{Course, all_taken, all_up, begun, delivered_to, delivers_lowest, delivers_where, flushes, happens, nodes_of, receiver_in, taken}
-use Rattle.replay_cmd.specs.Laws.{IsOfRun, IsSmooth, ReportsRuns}
+use Rattle.replay_cmd.specs.Laws.{IsOfRun, IsSafe, IsSmooth, ReportsAreSafe, ReportsRuns, world_of}
 
 run_append : (w : World) (es : List WorldEvent) (e : WorldEvent) → run_on w (es ++ e ∷ []) ≡ world_step (run_on w es) e
 run_append w [] e = refl
@@ -70,3 +73,18 @@ reports_runs all =
     all_on (nodes_of all) all (begun (nodes_of all))
     (up_on (nodes_of all) (nodes_of all) 1 (record { world = opening (nodes_of all); delivered = []; text = [] })
     (record { events = []; smooth = tt; run = refl }))
+
+-- What holds of each run holds of the world of a report.
+safe_run : (count : ℕ) (w : World) → IsOfRun count w → count < 2 ^ 64 → Agrees → EnlistsUnderOne → MakesNoIdTwice → IsSafe count w
+safe_run count w r few agrees superior made = record {
+  of_run = r;
+  agreed = subst IsAgreed (sym r.run) (agrees.agreed count r.events few);
+  behind = subst IsBehindAnswers (sym r.run) (agrees.behind count r.events few);
+  told = subst IsToldTruly (sym r.run) (agrees.told count r.events few);
+  superior = subst HasOneSuperior (sym r.run) (superior count r.events few);
+  ids = λ n. made.apart count n r.events;
+}
+
+pub reports_are_safe : Agrees → EnlistsUnderOne → MakesNoIdTwice → ReportsAreSafe
+reports_are_safe agrees superior made all can =
+    safe_run (nodes_of all) (world_of all) (reports_runs all) (omega (arith, can.most)) agrees superior made

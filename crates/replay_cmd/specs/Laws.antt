@@ -1,7 +1,10 @@
 -- What a schedule that was read says of its nodes, and what world a report is of.
 use Rattle.std.specs.Prelude.{ℕ, List, [], Option, None, Bool, true, false, not, ◌&&◌, ◌≡◌, ◌≤◌, Ok}
 use Rattle.std.specs.List.{AllByRecursion}
-use Rattle.at_model.specs.World.{World, WorldEvent, Deliver, Tick, Raw, Turn, Ask, Crash, Up, run_of}
+use Rattle.at_model.specs.World.{World, WorldEvent, Deliver, Tick, Raw, Turn, Ask, Crash, Up, opening, run_of}
+use Rattle.model_laws.specs.Agreement.{HasOneSuperior, IsAgreed, IsBehindAnswers, IsToldTruly}
+use Rattle.model_laws.specs.Drawn.{AreApart}
+use Rattle.model_laws.specs.Made.{made_on}
 use Rattle.schedules.specs.declared.line.Line.{Line}
 use Rattle.schedules.specs.Schedules.{schedule_of}
 use Rattle.replay_cmd.specs.ReportOf.{all_taken, begun, nodes_of}
@@ -37,6 +40,25 @@ pub record IsOfRun (count : ℕ) (w : World) : Type 0 where
   pub smooth : AllByRecursion IsSmooth events
   pub run : w ≡ run_of count events
 
+-- The world that the report of a schedule is of.
+abbrev pub world_of : List Line → World
+world_of all = (all_taken all (begun (nodes_of all))).world
+
 -- A report is that of a run.
 abbrev pub ReportsRuns : Type 0
-ReportsRuns = (all : List Line) → IsOfRun (nodes_of all) (all_taken all (begun (nodes_of all))).world
+ReportsRuns = (all : List Line) → IsOfRun (nodes_of all) (world_of all)
+
+-- What holds of a run's world: no two participants of one transaction end differently, through any depth of interposition,
+-- and nothing ends twice; a root commits and a subordinate votes behind every answer; activities are told what their roots
+-- did; all registrations of one item are accepted by one transaction; and no node makes an id twice.
+pub record IsSafe (count : ℕ) (w : World) : Type 0 where
+  pub of_run : IsOfRun count w
+  pub agreed : IsAgreed w
+  pub behind : IsBehindAnswers w
+  pub told : IsToldTruly w
+  pub superior : HasOneSuperior w
+  pub ids : (n : ℕ) → AreApart (made_on n (opening count) of_run.events)
+
+-- It holds of the world of each report.
+abbrev pub ReportsAreSafe : Type 0
+ReportsAreSafe = (all : List Line) → IsReplayable all → IsSafe (nodes_of all) (world_of all)

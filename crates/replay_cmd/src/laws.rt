@@ -1,6 +1,9 @@
 //! What is known of the schedules that are read, and of their reports.
 
-ghost use Rattle.replay_cmd.specs.Laws.{ReadIsReplayable, ReportsRuns};
+ghost use Rattle.replay_cmd.specs.Laws.{ReadIsReplayable, ReportsAreSafe, ReportsRuns};
+
+use model_laws::rules::{enlists_under_one, makes_no_id_twice};
+use outcomes::laws::agrees;
 
 /// What is read as a schedule may be replayed.
 #[tactic(auto, using(crate::proofs::Reading::read_is_replayable))]
@@ -13,3 +16,14 @@ pub fn what_is_read_is_replayable()
 pub fn a_report_is_that_of_a_run()
     ensures { ReportsRuns }
 {}
+
+/// In the world of a report no two participants of one transaction end differently, through any depth of interposition, and all
+/// else holds of it that holds of every run (WS-AtomicTransaction 1.2, section 1).
+#[tactic(auto, using(crate::proofs::Running::reports_are_safe))]
+pub fn reports_are_safe()
+    ensures { ReportsAreSafe }
+{
+    agrees();
+    enlists_under_one();
+    makes_no_id_twice();
+}

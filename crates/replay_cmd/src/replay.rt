@@ -2,10 +2,11 @@
 
 ghost use Rattle.std.specs.Prelude.{◌≡◌, [], IfOk, replicate};
 ghost use Rattle.at_base.specs.declared.event.Local.TheVariants as locals;
-ghost use Rattle.replay_cmd.specs.Laws.{IsReplayable};
+ghost use Rattle.replay_cmd.specs.Laws.{IsReplayable, IsSafe, world_of};
 ghost use Rattle.replay_cmd.specs.ReportOf.{all_taken, nodes_of, report_of, taken};
 
 use crate::course::Course;
+use crate::laws::reports_are_safe;
 use crate::lines::Lines;
 use crate::requests::{begin, interpose, work};
 use at_base::event::Local;
@@ -118,12 +119,15 @@ fn empty_files(alloc: Global, count: u8) -> Result<Files, AllocError>
     Ok(Files { items })
 }
 
-/// The report of a schedule.
+/// The report of a schedule. Its world is that of a run, and what holds of every run holds of it (`safe`): no two participants of
+/// one transaction ended differently, through any depth of interposition (WS-AtomicTransaction 1.2, section 1).
 pub fn replay(alloc: Global, schedule: &Schedule) -> Result<Report, AllocError>
     requires { IsReplayable schedule.now }
     ensures text { IfOk result (λ report. report.text ≡ report_of schedule.now) }
     ensures files { IfOk result (λ report. report.files ≡ replicate (nodes_of schedule.now) []) }
+    ensures safe { IsSafe (nodes_of schedule.now) (world_of schedule.now) }
 {
+    reports_are_safe();
     let lines = schedule.as_slice();
     let count = nodes_of(lines);
     let files = empty_files(alloc, count)?;
