@@ -2,20 +2,20 @@
 //! that it draws; its body, of a known length or in chunks; and the bytes of answers and posts.
 #![tactic(auto)]
 
-pub mod asking;
-pub mod body;
+mod asking;
+mod body;
 mod chunks;
 mod connection;
 mod content;
 mod fields;
-pub mod framing;
-pub mod head;
+mod framing;
+mod head;
 mod lengths;
-pub mod places;
+mod places;
 mod raw;
 pub mod refusal;
 pub mod request;
-pub mod ruling;
+mod ruling;
 mod tail;
 mod trailers;
 pub mod writer;
