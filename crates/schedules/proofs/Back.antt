@@ -207,6 +207,18 @@ next_back nodes (lines.Tick n ms) few (h, k) =
       visible = rw p.1 (rw r.1 refl);
       read = then_ (node_in nodes (decimal n)) _ n _ p.0 (then_ (number_in 0 largest (decimal ms)) _ ms _ r.0 refl);
     }
+next_back nodes (lines.Crash n) few h =
+    let p = node_back nodes n few h in
+    record {
+      visible = rw p.1 refl;
+      read = then_ (node_in nodes (decimal n)) _ n _ p.0 refl;
+    }
+next_back nodes (lines.Up n) few h =
+    let p = node_back nodes n few h in
+    record {
+      visible = rw p.1 refl;
+      read = then_ (node_in nodes (decimal n)) _ n _ p.0 refl;
+    }
 
 -- the words of a line, and that its text isn't empty
 record HasWords (l : Line) : Type 0 where
@@ -225,6 +237,8 @@ has_words (lines.Rollback i a) = record { word = _; more = _; are = refl; kept =
 has_words (lines.Deliver m) = record { word = _; more = _; are = refl; kept = refl }
 has_words (lines.Flush m) = record { word = _; more = _; are = refl; kept = refl }
 has_words (lines.Tick n ms) = record { word = _; more = _; are = refl; kept = refl }
+has_words (lines.Crash n) = record { word = _; more = _; are = refl; kept = refl }
+has_words (lines.Up n) = record { word = _; more = _; are = refl; kept = refl }
 
 plain_line : (l : Line) → list_all are_visible (words_in l) ≡ true → is_plain (line_text l) ≡ true
 plain_line l e =
@@ -270,6 +284,8 @@ schedule_back (lines.Rollback i a ∷ rest) h = absurd h
 schedule_back (lines.Deliver m ∷ rest) h = absurd h
 schedule_back (lines.Flush m ∷ rest) h = absurd h
 schedule_back (lines.Tick n ms ∷ rest) h = absurd h
+schedule_back (lines.Crash n ∷ rest) h = absurd h
+schedule_back (lines.Up n ∷ rest) h = absurd h
 
 abbrev pub IsPlain : Line → Type 0
 IsPlain l = is_plain (line_text l) ≡ true
@@ -289,6 +305,8 @@ all_plain (lines.Rollback i a ∷ rest) h = absurd h
 all_plain (lines.Deliver m ∷ rest) h = absurd h
 all_plain (lines.Flush m ∷ rest) h = absurd h
 all_plain (lines.Tick n ms ∷ rest) h = absurd h
+all_plain (lines.Crash n ∷ rest) h = absurd h
+all_plain (lines.Up n ∷ rest) h = absurd h
 
 abbrev pub parts_of : List ℕ → List (List ℕ)
 parts_of text = slice_split (λ b. b == 10) text

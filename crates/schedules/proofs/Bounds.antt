@@ -12,7 +12,7 @@ use Rattle.at_base.specs.declared.notice.Vote.TheVariants as votes
 use Rattle.schedules.specs.declared.line.Cause.{Cause}
 use Rattle.schedules.specs.declared.line.Cause.TheVariants as causes
 use Rattle.schedules.specs.declared.line.Line.{Line}
-use Rattle.schedules.specs.Meanings.{◌>>=◌, count_of, begin_line, interpose_line, work_line, commit_line, rollback_line, deliver_line, flush_line, tick_line, meaning}
+use Rattle.schedules.specs.Meanings.{◌>>=◌, count_of, begin_line, interpose_line, work_line, commit_line, rollback_line, deliver_line, flush_line, tick_line, crash_line, up_line, meaning}
 use Rattle.schedules.specs.Values.{decimal_of, within, number_in, node_in, id_in, numbers_of, is_part, kind_in, vote_in, largest}
 use Rattle.schedules.specs.Written.{kind_word, vote_word, words_in, IsNode, IsNext}
 use Rattle.schedules.proofs.Decimals.{spelled}
@@ -203,6 +203,28 @@ tick_read nodes [] l e = absurd cc
 tick_read nodes (i ∷ []) l e = absurd cc
 tick_read nodes (i ∷ ms ∷ x ∷ more) l e = absurd cc
 
+crash_read : (nodes : ℕ) (ws : List (List ℕ)) (l : Line) → crash_line nodes ws ≡ Ok l → IsRead nodes (codes "crash") ws l
+crash_read nodes (i ∷ []) l e =
+    let b = bound (node_in nodes i) _ l e in
+    let k = number 1 nodes i b.value b.read in
+    subst (IsRead nodes (codes "crash") (i ∷ [])) (same _ l b.rest) (record {
+      next = (k.0, k.1);
+      text = λ j. codes "crash" ∷ k.2 j ∷ [];
+    })
+crash_read nodes [] l e = absurd cc
+crash_read nodes (i ∷ x ∷ more) l e = absurd cc
+
+up_read : (nodes : ℕ) (ws : List (List ℕ)) (l : Line) → up_line nodes ws ≡ Ok l → IsRead nodes (codes "up") ws l
+up_read nodes (i ∷ []) l e =
+    let b = bound (node_in nodes i) _ l e in
+    let k = number 1 nodes i b.value b.read in
+    subst (IsRead nodes (codes "up") (i ∷ [])) (same _ l b.rest) (record {
+      next = (k.0, k.1);
+      text = λ j. codes "up" ∷ k.2 j ∷ [];
+    })
+up_read nodes [] l e = absurd cc
+up_read nodes (i ∷ x ∷ more) l e = absurd cc
+
 -- a word that is tested for
 arm : {A : Type 0} (w name : List ℕ) (here else_ : A) (P : List ℕ → A → Type 0) → P name here → P w else_
     → P w (cond (bytes_eq w name) here else_)
@@ -225,4 +247,6 @@ meaning_read nodes w ws l =
     arm w (codes "rollback") _ _ (Reads nodes ws l) (rollback_read nodes ws l) (
     arm w (codes "deliver") _ _ (Reads nodes ws l) (deliver_read nodes ws l) (
     arm w (codes "flush") _ _ (Reads nodes ws l) (flush_read nodes ws l) (
-    arm w (codes "tick") _ _ (Reads nodes ws l) (tick_read nodes ws l) (λ e. absurd cc))))))))
+    arm w (codes "tick") _ _ (Reads nodes ws l) (tick_read nodes ws l) (
+    arm w (codes "crash") _ _ (Reads nodes ws l) (crash_read nodes ws l) (
+    arm w (codes "up") _ _ (Reads nodes ws l) (up_read nodes ws l) (λ e. absurd cc))))))))))

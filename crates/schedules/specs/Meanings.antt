@@ -79,6 +79,18 @@ tick_line nodes (n ∷ ms ∷ []) = do
   Ok (lines.Tick node ms)
 tick_line nodes _ = Err WordCount
 
+abbrev pub crash_line : ℕ → List (List ℕ) → Result Line Cause
+crash_line nodes (n ∷ []) = do
+  node ← node_in nodes n
+  Ok (lines.Crash node)
+crash_line nodes _ = Err WordCount
+
+abbrev pub up_line : ℕ → List (List ℕ) → Result Line Cause
+up_line nodes (n ∷ []) = do
+  node ← node_in nodes n
+  Ok (lines.Up node)
+up_line nodes _ = Err WordCount
+
 -- `nodes` stands on the first line alone, and so isn't among these
 abbrev pub meaning : ℕ → List ℕ → List (List ℕ) → Result Line Cause
 meaning nodes word rest =
@@ -90,4 +102,6 @@ meaning nodes word rest =
     else if bytes_eq word (codes "deliver") then deliver_line rest
     else if bytes_eq word (codes "flush") then flush_line rest
     else if bytes_eq word (codes "tick") then tick_line nodes rest
+    else if bytes_eq word (codes "crash") then crash_line nodes rest
+    else if bytes_eq word (codes "up") then up_line nodes rest
     else Err UnknownWord

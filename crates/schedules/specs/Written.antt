@@ -31,6 +31,8 @@ words_in (lines.Rollback node activity) = codes "rollback" ∷ decimal node ∷ 
 words_in (lines.Deliver message) = codes "deliver" ∷ decimal message ∷ []
 words_in (lines.Flush most) = codes "flush" ∷ decimal most ∷ []
 words_in (lines.Tick node ms) = codes "tick" ∷ decimal node ∷ decimal ms ∷ []
+words_in (lines.Crash node) = codes "crash" ∷ decimal node ∷ []
+words_in (lines.Up node) = codes "up" ∷ decimal node ∷ []
 
 -- the words, separated by one space
 abbrev pub line_text : Line → List ℕ
@@ -54,6 +56,8 @@ IsNext nodes (lines.Rollback node activity) = IsNode nodes node × IsId activity
 IsNext nodes (lines.Deliver message) = (1 ≤ message) × (message ≤ 1000000)
 IsNext nodes (lines.Flush most) = most ≤ 10000
 IsNext nodes (lines.Tick node ms) = IsNode nodes node × (ms ≤ largest)
+IsNext nodes (lines.Crash node) = IsNode nodes node
+IsNext nodes (lines.Up node) = IsNode nodes node
 
 -- `nodes` stands first and once, all numbers are within their bounds, and there are at most 10,000 lines
 abbrev pub IsSchedule : List Line → Type 0

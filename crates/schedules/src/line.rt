@@ -59,6 +59,14 @@ pub enum Line {
         node: u8,
         ms: u32,
     },
+    /// `crash NODE`: the node goes down at rest; what its journal doesn't hold is lost.
+    Crash {
+        node: u8,
+    },
+    /// `up NODE`: the node comes up again, in a new incarnation, from its journal.
+    Up {
+        node: u8,
+    },
 }
 
 /// The lines of a schedule, in order.

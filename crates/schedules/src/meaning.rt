@@ -1,7 +1,7 @@
 //! The meaning of a line's words, given the number of nodes.
 
 ghost use Rattle.std.specs.Prelude.{◌≡◌, map};
-ghost use Rattle.schedules.specs.Meanings.{count_of, begin_line, interpose_line, work_line, task, commit_line, rollback_line, deliver_line, flush_line, tick_line, meaning};
+ghost use Rattle.schedules.specs.Meanings.{count_of, begin_line, interpose_line, work_line, task, commit_line, rollback_line, deliver_line, flush_line, tick_line, crash_line, up_line, meaning};
 
 use crate::line::{Cause, Line};
 use crate::values::{read_id, read_kind, read_node, read_number, read_small, read_vote};
@@ -134,6 +134,26 @@ fn read_tick(nodes: u8, words: &[&str]) -> Result<Line, Cause>
     Ok(Line::Tick { node, ms })
 }
 
+fn read_crash(nodes: u8, words: &[&str]) -> Result<Line, Cause>
+    ensures { result ≡ crash_line nodes (map (λ w. w.now) words.now) }
+{
+    let [node] = words else {
+        return Err(Cause::WordCount);
+    };
+    let node = read_node(nodes, node)?;
+    Ok(Line::Crash { node })
+}
+
+fn read_up(nodes: u8, words: &[&str]) -> Result<Line, Cause>
+    ensures { result ≡ up_line nodes (map (λ w. w.now) words.now) }
+{
+    let [node] = words else {
+        return Err(Cause::WordCount);
+    };
+    let node = read_node(nodes, node)?;
+    Ok(Line::Up { node })
+}
+
 /// The line of this first word, which isn't `nodes`, and the words behind it.
 pub fn read_meaning(nodes: u8, word: &str, words: &[&str]) -> Result<Line, Cause>
     ensures { result ≡ meaning nodes word.now (map (λ w. w.now) words.now) }
@@ -147,6 +167,8 @@ pub fn read_meaning(nodes: u8, word: &str, words: &[&str]) -> Result<Line, Cause
         "deliver" => read_deliver(words),
         "flush" => read_flush(words),
         "tick" => read_tick(nodes, words),
+        "crash" => read_crash(nodes, words),
+        "up" => read_up(nodes, words),
         _ => Err(Cause::UnknownWord),
     }
 }
