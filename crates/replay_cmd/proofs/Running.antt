@@ -4,7 +4,7 @@ use Rattle.std.specs.Prelude.{Option, Some, None, option_map}
 use Rattle.std.specs.List.{AllByRecursion}
 use Rattle.at_base.specs.declared.event.Local.TheVariants as locals
 use Rattle.at_model.specs.Views.{up, deliver_to, tick_at, request, begin_at, interpose_at, work_at, commit_at}
-use Rattle.at_model.specs.World.{World, WorldEvent, nth, opening, run_on, world_step}
+use Rattle.at_model.specs.World.{Crash, World, WorldEvent, nth, opening, run_on, world_step}
 use Rattle.model_laws.specs.Agreement.{Agrees, HasOneSuperior, IsAgreed, IsBehindAnswers, IsToldTruly}
 use Rattle.model_laws.specs.Enlisted.{EnlistsUnderOne}
 use Rattle.model_laws.specs.Made.{MakesNoIdTwice}
@@ -59,6 +59,8 @@ take_on count (lines.Rollback n activity) c r = step_on count c.world (request n
 take_on count (lines.Deliver k) c r = deliver_on count k (option_map receiver_in (nth k c.world.posted)) c r
 take_on count (lines.Flush most) c r = flush_on count most c r
 take_on count (lines.Tick n ms) c r = step_on count c.world (tick_at n ms) r refl
+take_on count (lines.Crash n) c r = step_on count c.world (Crash n) r refl
+take_on count (lines.Up n) c r = step_on count c.world (up n) r refl
 
 all_on : (count : ℕ) (all : List Line) (c : Course) → IsOfRun count c.world → IsOfRun count (all_taken all c).world
 all_on count [] c r = r

@@ -18,7 +18,7 @@ pub record IsReplayable (lines : List Line) : Type 0 where
 abbrev pub ReadIsReplayable : Type 0
 ReadIsReplayable = (text : List ℕ) (lines : List Line) → schedule_of text ≡ Ok lines → IsReplayable lines
 
--- Nothing fails: no call of a node's site does, and no node goes down.
+-- No call of a node's site fails; a node goes down at rest alone.
 abbrev pub is_whole : List Bool → Option ℕ → Bool
 is_whole [] None = true
 is_whole fates until = false
@@ -28,13 +28,13 @@ is_smooth (Turn n (Deliver k) fates until) = is_whole fates until
 is_smooth (Turn n (Tick ms) fates until) = is_whole fates until
 is_smooth (Turn n Raw fates until) = false
 is_smooth (Ask n l fates until) = is_whole fates until
-is_smooth (Crash n) = false
+is_smooth (Crash n) = true
 is_smooth (Up n landed stop) = landed && not stop
 
 abbrev pub IsSmooth : WorldEvent → Type 0
 IsSmooth e = is_smooth e ≡ true
 
--- The world of a run of so many nodes in which nothing fails.
+-- The world of a run of so many nodes in which no call fails.
 pub record IsOfRun (count : ℕ) (w : World) : Type 0 where
   pub events : List WorldEvent
   pub smooth : AllByRecursion IsSmooth events

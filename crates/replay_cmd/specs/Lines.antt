@@ -45,6 +45,18 @@ answer_word (Some status) = decimal status
 unfoldable pub up_line : ℕ → Option ℕ → List ℕ
 up_line node incarnation = codes "up " ++ (decimal node ++ (codes " " ++ (start_word incarnation ++ codes "\n")))
 
+-- it was up, and stayed so
+unfoldable pub up_already_line : ℕ → List ℕ
+up_already_line node = codes "up " ++ (decimal node ++ codes " already\n")
+
+-- a node that was up in this incarnation goes down; one that was down stays so
+abbrev pub down_word : Option ℕ → List ℕ
+down_word None = codes " already\n"
+down_word (Some incarnation) = codes "\n"
+
+unfoldable pub down_line : ℕ → Option ℕ → List ℕ
+down_line node before = codes "down " ++ (decimal node ++ down_word before)
+
 unfoldable pub deliver_line : ℕ → ℕ → Option ℕ → List ℕ
 deliver_line number node answer =
     codes "deliver "

@@ -12,15 +12,15 @@ use Rattle.at_model.specs.Activities.{Refusal}
 use Rattle.at_model.specs.Book.{Book}
 use Rattle.at_model.specs.Step.{refuses}
 use Rattle.at_model.specs.Views.{line_of, up, deliver_to, tick_at, request, begin_at, interpose_at, work_at, commit_at}
-use Rattle.at_model.specs.World.{World, WorldEvent, Posted, Happened, Turn, Ask, Up, Deliver, Tick, nth, node_of, opening, world_step}
+use Rattle.at_model.specs.World.{World, WorldEvent, Posted, Happened, Turn, Ask, Crash, Up, Deliver, Tick, nth, node_of, opening, world_step}
 use Rattle.schedules.specs.declared.line.Line.{Line}
 use Rattle.schedules.specs.declared.line.Line.TheVariants as lines
 use Rattle.world_laws.specs.Runs.{clock_at, book_at, incarnation_at}
-use Rattle.world_laws.specs.Moves.{steps_of}
+use Rattle.world_laws.specs.Moves.{losses_of, steps_of}
 use Rattle.world_laws.specs.declared.posted.Counted.{Counted}
 use Rattle.world_laws.specs.declared.taken.Answer.{Answer}
 use Rattle.replay_cmd.specs.Delivered.{yes_at, lowest}
-use Rattle.replay_cmd.specs.Lines.{up_line, deliver_line, no_message_line, tick_line, refused_line, refusal_word, effect_line, message_line, end_line}
+use Rattle.replay_cmd.specs.Lines.{up_line, up_already_line, down_line, deliver_line, no_message_line, tick_line, refused_line, refusal_word, effect_line, message_line, end_line}
 
 -- The HTTP status of an answer, 0 where there is none.
 abbrev pub status_of : Option Answer → ℕ
@@ -45,9 +45,15 @@ abbrev pub request_result : Local → Option Book → List ℕ
 request_result l None = refused_line (codes "down")
 request_result l (Some b) = unless_taken (refuses b l)
 
+-- A node that is up stays as it is; any other comes up in a new incarnation, or doesn't.
+abbrev pub up_result : ℕ → Option ℕ → Option ℕ → List ℕ
+up_result n None behind = up_line n behind
+up_result n (Some before) behind = up_already_line n
+
 -- The line of an event's result, from the world before it and the one behind it.
 abbrev pub result_line : WorldEvent → World → World → List Counted → List ℕ
-result_line (Up n landed stop) before behind steps = up_line n (incarnation_at behind n)
+result_line (Up n landed stop) before behind steps = up_result n (incarnation_at before n) (incarnation_at behind n)
+result_line (Crash n) before behind steps = down_line n (incarnation_at before n)
 result_line (Turn n (Deliver k) fates until) before behind steps = deliver_line k n (answer_of steps)
 result_line (Turn n (Tick ms) fates until) before behind steps = tick_line n (or_zero (clock_at behind n)) (answer_of steps)
 result_line (Ask n l fates until) before behind steps = request_result l (book_at before n)
@@ -75,11 +81,12 @@ step_lines n k messages (o ∷ rest) =
     ++ (message_lines k (take (own_count o messages) messages)
     ++ step_lines n (k + own_count o messages) (drop (own_count o messages) messages) rest)
 
--- What is printed of an event in a world: its result, then its steps.
+-- What is printed of an event in a world: its result, then its steps, then what going down lost.
 abbrev pub event_lines : World → WorldEvent → List ℕ
 event_lines w e =
     result_line e w (world_step w e) (steps_of w e)
-    ++ step_lines (node_of e) (length w.posted + 1) (drop (length w.posted) (world_step w e).posted) (steps_of w e)
+    ++ (step_lines (node_of e) (length w.posted + 1) (drop (length w.posted) (world_step w e).posted) (steps_of w e)
+    ++ effect_lines (node_of e) (losses_of w e))
 
 -- How far a replay has come: the world, for each message from the first on whether it was delivered (those behind the
 -- list weren't), and what was printed.
@@ -132,6 +139,8 @@ taken (lines.Rollback n activity) c = happens (request n (locals.Rollback activi
 taken (lines.Deliver k) c = delivers k c
 taken (lines.Flush most) c = flushes most c
 taken (lines.Tick n ms) c = happens (tick_at n ms) c
+taken (lines.Crash n) c = happens (Crash n) c
+taken (lines.Up n) c = happens (up n) c
 
 abbrev pub all_taken : List Line → Course → Course
 all_taken [] c = c

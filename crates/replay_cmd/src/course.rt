@@ -2,19 +2,20 @@
 
 ghost use Rattle.std.specs.Prelude.{◌≡◌, ◌≤◌, ◌<◌, ◌+◌, ◌-◌, ◌^◌, ◌++◌, [], IfOk, OnOk, None, length, drop, option_map, option_copied};
 ghost use Rattle.at_model.specs.Views.{deliver_to, request, tick_at, up};
-ghost use Rattle.at_model.specs.World.{Turn, Ask, nth, opening, world_step};
+ghost use Rattle.at_model.specs.World.{Turn, Ask, Crash, nth, opening, world_step};
 ghost use Rattle.world_laws.specs.Events.{event_of, input_of};
 ghost use Rattle.world_laws.specs.Runs.{book_at, world_of};
-ghost use Rattle.world_laws.specs.Moves.{steps_of};
+ghost use Rattle.world_laws.specs.Moves.{losses_of, steps_of};
 ghost use Rattle.replay_cmd.specs.Delivered.{lowest, yes_at};
 ghost use Rattle.replay_cmd.specs.Lines.{no_message_line};
-ghost use Rattle.replay_cmd.specs.ReportOf.{all_up, delivers, flushes, goes_to, happens, printed, receiver_in, request_result, step_lines, whole, begun};
+ghost use Rattle.replay_cmd.specs.ReportOf.{all_up, delivers, effect_lines, flushes, goes_to, happens, printed, receiver_in, request_result, step_lines, up_result, whole, begun};
 
 use crate::delivered::Delivered;
 use crate::endings::push_ended;
 use crate::lines::{Lines, refusal_word};
-use crate::steps::{answer_of, push_steps};
+use crate::steps::{answer_of, push_effects, push_steps};
 use at_base::event::Local;
+use at_base::outs::Effects;
 use std::alloc::{AllocError, Global};
 use std::marker::Model;
 use world_laws::event::{Fates, Input, WorldEvent};
@@ -44,6 +45,7 @@ impl Model for Course {
 fn stepped(world: World, alloc: Global, event: WorldEvent) -> Result<Stepped, AllocError>
     ensures world { IfOk result (λ s. world_of s.world ≡ world_step (world_of world) (event_of event)) }
     ensures steps { IfOk result (λ s. s.steps ≡ steps_of (world_of world) (event_of event)) }
+    ensures lost { IfOk result (λ s. s.lost ≡ losses_of (world_of world) (event_of event)) }
 {
     if world.events().len() >= MOST {
         return Err(AllocError);
@@ -82,7 +84,7 @@ fn asking(alloc: Global, node: u8, local: Local) -> WorldEvent
     }
 }
 
-/// Adds the lines of an event's steps, before which the world had so many messages.
+/// Adds the lines of an event's steps, before which the world had so many messages, and of what going down lost.
 fn push_behind(
     alloc: Global,
     lines: &mut Lines,
@@ -90,16 +92,34 @@ fn push_behind(
     before: usize,
     world: &World,
     steps: &Steps,
+    lost: &Effects,
 ) -> Result<(), AllocError>
     requires { before < 2 ^ 63 }
     ensures { OnOk result
-        (lines.new ≡ lines.old ++ step_lines node (before + 1) (drop before (world_of world.now).posted) steps.now) }
+        (lines.new ≡ lines.old ++ (step_lines node (before + 1) (drop before (world_of world.now).posted) steps.now ++ effect_lines node lost.now)) }
 {
     let messages = match world.all_posted().get(before..) {
         Some(messages) => messages,
         None => &[],
     };
-    push_steps(alloc, lines, node, before + 1, messages, steps.as_slice())
+    push_steps(alloc, lines, node, before + 1, messages, steps.as_slice())?;
+    push_effects(alloc, lines, node, lost.as_slice())
+}
+
+/// What became of a node that was to come up.
+fn push_start(
+    alloc: Global,
+    lines: &mut Lines,
+    node: u8,
+    before: Option<u32>,
+    behind: Option<u32>,
+) -> Result<(), AllocError>
+    ensures { OnOk result (lines.new ≡ lines.old ++ up_result node before behind) }
+{
+    match before {
+        Some(_) => lines.push_up_already(alloc, node),
+        None => lines.push_up(alloc, node, behind),
+    }
 }
 
 /// Why a node doesn't take a request, on a line.
@@ -134,7 +154,8 @@ impl Course {
         })
     }
 
-    fn up(self, alloc: Global, node: u8) -> Result<Course, AllocError>
+    /// A node comes up, where it is down.
+    pub fn up(self, alloc: Global, node: u8) -> Result<Course, AllocError>
         ensures { IfOk result (λ c. c ≡ happens (up node) self) }
     {
         let Course {
@@ -143,18 +164,35 @@ impl Course {
             mut lines,
         } = self;
         let before = world.all_posted().len();
+        let was = world.incarnation(node);
         let event = WorldEvent::Up {
             node,
             landed: true,
             stop: false,
         };
-        let Stepped {
+        let Stepped { world, steps, lost } = stepped(world, alloc, event)?;
+        push_start(alloc, &mut lines, node, was, world.incarnation(node))?;
+        push_behind(alloc, &mut lines, node, before, &world, &steps, &lost)?;
+        Ok(Course {
             world,
-            steps,
-            lost: _lost,
-        } = stepped(world, alloc, event)?;
-        lines.push_up(alloc, node, world.incarnation(node))?;
-        push_behind(alloc, &mut lines, node, before, &world, &steps)?;
+            delivered,
+            lines,
+        })
+    }
+
+    /// A node goes down at rest.
+    pub fn crash(self, alloc: Global, node: u8) -> Result<Course, AllocError>
+        ensures { IfOk result (λ c. c ≡ happens (Crash node) self) }
+    {
+        let Course {
+            world,
+            delivered,
+            mut lines,
+        } = self;
+        let before = world.all_posted().len();
+        lines.push_down(alloc, node, world.incarnation(node))?;
+        let Stepped { world, steps, lost } = stepped(world, alloc, WorldEvent::Crash { node })?;
+        push_behind(alloc, &mut lines, node, before, &world, &steps, &lost)?;
         Ok(Course {
             world,
             delivered,
@@ -185,12 +223,8 @@ impl Course {
         } = self;
         let before = world.all_posted().len();
         push_refusal(alloc, &mut lines, &world, node, &local)?;
-        let Stepped {
-            world,
-            steps,
-            lost: _lost,
-        } = stepped(world, alloc, asking(alloc, node, local))?;
-        push_behind(alloc, &mut lines, node, before, &world, &steps)?;
+        let Stepped { world, steps, lost } = stepped(world, alloc, asking(alloc, node, local))?;
+        push_behind(alloc, &mut lines, node, before, &world, &steps, &lost)?;
         Ok(Course {
             world,
             delivered,
@@ -209,14 +243,10 @@ impl Course {
         } = self;
         let before = world.all_posted().len();
         let event = turn(alloc, node, Input::Tick(ms));
-        let Stepped {
-            world,
-            steps,
-            lost: _lost,
-        } = stepped(world, alloc, event)?;
+        let Stepped { world, steps, lost } = stepped(world, alloc, event)?;
         let clock = world.clock(node).unwrap_or(0);
         lines.push_tick(alloc, node, clock, answer_of(steps.as_slice()))?;
-        push_behind(alloc, &mut lines, node, before, &world, &steps)?;
+        push_behind(alloc, &mut lines, node, before, &world, &steps, &lost)?;
         Ok(Course {
             world,
             delivered,
@@ -234,13 +264,9 @@ impl Course {
         } = self;
         let before = world.all_posted().len();
         let event = turn(alloc, node, Input::Deliver(number));
-        let Stepped {
-            world,
-            steps,
-            lost: _lost,
-        } = stepped(world, alloc, event)?;
+        let Stepped { world, steps, lost } = stepped(world, alloc, event)?;
         lines.push_deliver(alloc, number, node, answer_of(steps.as_slice()))?;
-        push_behind(alloc, &mut lines, node, before, &world, &steps)?;
+        push_behind(alloc, &mut lines, node, before, &world, &steps, &lost)?;
         Ok(Course {
             world,
             delivered,

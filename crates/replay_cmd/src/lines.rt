@@ -5,7 +5,7 @@ ghost use Rattle.at_base.specs.declared.outs.Effect.TheVariants as effects;
 ghost use Rattle.at_model.specs.Addresses.{kind_letter};
 ghost use Rattle.at_model.specs.Views.{behind_slash, line_of, message_name, notice_name, path_in, receiver_number};
 ghost use Rattle.completion_at.specs.Names.{refusal_of};
-ghost use Rattle.replay_cmd.specs.Lines.{deliver_line, effect_line, end_line, ending_word, item_line, leaf_words, message_line, message_start, no_message_line, refusal_word, refused_line, tick_line, told_word, up_line};
+ghost use Rattle.replay_cmd.specs.Lines.{deliver_line, down_line, effect_line, end_line, ending_word, item_line, leaf_words, message_line, message_start, no_message_line, refusal_word, refused_line, tick_line, told_word, up_already_line, up_line};
 
 use at_base::epr::Epr;
 use at_base::id::Id;
@@ -182,6 +182,32 @@ impl Lines {
         let line = match incarnation {
             Some(incarnation) => format!(in alloc; "up {} {}\n", node, incarnation)?,
             None => format!(in alloc; "up {} failed\n", node)?,
+        };
+        self.push(line.as_str())
+    }
+
+    /// A node was up, and stayed so.
+    #[tactic(auto, unfolding(crate::specs::Lines::up_already_line))]
+    pub fn push_up_already(&mut self, alloc: Global, node: u8) -> Result<(), AllocError>
+        ensures { OnOk result (self.new ≡ self.old ++ up_already_line node) }
+    {
+        let line = format!(in alloc; "up {} already\n", node)?;
+        self.push(line.as_str())
+    }
+
+    /// A node that was up in this incarnation went down; one that wasn't stayed down.
+    #[tactic(auto, unfolding(crate::specs::Lines::down_line))]
+    pub fn push_down(
+        &mut self,
+        alloc: Global,
+        node: u8,
+        before: Option<u32>,
+    ) -> Result<(), AllocError>
+        ensures { OnOk result (self.new ≡ self.old ++ down_line node before) }
+    {
+        let line = match before {
+            Some(_) => format!(in alloc; "down {}\n", node)?,
+            None => format!(in alloc; "down {} already\n", node)?,
         };
         self.push(line.as_str())
     }

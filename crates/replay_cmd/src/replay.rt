@@ -86,6 +86,8 @@ fn take_line(course: Course, alloc: Global, line: &Line) -> Result<Course, Alloc
         Line::Deliver { message } => course.deliver(alloc, *message as u64),
         Line::Flush { most } => course.flush(alloc, *most),
         Line::Tick { node, ms } => course.tick(alloc, *node, *ms),
+        Line::Crash { node } => course.crash(alloc, *node),
+        Line::Up { node } => course.up(alloc, *node),
     }
 }
 

@@ -37,7 +37,8 @@ fn own_count(counted: &Counted, messages: &[Posted]) -> usize
     counted.posts.min(messages.len())
 }
 
-fn push_effects(
+/// Adds the lines of effects on a node.
+pub fn push_effects(
     alloc: Global,
     lines: &mut Lines,
     node: u8,
