@@ -344,6 +344,144 @@ msg 14 2>3 Commit /p/d/1-1\n\
 end messages 14 committed 0 aborted 0 lost 0\n\
 ",
     ),
+    // A participant's node goes down before its vote: the new incarnation doesn't know the old one's participant, and the
+    // transaction aborts. Who is down refuses requests, and a second crash or start changes nothing.
+    (
+        "\
+nodes 3\n\
+begin 1 2 60000\n\
+flush 99\n\
+work 1 1-1 3 d prepared\n\
+flush 99\n\
+crash 3\n\
+crash 3\n\
+deliver 5\n\
+commit 3 1-1\n\
+tick 3 7\n\
+up 3\n\
+up 3\n\
+work 1 1-1 3 d prepared\n\
+flush 99\n\
+commit 1 1-1\n\
+flush 99\n\
+",
+        "\nmsg 8 ",
+        "\
+deliver 8 1 202\n\
+down 3\n\
+leaf 3 1-1 d lost\n\
+down 3 already\n\
+deliver 5 3 down\n\
+refused down\n\
+tick 3 0 down\n\
+up 3 2\n\
+up 3 already\n\
+msg 9 1>3 Work /work\n\
+deliver 9 3 202\n\
+msg 10 3>2 Register /registration/1-1\n\
+deliver 10 2 202\n\
+msg 11 2>3 RegisterResponse /p/d/2-1\n\
+deliver 11 3 202\n\
+msg 12 3>1 WorkDone /i/1-1\n\
+deliver 12 1 202\n\
+msg 13 1>2 Commit /completion/1-1\n\
+deliver 13 2 202\n\
+msg 14 2>3 Prepare /p/d/1-1\n\
+msg 15 2>3 Prepare /p/d/2-1\n\
+deliver 14 3 202\n\
+msg 16 3>2 Aborted /c/d/1-1/1\n\
+deliver 15 3 202\n\
+msg 17 3>2 Prepared /c/d/1-1/2\n\
+deliver 16 2 202\n\
+root 2 1-1 aborted\n\
+msg 18 2>3 Rollback /p/d/2-1\n\
+msg 19 2>1 Aborted /i/1-1\n\
+deliver 17 2 202\n\
+msg 20 2>3 Rollback /p/d/2-1\n\
+deliver 18 3 202\n\
+leaf 3 2-1 d aborted\n\
+msg 21 3>2 Aborted /c/d/1-1/2\n\
+deliver 19 1 202\n\
+told 1 1-1 aborted\n\
+deliver 20 3 202\n\
+msg 22 3>2 Aborted /c/d/1-1/2\n\
+deliver 21 2 202\n\
+deliver 22 2 202\n\
+end messages 22 committed 0 aborted 1 lost 1\n\
+",
+    ),
+    // A subordinate crashes behind its vote, and comes up prepared.
+    (
+        "\
+nodes 4\n\
+begin 1 2 0\n\
+flush 99\n\
+interpose 1 1-1 3\n\
+flush 99\n\
+work 1 1-2 4 d prepared\n\
+flush 99\n\
+commit 1 1-1\n\
+deliver 15\n\
+deliver 16\n\
+deliver 17\n\
+deliver 18\n\
+deliver 19\n\
+deliver 20\n\
+crash 3\n\
+up 3\n\
+flush 99\n\
+",
+        "\nmsg 21 ",
+        "\
+down 3\n\
+up 3 2\n\
+deliver 21 2 202\n\
+root 2 1-1 committed\n\
+msg 22 2>3 Commit /p/d/1-1\n\
+msg 23 2>1 Committed /i/1-1\n\
+deliver 22 3 202\n\
+sub 3 1-1 committed\n\
+msg 24 3>4 Commit /p/d/1-1\n\
+deliver 23 1 202\n\
+told 1 1-1 committed\n\
+deliver 24 4 202\n\
+leaf 4 1-1 d committed\n\
+msg 25 4>3 Committed /c/d/1-1/1\n\
+deliver 25 3 202\n\
+msg 26 3>2 Committed /c/d/1-1/2\n\
+deliver 26 2 202\n\
+end messages 26 committed 2 aborted 0 lost 0\n\
+",
+    ),
+    // A coordinator crashes behind its decision, which its journal keeps: it comes up and tells it.
+    (
+        "\
+nodes 3\n\
+begin 1 2 60000\n\
+flush 99\n\
+work 1 1-1 3 d prepared\n\
+flush 99\n\
+commit 1 1-1\n\
+deliver 9\n\
+deliver 10\n\
+deliver 11\n\
+crash 2\n\
+up 2\n\
+tick 2 0\n\
+deliver 14\n\
+",
+        "\nmsg 13 ",
+        "\
+down 2\n\
+up 2 2\n\
+tick 2 0 202\n\
+msg 14 2>3 Commit /p/d/1-1\n\
+deliver 14 3 202\n\
+leaf 3 1-1 d committed\n\
+msg 15 3>2 Committed /c/d/1-1/1\n\
+end messages 15 committed 1 aborted 0 lost 0\n\
+",
+    ),
     // A node alone.
     (
         "\

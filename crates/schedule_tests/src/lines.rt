@@ -9,7 +9,7 @@ use std::test::Fail;
 
 /// A line of each word, each number at a bound, the last line without its line feed.
 const EACH: &[u8] =
-    b"nodes 8\nbegin 1 8 4294967295\ninterpose 8 1-1 1\nwork 1 4294967295-1 8 d prepared\nwork 2 1-2 3 v readonly\nwork 3 1-3 1 v aborted\ncommit 1 1-1\nrollback 8 2-10\ndeliver 1\ndeliver 1000000\nflush 0\nflush 10000\ntick 8 0\ntick 1 4294967295";
+    b"nodes 8\nbegin 1 8 4294967295\ninterpose 8 1-1 1\nwork 1 4294967295-1 8 d prepared\nwork 2 1-2 3 v readonly\nwork 3 1-3 1 v aborted\ncommit 1 1-1\nrollback 8 2-10\ndeliver 1\ndeliver 1000000\nflush 0\nflush 10000\ntick 8 0\ntick 1 4294967295\ncrash 8\nup 1";
 
 /// Texts with their first bad line and its cause; line 0 where there is none.
 const ROWS: &[(&[u8], u32, u8)] = &[
@@ -18,7 +18,9 @@ const ROWS: &[(&[u8], u32, u8)] = &[
     (b"nodes 8\nflush 0\n", 0, 0),
     // each cause
     (b"nodes 1\nflush 1\nfoo", 3, 1),
-    (b"nodes 1\nup 1", 2, 1),
+    (b"nodes 1\nup 1\nfoo", 3, 1),
+    (b"nodes 1\nup", 2, 2),
+    (b"nodes 1\ncrash 1 1", 2, 2),
     (b"nodes 1\nflush", 2, 2),
     (b"nodes 1\nflush x", 2, 3),
     (b"nodes 1\ncommit 1 1-0", 2, 4),
@@ -49,6 +51,8 @@ const ROWS: &[(&[u8], u32, u8)] = &[
     (b"nodes 1 1", 1, 2),
     (b"nodes 2\ntick 0 1", 2, 3),
     (b"nodes 2\ntick 3 1", 2, 3),
+    (b"nodes 2\ncrash 0", 2, 3),
+    (b"nodes 2\nup 3", 2, 3),
     (b"nodes 2\nbegin 1 3 0", 2, 3),
     (b"nodes 2\ntick 1 4294967296", 2, 3),
     (b"nodes 1\ndeliver 0", 2, 3),
@@ -180,6 +184,8 @@ fn each_line(alloc: Global) -> Result<Vec<Line>, AllocError> {
         node: 1,
         ms: 4_294_967_295,
     })?;
+    lines.push(Line::Crash { node: 8 })?;
+    lines.push(Line::Up { node: 1 })?;
     Ok(lines)
 }
 

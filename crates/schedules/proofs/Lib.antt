@@ -5,3 +5,4 @@ mod Rest
 mod Bounds
 mod Wholes
 mod Back
+mod Made

@@ -5,6 +5,7 @@ use Rattle.at_base.specs.declared.notice.Kind.TheVariants as kinds
 use Rattle.at_base.specs.declared.notice.Vote.TheVariants as votes
 use Rattle.schedules.specs.declared.line.Cause.TheVariants as causes
 use Rattle.schedules.specs.declared.line.Line.TheVariants as lines
+use Rattle.schedules.specs.Generator.{drawn, made, next}
 use Rattle.schedules.specs.Schedules.{schedule_of}
 
 abbrev pub one_activity : List ℕ
@@ -57,3 +58,16 @@ leading_zero = refl
 pub empty_word : schedule_of (codes "nodes 3\nflush  7") ≡ Err (record { line = 2; cause = causes.WordCount })
 unfolding digits
 empty_word = refl
+
+-- the first draw of the seed 1, and the schedules of no line and of one
+pub first_state : next 1 ≡ 7806831264735756412
+first_state = refl
+
+pub first_draw : drawn 7806831264735756412 ≡ 908834774
+first_draw = refl
+
+pub no_line : made 1 0 ≡ lines.Nodes 4 ∷ []
+no_line = refl
+
+pub one_line : made 1 1 ≡ lines.Nodes 4 ∷ lines.Flush 8 ∷ []
+one_line = refl

@@ -3,5 +3,6 @@ pub mod Words
 pub mod Values
 pub mod Meanings
 pub mod Schedules
-pub mod Examples
 pub mod Written
+pub mod Generator
+pub mod Examples
