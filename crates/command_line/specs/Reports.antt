@@ -4,8 +4,8 @@ use Rattle.std.specs.Io.KnownBytes.{Appends}
 use Rattle.envelope_cmd.specs.Output.{Output, accepted, refused}
 use Rattle.envelope_cmd.specs.Cells.{IsCellOf}
 use Rattle.envelope_cmd.specs.Checks.{IsCheckOf}
-use Rattle.replay_cmd.specs.Laws.{IsSafe, world_of}
-use Rattle.replay_cmd.specs.ReportOf.{nodes_of, report_of}
+use Rattle.replay_cmd.specs.Laws.{IsSafe}
+use Rattle.replay_cmd.specs.ReportOf.{nodes_of, report_of, world_of}
 use Rattle.schedules.specs.Causes.{number_of_cause}
 use Rattle.schedules.specs.Schedules.{schedule_of}
 use Rattle.schedules.specs.declared.line.BadLine.{BadLine}

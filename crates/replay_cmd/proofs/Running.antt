@@ -8,11 +8,12 @@ use Rattle.at_model.specs.World.{Crash, World, WorldEvent, nth, opening, run_on,
 use Rattle.model_laws.specs.Agreement.{Agrees, HasOneSuperior, IsAgreed, IsBehindAnswers, IsToldTruly}
 use Rattle.model_laws.specs.Enlisted.{EnlistsUnderOne}
 use Rattle.model_laws.specs.Made.{MakesNoIdTwice}
+use Rattle.schedules.specs.Generator.{made}
 use Rattle.schedules.specs.declared.line.Line.{Line}
 use Rattle.schedules.specs.declared.line.Line.TheVariants as lines
 use Rattle.replay_cmd.specs.Delivered.{lowest}
-use Rattle.replay_cmd.specs.ReportOf.{Course, all_taken, all_up, begun, delivered_to, delivers_lowest, delivers_where, flushes, happens, nodes_of, receiver_in, taken}
-use Rattle.replay_cmd.specs.Laws.{IsOfRun, IsSafe, IsSmooth, ReportsAreSafe, ReportsRuns, world_of}
+use Rattle.replay_cmd.specs.ReportOf.{Course, all_taken, all_up, begun, delivered_to, delivers_lowest, delivers_where, flushes, happens, nodes_of, receiver_in, taken, world_of}
+use Rattle.replay_cmd.specs.Laws.{IsOfRun, IsReplayable, IsSafe, IsSmooth, ReportsAreSafe, ReportsRuns}
 
 run_append : (w : World) (es : List WorldEvent) (e : WorldEvent) → run_on w (es ++ e ∷ []) ≡ world_step (run_on w es) e
 run_append w [] e = refl
@@ -90,3 +91,7 @@ safe_run count w r few agrees superior made = record {
 pub reports_are_safe : Agrees → EnlistsUnderOne → MakesNoIdTwice → ReportsAreSafe
 reports_are_safe agrees superior made all can =
     safe_run (nodes_of all) (world_of all) (reports_runs all) (omega (arith, can.most)) agrees superior made
+
+-- what is made of a seed may be replayed
+pub made_is_replayable : (seed steps : ℕ) (all : List Line) → all ≡ made seed steps → IsReplayable all
+made_is_replayable seed steps all e = subst IsReplayable (sym e) (record { least = omega arith; most = omega arith })

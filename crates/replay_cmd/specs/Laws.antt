@@ -7,7 +7,7 @@ use Rattle.model_laws.specs.Drawn.{AreApart}
 use Rattle.model_laws.specs.Made.{made_on}
 use Rattle.schedules.specs.declared.line.Line.{Line}
 use Rattle.schedules.specs.Schedules.{schedule_of}
-use Rattle.replay_cmd.specs.ReportOf.{all_taken, begun, nodes_of}
+use Rattle.replay_cmd.specs.ReportOf.{nodes_of, world_of}
 
 -- There are 1 to 8 nodes.
 pub record IsReplayable (lines : List Line) : Type 0 where
@@ -39,10 +39,6 @@ pub record IsOfRun (count : ℕ) (w : World) : Type 0 where
   pub events : List WorldEvent
   pub smooth : AllByRecursion IsSmooth events
   pub run : w ≡ run_of count events
-
--- The world that the report of a schedule is of.
-abbrev pub world_of : List Line → World
-world_of all = (all_taken all (begun (nodes_of all))).world
 
 -- A report is that of a run.
 abbrev pub ReportsRuns : Type 0

@@ -108,3 +108,14 @@ end_line messages committed aborted lost =
     ++ (codes " committed "
     ++ (decimal committed
     ++ (codes " aborted " ++ (decimal aborted ++ (codes " lost " ++ (decimal lost ++ codes "\n")))))))
+
+-- the same behind so many lines that were made of a seed
+unfoldable pub summary_line : ℕ → ℕ → ℕ → ℕ → ℕ → List ℕ
+summary_line steps messages committed aborted lost =
+    codes "steps "
+    ++ (decimal steps
+    ++ (codes " messages "
+    ++ (decimal messages
+    ++ (codes " committed "
+    ++ (decimal committed
+    ++ (codes " aborted " ++ (decimal aborted ++ (codes " lost " ++ (decimal lost ++ codes "\n")))))))))

@@ -13,6 +13,7 @@ use Rattle.at_model.specs.Book.{Book}
 use Rattle.at_model.specs.Step.{refuses}
 use Rattle.at_model.specs.Views.{line_of, up, deliver_to, tick_at, request, begin_at, interpose_at, work_at, commit_at}
 use Rattle.at_model.specs.World.{World, WorldEvent, Posted, Happened, Turn, Ask, Crash, Up, Deliver, Tick, nth, node_of, opening, world_step}
+use Rattle.schedules.specs.Generator.{made}
 use Rattle.schedules.specs.declared.line.Line.{Line}
 use Rattle.schedules.specs.declared.line.Line.TheVariants as lines
 use Rattle.world_laws.specs.Runs.{clock_at, book_at, incarnation_at}
@@ -20,7 +21,7 @@ use Rattle.world_laws.specs.Moves.{losses_of, steps_of}
 use Rattle.world_laws.specs.declared.posted.Counted.{Counted}
 use Rattle.world_laws.specs.declared.taken.Answer.{Answer}
 use Rattle.replay_cmd.specs.Delivered.{yes_at, lowest}
-use Rattle.replay_cmd.specs.Lines.{up_line, up_already_line, down_line, deliver_line, no_message_line, tick_line, refused_line, refusal_word, effect_line, message_line, end_line}
+use Rattle.replay_cmd.specs.Lines.{up_line, up_already_line, down_line, deliver_line, no_message_line, tick_line, refused_line, refusal_word, effect_line, message_line, end_line, summary_line}
 
 -- The HTTP status of an answer, 0 where there is none.
 abbrev pub status_of : Option Answer → ℕ
@@ -177,6 +178,14 @@ ended w =
     (ended_so endings.Aborted w.happened)
     (ended_so endings.Lost w.happened)
 
+-- the same of a world of so many lines that were made of a seed
+abbrev pub summed : ℕ → World → List ℕ
+summed steps w =
+    summary_line steps (length w.posted)
+    (ended_so endings.Committed w.happened)
+    (ended_so endings.Aborted w.happened)
+    (ended_so endings.Lost w.happened)
+
 -- how many nodes the first line names
 abbrev pub nodes_of : List Line → ℕ
 nodes_of [] = 0
@@ -186,6 +195,18 @@ nodes_of (line ∷ rest) = 0
 abbrev pub whole : Course → List ℕ
 whole c = c.text ++ ended c.world
 
+-- How a schedule comes out.
+abbrev pub course_of : List Line → Course
+course_of all = all_taken all (begun (nodes_of all))
+
+-- The world that the report of a schedule is of.
+abbrev pub world_of : List Line → World
+world_of all = (course_of all).world
+
 -- The report of a schedule.
 abbrev pub report_of : List Line → List ℕ
-report_of all = whole (all_taken all (begun (nodes_of all)))
+report_of all = whole (course_of all)
+
+-- What is said of the schedule of a seed.
+abbrev pub summary_of : ℕ → ℕ → List ℕ
+summary_of seed steps = summed steps (world_of (made seed steps))

@@ -8,10 +8,10 @@ ghost use Rattle.world_laws.specs.Runs.{book_at, world_of};
 ghost use Rattle.world_laws.specs.Moves.{losses_of, steps_of};
 ghost use Rattle.replay_cmd.specs.Delivered.{lowest, yes_at};
 ghost use Rattle.replay_cmd.specs.Lines.{no_message_line};
-ghost use Rattle.replay_cmd.specs.ReportOf.{all_up, delivers, effect_lines, flushes, goes_to, happens, printed, receiver_in, request_result, step_lines, up_result, whole, begun};
+ghost use Rattle.replay_cmd.specs.ReportOf.{all_up, delivers, effect_lines, flushes, goes_to, happens, printed, receiver_in, request_result, step_lines, summed, up_result, whole, begun};
 
 use crate::delivered::Delivered;
-use crate::endings::push_ended;
+use crate::endings::{push_ended, push_summed};
 use crate::lines::{Lines, refusal_word};
 use crate::steps::{answer_of, push_effects, push_steps};
 use at_base::event::Local;
@@ -362,6 +362,15 @@ impl Course {
             mut lines,
         } = self;
         push_ended(alloc, &mut lines, &world)?;
+        Ok(lines)
+    }
+
+    /// How its world ended, on a line.
+    pub fn summed(self, alloc: Global, steps: u16) -> Result<Lines, AllocError>
+        ensures { IfOk result (λ lines. lines ≡ summed steps self.world) }
+    {
+        let mut lines = Lines::new(alloc);
+        push_summed(alloc, &mut lines, steps, &self.world)?;
         Ok(lines)
     }
 }

@@ -1,8 +1,8 @@
-//! The last line of a report.
+//! How a world ended, on a line.
 
 ghost use Rattle.std.specs.Prelude.{◌≡◌, ◌++◌, OnOk};
 ghost use Rattle.world_laws.specs.Runs.{world_of};
-ghost use Rattle.replay_cmd.specs.ReportOf.{ended, ended_so, ends_so, is_ending};
+ghost use Rattle.replay_cmd.specs.ReportOf.{ended, ended_so, ends_so, is_ending, summed};
 
 use crate::lines::Lines;
 use at_base::notice::Kind;
@@ -58,4 +58,20 @@ pub fn push_ended(alloc: Global, lines: &mut Lines, world: &World) -> Result<(),
     let aborted = ended_so(Ending::Aborted, world.effects());
     let lost = ended_so(Ending::Lost, world.effects());
     lines.push_end(alloc, world.all_posted().len(), committed, aborted, lost)
+}
+
+/// Adds the line of a world of so many lines that were made of a seed.
+pub fn push_summed(
+    alloc: Global,
+    lines: &mut Lines,
+    steps: u16,
+    world: &World,
+) -> Result<(), AllocError>
+    ensures { OnOk result (lines.new ≡ lines.old ++ summed steps (world_of world.now)) }
+{
+    let committed = ended_so(Ending::Committed, world.effects());
+    let aborted = ended_so(Ending::Aborted, world.effects());
+    let lost = ended_so(Ending::Lost, world.effects());
+    let messages = world.all_posted().len();
+    lines.push_summary(alloc, steps, messages, committed, aborted, lost)
 }

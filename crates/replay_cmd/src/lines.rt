@@ -5,7 +5,7 @@ ghost use Rattle.at_base.specs.declared.outs.Effect.TheVariants as effects;
 ghost use Rattle.at_model.specs.Addresses.{kind_letter};
 ghost use Rattle.at_model.specs.Views.{behind_slash, line_of, message_name, notice_name, path_in, receiver_number};
 ghost use Rattle.completion_at.specs.Names.{refusal_of};
-ghost use Rattle.replay_cmd.specs.Lines.{deliver_line, down_line, effect_line, end_line, ending_word, item_line, leaf_words, message_line, message_start, no_message_line, refusal_word, refused_line, tick_line, told_word, up_already_line, up_line};
+ghost use Rattle.replay_cmd.specs.Lines.{deliver_line, down_line, effect_line, end_line, ending_word, item_line, leaf_words, message_line, message_start, no_message_line, refusal_word, refused_line, summary_line, tick_line, told_word, up_already_line, up_line};
 
 use at_base::epr::Epr;
 use at_base::id::Id;
@@ -372,6 +372,26 @@ impl Lines {
         let line = format!(in alloc;
             "end messages {} committed {} aborted {} lost {}\n",
             messages, committed, aborted, lost
+        )?;
+        self.push(line.as_str())
+    }
+
+    /// The same of a world of so many lines that were made of a seed.
+    #[tactic(auto, unfolding(crate::specs::Lines::summary_line))]
+    pub fn push_summary(
+        &mut self,
+        alloc: Global,
+        steps: u16,
+        messages: usize,
+        committed: usize,
+        aborted: usize,
+        lost: usize,
+    ) -> Result<(), AllocError>
+        ensures { OnOk result (self.new ≡ self.old ++ summary_line steps messages committed aborted lost) }
+    {
+        let line = format!(in alloc;
+            "steps {} messages {} committed {} aborted {} lost {}\n",
+            steps, messages, committed, aborted, lost
         )?;
         self.push(line.as_str())
     }

@@ -1,15 +1,17 @@
 //! `replay`: the report of a schedule.
 
-ghost use Rattle.std.specs.Prelude.{◌≡◌, [], IfOk, replicate};
+ghost use Rattle.std.specs.Prelude.{◌≡◌, ◌≤◌, [], IfOk, replicate};
 ghost use Rattle.at_base.specs.declared.event.Local.TheVariants as locals;
-ghost use Rattle.replay_cmd.specs.Laws.{IsReplayable, IsSafe, world_of};
-ghost use Rattle.replay_cmd.specs.ReportOf.{all_taken, nodes_of, report_of, taken};
+ghost use Rattle.replay_cmd.specs.Laws.{IsReplayable, IsSafe};
+ghost use Rattle.replay_cmd.specs.ReportOf.{all_taken, course_of, nodes_of, report_of, summary_of, taken, world_of};
+ghost use Rattle.schedules.specs.Generator.{made};
 
 use crate::course::Course;
 use crate::laws::reports_are_safe;
 use crate::lines::Lines;
 use crate::requests::{begin, interpose, work};
 use at_base::event::Local;
+use schedules::generator::make;
 use schedules::line::{Line, Schedule};
 use std::alloc::{AllocError, Global};
 use std::marker::Model;
@@ -121,6 +123,16 @@ fn empty_files(alloc: Global, count: u8) -> Result<Files, AllocError>
     Ok(Files { items })
 }
 
+/// How a schedule comes out.
+fn ran(alloc: Global, schedule: &Schedule) -> Result<Course, AllocError>
+    requires { IsReplayable schedule.now }
+    ensures { IfOk result (λ course. course ≡ course_of schedule.now) }
+{
+    let lines = schedule.as_slice();
+    let course = Course::begin(alloc, nodes_of(lines))?;
+    take_lines(course, alloc, lines)
+}
+
 /// The report of a schedule. Its world is that of a run, and what holds of every run holds of it (`safe`): no two participants of
 /// one transaction ended differently, through any depth of interposition (WS-AtomicTransaction 1.2, section 1).
 pub fn replay(alloc: Global, schedule: &Schedule) -> Result<Report, AllocError>
@@ -130,11 +142,32 @@ pub fn replay(alloc: Global, schedule: &Schedule) -> Result<Report, AllocError>
     ensures safe { IsSafe (nodes_of schedule.now) (world_of schedule.now) }
 {
     reports_are_safe();
-    let lines = schedule.as_slice();
-    let count = nodes_of(lines);
-    let files = empty_files(alloc, count)?;
-    let course = Course::begin(alloc, count)?;
-    let course = take_lines(course, alloc, lines)?;
+    let files = empty_files(alloc, nodes_of(schedule.as_slice()))?;
+    let course = ran(alloc, schedule)?;
     let text = course.whole(alloc)?;
     Ok(Report { text, files })
+}
+
+/// The schedule of a seed.
+#[tactic(auto, using(crate::proofs::Running::made_is_replayable))]
+fn made(alloc: Global, seed: u64, steps: u16) -> Result<Schedule, AllocError>
+    requires { steps ≤ 9999 }
+    ensures made { IfOk result (λ schedule. schedule ≡ made seed steps) }
+    ensures replayable { IfOk result IsReplayable }
+{
+    let schedule = make(alloc, seed, steps)?;
+    Ok(schedule)
+}
+
+/// How the schedule of a seed, of at most 9,999 lines, comes out, on one line: how many messages there were, and how many
+/// subordinates and durable participants ended in each way. What holds of every run holds of its world too (`safe`).
+pub fn summary(alloc: Global, seed: u64, steps: u16) -> Result<Lines, AllocError>
+    requires { steps ≤ 9999 }
+    ensures text { IfOk result (λ lines. lines ≡ summary_of seed steps) }
+    ensures safe { IsSafe 4 (world_of (made seed steps)) }
+{
+    reports_are_safe();
+    let schedule = made(alloc, seed, steps)?;
+    let course = ran(alloc, &schedule)?;
+    course.summed(alloc, steps)
 }

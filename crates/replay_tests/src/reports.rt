@@ -1,7 +1,7 @@
 //! Schedules and their reports.
 
 use replay_cmd::laws::what_is_read_is_replayable;
-use replay_cmd::replay::{Report, replay};
+use replay_cmd::replay::{Report, replay, summary};
 use schedules::reader::read_schedule;
 use std::alloc::{AllocError, Global};
 use std::test::Fail;
@@ -631,6 +631,34 @@ fn reports_of_schedules(rt: HostRuntime) -> Result<(), Fail> {
     for (script, start, lines) in ROWS {
         let holds = reports(rt.alloc(), script, start, lines)?;
         assert!(rt; holds);
+    }
+    Ok(())
+}
+
+/// Seeds with how many lines are made of each, and how those come out.
+const SUMMARIES: &[(u64, u16, &str)] = &[
+    (1, 0, "steps 0 messages 0 committed 0 aborted 0 lost 0\n"),
+    (1, 1, "steps 1 messages 0 committed 0 aborted 0 lost 0\n"),
+    (
+        7,
+        9_999,
+        "steps 9999 messages 1026 committed 0 aborted 7 lost 7\n",
+    ),
+];
+
+fn sums_up(alloc: Global, seed: u64, steps: u16, line: &str) -> Result<bool, AllocError> {
+    if steps > 9_999 {
+        return Ok(false);
+    }
+    let lines = summary(alloc, seed, steps)?;
+    Ok(lines.as_slice() == line.as_bytes())
+}
+
+#[test]
+fn summaries_of_seeds(rt: HostRuntime) -> Result<(), Fail> {
+    for (seed, steps, line) in SUMMARIES {
+        let holds = sums_up(rt.alloc(), *seed, *steps, line)?;
+        assert!(rt; holds, "{}", line);
     }
     Ok(())
 }
