@@ -5,6 +5,7 @@ use at_base::message::Message;
 use at_base::notice::Notice;
 use at_base::outs::{Effect, Ending, Told};
 use replay_cmd::lines::Lines;
+use settlement::settle::settle;
 use std::alloc::{AllocError, Global};
 use world_laws::event::{Input, WorldEvent};
 use world_laws::posted::Counted;
@@ -160,8 +161,19 @@ impl Script {
         Ok(script)
     }
 
+    /// The world comes to rest.
+    fn settle(self, alloc: Global) -> Result<Script, AllocError> {
+        let mut script = self;
+        let events = settle(alloc, &script.world)?;
+        for event in events {
+            script = script.happen(alloc, event)?;
+        }
+        Ok(script)
+    }
+
     fn take(self, alloc: Global, line: &str) -> Result<Script, AllocError> {
         match word(line, 0) {
+            "settle" => self.settle(alloc),
             "flush" => self.flush(alloc),
             "prepared" => self.await_vote(alloc, node(line, 1)),
             "deliver" => self.deliver(alloc, number(line, 1), line),
@@ -217,6 +229,11 @@ impl Script {
             Some(rest) => rest == then.as_bytes(),
             None => false,
         }
+    }
+
+    /// How many events happened.
+    pub fn happened(&self) -> usize {
+        self.world.events().len()
     }
 
     /// How many items ended, and how many activities were told of an end.

@@ -215,6 +215,34 @@ msg 15 2>1 Committed /i/1-1
 told 1 1-1 committed
 ",
     ),
+    // A participant that has voted crashes, and the rounds that bring the world to rest end its doubt.
+    (
+        "\
+commit 1 1-1
+deliver 9
+deliver 10
+deliver 11
+crash 3
+settle
+",
+        "\
+msg 9 1>2 Commit /completion/1-1
+msg 10 2>3 Prepare /p/d/1-1
+msg 11 3>2 Prepared /c/d/1-1/1
+root 2 1-1 committed
+msg 12 2>3 Commit /p/d/1-1
+msg 13 2>1 Committed /i/1-1
+msg 14 1>2 Commit /completion/1-1
+msg 15 2>3 Commit /p/d/1-1
+msg 16 3>2 Prepared /c/d/1-1/1
+msg 17 2>1 Committed /i/1-1
+leaf 3 1-1 d committed
+msg 18 3>2 Committed /c/d/1-1/1
+msg 19 2>3 Commit /p/d/1-1
+told 1 1-1 committed
+msg 20 3>2 Committed /c/d/1-1/1
+",
+    ),
     // A node that isn't let start stays down, a refused send isn't posted, and a coordinator that goes down undecided
     // loses its root.
     (
@@ -295,6 +323,25 @@ fn commits(alloc: Global) -> Result<bool, AllocError> {
     let script = played(alloc, 6, CHAIN)?;
     let again = script.runs_again(alloc)?;
     Ok(again && script.committed() == 6 && script.ended() == 6)
+}
+
+/// A node alone, and one participant whose activity waits: how many events settle them.
+const LONG: &[(u8, &str, usize)] = &[(1, "up 1\n", 8), (3, BEGUN, 24)];
+
+fn settles(alloc: Global, row: &(u8, &str, usize)) -> Result<bool, AllocError> {
+    let script = played(alloc, row.0, row.1)?;
+    let before = script.happened();
+    let settled = script.go_on(alloc, "settle\n")?;
+    Ok(settled.happened() == before.saturating_add(row.2))
+}
+
+#[test]
+fn rounds_are_few(rt: HostRuntime) -> Result<(), Fail> {
+    for row in LONG {
+        let right = settles(rt.alloc(), row)?;
+        assert!(rt; right, "{}", row.1);
+    }
+    Ok(())
 }
 
 #[test]

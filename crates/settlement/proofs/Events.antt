@@ -1,0 +1,80 @@
+-- Lists of events, one after another.
+use Rattle.std.proofs.Common.{ℕ, zero, suc, ◌+◌, ◌-◌, ◌<◌, ◌≡◌, refl, List, [], ◌∷◌, ◌++◌, length, map, drop, ap, ◌∙◌, sym, arith}
+use Rattle.std.proofs.lemmas.List.{append-nil, append_assoc, map-append}
+use Rattle.std.specs.Prelude.{None, option_and_then}
+use Rattle.at_model.specs.World.{Node, Tick, Turn, WorldEvent, nth, run_of}
+use Rattle.model_laws.specs.Settle.{ticks, up_if, ups}
+use Rattle.settling.proofs.Places.{nth_behind}
+use Rattle.settling.proofs.Runs.{run_length}
+use Rattle.world_laws.specs.Events.{event_of}
+use Rattle.world_laws.specs.Runs.{Run, book_of, world_of}
+use Rattle.world_laws.specs.declared.event.WorldEvent.{WorldEvent as Given}
+
+pub one_behind : (old new : List Given) (e : Given) → new ≡ old ++ e ∷ [] → map event_of new ≡ map event_of old ++ event_of e ∷ []
+one_behind old new e h = ap (map event_of) h ∙ map-append event_of old (e ∷ [])
+
+-- a world has as many nodes as its run
+pub nodes_counted : (r : Run) → length (world_of r).nodes ≡ r.count
+unfolding world_of
+nodes_counted r = run_length r.count (run_of r.count (map event_of r.events)) (record { events = map event_of r.events; is = refl })
+
+pub none_behind : (xs : List WorldEvent) → xs ≡ xs ++ []
+none_behind xs = sym (append-nil xs)
+
+ups_from : (place m : ℕ) (nodes : List Node) → place < length nodes
+    → ups m (drop place nodes) ≡ up_if m (option_and_then book_of (nth (place + 1) nodes)) ++ ups (m + 1) (drop (place + 1) nodes)
+ups_from place m [] h = absurd (omega (arith, h))
+ups_from zero m (x ∷ xs) h = refl
+ups_from (suc place) m (x ∷ xs) h =
+    let less : suc place + 1 - 1 ≡ place + 1 = omega arith in
+    let found : nth (place + 1) xs ≡ nth (suc place + 1) (x ∷ xs) = ap (λ k. nth k xs) (sym less) ∙ sym (nth_behind (suc place + 1) x xs (omega arith)) in
+    ups_from place m xs (omega (arith, h)) ∙ ap (λ o. up_if m (option_and_then book_of o) ++ ups (m + 1) (drop (place + 1) xs)) found
+
+-- one node more
+up_behind : (place : ℕ) (nodes : List Node) (old new all : List WorldEvent) → place < length nodes
+    → new ≡ old ++ up_if (place + 1) (option_and_then book_of (nth (place + 1) nodes))
+    → old ++ ups (place + 1) (drop place nodes) ≡ all → new ++ ups (place + 1 + 1) (drop (place + 1) nodes) ≡ all
+up_behind place nodes old new all h e k =
+    ap (λ es. es ++ ups (place + 1 + 1) (drop (place + 1) nodes)) e
+    ∙ (append_assoc old (up_if (place + 1) (option_and_then book_of (nth (place + 1) nodes))) (ups (place + 1 + 1) (drop (place + 1) nodes))
+    ∙ (ap (λ es. old ++ es) (sym (ups_from place (place + 1) nodes h)) ∙ k))
+
+pub up_more : (place : ℕ) (r : Run) (old new all : List WorldEvent) → place < r.count
+    → new ≡ old ++ up_if (place + 1) (option_and_then book_of (nth (place + 1) (world_of r).nodes))
+    → old ++ ups (place + 1) (drop place (world_of r).nodes) ≡ all → new ++ ups (place + 1 + 1) (drop (place + 1) (world_of r).nodes) ≡ all
+up_more place r old new all h e k = up_behind place (world_of r).nodes old new all (omega (arith, h, nodes_counted r)) e k
+
+pub no_more_ups : (nodes : List Node) (m : ℕ) (old all : List WorldEvent) → old ++ ups m (drop (length nodes) nodes) ≡ all → old ≡ all
+no_more_ups [] m old all e = none_behind old ∙ e
+no_more_ups (x ∷ xs) m old all e = no_more_ups xs m old all e
+
+ticks_from : (place m : ℕ) (nodes : List Node) → place < length nodes
+    → ticks m (drop place nodes) ≡ Turn m (Tick 5000) [] None ∷ ticks (m + 1) (drop (place + 1) nodes)
+ticks_from place m [] h = absurd (omega (arith, h))
+ticks_from zero m (x ∷ xs) h = refl
+ticks_from (suc place) m (x ∷ xs) h = ticks_from place m xs (omega (arith, h))
+
+tick_behind : (place : ℕ) (nodes : List Node) (old new all : List WorldEvent) → place < length nodes
+    → new ≡ old ++ Turn (place + 1) (Tick 5000) [] None ∷ []
+    → old ++ ticks (place + 1) (drop place nodes) ≡ all → new ++ ticks (place + 1 + 1) (drop (place + 1) nodes) ≡ all
+tick_behind place nodes old new all h e k =
+    ap (λ es. es ++ ticks (place + 1 + 1) (drop (place + 1) nodes)) e
+    ∙ (append_assoc old (Turn (place + 1) (Tick 5000) [] None ∷ []) (ticks (place + 1 + 1) (drop (place + 1) nodes))
+    ∙ (ap (λ es. old ++ es) (sym (ticks_from place (place + 1) nodes h)) ∙ k))
+
+pub tick_more : (place : ℕ) (r : Run) (old new all : List WorldEvent) → place < r.count
+    → new ≡ old ++ Turn (place + 1) (Tick 5000) [] None ∷ []
+    → old ++ ticks (place + 1) (drop place (world_of r).nodes) ≡ all → new ++ ticks (place + 1 + 1) (drop (place + 1) (world_of r).nodes) ≡ all
+tick_more place r old new all h e k = tick_behind place (world_of r).nodes old new all (omega (arith, h, nodes_counted r)) e k
+
+pub no_more_ticks : (nodes : List Node) (m : ℕ) (old all : List WorldEvent) → old ++ ticks m (drop (length nodes) nodes) ≡ all → old ≡ all
+no_more_ticks [] m old all e = none_behind old ∙ e
+no_more_ticks (x ∷ xs) m old all e = no_more_ticks xs m old all e
+
+pub all_ups : (r : Run) (m : ℕ) (old all : List WorldEvent) → old ++ ups m (drop r.count (world_of r).nodes) ≡ all → old ≡ all
+all_ups r m old all e =
+    no_more_ups (world_of r).nodes m old all (ap (λ k. old ++ ups m (drop k (world_of r).nodes)) (nodes_counted r) ∙ e)
+
+pub all_ticks : (r : Run) (m : ℕ) (old all : List WorldEvent) → old ++ ticks m (drop r.count (world_of r).nodes) ≡ all → old ≡ all
+all_ticks r m old all e =
+    no_more_ticks (world_of r).nodes m old all (ap (λ k. old ++ ticks m (drop k (world_of r).nodes)) (nodes_counted r) ∙ e)

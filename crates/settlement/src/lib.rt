@@ -1,0 +1,6 @@
+//! The events that bring a world to rest: each node that is down comes up, and then eight times each node ticks and all that it
+//! and the others post in answer is delivered.
+#![tactic(auto)]
+
+pub mod settle;
+mod settling;
