@@ -20,6 +20,8 @@ use Rattle.world_laws.specs.Runs.{clock_at, book_at, incarnation_at}
 use Rattle.world_laws.specs.Moves.{losses_of, steps_of}
 use Rattle.world_laws.specs.declared.posted.Counted.{Counted}
 use Rattle.world_laws.specs.declared.taken.Answer.{Answer}
+use Rattle.replay_cmd.specs.declared.course.Behind.{Behind}
+use Rattle.replay_cmd.specs.declared.course.Behind.TheVariants as behinds
 use Rattle.replay_cmd.specs.Delivered.{yes_at, lowest}
 use Rattle.replay_cmd.specs.Lines.{up_line, up_already_line, down_line, deliver_line, no_message_line, tick_line, refused_line, refusal_word, effect_line, message_line, end_line, summary_line}
 
@@ -59,6 +61,24 @@ result_line (Turn n (Deliver k) fates until) before behind steps = deliver_line 
 result_line (Turn n (Tick ms) fates until) before behind steps = tick_line n (or_zero (clock_at behind n)) (answer_of steps)
 result_line (Ask n l fates until) before behind steps = request_result l (book_at before n)
 result_line other before behind steps = []
+
+-- The same in two parts: what is seen before the event, and what is seen behind it.
+abbrev pub line_before : WorldEvent → World → List ℕ
+line_before (Ask n l fates until) before = request_result l (book_at before n)
+line_before (Crash n) before = down_line n (incarnation_at before n)
+line_before other before = []
+
+abbrev pub behind_of : World → WorldEvent → Behind
+behind_of before (Up n landed stop) = behinds.Up (incarnation_at before n)
+behind_of before (Turn n (Tick ms) fates until) = behinds.Tick
+behind_of before (Turn n (Deliver k) fates until) = behinds.Deliver k
+behind_of before other = behinds.Nothing
+
+abbrev pub line_behind : ℕ → Behind → World → List Counted → List ℕ
+line_behind n (behinds.Up was) behind steps = up_result n was (incarnation_at behind n)
+line_behind n behinds.Tick behind steps = tick_line n (or_zero (clock_at behind n)) (answer_of steps)
+line_behind n (behinds.Deliver k) behind steps = deliver_line k n (answer_of steps)
+line_behind n behinds.Nothing behind steps = []
 
 -- The lines of a step's effects.
 abbrev pub effect_lines : ℕ → List Effect → List ℕ

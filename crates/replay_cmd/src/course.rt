@@ -8,7 +8,7 @@ ghost use Rattle.world_laws.specs.Runs.{book_at, world_of};
 ghost use Rattle.world_laws.specs.Moves.{losses_of, steps_of};
 ghost use Rattle.replay_cmd.specs.Delivered.{lowest, yes_at};
 ghost use Rattle.replay_cmd.specs.Lines.{no_message_line};
-ghost use Rattle.replay_cmd.specs.ReportOf.{all_up, delivers, effect_lines, flushes, goes_to, happens, printed, receiver_in, request_result, step_lines, summed, up_result, whole, begun};
+ghost use Rattle.replay_cmd.specs.ReportOf.{all_up, delivers, effect_lines, flushes, goes_to, happens, line_before, line_behind, behind_of, printed, receiver_in, request_result, step_lines, summed, up_result, whole, begun};
 
 use crate::delivered::Delivered;
 use crate::endings::{push_ended, push_summed};
@@ -141,6 +141,108 @@ fn push_refusal(
     }
 }
 
+/// What the world shows of an event's result before it happens.
+fn push_before(
+    alloc: Global,
+    lines: &mut Lines,
+    world: &World,
+    event: &WorldEvent,
+) -> Result<(), AllocError>
+    ensures { OnOk result (lines.new ≡ lines.old ++ line_before (event_of event.now) (world_of world.now)) }
+{
+    match event {
+        WorldEvent::Ask { node, local, .. } => push_refusal(alloc, lines, world, *node, local),
+        WorldEvent::Crash { node } => lines.push_down(alloc, *node, world.incarnation(*node)),
+        WorldEvent::Turn { .. } | WorldEvent::Up { .. } => Ok(()),
+    }
+}
+
+/// What of an event's result is seen once it has happened.
+#[derive(Clone, Copy, Debug)]
+pub enum Behind {
+    /// The node came up; it was up in this incarnation before, or down.
+    Up { was: Option<u32> },
+    /// The time that a node's clock shows, and its answer.
+    Tick,
+    /// The answer to this message.
+    Deliver { number: u64 },
+    /// Nothing.
+    Nothing,
+}
+
+fn behind_of(world: &World, event: &WorldEvent) -> Behind
+    ensures { result ≡ behind_of (world_of world.now) (event_of event.now) }
+{
+    match event {
+        WorldEvent::Up { node, .. } => Behind::Up {
+            was: world.incarnation(*node),
+        },
+        WorldEvent::Turn {
+            input: Input::Tick(_),
+            ..
+        } => Behind::Tick,
+        WorldEvent::Turn {
+            input: Input::Deliver(number),
+            ..
+        } => Behind::Deliver { number: *number },
+        WorldEvent::Turn {
+            input: Input::Raw, ..
+        }
+        | WorldEvent::Ask { .. }
+        | WorldEvent::Crash { .. } => Behind::Nothing,
+    }
+}
+
+/// What the world shows of an event's result behind it.
+fn push_result(
+    alloc: Global,
+    lines: &mut Lines,
+    node: u8,
+    behind: Behind,
+    world: &World,
+    steps: &Steps,
+) -> Result<(), AllocError>
+    ensures { OnOk result (lines.new ≡ lines.old ++ line_behind node behind (world_of world.now) steps.now) }
+{
+    match behind {
+        Behind::Up { was } => push_start(alloc, lines, node, was, world.incarnation(node)),
+        Behind::Tick => {
+            let clock = world.clock(node).unwrap_or(0);
+            lines.push_tick(alloc, node, clock, answer_of(steps.as_slice()))
+        }
+        Behind::Deliver { number } => {
+            lines.push_deliver(alloc, number, node, answer_of(steps.as_slice()))
+        }
+        Behind::Nothing => Ok(()),
+    }
+}
+
+/// Adds what is printed of an event, from behind what the world showed before it.
+fn push_event(
+    alloc: Global,
+    lines: &mut Lines,
+    node: u8,
+    behind: Behind,
+    before: usize,
+    stepped: &Stepped,
+) -> Result<(), AllocError>
+    requires { before < 2 ^ 63 }
+    ensures { OnOk result
+        (lines.new ≡ lines.old ++ (line_behind node behind (world_of stepped.now.world) stepped.now.steps
+            ++ (step_lines node (before + 1) (drop before (world_of stepped.now.world).posted) stepped.now.steps ++ effect_lines node stepped.now.lost))) }
+{
+    push_result(alloc, lines, node, behind, &stepped.world, &stepped.steps)?;
+    push_behind(
+        alloc,
+        lines,
+        node,
+        before,
+        &stepped.world,
+        &stepped.steps,
+        &stepped.lost,
+    )
+}
+
 impl Course {
     /// A world of so many nodes, each of which is down.
     fn opening(alloc: Global, count: u8) -> Result<Course, AllocError>
@@ -154,9 +256,10 @@ impl Course {
         })
     }
 
-    /// A node comes up, where it is down.
-    pub fn up(self, alloc: Global, node: u8) -> Result<Course, AllocError>
-        ensures { IfOk result (λ c. c ≡ happens (up node) self) }
+    /// An event happens.
+    #[tactic(auto, using(crate::proofs::Printing::happened))]
+    pub fn happen(self, alloc: Global, event: WorldEvent) -> Result<Course, AllocError>
+        ensures { IfOk result (λ c. c ≡ happens (event_of event) self) }
     {
         let Course {
             world,
@@ -164,40 +267,37 @@ impl Course {
             mut lines,
         } = self;
         let before = world.all_posted().len();
-        let was = world.incarnation(node);
-        let event = WorldEvent::Up {
-            node,
-            landed: true,
-            stop: false,
-        };
-        let Stepped { world, steps, lost } = stepped(world, alloc, event)?;
-        push_start(alloc, &mut lines, node, was, world.incarnation(node))?;
-        push_behind(alloc, &mut lines, node, before, &world, &steps, &lost)?;
+        let node = event.node();
+        let behind = behind_of(&world, &event);
+        push_before(alloc, &mut lines, &world, &event)?;
+        let stepped = stepped(world, alloc, event)?;
+        push_event(alloc, &mut lines, node, behind, before, &stepped)?;
         Ok(Course {
-            world,
+            world: stepped.world,
             delivered,
             lines,
         })
+    }
+
+    /// A node comes up, where it is down.
+    pub fn up(self, alloc: Global, node: u8) -> Result<Course, AllocError>
+        ensures { IfOk result (λ c. c ≡ happens (up node) self) }
+    {
+        self.happen(
+            alloc,
+            WorldEvent::Up {
+                node,
+                landed: true,
+                stop: false,
+            },
+        )
     }
 
     /// A node goes down at rest.
     pub fn crash(self, alloc: Global, node: u8) -> Result<Course, AllocError>
         ensures { IfOk result (λ c. c ≡ happens (Crash node) self) }
     {
-        let Course {
-            world,
-            delivered,
-            mut lines,
-        } = self;
-        let before = world.all_posted().len();
-        lines.push_down(alloc, node, world.incarnation(node))?;
-        let Stepped { world, steps, lost } = stepped(world, alloc, WorldEvent::Crash { node })?;
-        push_behind(alloc, &mut lines, node, before, &world, &steps, &lost)?;
-        Ok(Course {
-            world,
-            delivered,
-            lines,
-        })
+        self.happen(alloc, WorldEvent::Crash { node })
     }
 
     /// So many nodes come up.
@@ -216,62 +316,20 @@ impl Course {
     pub fn ask(self, alloc: Global, node: u8, local: Local) -> Result<Course, AllocError>
         ensures { IfOk result (λ c. c ≡ happens (request node local) self) }
     {
-        let Course {
-            world,
-            delivered,
-            mut lines,
-        } = self;
-        let before = world.all_posted().len();
-        push_refusal(alloc, &mut lines, &world, node, &local)?;
-        let Stepped { world, steps, lost } = stepped(world, alloc, asking(alloc, node, local))?;
-        push_behind(alloc, &mut lines, node, before, &world, &steps, &lost)?;
-        Ok(Course {
-            world,
-            delivered,
-            lines,
-        })
+        self.happen(alloc, asking(alloc, node, local))
     }
 
     /// So many milliseconds go by at a node.
     pub fn tick(self, alloc: Global, node: u8, ms: u32) -> Result<Course, AllocError>
         ensures { IfOk result (λ c. c ≡ happens (tick_at node ms) self) }
     {
-        let Course {
-            world,
-            delivered,
-            mut lines,
-        } = self;
-        let before = world.all_posted().len();
-        let event = turn(alloc, node, Input::Tick(ms));
-        let Stepped { world, steps, lost } = stepped(world, alloc, event)?;
-        let clock = world.clock(node).unwrap_or(0);
-        lines.push_tick(alloc, node, clock, answer_of(steps.as_slice()))?;
-        push_behind(alloc, &mut lines, node, before, &world, &steps, &lost)?;
-        Ok(Course {
-            world,
-            delivered,
-            lines,
-        })
+        self.happen(alloc, turn(alloc, node, Input::Tick(ms)))
     }
 
     fn deliver_to(self, alloc: Global, number: u64, node: u8) -> Result<Course, AllocError>
         ensures { IfOk result (λ c. c ≡ happens (deliver_to node number) self) }
     {
-        let Course {
-            world,
-            delivered,
-            mut lines,
-        } = self;
-        let before = world.all_posted().len();
-        let event = turn(alloc, node, Input::Deliver(number));
-        let Stepped { world, steps, lost } = stepped(world, alloc, event)?;
-        lines.push_deliver(alloc, number, node, answer_of(steps.as_slice()))?;
-        push_behind(alloc, &mut lines, node, before, &world, &steps, &lost)?;
-        Ok(Course {
-            world,
-            delivered,
-            lines,
-        })
+        self.happen(alloc, turn(alloc, node, Input::Deliver(number)))
     }
 
     fn no_message(self, alloc: Global, number: u64) -> Result<Course, AllocError>
