@@ -1,6 +1,7 @@
 //! How a world ended, on a line.
 
 ghost use Rattle.std.specs.Prelude.{◌≡◌, ◌++◌, OnOk};
+ghost use Rattle.at_base.specs.declared.outs.Ending.TheVariants.{Committed, Aborted, Lost};
 ghost use Rattle.world_laws.specs.Runs.{world_of};
 ghost use Rattle.replay_cmd.specs.ReportOf.{ended, ended_so, ends_so, is_ending, summed};
 
@@ -50,13 +51,37 @@ fn ended_so(how: Ending, effects: &[NodeEffect]) -> usize
     count
 }
 
-/// Adds the last line of a report.
-pub fn push_ended(alloc: Global, lines: &mut Lines, world: &World) -> Result<(), AllocError>
-    ensures { OnOk result (lines.new ≡ lines.old ++ ended (world_of world.now)) }
+/// How many subordinates and durable leaves ended in each way.
+struct Ends {
+    committed: usize,
+    aborted: usize,
+    lost: usize,
+}
+
+fn ends_in(world: &World) -> Ends
+    ensures committed { result.committed ≡ ended_so Committed (world_of world.now).happened }
+    ensures aborted { result.aborted ≡ ended_so Aborted (world_of world.now).happened }
+    ensures lost { result.lost ≡ ended_so Lost (world_of world.now).happened }
 {
     let committed = ended_so(Ending::Committed, world.effects());
     let aborted = ended_so(Ending::Aborted, world.effects());
     let lost = ended_so(Ending::Lost, world.effects());
+    Ends {
+        committed,
+        aborted,
+        lost,
+    }
+}
+
+/// Adds the last line of a report.
+pub fn push_ended(alloc: Global, lines: &mut Lines, world: &World) -> Result<(), AllocError>
+    ensures { OnOk result (lines.new ≡ lines.old ++ ended (world_of world.now)) }
+{
+    let Ends {
+        committed,
+        aborted,
+        lost,
+    } = ends_in(world);
     lines.push_end(alloc, world.all_posted().len(), committed, aborted, lost)
 }
 
@@ -69,9 +94,11 @@ pub fn push_summed(
 ) -> Result<(), AllocError>
     ensures { OnOk result (lines.new ≡ lines.old ++ summed steps (world_of world.now)) }
 {
-    let committed = ended_so(Ending::Committed, world.effects());
-    let aborted = ended_so(Ending::Aborted, world.effects());
-    let lost = ended_so(Ending::Lost, world.effects());
+    let Ends {
+        committed,
+        aborted,
+        lost,
+    } = ends_in(world);
     let messages = world.all_posted().len();
     lines.push_summary(alloc, steps, messages, committed, aborted, lost)
 }

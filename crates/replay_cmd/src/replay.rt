@@ -133,6 +133,17 @@ fn ran(alloc: Global, schedule: &Schedule) -> Result<Course, AllocError>
     take_lines(course, alloc, lines)
 }
 
+fn reported(alloc: Global, schedule: &Schedule) -> Result<Report, AllocError>
+    requires { IsReplayable schedule.now }
+    ensures text { IfOk result (λ report. report.text ≡ report_of schedule.now) }
+    ensures files { IfOk result (λ report. report.files ≡ replicate (nodes_of schedule.now) []) }
+{
+    let files = empty_files(alloc, nodes_of(schedule.as_slice()))?;
+    let course = ran(alloc, schedule)?;
+    let text = course.whole(alloc)?;
+    Ok(Report { text, files })
+}
+
 /// The report of a schedule. Its world is that of a run, and what holds of every run holds of it (`safe`): no two participants of
 /// one transaction ended differently, through any depth of interposition (WS-AtomicTransaction 1.2, section 1).
 pub fn replay(alloc: Global, schedule: &Schedule) -> Result<Report, AllocError>
@@ -142,10 +153,7 @@ pub fn replay(alloc: Global, schedule: &Schedule) -> Result<Report, AllocError>
     ensures safe { IsSafe (nodes_of schedule.now) (world_of schedule.now) }
 {
     reports_are_safe();
-    let files = empty_files(alloc, nodes_of(schedule.as_slice()))?;
-    let course = ran(alloc, schedule)?;
-    let text = course.whole(alloc)?;
-    Ok(Report { text, files })
+    reported(alloc, schedule)
 }
 
 /// The schedule of a seed.
@@ -159,6 +167,15 @@ fn made(alloc: Global, seed: u64, steps: u16) -> Result<Schedule, AllocError>
     Ok(schedule)
 }
 
+fn summed(alloc: Global, seed: u64, steps: u16) -> Result<Lines, AllocError>
+    requires { steps ≤ 9999 }
+    ensures { IfOk result (λ lines. lines ≡ summary_of seed steps) }
+{
+    let schedule = made(alloc, seed, steps)?;
+    let course = ran(alloc, &schedule)?;
+    course.summed(alloc, steps)
+}
+
 /// How the schedule of a seed, of at most 9,999 lines, comes out, on one line: how many messages there were, and how many
 /// subordinates and durable participants ended in each way. What holds of every run holds of its world too (`safe`).
 pub fn summary(alloc: Global, seed: u64, steps: u16) -> Result<Lines, AllocError>
@@ -167,7 +184,5 @@ pub fn summary(alloc: Global, seed: u64, steps: u16) -> Result<Lines, AllocError
     ensures safe { IsSafe 4 (world_of (made seed steps)) }
 {
     reports_are_safe();
-    let schedule = made(alloc, seed, steps)?;
-    let course = ran(alloc, &schedule)?;
-    course.summed(alloc, steps)
+    summed(alloc, seed, steps)
 }
