@@ -1,5 +1,5 @@
 -- Lists of events, one after another.
-use Rattle.std.proofs.Common.{ℕ, zero, suc, ◌+◌, ◌-◌, ◌<◌, ◌≡◌, refl, List, [], ◌∷◌, ◌++◌, length, map, drop, ap, ◌∙◌, sym, arith}
+use Rattle.std.proofs.Common.{ℕ, zero, suc, ◌+◌, ◌-◌, ◌<◌, ◌≤◌, ◌≡◌, refl, List, [], ◌∷◌, ◌++◌, length, map, drop, ap, ◌∙◌, sym, arith}
 use Rattle.std.proofs.lemmas.List.{append-nil, append_assoc, map-append}
 use Rattle.std.specs.Prelude.{None, option_and_then}
 use Rattle.at_model.specs.World.{Node, Tick, Turn, WorldEvent, nth, run_of}
@@ -28,7 +28,10 @@ ups_from zero m (x ∷ xs) h = refl
 ups_from (suc place) m (x ∷ xs) h =
     let less : suc place + 1 - 1 ≡ place + 1 = omega arith in
     let found : nth (place + 1) xs ≡ nth (suc place + 1) (x ∷ xs) = ap (λ k. nth k xs) (sym less) ∙ sym (nth_behind (suc place + 1) x xs (omega arith)) in
-    ups_from place m xs (omega (arith, h)) ∙ ap (λ o. up_if m (option_and_then book_of o) ++ ups (m + 1) (drop (place + 1) xs)) found
+    let more : suc (place + 1) ≡ suc place + 1 = omega arith in
+    ups_from place m xs (omega (arith, h))
+    ∙ (ap (λ o. up_if m (option_and_then book_of o) ++ ups (m + 1) (drop (place + 1) xs)) found
+    ∙ ap (λ k. up_if m (option_and_then book_of (nth (suc place + 1) (x ∷ xs))) ++ ups (m + 1) (drop k (x ∷ xs))) more)
 
 -- one node more
 up_behind : (place : ℕ) (nodes : List Node) (old new all : List WorldEvent) → place < length nodes
@@ -44,15 +47,19 @@ pub up_more : (place : ℕ) (r : Run) (old new all : List WorldEvent) → place 
     → old ++ ups (place + 1) (drop place (world_of r).nodes) ≡ all → new ++ ups (place + 1 + 1) (drop (place + 1) (world_of r).nodes) ≡ all
 up_more place r old new all h e k = up_behind place (world_of r).nodes old new all (omega (arith, h, nodes_counted r)) e k
 
-pub no_more_ups : (nodes : List Node) (m : ℕ) (old all : List WorldEvent) → old ++ ups m (drop (length nodes) nodes) ≡ all → old ≡ all
-no_more_ups [] m old all e = none_behind old ∙ e
-no_more_ups (x ∷ xs) m old all e = no_more_ups xs m old all e
+no_more_ups : (nodes : List Node) (place m : ℕ) (old all : List WorldEvent) → length nodes ≤ place → old ++ ups m (drop place nodes) ≡ all → old ≡ all
+no_more_ups [] zero m old all h e = none_behind old ∙ e
+no_more_ups [] (suc place) m old all h e = none_behind old ∙ e
+no_more_ups (x ∷ xs) zero m old all h e = absurd (omega (arith, h))
+no_more_ups (x ∷ xs) (suc place) m old all h e = no_more_ups xs place m old all (omega (arith, h)) e
 
 ticks_from : (place m : ℕ) (nodes : List Node) → place < length nodes
     → ticks m (drop place nodes) ≡ Turn m (Tick 5000) [] None ∷ ticks (m + 1) (drop (place + 1) nodes)
 ticks_from place m [] h = absurd (omega (arith, h))
 ticks_from zero m (x ∷ xs) h = refl
-ticks_from (suc place) m (x ∷ xs) h = ticks_from place m xs (omega (arith, h))
+ticks_from (suc place) m (x ∷ xs) h =
+    let more : suc (place + 1) ≡ suc place + 1 = omega arith in
+    ticks_from place m xs (omega (arith, h)) ∙ ap (λ k. Turn m (Tick 5000) [] None ∷ ticks (m + 1) (drop k (x ∷ xs))) more
 
 tick_behind : (place : ℕ) (nodes : List Node) (old new all : List WorldEvent) → place < length nodes
     → new ≡ old ++ Turn (place + 1) (Tick 5000) [] None ∷ []
@@ -67,14 +74,14 @@ pub tick_more : (place : ℕ) (r : Run) (old new all : List WorldEvent) → plac
     → old ++ ticks (place + 1) (drop place (world_of r).nodes) ≡ all → new ++ ticks (place + 1 + 1) (drop (place + 1) (world_of r).nodes) ≡ all
 tick_more place r old new all h e k = tick_behind place (world_of r).nodes old new all (omega (arith, h, nodes_counted r)) e k
 
-pub no_more_ticks : (nodes : List Node) (m : ℕ) (old all : List WorldEvent) → old ++ ticks m (drop (length nodes) nodes) ≡ all → old ≡ all
-no_more_ticks [] m old all e = none_behind old ∙ e
-no_more_ticks (x ∷ xs) m old all e = no_more_ticks xs m old all e
+no_more_ticks : (nodes : List Node) (place m : ℕ) (old all : List WorldEvent) → length nodes ≤ place → old ++ ticks m (drop place nodes) ≡ all → old ≡ all
+no_more_ticks [] zero m old all h e = none_behind old ∙ e
+no_more_ticks [] (suc place) m old all h e = none_behind old ∙ e
+no_more_ticks (x ∷ xs) zero m old all h e = absurd (omega (arith, h))
+no_more_ticks (x ∷ xs) (suc place) m old all h e = no_more_ticks xs place m old all (omega (arith, h)) e
 
-pub all_ups : (r : Run) (m : ℕ) (old all : List WorldEvent) → old ++ ups m (drop r.count (world_of r).nodes) ≡ all → old ≡ all
-all_ups r m old all e =
-    no_more_ups (world_of r).nodes m old all (ap (λ k. old ++ ups m (drop k (world_of r).nodes)) (nodes_counted r) ∙ e)
+pub all_ups : (r : Run) (place m : ℕ) (old all : List WorldEvent) → r.count ≤ place → old ++ ups m (drop place (world_of r).nodes) ≡ all → old ≡ all
+all_ups r place m old all h e = no_more_ups (world_of r).nodes place m old all (omega (arith, h, nodes_counted r)) e
 
-pub all_ticks : (r : Run) (m : ℕ) (old all : List WorldEvent) → old ++ ticks m (drop r.count (world_of r).nodes) ≡ all → old ≡ all
-all_ticks r m old all e =
-    no_more_ticks (world_of r).nodes m old all (ap (λ k. old ++ ticks m (drop k (world_of r).nodes)) (nodes_counted r) ∙ e)
+pub all_ticks : (r : Run) (place m : ℕ) (old all : List WorldEvent) → r.count ≤ place → old ++ ticks m (drop place (world_of r).nodes) ≡ all → old ≡ all
+all_ticks r place m old all h e = no_more_ticks (world_of r).nodes place m old all (omega (arith, h, nodes_counted r)) e

@@ -1,20 +1,21 @@
 -- Rounds, one after another, each of which delivers until nothing is left.
 use Rattle.std.proofs.Common.{ℕ, zero, suc, ◌+◌, ◌-◌, ◌<◌, ◌≡◌, refl, List, [], ◌∷◌, length, drop, ap, ◌∙◌, sym, subst, arith}
 use Rattle.std.specs.Prelude.{Option, Some, None}
-use Rattle.at_model.specs.World.{Deliver, Posted, Turn}
+use Rattle.at_model.specs.World.{Deliver, Posted, Turn, WorldEvent}
 use Rattle.model_laws.specs.Settle.{Settling, all_also, also, first_received, received_or, settle_round, settle_rounds, ticks}
 use Rattle.settling.specs.Drains.{Delivers, IsDrained}
+use Rattle.settling.specs.Drains.Delivers.{none_left, one_more}
 
 pub rounds_step : (n most : ℕ) (s : Settling) → settle_rounds (suc n) most s ≡ settle_round most (settle_rounds n most s)
 unfolding settle_rounds
 rounds_step zero most s = refl
 rounds_step (suc n) most s = rounds_step n most (settle_round most s)
 
-place_of : Option (ℕ × ℕ) → ℕ
+abbrev place_of : Option (ℕ × ℕ) → ℕ
 place_of None = 0
 place_of (Some p) = p.0
 
-node_of : Option (ℕ × ℕ) → ℕ
+abbrev node_of : Option (ℕ × ℕ) → ℕ
 node_of None = 0
 node_of (Some p) = p.1
 
@@ -27,9 +28,8 @@ one_end a b j s (none_left e f) (none_left g h) = f ∙ sym h
 one_end a b j s (none_left e f) (one_more k n g more) = absurd (some_or_none _ _ e g)
 one_end a b j s (one_more k n e rest) (none_left g h) = absurd (some_or_none _ _ g e)
 one_end a b j s (one_more k n e rest) (one_more l m f more) =
-    let same : Some {A = ℕ × ℕ} (k, n) ≡ Some (l, m) = sym e ∙ f in
-    let number : k ≡ l = ap place_of same in
-    let node : n ≡ m = ap node_of same in
+    let number : k ≡ l = ap place_of (sym e ∙ f) in
+    let node : n ≡ m = ap node_of (sym e ∙ f) in
     one_end a b k (also (Turn n (Deliver k) [] None) s) rest
     (subst (λ x. Delivers b x (also (Turn n (Deliver k) [] None) s)) (sym number)
     (subst (λ x. Delivers b l (also (Turn n (Deliver x) [] None) s)) (sym number)
@@ -53,3 +53,12 @@ passed_by j ps p rest e f = ap (first_received j) e ∙ ap (λ o. received_or j 
 pub no_round : (most : ℕ) (s : Settling) → s ≡ settle_rounds 0 most s
 unfolding settle_rounds
 no_round most s = refl
+
+-- one message is delivered, and then the rest
+pub one_delivered :
+    (last s t : Settling) (j k n : ℕ) (e : WorldEvent) → Some (k, n) ≡ first_received (j + 1) (drop j s.world.posted) → e ≡ Turn n (Deliver k) [] None
+    → t ≡ also e s → Delivers last k t → Delivers last j s
+one_delivered last s t j k n e found is t_is d = one_more k n (sym found) (subst (Delivers last k) (t_is ∙ ap (λ x. also x s) is) d)
+
+pub all_delivered : (s : Settling) (j : ℕ) → None ≡ first_received (j + 1) (drop j s.world.posted) → Delivers s j s
+all_delivered s j none = none_left (sym none) refl

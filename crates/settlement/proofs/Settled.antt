@@ -7,14 +7,14 @@ use Rattle.settling.specs.Drains.{Drains, IsDrained}
 use Rattle.world_laws.specs.Events.{event_of}
 use Rattle.world_laws.specs.Runs.{Run, world_of}
 
-granted_of : World → ℕ
+abbrev pub granted_of : World → ℕ
 granted_of w = most_deliveries (waiting (all_up w).world)
 
 -- the events of the eight rounds are the model's
 pub settles : (r : Run) (es : List WorldEvent) → Drains
     → ((most : ℕ) → ((n : ℕ) → n < 8 → IsDrained most (settle_rounds n most (all_up (world_of r)))) → es ≡ (settle_rounds 8 most (all_up (world_of r))).events)
     → es ≡ settle (world_of r)
-unfolding world_of, settle, settled, settle_from
+unfolding world_of settle settled settle_from
 settles r es h are = are (granted_of (world_of r)) (h.rounds r.count (map event_of r.events))
 
 pub are_few : (r : Run) → Drains → length (settle (world_of r)) ≤ settle_bound (world_of r)

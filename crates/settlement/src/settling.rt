@@ -90,7 +90,6 @@ fn keep_up(events: &mut Vec<WorldEvent>, world: &World, node: u8) -> Result<(), 
 }
 
 /// Up for each node that is down.
-#[tactic(auto, using(crate::proofs::Events::up_more, crate::proofs::Events::all_ups))]
 fn ups(alloc: Global, world: &World) -> Result<Vec<WorldEvent>, AllocError>
     ensures { IfOk result (λ events. map event_of events.items ≡ ups 1 (world_of world.now).nodes) }
 {
@@ -102,7 +101,6 @@ fn ups(alloc: Global, world: &World) -> Result<Vec<WorldEvent>, AllocError>
 }
 
 /// A tick of each node.
-#[tactic(auto, using(crate::proofs::Events::tick_more, crate::proofs::Events::all_ticks))]
 fn ticks(alloc: Global, world: &World) -> Result<Vec<WorldEvent>, AllocError>
     ensures { IfOk result (λ events. map event_of events.items ≡ ticks 1 (world_of world.now).nodes) }
 {
@@ -119,7 +117,8 @@ fn next_in(posted: &[Posted], passed: usize) -> Option<(u64, u8)>
     ensures behind { IfSome result (λ p. (passed < p.0) × (p.0 ≤ length posted.now)) }
 {
     for place in passed..posted.len() {
-        if let Some(node) = posted[place].receiver {
+        let message = &posted[place];
+        if let Some(node) = message.receiver {
             return Some((place as u64 + 1, node));
         }
     }
@@ -184,17 +183,27 @@ impl Settling {
         self.all_also(alloc, events.as_slice())
     }
 
+    fn next(&self, passed: usize) -> Option<(u64, u8)>
+        ensures { result ≡ first_received (passed + 1) (drop passed self.now.world.posted) }
+    {
+        next_in(self.world.all_posted(), passed)
+    }
+
     /// Messages are delivered, behind so many that are passed by, until none is left that has a receiver.
     fn deliver_all(self, alloc: Global, passed: usize) -> Result<Settling, AllocError>
         ensures { IfOk result (λ s. Delivers s passed self) }
     {
         let mut settling = self;
-        let mut passed = passed;
-        while let Some((number, node)) = next_in(settling.world.all_posted(), passed) {
-            settling = settling.also(alloc, deliver(alloc, number, node))?;
-            passed = number as usize;
+        let mut behind = passed;
+        loop {
+            match settling.next(behind) {
+                Some((number, node)) => {
+                    settling = settling.also(alloc, deliver(alloc, number, node))?;
+                    behind = number as usize;
+                }
+                None => return Ok(settling),
+            }
         }
-        Ok(settling)
     }
 
     /// Each node ticks, and what they post is delivered, and what is posted then.

@@ -3,8 +3,8 @@ use Rattle.model_laws.specs.Settle.{Settling}
 use Rattle.settling.specs.Drains.{Delivers}
 use Rattle.settlement.proofs.settling.Settling.deliver_all.Given as goal
 
-abbrev pub invariant-loop : goal.invariant-loop
-invariant-loop l = (last : Settling) → Delivers last l.passed l.settling → Delivers last l.fn.passed l.fn.self
+abbrev pub invariant-loop-number : goal.invariant-loop-number
+invariant-loop-number l = (last : Settling) → Delivers last l.behind l.settling → Delivers last l.fn.passed l.fn.self
 
-abbrev pub decreases-loop : goal.decreases-loop
-decreases-loop l = 4294967295 - length l.settling.events
+abbrev pub decreases-loop-number : goal.decreases-loop-number
+decreases-loop-number l = 4294967295 - length l.settling.events
