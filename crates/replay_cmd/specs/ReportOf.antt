@@ -1,5 +1,5 @@
 -- The report of a schedule: what its lines do to a world, and what is printed of that.
-use Rattle.std.specs.Prelude.{ℕ, List, [], ◌∷◌, ◌++◌, Option, Some, None, Bool, true, false, ◌&&◌, ◌+◌, ◌-◌, zero, suc, length, map, min, take, drop, filter, option_map, codes}
+use Rattle.std.specs.Prelude.{ℕ, List, [], ◌∷◌, ◌++◌, Option, Some, None, Bool, true, false, ◌&&◌, ◌+◌, ◌-◌, zero, suc, length, min, take, drop, filter, option_map, codes}
 use Rattle.at_base.specs.declared.event.Local.{Local}
 use Rattle.at_base.specs.declared.event.Local.TheVariants as locals
 use Rattle.at_base.specs.declared.notice.Kind.TheVariants as kinds

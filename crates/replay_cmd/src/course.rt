@@ -186,7 +186,8 @@ fn behind_of(world: &World, event: &WorldEvent) -> Behind
             ..
         } => Behind::Deliver { number: *number },
         WorldEvent::Turn {
-            input: Input::Raw, ..
+            input: Input::Raw,
+            ..
         }
         | WorldEvent::Ask { .. }
         | WorldEvent::Crash { .. } => Behind::Nothing,
@@ -229,7 +230,7 @@ fn push_event(
     requires { before < 2 ^ 63 }
     ensures { OnOk result
         (lines.new ≡ lines.old ++ (line_behind node behind (world_of stepped.now.world) stepped.now.steps
-            ++ (step_lines node (before + 1) (drop before (world_of stepped.now.world).posted) stepped.now.steps ++ effect_lines node stepped.now.lost))) }
+        ++ (step_lines node (before + 1) (drop before (world_of stepped.now.world).posted) stepped.now.steps ++ effect_lines node stepped.now.lost))) }
 {
     push_result(alloc, lines, node, behind, &stepped.world, &stepped.steps)?;
     push_behind(

@@ -1,5 +1,5 @@
 -- What the generator makes is a schedule.
-use Rattle.std.proofs.Common.{ℕ, zero, suc, ◌+◌, ◌-◌, ◌/◌, ◌%◌, ◌^◌, ◌≡◌, ◌≤◌, ◌<◌, refl, List, [], ◌∷◌, ◌++◌, Bool, true, false, if◌then◌else◌, length, ap, ◌∙◌, sym, subst, arith, nat_eq, nat_lt}
+use Rattle.std.proofs.Common.{ℕ, zero, suc, ◌+◌, ◌-◌, ◌%◌, ◌≡◌, ◌≤◌, ◌<◌, refl, List, [], ◌∷◌, ◌++◌, Bool, true, false, if◌then◌else◌, length, ap, ◌∙◌, sym, subst, arith, nat_eq, nat_lt}
 use Rattle.std.proofs.lemmas.Nat.{mod_below}
 use Rattle.std.proofs.lemmas.List.{append_assoc}
 use Rattle.std.specs.List.{AllByRecursion}
@@ -8,7 +8,7 @@ use Rattle.at_base.specs.declared.notice.Kind.{Kind}
 use Rattle.at_base.specs.declared.notice.Kind.TheVariants as kinds
 use Rattle.schedules.specs.declared.line.Line.{Line}
 use Rattle.schedules.specs.declared.line.Line.TheVariants as lines
-use Rattle.schedules.specs.Generator.{Made, activity, asking, a_begin, a_work, chosen, disturbing, drawn, lines_from, made, message, next, next_line, other_node, plain, with_draw}
+use Rattle.schedules.specs.Generator.{Made, activity, asking, a_work, chosen, disturbing, drawn, lines_from, made, message, next, next_line, other_node, with_draw}
 use Rattle.schedules.specs.Written.{IsNext, IsNode, IsSchedule}
 
 abbrev IsFit : Made → Type 0

@@ -10,7 +10,9 @@ use at_base::notice::{Kind, Vote};
 use std::alloc::{AllocError, Global};
 
 const MULTIPLIER: u128 = 6_364_136_223_846_793_005;
+
 const INCREMENT: u128 = 1_442_695_040_888_963_407;
+
 const STATES: u128 = 18_446_744_073_709_551_616;
 
 /// The state behind a draw.

@@ -1,5 +1,5 @@
 -- Rounds, one after another, each of which delivers until nothing is left.
-use Rattle.std.proofs.Common.{ℕ, zero, suc, ◌+◌, ◌-◌, ◌<◌, ◌≡◌, refl, List, [], ◌∷◌, length, drop, ap, ◌∙◌, sym, subst, arith}
+use Rattle.std.proofs.Common.{ℕ, zero, suc, ◌+◌, ◌<◌, ◌≡◌, refl, List, [], ◌∷◌, length, drop, ap, ◌∙◌, sym, subst, arith}
 use Rattle.std.specs.Prelude.{Option, Some, None}
 use Rattle.at_model.specs.World.{Deliver, Posted, Turn, WorldEvent}
 use Rattle.model_laws.specs.Settle.{Settling, all_also, also, first_received, received_or, settle_round, settle_rounds, ticks}
@@ -42,7 +42,7 @@ pub round_more : (i most : ℕ) (start now next : Settling) → i < 8
 round_more i most start now next h drained e d =
     let more : i + 1 ≡ suc i = omega arith in
     let own : Delivers (settle_round most now) (length now.world.posted) (all_also (ticks 1 now.world.nodes) now) =
-        subst (IsDrained most) (sym e) (drained i h) in
+    subst (IsDrained most) (sym e) (drained i h) in
     one_end next (settle_round most now) _ _ d own
     ∙ (ap (settle_round most) e ∙ (sym (rounds_step i most start) ∙ ap (λ n. settle_rounds n most start) (sym more)))
 

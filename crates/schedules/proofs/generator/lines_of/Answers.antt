@@ -1,4 +1,3 @@
-use Rattle.std.proofs.Common.{rules}
 use Rattle.schedules.specs.Generator.{made}
 use Rattle.schedules.proofs.Made.{one_more}
 use Rattle.schedules.proofs.generator.lines_of.Goals as goal

@@ -1,5 +1,4 @@
-use Rattle.std.proofs.Common.{◌≡◌, ◌++◌, ◌∷◌, ◌-◌}
-use Rattle.schedules.specs.declared.line.Line.TheVariants as variants
+use Rattle.std.proofs.Common.{◌≡◌, ◌++◌, ◌-◌}
 use Rattle.schedules.specs.Generator.{lines_from, made}
 use Rattle.schedules.proofs.generator.lines_of.Given as goal
 

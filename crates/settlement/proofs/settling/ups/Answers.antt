@@ -1,5 +1,5 @@
 use Rattle.std.specs.Prelude.{◌+◌, ◌<◌, map}
-use Rattle.std.proofs.Common.{arith, subst, sym}
+use Rattle.std.proofs.Common.{arith, subst}
 use Rattle.model_laws.specs.Settle.{ups}
 use Rattle.world_laws.specs.Events.{event_of}
 use Rattle.world_laws.specs.Runs.{world_of}

@@ -1,4 +1,4 @@
-use Rattle.std.specs.Prelude.{ℕ, ◌-◌, length}
+use Rattle.std.specs.Prelude.{◌-◌, length}
 use Rattle.model_laws.specs.Settle.{Settling}
 use Rattle.settling.specs.Drains.{Delivers}
 use Rattle.settlement.proofs.settling.Settling.deliver_all.Given as goal
