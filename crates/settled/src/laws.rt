@@ -1,7 +1,7 @@
 //! Settling over every run.
 
 /// Nothing yet.
-#[tactic(auto, using(crate::proofs::Meeting::still_committing))]
+#[tactic(auto, using(crate::proofs::Votes::vote_on))]
 pub fn settles()
     ensures { Unit {0} }
 {}
