@@ -1,3 +1,5 @@
 pub mod Going
 pub mod Meeting
 pub mod Votes
+pub mod VotesKept
+pub mod Commits

@@ -1,7 +1,7 @@
 //! Settling over every run.
 
 /// Nothing yet.
-#[tactic(auto, using(crate::proofs::Votes::vote_on))]
+#[tactic(auto, using(crate::proofs::VotesKept::votes_kept, crate::proofs::Commits::commits_kept))]
 pub fn settles()
     ensures { Unit {0} }
 {}
