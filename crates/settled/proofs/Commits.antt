@@ -39,8 +39,8 @@ use Rattle.votes.proofs.Joint.{outcomes_are_backed, votes_are_kept}
 use Rattle.paired.specs.Paired.{IsPlace, participant_of, seat_of}
 use Rattle.paired.proofs.Pairing.{partners_are_paired}
 use Rattle.settled.specs.Goes.{Goes}
-use Rattle.settled.specs.Owed.{Comes, CommitsAreOwed, CommitsAt, Holds, IsNotice, IsNoticeFrom, OwesCommitted, seat_target_of}
-use Rattle.settled.proofs.Going.{IsSeatPlace, book_after, held_elsewhere, holds_after, holds_before, holds_elsewhere, or_arrives, or_elsewhere, posted_in, ready, same_book, seat_asks, seat_told, shaped, stepping}
+use Rattle.settled.specs.Owed.{IsSeatPlace, Comes, CommitsAreOwed, CommitsAt, Holds, IsNotice, IsNoticeFrom, OwesCommitted, seat_target_of}
+use Rattle.settled.proofs.Going.{book_after, held_elsewhere, holds_after, holds_before, holds_elsewhere, or_arrives, or_elsewhere, posted_in, ready, same_book, seat_asks, seat_told, shaped, stepping}
 use Rattle.settled.proofs.Meeting.{found_own, known_is, leaf_knows, leaf_own, left_committing, link_knows, seat_has, seat_place, shape_at, still_committing, stored_is}
 use Rattle.settled.proofs.VotesKept.{Partner, StoodBefore, stood}
 

@@ -34,7 +34,7 @@ use Rattle.owed.specs.Shape.{AreShaped}
 use Rattle.owed.proofs.Books.{reached_shaped}
 use Rattle.paired.specs.Paired.{IsPlace, IsSeat, participant_of, seat_of}
 use Rattle.settled.specs.Goes.{Goes, HasArrived, posted_as}
-use Rattle.settled.specs.Owed.{Comes, Holds, IsNotice, IsNoticeFrom, seat_target_of}
+use Rattle.settled.specs.Owed.{Comes, Holds, IsNotice, IsNoticeFrom, IsSeatPlace, seat_target_of}
 
 pub stepping : (count : ℕ) (u v : World) (before after : List Posted) → (g : Goes count u v before after) → Stepping count u g.number g.node g.book g.event g.now true
 stepping count u v before after g = record { small = g.small; reached = g.reached; found = g.found; up = g.up; heard = g.heard }
@@ -153,11 +153,6 @@ new_comes count u v before after g n p to T i goes leads taken = record {
 pub leads_participant : (count : ℕ) (x : Who) (kind : Kind) (e : Epr) → count < 2 ^ 64 → IsPlace count x → e ≡ participant_of x kind → LeadsTo count e x.node (targets.Participant x.id kind)
 leads_participant count x kind e small h is =
     subst (λ y. LeadsTo count y x.node (targets.Participant x.id kind)) (sym is) (leads_home count x.node (targets.Participant x.id kind) small h.least h.most h.id)
-
-pub record IsSeatPlace (count : ℕ) (t : Who) (number : ℕ) : Type 0 where
-  pub place : IsPlace count t
-  pub least : 1 ≤ number
-  pub most : number < 2 ^ 16
 
 pub leads_seat : (count : ℕ) (t : Who) (number : ℕ) (kind : Kind) → count < 2 ^ 64 → IsSeatPlace count t number → LeadsTo count (seat_of t number kind) t.node (seat_target_of t number kind)
 leads_seat count t number kind small h = leads_home count t.node (seat_target_of t number kind) small h.place.least h.place.most (h.place.id, h.least, h.most)

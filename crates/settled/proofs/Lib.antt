@@ -3,3 +3,5 @@ pub mod Meeting
 pub mod Votes
 pub mod VotesKept
 pub mod Commits
+pub mod Stood
+pub mod Outcomes

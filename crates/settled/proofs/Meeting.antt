@@ -37,8 +37,8 @@ use Rattle.paired.specs.Paired.{IsPaired, IsPlace, IsSeat, IsSeatIfKnown, partic
 use Rattle.paired.proofs.Homes.{node_range}
 use Rattle.paired.proofs.Pairing.{partners_are_paired}
 use Rattle.settled.specs.Goes.{Goes}
-use Rattle.settled.specs.Owed.{CommitsAt, Holds, IsBusyAt}
-use Rattle.settled.proofs.Going.{IsSeatPlace, book_after, holds_after, posted_in}
+use Rattle.settled.specs.Owed.{IsSeatPlace, CommitsAt, Holds, IsBusyAt}
+use Rattle.settled.proofs.Going.{book_after, holds_after, posted_in}
 
 -- what is found by an id
 pub found_own : (b : Book) (id : Numbers) (t : Transaction) → transaction_at b id ≡ Some t → transaction_at b t.id ≡ Some t

@@ -47,8 +47,8 @@ use Rattle.paired.specs.Paired.{IsPlace, participant_of, seat_of}
 use Rattle.paired.proofs.Pairing.{partners_are_paired}
 use Rattle.settled.specs.Behind.{IsAskedBy, PreparesAreBehind}
 use Rattle.settled.specs.Goes.{Goes}
-use Rattle.settled.specs.Owed.{AnswersOnWay, Comes, HasRegistered, Holds, IsBusyAt, IsNotice, IsNoticeFrom, OwesVote, VotesAreOwed, seat_target_of}
-use Rattle.settled.proofs.Going.{IsSeatPlace, book_after, comes_as, held_elsewhere, holds_after, holds_before, holds_elsewhere, or_arrives, or_elsewhere, posted_in, ready, same_book, seat_asks, seat_told, shaped, stepping}
+use Rattle.settled.specs.Owed.{IsSeatPlace, AnswersOnWay, Comes, HasRegistered, Holds, IsBusyAt, IsNotice, IsNoticeFrom, OwesVote, VotesAreOwed, seat_target_of}
+use Rattle.settled.proofs.Going.{book_after, comes_as, held_elsewhere, holds_after, holds_before, holds_elsewhere, or_arrives, or_elsewhere, posted_in, ready, same_book, seat_asks, seat_told, shaped, stepping}
 use Rattle.settled.proofs.Meeting.{found_own, in_book, known_is, leaf_knows, leaf_own, left_busy, link_knows, same_transaction, seat_has, seat_place, shape_at, still_busy, stored_is}
 
 -- a seat that is asked is one of a transaction that is undecided; and a volatile one of one that hasn't asked the durable ones

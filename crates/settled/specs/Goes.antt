@@ -11,6 +11,7 @@ use Rattle.at_model.specs.World.{Node, Posted, World, base_of, decoded, nth, rec
 use Rattle.model_laws.specs.Agreement.{IsIn}
 use Rattle.model_laws.specs.Reached.{Heard, Reached, counts, post_all}
 use Rattle.owed.specs.Seats.{posts_of}
+use Rattle.settling.specs.Pays.{MakesNothing}
 
 -- what is posted
 abbrev pub posted_as : ℕ → List Node → Post → Posted
@@ -19,6 +20,12 @@ posted_as n nodes p = record { sender = n; receiver = receiver_of nodes p.to; co
 -- this message has arrived
 abbrev pub HasArrived : ℕ → Event → Posted → Type 0
 HasArrived n e q = (q.receiver ≡ Some n) × ((a : Arrived) → decoded (base_of n) q.content ≡ Some a → e ≡ events.Arrived a)
+
+-- an event that makes nothing
+abbrev pub MakesNone : Event → Type 0
+MakesNone (events.Arrived a) = MakesNothing a.message
+MakesNone (events.Local l) = ⊥
+MakesNone other = Unit {0}
 
 pub record Goes (count : ℕ) (u v : World) (before after : List Posted) : Type 0 where
   pub small : count < 2 ^ 64
@@ -31,6 +38,7 @@ pub record Goes (count : ℕ) (u v : World) (before after : List Posted) : Type 
   pub found : nth number u.nodes ≡ Some node
   pub up : node.book ≡ Some book
   pub heard : Heard u number node event
+  pub makes : MakesNone event
   pub is : v ≡ post_all number (posts_of (step book event now true).outs) (counts u number node book event now true)
   pub stays : (q : Posted) → IsIn q before → IsIn q after ⊎ HasArrived number event q
   pub adds : (q : Posted) → IsIn q (map (posted_as number u.nodes) (posts_of (step book event now true).outs)) → IsIn q after

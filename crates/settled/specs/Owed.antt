@@ -1,5 +1,5 @@
 -- What is owed while a world settles: for whoever waits for an answer a message is on its way, or somebody else is busy with it.
-use Rattle.std.specs.Prelude.{ℕ, List, Option, Some, None, true, ◌≡◌, ◌⊎◌}
+use Rattle.std.specs.Prelude.{ℕ, List, Option, Some, None, true, ◌^◌, ◌≡◌, ◌≤◌, ◌<◌, ◌⊎◌}
 use Rattle.at_base.specs.Numbers.{Numbers}
 use Rattle.at_base.specs.declared.epr.Epr.{Epr}
 use Rattle.at_base.specs.declared.epr.Reply.TheVariants as replies
@@ -47,6 +47,12 @@ IsNotice T n a = (a.target ≡ T) × (a.message ≡ messages.Notice n)
 
 abbrev pub IsNoticeFrom : Target → Notice → Epr → Arrived → Type 0
 IsNoticeFrom T n e a = IsNotice T n a × (a.from ≡ Some e)
+
+-- a seat that a path can name
+pub record IsSeatPlace (count : ℕ) (t : Who) (number : ℕ) : Type 0 where
+  pub place : IsPlace count t
+  pub least : 1 ≤ number
+  pub most : number < 2 ^ 16
 
 abbrev pub seat_target_of : Who → ℕ → Kind → Target
 seat_target_of t number kind = targets.Coordinator t.id (record { number = number; kind = kind })
@@ -129,8 +135,8 @@ pub record CommitsAreOwed (count : ℕ) (Asked : ℕ → Type 0) (w : World) (qu
 
 pub record OutcomesAreOwed (count : ℕ) (Asked : ℕ → Type 0) (w : World) (queue : List Posted) : Type 0 where
   pub links : (n : ℕ) (b : Book) (t : Transaction) (s : Superior) (z : Who) (number : ℕ) → Asked n → Holds w n b → transaction_at b t.id ≡ Some t → t.superior ≡ Some s
-      → s.durable.state ≡ states.PreparedSuccess → IsPlace count z → s.durable.coordinator ≡ Some (seat_of z number kinds.Durable) → OwesOutcome w queue (record { node = n; id = t.id }) z number
-  pub leaves : (n : ℕ) (b : Book) (l : Leaf) (z : Who) (number : ℕ) → Asked n → Holds w n b → leaf_at b l.id ≡ Some l → l.kind ≡ kinds.Durable → l.state ≡ states.PreparedSuccess → IsPlace count z
+      → s.durable.state ≡ states.PreparedSuccess → IsSeatPlace count z number → s.durable.coordinator ≡ Some (seat_of z number kinds.Durable) → OwesOutcome w queue (record { node = n; id = t.id }) z number
+  pub leaves : (n : ℕ) (b : Book) (l : Leaf) (z : Who) (number : ℕ) → Asked n → Holds w n b → leaf_at b l.id ≡ Some l → l.kind ≡ kinds.Durable → l.state ≡ states.PreparedSuccess → IsSeatPlace count z number
       → l.coordinator ≡ Some (seat_of z number kinds.Durable) → OwesOutcome w queue (record { node = n; id = l.id }) z number
 
 pub record RegistrationsAreOwed (count : ℕ) (Asked : ℕ → Type 0) (w : World) (queue : List Posted) : Type 0 where
