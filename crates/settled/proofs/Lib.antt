@@ -5,3 +5,4 @@ pub mod VotesKept
 pub mod Commits
 pub mod Stood
 pub mod Outcomes
+pub mod Registers

@@ -1,3 +1,4 @@
 pub mod Owed
 pub mod Goes
 pub mod Behind
+pub mod Routed
