@@ -6,3 +6,4 @@ pub mod Commits
 pub mod Stood
 pub mod Outcomes
 pub mod Registers
+pub mod Calm

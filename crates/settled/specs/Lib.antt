@@ -2,3 +2,4 @@ pub mod Owed
 pub mod Goes
 pub mod Behind
 pub mod Routed
+pub mod Calm
