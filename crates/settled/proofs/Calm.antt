@@ -44,14 +44,14 @@ abbrev newest : ℕ → Node → World → Book → World
 newest n x w b = record w { nodes = put_nth n (record x { book = Some b }) w.nodes }
 
 -- lists
-front_in : (k : ℕ) (q : Posted) (xs ys : List Posted) → IsIn q (drop k xs) → IsIn q (drop k (xs ++ ys))
+pub front_in : (k : ℕ) (q : Posted) (xs ys : List Posted) → IsIn q (drop k xs) → IsIn q (drop k (xs ++ ys))
 front_in zero q [] ys i = absurd i
 front_in zero q (x ∷ xs) ys (inl e) = inl e
 front_in zero q (x ∷ xs) ys (inr i) = inr (front_in zero q xs ys i)
 front_in (suc k) q [] ys i = absurd i
 front_in (suc k) q (x ∷ xs) ys i = front_in k q xs ys i
 
-back_in : (k : ℕ) (q : Posted) (xs ys : List Posted) → k ≤ length xs → IsIn q ys → IsIn q (drop k (xs ++ ys))
+pub back_in : (k : ℕ) (q : Posted) (xs ys : List Posted) → k ≤ length xs → IsIn q ys → IsIn q (drop k (xs ++ ys))
 back_in zero q [] ys h i = i
 back_in zero q (x ∷ xs) ys h i = inr (back_in zero q xs ys (omega arith) i)
 back_in (suc k) q [] ys h i = absurd (omega (arith, h))

@@ -7,3 +7,5 @@ pub mod Stood
 pub mod Outcomes
 pub mod Registers
 pub mod Calm
+pub mod Routed
+pub mod Ticks
