@@ -9,3 +9,4 @@ pub mod Registers
 pub mod Calm
 pub mod Routed
 pub mod Ticks
+pub mod Resting
