@@ -74,10 +74,10 @@ posts_nodes : (n : ℕ) (ps : List Post) (w : World) → (post_all n ps w).nodes
 posts_nodes n [] w = refl
 posts_nodes n (p ∷ ps) w = posts_nodes n ps _
 
-abbrev node_after : {count : ℕ} {u v : World} {before after : List Posted} → Goes count u v before after → Node
+abbrev pub node_after : {count : ℕ} {u v : World} {before after : List Posted} → Goes count u v before after → Node
 node_after g = record g.node { book = Some (step g.book g.event g.now true).book; journal = with_entry (plan g.book g.event g.now).entry true g.node.journal }
 
-nodes_after : (count : ℕ) (u v : World) (before after : List Posted) → (g : Goes count u v before after) → v.nodes ≡ put_nth g.number (node_after g) u.nodes
+pub nodes_after : (count : ℕ) (u v : World) (before after : List Posted) → (g : Goes count u v before after) → v.nodes ≡ put_nth g.number (node_after g) u.nodes
 nodes_after count u v before after g = ap (λ (w : World). w.nodes) g.is ∙ posts_nodes g.number (posted_in g) (counts u g.number g.node g.book g.event g.now true)
 
 pub holds_after : (count : ℕ) (u v : World) (before after : List Posted) → (g : Goes count u v before after) → Holds v g.number (book_after g)

@@ -10,3 +10,4 @@ pub mod Calm
 pub mod Routed
 pub mod Ticks
 pub mod Resting
+pub mod Invariants
