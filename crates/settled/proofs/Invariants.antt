@@ -30,7 +30,7 @@ AreUp w = (n : ℕ) (x : Node) → nth n w.nodes ≡ Some x → is_none x.book �
 same_node : (o : Option Node) (x y : Node) → o ≡ Some x → o ≡ Some y → x ≡ y
 same_node o x y e f = cc
 
-up_on : (count : ℕ) (u v : World) (before after : List Posted) → Goes count u v before after → AreUp u → AreUp v
+pub up_on : (count : ℕ) (u v : World) (before after : List Posted) → Goes count u v before after → AreUp u → AreUp v
 up_on count u v before after g h n x found = by_place (or_elsewhere n g.number)
   where
     by_place : (n ≡ g.number) ⊎ (n ≡ g.number → ⊥) → is_none x.book ≡ false
@@ -40,7 +40,7 @@ up_on count u v before after g h n x found = by_place (or_elsewhere n g.number)
         ap (λ (y : Node). is_none y.book) same ∙ ap is_none k.up
     by_place (inr other) = h n x (sym (ap (nth n) (nodes_after count u v before after g) ∙ put_other u.nodes n g.number (node_after g) other) ∙ found)
 
-up_waits : (u : World) (n : ℕ) (x : Node) (clock : ℕ) → nth n u.nodes ≡ Some x → AreUp u → AreUp (record u { nodes = put_nth n (record x { clock = clock }) u.nodes })
+pub up_waits : (u : World) (n : ℕ) (x : Node) (clock : ℕ) → nth n u.nodes ≡ Some x → AreUp u → AreUp (record u { nodes = put_nth n (record x { clock = clock }) u.nodes })
 up_waits u n x clock found h m y f = by_place (or_elsewhere m n)
   where
     by_place : (m ≡ n) ⊎ (m ≡ n → ⊥) → is_none y.book ≡ false
@@ -56,10 +56,10 @@ pub record SameBooks (u v : World) : Type 0 where
   pub back : (n : ℕ) (b : Book) → Holds v n b → Holds u n b
   pub forth : (n : ℕ) (b : Book) → Holds u n b → Holds v n b
 
-same_books : (w : World) → SameBooks w w
+pub same_books : (w : World) → SameBooks w w
 same_books w = record { back = λ n b h. h; forth = λ n b h. h }
 
-waits_same : (u : World) (n : ℕ) (x : Node) (clock : ℕ) → nth n u.nodes ≡ Some x → SameBooks u (record u { nodes = put_nth n (record x { clock = clock }) u.nodes })
+pub waits_same : (u : World) (n : ℕ) (x : Node) (clock : ℕ) → nth n u.nodes ≡ Some x → SameBooks u (record u { nodes = put_nth n (record x { clock = clock }) u.nodes })
 waits_same u n x clock found = record { back = λ m b h. back m b h (or_elsewhere m n); forth = λ m b h. forth m b h (or_elsewhere m n) }
   where
     v : World
@@ -125,19 +125,19 @@ registered_moves : (before after : List Posted) (x : Who) (kind : Kind) (m : ℕ
 registered_moves before after x kind m id k (inl c) = inl (comes_on before after m _ k c)
 registered_moves before after x kind m id k (inr c) = inr (comes_on before after x.node _ k c)
 
-votes_move : (count : ℕ) (Asked : ℕ → Type 0) (u v : World) (before after : List Posted) → SameBooks u v → Stay before after → VotesAreOwed count Asked u before → VotesAreOwed count Asked v after
+pub votes_move : (count : ℕ) (Asked : ℕ → Type 0) (u v : World) (before after : List Posted) → SameBooks u v → Stay before after → VotesAreOwed count Asked u before → VotesAreOwed count Asked v after
 votes_move count Asked u v before after s k h = record {
   seats = λ n b t q x asked holds found i state place is.
       vote_moves u v before after (record { node = n; id = t.id }) q.number q.kind x s k (h.seats n b t q x asked (s.back n b holds) found i state place is);
 }
 
-commits_move : (count : ℕ) (Asked : ℕ → Type 0) (u v : World) (before after : List Posted) → SameBooks u v → Stay before after → CommitsAreOwed count Asked u before → CommitsAreOwed count Asked v after
+pub commits_move : (count : ℕ) (Asked : ℕ → Type 0) (u v : World) (before after : List Posted) → SameBooks u v → Stay before after → CommitsAreOwed count Asked u before → CommitsAreOwed count Asked v after
 commits_move count Asked u v before after s k h = record {
   seats = λ n b t q x asked holds found i durable state place is.
       committed_moves u v before after (record { node = n; id = t.id }) q.number x s k (h.seats n b t q x asked (s.back n b holds) found i durable state place is);
 }
 
-outcomes_move : (count : ℕ) (Asked : ℕ → Type 0) (u v : World) (before after : List Posted) → SameBooks u v → Stay before after → OutcomesAreOwed count Asked u before → OutcomesAreOwed count Asked v after
+pub outcomes_move : (count : ℕ) (Asked : ℕ → Type 0) (u v : World) (before after : List Posted) → SameBooks u v → Stay before after → OutcomesAreOwed count Asked u before → OutcomesAreOwed count Asked v after
 outcomes_move count Asked u v before after s k h = record {
   links = λ n b t q z number asked holds found under state place knows.
       outcome_moves u v before after (record { node = n; id = t.id }) z number s k (h.links n b t q z number asked (s.back n b holds) found under state place knows);
@@ -145,7 +145,7 @@ outcomes_move count Asked u v before after s k h = record {
       outcome_moves u v before after (record { node = n; id = l.id }) z number s k (h.leaves n b l z number asked (s.back n b holds) found durable state place knows);
 }
 
-registrations_move : (count : ℕ) (Asked : ℕ → Type 0) (u v : World) (before after : List Posted) → SameBooks u v → Stay before after → RegistrationsAreOwed count Asked u before
+pub registrations_move : (count : ℕ) (Asked : ℕ → Type 0) (u v : World) (before after : List Posted) → SameBooks u v → Stay before after → RegistrationsAreOwed count Asked u before
     → RegistrationsAreOwed count Asked v after
 registrations_move count Asked u v before after s k h = record {
   links = λ n b t q kind r m id asked holds found under state request leads.
@@ -154,14 +154,14 @@ registrations_move count Asked u v before after s k h = record {
       registered_moves before after (record { node = n; id = l.id }) l.kind m id k (h.leaves n b l r m id asked (s.back n b holds) found state request leads);
 }
 
-none_routed_moves : (count : ℕ) (u v : World) → SameBooks u v → NoneRouted count u → NoneRouted count v
+pub none_routed_moves : (count : ℕ) (u v : World) → SameBooks u v → NoneRouted count u → NoneRouted count v
 none_routed_moves count u v s h = record {
   links = λ n b t q kind r m id holds. h.links n b t q kind r m id (s.back n b holds);
   leaves = λ n b l r m id holds. h.leaves n b l r m id (s.back n b holds);
 }
 
 -- The first round: who registers is owed an answer.
-pub registering : (count : ℕ) (Asked : ℕ → Type 0) → Invariant count
+unfoldable pub registering : (count : ℕ) (Asked : ℕ → Type 0) → Invariant count
 registering count Asked = record {
   Of = λ w queue. AreUp w × RegistrationsAreOwed count Asked w queue;
   on = λ u v before after g (up, h). (up_on count u v before after g up, registrations_kept count Asked u v before after g h);
@@ -185,7 +185,7 @@ pub record IsOwed (count : ℕ) (Asked : ℕ → Type 0) (w : World) (queue : Li
   pub commits : CommitsAreOwed count Asked w queue
   pub outcomes : OutcomesAreOwed count Asked w queue
 
-pub owing : (count : ℕ) (Asked : ℕ → Type 0) → Known count → Invariant count
+unfoldable pub owing : (count : ℕ) (Asked : ℕ → Type 0) → Known count → Invariant count
 owing count Asked k = record {
   Of = IsOwed count Asked;
   on = λ u v before after g h. record {

@@ -11,3 +11,4 @@ pub mod Routed
 pub mod Ticks
 pub mod Resting
 pub mod Invariants
+pub mod Rounds
