@@ -12,3 +12,4 @@ pub mod Ticks
 pub mod Resting
 pub mod Invariants
 pub mod Rounds
+pub mod Asking
