@@ -13,3 +13,4 @@ pub mod Resting
 pub mod Invariants
 pub mod Rounds
 pub mod Asking
+pub mod Behind
