@@ -14,3 +14,5 @@ pub mod Invariants
 pub mod Rounds
 pub mod Asking
 pub mod Behind
+pub mod Chosen
+pub mod Settling
