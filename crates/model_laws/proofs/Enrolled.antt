@@ -12,6 +12,7 @@ use Rattle.at_base.specs.declared.message.Register.{Register}
 use Rattle.at_base.specs.declared.record.Seated.{Seated}
 use Rattle.at_base.specs.declared.record.Record.{Record}
 use Rattle.at_base.specs.declared.record.Record.TheVariants as records
+use Rattle.at_base.specs.declared.target.Seat.{Seat}
 use Rattle.at_base.specs.declared.target.Target.{Target}
 use Rattle.at_base.specs.declared.target.Target.TheVariants as targets
 use Rattle.at_base.specs.declared.event.Arrived.{Arrived}
@@ -22,7 +23,7 @@ use Rattle.at_base.specs.declared.event.Event.TheVariants as events
 use Rattle.at_base.specs.declared.outs.Post.{Post}
 use Rattle.at_base.specs.declared.outs.Out.{Out}
 use Rattle.at_base.specs.declared.outs.Out.TheVariants as outs
-use Rattle.model_laws.specs.Agreement.{IsIn, HasOneSuperior}
+use Rattle.model_laws.specs.Agreement.{IsAccepted, IsIn, HasOneSuperior}
 use Rattle.at_model.specs.Book.{Book, transaction_id, leaf_id, last_counter}
 use Rattle.model_laws.specs.Drawn.{restarted, with_entry}
 use Rattle.model_laws.specs.Enlisted.{IsKnownItem, EnlistsTheKnown, EnlistsUnderOne}
@@ -536,6 +537,23 @@ one_superior count w small reached x s t one other i j =
 
     same_who : (s t : Who) → ◌≡◌ {A = Option (ℕ × Target)} (Some (s.node, targets.Registration s.id)) (Some (t.node, targets.Registration t.id)) → s ≡ t
     same_who s t e = λ i. record { node = node_part (e i); id = id_part (e i) }
+
+-- whoever is accepted registers at the transaction that accepted it
+pub record IsChosenAt (count : ℕ) (choices : Choices) (t x : Who) : Type 0 where
+  pub endpoint : Epr
+  pub chosen : choices x.node x.id ≡ At endpoint
+  pub place : place_of 1 (nodes_of count) endpoint.address ≡ Some (t.node, targets.Registration t.id)
+
+pub chosen_at : (count : ℕ) (w : World) (small : count < 2 ^ 64) (reached : Reached count w) (t x : Who) (seat : Option Seat) → IsAccepted w t seat x
+    → IsChosenAt count (world_good count w small reached).choices t x
+chosen_at count w small reached t x seat i =
+    let g : WorldGood count w = world_good count w small reached in
+    let a : IsChosen count g.choices (record { transaction = t; seat = seat; participant = Some x }) = one_accepted count g.choices w.accepted _ g.world.accepted i in
+    let same : a.item ≡ x = same_item a.item x (sym a.participant) in
+    record { endpoint = a.endpoint; chosen = ap (λ (y : Who). g.choices y.node y.id) (sym same) ∙ a.chosen; place = a.place }
+  where
+    same_item : (y z : Who) → Some y ≡ Some z → y ≡ z
+    same_item y z e = cc
 
 pub all_known : (count : ℕ) (w : World) → count < 2 ^ 64 → Reached count w → AllByRecursion IsKnownItem w.accepted
 all_known count w small reached =

@@ -1,10 +1,12 @@
 //! A world of nodes, and its runs.
 
+ghost use Rattle.std.specs.List.{AllByRecursion};
 ghost use Rattle.std.specs.Prelude.{ℕ, ◌≡◌, ◌<◌, ◌≤◌, ◌++◌, ◌∷◌, [], IfOk, map, length, option_map, option_copied};
 ghost use Rattle.model_laws.specs.Agreement.{Agrees, HasOneSuperior, IsAgreed, IsBehindAnswers, IsToldTruly};
 ghost use Rattle.model_laws.specs.Drawn.{AreApart};
 ghost use Rattle.model_laws.specs.Enlisted.{EnlistsUnderOne};
 ghost use Rattle.model_laws.specs.Made.{MakesNoIdTwice, made_on};
+ghost use Rattle.model_laws.specs.Settle.{IsSettling, MayStart, Settles};
 ghost use Rattle.at_model.specs.World.{nth, opening, run_of, world_step};
 ghost use Rattle.completion_at.specs.Names.{refusal_of};
 ghost use Rattle.world_laws.specs.Events.{event_of};
@@ -21,6 +23,7 @@ use completion_at::requests::Refusal;
 use interposition::book::Book;
 use model_laws::rules::{enlists_under_one, ids_rise, makes_no_id_twice};
 use outcomes::laws::agrees;
+use settled::laws::settles;
 use std::alloc::{AllocError, Global};
 use std::marker::Model;
 
@@ -186,15 +189,18 @@ fn ran(alloc: Global, nodes: u8, events: &[WorldEvent]) -> Result<World, AllocEr
     Ok(world)
 }
 
-/// What holds in every run: no node makes an id twice, all registrations of one item are with one transaction, and agreement.
+/// What holds in every run: no node makes an id twice, all registrations of one item are with one transaction, agreement, and
+/// settling.
 fn laws()
     ensures ids { MakesNoIdTwice }
     ensures superior { EnlistsUnderOne }
     ensures agreement { Agrees }
+    ensures settling { Settles }
 {
     makes_no_id_twice();
     enlists_under_one();
     agrees();
+    settles();
 }
 
 /// The world of a run of events, whatever fails in it: calls of a site, a node that stops in the middle of a turn or goes
@@ -214,6 +220,7 @@ pub fn run_world(alloc: Global, nodes: u8, events: &[WorldEvent]) -> Result<Worl
     ensures agreed { IfOk result (λ world. IsAgreed (world_of world)) }
     ensures behind { IfOk result (λ world. IsBehindAnswers (world_of world)) }
     ensures told { IfOk result (λ world. IsToldTruly (world_of world)) }
+    ensures settles { IfOk result (λ world. AllByRecursion MayStart (world_of world).nodes → IsSettling (world_of world)) }
 {
     laws();
     let world = ran(alloc, nodes, events)?;

@@ -1,6 +1,8 @@
+use Rattle.std.specs.List.{AllByRecursion}
 use Rattle.std.specs.Prelude.{map}
 use Rattle.std.proofs.Common.{arith, subst, sym}
 use Rattle.model_laws.specs.Agreement.{HasOneSuperior, IsAgreed, IsBehindAnswers, IsToldTruly}
+use Rattle.model_laws.specs.Settle.{IsSettling, MayStart}
 use Rattle.world_laws.specs.Events.{event_of}
 use Rattle.world_laws.proofs.world.run_world.Goals as goal
 
@@ -23,3 +25,8 @@ pub returns-clause-told : goal.returns-clause-told
 returns-clause-told c =
     subst IsToldTruly (sym c.in_ok-world.ensures.world)
     (c.laws.ensures.agreement.told c.args.nodes (map event_of c.args.events.now) (omega (arith, c.requires.nodes.1)))
+
+pub returns-clause-settles : goal.returns-clause-settles
+returns-clause-settles c =
+    subst (λ w. AllByRecursion MayStart w.nodes → IsSettling w) (sym c.in_ok-world.ensures.world)
+    (c.laws.ensures.settling c.args.nodes (map event_of c.args.events.now) (omega (arith, c.requires.nodes.1)))

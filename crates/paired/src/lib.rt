@@ -1,0 +1,4 @@
+//! Who works with whom, in every run.
+#![tactic(auto)]
+
+pub mod laws;

@@ -1,0 +1,291 @@
+-- What is kept through a round of settling.
+use Rattle.std.specs.Prelude.{ℕ, List, [], ◌∷◌, Option, Some, None, Bool, true, false, is_none, ◌+◌, ◌^◌, ◌≡◌, ◌≤◌, ◌<◌, ◌⊎◌, refl}
+use Rattle.std.proofs.Common.{inl, inr, arith, sym, subst, ap, ◌∙◌}
+use Rattle.std.proofs.lemmas.Bool.{leb-true, leb-false}
+use Rattle.std.specs.Prelude.{nat_le}
+use Rattle.at_base.specs.Numbers.{Numbers}
+use Rattle.at_base.specs.declared.event.Arrived.{Arrived}
+use Rattle.at_base.specs.declared.notice.Kind.{Kind}
+use Rattle.at_model.specs.Book.{Book}
+use Rattle.at_model.specs.World.{Node, Posted, Who, World, nth, put_nth}
+use Rattle.model_laws.specs.Agreement.{IsIn}
+use Rattle.model_laws.specs.Reached.{Reached}
+use Rattle.model_laws.proofs.Running.{put_other, put_this}
+use Rattle.paired.proofs.Homes.{node_range}
+use Rattle.settled.specs.Behind.{PreparesAreBehind}
+use Rattle.settled.specs.Calm.{Invariant, IsLost}
+use Rattle.settled.specs.Goes.{Goes}
+use Rattle.settled.specs.Owed.{Comes, CommitsAreOwed, CommitsAt, Holds, IsBusyAt, IsPreparedAt, OutcomesAreOwed, OwesCommitted, OwesOutcome, OwesRegistered, OwesVote, RegistrationsAreOwed, VotesAreOwed}
+use Rattle.settled.specs.Routed.{NoneRouted}
+use Rattle.settled.proofs.Commits.{commits_kept}
+use Rattle.settled.proofs.Going.{holds_after, node_after, nodes_after, or_elsewhere}
+use Rattle.settled.proofs.Outcomes.{outcomes_kept}
+use Rattle.settled.proofs.Registers.{none_routed_kept, registrations_kept}
+use Rattle.settled.proofs.VotesKept.{NoneRegisters, votes_kept}
+
+-- every node is up
+abbrev pub AreUp : World → Type 0
+AreUp w = (n : ℕ) (x : Node) → nth n w.nodes ≡ Some x → is_none x.book ≡ false
+
+same_node : (o : Option Node) (x y : Node) → o ≡ Some x → o ≡ Some y → x ≡ y
+same_node o x y e f = cc
+
+pub up_on : (count : ℕ) (u v : World) (before after : List Posted) → Goes count u v before after → AreUp u → AreUp v
+up_on count u v before after g h n x found = by_place (or_elsewhere n g.number)
+  where
+    by_place : (n ≡ g.number) ⊎ (n ≡ g.number → ⊥) → is_none x.book ≡ false
+    by_place (inl here) =
+        let k : Holds v g.number _ = holds_after count u v before after g in
+        let same : x ≡ k.node = same_node (nth g.number v.nodes) x k.node (subst (λ m. nth m v.nodes ≡ Some x) here found) k.found in
+        ap (λ (y : Node). is_none y.book) same ∙ ap is_none k.up
+    by_place (inr other) = h n x (sym (ap (nth n) (nodes_after count u v before after g) ∙ put_other u.nodes n g.number (node_after g) other) ∙ found)
+
+pub up_waits : (u : World) (n : ℕ) (x : Node) (clock : ℕ) → nth n u.nodes ≡ Some x → AreUp u → AreUp (record u { nodes = put_nth n (record x { clock = clock }) u.nodes })
+up_waits u n x clock found h m y f = by_place (or_elsewhere m n)
+  where
+    by_place : (m ≡ n) ⊎ (m ≡ n → ⊥) → is_none y.book ≡ false
+    by_place (inl here) =
+        let same : y ≡ record x { clock = clock } =
+        same_node (nth n (put_nth n (record x { clock = clock }) u.nodes)) y (record x { clock = clock }) (subst (λ k. nth k (put_nth n (record x { clock = clock }) u.nodes) ≡ Some y) here f)
+        (put_this u.nodes n x (record x { clock = clock }) found) in
+        ap (λ (z : Node). is_none z.book) same ∙ h n x found
+    by_place (inr other) = h m y (sym (put_other u.nodes m n (record x { clock = clock }) other) ∙ f)
+
+-- where no book changes, and no message that somebody gets is lost
+pub record SameBooks (u v : World) : Type 0 where
+  pub back : (n : ℕ) (b : Book) → Holds v n b → Holds u n b
+  pub forth : (n : ℕ) (b : Book) → Holds u n b → Holds v n b
+
+pub same_books : (w : World) → SameBooks w w
+same_books w = record { back = λ n b h. h; forth = λ n b h. h }
+
+pub waits_same : (u : World) (n : ℕ) (x : Node) (clock : ℕ) → nth n u.nodes ≡ Some x → SameBooks u (record u { nodes = put_nth n (record x { clock = clock }) u.nodes })
+waits_same u n x clock found = record { back = λ m b h. back m b h (or_elsewhere m n); forth = λ m b h. forth m b h (or_elsewhere m n) }
+  where
+    v : World
+    v = record u { nodes = put_nth n (record x { clock = clock }) u.nodes }
+
+    back : (m : ℕ) (b : Book) → Holds v m b → (m ≡ n) ⊎ (m ≡ n → ⊥) → Holds u m b
+    back m b h (inl here) =
+        let same : h.node ≡ record x { clock = clock } =
+        same_node (nth n v.nodes) h.node (record x { clock = clock }) (subst (λ k. nth k v.nodes ≡ Some h.node) here h.found) (put_this u.nodes n x (record x { clock = clock }) found) in
+        record { node = x; found = ap (λ k. nth k u.nodes) here ∙ found; up = sym (ap (λ (z : Node). z.book) same) ∙ h.up }
+    back m b h (inr other) = record { node = h.node; found = sym (put_other u.nodes m n (record x { clock = clock }) other) ∙ h.found; up = h.up }
+
+    forth : (m : ℕ) (b : Book) → Holds u m b → (m ≡ n) ⊎ (m ≡ n → ⊥) → Holds v m b
+    forth m b h (inl here) =
+        let same : h.node ≡ x = same_node (nth n u.nodes) h.node x (subst (λ k. nth k u.nodes ≡ Some h.node) here h.found) found in
+        record {
+          node = record x { clock = clock };
+          found = ap (λ k. nth k v.nodes) here ∙ put_this u.nodes n x (record x { clock = clock }) found;
+          up = sym (ap (λ (z : Node). z.book) same) ∙ h.up;
+        }
+    forth m b h (inr other) = record { node = h.node; found = put_other u.nodes m n (record x { clock = clock }) other ∙ h.found; up = h.up }
+
+abbrev Stay : List Posted → List Posted → Type 0
+Stay before after = (q : Posted) → IsIn q before → IsIn q after ⊎ IsLost q
+
+comes_on : (before after : List Posted) (n : ℕ) (P : Arrived → Type 0) → Stay before after → Comes before n P → Comes after n P
+comes_on before after n P stays c = by_place (stays c.posted c.waits)
+  where
+    by_place : IsIn c.posted after ⊎ IsLost c.posted → Comes after n P
+    by_place (inl i) = record { posted = c.posted; waits = i; receiver = c.receiver; arrived = c.arrived; decodes = c.decodes; says = c.says }
+    by_place (inr lost) = absurd (lost n c.arrived c.receiver c.decodes)
+
+vote_moves : (u v : World) (before after : List Posted) (t : Who) (number : ℕ) (kind : Kind) (x : Who) → SameBooks u v → Stay before after → OwesVote u before t number kind x → OwesVote v after t number kind x
+vote_moves u v before after t number kind x s k (inl c) = inl (comes_on before after x.node _ k c)
+vote_moves u v before after t number kind x s k (inr (inl (m, answers, c))) = inr (inl (m, answers, comes_on before after t.node _ k c))
+vote_moves u v before after t number kind x s k (inr (inr b)) =
+    inr (inr (record { book = b.book; holds = s.forth x.node b.book b.holds; transaction = b.transaction; found = b.found; busy = b.busy }))
+
+committed_moves : (u v : World) (before after : List Posted) (t : Who) (number : ℕ) (x : Who) → SameBooks u v → Stay before after → OwesCommitted u before t number x → OwesCommitted v after t number x
+committed_moves u v before after t number x s k (inl c) = inl (comes_on before after x.node _ k c)
+committed_moves u v before after t number x s k (inr (inl c)) = inr (inl (comes_on before after t.node _ k c))
+committed_moves u v before after t number x s k (inr (inr b)) =
+    inr (inr (record { book = b.book; holds = s.forth x.node b.book b.holds; transaction = b.transaction; found = b.found; commits = b.commits }))
+
+outcome_moves : (u v : World) (before after : List Posted) (x t : Who) (number : ℕ) → SameBooks u v → Stay before after → OwesOutcome u before x t number → OwesOutcome v after x t number
+outcome_moves u v before after x t number s k (inl c) = inl (comes_on before after t.node _ k c)
+outcome_moves u v before after x t number s k (inr (inl (inl c))) = inr (inl (inl (comes_on before after x.node _ k c)))
+outcome_moves u v before after x t number s k (inr (inl (inr c))) = inr (inl (inr (comes_on before after x.node _ k c)))
+outcome_moves u v before after x t number s k (inr (inr b)) =
+    inr (inr (record {
+      book = b.book;
+      holds = s.forth t.node b.book b.holds;
+      transaction = b.transaction;
+      found = b.found;
+      seat = b.seat;
+      among = b.among;
+      number_is = b.number_is;
+      kind_is = b.kind_is;
+      state_is = b.state_is;
+    }))
+
+registered_moves : (before after : List Posted) (x : Who) (kind : Kind) (m : ℕ) (id : Numbers) → Stay before after → OwesRegistered before x kind m id → OwesRegistered after x kind m id
+registered_moves before after x kind m id k (inl c) = inl (comes_on before after m _ k c)
+registered_moves before after x kind m id k (inr c) = inr (comes_on before after x.node _ k c)
+
+pub votes_move : (count : ℕ) (Asked : ℕ → Type 0) (u v : World) (before after : List Posted) → SameBooks u v → Stay before after → VotesAreOwed count Asked u before → VotesAreOwed count Asked v after
+votes_move count Asked u v before after s k h = record {
+  seats = λ n b t q x asked holds found i state place is.
+      vote_moves u v before after (record { node = n; id = t.id }) q.number q.kind x s k (h.seats n b t q x asked (s.back n b holds) found i state place is);
+}
+
+pub commits_move : (count : ℕ) (Asked : ℕ → Type 0) (u v : World) (before after : List Posted) → SameBooks u v → Stay before after → CommitsAreOwed count Asked u before → CommitsAreOwed count Asked v after
+commits_move count Asked u v before after s k h = record {
+  seats = λ n b t q x asked holds found i durable state place is.
+      committed_moves u v before after (record { node = n; id = t.id }) q.number x s k (h.seats n b t q x asked (s.back n b holds) found i durable state place is);
+}
+
+pub outcomes_move : (count : ℕ) (Asked : ℕ → Type 0) (u v : World) (before after : List Posted) → SameBooks u v → Stay before after → OutcomesAreOwed count Asked u before → OutcomesAreOwed count Asked v after
+outcomes_move count Asked u v before after s k h = record {
+  links = λ n b t q z number asked holds found under state place knows.
+      outcome_moves u v before after (record { node = n; id = t.id }) z number s k (h.links n b t q z number asked (s.back n b holds) found under state place knows);
+  leaves = λ n b l z number asked holds found durable state place knows.
+      outcome_moves u v before after (record { node = n; id = l.id }) z number s k (h.leaves n b l z number asked (s.back n b holds) found durable state place knows);
+}
+
+pub registrations_move : (count : ℕ) (Asked : ℕ → Type 0) (u v : World) (before after : List Posted) → SameBooks u v → Stay before after → RegistrationsAreOwed count Asked u before
+    → RegistrationsAreOwed count Asked v after
+registrations_move count Asked u v before after s k h = record {
+  links = λ n b t q kind r m id asked holds found under state request leads.
+      registered_moves before after (record { node = n; id = t.id }) kind m id k (h.links n b t q kind r m id asked (s.back n b holds) found under state request leads);
+  leaves = λ n b l r m id asked holds found state request leads.
+      registered_moves before after (record { node = n; id = l.id }) l.kind m id k (h.leaves n b l r m id asked (s.back n b holds) found state request leads);
+}
+
+pub none_routed_moves : (count : ℕ) (u v : World) → SameBooks u v → NoneRouted count u → NoneRouted count v
+none_routed_moves count u v s h = record {
+  links = λ n b t q kind r m id holds. h.links n b t q kind r m id (s.back n b holds);
+  leaves = λ n b l r m id holds. h.leaves n b l r m id (s.back n b holds);
+}
+
+-- The first round: who registers is owed an answer.
+unfoldable pub registering : (count : ℕ) (Asked : ℕ → Type 0) → Invariant count
+registering count Asked = record {
+  Of = λ w queue. AreUp w × RegistrationsAreOwed count Asked w queue;
+  on = λ u v before after g (up, h). (up_on count u v before after g up, registrations_kept count Asked u v before after g h);
+  drops = λ w before after k (up, h). (up, registrations_move count Asked w w before after (same_books w) k h);
+  waits = λ u n x clock queue found (up, h). (
+    up_waits u n x clock found up,
+    registrations_move count Asked u (record u { nodes = put_nth n (record x { clock = clock }) u.nodes }) queue queue (waits_same u n x clock found) (λ q i. inl i) h,
+  );
+}
+
+-- what is known of every world
+pub record Known (count : ℕ) : Type 0 where
+  pub behind : (w : World) → Reached count w → PreparesAreBehind count w
+  pub registered : (w : World) → Reached count w → NoneRouted count w → NoneRegisters w
+
+-- Each later round: nobody registers any more, and votes, commits and outcomes are owed.
+pub record IsOwed (count : ℕ) (Asked : ℕ → Type 0) (w : World) (queue : List Posted) : Type 0 where
+  pub up : AreUp w
+  pub routed : NoneRouted count w
+  pub votes : VotesAreOwed count Asked w queue
+  pub commits : CommitsAreOwed count Asked w queue
+  pub outcomes : OutcomesAreOwed count Asked w queue
+
+unfoldable pub owing : (count : ℕ) (Asked : ℕ → Type 0) → Known count → Invariant count
+owing count Asked k = record {
+  Of = IsOwed count Asked;
+  on = λ u v before after g h. record {
+    up = up_on count u v before after g h.up;
+    routed = none_routed_kept count u v before after g h.routed;
+    votes = votes_kept count Asked u v before after g (k.behind u g.reached) (k.registered u g.reached h.routed) h.votes;
+    commits = commits_kept count Asked u v before after g h.commits;
+    outcomes = outcomes_kept count Asked u v before after g h.outcomes;
+  };
+  drops = λ w before after stays h. record {
+    up = h.up;
+    routed = h.routed;
+    votes = votes_move count Asked w w before after (same_books w) stays h.votes;
+    commits = commits_move count Asked w w before after (same_books w) stays h.commits;
+    outcomes = outcomes_move count Asked w w before after (same_books w) stays h.outcomes;
+  };
+  waits = λ u n x clock queue found h.
+      let v : World = record u { nodes = put_nth n (record x { clock = clock }) u.nodes } in
+      let s : SameBooks u v = waits_same u n x clock found in
+      record {
+        up = up_waits u n x clock found h.up;
+        routed = none_routed_moves count u v s h.routed;
+        votes = votes_move count Asked u v queue queue s (λ q i. inl i) h.votes;
+        commits = commits_move count Asked u v queue queue s (λ q i. inl i) h.commits;
+        outcomes = outcomes_move count Asked u v queue queue s (λ q i. inl i) h.outcomes;
+      };
+}
+
+-- nodes by which something is owed
+pub votes_of : (count : ℕ) (A B : ℕ → Type 0) (w : World) (queue : List Posted) → ((n : ℕ) (b : Book) → Holds w n b → B n → A n) → VotesAreOwed count A w queue → VotesAreOwed count B w queue
+votes_of count A B w queue f h = record { seats = λ n b t s x asked holds. h.seats n b t s x (f n b holds asked) holds }
+
+pub commits_of : (count : ℕ) (A B : ℕ → Type 0) (w : World) (queue : List Posted) → ((n : ℕ) (b : Book) → Holds w n b → B n → A n) → CommitsAreOwed count A w queue → CommitsAreOwed count B w queue
+commits_of count A B w queue f h = record { seats = λ n b t s x asked holds. h.seats n b t s x (f n b holds asked) holds }
+
+pub outcomes_of : (count : ℕ) (A B : ℕ → Type 0) (w : World) (queue : List Posted) → ((n : ℕ) (b : Book) → Holds w n b → B n → A n) → OutcomesAreOwed count A w queue → OutcomesAreOwed count B w queue
+outcomes_of count A B w queue f h = record {
+  links = λ n b t s z number asked holds. h.links n b t s z number (f n b holds asked) holds;
+  leaves = λ n b l z number asked holds. h.leaves n b l z number (f n b holds asked) holds;
+}
+
+pub registrations_of : (count : ℕ) (A B : ℕ → Type 0) (w : World) (queue : List Posted) → ((n : ℕ) (b : Book) → Holds w n b → B n → A n) → RegistrationsAreOwed count A w queue
+    → RegistrationsAreOwed count B w queue
+registrations_of count A B w queue f h = record {
+  links = λ n b t s kind r m id asked holds. h.links n b t s kind r m id (f n b holds asked) holds;
+  leaves = λ n b l r m id asked holds. h.leaves n b l r m id (f n b holds asked) holds;
+}
+
+pub votes_both : (count : ℕ) (A B C : ℕ → Type 0) (w : World) (queue : List Posted) → ((n : ℕ) → C n → A n ⊎ B n) → VotesAreOwed count A w queue → VotesAreOwed count B w queue
+    → VotesAreOwed count C w queue
+votes_both count A B C w queue f h k = record {
+  seats = λ n b t s x asked holds found i state place is.
+      by_side (f n asked) (λ a. h.seats n b t s x a holds found i state place is) (λ a. k.seats n b t s x a holds found i state place is);
+}
+  where
+    by_side : {P Q R : Type 0} → P ⊎ Q → (P → R) → (Q → R) → R
+    by_side (inl a) g j = g a
+    by_side (inr a) g j = j a
+
+pub commits_both : (count : ℕ) (A B C : ℕ → Type 0) (w : World) (queue : List Posted) → ((n : ℕ) → C n → A n ⊎ B n) → CommitsAreOwed count A w queue → CommitsAreOwed count B w queue
+    → CommitsAreOwed count C w queue
+commits_both count A B C w queue f h k = record {
+  seats = λ n b t s x asked holds found i durable state place is.
+      by_side (f n asked) (λ a. h.seats n b t s x a holds found i durable state place is) (λ a. k.seats n b t s x a holds found i durable state place is);
+}
+  where
+    by_side : {P Q R : Type 0} → P ⊎ Q → (P → R) → (Q → R) → R
+    by_side (inl a) g j = g a
+    by_side (inr a) g j = j a
+
+pub outcomes_both : (count : ℕ) (A B C : ℕ → Type 0) (w : World) (queue : List Posted) → ((n : ℕ) → C n → A n ⊎ B n) → OutcomesAreOwed count A w queue → OutcomesAreOwed count B w queue
+    → OutcomesAreOwed count C w queue
+outcomes_both count A B C w queue f h k = record {
+  links = λ n b t s z number asked holds found under state place knows.
+      by_side (f n asked) (λ a. h.links n b t s z number a holds found under state place knows) (λ a. k.links n b t s z number a holds found under state place knows);
+  leaves = λ n b l z number asked holds found durable state place knows.
+      by_side (f n asked) (λ a. h.leaves n b l z number a holds found durable state place knows) (λ a. k.leaves n b l z number a holds found durable state place knows);
+}
+  where
+    by_side : {P Q R : Type 0} → P ⊎ Q → (P → R) → (Q → R) → R
+    by_side (inl a) g j = g a
+    by_side (inr a) g j = j a
+
+pub registrations_both : (count : ℕ) (A B C : ℕ → Type 0) (w : World) (queue : List Posted) → ((n : ℕ) → C n → A n ⊎ B n) → RegistrationsAreOwed count A w queue
+    → RegistrationsAreOwed count B w queue → RegistrationsAreOwed count C w queue
+registrations_both count A B C w queue f h k = record {
+  links = λ n b t s kind r m id asked holds found under state request leads.
+      by_side (f n asked) (λ a. h.links n b t s kind r m id a holds found under state request leads) (λ a. k.links n b t s kind r m id a holds found under state request leads);
+  leaves = λ n b l r m id asked holds found state request leads.
+      by_side (f n asked) (λ a. h.leaves n b l r m id a holds found state request leads) (λ a. k.leaves n b l r m id a holds found state request leads);
+}
+  where
+    by_side : {P Q R : Type 0} → P ⊎ Q → (P → R) → (Q → R) → R
+    by_side (inl a) g j = g a
+    by_side (inr a) g j = j a
+
+-- one node further
+pub up_to : (u n : ℕ) → n ≤ u + 1 → (n ≤ u) ⊎ (n ≡ u + 1)
+up_to u n h = by_number (nat_le n u) refl
+  where
+    by_number : (c : Bool) → nat_le n u ≡ c → (n ≤ u) ⊎ (n ≡ u + 1)
+    by_number true e = inl (leb-true n u e)
+    by_number false e = let over : u < n = leb-false n u e in inr (omega (arith, h, over))

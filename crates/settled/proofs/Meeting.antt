@@ -1,0 +1,166 @@
+-- Who meets whom at a step: coordinators that are known are the seats that ask.
+use Rattle.std.specs.Prelude.{ℕ, List, Option, Some, None, Bool, true, false, is_none, ◌^◌, ◌≡◌, ◌<◌, ◌⊎◌, refl}
+use Rattle.std.specs.List.{AllByRecursion}
+use Rattle.std.proofs.Common.{inl, inr, sym, subst, ap, ◌∙◌}
+use Rattle.at_base.specs.Numbers.{Numbers}
+use Rattle.at_base.specs.declared.epr.Epr.{Epr}
+use Rattle.at_base.specs.declared.notice.Kind.{Kind}
+use Rattle.at_base.specs.declared.notice.Notice.{Notice}
+use Rattle.at_base.specs.declared.notice.Notice.TheVariants as notices
+use Rattle.at_base.specs.declared.outs.Post.{Post}
+use Rattle.at_base.specs.declared.event.Arrived.{Arrived}
+use Rattle.at_base.specs.declared.event.Event.{Event}
+use Rattle.at_base.specs.declared.event.Event.TheVariants as events
+use Rattle.at_base.specs.declared.target.Target.TheVariants as targets
+use Rattle.at_model.specs.Book.{Book, Enlistment, Leaf, Superior, Transaction, leaf_id, transaction_id}
+use Rattle.at_model.specs.Posts.{stored_or}
+use Rattle.at_model.specs.Seats.{link_of}
+use Rattle.at_model.specs.Step.{leaf_at, transaction_at}
+use Rattle.at_model.specs.World.{Node, Posted, Who, World, nth}
+use Rattle.model_laws.specs.Agreement.{IsIn}
+use Rattle.model_laws.specs.Behind.{accepted_as}
+use Rattle.model_laws.specs.Reached.{Reached}
+use Rattle.model_laws.proofs.Deciding.{all_find, found_id}
+use Rattle.agreement.specs.Deeds.{coordinator_at}
+use Rattle.agreement.proofs.SeatedEntries.{one_of}
+use Rattle.enlistments.specs.Knowing.{BookKnows, IsKnowing, LeafKnows, TransactionKnows}
+use Rattle.enlistments.specs.Leads.{Enlists, EnlistsIfKnown}
+use Rattle.enlistments.proofs.Knowing.{coordinators_are_known}
+use Rattle.enlistments.proofs.Lasting.{found_stands}
+use Rattle.enlistments.proofs.Places.{IsPlaced, TransactionPlaced, transactions_placed}
+use Rattle.owed.specs.Seats.{AnswersSeat, Tells, posts_of}
+use Rattle.owed.specs.Upwards.{CommitsIn, LinkIsBusy, StaysBusy, StaysCommitting, TellsAnswer, superior_left}
+use Rattle.owed.specs.Shape.{AreShaped, IsShaped}
+use Rattle.owed.proofs.Books.{reached_shaped}
+use Rattle.votes.specs.Answering.{HasSeat}
+use Rattle.paired.specs.Paired.{IsPaired, IsPlace, IsSeat, IsSeatIfKnown, participant_of, seat_of}
+use Rattle.paired.proofs.Homes.{node_range}
+use Rattle.paired.proofs.Pairing.{partners_are_paired}
+use Rattle.settled.specs.Goes.{Goes}
+use Rattle.settled.specs.Owed.{IsSeatPlace, CommitsAt, Holds, IsBusyAt}
+use Rattle.settled.proofs.Going.{book_after, holds_after, posted_in}
+
+-- what is found by an id
+pub found_own : (b : Book) (id : Numbers) (t : Transaction) → transaction_at b id ≡ Some t → transaction_at b t.id ≡ Some t
+found_own b id t found = ap (transaction_at b) (found_id transaction_id id b.transactions t found) ∙ found
+
+pub leaf_own : (b : Book) (id : Numbers) (l : Leaf) → leaf_at b id ≡ Some l → leaf_at b l.id ≡ Some l
+leaf_own b id l found = ap (leaf_at b) (found_id leaf_id id b.leaves l found) ∙ found
+
+pub in_book : (b : Book) (id : Numbers) (t : Transaction) → transaction_at b id ≡ Some t → IsIn t b.transactions
+in_book b id t found = found_stands transaction_id id t b.transactions found
+
+pub same_transaction : (o : Option Transaction) (t z : Transaction) → o ≡ Some t → o ≡ Some z → t ≡ z
+same_transaction o t z e f = cc
+
+pub shape_at : (count : ℕ) (w : World) → Reached count w → (n : ℕ) (b : Book) → Holds w n b → (id : Numbers) (t : Transaction) → transaction_at b id ≡ Some t → IsShaped t
+shape_at count w reached n b h id t found = all_find IsShaped transaction_id id b.transactions t (reached_shaped count w reached n h.node b h.found h.up) found
+
+-- a seat of a transaction of a book
+pub seat_place : (count : ℕ) (w : World) → count < 2 ^ 64 → Reached count w → (n : ℕ) (b : Book) → Holds w n b → (t : Transaction) (s : Enlistment) → transaction_at b t.id ≡ Some t → IsIn s t.seats
+    → IsSeatPlace count (record { node = n; id = t.id }) s.number
+seat_place count w small reached n b h t s found i =
+    let (id, seats) = one_of (TransactionPlaced count) b.transactions t (transactions_placed count w small reached n h.node b h.found h.up) (in_book b t.id t found) in
+    let (least, most) = node_range count w small reached n h.node h.found in
+    let p = one_of (λ (q : Enlistment). IsPlaced count (accepted_as q)) t.seats s seats i in
+    record { place = record { least = least; most = most; id = id }; least = p.least; most = p.most }
+
+pub seat_has : (count : ℕ) (w : World) → count < 2 ^ 64 → Reached count w → (n : ℕ) (b : Book) → Holds w n b → (t : Transaction) (s : Enlistment) (x : Who) → transaction_at b t.id ≡ Some t → IsIn s t.seats
+    → IsPlace count x → s.participant ≡ participant_of x s.kind → HasSeat w (record { node = n; id = t.id }) s.number s.kind x
+seat_has count w small reached n b h t s x found i place is =
+    (partners_are_paired.paired count w small reached).seat_has n h.node b t s x h.found h.up (in_book b t.id t found) i place is
+
+-- the coordinator that a link knows, and that a leaf knows
+if_known : (count : ℕ) (kind : Kind) (o : Option Epr) (c : Epr) → o ≡ Some c → IsSeatIfKnown count kind o → IsSeat count kind c
+if_known count kind o c e h = subst (IsSeatIfKnown count kind) e h
+
+if_enlists : (count : ℕ) (w : World) (o : Option Epr) (c : Epr) (x : Who) (kind : Kind) → o ≡ Some c → EnlistsIfKnown count w o x kind → Enlists count w c x kind
+if_enlists count w o c x kind e h = subst (λ p. EnlistsIfKnown count w p x kind) e h
+
+pub link_seat : (count : ℕ) (w : World) → count < 2 ^ 64 → Reached count w → (n : ℕ) (b : Book) → Holds w n b → (id : Numbers) (t : Transaction) (kind : Kind) (c : Epr) → transaction_at b id ≡ Some t
+    → coordinator_at kind t.superior ≡ Some c → IsSeat count kind c × Enlists count w c (record { node = n; id = id }) kind
+link_seat count w small reached n b h id t kind c found knows = (
+  if_known count kind (coordinator_at kind t.superior) c knows ((partners_are_paired.paired count w small reached).links n h.node b t kind h.found h.up (in_book b id t found)),
+  subst (λ i. Enlists count w c (record { node = n; id = i }) kind) (found_id transaction_id id b.transactions t found)
+      (if_enlists count w (coordinator_at kind t.superior) c (record { node = n; id = t.id }) kind knows
+      (one_of (TransactionKnows count w n) b.transactions t ((coordinators_are_known.reached count w small reached).books n h.node b h.found h.up).transactions (in_book b id t found) kind)),
+)
+
+pub leaf_seat : (count : ℕ) (w : World) → count < 2 ^ 64 → Reached count w → (n : ℕ) (b : Book) → Holds w n b → (id : Numbers) (l : Leaf) (c : Epr) → leaf_at b id ≡ Some l
+    → l.coordinator ≡ Some c → IsSeat count l.kind c × Enlists count w c (record { node = n; id = id }) l.kind
+leaf_seat count w small reached n b h id l c found knows = (
+  if_known count l.kind l.coordinator c knows ((partners_are_paired.paired count w small reached).leaves n h.node b l h.found h.up (found_stands leaf_id id l b.leaves found)),
+  subst (λ i. Enlists count w c (record { node = n; id = i }) l.kind) (found_id leaf_id id b.leaves l found)
+      (if_enlists count w l.coordinator c (record { node = n; id = l.id }) l.kind knows
+      (one_of (LeafKnows count w n) b.leaves l ((coordinators_are_known.reached count w small reached).books n h.node b h.found h.up).leaves (found_stands leaf_id id l b.leaves found))),
+)
+
+pub link_knows : (count : ℕ) (w : World) → count < 2 ^ 64 → Reached count w → (n : ℕ) (b : Book) → Holds w n b → (id : Numbers) (t : Transaction) (kind : Kind) (c : Epr) (z : Who) (number : ℕ)
+    → transaction_at b id ≡ Some t → HasSeat w z number kind (record { node = n; id = id }) → coordinator_at kind t.superior ≡ Some c → c ≡ seat_of z number kind
+link_knows count w small reached n b h id t kind c z number found seat knows =
+    let (k, e) = link_seat count w small reached n b h id t kind c found knows in
+    (partners_are_paired.paired count w small reached).known_is c z (record { node = n; id = id }) number kind k e seat
+
+pub leaf_knows : (count : ℕ) (w : World) → count < 2 ^ 64 → Reached count w → (n : ℕ) (b : Book) → Holds w n b → (id : Numbers) (l : Leaf) (c : Epr) (z : Who) (number : ℕ)
+    → leaf_at b id ≡ Some l → HasSeat w z number l.kind (record { node = n; id = id }) → l.coordinator ≡ Some c → c ≡ seat_of z number l.kind
+leaf_knows count w small reached n b h id l c z number found seat knows =
+    let (k, e) = leaf_seat count w small reached n b h id l c found knows in
+    (partners_are_paired.paired count w small reached).known_is c z (record { node = n; id = id }) number l.kind k e seat
+
+-- whom an answer goes to
+pub stored_is : (o from : Option Epr) (e : Epr) → from ≡ Some e → ((c : Epr) → o ≡ Some c → c ≡ e) → stored_or o from ≡ Some e
+stored_is None from e f h = f
+stored_is (Some c) from e f h = ap Some (h c refl)
+
+pub known_is : (o : Option Epr) (e : Epr) → is_none o ≡ false → ((c : Epr) → o ≡ Some c → c ≡ e) → o ≡ Some e
+known_is None e f h = absurd cc
+known_is (Some c) e f h = ap Some (h c refl)
+
+-- what is left of a participant behind the step
+pub left_busy : (count : ℕ) (u v : World) (before after : List Posted) → (g : Goes count u v before after) → (x : Who) (kind : Kind) → x.node ≡ g.number → (o : Option Transaction)
+    → transaction_at (book_after g) x.id ≡ o → LinkIsBusy kind (superior_left o) → IsBusyAt v x kind
+left_busy count u v before after g x kind here None e h = absurd h
+left_busy count u v before after g x kind here (Some t) e h = record {
+  book = book_after g;
+  holds = subst (λ m. Holds v m (book_after g)) (sym here) (holds_after count u v before after g);
+  transaction = t;
+  found = e;
+  busy = h;
+}
+
+pub left_committing : (count : ℕ) (u v : World) (before after : List Posted) → (g : Goes count u v before after) → (x : Who) → x.node ≡ g.number → (o : Option Transaction)
+    → transaction_at (book_after g) x.id ≡ o → CommitsIn (superior_left o) → CommitsAt v x
+left_committing count u v before after g x here None e h = absurd h
+left_committing count u v before after g x here (Some t) e h = record {
+  book = book_after g;
+  holds = subst (λ m. Holds v m (book_after g)) (sym here) (holds_after count u v before after g);
+  transaction = t;
+  found = e;
+  commits = h;
+}
+
+stays_or : (kind : Kind) (to : Epr) (ps : List Post) (o : Option Superior) → StaysBusy kind to ps o → LinkIsBusy kind o ⊎ TellsAnswer to ps
+stays_or kind to ps None h = inr h
+stays_or kind to ps (Some s) (inl (busy, same)) = inl busy
+stays_or kind to ps (Some s) (inr h) = inr h
+
+pub still_busy : (count : ℕ) (u v : World) (before after : List Posted) → (g : Goes count u v before after) → (x : Who) (kind : Kind) (to : Epr) → x.node ≡ g.number
+    → StaysBusy kind to (posted_in g) (superior_left (transaction_at (book_after g) x.id)) → IsBusyAt v x kind ⊎ TellsAnswer to (posted_in g)
+still_busy count u v before after g x kind to here h = by_case (stays_or kind to (posted_in g) (superior_left (transaction_at (book_after g) x.id)) h)
+  where
+    by_case : LinkIsBusy kind (superior_left (transaction_at (book_after g) x.id)) ⊎ TellsAnswer to (posted_in g) → IsBusyAt v x kind ⊎ TellsAnswer to (posted_in g)
+    by_case (inl busy) = inl (left_busy count u v before after g x kind here (transaction_at (book_after g) x.id) refl busy)
+    by_case (inr tells) = inr tells
+
+commits_or : (to : Epr) (ps : List Post) (o : Option Superior) → StaysCommitting to ps o → CommitsIn o ⊎ Tells (Some to) notices.Committed ps
+commits_or to ps None h = inr h
+commits_or to ps (Some s) (inl (commits, same)) = inl commits
+commits_or to ps (Some s) (inr h) = inr h
+
+pub still_committing : (count : ℕ) (u v : World) (before after : List Posted) → (g : Goes count u v before after) → (x : Who) (to : Epr) → x.node ≡ g.number
+    → StaysCommitting to (posted_in g) (superior_left (transaction_at (book_after g) x.id)) → CommitsAt v x ⊎ Tells (Some to) notices.Committed (posted_in g)
+still_committing count u v before after g x to here h = by_case (commits_or to (posted_in g) (superior_left (transaction_at (book_after g) x.id)) h)
+  where
+    by_case : CommitsIn (superior_left (transaction_at (book_after g) x.id)) ⊎ Tells (Some to) notices.Committed (posted_in g) → CommitsAt v x ⊎ Tells (Some to) notices.Committed (posted_in g)
+    by_case (inl commits) = inl (left_committing count u v before after g x here (transaction_at (book_after g) x.id) refl commits)
+    by_case (inr tells) = inr tells

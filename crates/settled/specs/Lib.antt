@@ -1,0 +1,5 @@
+pub mod Owed
+pub mod Goes
+pub mod Behind
+pub mod Routed
+pub mod Calm

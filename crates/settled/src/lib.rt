@@ -1,0 +1,4 @@
+//! Settling: every world comes to rest.
+#![tactic(auto)]
+
+pub mod laws;
