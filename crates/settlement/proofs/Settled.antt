@@ -19,3 +19,8 @@ settles r es h are = are (granted_of (world_of r)) (h.rounds r.count (map event_
 pub are_few : (r : Run) → Drains → length (settle (world_of r)) ≤ settle_bound (world_of r)
 unfolding world_of
 are_few r h = h.few r.count (map event_of r.events)
+
+-- and behind them the world is at rest
+pub rests : (r : Run) → Settles → r.count ≤ 8 → AllByRecursion MayStart (world_of r).nodes → is_settled (run_on (world_of r) (settle (world_of r))) ≡ true
+unfolding world_of
+rests r h few may = (h r.count (map event_of r.events) (omega (arith, few)) may).rests

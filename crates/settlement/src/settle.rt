@@ -1,11 +1,14 @@
 //! The events that bring a world to rest.
 
-ghost use Rattle.std.specs.Prelude.{◌≡◌, ◌≤◌, IfOk, length, map};
-ghost use Rattle.model_laws.specs.Settle.{settle, settle_bound};
+ghost use Rattle.std.specs.List.{AllByRecursion};
+ghost use Rattle.std.specs.Prelude.{◌≡◌, ◌≤◌, IfOk, length, map, true};
+ghost use Rattle.at_model.specs.World.{run_on};
+ghost use Rattle.model_laws.specs.Settle.{MayStart, is_settled, settle, settle_bound};
 ghost use Rattle.world_laws.specs.Events.{event_of};
 ghost use Rattle.world_laws.specs.Runs.{world_of};
 
 use crate::settling::settled;
+use settled::laws::settles;
 use settling::laws::drains;
 use std::alloc::{AllocError, Global};
 use world_laws::event::WorldEvent;
@@ -14,14 +17,18 @@ use world_laws::world::World;
 /// The events that bring a world to rest: each node that is down comes up; and eight times each node lets 5,000 milliseconds go by,
 /// and the messages that are posted from then on are delivered, the first one first, until none is left.
 ///
-/// They are few (`few`): at most N + 8 (N + 128 (K + 1)) for N nodes, of which K seats, links, leaves and activities wait once
+/// Behind them no durable participant is in doubt, no subordinate that has voted waits for an outcome, and no decision waits to be
+/// carried out, where no node has spent its incarnations (`rests`). They are few (`few`): at most N + 8 (N + 128 (K + 1)) for N nodes, of which K seats, links, leaves and activities wait once
 /// all are up.
-#[tactic(auto, using(crate::proofs::Settled::are_few))]
+#[tactic(auto, using(crate::proofs::Settled::are_few, crate::proofs::Settled::rests))]
 pub fn settle(alloc: Global, world: &World) -> Result<Vec<WorldEvent>, AllocError>
     ensures is { IfOk result (λ events. map event_of events.items ≡ settle (world_of world.now)) }
     ensures few { length (settle (world_of world.now)) ≤ settle_bound (world_of world.now) }
+    ensures rests { AllByRecursion MayStart (world_of world.now).nodes → is_settled (run_on (world_of world.now) (settle (world_of world.now))) ≡ true }
 {
     drains();
+    settles();
+    let _count = world.count();
     let events = settled(alloc, world)?;
     Ok(events)
 }
