@@ -21,7 +21,7 @@ const LINGER_SECONDS: u64 = 1;
 
 /// A connection, and the time at which it has been read for long enough.
 #[derive(Drop)]
-pub struct Open {
+pub struct Served {
     stream: TcpStream,
     ends: Duration,
 }
@@ -30,11 +30,11 @@ pub struct Open {
 #[derive(Drop)]
 pub struct Connection {
     pub(crate) listener: Option<TcpListener>,
-    pub(crate) open: Option<Open>,
+    pub(crate) served: Option<Served>,
     idle: Idle,
 }
 
-impl Open {
+impl Served {
     /// Reads, and says how many bytes, before the connection's time ends.
     fn read<R: Clock>(&mut self, rt: &R, buf: &mut [u8]) -> io::Result<usize>
         ensures { ReadsAtMost result buf.new }
@@ -77,11 +77,11 @@ impl Open {
 
 impl Connection {
     pub(crate) fn new() -> Connection
-        ensures { (result.listener ≡ None) × (result.open ≡ None) }
+        ensures { (result.listener ≡ None) × (result.served ≡ None) }
     {
         Connection {
             listener: None,
-            open: None,
+            served: None,
             idle: Idle::new(),
         }
     }
@@ -93,7 +93,7 @@ impl Connection {
         address: &str,
     ) -> io::Result<()> {
         self.listener = None;
-        self.open = None;
+        self.served = None;
         self.idle = Idle::new();
         let listener = TcpListener::bind(rt, address)?;
         listener.set_nonblocking(true)?;
@@ -111,39 +111,39 @@ impl Connection {
         };
         let stream = self.idle.wait(listener)?;
         let ends = in_seconds(rt, REQUEST_SECONDS)?;
-        self.open = Some(Open { stream, ends });
+        self.served = Some(Served { stream, ends });
         Ok(())
     }
 
     /// Reads from the connection that is open, and says how many bytes.
     pub(crate) fn receive<R: Clock>(&mut self, rt: &R, buf: &mut [u8]) -> io::Result<usize>
         ensures bound { ReadsAtMost result buf.new }
-        ensures shut { self.old.open ≡ None → IsErr result }
+        ensures shut { self.old.served ≡ None → IsErr result }
     {
-        match &mut self.open {
-            Some(open) => open.read(rt, buf),
+        match &mut self.served {
+            Some(served) => served.read(rt, buf),
             None => Err(ErrorKind::NotConnected.into()),
         }
     }
 
     /// Sends bytes on the connection that is open. After Ok the system has them all.
     pub(crate) fn send<R: Clock>(&mut self, rt: &R, bytes: &[u8]) -> io::Result<()>
-        ensures shut { self.old.open ≡ None → IsErr result }
+        ensures shut { self.old.served ≡ None → IsErr result }
     {
-        let Some(open) = &mut self.open else {
+        let Some(served) = &mut self.served else {
             return Err(ErrorKind::NotConnected.into());
         };
         let ends = in_seconds(rt, ANSWER_SECONDS)?;
-        write_by(rt, &mut open.stream, bytes, ends)
+        write_by(rt, &mut served.stream, bytes, ends)
     }
 
     /// Closes the connection that is open, if one is.
     pub(crate) fn close<R: Clock>(&mut self, rt: &R)
-        ensures shut { self.new.open ≡ None }
+        ensures shut { self.new.served ≡ None }
         ensures same { self.new.listener ≡ self.old.listener }
     {
-        if let Some(open) = self.open.take() {
-            let _ = open.end(rt);
+        if let Some(served) = self.served.take() {
+            let _ = served.end(rt);
         }
     }
 }

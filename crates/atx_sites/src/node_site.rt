@@ -47,7 +47,7 @@ impl<
     pub fn new(rt: R) -> NodeSite<R>
         ensures disk { (result.disk.disk ≡ 0) × (result.disk.gate ≡ 0) }
         ensures network { (result.accept ≡ 0) × (result.receive ≡ 0) × (result.link ≡ 0) × (result.taken ≡ 0) }
-        ensures shut { (result.connection.listener ≡ None) × (result.connection.open ≡ None) }
+        ensures shut { (result.connection.listener ≡ None) × (result.connection.served ≡ None) }
     {
         NodeSite {
             rt,
@@ -155,7 +155,7 @@ impl<R: Files<File = File> + Net<Listener = TcpListener, Stream = TcpStream> + C
     }
 
     fn receive(&mut self, buf: &mut [u8]) -> Result<usize, Failed>
-        ensures shut { self.old.connection.open ≡ None → IsErr result }
+        ensures shut { self.old.connection.served ≡ None → IsErr result }
         ensures tallied { Tallied self.old.receive self.new.receive result }
         ensures same_length { length buf.new ≡ length buf.old }
         ensures call { Received result buf.new (told_with self.old.disk self.old.accept self.old.receive self.old.link self.old.taken) (told_with self.new.disk self.new.accept self.new.receive self.new.link self.new.taken) }
@@ -165,7 +165,7 @@ impl<R: Files<File = File> + Net<Listener = TcpListener, Stream = TcpStream> + C
 
     #[tactic(auto, using(crate::proofs::Silent::gave))]
     fn send(&mut self, bytes: &[u8]) -> Result<(), Failed>
-        ensures shut { self.old.connection.open ≡ None → IsErr result }
+        ensures shut { self.old.connection.served ≡ None → IsErr result }
         ensures tallied { Tallied self.old.link self.new.link result }
         ensures call { Gave (Send bytes.now) result (told_with self.old.disk self.old.accept self.old.receive self.old.link self.old.taken) (told_with self.new.disk self.new.accept self.new.receive self.new.link self.new.taken) }
     {
@@ -173,7 +173,7 @@ impl<R: Files<File = File> + Net<Listener = TcpListener, Stream = TcpStream> + C
     }
 
     fn close(&mut self)
-        ensures shut { self.new.connection.open ≡ None }
+        ensures shut { self.new.connection.served ≡ None }
         ensures same { (self.new.connection.listener ≡ self.old.connection.listener) × (self.new.disk ≡ self.old.disk) }
         ensures call { Closes (told_with self.old.disk self.old.accept self.old.receive self.old.link self.old.taken) (told_with self.new.disk self.new.accept self.new.receive self.new.link self.new.taken) }
     {
@@ -185,10 +185,8 @@ impl<R: Files<File = File> + Net<Listener = TcpListener, Stream = TcpStream> + C
         ensures tallied { Tallied self.old.link self.new.link result }
         ensures call { Gave (Post host.now port bytes.now) result (told_with self.old.disk self.old.accept self.old.receive self.old.link self.old.taken) (told_with self.new.disk self.new.accept self.new.receive self.new.link self.new.taken) }
     {
-        counted(
-            &mut self.link,
-            self.posted.post(&self.rt, host, port, bytes),
-        )
+        let answer = self.posted.post(&self.rt, host, port, bytes);
+        counted(&mut self.link, answer)
     }
 
     fn now(&mut self) -> u64 {
