@@ -4,4 +4,8 @@ mod Lines
 mod Rest
 mod Bounds
 mod Wholes
+mod Texts
 mod Back
+mod InitiatorRest
+mod InitiatorRead
+mod InitiatorBack

@@ -5,3 +5,6 @@ pub mod Meanings
 pub mod Schedules
 pub mod Examples
 pub mod Written
+pub mod InitiatorExamples
+pub mod InitiatorLines
+pub mod InitiatorWritten

@@ -1,6 +1,10 @@
-//! Schedules: the lines that a replay runs, and their exact reader.
+//! Schedules and the lines of an initiator: their lines, and the exact readers.
 #![tactic(auto)]
 
+pub mod initiator_laws;
+pub mod initiator_line;
+pub mod initiator_reader;
+mod initiator_words;
 pub mod laws;
 pub mod line;
 mod meaning;
