@@ -122,7 +122,12 @@ fn tell<K: Sink>(sink: &mut K, reason: &NoJob) -> u8
 }
 
 /// Reads the source, and prints what the filter makes of it.
-fn filter<S: Source, K: Sink>(alloc: Global, filter: &Filter<'_>, source: &mut S, sink: &mut K) -> u8
+fn filter<S: Source, K: Sink>(
+    alloc: Global,
+    filter: &Filter<'_>,
+    source: &mut S,
+    sink: &mut K,
+) -> u8
     ensures statuses { IsTrue (list_any (nat_eq result) (0 ∷ 3 ∷ 4 ∷ 5 ∷ 9 ∷ 10 ∷ [])) }
     ensures source_failed { result ≡ 4 → Rose (S.faults source.old) (S.faults source.new) }
     ensures sink_failed { result ≡ 5 → Rose (K.faults sink.old) (K.faults sink.new) }
