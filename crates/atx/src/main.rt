@@ -4,8 +4,8 @@
 mod outside;
 
 use crate::outside::{Reading, Writing};
+use atx_sites::node_site::NodeSite;
 use command_line::run::{NO_JOB, NO_MEMORY, run};
-use site_model::sure::SureSite;
 use std::env;
 use std::io::ErrorKind;
 use std::process::ExitCode;
@@ -24,7 +24,7 @@ fn main(rt: HostRuntime) -> ExitCode {
     }
     let mut source = Reading::new(rt.stdin());
     let mut sink = Writing::new(rt.stdout());
-    let mut site = SureSite::new();
+    let mut site = NodeSite::new(&rt);
     ExitCode::from(run(
         rt.alloc(),
         words.as_slice(),

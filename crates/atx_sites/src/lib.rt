@@ -1,8 +1,13 @@
-//! A node's real machine: its two files.
+//! A node's real machine: its two files, its listener and connection, its posts and its clock.
 #![tactic(auto)]
 
+pub mod connection;
+mod deadlines;
 pub mod disk;
 pub mod faults;
 pub mod file_site;
 pub mod held;
+mod idle;
 pub mod names;
+pub mod node_site;
+mod posted;

@@ -6,21 +6,22 @@ use Rattle.clap.specs.declared.error.kind.ErrorKind.TheVariants.{InvalidSubcomma
 use Rattle.clap.proofs.OnLiterals.{clap_on_literals}
 use Rattle.command_line.specs.Commands.{whole}
 use Rattle.command_line.specs.Jobs.{IsJobOf, IsQuestion}
-use Rattle.command_line.specs.Jobs.Job.{Cell, Check, Replay}
+use Rattle.command_line.specs.Jobs.Filter.{Cell, Check, Replay}
+use Rattle.command_line.specs.Jobs.Job.{Filters}
 
-cell_in_state : IsJobOf (codes "cell" ∷ codes "--state" ∷ codes "None" ∷ []) (Cell states.None)
+cell_in_state : IsJobOf (codes "cell" ∷ codes "--state" ∷ codes "None" ∷ []) (Filters (Cell states.None))
 unfolding clap_on_literals
 cell_in_state = (refl, (refl, refl))
 
-check_at_the_root : IsJobOf (codes "check" ∷ []) (Check (codes "/"))
+check_at_the_root : IsJobOf (codes "check" ∷ []) (Filters (Check (codes "/")))
 unfolding clap_on_literals
 check_at_the_root = (refl, (refl, refl))
 
-check_at_a_path : IsJobOf (codes "check" ∷ codes "--path=/work" ∷ []) (Check (codes "/work"))
+check_at_a_path : IsJobOf (codes "check" ∷ codes "--path=/work" ∷ []) (Filters (Check (codes "/work")))
 unfolding clap_on_literals
 check_at_a_path = (refl, (refl, refl))
 
-replay : IsJobOf (codes "replay" ∷ []) Replay
+replay : IsJobOf (codes "replay" ∷ []) (Filters Replay)
 unfolding clap_on_literals
 replay = (refl, refl)
 
@@ -55,3 +56,7 @@ unknown_command = refl
 no_option_yet : fault_of whole (codes "replay" ∷ codes "--bytes" ∷ []) ≡ UnknownArgument ∷ []
 unfolding clap_on_literals
 no_option_yet = refl
+
+no_url : fault_of whole (codes "tick" ∷ []) ≡ MissingRequiredArgument ∷ []
+unfolding clap_on_literals
+no_url = refl

@@ -3,4 +3,5 @@ mod Parsing
 mod Printing
 mod Purity
 mod Rows
+mod Ticking
 mod Words

@@ -6,7 +6,7 @@ use Rattle.std.specs.Io.KnownBytes.{Appends}
 use Rattle.site_model.specs.Counts.{RisesBy}
 use Rattle.site_model.specs.Source.{IsWhole}
 use Rattle.envelope_cmd.specs.Output.{Output}
-use Rattle.command_line.specs.Jobs.{Job}
+use Rattle.command_line.specs.Jobs.{Filter}
 use Rattle.replay_cmd.specs.Laws.{ReadIsReplayable, ReportsAreSafe}
 use Rattle.schedules.specs.Schedules.{schedule_of}
 use Rattle.command_line.specs.Reports.{IsCut, IsDone, IsReplayOf, Reports, replayed, status_of}
@@ -29,10 +29,10 @@ settled_by status s true b p q h k = eqb-true status s p
 settled_by status s false true p q h k = absurd (not_five status (eqb-true status 5 q) k)
 settled_by status s false false p q h k = let no_more : IsTrue false = h in absurd cc
 
-reported : (job : Job) (bytes told input : List ℕ) (output : Output) → told ≡ bytes → bytes ≡ input → Reports job told output → Reports job input output
+reported : (job : Filter) (bytes told input : List ℕ) (output : Output) → told ≡ bytes → bytes ≡ input → Reports job told output → Reports job input output
 reported job bytes told input output f g h = subst (λ x. Reports job x output) (f ∙ g) h
 
-pub all_printed : (left : Option (List ℕ)) (before now : ℕ) (bytes told : List ℕ) (job : Job) (old new : Option (List ℕ)) (status : ℕ) (output : Output)
+pub all_printed : (left : Option (List ℕ)) (before now : ℕ) (bytes told : List ℕ) (job : Filter) (old new : Option (List ℕ)) (status : ℕ) (output : Output)
     → IsWhole left before now bytes → told ≡ bytes → Reports job told output
     → IsTrue (list_any (nat_eq status) (status_of output ∷ 5 ∷ [])) → (status ≡ status_of output → Appends old new output.text)
     → IsTrue (list_any (nat_eq status) (0 ∷ 3 ∷ [])) → IfSome left (λ input. IsDone job input old new status)
@@ -41,7 +41,7 @@ all_printed left before now bytes told job old new status output whole t reports
     on_some {P = λ input. bytes ≡ input} {Q = λ input. IsDone job input old new status} left
     (λ input f. record { output = output; reports = reported job bytes told input output t f reports; printed = all e; ended = e }) whole.all
 
-pub part_printed : (left : Option (List ℕ)) (before now : ℕ) (bytes told : List ℕ) (job : Job) (old new : Option (List ℕ)) (output : Output)
+pub part_printed : (left : Option (List ℕ)) (before now : ℕ) (bytes told : List ℕ) (job : Filter) (old new : Option (List ℕ)) (output : Output)
     → IsWhole left before now bytes → told ≡ bytes → Reports job told output
     → (n : ℕ) × ((n ≤ length output.text) × Appends old new (take n output.text)) → IfSome left (λ input. IsCut job input old new)
 part_printed left before now bytes told job old new output whole t reports (n, (within, part)) =

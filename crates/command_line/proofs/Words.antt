@@ -1,19 +1,20 @@
 -- What an error of clap's says of the words.
-use Rattle.std.proofs.Common.{◌≡◌, ◌≢◌, ℕ, List, [], ◌∷◌, Option, nat_eq, Bool, true, false, ap, subst, sym, ◌∙◌, inl, inr, IsTrue, ◌⊎◌}
+use Rattle.std.proofs.Common.{◌≡◌, ◌≢◌, ℕ, List, [], ◌∷◌, Option, None, Some, nat_eq, Bool, true, false, ap, subst, sym, ◌∙◌, inl, inr, IsTrue, ◌⊎◌}
 use Rattle.clap.specs.Faults.{fault_of}
 use Rattle.clap.specs.Kinds.{HasKind, IsAmong, Kinds}
 use Rattle.clap.specs.Values.{kind_of}
-use Rattle.clap.specs.Walk.{Text}
+use Rattle.clap.specs.Simple.{subcommand_of}
+use Rattle.clap.specs.Walk.{Row, Text}
 use Rattle.clap.specs.declared.error.Error.{Error}
 use Rattle.clap.specs.declared.error.kind.ErrorKind.{ErrorKind}
 use Rattle.clap.specs.declared.error.kind.ErrorKind.TheVariants.{OutOfMemory}
 use Rattle.command_line.specs.Commands.{whole}
 use Rattle.command_line.specs.Jobs.{IsFaulty, IsJob, asks, asks_for}
-use Rattle.command_line.specs.Views.{Says, Tells, statuses_of, told, unknown_state}
+use Rattle.command_line.specs.Views.{Says, SaysUnread, Tells, statuses_of, told, unread_text}
 use Rattle.std.specs.List.{list_any}
 use Rattle.std.specs.Io.KnownBytes.{Appends}
 use Rattle.command_line.specs.declared.job.NoJob.{NoJob}
-use Rattle.command_line.specs.declared.job.NoJob.TheVariants.{NoMemory, Question, Refused, Unread}
+use Rattle.command_line.specs.declared.job.NoJob.TheVariants.{NoDestination, NoMemory, Question, Refused, UnknownState}
 use Rattle.command_line.proofs.Purity.{IsPure, fault_is_pure}
 
 no_job : (words : List Text) → fault_of whole words ≢ [] → IsJob words → ⊥
@@ -39,19 +40,33 @@ pub told_of : (words : List Text) (error : Error) (answer : NoJob) → HasKind (
 told_of words error NoMemory h s = tt
 told_of words error (Question text) h s = asked (fault_of whole words) (kind_of error) (fault_is_pure words) h s
 told_of words error (Refused text) h s = refusal words (kind_of error) (fault_is_pure words) h s.0 s.1
-told_of words error Unread h s = absurd s
+told_of words error UnknownState h s = absurd s
+told_of words error NoDestination h s = absurd s
 
 asks_nothing : (kinds : Kinds) → kinds ≡ [] → IsTrue (asks kinds) → ⊥
 asks_nothing kinds e h = not_true (asks kinds) (ap asks e) h
 
-pub unread : (words : List Text) → fault_of whole words ≡ [] → (IsJob words → ⊥) → Tells words Unread
-unread words e n = ((n, asks_nothing (fault_of whole words) e), e)
+pub unread : (words : List Text) (found : Option (Text × List Row)) (name : Text) (rows : List Row) (answer : NoJob) → fault_of whole words ≡ [] → found ≡ subcommand_of whole words
+    → found ≡ Some (name, rows) → SaysUnread name answer → (IsJob words → ⊥) → Tells words answer
+unread words found name rows NoMemory e f g h n = absurd h
+unread words found name rows (Question text) e f g h n = absurd h
+unread words found name rows (Refused text) e f g h n = absurd h
+unread words found name rows UnknownState e f g h n = ((n, asks_nothing (fault_of whole words) e), e, ap unread_text (sym f ∙ g) ∙ h)
+unread words found name rows NoDestination e f g h n = ((n, asks_nothing (fault_of whole words) e), e, ap unread_text (sym f ∙ g) ∙ h)
 
--- 2 where clap has no fault: the states are said
+pub none_found : (words : List Text) (found : Option (Text × List Row)) → fault_of whole words ≡ [] → found ≡ subcommand_of whole words → found ≡ None → (IsJob words → ⊥)
+    → Tells words UnknownState
+none_found words found e f g n = ((n, asks_nothing (fault_of whole words) e), e, ap unread_text (sym f ∙ g))
+
+not_five : (status : ℕ) → status ≡ 2 → (status ≡ 5 → ⊥)
+not_five status e five = let no_more : true ≡ false = ap (λ n. nat_eq n 5) (sym five ∙ e) in absurd cc
+
+-- 2 where clap has no fault: what the value may be is said
 pub unknown_said : (words : List Text) (reason : NoJob) (old new : Option (List ℕ)) (status : ℕ) → Tells words reason
     → IsTrue (list_any (nat_eq status) (statuses_of reason)) → ((status ≡ 5 → ⊥) → Appends old new (told reason))
-    → status ≡ 2 → fault_of whole words ≡ [] → Appends old new unknown_state
+    → status ≡ 2 → fault_of whole words ≡ [] → Appends old new (unread_text (subcommand_of whole words))
 unknown_said words NoMemory old new status h s t e f = let no_more : IsTrue false = subst (λ n. IsTrue (list_any (nat_eq n) (9 ∷ []))) e s in absurd cc
 unknown_said words (Question text) old new status h s t e f = let no_more : IsTrue false = subst (λ n. IsTrue (list_any (nat_eq n) (0 ∷ 5 ∷ []))) e s in absurd cc
 unknown_said words (Refused text) old new status h s t e f = absurd (h.1 f)
-unknown_said words Unread old new status h s t e f = t (λ five. let no_more : true ≡ false = ap (λ n. nat_eq n 5) (sym five ∙ e) in absurd cc)
+unknown_said words UnknownState old new status h s t e f = subst (Appends old new) (sym h.2) (t (not_five status e))
+unknown_said words NoDestination old new status h s t e f = subst (Appends old new) (sym h.2) (t (not_five status e))

@@ -30,13 +30,21 @@ check = with_rule (new_app (codes "check")) (preset (codes "path") (codes "/"))
 abbrev pub replay : App
 replay = new_app (codes "replay")
 
+-- `tick --to U`
+abbrev pub tick : App
+tick = with_rule (new_app (codes "tick")) (wanted (codes "to"))
+
 -- the words begin behind the program's name, a command is wanted, and `--version` answers; `help` is no command
 abbrev pub top : App
 top = on_top (λ s. record s { no_binary_name = true; disable_help_subcommand = true; has_version = true; subcommand_required = true })
     (new_app (codes "atx"))
 
+-- with the commands that read their input
+abbrev pub filters : App
+filters = with_subcommand (with_subcommand (with_subcommand top cell.top) check.top) replay.top
+
 abbrev pub whole : App
-whole = with_subcommand (with_subcommand (with_subcommand top cell.top) check.top) replay.top
+whole = with_subcommand filters tick.top
 
 -- clap's command is this one
 pub record IsCommand (app : App) (command : Command) : Type 0 where

@@ -2,3 +2,4 @@ pub mod Commands
 pub mod Jobs
 pub mod Reports
 pub mod Views
+pub mod Ticks

@@ -10,8 +10,8 @@ use Rattle.schedules.specs.Causes.{number_of_cause}
 use Rattle.schedules.specs.Schedules.{schedule_of}
 use Rattle.schedules.specs.declared.line.BadLine.{BadLine}
 use Rattle.schedules.specs.declared.line.Line.{Line}
-use Rattle.command_line.specs.Jobs.{Job}
-use Rattle.command_line.specs.Jobs.Job.{Cell, Check, Replay}
+use Rattle.command_line.specs.Jobs.{Filter}
+use Rattle.command_line.specs.Jobs.Filter.{Cell, Check, Replay}
 
 -- the line of the first bad line of a schedule
 unfoldable pub bad_line : BadLine → List ℕ
@@ -28,27 +28,27 @@ pub record IsReplayOf (input : List ℕ) (output : Output) : Type 0 where
   pub is : output ≡ replayed (schedule_of input)
   pub safe : (lines : List Line) → schedule_of input ≡ Ok lines → IsSafe (nodes_of lines) (world_of lines)
 
--- a job prints this of its input
-abbrev pub Reports : Job → List ℕ → Output → Type 0
+-- a filter prints this of its input
+abbrev pub Reports : Filter → List ℕ → Output → Type 0
 Reports (Cell state) input output = IsCellOf input state output
 Reports (Check path) input output = IsCheckOf input path output
 Reports Replay input output = IsReplayOf input output
 
--- 0 where the job ended, 3 where it refused its input
+-- 0 where it ended, 3 where it refused its input
 abbrev pub status_of : Output → ℕ
 status_of output = if output.is_refusal then 3 else 0
 
 -- the whole report was printed
-pub record IsDone (job : Job) (input : List ℕ) (old new : Option (List ℕ)) (status : ℕ) : Type 0 where
+pub record IsDone (filter : Filter) (input : List ℕ) (old new : Option (List ℕ)) (status : ℕ) : Type 0 where
   pub output : Output
-  pub reports : Reports job input output
+  pub reports : Reports filter input output
   pub printed : Appends old new output.text
   pub ended : status ≡ status_of output
 
 -- a beginning of the report was printed
-pub record IsCut (job : Job) (input : List ℕ) (old new : Option (List ℕ)) : Type 0 where
+pub record IsCut (filter : Filter) (input : List ℕ) (old new : Option (List ℕ)) : Type 0 where
   pub output : Output
-  pub reports : Reports job input output
+  pub reports : Reports filter input output
   pub count : ℕ
   pub within : count ≤ length output.text
   pub printed : Appends old new (take count output.text)
@@ -58,6 +58,6 @@ pub record IsUndone (old new : Option (List ℕ)) (status : ℕ) : Type 0 where
   pub silent : Appends old new []
   pub memory : status ≡ 9
 
--- a job without faults
-abbrev pub IsReport : Job → List ℕ → Option (List ℕ) → Option (List ℕ) → ℕ → Type 0
-IsReport job input old new status = IsDone job input old new status ⊎ IsUndone old new status
+-- a filter without faults
+abbrev pub IsReport : Filter → List ℕ → Option (List ℕ) → Option (List ℕ) → ℕ → Type 0
+IsReport filter input old new status = IsDone filter input old new status ⊎ IsUndone old new status

@@ -2,7 +2,7 @@
 
 ghost use Rattle.std.specs.Prelude.{◌≡◌, false, IfOk};
 ghost use Rattle.clap.specs.Walk.{rule_of};
-ghost use Rattle.command_line.specs.Commands.{IsCommand, valued, cell, check, replay, top, whole};
+ghost use Rattle.command_line.specs.Commands.{IsCommand, valued, cell, check, replay, filters, tick, top, whole};
 
 use clap::{Arg, ArgAction, Command};
 use std::alloc::{AllocError, Global};
@@ -51,6 +51,18 @@ fn replay<'a>(alloc: Global) -> Command<'a>
     )
 }
 
+/// `tick --to U`.
+fn tick<'a>(alloc: Global) -> Result<Command<'a>, AllocError>
+    ensures { IfOk result (IsCommand tick) }
+{
+    let to = valued(alloc, "to", "URL")
+        .required(true)
+        .help("The base URL of the node, without a slash at its end");
+    Command::new(alloc, "tick")
+        .about("Ask a node to do what is due")
+        .arg(to)
+}
+
 /// The program, without its commands. The words begin behind its name.
 fn top<'a>(alloc: Global) -> Result<Command<'a>, AllocError>
     ensures { IfOk result (IsCommand top) }
@@ -64,11 +76,18 @@ fn top<'a>(alloc: Global) -> Result<Command<'a>, AllocError>
         .bin_name("atx")
 }
 
-/// All commands.
-pub fn whole<'a>(alloc: Global) -> Result<Command<'a>, AllocError>
-    ensures { IfOk result (IsCommand whole) }
+/// The program with the commands that read their input.
+fn filters<'a>(alloc: Global) -> Result<Command<'a>, AllocError>
+    ensures { IfOk result (IsCommand filters) }
 {
     let command = top(alloc)?.subcommand(cell(alloc)?)?;
     let command = command.subcommand(check(alloc)?)?;
     command.subcommand(replay(alloc))
+}
+
+/// All commands.
+pub fn whole<'a>(alloc: Global) -> Result<Command<'a>, AllocError>
+    ensures { IfOk result (IsCommand whole) }
+{
+    filters(alloc)?.subcommand(tick(alloc)?)
 }

@@ -5,3 +5,4 @@ mod commands;
 mod job;
 mod replay;
 pub mod run;
+mod tick;

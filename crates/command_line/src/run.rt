@@ -4,14 +4,19 @@ ghost use Rattle.std.specs.Prelude.{ℕ, List, ◌≡◌, ◌≢◌, ◌+◌, �
 ghost use Rattle.std.specs.List.{list_any};
 ghost use Rattle.std.specs.Io.KnownBytes.{Appends};
 ghost use Rattle.site_model.specs.Counts.{capped, RisesBy, Rose};
+ghost use Rattle.addressing.specs.declared.post_to.PostTo.{PostTo};
 ghost use Rattle.clap.specs.Faults.{fault_of};
+ghost use Rattle.clap.specs.Simple.{subcommand_of};
 ghost use Rattle.command_line.specs.Commands.{whole};
-ghost use Rattle.command_line.specs.Jobs.{IsFaulty, IsJob, IsJobOf, IsQuestion, Job as Meant};
+ghost use Rattle.command_line.specs.Jobs.{Filter as Filtering, IsFaulty, IsFilter, IsJob, IsJobOf, IsQuestion};
 ghost use Rattle.command_line.specs.Reports.{IsCut, IsDone, IsReport, Reports, status_of};
-ghost use Rattle.command_line.specs.Views.{meant, statuses_of, told, unknown_state, Leaves};
+ghost use Rattle.command_line.specs.Jobs.Job.{Filters, Tick};
+ghost use Rattle.command_line.specs.Ticks.{FailedToTick, HasTicked};
+ghost use Rattle.command_line.specs.Views.{meant_filter, no_destination, statuses_of, told, unknown_state, unread_text, Leaves};
 
-use crate::job::{Job, NoJob, job_of};
+use crate::job::{Filter, Job, NoJob, job_of};
 use crate::replay::replayed;
+use crate::tick::tick;
 use envelope_cmd::cell::cell;
 use envelope_cmd::check::check;
 use envelope_cmd::printed::Printed;
@@ -35,20 +40,23 @@ pub const SOURCE_FAILED: u8 = 4;
 /// The sink failed.
 pub const SINK_FAILED: u8 = 5;
 
+/// The post failed.
+pub const LINK_FAILED: u8 = 8;
+
 /// Want of memory.
 pub const NO_MEMORY: u8 = 9;
 
 /// The source has more than 1,048,576 bytes.
 pub const TOO_LONG: u8 = 10;
 
-/// What a job prints of its input.
-fn report(alloc: Global, job: &Job<'_>, input: &[u8]) -> Result<Printed, AllocError>
-    ensures sound { IfOk result (Reports (meant job.now) input.now) }
+/// What a filter prints of its input.
+fn report(alloc: Global, filter: &Filter<'_>, input: &[u8]) -> Result<Printed, AllocError>
+    ensures sound { IfOk result (Reports (meant_filter filter.now) input.now) }
 {
-    match job {
-        Job::Cell(state) => cell(alloc, input, *state),
-        Job::Check(path) => check(alloc, input, path),
-        Job::Replay => replayed(alloc, input),
+    match filter {
+        Filter::Cell(state) => cell(alloc, input, *state),
+        Filter::Check(path) => check(alloc, input, path),
+        Filter::Replay => replayed(alloc, input),
     }
 }
 
@@ -87,6 +95,15 @@ fn unknown_state() -> &'static str
 For more information, try '--help'.\n"
 }
 
+/// What is said of a base at which nothing can be posted.
+fn no_destination() -> &'static str
+    ensures { result.now ≡ no_destination }
+{
+    "error: invalid value for '--to <URL>'\n  \
+[an http URL, with '/tick' behind it of at most 2048 bytes]\n\n\
+For more information, try '--help'.\n"
+}
+
 /// Says why the words are no job, and gives the status.
 fn tell<K: Sink>(sink: &mut K, reason: &NoJob) -> u8
     ensures statuses { IsTrue (list_any (nat_eq result) (statuses_of reason.now)) }
@@ -99,12 +116,18 @@ fn tell<K: Sink>(sink: &mut K, reason: &NoJob) -> u8
         NoJob::NoMemory => NO_MEMORY,
         NoJob::Question(text) => say(sink, text.as_str(), DONE),
         NoJob::Refused(text) => say(sink, text.as_str(), NO_JOB),
-        NoJob::Unread => say(sink, unknown_state(), NO_JOB),
+        NoJob::UnknownState => say(sink, unknown_state(), NO_JOB),
+        NoJob::NoDestination => say(sink, no_destination(), NO_JOB),
     }
 }
 
-/// Reads the source, and does the job.
-fn work<S: Source, K: Sink>(alloc: Global, job: &Job<'_>, source: &mut S, sink: &mut K) -> u8
+/// Reads the source, and prints what the filter makes of it.
+fn filter<S: Source, K: Sink>(
+    alloc: Global,
+    filter: &Filter<'_>,
+    source: &mut S,
+    sink: &mut K,
+) -> u8
     ensures statuses { IsTrue (list_any (nat_eq result) (0 ∷ 3 ∷ 4 ∷ 5 ∷ 9 ∷ 10 ∷ [])) }
     ensures source_failed { result ≡ 4 → Rose (S.faults source.old) (S.faults source.new) }
     ensures sink_failed { result ≡ 5 → Rose (K.faults sink.old) (K.faults sink.new) }
@@ -113,9 +136,9 @@ fn work<S: Source, K: Sink>(alloc: Global, job: &Job<'_>, source: &mut S, sink: 
     ensures longer { result ≡ 10 → IfSome (S.left source.old) (λ input. 1048576 < length input) }
     ensures whole { IsTrue (list_any (nat_eq result) (0 ∷ 3 ∷ 5 ∷ [])) → IfSome (S.left source.old) (λ input. RisesBy (length input) (S.given source.old) (S.given source.new)) }
     ensures quiet { IsTrue (list_any (nat_eq result) (4 ∷ 9 ∷ 10 ∷ [])) → Appends (K.contents sink.old) (K.contents sink.new) [] }
-    ensures ended { IsTrue (list_any (nat_eq result) (0 ∷ 3 ∷ [])) → IfSome (S.left source.old) (λ input. IsDone (meant job.now) input (K.contents sink.old) (K.contents sink.new) result) }
-    ensures cut { result ≡ 5 → IfSome (S.left source.old) (λ input. IsCut (meant job.now) input (K.contents sink.old) (K.contents sink.new)) }
-    ensures report { (input : List ℕ) → S.left source.old ≡ Some input → length input ≤ 1048576 → ¬ (Rose (S.faults source.old) (S.faults source.new)) → ¬ (Rose (K.faults sink.old) (K.faults sink.new)) → IsReport (meant job.now) input (K.contents sink.old) (K.contents sink.new) result }
+    ensures ended { IsTrue (list_any (nat_eq result) (0 ∷ 3 ∷ [])) → IfSome (S.left source.old) (λ input. IsDone (meant_filter filter.now) input (K.contents sink.old) (K.contents sink.new) result) }
+    ensures cut { result ≡ 5 → IfSome (S.left source.old) (λ input. IsCut (meant_filter filter.now) input (K.contents sink.old) (K.contents sink.new)) }
+    ensures report { (input : List ℕ) → S.left source.old ≡ Some input → length input ≤ 1048576 → ¬ (Rose (S.faults source.old) (S.faults source.new)) → ¬ (Rose (K.faults sink.old) (K.faults sink.new)) → IsReport (meant_filter filter.now) input (K.contents sink.old) (K.contents sink.new) result }
 {
     let bytes = match read_all(alloc, source) {
         Ok(bytes) => bytes,
@@ -123,7 +146,7 @@ fn work<S: Source, K: Sink>(alloc: Global, job: &Job<'_>, source: &mut S, sink: 
         Err(ReadFault::Failed) => return SOURCE_FAILED,
         Err(ReadFault::TooLong) => return TOO_LONG,
     };
-    match report(alloc, job, bytes.as_slice()) {
+    match report(alloc, filter, bytes.as_slice()) {
         Ok(printed) => print(sink, &printed),
         Err(_) => NO_MEMORY,
     }
@@ -134,9 +157,10 @@ fn work<S: Source, K: Sink>(alloc: Global, job: &Job<'_>, source: &mut S, sink: 
 ///
 /// `cell --state S` reads one envelope from the source, and prints the cell of state S that it meets and the envelope
 /// that the cell posts. `check [--path P]` prints what the envelope says, line by line. `replay` reads a schedule, and
-/// prints its report. All that is printed is made in
-/// memory before the first write. `--help` and `--version` are answered without a look at the source, and so are words
-/// that clap refuses: it says why. A state of another name is answered with those that there are. The site stays as it is.
+/// prints its report. All that is printed is made in memory before the first write. `tick --to U` posts to U`/tick`, and
+/// reads and prints nothing. `--help` and `--version` are answered without a look at the source, and so are words that
+/// clap refuses: it says why. A value that doesn't read is answered with what it may be. But for `tick` the site stays as
+/// it is.
 #[tactic(auto, using(crate::proofs::Words::unknown_said))]
 pub fn run<S: Source, K: Sink, H: Site>(
     alloc: Global,
@@ -145,27 +169,35 @@ pub fn run<S: Source, K: Sink, H: Site>(
     sink: &mut K,
     site: &mut H,
 ) -> u8
-    ensures statuses { IsTrue (list_any (nat_eq result) (0 ∷ 2 ∷ 3 ∷ 4 ∷ 5 ∷ 9 ∷ 10 ∷ [])) }
+    ensures statuses { IsTrue (list_any (nat_eq result) (0 ∷ 2 ∷ 3 ∷ 4 ∷ 5 ∷ 8 ∷ 9 ∷ 10 ∷ [])) }
     ensures words { result ≡ 2 → IsFaulty (map string_bytes words.now) }
     ensures faulty { IsFaulty (map string_bytes words.now) → IsTrue (list_any (nat_eq result) (2 ∷ 5 ∷ 9 ∷ [])) }
     ensures question { IsQuestion (map string_bytes words.now) → IsTrue (list_any (nat_eq result) (0 ∷ 5 ∷ 9 ∷ [])) }
-    ensures unread { ¬ (IsJob (map string_bytes words.now)) → source.new ≡ source.old }
+    ensures filtered { IsFilter (map string_bytes words.now) → IsTrue (list_any (nat_eq result) (0 ∷ 3 ∷ 4 ∷ 5 ∷ 9 ∷ 10 ∷ [])) }
+    ensures unread { ¬ (IsFilter (map string_bytes words.now)) → source.new ≡ source.old }
     ensures said { ¬ (IsJob (map string_bytes words.now)) → (said : List ℕ) × Appends (K.contents sink.old) (K.contents sink.new) said }
-    ensures unknown { result ≡ 2 → fault_of whole (map string_bytes words.now) ≡ [] → Appends (K.contents sink.old) (K.contents sink.new) unknown_state }
-    ensures untouched { site.new ≡ site.old }
+    ensures unknown { result ≡ 2 → fault_of whole (map string_bytes words.now) ≡ [] → Appends (K.contents sink.old) (K.contents sink.new) (unread_text (subcommand_of whole (map string_bytes words.now))) }
+    ensures untouched { ((to : PostTo) → ¬ (IsJobOf (map string_bytes words.now) (Tick to))) → site.new ≡ site.old }
+    ensures asked { (to : PostTo) → IsJobOf (map string_bytes words.now) (Tick to) → IsTrue (list_any (nat_eq result) (0 ∷ 8 ∷ 9 ∷ [])) }
+    ensures silent { (to : PostTo) → IsJobOf (map string_bytes words.now) (Tick to) → Appends (K.contents sink.old) (K.contents sink.new) [] }
+    ensures ticked { (to : PostTo) → IsJobOf (map string_bytes words.now) (Tick to) → result ≡ 0 → HasTicked to (H.told site.old) (H.told site.new) }
+    ensures not_ticked { (to : PostTo) → IsJobOf (map string_bytes words.now) (Tick to) → result ≡ 8 → FailedToTick to (H.told site.old) (H.told site.new) }
+    ensures link_failed { result ≡ 8 → Rose (H.told site.old).counts.link (H.told site.new).counts.link }
+    ensures idle { result ≡ 9 → site.new ≡ site.old }
     ensures source_failed { result ≡ 4 → Rose (S.faults source.old) (S.faults source.new) }
     ensures sink_failed { result ≡ 5 → Rose (K.faults sink.old) (K.faults sink.new) }
     ensures too_long { result ≡ 10 → capped (S.given source.old + 1048577) ≤ S.given source.new }
     ensures not_longer { S.given source.old + 1048576 < S.given source.new → result ≡ 10 }
     ensures longer { result ≡ 10 → IfSome (S.left source.old) (λ input. 1048576 < length input) }
-    ensures whole { IsJob (map string_bytes words.now) → IsTrue (list_any (nat_eq result) (0 ∷ 3 ∷ 5 ∷ [])) → IfSome (S.left source.old) (λ input. RisesBy (length input) (S.given source.old) (S.given source.new)) }
-    ensures quiet { IsTrue (list_any (nat_eq result) (4 ∷ 9 ∷ 10 ∷ [])) → Appends (K.contents sink.old) (K.contents sink.new) [] }
-    ensures ended { (job : Meant) → IsJobOf (map string_bytes words.now) job → IsTrue (list_any (nat_eq result) (0 ∷ 3 ∷ [])) → IfSome (S.left source.old) (λ input. IsDone job input (K.contents sink.old) (K.contents sink.new) result) }
-    ensures cut { (job : Meant) → IsJobOf (map string_bytes words.now) job → result ≡ 5 → IfSome (S.left source.old) (λ input. IsCut job input (K.contents sink.old) (K.contents sink.new)) }
-    ensures report { (job : Meant) → (input : List ℕ) → IsJobOf (map string_bytes words.now) job → S.left source.old ≡ Some input → length input ≤ 1048576 → ¬ (Rose (S.faults source.old) (S.faults source.new)) → ¬ (Rose (K.faults sink.old) (K.faults sink.new)) → IsReport job input (K.contents sink.old) (K.contents sink.new) result }
+    ensures whole { IsFilter (map string_bytes words.now) → IsTrue (list_any (nat_eq result) (0 ∷ 3 ∷ 5 ∷ [])) → IfSome (S.left source.old) (λ input. RisesBy (length input) (S.given source.old) (S.given source.new)) }
+    ensures quiet { IsTrue (list_any (nat_eq result) (4 ∷ 8 ∷ 9 ∷ 10 ∷ [])) → Appends (K.contents sink.old) (K.contents sink.new) [] }
+    ensures ended { (filter : Filtering) → IsJobOf (map string_bytes words.now) (Filters filter) → IsTrue (list_any (nat_eq result) (0 ∷ 3 ∷ [])) → IfSome (S.left source.old) (λ input. IsDone filter input (K.contents sink.old) (K.contents sink.new) result) }
+    ensures cut { (filter : Filtering) → IsJobOf (map string_bytes words.now) (Filters filter) → result ≡ 5 → IfSome (S.left source.old) (λ input. IsCut filter input (K.contents sink.old) (K.contents sink.new)) }
+    ensures report { (filter : Filtering) → (input : List ℕ) → IsJobOf (map string_bytes words.now) (Filters filter) → S.left source.old ≡ Some input → length input ≤ 1048576 → ¬ (Rose (S.faults source.old) (S.faults source.new)) → ¬ (Rose (K.faults sink.old) (K.faults sink.new)) → IsReport filter input (K.contents sink.old) (K.contents sink.new) result }
 {
     match job_of(alloc, words) {
-        Ok(job) => work(alloc, &job, source, sink),
+        Ok(Job::Filter(chosen)) => filter(alloc, &chosen, source, sink),
+        Ok(Job::Tick(to)) => tick(alloc, &to, site),
         Err(reason) => tell(sink, &reason),
     }
 }

@@ -153,6 +153,10 @@ const FAULTY: &[(&str, &str)] = &[
         "error: the argument '--path <PATH>' cannot be used multiple times\n\nUsage: atx check [OPTIONS]\n",
     ),
     (
+        "tick",
+        "error: the following required arguments were not provided:\n  --to <URL>\n\nUsage: atx tick --to <URL>\n",
+    ),
+    (
         "check --version",
         "error: unexpected argument '--version' found\n\nUsage: atx check [OPTIONS]\n",
     ),
@@ -169,7 +173,8 @@ const HELP: &str =
     "Atomic transactions between web services (WS-AtomicTransaction 1.2)\n\nUsage: atx <COMMAND>\n\nCommands:\n  \
 cell    Print the cell that an envelope meets in a state, and the envelope that it posts\n  \
 check   Print what an envelope says, line by line\n  \
-replay  Print what the lines of a schedule bring about, line by line\n\nOptions:\n  \
+replay  Print what the lines of a schedule bring about, line by line\n  \
+tick    Ask a node to do what is due\n\nOptions:\n  \
 -h, --help     Print help\n  -V, --version  Print version\n";
 
 const CHECK_HELP: &str =

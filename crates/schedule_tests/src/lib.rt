@@ -2,4 +2,6 @@
 #![tactic(auto)]
 
 #[cfg(test)]
+mod initiator;
+#[cfg(test)]
 mod lines;

@@ -1,14 +1,12 @@
 -- What is written of a schedule is read as it.
-use Rattle.std.proofs.Common.{ℕ, List, [], ◌∷◌, ◌++◌, ◌≡◌, ◌⊎◌, inl, inr, ◌<◌, ◌≤◌, ◌+◌, ◌^◌, ◌==◌, ◌&&◌, nat_le, nat_lt, not, Bool, true, false, cond, Some, Result, Ok, sym, ◌∙◌, ap, arith, refl, length, map}
+use Rattle.std.proofs.Common.{ℕ, List, [], ◌∷◌, ◌++◌, ◌≡◌, ◌⊎◌, inl, inr, ◌<◌, ◌≤◌, ◌+◌, ◌^◌, ◌==◌, ◌&&◌, nat_le, nat_lt, not, Bool, true, false, Some, Result, Ok, sym, ◌∙◌, ap, arith, refl, length, map}
 use Rattle.std.specs.Fmt.{decimal}
 use Rattle.std.specs.Str.{all_ascii_digits}
 use Rattle.std.specs.Char.{is_ascii_digit}
-use Rattle.std.specs.List.{AllByRecursion, join_with_byte, list_all, onto_first, slice_split}
+use Rattle.std.specs.List.{AllByRecursion, join_with_byte, list_all}
 use Rattle.std.proofs.lemmas.Bool.Decides.{nat_tests}
 use Rattle.std.proofs.lemmas.Fmt.{digits_decimal, digits_value-decimal}
-use Rattle.std.proofs.lemmas.List.{append_assoc, append_cancel_right}
 use Rattle.std.proofs.lemmas.List.Folds.{list_all-append}
-use Rattle.std.proofs.lemmas.List.Splits.{length-slice_split}
 use Rattle.at_base.specs.IdText.{IsId, id_text, hyphen}
 use Rattle.at_base.specs.Numbers.{Numbers}
 use Rattle.at_base.specs.declared.notice.Kind.{Kind}
@@ -20,17 +18,13 @@ use Rattle.schedules.specs.declared.line.Line.TheVariants as lines
 use Rattle.schedules.specs.Meanings.{◌>>=◌}
 use Rattle.schedules.specs.Schedules.{at_line, first_line, first_words, lines_from, next_line, next_words, schedule_in, schedule_of}
 use Rattle.schedules.specs.Values.{decimal_of, within, number_in, node_in, id_in, kind_in, vote_in, largest}
-use Rattle.schedules.specs.Words.{ended, unless_empty, is_plain, is_printable, lines_of, words_of}
+use Rattle.schedules.specs.Words.{unless_empty, is_plain, is_printable, lines_of, words_of}
 use Rattle.schedules.specs.Written.{IsNext, IsNode, IsSchedule, kind_word, line_text, vote_word, words_in, written}
+use Rattle.schedules.specs.InitiatorWritten.{are_visible, is_visible}
 use Rattle.schedules.proofs.Decimals.{own, valued}
 use Rattle.schedules.proofs.Ids.{id_there}
-
--- a byte that stands in words: printable and no space
-abbrev pub is_visible : ℕ → Bool
-is_visible b = nat_le 33 b && nat_le b 126
-
-abbrev pub are_visible : List ℕ → Bool
-are_visible w = list_all is_visible w
+use Rattle.schedules.proofs.Texts.{IsKept, IsPlain, all_texts, first_part, is_free, lines_are as texts_are, one_part}
+use Rattle.schedules.proofs.Wholes.{fed, fed_written}
 
 both : (a b : Bool) → (a && b) ≡ true → (a ≡ true) × (b ≡ true)
 both true b e = (refl, e)
@@ -43,7 +37,7 @@ digits_visible (c ∷ cs) e =
     let here : is_visible c ≡ true = grind (arith, nat_tests, p.0) in
     rw here (digits_visible cs p.1)
 
-decimal_visible : (n : ℕ) → n < 2 ^ 64 → are_visible (decimal n) ≡ true
+pub decimal_visible : (n : ℕ) → n < 2 ^ 64 → are_visible (decimal n) ≡ true
 decimal_visible n small = digits_visible (decimal n) (digits_decimal own n small)
 
 id_visible : (i : Numbers) → IsId i → are_visible (id_text i) ≡ true
@@ -53,18 +47,14 @@ id_visible i h =
     list_all-append is_visible (decimal i.incarnation) (hyphen ∷ decimal i.counter)
     ∙ rw (decimal_visible i.incarnation (omega arith)) (decimal_visible i.counter (omega arith))
 
-kind_visible : (k : Kind) → are_visible (kind_word k) ≡ true
+pub kind_visible : (k : Kind) → are_visible (kind_word k) ≡ true
 kind_visible kinds.Durable = refl
 kind_visible kinds.Volatile = refl
 
-vote_visible : (v : Vote) → are_visible (vote_word v) ≡ true
+pub vote_visible : (v : Vote) → are_visible (vote_word v) ≡ true
 vote_visible votes.Prepared = refl
 vote_visible votes.ReadOnly = refl
 vote_visible votes.Aborted = refl
-
--- a text without a byte
-abbrev pub is_free : ℕ → List ℕ → Bool
-is_free c w = list_all (λ b. not (b == c)) w
 
 free_visible : (c : ℕ) (w : List ℕ) → c ≤ 32 → are_visible w ≡ true → is_free c w ≡ true
 free_visible c [] low e = refl
@@ -73,34 +63,7 @@ free_visible c (x ∷ xs) low e =
     let here : not (x == c) ≡ true = grind (arith, nat_tests, p.0) in
     rw here (free_visible c xs low p.1)
 
-free_plain : (w : List ℕ) → is_plain w ≡ true → is_free 10 w ≡ true
-free_plain [] e = refl
-free_plain (x ∷ xs) e =
-    let p = both (is_printable x) (is_plain xs) e in
-    let here : not (x == 10) ≡ true = grind (arith, nat_tests, p.0) in
-    rw here (free_plain xs p.1)
-
-not_cut : (b : Bool) → not b ≡ true → b ≡ false
-not_cut true e = absurd cc
-not_cut false e = refl
-
-one_part : (c : ℕ) (w : List ℕ) → is_free c w ≡ true → slice_split (λ b. b == c) w ≡ w ∷ []
-one_part c [] e = refl
-one_part c (x ∷ xs) e =
-    let p = both (not (x == c)) (is_free c xs) e in
-    rw (not_cut (x == c) p.0) (ap (onto_first x) (one_part c xs p.1))
-
-same_byte : (c : ℕ) → (c == c) ≡ true
-same_byte c = grind (arith, nat_tests)
-
-first_part : (c : ℕ) (w rest : List ℕ) → is_free c w ≡ true
-    → slice_split (λ b. b == c) (w ++ c ∷ rest) ≡ w ∷ slice_split (λ b. b == c) rest
-first_part c [] rest e = rw (same_byte c) refl
-first_part c (x ∷ xs) rest e =
-    let p = both (not (x == c)) (is_free c xs) e in
-    rw (not_cut (x == c) p.0) (ap (onto_first x) (first_part c xs rest p.1))
-
-all_words : (w : List ℕ) (more : List (List ℕ)) → list_all are_visible (w ∷ more) ≡ true
+pub all_words : (w : List ℕ) (more : List (List ℕ)) → list_all are_visible (w ∷ more) ≡ true
     → words_of (join_with_byte 32 (w ∷ more)) ≡ w ∷ more
 all_words w [] e = one_part 32 w (free_visible 32 w (omega arith) (both (are_visible w) true e).0)
 all_words w (v ∷ more) e =
@@ -114,13 +77,13 @@ word_plain (x ∷ xs) e =
     let here : is_printable x ≡ true = grind (arith, nat_tests, p.0) in
     rw here (word_plain xs p.1)
 
-words_plain : (w : List ℕ) (more : List (List ℕ)) → list_all are_visible (w ∷ more) ≡ true → is_plain (join_with_byte 32 (w ∷ more)) ≡ true
+pub words_plain : (w : List ℕ) (more : List (List ℕ)) → list_all are_visible (w ∷ more) ≡ true → is_plain (join_with_byte 32 (w ∷ more)) ≡ true
 words_plain w [] e = word_plain w (both (are_visible w) true e).0
 words_plain w (v ∷ more) e =
     let p = both (are_visible w) (list_all are_visible (v ∷ more)) e in
     list_all-append is_printable w (32 ∷ join_with_byte 32 (v ∷ more)) ∙ rw (word_plain w p.0) (words_plain v more p.1)
 
-number_there : (least most n : ℕ) → least ≤ n → n ≤ most → n < 2 ^ 64 → number_in least most (decimal n) ≡ Ok n
+pub number_there : (least most n : ℕ) → least ≤ n → n ≤ most → n < 2 ^ 64 → number_in least most (decimal n) ≡ Ok n
 number_there least most n low high small =
     let v = digits_value-decimal own n small in
     let d : decimal_of (decimal n) ≡ Some n = valued (decimal n) (ap decimal v) ∙ ap Some v in
@@ -131,16 +94,16 @@ number_there least most n low high small =
 id_back : (i : Numbers) → IsId i → id_in (id_text i) ≡ Ok i
 id_back i h = id_there (id_text i) i (record { numbers = h; text = refl })
 
-kind_there : (k : Kind) → kind_in (kind_word k) ≡ Ok k
+pub kind_there : (k : Kind) → kind_in (kind_word k) ≡ Ok k
 kind_there kinds.Durable = refl
 kind_there kinds.Volatile = refl
 
-vote_there : (v : Vote) → vote_in (vote_word v) ≡ Ok v
+pub vote_there : (v : Vote) → vote_in (vote_word v) ≡ Ok v
 vote_there votes.Prepared = refl
 vote_there votes.ReadOnly = refl
 vote_there votes.Aborted = refl
 
-then_ : {A B E : Type 0} (first : Result A E) (next : A → Result B E) (a : A) (r : Result B E) → first ≡ Ok a → next a ≡ r → (first >>= next) ≡ r
+pub then_ : {A B E : Type 0} (first : Result A E) (next : A → Result B E) (a : A) (r : Result B E) → first ≡ Ok a → next a ≡ r → (first >>= next) ≡ r
 then_ first next a r e f = ap (λ x. x >>= next) e ∙ f
 
 record IsBack (nodes : ℕ) (l : Line) : Type 0 where
@@ -150,7 +113,7 @@ record IsBack (nodes : ℕ) (l : Line) : Type 0 where
 node_back : (nodes n : ℕ) → nodes ≤ 8 → IsNode nodes n → (node_in nodes (decimal n) ≡ Ok n) × (are_visible (decimal n) ≡ true)
 node_back nodes n few h = (number_there 1 nodes n h.0 h.1 (omega (arith, h.1)), decimal_visible n (omega (arith, h.1)))
 
-ms_back : (n : ℕ) → n ≤ largest → (number_in 0 largest (decimal n) ≡ Ok n) × (are_visible (decimal n) ≡ true)
+pub ms_back : (n : ℕ) → n ≤ largest → (number_in 0 largest (decimal n) ≡ Ok n) × (are_visible (decimal n) ≡ true)
 ms_back n h = (number_there 0 largest n (omega arith) h (omega (arith, h)), decimal_visible n (omega (arith, h)))
 
 next_back : (nodes : ℕ) (l : Line) → nodes ≤ 8 → IsNext nodes l → IsBack nodes l
@@ -287,14 +250,14 @@ schedule_back (lines.Tick n ms ∷ rest) h = absurd h
 schedule_back (lines.Crash n ∷ rest) h = absurd h
 schedule_back (lines.Up n ∷ rest) h = absurd h
 
-abbrev pub IsPlain : Line → Type 0
-IsPlain l = is_plain (line_text l) ≡ true
+abbrev pub IsPlainLine : Line → Type 0
+IsPlainLine l = IsPlain (line_text l)
 
-nexts_plain : (nodes : ℕ) (ls : List Line) → nodes ≤ 8 → AllByRecursion (IsNext nodes) ls → AllByRecursion IsPlain ls
+nexts_plain : (nodes : ℕ) (ls : List Line) → nodes ≤ 8 → AllByRecursion (IsNext nodes) ls → AllByRecursion IsPlainLine ls
 nexts_plain nodes [] few h = tt
 nexts_plain nodes (l ∷ ls) few h = (plain_line l (next_back nodes l few h.0).visible, nexts_plain nodes ls few h.1)
 
-all_plain : (ls : List Line) → IsSchedule ls → AllByRecursion IsPlain ls
+all_plain : (ls : List Line) → IsSchedule ls → AllByRecursion IsPlainLine ls
 all_plain [] h = absurd h
 all_plain (lines.Nodes c ∷ rest) (h, k, m) = (plain_line (lines.Nodes c) (count_visible c h), nexts_plain c rest h.1 k)
 all_plain (lines.Begin i c ms ∷ rest) h = absurd h
@@ -308,49 +271,18 @@ all_plain (lines.Tick n ms ∷ rest) h = absurd h
 all_plain (lines.Crash n ∷ rest) h = absurd h
 all_plain (lines.Up n ∷ rest) h = absurd h
 
-abbrev pub parts_of : List ℕ → List (List ℕ)
-parts_of text = slice_split (λ b. b == 10) text
-
-cut_written : (ls : List Line) → AllByRecursion IsPlain ls → parts_of (written ls) ≡ map line_text ls ++ [] ∷ []
-cut_written [] h = refl
-cut_written (l ∷ ls) h =
-    ap parts_of (append_assoc (line_text l) (10 ∷ []) (written ls))
-    ∙ (first_part 10 (line_text l) (written ls) (free_plain (line_text l) h.0) ∙ ap (λ ts. line_text l ∷ ts) (cut_written ls h.1))
-
-ended_back : (ts : List (List ℕ)) → ended (ts ++ [] ∷ []) ≡ ts
-ended_back [] = refl
-ended_back (t ∷ []) = refl
-ended_back (t ∷ u ∷ more) = ap (λ ts. t ∷ ts) (ended_back (u ∷ more))
-
-ended_whole : (ls : List Line) → ended (map line_text ls) ≡ map line_text ls
-ended_whole [] = refl
-ended_whole (l ∷ []) = (has_words l).kept
-ended_whole (l ∷ m ∷ more) = ap (λ ts. line_text l ∷ ts) (ended_whole (m ∷ more))
-
-onto_front : (x : ℕ) (parts more : List (List ℕ)) → 0 < length parts → onto_first x (parts ++ more) ≡ onto_first x parts ++ more
-onto_front x [] more h = absurd (omega (arith, h))
-onto_front x (p ∷ parts) more h = refl
-
-split_more : (text : List ℕ) → parts_of (text ++ 10 ∷ []) ≡ parts_of text ++ [] ∷ []
-split_more [] = refl
-split_more (x ∷ xs) = by_case (x == 10) (split_more xs)
-  where
-    some : 0 < length (parts_of xs)
-    some = omega (arith, length-slice_split (λ b. b == 10) xs)
-
-    by_case : (b : Bool) → parts_of (xs ++ 10 ∷ []) ≡ parts_of xs ++ [] ∷ []
-        → cond b ([] ∷ parts_of (xs ++ 10 ∷ [])) (onto_first x (parts_of (xs ++ 10 ∷ []))) ≡ cond b ([] ∷ parts_of xs) (onto_first x (parts_of xs)) ++ [] ∷ []
-    by_case true h = ap (λ ts. [] ∷ ts) h
-    by_case false h = ap (onto_first x) h ∙ onto_front x (parts_of xs) ([] ∷ []) some
+all_kept : (ls : List Line) → AllByRecursion (λ l. IsKept (line_text l)) ls
+all_kept [] = tt
+all_kept (l ∷ ls) = ((has_words l).kept, all_kept ls)
 
 lines_are : (text : List ℕ) (ls : List Line) → IsSchedule ls → (text ≡ written ls) ⊎ (text ++ 10 ∷ [] ≡ written ls)
     → lines_of text ≡ map line_text ls
-lines_are text ls h (inl e) =
-    ap ended (ap parts_of e ∙ cut_written ls (all_plain ls h)) ∙ ended_back (map line_text ls)
-lines_are text ls h (inr e) =
-    let same = append_cancel_right (parts_of text) (map line_text ls) ([] ∷ [])
-    (sym (split_more text) ∙ (ap parts_of e ∙ cut_written ls (all_plain ls h))) in
-    ap ended same ∙ ended_whole ls
+lines_are text ls h e =
+    texts_are text (map line_text ls) (all_texts line_text IsPlain ls (all_plain ls h)) (all_texts line_text IsKept ls (all_kept ls)) (in_texts e)
+  where
+    in_texts : (text ≡ written ls) ⊎ (text ++ 10 ∷ [] ≡ written ls) → (text ≡ fed (map line_text ls)) ⊎ (text ++ 10 ∷ [] ≡ fed (map line_text ls))
+    in_texts (inl e) = inl (e ∙ sym (fed_written ls))
+    in_texts (inr e) = inr (e ∙ sym (fed_written ls))
 
 pub is_read : (text : List ℕ) (ls : List Line) → IsSchedule ls → (text ≡ written ls) ⊎ (text ++ 10 ∷ [] ≡ written ls)
     → schedule_of text ≡ Ok ls

@@ -18,19 +18,19 @@ use Rattle.schedules.specs.Written.{kind_word, vote_word, words_in, IsNode, IsNe
 use Rattle.schedules.proofs.Decimals.{spelled}
 use Rattle.schedules.proofs.Ids.{is_id}
 
-record Bound {A B : Type 0} (first : Result A Cause) (next : A → Result B Cause) (x : B) : Type 0 where
-  value : A
-  read : first ≡ Ok value
-  rest : next value ≡ Ok x
+pub record Bound {A B : Type 0} (first : Result A Cause) (next : A → Result B Cause) (x : B) : Type 0 where
+  pub value : A
+  pub read : first ≡ Ok value
+  pub rest : next value ≡ Ok x
 
-bound : {A B : Type 0} (first : Result A Cause) (next : A → Result B Cause) (x : B) → (first >>= next) ≡ Ok x → Bound first next x
+pub bound : {A B : Type 0} (first : Result A Cause) (next : A → Result B Cause) (x : B) → (first >>= next) ≡ Ok x → Bound first next x
 bound (Ok a) next x e = record { value = a; read = refl; rest = e }
 bound (Err c) next x e = absurd cc
 
-same : {A : Type 0} (x y : A) → ◌≡◌ {A = Result A Cause} (Ok x) (Ok y) → x ≡ y
+pub same : {A : Type 0} (x y : A) → ◌≡◌ {A = Result A Cause} (Ok x) (Ok y) → x ≡ y
 same x y e = cc
 
-number : (least most : ℕ) (w : List ℕ) (n : ℕ) → number_in least most w ≡ Ok n → (least ≤ n) × (n ≤ most) × (w ≡ decimal n)
+pub number : (least most : ℕ) (w : List ℕ) (n : ℕ) → number_in least most w ≡ Ok n → (least ≤ n) × (n ≤ most) × (w ≡ decimal n)
 number least most w n e = by_case (decimal_of w) refl e
   where
     by_test : (m : ℕ) (b c : Bool) → decimal_of w ≡ Some m → nat_le least m ≡ b → nat_le m most ≡ c
@@ -59,7 +59,7 @@ id w i e =
     by_case j true false c p q t e = absurd cc
     by_case j false b c p q t e = absurd cc
 
-kind : (w : List ℕ) (k : Kind) → kind_in w ≡ Ok k → w ≡ kind_word k
+pub kind : (w : List ℕ) (k : Kind) → kind_in w ≡ Ok k → w ≡ kind_word k
 kind w k e = by_case (bytes_eq w (codes "d")) (bytes_eq w (codes "v")) refl refl e
   where
     by_case : (a b : Bool) → bytes_eq w (codes "d") ≡ a → bytes_eq w (codes "v") ≡ b
@@ -68,7 +68,7 @@ kind w k e = by_case (bytes_eq w (codes "d")) (bytes_eq w (codes "v")) refl refl
     by_case false true p q e = (bytes_eq-Decides w (codes "v")).0 q ∙ ap kind_word (same kinds.Volatile k e)
     by_case false false p q e = absurd cc
 
-vote : (w : List ℕ) (k : Vote) → vote_in w ≡ Ok k → w ≡ vote_word k
+pub vote : (w : List ℕ) (k : Vote) → vote_in w ≡ Ok k → w ≡ vote_word k
 vote w k e = by_case (bytes_eq w (codes "prepared")) (bytes_eq w (codes "readonly")) (bytes_eq w (codes "aborted")) refl refl refl e
   where
     by_case : (a b c : Bool) → bytes_eq w (codes "prepared") ≡ a → bytes_eq w (codes "readonly") ≡ b → bytes_eq w (codes "aborted") ≡ c
@@ -226,7 +226,7 @@ up_read nodes [] l e = absurd cc
 up_read nodes (i ∷ x ∷ more) l e = absurd cc
 
 -- a word that is tested for
-arm : {A : Type 0} (w name : List ℕ) (here else_ : A) (P : List ℕ → A → Type 0) → P name here → P w else_
+pub arm : {A : Type 0} (w name : List ℕ) (here else_ : A) (P : List ℕ → A → Type 0) → P name here → P w else_
     → P w (cond (bytes_eq w name) here else_)
 arm w name here else_ P y n = by_case (bytes_eq w name) refl
   where

@@ -4,5 +4,9 @@ mod Lines
 mod Rest
 mod Bounds
 mod Wholes
+mod Texts
 mod Back
 mod Made
+mod InitiatorRest
+mod InitiatorRead
+mod InitiatorBack

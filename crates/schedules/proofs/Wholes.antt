@@ -65,21 +65,21 @@ count_line text n e = by_case (is_plain text) e
     by_case false e = absurd cc
     by_case true e = let r = first_read (words_of text) n e in (r.0, joined text (lines.Nodes n) r.1)
 
-placed : {A : Type 0} (number : ℕ) (r : Result A Cause) (x : A) → at_line number r ≡ Ok x → r ≡ Ok x
+pub placed : {A : Type 0} (number : ℕ) (r : Result A Cause) (x : A) → at_line number r ≡ Ok x → r ≡ Ok x
 placed number (Ok y) x e = let here : y ≡ x = cc in ap Ok here
 placed number (Err c) x e = absurd cc
 
-record Gives {A B : Type 0} (first : Result A BadLine) (next : A → Result B BadLine) (x : B) : Type 0 where
-  value : A
-  read : first ≡ Ok value
-  rest : next value ≡ Ok x
+pub record Gives {A B : Type 0} (first : Result A BadLine) (next : A → Result B BadLine) (x : B) : Type 0 where
+  pub value : A
+  pub read : first ≡ Ok value
+  pub rest : next value ≡ Ok x
 
-gives : {A B : Type 0} (first : Result A BadLine) (next : A → Result B BadLine) (x : B) → (first >>= next) ≡ Ok x → Gives first next x
+pub gives : {A B : Type 0} (first : Result A BadLine) (next : A → Result B BadLine) (x : B) → (first >>= next) ≡ Ok x → Gives first next x
 gives (Ok a) next x e = record { value = a; read = refl; rest = e }
 gives (Err b) next x e = absurd cc
 
-same : {A : Type 0} (x y : A) → ◌≡◌ {A = Result A BadLine} (Ok x) (Ok y) → x ≡ y
-same x y e = cc
+pub same_lines : {A : Type 0} (x y : A) → ◌≡◌ {A = Result A BadLine} (Ok x) (Ok y) → x ≡ y
+same_lines x y e = cc
 
 record AreLines (nodes number : ℕ) (texts : List (List ℕ)) (ls : List Line) : Type 0 where
   next : AllByRecursion (IsNext nodes) ls
@@ -87,13 +87,13 @@ record AreLines (nodes number : ℕ) (texts : List (List ℕ)) (ls : List Line) 
   few : number ≤ 10001 → number + length ls ≤ 10001
 
 lines_read : (nodes number : ℕ) (texts : List (List ℕ)) (ls : List Line) → lines_from nodes number texts ≡ Ok ls → AreLines nodes number texts ls
-lines_read nodes number [] ls e = subst (AreLines nodes number []) (same [] ls e) (record { next = tt; texts_are = refl; few = λ h. omega (arith, h) })
+lines_read nodes number [] ls e = subst (AreLines nodes number []) (same_lines [] ls e) (record { next = tt; texts_are = refl; few = λ h. omega (arith, h) })
 lines_read nodes number (t ∷ ts) ls e =
     let b = gives (at_line number (next_line nodes number t)) _ ls e in
     let d = gives (lines_from nodes (number + 1) ts) _ ls b.rest in
     let l = line_read nodes number t b.value (placed number (next_line nodes number t) b.value b.read) in
     let m = lines_read nodes (number + 1) ts d.value d.read in
-    subst (AreLines nodes number (t ∷ ts)) (same (b.value ∷ d.value) ls d.rest) (record {
+    subst (AreLines nodes number (t ∷ ts)) (same_lines (b.value ∷ d.value) ls d.rest) (record {
       next = (l.next, m.next);
       texts_are = λ j. l.text_is j ∷ m.texts_are j;
       few = λ h. let k = m.few (omega (arith, l.few)) in omega (arith, k);
@@ -106,17 +106,17 @@ schedule_read (t ∷ ts) ls e =
     let d = gives (lines_from b.value 2 ts) _ ls b.rest in
     let l = count_line t b.value (placed 1 (first_line t) b.value b.read) in
     let m = lines_read b.value 2 ts d.value d.read in
-    subst (λ xs. IsSchedule xs × (t ∷ ts ≡ map line_text xs)) (same (lines.Nodes b.value ∷ d.value) ls d.rest)
+    subst (λ xs. IsSchedule xs × (t ∷ ts ≡ map line_text xs)) (same_lines (lines.Nodes b.value ∷ d.value) ls d.rest)
     ((l.0, m.next, (let k = m.few (omega arith) in omega (arith, k))), λ j. l.1 j ∷ m.texts_are j)
 
 abbrev pub fed : List (List ℕ) → List ℕ
 fed texts = flat_map (λ t. t ++ 10 ∷ []) texts
 
-fed_written : (ls : List Line) → fed (map line_text ls) ≡ written ls
+pub fed_written : (ls : List Line) → fed (map line_text ls) ≡ written ls
 fed_written [] = refl
 fed_written (l ∷ ls) = ap (λ x. (line_text l ++ 10 ∷ []) ++ x) (fed_written ls)
 
-fed_ended : (parts : List (List ℕ)) → (join_with_byte 10 parts ≡ fed (ended parts)) ⊎ (join_with_byte 10 parts ++ 10 ∷ [] ≡ fed (ended parts))
+pub fed_ended : (parts : List (List ℕ)) → (join_with_byte 10 parts ≡ fed (ended parts)) ⊎ (join_with_byte 10 parts ++ 10 ∷ [] ≡ fed (ended parts))
 fed_ended [] = inl refl
 fed_ended ([] ∷ []) = inl refl
 fed_ended ((c ∷ cs) ∷ []) = inr (sym (append-nil ((c ∷ cs) ++ 10 ∷ [])))

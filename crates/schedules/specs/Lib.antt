@@ -6,3 +6,6 @@ pub mod Schedules
 pub mod Written
 pub mod Generator
 pub mod Examples
+pub mod InitiatorExamples
+pub mod InitiatorLines
+pub mod InitiatorWritten

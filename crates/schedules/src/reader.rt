@@ -13,7 +13,7 @@ use std::alloc::{AllocError, Global};
 
 const MOST_LINES: u32 = 10_000;
 
-fn bad(line: u32, cause: Cause) -> ScheduleError
+pub(crate) fn bad(line: u32, cause: Cause) -> ScheduleError
     ensures { result ≡ Bad (record { line = line; cause = cause }) }
 {
     ScheduleError::Bad(BadLine { line, cause })

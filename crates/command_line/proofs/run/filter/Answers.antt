@@ -1,16 +1,16 @@
-use Rattle.command_line.specs.Views.{meant}
+use Rattle.command_line.specs.Views.{meant_filter}
 use Rattle.command_line.proofs.Printing.{all_given, all_printed, part_printed}
-use Rattle.command_line.proofs.run.work.Goals as goal
+use Rattle.command_line.proofs.run.filter.Goals as goal
 
 pub returns-in-Ok-report-clause-whole : goal.returns-in-Ok-report-clause-whole
 returns-in-Ok-report-clause-whole g c = λ printed. all_given _ _ _ _ c.in-Ok.ensures.whole
 
 pub returns-in-Ok-report-clause-ended : goal.returns-in-Ok-report-clause-ended
 returns-in-Ok-report-clause-ended g c = λ done.
-    all_printed _ _ _ _ _ (meant c.args.job.now) _ _ _ c.in-Ok-report.printed c.in-Ok.ensures.whole c.as_slice.ensures.value c.in-Ok-report.ensures.sound
+    all_printed _ _ _ _ _ (meant_filter c.args.filter.now) _ _ _ c.in-Ok-report.printed c.in-Ok.ensures.whole c.as_slice.ensures.value c.in-Ok-report.ensures.sound
     c.print.ensures.statuses c.print.ensures.all done
 
 pub returns-in-Ok-report-clause-cut : goal.returns-in-Ok-report-clause-cut
 returns-in-Ok-report-clause-cut g c = λ failed.
-    part_printed _ _ _ _ _ (meant c.args.job.now) _ _ c.in-Ok-report.printed c.in-Ok.ensures.whole c.as_slice.ensures.value c.in-Ok-report.ensures.sound
+    part_printed _ _ _ _ _ (meant_filter c.args.filter.now) _ _ c.in-Ok-report.printed c.in-Ok.ensures.whole c.as_slice.ensures.value c.in-Ok-report.ensures.sound
     c.print.ensures.part

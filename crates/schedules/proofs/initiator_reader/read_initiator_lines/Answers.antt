@@ -1,0 +1,5 @@
+use Rattle.schedules.proofs.InitiatorRead.{are_asked}
+use Rattle.schedules.proofs.initiator_reader.read_initiator_lines.Goals as goal
+
+pub returns-clause-bounds : goal.returns-clause-bounds
+returns-clause-bounds c = are_asked c.args.text.now c.read_all.result c.read_all.ensures
