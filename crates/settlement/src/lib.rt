@@ -2,5 +2,5 @@
 //! and the others post in answer is delivered.
 #![tactic(auto)]
 
+mod resting;
 pub mod settle;
-mod settling;

@@ -7,7 +7,7 @@ ghost use Rattle.model_laws.specs.Settle.{MayStart, is_settled, settle, settle_b
 ghost use Rattle.world_laws.specs.Events.{event_of};
 ghost use Rattle.world_laws.specs.Runs.{world_of};
 
-use crate::settling::settled;
+use crate::resting::settled;
 use settled::laws::settles;
 use settling::laws::drains;
 use std::alloc::{AllocError, Global};

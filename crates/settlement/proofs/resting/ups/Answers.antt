@@ -4,7 +4,7 @@ use Rattle.model_laws.specs.Settle.{ups}
 use Rattle.world_laws.specs.Events.{event_of}
 use Rattle.world_laws.specs.Runs.{world_of}
 use Rattle.settlement.proofs.Events.{all_ups, up_more}
-use Rattle.settlement.proofs.settling.ups.Goals as goal
+use Rattle.settlement.proofs.resting.ups.Goals as goal
 
 pub loop-place-preserved : goal.loop-place-preserved
 loop-place-preserved c =

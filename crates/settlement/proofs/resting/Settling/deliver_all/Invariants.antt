@@ -1,7 +1,7 @@
 use Rattle.std.specs.Prelude.{◌-◌, length}
 use Rattle.model_laws.specs.Settle.{Settling}
 use Rattle.settling.specs.Drains.{Delivers}
-use Rattle.settlement.proofs.settling.Settling.deliver_all.Given as goal
+use Rattle.settlement.proofs.resting.Settling.deliver_all.Given as goal
 
 abbrev pub invariant-loop-number : goal.invariant-loop-number
 invariant-loop-number l = (last : Settling) → Delivers last l.behind l.settling → Delivers last l.fn.passed l.fn.self

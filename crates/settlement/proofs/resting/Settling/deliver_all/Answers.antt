@@ -1,6 +1,6 @@
 use Rattle.world_laws.specs.Events.{event_of}
 use Rattle.settlement.proofs.Rounds.{all_delivered, one_delivered}
-use Rattle.settlement.proofs.settling.Settling.deliver_all.Goals as goal
+use Rattle.settlement.proofs.resting.Settling.deliver_all.Goals as goal
 
 pub loop-number-preserved : goal.loop-number-preserved
 loop-number-preserved c =
