@@ -69,7 +69,7 @@ seat_has count w small reached n x b t s y found up i j place is =
 same_numbers : (id j : Numbers) (number k : ℕ) (kind : Kind)
     → targets.Coordinator id (record { number = number; kind = kind }) ≡ targets.Coordinator j (record { number = k; kind = kind }) → (id ≡ j) × (number ≡ k)
 same_numbers id j number k kind e =
-    let seats : record { number = number; kind = kind } ≡ record { number = k; kind = kind } = cc in
+    let seats : ◌≡◌ {A = Seat} (record { number = number; kind = kind }) (record { number = k; kind = kind }) = cc in
     (cc, ap (λ (s : Seat). s.number) seats)
 
 known_has : (count : ℕ) (w : World) → count < 2 ^ 64 → (c : Epr) (x : Who) (kind : Kind) (h : IsSeat count kind c) → Enlists count w c x kind → HasSeat w h.transaction h.number kind x

@@ -164,7 +164,7 @@ late_never m id phase s true e = (λ i k. not_durable phase s.kind (same_kind id
     same_kind : (j l : Numbers) (a b : ℕ) (kind : Kind) → Some (targets.Coordinator j (record { number = a; kind = kind })) ≡ Some (targets.Coordinator l (record { number = b; kind = kinds.Durable }))
         → kind ≡ kinds.Durable
     same_kind j l a b kind f =
-        let seats : record { number = a; kind = kind } ≡ record { number = b; kind = kinds.Durable } = cc in
+        let seats : ◌≡◌ {A = Seat} (record { number = a; kind = kind }) (record { number = b; kind = kinds.Durable }) = cc in
         ap (λ (z : Seat). z.kind) seats
 
     not_durable : (p : Phase) (kind : Kind) → kind ≡ kinds.Durable → is_late p kind ≡ true → ⊥

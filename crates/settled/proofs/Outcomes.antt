@@ -109,7 +109,7 @@ enlists_has count w small x z number kind place h =
   where
     same_numbers : (i j : Numbers) (n m : ℕ) → targets.Coordinator i (record { number = n; kind = kind }) ≡ targets.Coordinator j (record { number = m; kind = kind }) → (i ≡ j) × (n ≡ m)
     same_numbers i j n m e =
-        let seats : record { number = n; kind = kind } ≡ record { number = m; kind = kind } = cc in
+        let seats : ◌≡◌ {A = Seat} (record { number = n; kind = kind }) (record { number = m; kind = kind }) = cc in
         (cc, ap (λ (s : Seat). s.number) seats)
 
 seat_whose : (count : ℕ) (u v : World) (before after : List Posted) → (g : Goes count u v before after) → (x z : Who) (number : ℕ) (t : Transaction) (q : Enlistment) → z.node ≡ g.number
