@@ -15,7 +15,6 @@ use Rattle.at_base.specs.declared.event.Arrived.{Arrived}
 use Rattle.at_base.specs.declared.event.Event.{Event}
 use Rattle.at_base.specs.declared.event.Event.TheVariants as events
 use Rattle.at_base.specs.declared.event.Moment.{Moment}
-use Rattle.at_base.specs.declared.outs.Out.TheVariants as outs
 use Rattle.at_base.specs.declared.outs.Post.{Post}
 use Rattle.at_base.specs.declared.record.Record.{Record}
 use Rattle.at_base.specs.declared.record.Record.TheVariants as records
@@ -29,22 +28,20 @@ use Rattle.at_model.specs.Addresses.{endpoint_of}
 use Rattle.at_model.specs.Book.{Book, Enlistment, Leaf, Transaction}
 use Rattle.at_model.specs.Moves.{Change}
 use Rattle.at_model.specs.Recover.{recovered_seat, recovered_voted}
-use Rattle.at_model.specs.Register.{Registration, new_seat, protocol_named}
-use Rattle.at_model.specs.Seats.{is_prepared_durable, prepared, seat_target, seated}
+use Rattle.at_model.specs.Register.{new_seat, protocol_named}
+use Rattle.at_model.specs.Seats.{is_prepared_durable, prepared, seated}
 use Rattle.at_model.specs.Step.{moment_of, plan, step}
-use Rattle.at_model.specs.World.{Node, Posted, Who, World, base_of, new_nodes, nth, place_of}
+use Rattle.at_model.specs.World.{Node, Posted, World, base_of, new_nodes, nth}
 use Rattle.model_laws.specs.Agreement.{IsIn}
 use Rattle.model_laws.specs.Behind.{Accepted as Seating, accepted_as}
-use Rattle.model_laws.specs.Grows.{Grows}
 use Rattle.model_laws.specs.Reached.{Reached, counts}
 use Rattle.model_laws.proofs.Deciding.{IfThere, all_join}
-use Rattle.model_laws.proofs.Naming.{HaveBases, leads_home}
-use Rattle.agreement.specs.Deeds.{AreCounted, AreSeatsAfter, AreSeatsIfLeft, Deed, How, IsSameIfLeft, KeepsLink, KeepsLinksIfLeft, coordinator_at, recorded, superior_at}
+use Rattle.model_laws.proofs.Naming.{HaveBases}
+use Rattle.agreement.specs.Deeds.{AreCounted, AreSeatsAfter, AreSeatsIfLeft, Deed, How, KeepsLink, KeepsLinksIfLeft, coordinator_at, recorded, superior_at}
 use Rattle.agreement.specs.Done.{standing}
 use Rattle.agreement.specs.LeafDeeds.{LeafDeed, LeafIdles, aborts, commits, dropped, for_durable, idles, leaves, prepares, registered, registers_again, rests, rolls_back, votes_again}
-use Rattle.agreement.specs.Registers.{IsOwnRegister, RegistersFor}
+use Rattle.agreement.specs.Registers.{RegistersFor}
 use Rattle.agreement.proofs.Registered.{registers_named}
-use Rattle.agreement.proofs.SeatedEntries.{one_of}
 use Rattle.agreement.proofs.SeatedNames.{named_as}
 use Rattle.agreement.proofs.Seats.{deeds_move_seats}
 use Rattle.enlistments.specs.Enrolling.{Enrolls, has_completion, has_seat, refuses, takes_completion, takes_seat}
@@ -60,7 +57,7 @@ use Rattle.enlistments.proofs.Nodes.{NodesLaw, books_have}
 use Rattle.enlistments.proofs.Places.{IsPlaced}
 use Rattle.enlistments.proofs.Posts.{PostLaw, one_has}
 use Rattle.enlistments.proofs.Registers.{IsRegisterOf, for_completion, for_kind, register_of}
-use Rattle.paired.specs.Paired.{AreParticipants, IsParticipant, IsPlace, IsSeat, IsSeatIfKnown, participant_of, seat_of}
+use Rattle.paired.specs.Paired.{IsParticipant, IsSeat, IsSeatIfKnown}
 
 -- nodes are numbered from 1
 none_at : (xs : List Node) (x : Node) → nth 0 xs ≡ Some x → ⊥

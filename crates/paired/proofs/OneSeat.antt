@@ -1,10 +1,9 @@
 -- No transaction gives two seats of a kind to one participant: a repeated Register is given the seat that it has.
-use Rattle.std.specs.Prelude.{ℕ, List, [], ◌∷◌, ◌++◌, Option, Some, None, Bool, true, false, not, nat_lt, suc, zero, ◌&&◌, ◌+◌, ◌^◌, if◌then◌else◌, drop, find, length, map, option_map, bytes_eq, ◌≡◌, ◌<◌, ◌⊎◌, refl}
+use Rattle.std.specs.Prelude.{ℕ, List, [], ◌∷◌, ◌++◌, Option, Some, None, Bool, true, false, nat_lt, suc, zero, ◌&&◌, ◌+◌, ◌^◌, if◌then◌else◌, drop, find, length, option_map, ◌≡◌, ◌<◌, ◌⊎◌, refl}
 use Rattle.std.specs.List.{AllByRecursion}
 use Rattle.std.proofs.Common.{inl, inr, sym, subst, ap, arith, ◌∙◌}
 use Rattle.std.proofs.lemmas.List.{length-append}
 use Rattle.std.proofs.lemmas.Slice.Eq.{bytes_eq-Decides}
-use Rattle.at_base.specs.Numbers.{Numbers}
 use Rattle.at_base.specs.declared.epr.Epr.{Epr}
 use Rattle.at_base.specs.declared.limits.TheConstants.{MOST_SEATS}
 use Rattle.at_base.specs.declared.notice.Kind.{Kind}
@@ -13,32 +12,28 @@ use Rattle.at_base.specs.declared.message.Register.{Register}
 use Rattle.at_base.specs.declared.event.Arrived.{Arrived}
 use Rattle.at_base.specs.declared.event.Event.{Event}
 use Rattle.at_base.specs.declared.event.Moment.{Moment}
-use Rattle.at_base.specs.declared.record.Record.{Record}
 use Rattle.at_base.specs.declared.target.Seat.{Seat}
 use Rattle.at_base.specs.declared.target.Target.TheVariants as targets
 use Rattle.at_tables.specs.Names.{is_kind}
-use Rattle.at_model.specs.Book.{Book, Enlistment, Phase, Transaction, is_epr, last_counter, transaction_id}
+use Rattle.at_model.specs.Book.{Book, Enlistment, Phase, Transaction, is_epr, transaction_id}
 use Rattle.at_model.specs.Due.{may_expire}
-use Rattle.at_model.specs.Recover.{last_incarnation}
-use Rattle.at_model.specs.Register.{Registration, accept_seat, accepts, held_seat, may_complete, may_register, new_seat, on_register, protocol_named, register_again, registered_reply, seat_endpoint, with_seat}
-use Rattle.at_model.specs.Step.{Outcome, moment_of, plan, step, transaction_at}
-use Rattle.at_model.specs.World.{Accepted, Node, Who, World, who_at, accepted_by, accepted_in, accepted_seat, lost_in, new_nodes, nth, opening, put_book, put_nth, goes_down, started, up_after, with_post}
+use Rattle.at_model.specs.Register.{Registration, accepts, held_seat, may_complete, new_seat, on_register, protocol_named, register_again, seat_endpoint, with_seat}
+use Rattle.at_model.specs.Step.{moment_of, plan, step, transaction_at}
+use Rattle.at_model.specs.World.{Accepted, Node, Who, World, who_at, accepted_by, accepted_in, lost_in, new_nodes, nth, put_book}
 use Rattle.model_laws.specs.Agreement.{IsIn}
-use Rattle.model_laws.specs.Drawn.{with_entry}
-use Rattle.model_laws.specs.Reached.{Heard, Reached, counts}
+use Rattle.model_laws.specs.Reached.{Reached, counts}
 use Rattle.model_laws.proofs.Deciding.{IfThere, all_more, found_id}
-use Rattle.model_laws.proofs.Holding.{Law, OutFine, holds}
+use Rattle.model_laws.proofs.Holding.{Law, holds}
 use Rattle.model_laws.proofs.Naming.{leads_home}
 use Rattle.model_laws.proofs.Nodes.{accepted_same, seats_same}
 use Rattle.agreement.specs.Deeds.{AreSeatsAfter, AreSeatsIfLeft, How, IsSameIfLeft}
 use Rattle.agreement.specs.Done.{standing}
-use Rattle.agreement.specs.Seated.{IsSeated}
 use Rattle.agreement.proofs.SeatedBooks.{finds_each}
 use Rattle.agreement.proofs.Seated.{world_seated}
-use Rattle.agreement.proofs.SeatedEntries.{IsNew, at_further_seat, each_is_in, entries, in_either, is_new, of_transaction, one_of}
+use Rattle.agreement.proofs.SeatedEntries.{IsNew, at_further_seat, entries, in_either, is_new, of_transaction, one_of}
 use Rattle.agreement.proofs.Seats.{deeds_move_seats}
 use Rattle.enlistments.specs.Enrolling.{Enrolls, has_completion, has_seat, refuses, takes_completion, takes_seat}
-use Rattle.enlistments.specs.Moves.{IsReady, Moved, Registered, TransactionDid, TransactionMade}
+use Rattle.enlistments.specs.Moves.{IsReady, Registered}
 use Rattle.enlistments.proofs.After.{transactions_after}
 use Rattle.enlistments.proofs.Arriving.{Stepping, out_unit, step_ready, world_bases}
 use Rattle.enlistments.proofs.Finding.{both_true}
@@ -157,8 +152,8 @@ left_further : (count : ℕ) (b : Book) (e : Event) (t : Transaction) (how : How
 left_further count b e t how None here ids h = tt
 left_further count b e t how (Some new) here ids h =
     λ old found.
-        let same : t ≡ old = same_found (transaction_at b t.id) t old here (ap (transaction_at b) (sym (ids new refl)) ∙ found) in
-        inl (none_behind new.seats old.seats (as_many e t how t.seats new.seats h ∙ ap (λ (y : Transaction). length y.seats) same))
+    let same : t ≡ old = same_found (transaction_at b t.id) t old here (ap (transaction_at b) (sym (ids new refl)) ∙ found) in
+    inl (none_behind new.seats old.seats (as_many e t how t.seats new.seats h ∙ ap (λ (y : Transaction). length y.seats) same))
 
 opens : (p : Phase) → accepts p ≡ true → may_expire p ≡ true
 opens Phase.Active e = refl
@@ -216,9 +211,9 @@ all_further count u n x b e now landed s =
     (λ d. left_further count b e d.old d.deed.how d.change.item d.found (λ new is. same_id d.old d.change.item new d.deed.same is)
     (deeds_move_seats.seats e d.old _ d.change d.deed))
     (λ d old found.
-        let id : d.gives.transaction.id ≡ d.old.id = keeps_id (moment_of b now) d.arrived d.request d.old d.gives d.enrolls in
-        subst (λ (o : Transaction). IsFurther count o d.gives.transaction) (same_found (transaction_at b d.old.id) d.old old d.found (ap (transaction_at b) (sym id) ∙ found))
-        (enrolled_further count u n x b e now landed s d d.enrolls))
+    let id : d.gives.transaction.id ≡ d.old.id = keeps_id (moment_of b now) d.arrived d.request d.old d.gives d.enrolls in
+    subst (λ (o : Transaction). IsFurther count o d.gives.transaction) (same_found (transaction_at b d.old.id) d.old old d.found (ap (transaction_at b) (sym id) ∙ found))
+    (enrolled_further count u n x b e now landed s d d.enrolls))
     (λ d old found. inl (ap (drop (length old.seats)) (made_fresh b e now _ _ d).seats ∙ none_in (length old.seats)))
   where
     none_in : (k : ℕ) → drop {A = Enlistment} k [] ≡ []

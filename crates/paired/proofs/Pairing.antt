@@ -1,30 +1,23 @@
 -- Seats and participants know one another, in every world that is reached.
-use Rattle.std.specs.Prelude.{ℕ, List, Option, Some, None, Bool, true, false, ◌^◌, ◌≡◌, ◌<◌, refl}
-use Rattle.std.specs.List.{AllByRecursion}
+use Rattle.std.specs.Prelude.{ℕ, Some, true, ◌^◌, ◌≡◌, ◌<◌, refl}
 use Rattle.std.proofs.Common.{sym, subst, ap, ◌∙◌}
 use Rattle.at_base.specs.Numbers.{Numbers}
 use Rattle.at_base.specs.declared.epr.Epr.{Epr}
 use Rattle.at_base.specs.declared.notice.Kind.{Kind}
-use Rattle.at_base.specs.declared.notice.Kind.TheVariants as kinds
-use Rattle.at_base.specs.declared.record.Record.{Record}
 use Rattle.at_base.specs.declared.target.Seat.{Seat}
 use Rattle.at_base.specs.declared.target.Target.TheVariants as targets
 use Rattle.at_base.specs.declared.outs.Ending.TheVariants as endings
-use Rattle.at_base.specs.declared.outs.Effect.{Effect}
 use Rattle.at_tables.specs.declared.cells.State.TheVariants as states
 use Rattle.at_model.specs.Book.{Book, Enlistment, Leaf, Transaction}
 use Rattle.at_model.specs.Due.{may_expire}
 use Rattle.at_model.specs.Step.{leaf_at, transaction_at}
 use Rattle.at_model.specs.World.{Accepted, Node, Who, World, accepted_seat, new_nodes, nth, who_at, who_of}
-use Rattle.model_laws.specs.Agreement.{HasCommitted, IsIn}
+use Rattle.model_laws.specs.Agreement.{IsIn}
 use Rattle.model_laws.specs.Enlisted.{IsEnlisted}
 use Rattle.model_laws.specs.Reached.{Reached}
-use Rattle.model_laws.proofs.Deciding.{all_more}
 use Rattle.model_laws.proofs.Naming.{leads_home}
 use Rattle.model_laws.proofs.Nodes.{who_same}
-use Rattle.agreement.specs.Lives.{IsUnrecorded, Life, PromisesNothing, book_of, happened_on, standing}
-use Rattle.agreement.specs.Deeds.{coordinator_at}
-use Rattle.agreement.specs.Seated.{IsSeated}
+use Rattle.agreement.specs.Lives.{Life, PromisesNothing, happened_on, standing}
 use Rattle.agreement.proofs.LeafLives.{LeafAlone, LeafLife, leaf_alone, prepared, unrecorded}
 use Rattle.agreement.proofs.SeatedEntries.{one_of}
 use Rattle.enlistments.specs.Leads.{Enlists, LeadsTo}
@@ -35,8 +28,7 @@ use Rattle.votes.specs.Voting.{HasVoted}
 use Rattle.votes.proofs.Ended.{IsOpen, is_open, life_of, not_ended}
 use Rattle.votes.proofs.Gone.{is_promised, same_node}
 use Rattle.votes.proofs.Living.{world_laws}
-use Rattle.votes.proofs.Premises.{WorldLaws}
-use Rattle.paired.specs.Paired.{HaveVotes, IsPaired, IsParticipant, IsPlace, IsSeat, IsSeatIfKnown, PartnersArePaired, participant_of, seat_of}
+use Rattle.paired.specs.Paired.{HaveVotes, IsPaired, IsParticipant, IsPlace, IsSeat, PartnersArePaired, participant_of, seat_of}
 use Rattle.paired.proofs.Homes.{LeafHome, TransactionHome, leaves_home, transactions_home}
 use Rattle.paired.proofs.OneSeat.{home_is, one_seat}
 
@@ -77,7 +69,7 @@ seat_has count w small reached n x b t s y found up i j place is =
 same_numbers : (id j : Numbers) (number k : ℕ) (kind : Kind)
     → targets.Coordinator id (record { number = number; kind = kind }) ≡ targets.Coordinator j (record { number = k; kind = kind }) → (id ≡ j) × (number ≡ k)
 same_numbers id j number k kind e =
-    let seats : record { number = number; kind = kind } ≡ record { number = k; kind = kind } = cc in
+    let seats : ◌≡◌ {A = Seat} (record { number = number; kind = kind }) (record { number = k; kind = kind }) = cc in
     (cc, ap (λ (s : Seat). s.number) seats)
 
 known_has : (count : ℕ) (w : World) → count < 2 ^ 64 → (c : Epr) (x : Who) (kind : Kind) (h : IsSeat count kind c) → Enlists count w c x kind → HasSeat w h.transaction h.number kind x

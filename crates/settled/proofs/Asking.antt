@@ -1,5 +1,5 @@
 -- Whoever posts a Prepare to a durable participant has asked the durable ones from then on.
-use Rattle.std.specs.Prelude.{ℕ, List, [], ◌∷◌, ◌++◌, Option, Some, None, Bool, true, false, nat_lt, ◌&&◌, if◌then◌else◌, length, map, bytes_eq, ◌≡◌, ◌⊎◌, refl}
+use Rattle.std.specs.Prelude.{ℕ, List, [], ◌∷◌, ◌++◌, Option, Some, None, Bool, true, false, length, map, bytes_eq, ◌≡◌, refl}
 use Rattle.std.specs.List.{AllByRecursion}
 use Rattle.std.proofs.Common.{inl, inr, sym, subst, ap, ◌∙◌}
 use Rattle.at_base.specs.Numbers.{Numbers}
@@ -32,21 +32,20 @@ use Rattle.at_tables.specs.declared.cells.Act.{Act}
 use Rattle.at_tables.specs.declared.cells.Act.TheVariants as acts
 use Rattle.at_tables.specs.declared.cells.Cell.{Cell}
 use Rattle.at_tables.specs.Tables.{completion_of, initiator_of}
-use Rattle.at_model.specs.Activities.{activity_act, activity_created, activity_fault, activity_notice, activity_registered, activity_state, activity_target, complete_posts, completion_register, is_begun, on_activity, on_ask, on_begin, on_complete, on_interpose, told, with_context}
+use Rattle.at_model.specs.Activities.{activity_act, activity_created, activity_fault, activity_notice, activity_registered, activity_state, activity_target, complete_posts, is_begun, on_activity, on_ask, on_begin, on_complete, on_interpose, with_context}
 use Rattle.at_model.specs.Addresses.{create_id, register_id}
 use Rattle.at_model.specs.Arrivals.{relates_to, with_answer}
 use Rattle.at_model.specs.Book.{Activity, Book, Enlistment, Leaf, Phase, Progress, Transaction, leaf_id, transaction_id}
-use Rattle.at_model.specs.Create.{create_in, create_root, create_under, on_create, refuse_create}
+use Rattle.at_model.specs.Create.{create_in, create_under, on_create, refuse_create}
 use Rattle.at_model.specs.Due.{Expired, Nothing, Over, Reached as Due, Unanswered, activity_again, activity_due, activity_reached, completion_register_again}
-use Rattle.at_model.specs.Leaves.{employ, new_leaf, on_work, refuse_work, work_for}
+use Rattle.at_model.specs.Leaves.{on_work, refuse_work, work_for}
 use Rattle.at_model.specs.Moves.{Change, Decision, Goes, Records}
 use Rattle.at_model.specs.Posts.{accepted, fault_post, faulted, invalid_state, notice_post, replied, stored_or, stranger_post, to_each, unknown_transaction}
-use Rattle.at_model.specs.Register.{Registration, is_late, late_prepare, new_seat, on_register, protocol_named, refuse_register, register_unknown, registered_reply, seat_endpoint}
-use Rattle.at_model.specs.Seats.{seat_target}
+use Rattle.at_model.specs.Register.{Registration, is_late, late_prepare, new_seat, on_register, register_unknown, registered_reply, seat_endpoint}
 use Rattle.at_model.specs.Step.{Outcome, Plan, at_time, make_activity, make_leaf, make_transaction, moment_of, outcome_act, outcome_cell, plain, plan, plan_of, put_activity, put_leaf, put_transaction, registration_outcome, step, still, stranger_act, stranger_cell, transaction_at}
 use Rattle.model_laws.specs.Agreement.{IsIn}
 use Rattle.model_laws.specs.Order.{AreRising}
-use Rattle.model_laws.specs.Shapes.{Answers, IsAnswer, MakesActivity, MovesActivity, MovesLeaf, Shape, activity_made, activity_moves, activity_when_due, at_activity, begins, committed, completes, ignored, interposes, leaf_made, leaf_moves, not_created, not_employed, not_registered, nothing_moves, time_moves, time_passes, transaction_made, transaction_moves, transaction_registers, unknown, unknown_cell, works}
+use Rattle.model_laws.specs.Shapes.{Answers, IsAnswer, MakesActivity, MovesActivity, Shape, activity_made, activity_moves, activity_when_due, at_activity, begins, committed, completes, ignored, interposes, leaf_made, leaf_moves, not_created, not_employed, not_registered, nothing_moves, time_moves, time_passes, transaction_made, transaction_moves, transaction_registers, unknown, unknown_cell, works}
 use Rattle.model_laws.proofs.Deciding.{Both, IfThere, all_find, all_join, either_of, found_id, in_branch, plain_both}
 use Rattle.model_laws.proofs.Shaping.{steps_touch_one}
 use Rattle.agreement.specs.Branches.{InBranches, IsNoNotice}
@@ -165,7 +164,7 @@ late_never m id phase s true e = (λ i k. not_durable phase s.kind (same_kind id
     same_kind : (j l : Numbers) (a b : ℕ) (kind : Kind) → Some (targets.Coordinator j (record { number = a; kind = kind })) ≡ Some (targets.Coordinator l (record { number = b; kind = kinds.Durable }))
         → kind ≡ kinds.Durable
     same_kind j l a b kind f =
-        let seats : record { number = a; kind = kind } ≡ record { number = b; kind = kinds.Durable } = cc in
+        let seats : ◌≡◌ {A = Seat} (record { number = a; kind = kind }) (record { number = b; kind = kinds.Durable }) = cc in
         ap (λ (z : Seat). z.kind) seats
 
     not_durable : (p : Phase) (kind : Kind) → kind ≡ kinds.Durable → is_late p kind ≡ true → ⊥

@@ -1,12 +1,11 @@
 -- A Prepare that goes to a durable participant was posted by the transaction that accepted it, which has asked the durable ones.
-use Rattle.std.specs.Prelude.{ℕ, List, [], ◌∷◌, ◌++◌, Option, Some, None, Bool, true, false, ◌+◌, ◌^◌, ◌≡◌, ◌<◌, ◌⊎◌, refl}
+use Rattle.std.specs.Prelude.{ℕ, List, [], ◌∷◌, ◌++◌, Option, Some, None, Bool, true, false, ◌+◌, ◌^◌, ◌≡◌, ◌<◌, refl}
 use Rattle.std.specs.List.{AllByRecursion}
 use Rattle.std.proofs.Common.{inl, inr, sym, subst, ap, ◌∙◌}
 use Rattle.at_base.specs.Numbers.{Numbers}
 use Rattle.at_base.specs.declared.epr.Epr.{Epr}
 use Rattle.at_base.specs.declared.notice.Kind.{Kind}
 use Rattle.at_base.specs.declared.notice.Kind.TheVariants as kinds
-use Rattle.at_base.specs.declared.notice.Notice.{Notice}
 use Rattle.at_base.specs.declared.notice.Notice.TheVariants as notices
 use Rattle.at_base.specs.declared.message.Message.TheVariants as messages
 use Rattle.at_base.specs.declared.event.Event.{Event}
@@ -18,17 +17,15 @@ use Rattle.at_base.specs.declared.record.Record.TheVariants as records
 use Rattle.at_base.specs.declared.record.Seated.{Seated}
 use Rattle.at_base.specs.declared.target.Target.{Target}
 use Rattle.at_base.specs.declared.target.Target.TheVariants as targets
-use Rattle.at_model.specs.Book.{Book, Enlistment, Phase, Transaction, last_counter, transaction_id}
+use Rattle.at_model.specs.Book.{Book, Enlistment, Phase, Transaction, transaction_id}
 use Rattle.at_model.specs.Recover.{last_incarnation, live, recover, recovered_decided, recovered_voted}
 use Rattle.at_model.specs.Register.{is_late, new_seat}
-use Rattle.at_model.specs.Seats.{seat_target}
 use Rattle.at_model.specs.Step.{moment_of, plan, step, transaction_at}
-use Rattle.at_model.specs.World.{Node, Posted, Who, World, goes_down, lost_in, nth, opening, put_book, put_nth, started, up_after, with_post}
+use Rattle.at_model.specs.World.{Node, Posted, Who, World, goes_down, lost_in, nth, put_book, put_nth, started, up_after, with_post}
 use Rattle.model_laws.specs.Agreement.{IsIn}
 use Rattle.model_laws.specs.Drawn.{restarted, with_entry}
-use Rattle.model_laws.specs.Grows.{Grows}
-use Rattle.model_laws.specs.Laws.{HasId, IsDrawn}
-use Rattle.model_laws.specs.Reached.{Heard, Reached, counts}
+use Rattle.model_laws.specs.Laws.{IsDrawn}
+use Rattle.model_laws.specs.Reached.{Reached, counts}
 use Rattle.model_laws.proofs.Deciding.{IfThere, all_find, all_join, all_more, found_id}
 use Rattle.model_laws.proofs.Holding.{Law, OutFine, holds}
 use Rattle.model_laws.proofs.Lasting.{grows_counts, takes_nothing_back}
@@ -46,8 +43,8 @@ use Rattle.agreement.proofs.Registered.{drawn_down, drawn_put, drawn_up, of_reco
 use Rattle.agreement.proofs.SeatedBooks.{finds_each}
 use Rattle.agreement.proofs.SeatedEntries.{one_of}
 use Rattle.enlistments.specs.Leads.{LeadsTo}
-use Rattle.enlistments.specs.Moves.{IsReady, Registered, TransactionDid, TransactionMade}
-use Rattle.enlistments.specs.Senses.{Ask, Asks, asks_completion, asks_late_seat, asks_left_seat, asks_no_seat, asks_seat}
+use Rattle.enlistments.specs.Moves.{IsReady}
+use Rattle.enlistments.specs.Senses.{Asks, asks_completion, asks_late_seat, asks_left_seat, asks_no_seat, asks_seat}
 use Rattle.enlistments.proofs.After.{transactions_after}
 use Rattle.enlistments.proofs.Answers.{held_after, keeps_id}
 use Rattle.enlistments.proofs.Arriving.{Stepping, step_ready}
@@ -61,10 +58,9 @@ use Rattle.owed.specs.Shape.{AreShaped}
 use Rattle.owed.proofs.AskingBooks.{asking_goes_on}
 use Rattle.owed.proofs.Books.{reached_shaped}
 use Rattle.votes.specs.Answering.{HasSeat}
-use Rattle.paired.specs.Paired.{IsParticipant, participant_of}
+use Rattle.paired.specs.Paired.{IsParticipant}
 use Rattle.paired.proofs.Pairing.{partners_are_paired}
-use Rattle.settled.specs.Behind.{HasAskedAt, IsAskedBy, PreparesAreBehind}
-use Rattle.settled.specs.Owed.{Holds}
+use Rattle.settled.specs.Behind.{PreparesAreBehind}
 use Rattle.settled.proofs.Asking.{step_asks}
 use Rattle.settled.proofs.Going.{leads_participant}
 
@@ -192,7 +188,7 @@ all_new b e now landed ready =
     (finds_each transaction_id b.transactions ready.order.rising.transactions))
     (λ d. left_new b d.old d.change.item d.found d.deed.same)
     (λ d none drawn.
-        none_there (transaction_at b d.gives.transaction.id) d.old none (ap (transaction_at b) (keeps_id (moment_of b now) d.arrived d.request d.old d.gives d.enrolls) ∙ d.found))
+    none_there (transaction_at b d.gives.transaction.id) d.old none (ap (transaction_at b) (keeps_id (moment_of b now) d.arrived d.request d.old d.gives d.enrolls) ∙ d.found))
     (λ d none drawn. makes_under_the_next_id.next b d.id d.next (subst (IsDrawn b) (made_fresh b e now _ _ d).own drawn))
 
 still_late : (b : Book) (e : Event) (now : ℕ) (landed : Bool) (id : Numbers) → IsReady b → AreShaped b → IsDrawn b id → HasAskedIfLeft (transaction_at b id)

@@ -14,20 +14,18 @@ use Rattle.at_base.specs.declared.record.Record.{Record}
 use Rattle.at_base.specs.declared.epr.Epr.{Epr}
 use Rattle.at_base.specs.declared.target.Target.{Target}
 use Rattle.std.proofs.lemmas.Bool.{eq-eqb}
-use Rattle.at_model.specs.Book.{Book, Transaction}
+use Rattle.at_model.specs.Book.{Book}
 use Rattle.at_model.specs.Due.{resend_after}
-use Rattle.at_model.specs.Step.{Outcome, Plan, is_due, items_of, plan, step}
-use Rattle.at_model.specs.World.{Deliver, Node, Posted, Tick, Turn, Turning, World, accepted_in, answer_plan, arrival_of, arrival_plan, decoded_at, new_nodes, takes, target_at, at_some_node, base_of, counted, decoded, deliver, due_step, due_steps, happened_at, is_receiver, later, nth, on_book, put_book, put_nth, receiver_of, send_all, step_by, take_step, take_turn, ticked, turn_from, turned, with_post, with_record, world_step}
+use Rattle.at_model.specs.Step.{Outcome, Plan, is_due, items_of, plan}
+use Rattle.at_model.specs.World.{Deliver, Node, Posted, Tick, Turn, Turning, World, accepted_in, answer_plan, arrival_of, arrival_plan, decoded_at, new_nodes, takes, target_at, at_some_node, base_of, counted, decoded, deliver, due_step, due_steps, happened_at, is_receiver, later, nth, on_book, put_book, put_nth, send_all, step_by, take_step, take_turn, ticked, turned, with_post, with_record, world_step}
 use Rattle.model_laws.specs.Agreement.{IsIn}
 use Rattle.model_laws.specs.Drawn.{with_entry}
-use Rattle.model_laws.specs.Order.{IsInOrder}
 use Rattle.model_laws.specs.Reached.{Heard, Reached, counts, post_all, stepped, waited}
 use Rattle.model_laws.specs.Settle.{first_received, received_or}
 use Rattle.model_laws.proofs.Enlisting.{none_new}
 use Rattle.model_laws.proofs.Nodes.{accepted_same, bases_back, bases_put, put_put, put_same, receiver_same, same_bases}
 use Rattle.model_laws.proofs.Naming.{HaveBases}
 use Rattle.model_laws.proofs.Running.{opening_node, put_this}
-use Rattle.enlistments.specs.Moves.{IsReady}
 use Rattle.enlistments.proofs.Arriving.{world_bases}
 use Rattle.enlistments.proofs.Moving.{book_ready}
 use Rattle.owed.specs.Seats.{posts_of}

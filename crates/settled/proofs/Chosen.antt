@@ -1,5 +1,5 @@
 -- Whoever has a seat registers at its transaction; so where nobody registers at a transaction, nobody with a seat registers.
-use Rattle.std.specs.Prelude.{ℕ, List, Option, Some, None, false, is_none, ◌^◌, ◌≡◌, ◌<◌, refl}
+use Rattle.std.specs.Prelude.{ℕ, Option, Some, None, false, is_none, ◌^◌, ◌≡◌, ◌<◌, refl}
 use Rattle.std.proofs.Common.{sym, subst, ap, ◌∙◌}
 use Rattle.at_base.specs.Numbers.{Numbers}
 use Rattle.at_base.specs.declared.epr.Epr.{Epr}
@@ -16,7 +16,7 @@ use Rattle.at_model.specs.World.{Who, World}
 use Rattle.model_laws.specs.Reached.{Reached}
 use Rattle.model_laws.proofs.Deciding.{all_find, found_id}
 use Rattle.model_laws.proofs.Enlisting.{Meets, by_request, by_work, leaf_standing, meets_at, same_at, transaction_standing}
-use Rattle.model_laws.proofs.Enrolled.{IsChosenAt, WorldGood, chosen_at, world_good}
+use Rattle.model_laws.proofs.Enrolled.{IsChosenAt, chosen_at, world_good}
 use Rattle.model_laws.proofs.Posting.{At, Standing}
 use Rattle.agreement.specs.LeafDeeds.{LeafStands, registers, waits, works}
 use Rattle.enlistments.specs.Leads.{LeadsTo}
@@ -24,7 +24,7 @@ use Rattle.enlistments.proofs.Arriving.{up_known}
 use Rattle.enlistments.proofs.Moving.{book_ready}
 use Rattle.owed.specs.Shape.{LinkKnows, StandsUnder}
 use Rattle.votes.specs.Answering.{HasSeat}
-use Rattle.settled.specs.Owed.{HasRegistered, Holds}
+use Rattle.settled.specs.Owed.{Holds}
 use Rattle.settled.specs.Routed.{NoneRouted}
 use Rattle.settled.proofs.Meeting.{found_own, leaf_own, shape_at}
 use Rattle.settled.proofs.VotesKept.{NoneRegisters}

@@ -1,28 +1,26 @@
 -- What a step leaves where it was, and what comes of what it posts.
-use Rattle.std.specs.Prelude.{ℕ, List, [], ◌∷◌, Option, Some, None, Bool, true, false, nat_eq, ◌≤◌, if◌then◌else◌, map, option_and_then, option_map, ◌^◌, ◌≡◌, ◌<◌, ◌⊎◌, refl}
+use Rattle.std.specs.Prelude.{ℕ, List, [], ◌∷◌, Option, Some, None, Bool, true, false, nat_eq, if◌then◌else◌, map, option_and_then, option_map, ◌^◌, ◌≡◌, ◌<◌, ◌⊎◌, refl}
 use Rattle.std.proofs.Common.{inl, inr, sym, subst, ap, ◌∙◌}
 use Rattle.std.proofs.lemmas.Bool.{eqb-true, eqb-false}
 use Rattle.at_base.specs.Numbers.{Numbers}
-use Rattle.at_base.specs.IdText.{IsId}
 use Rattle.at_base.specs.declared.epr.Epr.{Epr}
 use Rattle.at_base.specs.declared.notice.Kind.{Kind}
 use Rattle.at_base.specs.declared.notice.Notice.{Notice}
 use Rattle.at_base.specs.declared.notice.Notice.TheVariants as notices
 use Rattle.at_base.specs.declared.message.Message.TheVariants as messages
 use Rattle.at_base.specs.declared.event.Arrived.{Arrived}
-use Rattle.at_base.specs.declared.event.Event.{Event}
 use Rattle.at_base.specs.declared.event.Event.TheVariants as events
 use Rattle.at_base.specs.declared.outs.Post.{Post}
 use Rattle.at_base.specs.declared.target.Target.{Target}
 use Rattle.at_base.specs.declared.target.Target.TheVariants as targets
 use Rattle.at_model.specs.Addresses.{endpoint_of}
-use Rattle.at_model.specs.Book.{Book, Enlistment, Transaction}
+use Rattle.at_model.specs.Book.{Book, Enlistment}
 use Rattle.at_model.specs.Seats.{seat_target}
-use Rattle.at_model.specs.Step.{plan, step, transaction_at}
-use Rattle.at_model.specs.World.{Node, Posted, Who, World, arrival_of, base_of, decoded, decoded_at, new_nodes, nth, place_of, put_nth, receiver_of, takes, target_at}
+use Rattle.at_model.specs.Step.{plan, step}
+use Rattle.at_model.specs.World.{Node, Posted, Who, World, arrival_of, base_of, decoded, decoded_at, new_nodes, nth, put_nth, receiver_of, takes, target_at}
 use Rattle.model_laws.specs.Agreement.{IsIn}
 use Rattle.model_laws.specs.Drawn.{with_entry}
-use Rattle.model_laws.specs.Reached.{Reached, counts, post_all}
+use Rattle.model_laws.specs.Reached.{counts, post_all}
 use Rattle.model_laws.proofs.Naming.{leads_home, place_is}
 use Rattle.model_laws.proofs.Nodes.{receiver_same}
 use Rattle.model_laws.proofs.Running.{put_other, put_this}
@@ -32,7 +30,7 @@ use Rattle.enlistments.proofs.Arriving.{Stepping, step_ready, up_known, world_ba
 use Rattle.owed.specs.Seats.{AnswersSeat, Tells, posts_of, seat_post}
 use Rattle.owed.specs.Shape.{AreShaped}
 use Rattle.owed.proofs.Books.{reached_shaped}
-use Rattle.paired.specs.Paired.{IsPlace, IsSeat, participant_of, seat_of}
+use Rattle.paired.specs.Paired.{IsPlace, participant_of, seat_of}
 use Rattle.settled.specs.Goes.{Goes, HasArrived, posted_as}
 use Rattle.settled.specs.Owed.{Comes, Holds, IsNotice, IsNoticeFrom, IsSeatPlace, seat_target_of}
 

@@ -1,5 +1,5 @@
 -- What is kept through a round of settling.
-use Rattle.std.specs.Prelude.{ℕ, List, [], ◌∷◌, Option, Some, None, Bool, true, false, is_none, ◌+◌, ◌^◌, ◌≡◌, ◌≤◌, ◌<◌, ◌⊎◌, refl}
+use Rattle.std.specs.Prelude.{ℕ, List, Option, Some, Bool, true, false, is_none, ◌+◌, ◌≡◌, ◌≤◌, ◌<◌, ◌⊎◌, refl}
 use Rattle.std.proofs.Common.{inl, inr, arith, sym, subst, ap, ◌∙◌}
 use Rattle.std.proofs.lemmas.Bool.{leb-true, leb-false}
 use Rattle.std.specs.Prelude.{nat_le}
@@ -11,11 +11,10 @@ use Rattle.at_model.specs.World.{Node, Posted, Who, World, nth, put_nth}
 use Rattle.model_laws.specs.Agreement.{IsIn}
 use Rattle.model_laws.specs.Reached.{Reached}
 use Rattle.model_laws.proofs.Running.{put_other, put_this}
-use Rattle.paired.proofs.Homes.{node_range}
 use Rattle.settled.specs.Behind.{PreparesAreBehind}
 use Rattle.settled.specs.Calm.{Invariant, IsLost}
 use Rattle.settled.specs.Goes.{Goes}
-use Rattle.settled.specs.Owed.{Comes, CommitsAreOwed, CommitsAt, Holds, IsBusyAt, IsPreparedAt, OutcomesAreOwed, OwesCommitted, OwesOutcome, OwesRegistered, OwesVote, RegistrationsAreOwed, VotesAreOwed}
+use Rattle.settled.specs.Owed.{Comes, CommitsAreOwed, Holds, OutcomesAreOwed, OwesCommitted, OwesOutcome, OwesRegistered, OwesVote, RegistrationsAreOwed, VotesAreOwed}
 use Rattle.settled.specs.Routed.{NoneRouted}
 use Rattle.settled.proofs.Commits.{commits_kept}
 use Rattle.settled.proofs.Going.{holds_after, node_after, nodes_after, or_elsewhere}

@@ -1,39 +1,32 @@
 -- Who meets whom at a step: coordinators that are known are the seats that ask.
-use Rattle.std.specs.Prelude.{ℕ, List, Option, Some, None, Bool, true, false, is_none, ◌^◌, ◌≡◌, ◌<◌, ◌⊎◌, refl}
-use Rattle.std.specs.List.{AllByRecursion}
+use Rattle.std.specs.Prelude.{ℕ, List, Option, Some, None, false, is_none, ◌^◌, ◌≡◌, ◌<◌, ◌⊎◌, refl}
 use Rattle.std.proofs.Common.{inl, inr, sym, subst, ap, ◌∙◌}
 use Rattle.at_base.specs.Numbers.{Numbers}
 use Rattle.at_base.specs.declared.epr.Epr.{Epr}
 use Rattle.at_base.specs.declared.notice.Kind.{Kind}
-use Rattle.at_base.specs.declared.notice.Notice.{Notice}
 use Rattle.at_base.specs.declared.notice.Notice.TheVariants as notices
 use Rattle.at_base.specs.declared.outs.Post.{Post}
-use Rattle.at_base.specs.declared.event.Arrived.{Arrived}
-use Rattle.at_base.specs.declared.event.Event.{Event}
-use Rattle.at_base.specs.declared.event.Event.TheVariants as events
-use Rattle.at_base.specs.declared.target.Target.TheVariants as targets
 use Rattle.at_model.specs.Book.{Book, Enlistment, Leaf, Superior, Transaction, leaf_id, transaction_id}
 use Rattle.at_model.specs.Posts.{stored_or}
-use Rattle.at_model.specs.Seats.{link_of}
 use Rattle.at_model.specs.Step.{leaf_at, transaction_at}
-use Rattle.at_model.specs.World.{Node, Posted, Who, World, nth}
+use Rattle.at_model.specs.World.{Posted, Who, World}
 use Rattle.model_laws.specs.Agreement.{IsIn}
 use Rattle.model_laws.specs.Behind.{accepted_as}
 use Rattle.model_laws.specs.Reached.{Reached}
 use Rattle.model_laws.proofs.Deciding.{all_find, found_id}
 use Rattle.agreement.specs.Deeds.{coordinator_at}
 use Rattle.agreement.proofs.SeatedEntries.{one_of}
-use Rattle.enlistments.specs.Knowing.{BookKnows, IsKnowing, LeafKnows, TransactionKnows}
+use Rattle.enlistments.specs.Knowing.{LeafKnows, TransactionKnows}
 use Rattle.enlistments.specs.Leads.{Enlists, EnlistsIfKnown}
 use Rattle.enlistments.proofs.Knowing.{coordinators_are_known}
 use Rattle.enlistments.proofs.Lasting.{found_stands}
 use Rattle.enlistments.proofs.Places.{IsPlaced, TransactionPlaced, transactions_placed}
-use Rattle.owed.specs.Seats.{AnswersSeat, Tells, posts_of}
+use Rattle.owed.specs.Seats.{Tells}
 use Rattle.owed.specs.Upwards.{CommitsIn, LinkIsBusy, StaysBusy, StaysCommitting, TellsAnswer, superior_left}
-use Rattle.owed.specs.Shape.{AreShaped, IsShaped}
+use Rattle.owed.specs.Shape.{IsShaped}
 use Rattle.owed.proofs.Books.{reached_shaped}
 use Rattle.votes.specs.Answering.{HasSeat}
-use Rattle.paired.specs.Paired.{IsPaired, IsPlace, IsSeat, IsSeatIfKnown, participant_of, seat_of}
+use Rattle.paired.specs.Paired.{IsPlace, IsSeat, IsSeatIfKnown, participant_of, seat_of}
 use Rattle.paired.proofs.Homes.{node_range}
 use Rattle.paired.proofs.Pairing.{partners_are_paired}
 use Rattle.settled.specs.Goes.{Goes}

@@ -1,6 +1,5 @@
 -- An outcome that a durable participant waits for stays owed over each step.
-use Rattle.std.specs.Prelude.{ℕ, List, [], ◌∷◌, Option, Some, None, Bool, true, false, is_none, ◌^◌, ◌≡◌, ◌<◌, ◌⊎◌, refl}
-use Rattle.std.specs.List.{AllByRecursion}
+use Rattle.std.specs.Prelude.{ℕ, List, [], ◌∷◌, Option, Some, None, true, false, is_none, ◌^◌, ◌≡◌, ◌<◌, ◌⊎◌, refl}
 use Rattle.std.proofs.Common.{inl, inr, sym, subst, ap, ◌∙◌}
 use Rattle.at_base.specs.Numbers.{Numbers}
 use Rattle.at_base.specs.IdText.{IsId}
@@ -11,7 +10,6 @@ use Rattle.at_base.specs.declared.notice.Notice.TheVariants as notices
 use Rattle.at_base.specs.declared.message.Message.TheVariants as messages
 use Rattle.at_base.specs.declared.event.Arrived.{Arrived}
 use Rattle.at_base.specs.declared.event.Event.TheVariants as events
-use Rattle.at_base.specs.declared.outs.Post.{Post}
 use Rattle.at_base.specs.declared.target.Seat.{Seat}
 use Rattle.at_base.specs.declared.target.Target.TheVariants as targets
 use Rattle.at_tables.specs.declared.cells.State.TheVariants as states
@@ -20,9 +18,9 @@ use Rattle.at_model.specs.Book.{Book, Enlistment, Leaf, Superior, Transaction, l
 use Rattle.at_model.specs.Leaves.{leaf_target}
 use Rattle.at_model.specs.Posts.{notice_post}
 use Rattle.at_model.specs.Step.{find_seat, leaf_at, step, transaction_at}
-use Rattle.at_model.specs.World.{Posted, Who, World, base_of}
+use Rattle.at_model.specs.World.{Posted, Who, World}
 use Rattle.model_laws.specs.Agreement.{IsIn}
-use Rattle.model_laws.specs.Behind.{Accepted as Seating, accepted_as}
+use Rattle.model_laws.specs.Behind.{Accepted as Seating}
 use Rattle.model_laws.specs.Reached.{Reached}
 use Rattle.model_laws.specs.Shapes.{IfFound}
 use Rattle.model_laws.proofs.Deciding.{found_id}
@@ -111,7 +109,7 @@ enlists_has count w small x z number kind place h =
   where
     same_numbers : (i j : Numbers) (n m : ℕ) → targets.Coordinator i (record { number = n; kind = kind }) ≡ targets.Coordinator j (record { number = m; kind = kind }) → (i ≡ j) × (n ≡ m)
     same_numbers i j n m e =
-        let seats : record { number = n; kind = kind } ≡ record { number = m; kind = kind } = cc in
+        let seats : ◌≡◌ {A = Seat} (record { number = n; kind = kind }) (record { number = m; kind = kind }) = cc in
         (cc, ap (λ (s : Seat). s.number) seats)
 
 seat_whose : (count : ℕ) (u v : World) (before after : List Posted) → (g : Goes count u v before after) → (x z : Who) (number : ℕ) (t : Transaction) (q : Enlistment) → z.node ≡ g.number

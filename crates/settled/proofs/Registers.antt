@@ -1,5 +1,5 @@
 -- Who registers at a transaction of a node is owed an answer, over each step; and nobody begins to.
-use Rattle.std.specs.Prelude.{ℕ, List, Option, Some, None, Bool, true, false, is_none, bytes_eq, ◌≡◌, ◌⊎◌, refl}
+use Rattle.std.specs.Prelude.{ℕ, List, Option, Some, None, true, false, is_none, ◌≡◌, ◌⊎◌, refl}
 use Rattle.std.proofs.Common.{inl, inr, sym, subst, ap, ◌∙◌}
 use Rattle.std.proofs.lemmas.Slice.Eq.{bytes_eq-Decides}
 use Rattle.at_base.specs.Numbers.{Numbers}
@@ -31,7 +31,7 @@ use Rattle.paired.proofs.Pairing.{partners_are_paired}
 use Rattle.settled.specs.Goes.{Goes}
 use Rattle.settled.specs.Owed.{Comes, Holds, IsRegisterOf, IsRegisteredBy, OwesRegistered, RegistrationsAreOwed}
 use Rattle.settled.specs.Routed.{NoneRouted}
-use Rattle.settled.proofs.Going.{base_is, book_after, comes_as, held_elsewhere, holds_after, holds_before, leads_participant, new_comes, or_arrives, or_elsewhere, posted_in, ready, same_book, shaped}
+use Rattle.settled.proofs.Going.{base_is, book_after, comes_as, held_elsewhere, holds_after, holds_before, leads_participant, new_comes, or_arrives, or_elsewhere, ready, same_book, shaped}
 use Rattle.settled.proofs.Meeting.{found_own, leaf_own}
 use Rattle.settled.proofs.Outcomes.{leaf_placed, transaction_placed}
 use Rattle.settled.proofs.Stood.{LeafStood, TransactionStood, leaf_stood, transaction_stood}

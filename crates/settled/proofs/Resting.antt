@@ -1,5 +1,5 @@
 -- Where nothing is on its way any more, nobody is in doubt.
-use Rattle.std.specs.Prelude.{ℕ, List, [], ◌∷◌, ◌++◌, Option, Some, None, Bool, true, false, not, is_none, zero, suc, ◌&&◌, ◌||◌, ◌+◌, ◌^◌, length, ◌≡◌, ◌≤◌, ◌<◌, ◌⊎◌, refl}
+use Rattle.std.specs.Prelude.{ℕ, List, [], ◌∷◌, Option, Some, None, Bool, true, false, not, is_none, zero, suc, ◌&&◌, ◌||◌, ◌+◌, ◌^◌, length, ◌≡◌, ◌≤◌, ◌<◌, ◌⊎◌, refl}
 use Rattle.std.specs.List.{list_all, list_any, AllByRecursion}
 use Rattle.std.proofs.Common.{inl, inr, arith, sym, subst, ap, ◌∙◌}
 use Rattle.std.proofs.lemmas.List.{length-append}
@@ -11,11 +11,11 @@ use Rattle.at_base.specs.declared.notice.Kind.TheVariants as kinds
 use Rattle.at_tables.specs.declared.cells.State.{State}
 use Rattle.at_tables.specs.declared.cells.State.TheVariants as states
 use Rattle.at_tables.specs.Names.{is_kind, is_state}
-use Rattle.at_model.specs.Book.{Book, Completion, Enlistment, Leaf, Phase, Superior, Transaction, leaf_id, transaction_id}
+use Rattle.at_model.specs.Book.{Book, Enlistment, Leaf, Phase, Superior, Transaction, leaf_id, transaction_id}
 use Rattle.at_model.specs.Seats.{is_of, is_prepared_durable, link_of}
 use Rattle.at_model.specs.Step.{leaf_at, transaction_at}
 use Rattle.at_model.specs.World.{Node, Posted, Who, World, WorldEvent, nth, run_of}
-use Rattle.model_laws.specs.Agreement.{IsAccepted, IsIn}
+use Rattle.model_laws.specs.Agreement.{IsIn}
 use Rattle.model_laws.specs.Links.{AreIn, AreLinked, IsIdle, IsJoining}
 use Rattle.model_laws.specs.Reached.{Reached}
 use Rattle.model_laws.specs.Settle.{is_book_settled, is_doubtful_leaf, is_node_settled, is_settled, waits, waits_in}
@@ -28,7 +28,6 @@ use Rattle.agreement.proofs.SeatedEntries.{one_of}
 use Rattle.enlistments.specs.Leads.{Enlists}
 use Rattle.enlistments.proofs.Finding.{both_true}
 use Rattle.enlistments.proofs.Moving.{book_ready}
-use Rattle.owed.specs.Seats.{AnswersSeat}
 use Rattle.owed.specs.Shape.{LinkKnows, StandsUnder, Waits, suits}
 use Rattle.owed.specs.Upwards.{CommitsIn, IsBusy, LinkIsBusy}
 use Rattle.settling.specs.Order.{HasSome, RegistersFirst}
@@ -36,10 +35,9 @@ use Rattle.settling.proofs.Entries.{state_is}
 use Rattle.settling.proofs.Ordering.{subordinates_register_first}
 use Rattle.settling.proofs.Runs.{all_from_nth}
 use Rattle.votes.specs.Answering.{HasSeat}
-use Rattle.paired.specs.Paired.{IsParticipant, IsSeat, participant_of, seat_of}
+use Rattle.paired.specs.Paired.{IsParticipant, IsSeat, seat_of}
 use Rattle.paired.proofs.Pairing.{partners_are_paired}
-use Rattle.settled.specs.Owed.{AnswersOnWay, Comes, CommitsAreOwed, CommitsAt, Holds, IsBusyAt, IsPreparedAt, IsSeatPlace, IsToldOnWay, OutcomesAreOwed, OwesCommitted, OwesOutcome, OwesVote, VotesAreOwed}
-use Rattle.settled.proofs.Going.{same_book}
+use Rattle.settled.specs.Owed.{Comes, CommitsAreOwed, Holds, IsPreparedAt, OutcomesAreOwed, OwesCommitted, OwesOutcome, OwesVote, VotesAreOwed}
 use Rattle.settled.proofs.Meeting.{found_own, in_book, leaf_seat, link_seat, seat_has, shape_at}
 use Rattle.settled.proofs.Outcomes.{enlists_has}
 use Rattle.settled.proofs.Votes.{suits_at}

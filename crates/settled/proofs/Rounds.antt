@@ -1,6 +1,6 @@
 -- Rounds of settling: behind the first nobody registers any more, and behind each later one nobody is in doubt.
-use Rattle.std.specs.Prelude.{ℕ, List, [], ◌∷◌, ◌++◌, Option, Some, None, Bool, true, false, is_none, nat_eq, zero, suc, ◌+◌, ◌-◌, ◌*◌, ◌^◌, if◌then◌else◌, drop, length, option_map, ◌≡◌, ◌≤◌, ◌<◌, ◌⊎◌, refl}
-use Rattle.std.specs.List.{sum_by, AllByRecursion}
+use Rattle.std.specs.Prelude.{ℕ, List, [], ◌∷◌, ◌++◌, Option, Some, None, Bool, true, false, is_none, nat_eq, zero, suc, ◌+◌, ◌-◌, ◌*◌, ◌^◌, if◌then◌else◌, drop, length, option_map, ◌≡◌, ◌≤◌, ◌<◌, refl}
+use Rattle.std.specs.List.{AllByRecursion}
 use Rattle.std.proofs.Common.{inl, inr, arith, sym, subst, ap, ◌∙◌}
 use Rattle.std.proofs.lemmas.List.{drop_all}
 use Rattle.std.proofs.lemmas.List.Sums.{sum_by-cons}
@@ -17,16 +17,15 @@ use Rattle.at_model.specs.Due.{resend_after}
 use Rattle.at_model.specs.World.{Deliver, Node, Posted, Tick, Turn, Who, World, WorldEvent, new_nodes, nth, place_of, receiver_of, run_of, run_on, world_step}
 use Rattle.model_laws.specs.Agreement.{IsIn}
 use Rattle.model_laws.specs.Reached.{Reached}
-use Rattle.model_laws.specs.Settle.{IsSettling, MayStart, Settles, Settling, all_also, all_up, also, deliver_next, deliveries_from, first_received, is_settled, received_or, settle, settle_from, settle_round, settle_rounds, settled, ticks, ups}
+use Rattle.model_laws.specs.Settle.{MayStart, Settles, Settling, all_also, all_up, also, deliver_next, deliveries_from, first_received, is_settled, received_or, settle, settle_from, settle_round, settle_rounds, settled, ticks, ups}
 use Rattle.model_laws.proofs.Naming.{place_is}
-use Rattle.model_laws.proofs.Reaching.{run_reached}
 use Rattle.paired.proofs.Homes.{node_range}
 use Rattle.settling.specs.Again.{ticked_at}
 use Rattle.settling.specs.Drains.{Delivers, IsDrained, granted, none_left, one_more, risen}
 use Rattle.settling.specs.Load.{Prices, weight}
 use Rattle.settling.specs.Pays.{MakesNothing}
 use Rattle.settling.specs.Rises.{AllUp, IsUp}
-use Rattle.settling.proofs.Delivering.{AreSteady, Lowers, burden, next_lowers, node_load}
+use Rattle.settling.proofs.Delivering.{Lowers, burden, next_lowers}
 use Rattle.settling.proofs.Draining.{drains, risen_run, round_run}
 use Rattle.settling.proofs.Places.{all_nth}
 use Rattle.settling.proofs.Rising.{nodes_rise}
@@ -38,7 +37,7 @@ use Rattle.settled.specs.Calm.{Invariant}
 use Rattle.settled.specs.Owed.{Comes, CommitsAreOwed, Holds, OutcomesAreOwed, OwesRegistered, RegistrationsAreOwed, VotesAreOwed}
 use Rattle.settled.specs.Routed.{NoneRouted}
 use Rattle.settled.proofs.Calm.{After, FirstAt, delivery_after, first_at, tick_after}
-use Rattle.settled.proofs.Invariants.{AreUp, IsOwed, Known, commits_both, commits_of, outcomes_both, outcomes_of, owing, registering, registrations_both, registrations_of, up_to, votes_both, votes_of}
+use Rattle.settled.proofs.Invariants.{AreUp, Known, commits_both, commits_of, outcomes_both, outcomes_of, owing, registering, registrations_both, registrations_of, up_to, votes_both, votes_of}
 use Rattle.settled.proofs.Resting.{NoneLeft, rests}
 use Rattle.settled.proofs.Routed.{routed}
 use Rattle.settled.proofs.Ticks.{commits_asked, outcomes_asked, registrations_asked, votes_asked}
@@ -205,10 +204,13 @@ round_registers : (count most : ℕ) (s : Settling) → count < 2 ^ 64 → IsOfR
 unfolding registering first_round
 round_registers count most s small r up d =
     let k : Drained count (registering count (λ n. n ≤ count)) (settle_round most s).world =
-    round_walk count most (first_round count small) s small (λ u w queue h. h.0) r d (up, record {
-      links = λ n b t q kind a m id asked holds found. absurd (none_yet count s.world small (run_is count s.world r) n b holds asked);
-      leaves = λ n b l a m id asked holds found. absurd (none_yet count s.world small (run_is count s.world r) n b holds asked);
-    }) in
+    round_walk count most (first_round count small) s small (λ u w queue h. h.0) r d (
+      up,
+      record {
+        links = λ n b t q kind a m id asked holds found. absurd (none_yet count s.world small (run_is count s.world r) n b holds asked);
+        leaves = λ n b l a m id asked holds found. absurd (none_yet count s.world small (run_is count s.world r) n b holds asked);
+      },
+    ) in
     none_registers count (settle_round most s).world (drop k.place (settle_round most s).world.posted) k.none
     (registrations_of count (λ n. n ≤ count) (λ n. Unit {0}) (settle_round most s).world (drop k.place (settle_round most s).world.posted)
     (all_asked count (settle_round most s).world small k.after.reached) k.after.holds.1)

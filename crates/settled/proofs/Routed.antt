@@ -1,16 +1,13 @@
 -- A message that was posted goes to the node that its address leads to.
-use Rattle.std.specs.Prelude.{ℕ, List, [], ◌∷◌, ◌++◌, Option, Some, None, Bool, true, ◌+◌, ◌^◌, map, option_map, ◌≡◌, ◌<◌, refl}
+use Rattle.std.specs.Prelude.{ℕ, List, ◌++◌, Some, None, true, ◌+◌, option_map, ◌≡◌, refl}
 use Rattle.std.specs.List.{AllByRecursion}
 use Rattle.std.proofs.Common.{sym, subst, ap, ◌∙◌}
 use Rattle.at_base.specs.declared.epr.Epr.{Epr}
-use Rattle.at_base.specs.declared.event.Arrived.{Arrived}
-use Rattle.at_base.specs.declared.event.Event.{Event}
 use Rattle.at_base.specs.declared.outs.Post.{Post}
 use Rattle.at_base.specs.declared.target.Target.{Target}
-use Rattle.at_model.specs.Book.{Book}
 use Rattle.at_model.specs.Recover.{last_incarnation}
 use Rattle.at_model.specs.Step.{plan, step}
-use Rattle.at_model.specs.World.{Node, Posted, World, arrival_of, base_of, decoded, goes_down, lost_in, new_nodes, nth, put_book, put_nth, receiver_of, started, takes, up_after}
+use Rattle.at_model.specs.World.{Node, Posted, World, arrival_of, base_of, decoded, lost_in, new_nodes, nth, put_book, put_nth, receiver_of, started, takes, up_after}
 use Rattle.model_laws.specs.Agreement.{IsIn}
 use Rattle.model_laws.specs.Drawn.{with_entry}
 use Rattle.model_laws.specs.Reached.{Reached, counts}

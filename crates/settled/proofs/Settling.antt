@@ -1,8 +1,32 @@
--- Every world settles.
+-- What is owed is kept, and every world settles.
+use Rattle.std.specs.Prelude.{◌≤◌}
 use Rattle.model_laws.specs.Settle.{Settles}
+use Rattle.settled.specs.Kept.{OwedIsKept, QuietWorldsRest, TicksAskForAll}
 use Rattle.settled.proofs.Behind.{prepares_are_behind}
 use Rattle.settled.proofs.Chosen.{none_registers}
+use Rattle.settled.proofs.Commits.{commits_kept}
+use Rattle.settled.proofs.Outcomes.{outcomes_kept}
+use Rattle.settled.proofs.Registers.{none_routed_kept, registrations_kept}
+use Rattle.settled.proofs.Resting.{rests}
 use Rattle.settled.proofs.Rounds.{settles_if}
+use Rattle.settled.proofs.Ticks.{commits_asked, outcomes_asked, registrations_asked, votes_asked}
+use Rattle.settled.proofs.VotesKept.{votes_kept}
+
+pub ticks_ask_for_all : TicksAskForAll
+ticks_ask_for_all = record { votes = votes_asked; commits = commits_asked; outcomes = outcomes_asked; registrations = registrations_asked }
+
+pub owed_is_kept : OwedIsKept
+owed_is_kept = record {
+  votes = λ count most u v before after g routes.
+      votes_kept count (λ n. n ≤ most) u v before after g (prepares_are_behind count u g.small g.reached) (none_registers count u g.small g.reached routes);
+  commits = λ count most. commits_kept count (λ n. n ≤ most);
+  outcomes = λ count most. outcomes_kept count (λ n. n ≤ most);
+  registrations = λ count most. registrations_kept count (λ n. n ≤ most);
+  routed = none_routed_kept;
+}
+
+pub quiet_worlds_rest : QuietWorldsRest
+quiet_worlds_rest = record { rests = rests }
 
 pub settles : Settles
 settles =

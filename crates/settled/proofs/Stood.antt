@@ -1,5 +1,5 @@
 -- Where a step makes nothing, each item behind it stood before it.
-use Rattle.std.specs.Prelude.{ℕ, List, [], ◌∷◌, Option, Some, None, true, is_none, ◌≡◌, refl}
+use Rattle.std.specs.Prelude.{ℕ, List, Option, Some, None, true, is_none, ◌≡◌, refl}
 use Rattle.std.specs.List.{AllByRecursion}
 use Rattle.std.proofs.Common.{sym, subst, ap, ◌∙◌}
 use Rattle.at_base.specs.declared.event.Arrived.{Arrived}
@@ -16,13 +16,13 @@ use Rattle.at_model.specs.Moves.{Change}
 use Rattle.at_model.specs.Register.{Registration}
 use Rattle.at_model.specs.Step.{leaf_at, moment_of, plan, step, transaction_at}
 use Rattle.at_model.specs.World.{Posted, World}
-use Rattle.model_laws.proofs.Deciding.{IfThere, all_find, all_more, found_id}
+use Rattle.model_laws.proofs.Deciding.{IfThere, all_find, all_more}
 use Rattle.agreement.specs.Deeds.{IsSameIfLeft}
 use Rattle.agreement.specs.Done.{standing}
 use Rattle.agreement.specs.LeafDeeds.{LeafDeed, LeafIdles, aborts, commits, dropped, idles, leaves, prepares, registered, registers_again, rests, rolls_back, votes_again}
 use Rattle.agreement.proofs.SeatedBooks.{finds_each}
 use Rattle.enlistments.specs.Enrolling.{Enrolls, has_completion, has_seat, refuses, takes_completion, takes_seat}
-use Rattle.enlistments.specs.Moves.{IsReady, LeafMade, Moved, TransactionMade}
+use Rattle.enlistments.specs.Moves.{IsReady}
 use Rattle.enlistments.proofs.After.{leaves_after, transactions_after}
 use Rattle.enlistments.proofs.Answers.{keeps_id}
 use Rattle.enlistments.proofs.Moving.{step_moves}

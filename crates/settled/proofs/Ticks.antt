@@ -1,6 +1,5 @@
 -- Once a node has ticked, all that its seats and participants wait for is on its way.
-use Rattle.std.specs.Prelude.{ℕ, List, [], ◌∷◌, ◌++◌, Option, Some, None, Bool, true, false, ◌^◌, if◌then◌else◌, drop, length, ◌≡◌, ◌≤◌, ◌<◌, ◌⊎◌, refl}
-use Rattle.std.specs.List.{AllByRecursion}
+use Rattle.std.specs.Prelude.{ℕ, List, [], ◌∷◌, Option, Some, None, true, ◌^◌, if◌then◌else◌, drop, length, ◌≡◌, ◌≤◌, ◌<◌, ◌⊎◌, refl}
 use Rattle.std.proofs.Common.{inl, inr, sym, subst, ap, ◌∙◌}
 use Rattle.at_base.specs.Numbers.{Numbers}
 use Rattle.at_base.specs.declared.epr.Epr.{Epr}
@@ -9,7 +8,6 @@ use Rattle.at_base.specs.declared.notice.Kind.{Kind}
 use Rattle.at_base.specs.declared.notice.Kind.TheVariants as kinds
 use Rattle.at_base.specs.declared.notice.Notice.{Notice}
 use Rattle.at_base.specs.declared.notice.Notice.TheVariants as notices
-use Rattle.at_base.specs.declared.message.Message.TheVariants as messages
 use Rattle.at_base.specs.declared.event.Arrived.{Arrived}
 use Rattle.at_base.specs.declared.event.Moment.{Moment}
 use Rattle.at_base.specs.declared.outs.Post.{Post}
@@ -134,7 +132,7 @@ commits_asked count es n j small passed = record { seats = λ m b t s x here hol
         (λ a e. (
           (ap (λ (y : Arrived). y.target) e ∙ ap (targets.Participant x.id) durable, ap (λ (y : Arrived). y.message) e),
           ap (λ (y : Arrived). y.from) e
-          ∙ (λ r. Some (endpoint_of (base_at count v small (ticked_reached count es n) n b h r) (targets.Coordinator t.id (record { number = s.number; kind = durable r })))),
+              ∙ (λ r. Some (endpoint_of (base_at count v small (ticked_reached count es n) n b h r) (targets.Coordinator t.id (record { number = s.number; kind = durable r })))),
         ))
         (again_comes count es n j x.node (transaction_again b.base t) (notice_post b.base (seat_target t.id s) s.participant notices.Commit) s.participant (targets.Participant x.id s.kind) passed posted
         (in_back (notice_post b.base (seat_target t.id s) s.participant notices.Commit) (links_again b.base t.id t.superior) (seats_again b.base t.id t.seats)

@@ -1,8 +1,6 @@
 -- A vote that is waited for stays owed over each step.
-use Rattle.std.specs.Prelude.{ℕ, List, [], ◌∷◌, Option, Some, None, Bool, true, false, is_none, ◌^◌, ◌≡◌, ◌<◌, ◌⊎◌, refl}
-use Rattle.std.specs.List.{AllByRecursion}
+use Rattle.std.specs.Prelude.{ℕ, List, Option, Some, None, Bool, true, false, is_none, ◌≡◌, ◌⊎◌, refl}
 use Rattle.std.proofs.Common.{inl, inr, sym, subst, ap, ◌∙◌}
-use Rattle.at_base.specs.Numbers.{Numbers}
 use Rattle.at_base.specs.declared.epr.Epr.{Epr}
 use Rattle.at_base.specs.declared.notice.Kind.{Kind}
 use Rattle.at_base.specs.declared.notice.Kind.TheVariants as kinds
@@ -10,10 +8,7 @@ use Rattle.at_base.specs.declared.notice.Notice.{Notice}
 use Rattle.at_base.specs.declared.notice.Notice.TheVariants as notices
 use Rattle.at_base.specs.declared.message.Message.TheVariants as messages
 use Rattle.at_base.specs.declared.event.Arrived.{Arrived}
-use Rattle.at_base.specs.declared.event.Event.{Event}
 use Rattle.at_base.specs.declared.event.Event.TheVariants as events
-use Rattle.at_base.specs.declared.outs.Post.{Post}
-use Rattle.at_base.specs.declared.target.Seat.{Seat}
 use Rattle.at_base.specs.declared.target.Target.TheVariants as targets
 use Rattle.at_tables.specs.declared.cells.State.{State}
 use Rattle.at_tables.specs.declared.cells.State.TheVariants as states
@@ -24,20 +19,17 @@ use Rattle.at_model.specs.Seats.{link_of}
 use Rattle.at_model.specs.Step.{leaf_at, step, transaction_at}
 use Rattle.at_model.specs.World.{Posted, Who, World}
 use Rattle.model_laws.specs.Agreement.{HasCommitted, IsIn}
-use Rattle.model_laws.specs.Behind.{accepted_as}
 use Rattle.model_laws.specs.Shapes.{IfFound, NoParticipant}
 use Rattle.model_laws.specs.Reached.{Reached}
-use Rattle.model_laws.proofs.Deciding.{all_find, found_id, same_kind}
+use Rattle.model_laws.proofs.Deciding.{found_id, same_kind}
 use Rattle.model_laws.proofs.Enrolled.{one_superior}
-use Rattle.agreement.specs.Deeds.{ParticipantSaid, SuperiorSaid, coordinator_at}
-use Rattle.agreement.specs.LeafDeeds.{CameTo}
+use Rattle.agreement.specs.Deeds.{coordinator_at}
 use Rattle.agreement.proofs.SeatedEntries.{one_of}
 use Rattle.enlistments.proofs.Arriving.{HasCome, has_come}
 use Rattle.owed.specs.Asking.{has_asked}
-use Rattle.owed.specs.Seats.{AnswersSeat, AreOwed, HasAnswered, IsNew, IsOwed, PairsOrNew, Tells, posts_of, seat_post}
+use Rattle.owed.specs.Seats.{AnswersSeat, HasAnswered, Tells, posts_of}
 use Rattle.owed.specs.Shape.{LinkKnows, StandsUnder, suits}
 use Rattle.owed.specs.Upwards.{IsBusy, IsExcused, LinkIsBusy, LinksOwed, StaysBusy, TellsAnswer, superior_left}
-use Rattle.owed.proofs.Owing.{steps_owe_seats}
 use Rattle.owed.proofs.Replying.{steps_owe_leaves}
 use Rattle.owed.proofs.UpStrangers.{steps_owe_links}
 use Rattle.votes.specs.Answering.{HasSeat}
@@ -47,9 +39,9 @@ use Rattle.paired.specs.Paired.{IsPlace, participant_of, seat_of}
 use Rattle.paired.proofs.Pairing.{partners_are_paired}
 use Rattle.settled.specs.Behind.{IsAskedBy, PreparesAreBehind}
 use Rattle.settled.specs.Goes.{Goes}
-use Rattle.settled.specs.Owed.{IsSeatPlace, AnswersOnWay, Comes, HasRegistered, Holds, IsBusyAt, IsNotice, IsNoticeFrom, OwesVote, VotesAreOwed, seat_target_of}
-use Rattle.settled.proofs.Going.{book_after, comes_as, held_elsewhere, holds_after, holds_before, holds_elsewhere, or_arrives, or_elsewhere, posted_in, ready, same_book, seat_asks, seat_told, shaped, stepping}
-use Rattle.settled.proofs.Meeting.{found_own, in_book, known_is, leaf_knows, leaf_own, left_busy, link_knows, same_transaction, seat_has, seat_place, shape_at, still_busy, stored_is}
+use Rattle.settled.specs.Owed.{IsSeatPlace, Comes, HasRegistered, Holds, IsBusyAt, IsNotice, IsNoticeFrom, OwesVote, seat_target_of}
+use Rattle.settled.proofs.Going.{book_after, holds_before, holds_elsewhere, or_arrives, or_elsewhere, posted_in, ready, same_book, seat_told, shaped, stepping}
+use Rattle.settled.proofs.Meeting.{found_own, known_is, leaf_knows, leaf_own, left_busy, link_knows, seat_has, seat_place, shape_at, still_busy, stored_is}
 
 -- a seat that is asked is one of a transaction that is undecided; and a volatile one of one that hasn't asked the durable ones
 pub preparing_undecided : (p : Phase) (k : Kind) → suits p k states.Preparing ≡ true → may_expire p ≡ true
@@ -118,8 +110,12 @@ prepare_arrives count u v before after g x kind z number a here came ((target, s
 
     stranger : NoParticipant kind (transaction_at g.book x.id) (leaf_at g.book x.id) → IsBusyAt v x kind ⊎ TellsAnswer e (posted_in g)
     stranger unknown =
-        inr (notices.Aborted, tt, subst (λ d. Tells (Some e) notices.Aborted (posts_of (step g.book d g.now true).outs)) (sym came)
-        (steps_owe_links.unprepared g.book a g.now x.id kind e target unknown says from))
+        inr (
+          notices.Aborted,
+          tt,
+          subst (λ d. Tells (Some e) notices.Aborted (posts_of (step g.book d g.now true).outs)) (sym came)
+              (steps_owe_links.unprepared g.book a g.now x.id kind e target unknown says from),
+        )
 
     by_superior : (t : Transaction) → transaction_at g.book x.id ≡ Some t → (s : Option Superior) → t.superior ≡ s → IsBusyAt v x kind ⊎ TellsAnswer e (posted_in g)
     by_superior t found None root = stranger (subst (λ o. NoParticipant kind o (leaf_at g.book x.id)) (sym found) root)

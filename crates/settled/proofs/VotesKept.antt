@@ -1,18 +1,14 @@
 -- Every vote that is waited for stays owed over each step.
 use Rattle.std.specs.Prelude.{ℕ, List, [], ◌∷◌, Option, Some, None, ◌≡◌, ◌⊎◌, refl}
-use Rattle.std.specs.List.{AllByRecursion}
-use Rattle.std.proofs.Common.{inl, inr, sym, subst, ap, ◌∙◌}
-use Rattle.at_base.specs.Numbers.{Numbers}
-use Rattle.at_base.specs.declared.epr.Epr.{Epr}
+use Rattle.std.proofs.Common.{inl, inr, sym, subst}
 use Rattle.at_base.specs.declared.notice.Kind.{Kind}
 use Rattle.at_base.specs.declared.notice.Notice.TheVariants as notices
-use Rattle.at_base.specs.declared.outs.Post.{Post}
 use Rattle.at_tables.specs.declared.cells.State.TheVariants as states
 use Rattle.at_model.specs.Book.{Book, Enlistment, Transaction}
-use Rattle.at_model.specs.Step.{step, transaction_at}
+use Rattle.at_model.specs.Step.{transaction_at}
 use Rattle.at_model.specs.World.{Posted, Who, World}
 use Rattle.model_laws.specs.Agreement.{IsIn}
-use Rattle.model_laws.specs.Behind.{Accepted as Seating, accepted_as}
+use Rattle.model_laws.specs.Behind.{Accepted as Seating}
 use Rattle.owed.specs.Seats.{AreOwed, HasAnswered, IsNew, IsOwed, PairsOrNew, seat_post}
 use Rattle.owed.proofs.Owing.{steps_owe_seats}
 use Rattle.votes.specs.Answering.{HasSeat}

@@ -3,3 +3,4 @@ pub mod Goes
 pub mod Behind
 pub mod Routed
 pub mod Calm
+pub mod Kept

@@ -1,5 +1,5 @@
 -- What is owed while a world settles: for whoever waits for an answer a message is on its way, or somebody else is busy with it.
-use Rattle.std.specs.Prelude.{ℕ, List, Option, Some, None, true, ◌^◌, ◌≡◌, ◌≤◌, ◌<◌, ◌⊎◌}
+use Rattle.std.specs.Prelude.{ℕ, List, Some, true, ◌^◌, ◌≡◌, ◌≤◌, ◌<◌, ◌⊎◌}
 use Rattle.at_base.specs.Numbers.{Numbers}
 use Rattle.at_base.specs.declared.epr.Epr.{Epr}
 use Rattle.at_base.specs.declared.epr.Reply.TheVariants as replies

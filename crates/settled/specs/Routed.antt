@@ -1,5 +1,5 @@
 -- Nobody registers any more, but at what is no transaction of a node.
-use Rattle.std.specs.Prelude.{ℕ, List, Some, ◌≡◌}
+use Rattle.std.specs.Prelude.{ℕ, Some, ◌≡◌}
 use Rattle.at_base.specs.Numbers.{Numbers}
 use Rattle.at_base.specs.declared.notice.Kind.{Kind}
 use Rattle.at_base.specs.declared.target.Target.TheVariants as targets
