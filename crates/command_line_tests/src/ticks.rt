@@ -33,7 +33,7 @@ fn posts(alloc: Global) -> Result<bool, AllocError> {
     let [posted] = site.posts() else {
         return Ok(false);
     };
-    let is_right = posted.host.as_slice() == b"n2.example"
+    let is_right = posted.host.as_slice() == b"n2.example".as_slice()
         && posted.port == 9001
         && posted.bytes.as_slice() == TICK;
     Ok(done == 0 && failed == 8 && nothing.is_empty() && still_nothing.is_empty() && is_right)
@@ -61,11 +61,13 @@ fn refuses_all(alloc: Global) -> Result<bool, AllocError> {
     let mut site = MemSite::new(alloc);
     let (longest, _) = ticks(alloc, &mut site, long.as_str())?;
     long.push('a')?;
-    Ok(longest == 0
-        && refuses(alloc, long.as_str())?
-        && refuses(alloc, "https://n2.example")?
-        && refuses(alloc, "n2.example")?
-        && refuses(alloc, "")?)
+    Ok(
+        longest == 0
+            && refuses(alloc, long.as_str())?
+            && refuses(alloc, "https://n2.example")?
+            && refuses(alloc, "n2.example")?
+            && refuses(alloc, "")?,
+    )
 }
 
 #[test]
