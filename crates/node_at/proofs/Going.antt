@@ -1,5 +1,6 @@
 -- What a step does, by what became of its record.
-use Rattle.std.proofs.Common.{ℕ, List, [], ◌∷◌, ◌++◌, ◌+◌, ◌≡◌, ◌≤◌, ◌⊎◌, inl, inr, ⊎_elim, Bool, true, false, Option, Some, None, refl, sym, ◌∙◌, ap, subst, map, option_map, true≢false, arith}
+use Rattle.std.proofs.Common.{ℕ, List, [], ◌∷◌, ◌++◌, ◌+◌, ◌≡◌, ◌≤◌, ◌<◌, ◌↔◌, ◌⊎◌, inl, inr, ⊎_elim, Bool, true, false, Option, Some, None, refl, sym, ◌∙◌, ap, subst, map, option_map, length, true≢false, arith}
+use Rattle.std.proofs.lemmas.Bool.{cases_lt}
 use Rattle.std.proofs.lemmas.List.{append_assoc, append-nil, map-append}
 use Rattle.at_base.specs.declared.outs.Effect.{Effect}
 use Rattle.at_base.specs.declared.record.Record.{Record}
@@ -74,6 +75,14 @@ link_on old mid c = ap (λ (z : Numbers). z.link) c.others
 disk_on : (mid new : Told) → new.counts ≡ record mid.counts { link = new.counts.link } → new.counts.disk ≡ mid.counts.disk
 disk_on mid new e = ap (λ (z : Numbers). z.disk) e
 
+-- it doesn't pass the limit
+abbrev IsOther : Append → Type 0
+IsOther appends.Full = ⊥
+IsOther other = Unit {0}
+
+fits : (a : Append) (limit need : ℕ) (unsure : Bool) → IsOther a → (a ≡ appends.Full) ↔ ((unsure ≡ false) × (limit < need)) → unsure ≡ false → need ≤ limit
+fits a limit need unsure o h sure = ⊎_elim (λ past. absurd (subst IsOther (h.1 (sure, past)) o)) (λ below. below) (cases_lt limit need)
+
 pub went_landed : (r : Record) (n m : State) (b : Book) (fx : List Effect) (leaving : List Leaving) (old mid new : Told)
     → IsAppended appends.Done r (bytes_of r) n.journal m.journal old mid → Counted old mid
     → Sends (given (Some (token_of r)) n.kept) n.kept.done leaving mid new → n.journal.unsure ≡ false → m.halted ≡ false
@@ -85,7 +94,7 @@ went_landed r n m b fx leaving old mid new h c k sure runs book effects kept =
       effects = effects;
       kept = kept;
       first = calls.made;
-      fate = calls.are;
+      fate = (calls.are, fits appends.Done n.journal.limit (n.journal.end + 6 + length (bytes_of r)) n.journal.unsure tt h.full sure);
       made = k.made;
       lost = k.lost;
       tried = k.tried;
@@ -116,7 +125,7 @@ module _ (r : Record) (n m : State) (b : Book) (fx : List Effect) (leaving : Lis
         effects = effects;
         kept = kept;
         first = calls.made;
-        fate = inl (calls.are, subst (Rose old.counts.disk) (sym (disk_on mid new k.others)) h.reason);
+        fate = inl (calls.are, fits appends.Refused n.journal.limit (n.journal.end + 6 + length (bytes_of r)) n.journal.unsure tt h.full sure, subst (Rose old.counts.disk) (sym (disk_on mid new k.others)) h.reason);
         made = k.made;
         lost = k.lost;
         tried = k.tried;

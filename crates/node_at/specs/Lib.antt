@@ -1,3 +1,4 @@
+pub mod Serving
 pub mod Texts
 pub mod Standing
 pub mod Sends

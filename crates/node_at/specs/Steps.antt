@@ -3,6 +3,8 @@ use Rattle.std.specs.Prelude.{ℕ, List, [], ◌∷◌, ◌++◌, ◌+◌, ◌�
 use Rattle.at_base.specs.Numbers.{Numbers}
 use Rattle.at_base.specs.declared.event.Event.{Event}
 use Rattle.at_base.specs.declared.outs.Effect.{Effect}
+use Rattle.at_base.specs.declared.outs.Out.{Out}
+use Rattle.at_base.specs.declared.outs.Out.TheVariants as outs
 use Rattle.at_base.specs.declared.record.Record.{Record}
 use Rattle.at_model.specs.Book.{Book}
 use Rattle.at_model.specs.Step.{plan, step}
@@ -36,12 +38,19 @@ abbrev pub kept_by : Option Record → Known → Known
 kept_by None k = k
 kept_by (Some r) k = after r k
 
--- A step's record is absent only where the journal refused it, or where it would pass the journal's limit.
+-- the status of the first answer, 0 where there is none
+abbrev pub status_in : List Out → ℕ
+status_in [] = 0
+status_in (outs.Answer status reply ∷ os) = status
+status_in (outs.Post post ∷ os) = status_in os
+
+-- A step's record is absent exactly where the journal refused it, or where it would pass the journal's limit.
 abbrev pub IsFate : Bool → Option Record → Journal → List Made → Told → Told → Type 0
 IsFate landed None journal first old new = first ≡ []
-IsFate true (Some r) journal first old new = Makes appends.Done journal.live journal.end (bytes_of r) first
+IsFate true (Some r) journal first old new =
+    Makes appends.Done journal.live journal.end (bytes_of r) first × (journal.end + 6 + length (bytes_of r) ≤ journal.limit)
 IsFate false (Some r) journal first old new =
-    (Makes appends.Refused journal.live journal.end (bytes_of r) first × Rose old.counts.disk new.counts.disk)
+    (Makes appends.Refused journal.live journal.end (bytes_of r) first × (journal.end + 6 + length (bytes_of r) ≤ journal.limit) × Rose old.counts.disk new.counts.disk)
     ⊎ (Makes appends.Full journal.live journal.end (bytes_of r) first × (journal.limit < journal.end + 6 + length (bytes_of r)))
 
 -- the counts don't fall, nothing but disk, gates and link is counted, and listener, connections and clock aren't touched
@@ -91,11 +100,12 @@ pub record Stopped (entry : Record) (leaving : List Leaving) (n m : State) (old 
       → Moments n.journal.live bodies (record { landed = bytes_of entry ∷ []; sent = map call_by leaving } ∷ []) old new
 
 -- The steps of the model, with their bytes.
-pub record IsDone (n m : State) (e : Event) (now : ℕ) (old new : Told) : Type 0 where
+pub record IsDone (status : ℕ) (n m : State) (e : Event) (now : ℕ) (old new : Told) : Type 0 where
   pub landed : Bool
   pub leaving : List Leaving
   pub are : AreLeaving (step n.book e now landed).outs leaving
   pub went : Went (plan n.book e now).entry landed (step n.book e now landed).book (step n.book e now landed).effects leaving n m old new
+  pub answers : status ≡ status_in (step n.book e now landed).outs
 
 pub record IsStopped (n m : State) (e : Event) (now : ℕ) (old new : Told) : Type 0 where
   pub entry : Record
@@ -105,14 +115,14 @@ pub record IsStopped (n m : State) (e : Event) (now : ℕ) (old new : Told) : Ty
   pub stopped : Stopped entry leaving n m old new
 
 abbrev pub Steps : Stepped → State → State → Event → ℕ → Told → Told → Type 0
-Steps ends.Done n m e now old new = IsDone n m e now old new
+Steps (ends.Done status) n m e now old new = IsDone status n m e now old new
 Steps ends.NoRoom n m e now old new = m ≡ n
 Steps ends.Halted n m e now old new = IsStopped n m e now old new
 
 -- the same in the words of a plan with a record
 abbrev pub Acts : Stepped → Plan → Record → List Leaving → List Leaving → State → State → Told → Told → Type 0
-Acts ends.Done p r landed absent n m old new =
-    Went (Some r) true (done p true n.book) (sent p true).effects landed n m old new
-    ⊎ Went (Some r) false (done p false n.book) (sent p false).effects absent n m old new
+Acts (ends.Done status) p r landed absent n m old new =
+    (Went (Some r) true (done p true n.book) (sent p true).effects landed n m old new × (status ≡ status_in (sent p true).outs))
+    ⊎ (Went (Some r) false (done p false n.book) (sent p false).effects absent n m old new × (status ≡ status_in (sent p false).outs))
 Acts ends.NoRoom p r landed absent n m old new = m ≡ n
 Acts ends.Halted p r landed absent n m old new = Stopped r landed n m old new

@@ -2,6 +2,7 @@
 #![tactic(auto)]
 
 pub mod node;
+pub mod role;
 pub mod send;
 pub mod step;
 pub mod text;

@@ -1,5 +1,6 @@
 //! A node.
 
+use crate::role::Role;
 use at_base::outs::Effect;
 use decision_log::kept::Kept;
 use interposition::book::Book;
@@ -14,4 +15,5 @@ pub struct Node {
     pub(crate) journal: Journal,
     pub(crate) effects: Vec<Effect>,
     pub(crate) halted: bool,
+    pub(crate) role: Role,
 }

@@ -9,14 +9,14 @@ ghost use Rattle.model_laws.specs.Sound.{IsSound, IsSoundEvent};
 ghost use Rattle.node_at.specs.Planned.{AreTexts, HasRoomFor};
 ghost use Rattle.node_at.specs.Sends.{Sends, given};
 ghost use Rattle.node_at.specs.State.{seen};
-ghost use Rattle.node_at.specs.Steps.{Acts, Keeping, Steps};
+ghost use Rattle.node_at.specs.Steps.{Acts, Keeping, Steps, status_in};
 ghost use Rattle.node_at.specs.declared.step.Stepped.TheVariants.{NoRoom};
 
 use crate::node::Node;
 use crate::send::send_all;
 use crate::text::{Encoded, encode_outs};
 use at_base::event::Event;
-use at_base::outs::{Effect, Effects, Outs};
+use at_base::outs::{Effect, Effects, Out, Outs};
 use decision_log::holding::KeptPlan;
 use decision_log::keep::{KeepFault, keep};
 use decision_log::kept::Kept;
@@ -29,8 +29,8 @@ use std::alloc::{AllocError, Global};
 /// What became of a step.
 #[derive(Clone, Copy, Debug, PartialEq, Eq)]
 pub enum Stepped {
-    /// It was done, or undone where its record was refused.
-    Done,
+    /// It was done, or undone where its record was refused. The status is that of its answer, 0 where it has none.
+    Done { status: u16 },
     /// There was no memory, and nothing was done.
     NoRoom,
     /// Its record may stand or not, and the node does nothing more.
@@ -55,6 +55,18 @@ pub enum Texts {
 pub struct Prepared {
     plan: Plan,
     texts: Texts,
+}
+
+/// The status of the first answer, 0 where there is none.
+fn status_in(outs: &[Out]) -> u16
+    ensures { result ≡ status_in outs.now }
+{
+    for out in outs {
+        if let Out::Answer { status, .. } = out {
+            return *status;
+        }
+    }
+    0
 }
 
 /// Makes room for the effects of either branch.
@@ -108,6 +120,7 @@ impl Node {
         ensures room { IfOk result (λ p. HasRoomFor p.texts self.new.kept) }
         ensures effects { IfOk result (λ p. (landed : Bool) → length self.new.effects.items + length (sent p.plan landed).effects ≤ vec_capacity self.new.effects) }
         ensures same { seen self.new ≡ seen self.old }
+        ensures role { self.new.role ≡ self.old.role }
     {
         let plan = self.book.plan(alloc, event, now)?;
         make_room(&mut self.effects, plan.outs(true), plan.outs(false))?;
@@ -123,15 +136,18 @@ impl Node {
         landed: bool,
         all: Vec<Encoded>,
         fresh: Option<&Durable>,
-    )
+    ) -> u16
         requires { length self.old.effects.items + length (sent plan landed).effects ≤ vec_capacity self.old.effects }
         ensures seen { seen self.new ≡ record (seen self.old) { book = done plan landed self.old.book; effects = self.old.effects.items ++ (sent plan landed).effects } }
         ensures kept { self.new.kept ≡ self.old.kept }
+        ensures role { self.new.role ≡ self.old.role }
+        ensures status { result ≡ status_in (sent plan landed).outs }
         ensures sends { Sends (given (option_copied fresh.entry) (known self.old.kept)) (known self.old.kept).done all.items (S.told site.old) (S.told site.new) }
     {
         let outs = self.book.apply(plan, landed);
         add(&mut self.effects, &outs.effects);
         send_all(site, all, fresh, &self.kept);
+        status_in(outs.outs.as_slice())
     }
 
     /// Appends the record, and does what was planned by what became of it.
@@ -152,21 +168,22 @@ impl Node {
         requires sure { self.old.journal.unsure ≡ false }
         ensures acts { Acts result plan entry.entry landed.items absent.items (seen self.old) (seen self.new) (S.told site.old) (S.told site.new) }
         ensures nothing { result ≡ NoRoom → site.new ≡ site.old }
+        ensures role { self.new.role ≡ self.old.role }
         ensures counted { Keeping (S.told site.old) (S.told site.new) }
     {
         match keep(alloc, &mut self.journal, site, entry.entry()) {
             Ok(token) => {
-                self.finish(site, plan, true, landed, Some(&token));
+                let status = self.finish(site, plan, true, landed, Some(&token));
                 self.kept.apply(entry, token);
-                Stepped::Done
+                Stepped::Done { status }
             }
             Err(KeepFault::Refused) => {
-                self.finish(site, plan, false, absent, None);
-                Stepped::Done
+                let status = self.finish(site, plan, false, absent, None);
+                Stepped::Done { status }
             }
             Err(KeepFault::Full) => {
-                self.finish(site, plan, false, absent, None);
-                Stepped::Done
+                let status = self.finish(site, plan, false, absent, None);
+                Stepped::Done { status }
             }
             Err(KeepFault::NoMemory) => Stepped::NoRoom,
             Err(KeepFault::Unsure) => {
@@ -188,6 +205,7 @@ impl Node {
         ensures steps { Steps result (seen self.old) (seen self.new) event.now now (S.told site.old) (S.told site.new) }
         ensures sound { IsSound self.new.book }
         ensures nothing { result ≡ NoRoom → site.new ≡ site.old }
+        ensures role { self.new.role ≡ self.old.role }
         ensures counted { Keeping (S.told site.old) (S.told site.new) }
     {
         steps_as_the_model();
@@ -195,8 +213,8 @@ impl Node {
         match self.prepare(alloc, event, now) {
             Ok(Prepared { plan, texts }) => match texts {
                 Texts::Plain { outs } => {
-                    self.finish(site, plan, true, outs, None);
-                    Stepped::Done
+                    let status = self.finish(site, plan, true, outs, None);
+                    Stepped::Done { status }
                 }
                 Texts::Recorded {
                     entry,

@@ -14,6 +14,7 @@ returns-in-Ok-clause-acts g c =
     landed_exit c.args.entry.entry c.args.plan c.args.landed.items c.args.absent.items n (record s { kept = known c.apply.new.self }) c.keep.new.journal _ _ _ c.requires.sure c.requires.runs s c.in-Ok.token
     (ended c.keep.result appends.Done c.entry.result.now c.args.entry.entry n.journal c.keep.new.journal _ _ c.entry.ensures (ap ending c.in-Ok.is) c.keep.ensures.appended)
     c.keep.ensures.counted (c.in-Ok.ensures.token ∙ ap token_of c.entry.ensures) c.finish.ensures.sends c.finish.ensures.seen (λ i. record s { kept = c.apply.ensures i })
+    c.finish.result c.finish.ensures.status
 
 pub returns-in-Err-Refused-clause-acts : goal.returns-in-Err-Refused-clause-acts
 returns-in-Err-Refused-clause-acts g c =
@@ -21,6 +22,7 @@ returns-in-Err-Refused-clause-acts g c =
     refused_exit c.args.entry.entry c.args.plan c.args.landed.items c.args.absent.items n (seen c.finish-in-Err-Refused.new.self) c.keep.new.journal _ _ _ c.requires.sure c.requires.runs
     (ended c.keep.result appends.Refused c.entry.result.now c.args.entry.entry n.journal c.keep.new.journal _ _ c.entry.ensures (ap ending (c.in-Err-Refused.is ∙ ap Err c.in-Err-Refused.field-0-is)) c.keep.ensures.appended)
     c.keep.ensures.counted c.finish-in-Err-Refused.ensures.sends c.finish-in-Err-Refused.ensures.seen
+    c.finish-in-Err-Refused.result c.finish-in-Err-Refused.ensures.status
 
 pub returns-in-Err-Full-clause-acts : goal.returns-in-Err-Full-clause-acts
 returns-in-Err-Full-clause-acts g c =
@@ -28,3 +30,4 @@ returns-in-Err-Full-clause-acts g c =
     full_exit c.args.entry.entry c.args.plan c.args.landed.items c.args.absent.items n (seen c.finish-in-Err-Full.new.self) c.keep.new.journal _ _ _ c.requires.sure c.requires.runs
     (ended c.keep.result appends.Full c.entry.result.now c.args.entry.entry n.journal c.keep.new.journal _ _ c.entry.ensures (ap ending (c.in-Err-Full.is ∙ ap Err c.in-Err-Full.field-0-is)) c.keep.ensures.appended)
     c.keep.ensures.counted c.finish-in-Err-Full.ensures.sends c.finish-in-Err-Full.ensures.seen
+    c.finish-in-Err-Full.result c.finish-in-Err-Full.ensures.status
