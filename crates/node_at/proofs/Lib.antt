@@ -6,3 +6,10 @@ mod Moving
 mod Going
 mod Modelled
 mod Exits
+mod Sizing
+mod Recorded
+mod Parts
+mod Carrying
+mod Silent
+mod Beginning
+mod Started

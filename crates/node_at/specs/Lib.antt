@@ -6,3 +6,6 @@ pub mod Moments
 pub mod State
 pub mod Planned
 pub mod Steps
+pub mod Sizes
+pub mod Starting
+pub mod Started

@@ -1,8 +1,13 @@
 //! A node: at each moment its journal, answers and posts are those of a prefix of its steps.
 #![tactic(auto)]
 
+pub mod fault;
 pub mod node;
+pub mod opening;
 pub mod role;
 pub mod send;
+pub mod shrink;
+pub mod size;
+pub mod start;
 pub mod step;
 pub mod text;
