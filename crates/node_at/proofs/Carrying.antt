@@ -126,8 +126,8 @@ migrate_carries rs r j k old new law o fits are h counted =
         let n = frames_long (carried One rs) in
         omega (arith, g, fits, n) in
     record {
-      goes = compact_goes rs (carried One rs) o.bodies texts j k old new o.keeps o.of o.are listed are o.sure counted r not_full done (h.moves o.sure) h.ground;
-      holds = compact_holds rs (carried One rs) o.bodies texts j k old new o.keeps o.of o.are listed are o.sure counted r done h.unsure;
+      goes = compact_goes One rs (carried One rs) o.bodies texts j k old new o.keeps o.of o.are listed are o.sure counted r not_full done (h.moves o.sure) h.ground;
+      holds = compact_holds One rs (carried One rs) o.bodies texts j k old new o.keeps o.of o.are listed are o.sure counted r done h.unsure;
     }
 
 -- either, by whether the live file is empty

@@ -13,3 +13,4 @@ mod Carrying
 mod Silent
 mod Beginning
 mod Started
+mod Renewing

@@ -206,14 +206,14 @@ module _ (version : Version) (rs more : List Record) (bodies : List (List ℕ)) 
   append_holds appends.Full h u = tt
 
 -- a compaction
-module _ (rs more : List Record) (bodies texts : List (List ℕ)) (j k : Journal) (old new : Told)
-    (keeps : Keeps j bodies old) (of : (head_of bodies).version ≡ One) (are : AreRecords One rs (records_of bodies))
+module _ (version : Version) (rs more : List Record) (bodies texts : List (List ℕ)) (j k : Journal) (old new : Told)
+    (keeps : Keeps j bodies old) (of : (head_of bodies).version ≡ version) (are : AreRecords version rs (records_of bodies))
     (listed : AreListed (mark_body (j.generation + 1) ∷ texts)) (are_more : AreRecords Two more texts)
     (sure : j.unsure ≡ false) (counted : Counted old new) where
-  old_stands : (live : ℕ) (c : Files) → Holds live bodies c → Either One rs more c
-  old_stands live c h = inl (holds_stand One rs bodies live c keeps.stands.listed of are h)
+  old_stands : (live : ℕ) (c : Files) → Holds live bodies c → Either version rs more c
+  old_stands live c h = inl (holds_stand version rs bodies live c keeps.stands.listed of are h)
 
-  anew_stands : (live : ℕ) (c : Files) → Holds live (mark_body (j.generation + 1) ∷ texts) c → Either One rs more c
+  anew_stands : (live : ℕ) (c : Files) → Holds live (mark_body (j.generation + 1) ∷ texts) c → Either version rs more c
   anew_stands live c h = inr (holds_stand Two more (mark_body (j.generation + 1) ∷ texts) live c listed refl are_more h)
 
   abbrev pub anew : List Call
@@ -221,7 +221,7 @@ module _ (rs more : List Record) (bodies texts : List (List ℕ)) (j k : Journal
 
   pub compact_goes : (r : Compact) → (r ≡ compacts.Full → ⊥) → Compacted r j.live bodies (mark_body (j.generation + 1) ∷ texts) k old new
       → Moves r j.unshut (1 - j.live) (text_of (j.generation + 1) texts) old new → HasGround r j old new
-      → Goes anew (Either One rs more) (compact_ended r) old new
+      → Goes anew (Either version rs more) (compact_ended r) old new
   compact_goes compacts.Done f h c r = record {
     made = c.made;
     ran = c.are ∙ sym (map-append done (prepare_calls j.unshut (1 - j.live) (text_of (j.generation + 1) texts)) (raise (1 - j.live) 0));

@@ -6,7 +6,7 @@ use Rattle.at_base.specs.declared.record.Record.TheVariants as records
 use Rattle.at_model.specs.Book.{Book}
 use Rattle.at_model.specs.Recover.{last_incarnation, recover}
 use Rattle.decision_log.specs.Held.{known}
-use Rattle.decision_log.specs.Keeping.{GrowsByOne, Known, kept_of}
+use Rattle.decision_log.specs.Keeping.{GrowsByOne, IsKept, Known, kept_of}
 use Rattle.decision_log.specs.Shrinking.{ShrinksTheSame}
 use Rattle.journal_at.specs.declared.journal.Journal.{Journal}
 use Rattle.journal_at.specs.declared.version.Version.{Version}
@@ -166,3 +166,9 @@ order_start o after base limit n book old mid h law same (is, least, fits) e =
 
 pub node_same : {s t : State} → t ≡ s → IsNode s → IsNode t
 node_same {s} {t} e h = subst IsNode (sym e) h
+
+pub kept_start : {T : Type 0} (rs : List Record) (x : T) (o after : Opened) (mid new : Told) → Begins {T = T} (Ok x) rs o after mid new → IsKept (known after.kept)
+kept_start rs x o after mid new b = record { all = started o.version rs; formed = are_formed Two (started o.version rs) (records_of b.holds.bodies) b.holds.are; is = b.kept }
+
+pub kept_same : {k l : Known} → l ≡ k → IsKept k → IsKept l
+kept_same {k} {l} e h = subst IsKept (sym e) h

@@ -9,3 +9,4 @@ pub mod Steps
 pub mod Sizes
 pub mod Starting
 pub mod Started
+pub mod Shrinking
