@@ -14,3 +14,4 @@ mod Silent
 mod Beginning
 mod Started
 mod Renewing
+mod Locally

@@ -10,3 +10,4 @@ pub mod Sizes
 pub mod Starting
 pub mod Started
 pub mod Shrinking
+pub mod Locals

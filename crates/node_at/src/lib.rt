@@ -2,6 +2,7 @@
 #![tactic(auto)]
 
 pub mod fault;
+pub mod local;
 pub mod node;
 pub mod opening;
 pub mod role;
