@@ -6,3 +6,11 @@ mod Moving
 mod Going
 mod Modelled
 mod Exits
+mod Composing
+mod Rows
+mod Halting
+mod Heard
+mod Refused
+mod Asking
+mod Turning
+mod Replying

@@ -6,3 +6,11 @@ pub mod Moments
 pub mod State
 pub mod Planned
 pub mod Steps
+pub mod Meanings
+pub mod Asking
+pub mod TurnText
+pub mod Doings
+pub mod Replies
+pub mod Refusing
+pub mod Turns
+pub mod Dues
