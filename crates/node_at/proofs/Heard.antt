@@ -16,8 +16,8 @@ use Rattle.wire_msgs.specs.declared.decode.Arrival.{Arrival}
 use Rattle.wire_msgs.specs.declared.refusal.Refusal.{Refusal}
 use Rattle.wire_msgs.specs.declared.refusal.Refusal.TheVariants as faults
 use Rattle.wire_posts.specs.Faults.{refusal_status, refusal_text}
-use Rattle.node_at.specs.Asking.{IsFit, at_target, meaning_at}
-use Rattle.node_at.specs.Meanings.{Hears, Meaning, Means, Says, is_answered, open_input, request, status_of, tick_path}
+use Rattle.node_at.specs.Asking.{at_target, meaning_at}
+use Rattle.node_at.specs.Meanings.{Hears, IsFit, Meaning, Means, Says, is_answered, open_input, request, status_of, tick_path}
 use Rattle.node_at.specs.Meanings.Meaning.{Refused, Steps, Lost, Unread}
 use Rattle.node_at.specs.Meanings.Means.{is_refused, is_request}
 use Rattle.node_at.specs.Meanings.Says.{says, says_elsewhere, says_nothing, ticks}
@@ -41,7 +41,7 @@ pub says_nothing_so : (role : Role) (path body : List ℕ) (refusal : Refusal) (
 says_nothing_so role path body refusal m e other is a = subst (Says role path body) (sym e) (says_nothing refusal other is a)
 
 fit_taken : (b : Bool) (arrival : Arrival) → IsSoundEvent (events.Arrived (reaches arrival)) → IsFit (if b then Steps (events.Arrived (reaches arrival)) else Refused 404 None)
-fit_taken true arrival h = h
+fit_taken true arrival h = (h, tt)
 fit_taken false arrival h = refl
 
 pub fit_message : (role : Role) (arrival : Arrival) (m : Meaning) → m ≡ at_target role arrival → IsWhole arrival

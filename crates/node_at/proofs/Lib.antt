@@ -14,3 +14,4 @@ mod Refused
 mod Asking
 mod Turning
 mod Replying
+mod Unanswered

@@ -20,7 +20,7 @@ use Rattle.node_at.specs.declared.turn.Turned.{Turned}
 use Rattle.node_at.specs.declared.turn.Turned.TheVariants as turneds
 use Rattle.node_at.specs.Doings.{Does, Doing, NoLess, Ran, deeds_of}
 use Rattle.node_at.specs.Dues.{DueRun, is_some_step}
-use Rattle.node_at.specs.Meanings.{Hears, Meaning, first_of, next_input, open_input}
+use Rattle.node_at.specs.Meanings.{Hears, IsFit, Meaning, first_of, next_input, open_input}
 use Rattle.node_at.specs.Meanings.Meaning.{Refused, Steps, Lost, Unread}
 use Rattle.node_at.specs.Moments.{landed_of}
 use Rattle.node_at.specs.Refusing.{RanOne, Refuses}
@@ -225,11 +225,11 @@ still_rose : (a b c : ℕ) → Rose a b → b ≤ c → Rose a c
 still_rose a b c h k = omega (arith, h, k)
 
 -- A connection that is open.
-pub serves_so : (result : Turned) (role : Role) (meaning : Meaning) (now : ℕ) (n m : State) (old heard timed done new : Told) → Hears role (open_input old.link) meaning
+pub serves_so : (result : Turned) (role : Role) (meaning : Meaning) (now : ℕ) (n m : State) (old heard timed done new : Told) → Hears role (open_input old.link) meaning → IsFit meaning
     → (meaning ≡ Lost → Rose old.counts.receive heard.counts.receive ⊎ Rose old.counts.link heard.counts.link)
     → (made : List Made) × (Heard made old heard × IsLine (open_input old.link) (is_heard meaning) made) → NoLess old.counts heard.counts → Reads now heard timed
     → Works result [] meaning now n m timed done → Closes done new → Serves result role (open_input old.link) n m old new
-serves_so result role meaning now n m old heard timed done new h lost (made, (says, line)) later reads works closes =
+serves_so result role meaning now n m old heard timed done new h fit lost (made, (says, line)) later reads works closes =
     let read = no_less_same heard.counts timed.counts reads.counts in
     let begun = no_less_then old.counts heard.counts timed.counts later read in
     let closed = no_less_same done.counts new.counts closes.counts in
@@ -238,6 +238,7 @@ serves_so result role meaning now n m old heard timed done new h lost (made, (sa
     record {
       meaning = meaning;
       heard = h;
+      fit = fit;
       now = now;
       clock = λ t e. reads.is t (says.clock ∙ e);
       made = made;
@@ -299,6 +300,7 @@ opens_so result role n m old mid new takes h =
       serves = record {
         meaning = h.meaning;
         heard = subst (λ z. Hears role z h.meaning) input h.heard;
+        fit = h.fit;
         now = h.now;
         clock = λ t e. h.clock t (takes.clock ∙ e);
         made = h.made;

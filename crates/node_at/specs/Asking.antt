@@ -1,9 +1,7 @@
 -- What was read of a connection.
-use Rattle.std.specs.Prelude.{ℕ, List, ◌≡◌, Option, Some, None, Bool, true, false, Result, Ok, Err, IsTrue, if◌then◌else◌, option_map}
+use Rattle.std.specs.Prelude.{ℕ, List, ◌≡◌, Option, Some, None, Bool, true, false, Result, Ok, Err, if◌then◌else◌, option_map}
 use Rattle.arrivals.specs.Reaching.{reaches}
 use Rattle.at_base.specs.declared.event.Event.TheVariants as events
-use Rattle.http_post.specs.Written.{has_reason}
-use Rattle.model_laws.specs.Sound.{IsSoundEvent}
 use Rattle.wire_msgs.specs.declared.decode.Arrival.{Arrival}
 use Rattle.http_post.specs.declared.refusal.HttpRefusal.{HttpRefusal}
 use Rattle.http_post.specs.declared.refusal.HttpRefusal.TheVariants as refusals
@@ -34,9 +32,3 @@ meaning_at refusals.UnsupportedMediaType = Refused (status_of refusals.Unsupport
 abbrev pub at_target : Role → Arrival → Meaning
 at_target role arrival = if serves role arrival.target then Steps (events.Arrived (reaches arrival)) else Refused 404 None
 
--- the refusal can be answered, and the event keeps the bounds of the book
-abbrev pub IsFit : Meaning → Type 0
-IsFit (Refused status text) = IsTrue (has_reason status)
-IsFit (Steps event) = IsSoundEvent event
-IsFit Lost = Unit {0}
-IsFit Unread = Unit {0}

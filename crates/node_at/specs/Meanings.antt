@@ -1,11 +1,13 @@
 -- What the bytes of a connection ask of a node (RFC 9110, section 15.5; SOAP 1.1, section 6; WS-Addressing 1.0 Core, section 3).
-use Rattle.std.specs.Prelude.{ℕ, List, [], ◌∷◌, ◌≡◌, Option, Some, None, Bool, true, false, Result, Ok, Err, codes}
+use Rattle.std.specs.Prelude.{ℕ, List, [], ◌∷◌, ◌≡◌, Option, Some, None, Bool, true, false, Result, Ok, Err, IsTrue, codes}
 use Rattle.at_base.specs.declared.event.Event.{Event}
 use Rattle.at_base.specs.declared.event.Event.TheVariants as events
 use Rattle.arrivals.specs.Reaching.{reaches}
 use Rattle.http_post.specs.Requests.{Asked, Asks}
+use Rattle.http_post.specs.Written.{has_reason}
 use Rattle.http_post.specs.declared.refusal.HttpRefusal.{HttpRefusal}
 use Rattle.http_post.specs.declared.refusal.HttpRefusal.TheVariants as refusals
+use Rattle.model_laws.specs.Sound.{IsSoundEvent}
 use Rattle.site_model.specs.Told.{Link}
 use Rattle.wire_msgs.specs.Arrivals.{Arrives, IsRefused}
 use Rattle.wire_msgs.specs.declared.decode.Arrival.{Arrival}
@@ -79,3 +81,17 @@ next_input (Some link) = first_of link.waiting
 abbrev pub open_input : Option Link → Option (List ℕ)
 open_input None = None
 open_input (Some link) = Some link.open_bytes
+
+-- only a message and a tick are asked for on a connection
+abbrev pub IsAsked : Event → Type 0
+IsAsked (events.Arrived arrived) = Unit {0}
+IsAsked events.Tick = Unit {0}
+IsAsked (events.Local request) = ⊥
+IsAsked (events.Due item) = ⊥
+
+-- the refusal has a status that is answered, and the message keeps the bounds of the book
+abbrev pub IsFit : Meaning → Type 0
+IsFit (Refused status text) = IsTrue (has_reason status)
+IsFit (Steps event) = IsSoundEvent event × IsAsked event
+IsFit Lost = Unit {0}
+IsFit Unread = Unit {0}

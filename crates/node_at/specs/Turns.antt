@@ -13,7 +13,7 @@ use Rattle.record_bytes.specs.Bytes.{bytes_of}
 use Rattle.site_model.specs.Counts.{Rose}
 use Rattle.site_model.specs.Told.{Told, Made, Still}
 use Rattle.node_at.specs.Doings.{Doing, NoLess, Ran, calls_of, deeds_of}
-use Rattle.node_at.specs.Meanings.{Hears, Meaning, next_input}
+use Rattle.node_at.specs.Meanings.{Hears, IsFit, Meaning, next_input}
 use Rattle.node_at.specs.Meanings.Meaning.{Refused, Steps, Lost, Unread}
 use Rattle.node_at.specs.Moments.{Moments}
 use Rattle.node_at.specs.State.{State}
@@ -115,6 +115,7 @@ Works turneds.LinkDown lines meaning now n m old new = ⊥
 pub record Serves (result : Turned) (role : Role) (input : Option (List ℕ)) (n m : State) (old new : Told) : Type 0 where
   pub meaning : Meaning
   pub heard : Hears role input meaning
+  pub fit : IsFit meaning
   pub now : ℕ
   pub clock : (t : ℕ) → old.clock ≡ Some t → now ≡ t
   pub made : List Made

@@ -5,9 +5,9 @@ ghost use Rattle.http_post.specs.Conversations.{Hears as Heard};
 ghost use Rattle.site_model.specs.Counts.{Rose};
 ghost use Rattle.site_model.specs.Told.{Made};
 ghost use Rattle.wire_posts.specs.Faults.{refusal_status, refusal_text};
-ghost use Rattle.node_at.specs.Asking.{IsFit, at_target, meaning_at, meaning_of};
+ghost use Rattle.node_at.specs.Asking.{at_target, meaning_at, meaning_of};
 ghost use Rattle.node_at.specs.Doings.{NoLess};
-ghost use Rattle.node_at.specs.Meanings.{Hears, Says, is_answered, open_input};
+ghost use Rattle.node_at.specs.Meanings.{Hears, IsFit, Says, is_answered, open_input};
 ghost use Rattle.node_at.specs.Meanings.Meaning.{Refused, Lost};
 ghost use Rattle.node_at.specs.Turns.{IsLine, is_heard};
 

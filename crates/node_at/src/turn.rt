@@ -1,19 +1,20 @@
 //! A node's turn: one connection.
 
-ghost use Rattle.std.specs.Prelude.{◌≡◌, [], IsTrue, false, true, option_map};
+ghost use Rattle.std.specs.Prelude.{◌≡◌, ◌⊎◌, [], IsTrue, false, true, option_map};
 ghost use Rattle.http_post.specs.Written.{has_reason};
 ghost use Rattle.model_laws.specs.Sound.{IsSoundEvent};
-ghost use Rattle.node_at.specs.Asking.{IsFit, meaning_of};
-ghost use Rattle.node_at.specs.Meanings.{open_input};
+ghost use Rattle.site_model.specs.Counts.{Rose};
+ghost use Rattle.node_at.specs.Asking.{meaning_of};
+ghost use Rattle.node_at.specs.Meanings.{IsFit, open_input};
 ghost use Rattle.node_at.specs.Meanings.Meaning.{Lost, Refused, Steps};
 ghost use Rattle.node_at.specs.State.{IsNode, seen};
 ghost use Rattle.node_at.specs.Turns.{Serves, Turns, Works, turned_by};
-ghost use Rattle.node_at.specs.declared.turn.Turned.TheVariants.{Halted};
+ghost use Rattle.node_at.specs.declared.turn.Turned.TheVariants.{Halted, Served};
 
 use crate::due::DueEnd;
 use crate::node::Node;
 use crate::reading::{Asked, read};
-use crate::step::Stepped;
+use crate::step::{Stepped, steps_reply};
 use at_base::event::Event;
 use decision_log::fold::keeps_on;
 use model_laws::rules::{ids_rise, records_are_well_formed};
@@ -160,10 +161,9 @@ impl Node {
         turned
     }
 
-    /// Takes one connection: reads its request, does the step of it, answers and posts, and then does one step for each item
-    /// that is due, at the time of one look at the clock.
+    /// Opens a connection, and serves it.
     #[tactic(auto, using(crate::proofs::Turning::turns_opened, crate::proofs::Turning::turns_closed, crate::proofs::Turning::turns_down, crate::proofs::Turning::turns_halted))]
-    pub fn turn<S: Site>(&mut self, alloc: Global, site: &mut S) -> Turned
+    fn take_turn<S: Site>(&mut self, alloc: Global, site: &mut S) -> Turned
         requires { IsNode (seen self.old) }
         ensures turns { Turns result self.old.role (seen self.old) (seen self.new) (S.told site.old) (S.told site.new) }
         ensures halted { self.old.halted ≡ true → (result ≡ Halted) × (site.new ≡ site.old) }
@@ -179,5 +179,20 @@ impl Node {
             Ok(Taken::Closed) => Turned::Closed,
             Err(Failed) => Turned::LinkDown,
         }
+    }
+
+    /// Takes one connection: reads its request, does the step of it, answers and posts, and then does one step for each item
+    /// that is due, at the time of one look at the clock.
+    #[tactic(auto, using(crate::proofs::Unanswered::turned_lost))]
+    pub fn turn<S: Site>(&mut self, alloc: Global, site: &mut S) -> Turned
+        requires { IsNode (seen self.old) }
+        ensures turns { Turns result self.old.role (seen self.old) (seen self.new) (S.told site.old) (S.told site.new) }
+        ensures unanswered { result ≡ Served 0 → Rose (S.told site.old).counts.receive (S.told site.new).counts.receive ⊎ Rose (S.told site.old).counts.link (S.told site.new).counts.link }
+        ensures halted { self.old.halted ≡ true → (result ≡ Halted) × (site.new ≡ site.old) }
+        ensures node { IsNode (seen self.new) }
+        ensures role { self.new.role ≡ self.old.role }
+    {
+        steps_reply();
+        self.take_turn(alloc, site)
     }
 }
