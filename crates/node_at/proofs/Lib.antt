@@ -15,3 +15,12 @@ mod Beginning
 mod Started
 mod Renewing
 mod Locally
+mod Composing
+mod Rows
+mod Halting
+mod Heard
+mod Refused
+mod Asking
+mod Turning
+mod Replying
+mod Unanswered

@@ -11,3 +11,11 @@ pub mod Starting
 pub mod Started
 pub mod Shrinking
 pub mod Locals
+pub mod Meanings
+pub mod Asking
+pub mod TurnText
+pub mod Doings
+pub mod Replies
+pub mod Refusing
+pub mod Turns
+pub mod Dues

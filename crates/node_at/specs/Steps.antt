@@ -44,9 +44,10 @@ status_in [] = 0
 status_in (outs.Answer status reply ∷ os) = status
 status_in (outs.Post post ∷ os) = status_in os
 
--- A step's record is absent exactly where the journal refused it, or where it would pass the journal's limit.
+-- A step's record is absent exactly where the journal refused it, or where it would pass the journal's limit. A step without
+-- a record counts as one whose record landed.
 abbrev pub IsFate : Bool → Option Record → Journal → List Made → Told → Told → Type 0
-IsFate landed None journal first old new = first ≡ []
+IsFate landed None journal first old new = (first ≡ []) × (landed ≡ true)
 IsFate true (Some r) journal first old new =
     Makes appends.Done journal.live journal.end (bytes_of r) first × (journal.end + 6 + length (bytes_of r) ≤ journal.limit)
 IsFate false (Some r) journal first old new =
