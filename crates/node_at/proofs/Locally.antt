@@ -1,7 +1,6 @@
 -- A request, answered by one step.
 use Rattle.std.proofs.Common.{ℕ, List, Bool, true, false, [], ◌∷◌, ◌++◌, ◌+◌, ◌≡◌, ◌≤◌, ◌<◌, ◌⊎◌, inl, inr, ⊎_elim, IfSome, Option, Some, None, map, option_map, length, refl, sym, ◌∙◌, ap, subst, arith, rules}
 use Rattle.at_base.specs.Numbers.{Numbers}
-use Rattle.at_base.specs.WellFormed.{IsWellFormed}
 use Rattle.at_base.specs.declared.event.Event.{Event}
 use Rattle.at_base.specs.declared.event.Event.TheVariants as events
 use Rattle.at_base.specs.declared.event.Local.{Local}
@@ -12,15 +11,12 @@ use Rattle.at_base.specs.declared.event.Moment.{Moment}
 use Rattle.at_model.specs.Activities.{on_begin, on_interpose}
 use Rattle.at_model.specs.Book.{Activity, Book, activity_id, find_by, next_id}
 use Rattle.at_model.specs.Step.{moment_of, plan, refuses}
-use Rattle.decision_log.specs.Keeping.{IsKept, KeepsOn, Known}
 use Rattle.completion_at.specs.Planning.{begin_asked, interpose_asked, refused_at, taken, unless}
 use Rattle.completion_at.specs.Whole.{RefusesAsTheModel}
 use Rattle.interposition.specs.declared.plan.Part.TheVariants as parts
 use Rattle.interposition.specs.Planning.{planned, requested_part}
 use Rattle.journal_at.specs.declared.journal.Journal.{Journal}
 use Rattle.journal_at.specs.Standing.{Keeps}
-use Rattle.model_laws.specs.Order.{IdsRise, IsInOrder}
-use Rattle.model_laws.specs.Sound.{IsSound, IsSoundEvent, RecordsAreWellFormed}
 use Rattle.site_model.proofs.Past.{and_then, weaker}
 use Rattle.site_model.specs.Calls.{Reads}
 use Rattle.site_model.specs.Counts.{Rose}
@@ -144,31 +140,6 @@ module _ (old mid new : Told) (u : Untouched old mid) where
     apart = record { link = h.apart.link ∙ u.apart.link; clock = h.apart.clock ∙ u.apart.clock };
   }
 
--- what holds of a node behind a step
-pub node_behind : (r : Stepped) (n m : State) (e : Event) (now : ℕ) (old new : Told) → IdsRise → IsNode n → IsSound m.book → Steps r n m e now old new → IsNode m
-node_behind (stepped.Done status) n m e now old new law node sound h = record {
-  sound = sound;
-  order = subst IsInOrder (sym h.went.book) (law.stays n.book e now h.landed node.order);
-  sure = h.went.sure ∙ sym h.went.runs;
-}
-node_behind stepped.NoRoom n m e now old new law node sound h = subst IsNode (sym h) node
-node_behind stepped.Halted n m e now old new law node sound h =
-    let book : m.book ≡ n.book = ap (λ (z : State). z.book) h.stopped.same in
-    let halted : m.halted ≡ true = ap (λ (z : State). z.halted) h.stopped.same in
-    record { sound = sound; order = subst IsInOrder (sym book) node.order; sure = h.stopped.unsure ∙ sym halted }
-
-kept_if : (entry : Option Record) (landed : Bool) (k : Known) → KeepsOn → ((r : Record) → entry ≡ Some r → IsWellFormed r) → IsKept k → IsKept (kept_by (if_landed landed entry) k)
-kept_if None true k law formed h = h
-kept_if None false k law formed h = h
-kept_if (Some r) true k law formed h = law k r h (formed r refl)
-kept_if (Some r) false k law formed h = h
-
-pub kept_behind : (r : Stepped) (n m : State) (e : Event) (now : ℕ) (old new : Told) → KeepsOn → RecordsAreWellFormed → IsSound n.book → IsSoundEvent e → Steps r n m e now old new → IsKept n.kept → IsKept m.kept
-kept_behind (stepped.Done status) n m e now old new law formed sound event h k =
-    subst IsKept (sym h.went.kept) (kept_if (plan n.book e now).entry h.landed n.kept law (λ x is. formed.entry n.book e now x sound event is) k)
-kept_behind stepped.NoRoom n m e now old new law formed sound event h k = subst IsKept (sym (ap (λ (z : State). z.kept) h)) k
-kept_behind stepped.Halted n m e now old new law formed sound event h k = subst IsKept (sym (ap (λ (z : State). z.kept) h.stopped.same)) k
-
 -- the request's answer
 module _ (n k m : State) (l : Local) (now : ℕ) (old mid new : Told) (same : k ≡ n) (none : n.effects ≡ []) (runs : n.halted ≡ false) (taken_is : refuses n.book l ≡ None) (r : Reads now old mid) where
   begins : k ≡ cleared n
@@ -186,9 +157,3 @@ module _ (n k m : State) (l : Local) (now : ℕ) (old mid new : Told) (same : k 
 
 pub node_from : {k n : State} → k ≡ n → IsNode n → IsNode k
 node_from {k} {n} e h = subst IsNode (sym e) h
-
-pub sound_from : {k n : State} → k ≡ n → IsNode n → IsSound k.book
-sound_from {k} {n} e h = (subst IsNode (sym e) h).sound
-
-pub kept_from : {k n : State} → k ≡ n → IsKept n.kept → IsKept k.kept
-kept_from {k} {n} e h = subst (λ (z : State). IsKept z.kept) (sym e) h

@@ -17,7 +17,7 @@ use Rattle.node_at.specs.declared.shrink.Shrunk.{Shrunk}
 use Rattle.node_at.specs.Shrinking.{Anew, AreSame, IsLong, Shrinks, StandForSame, Stays, halted_by, shrunk_by}
 use Rattle.node_at.specs.Sizes.{size_of}
 use Rattle.node_at.specs.Starting.{Either, IsOpen, StandFor}
-use Rattle.node_at.specs.State.{State}
+use Rattle.node_at.specs.State.{IsNode, State}
 use Rattle.node_at.proofs.Parts.{compact_goes, compact_holds, holds_stand, open_images}
 use Rattle.node_at.proofs.Recorded.{frames_long, new_listed}
 
@@ -113,3 +113,19 @@ module _ (rs : List Record) (n m : State) (j : Journal) (old new : Told) (law : 
 
 pub shrinks_same : (x y : Shrunk) (n m : State) (old new : Told) → y ≡ x → Shrinks x n m old new → Shrinks y n m old new
 shrinks_same x y n m old new e h = subst (λ z. Shrinks z n m old new) (sym e) h
+
+-- what holds of the node
+pub sure_at : (n : State) → IsNode n → n.halted ≡ false → n.journal.unsure ≡ false
+sure_at n h runs = h.sure ∙ runs
+
+pub node_by : (r : Compact) (n m : State) (j : Journal) (old new : Told) → IsNode n → n.halted ≡ false → IsCompacted r (texts_of (shrunk n.kept)) n.journal j old new
+    → m ≡ record n { journal = j; halted = halted_by r n.halted } → IsNode m
+node_by r n m j old new h runs c e = subst IsNode (sym e) (record { sound = h.sound; order = h.order; kept = h.kept; sure = sure r c }) where
+  sure : (r : Compact) → IsCompacted r (texts_of (shrunk n.kept)) n.journal j old new → j.unsure ≡ halted_by r n.halted
+  sure compacts.Done c = stays_sure j.unsure (λ f. subst IsUnsure (sym (c.unsure.0 f)) tt) ∙ sym runs
+  sure compacts.Kept c = stays_sure j.unsure (λ f. subst IsUnsure (sym (c.unsure.0 f)) tt) ∙ sym runs
+  sure compacts.Full c = stays_sure j.unsure (λ f. subst IsUnsure (sym (c.unsure.0 f)) tt) ∙ sym runs
+  sure compacts.Unsure c = c.unsure.1 refl
+
+pub node_memory : (n : State) (j : Journal) → j ≡ n.journal → IsNode n → IsNode (record n { journal = j })
+node_memory n j e h = record { sound = h.sound; order = h.order; kept = h.kept; sure = ap (λ (z : Journal). z.unsure) e ∙ h.sure }

@@ -169,6 +169,3 @@ node_same {s} {t} e h = subst IsNode (sym e) h
 
 pub kept_start : {T : Type 0} (rs : List Record) (x : T) (o after : Opened) (mid new : Told) → Begins {T = T} (Ok x) rs o after mid new → IsKept (known after.kept)
 kept_start rs x o after mid new b = record { all = started o.version rs; formed = are_formed Two (started o.version rs) (records_of b.holds.bodies) b.holds.are; is = b.kept }
-
-pub kept_same : {k l : Known} → l ≡ k → IsKept k → IsKept l
-kept_same {k} {l} e h = subst IsKept (sym e) h

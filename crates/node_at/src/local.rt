@@ -6,8 +6,6 @@ ghost use Rattle.at_base.specs.declared.event.Local.{Local};
 ghost use Rattle.at_model.specs.Book.{next_id};
 ghost use Rattle.at_model.specs.Step.{refuses};
 ghost use Rattle.completion_at.specs.Names.{refusal_of};
-ghost use Rattle.decision_log.specs.Held.{known};
-ghost use Rattle.decision_log.specs.Keeping.{IsKept};
 ghost use Rattle.interposition.specs.Planning.{planned};
 ghost use Rattle.node_at.specs.Locals.{Asked, added_by, added_in, answered_id, named_by};
 ghost use Rattle.node_at.specs.State.{IsNode, seen};
@@ -118,7 +116,6 @@ impl Node {
         requires effects { (seen self.old).effects ≡ [] }
         ensures asked { Asked result (seen self.old) (seen self.new) request (S.told site.old) (S.told site.new) }
         ensures node { IsNode (seen self.new) }
-        ensures kept { IsKept (known self.old.kept) → IsKept (known self.new.kept) }
         ensures role { self.new.role ≡ self.old.role }
         ensures counted { Keeping (S.told site.old) (S.told site.new) }
     {
@@ -144,7 +141,6 @@ impl Node {
         requires node { IsNode (seen self.old) }
         ensures asked { Asked result (seen self.old) (seen self.new) request.now (S.told site.old) (S.told site.new) }
         ensures node { IsNode (seen self.new) }
-        ensures kept { IsKept (known self.old.kept) → IsKept (known self.new.kept) }
         ensures role { self.new.role ≡ self.old.role }
         ensures nothing { (why : Refusal) → result ≡ Refused why → site.new ≡ site.old }
         ensures halted { self.old.halted ≡ true → site.new ≡ site.old }

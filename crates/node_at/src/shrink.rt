@@ -3,12 +3,12 @@
 ghost use Rattle.std.specs.Prelude.{List, ◌≡◌, true, false};
 ghost use Rattle.at_base.specs.declared.record.Record.{Record};
 ghost use Rattle.decision_log.specs.Held.{known};
-ghost use Rattle.decision_log.specs.Keeping.{IsKept, kept_of};
+ghost use Rattle.decision_log.specs.Keeping.{kept_of};
 ghost use Rattle.journal_at.specs.declared.version.Version.TheVariants.{Two};
 ghost use Rattle.journal_at.specs.Standing.{Counted};
 ghost use Rattle.node_at.specs.Shrinking.{IsLong, Shrinks, Stays, halted_by, shrunk_by};
 ghost use Rattle.node_at.specs.Starting.{IsOpen};
-ghost use Rattle.node_at.specs.State.{seen};
+ghost use Rattle.node_at.specs.State.{IsNode, seen};
 ghost use Rattle.node_at.specs.declared.shrink.Shrunk.TheVariants.{NoMemory};
 
 use crate::node::Node;
@@ -69,14 +69,14 @@ impl Node {
     }
 
     fn shrink<S: Site>(&mut self, alloc: Global, site: &mut S) -> Shrunk
-        requires kept { IsKept (known self.old.kept) }
+        requires node { IsNode (seen self.old) }
         requires runs { self.old.halted ≡ false }
-        requires sure { self.old.journal.unsure ≡ false }
         ensures shrinks { Shrinks result (seen self.old) (seen self.new) (S.told site.old) (S.told site.new) }
         ensures stays { (rs : List Record) → IsOpen Two rs self.old.journal (S.told site.old) → known self.old.kept ≡ kept_of Two rs
             → Stays rs (seen self.new) (S.told site.old) (S.told site.new) }
         ensures nothing { (IsLong (seen self.old) → ⊥) → site.new ≡ site.old }
         ensures memory { result ≡ NoMemory → site.new ≡ site.old }
+        ensures node { IsNode (seen self.new) }
         ensures role { self.new.role ≡ self.old.role }
         ensures counted { Counted (S.told site.old) (S.told site.new) }
     {
@@ -97,15 +97,15 @@ impl Node {
     /// Memory is taken before the first call of the disk. Where a call that opens the new file's gate fails, the node has
     /// halted.
     pub fn shrink_if_due<S: Site>(&mut self, alloc: Global, site: &mut S) -> Shrunk
-        requires kept { IsKept (known self.old.kept) }
+        requires node { IsNode (seen self.old) }
         requires runs { self.old.halted ≡ false }
-        requires sure { self.old.journal.unsure ≡ false }
         ensures shrinks { Shrinks result (seen self.old) (seen self.new) (S.told site.old) (S.told site.new) }
         ensures stays { (rs : List Record) → IsOpen Two rs self.old.journal (S.told site.old) → known self.old.kept ≡ kept_of Two rs
             → Stays rs (seen self.new) (S.told site.old) (S.told site.new) }
         ensures nothing { (IsLong (seen self.old) → ⊥) → site.new ≡ site.old }
         ensures memory { result ≡ NoMemory → site.new ≡ site.old }
         ensures told { self.new.shrunk ≡ result }
+        ensures node { IsNode (seen self.new) }
         ensures role { self.new.role ≡ self.old.role }
         ensures counted { Counted (S.told site.old) (S.told site.new) }
     {

@@ -2,7 +2,6 @@
 
 ghost use Rattle.std.specs.Prelude.{◌≡◌, [], false, IfOk};
 ghost use Rattle.decision_log.specs.Held.{known};
-ghost use Rattle.decision_log.specs.Keeping.{IsKept};
 ghost use Rattle.node_at.specs.Started.{Starts};
 ghost use Rattle.node_at.specs.State.{IsNode, seen};
 
@@ -49,7 +48,6 @@ pub fn start<S: Site>(
 ) -> Result<Node, StartFault>
     ensures starts { Starts result base.now role limit (S.told site.old) (S.told site.new) }
     ensures node { IfOk result (λ n. IsNode (seen n)) }
-    ensures kept { IfOk result (λ n. IsKept (known n.kept)) }
 {
     grows_by_one();
     ids_rise();

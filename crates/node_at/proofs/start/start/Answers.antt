@@ -1,6 +1,5 @@
-use Rattle.std.proofs.Common.{Err, Ok, ap, arith}
-use Rattle.node_at.specs.State.{State}
-use Rattle.node_at.proofs.Started.{begin_failed, begins_in, book_in, is_later, is_started, kept_same, kept_start, next_in, no_room, node_same, not_next, open_generation, order_start, sound_start, started_same}
+use Rattle.std.proofs.Common.{Err, Ok, arith}
+use Rattle.node_at.proofs.Started.{begin_failed, begins_in, book_in, is_later, is_started, kept_start, next_in, no_room, node_same, not_next, open_generation, order_start, sound_start, started_same}
 use Rattle.node_at.proofs.start.start.Goals as goal
 
 pub returns-in-Err-next-clause-starts : goal.returns-in-Err-next-clause-starts
@@ -47,16 +46,9 @@ returns-in-Ok-begin-clause-node g c =
     node_same c.node_of.ensures.seen (record {
       sound = sound_start o c.begin.new.self c.args.base.now c.args.limit n c.in-Ok-recover.book _ _ _ h c.records_are_well_formed.ensures c.grows_by_one.ensures same x book b;
       order = order_start o c.begin.new.self c.args.base.now c.args.limit n c.in-Ok-recover.book _ _ h c.ids_rise.ensures same x book;
+      kept = kept_start h.rs _ o c.begin.new.self _ _ b;
       sure = b.holds.sure;
     })
-
-pub returns-in-Ok-begin-clause-kept : goal.returns-in-Ok-begin-clause-kept
-returns-in-Ok-begin-clause-kept g c =
-    let h = c.in-Ok.ensures in
-    let o = c.in-Ok.opened in
-    let n = c.in-Ok-next.incarnation in
-    let x = next_in o c.args.limit (Ok n) _ _ h c.in-Ok-next.ensures in
-    kept_same (ap (λ (z : State). z.kept) c.node_of.ensures.seen) (kept_start h.rs _ o c.begin.new.self _ _ (begins_in o c.begin.new.self c.args.limit n _ _ _ _ h x c.in-Ok-begin.ensures))
 
 pub returns-in-Err-begin-clause-starts : goal.returns-in-Err-begin-clause-starts
 returns-in-Err-begin-clause-starts g c =
