@@ -14,20 +14,20 @@ use Rattle.record_bytes.specs.Versions.{AreBodies as RecordsAreBodies}
 use Rattle.site_model.proofs.Past.{weaker}
 use Rattle.site_model.specs.Told.{Told, Files}
 use Rattle.node_at.specs.declared.shrink.Shrunk.{Shrunk}
-use Rattle.node_at.specs.Shrinking.{Anew, AreSame, IsLong, Shrinks, StandForSame, Stays, halted_by, shrunk_by}
+use Rattle.node_at.specs.Shrinking.{Anew, AreSame, IsDue, Shrinks, StandForSame, Stays, halted_by, shrunk_by}
 use Rattle.node_at.specs.Sizes.{size_of}
 use Rattle.node_at.specs.Starting.{Either, IsOpen, StandFor}
 use Rattle.node_at.specs.State.{IsNode, State}
 use Rattle.node_at.proofs.Parts.{compact_goes, compact_holds, holds_stand, open_images}
 use Rattle.node_at.proofs.Recorded.{frames_long, new_listed}
 
-anew_by : (r : Compact) (halted : Bool) (n m : State) (j : Journal) (old new : Told) → n.journal.unsure ≡ false → IsLong n → IsCompacted r (texts_of (shrunk n.kept)) n.journal j old new
+anew_by : (r : Compact) (halted : Bool) (n m : State) (j : Journal) (old new : Told) → n.journal.unsure ≡ false → IsDue n → IsCompacted r (texts_of (shrunk n.kept)) n.journal j old new
     → AreRecords Two (shrunk n.kept) (texts_of (shrunk n.kept)) → m ≡ record n { journal = j; halted = halted } → j.limit ≡ n.journal.limit → Anew r halted n m old new
-anew_by r halted n m j old new sure long h are e limit =
+anew_by r halted n m j old new sure due h are e limit =
     let journal : m.journal ≡ j = ap (λ (z : State). z.journal) e in
     let size = frames_long (shrunk n.kept) in
     record {
-      long = long;
+      due = due;
       full = (λ f. let g = (h.full.0 f).1 in omega (arith, g, size), λ less. h.full.1 (sure, omega (arith, less, size)));
       compacted = subst (λ z. IsCompacted r (texts_of (shrunk n.kept)) n.journal z old new) (sym journal) h;
       are = are;
@@ -35,12 +35,12 @@ anew_by r halted n m j old new sure long h are e limit =
       limit = ap (λ (z : Journal). z.limit) journal ∙ limit;
     }
 
-pub shrinks_by : (r : Compact) (n m : State) (j : Journal) (old new : Told) → n.journal.unsure ≡ false → IsLong n → IsCompacted r (texts_of (shrunk n.kept)) n.journal j old new
+pub shrinks_by : (r : Compact) (n m : State) (j : Journal) (old new : Told) → n.journal.unsure ≡ false → IsDue n → IsCompacted r (texts_of (shrunk n.kept)) n.journal j old new
     → AreRecords Two (shrunk n.kept) (texts_of (shrunk n.kept)) → m ≡ record n { journal = j; halted = halted_by r n.halted } → j.limit ≡ n.journal.limit → Shrinks (shrunk_by r) n m old new
-shrinks_by compacts.Done n m j old new sure long h are e limit = anew_by compacts.Done n.halted n m j old new sure long h are e limit
-shrinks_by compacts.Kept n m j old new sure long h are e limit = anew_by compacts.Kept n.halted n m j old new sure long h are e limit
-shrinks_by compacts.Unsure n m j old new sure long h are e limit = inr (inr (anew_by compacts.Unsure true n m j old new sure long h are e limit))
-shrinks_by compacts.Full n m j old new sure long h are e limit = inr (inl (anew_by compacts.Full n.halted n m j old new sure long h are e limit))
+shrinks_by compacts.Done n m j old new sure due h are e limit = anew_by compacts.Done n.halted n m j old new sure due h are e limit
+shrinks_by compacts.Kept n m j old new sure due h are e limit = anew_by compacts.Kept n.halted n m j old new sure due h are e limit
+shrinks_by compacts.Unsure n m j old new sure due h are e limit = inr (inr (anew_by compacts.Unsure true n m j old new sure due h are e limit))
+shrinks_by compacts.Full n m j old new sure due h are e limit = inr (inl (anew_by compacts.Full n.halted n m j old new sure due h are e limit))
 
 -- nothing was done
 pub stays_still : (rs : List Record) (m : State) (s : Told) → IsOpen Two rs m.journal s → Stays rs m s s

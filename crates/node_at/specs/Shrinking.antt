@@ -14,9 +14,10 @@ use Rattle.node_at.specs.Sizes.{size_of}
 use Rattle.node_at.specs.Starting.{IsOpen, StandFor}
 use Rattle.node_at.specs.State.{State}
 
--- The live file, up to and with its last gate, has at least 65,536 bytes and at least twice as many as what is kept needs,
--- and its generation isn't the last.
-pub record IsLong (n : State) : Type 0 where
+-- The node hasn't halted; the live file, up to and with its last gate, has at least 65,536 bytes and at least twice as many
+-- as what is kept needs; and its generation isn't the last.
+pub record IsDue (n : State) : Type 0 where
+  pub runs : n.halted ≡ false
   pub most : 65536 ≤ n.journal.end + 1
   pub twice : 2 * size_of (shrunk n.kept) ≤ n.journal.end + 1
   pub generation : n.journal.generation < 4294967295
@@ -35,19 +36,19 @@ halted_by other halted = halted
 -- What is kept was written anew, or that was tried; nothing but the journal changed. It was not even tried where the text
 -- would pass the journal's limit.
 pub record Anew (r : Compact) (halted : Bool) (n m : State) (old new : Told) : Type 0 where
-  pub long : IsLong n
+  pub due : IsDue n
   pub full : (r ≡ compacts.Full) ↔ (n.journal.limit < size_of (shrunk n.kept))
   pub compacted : IsCompacted r (texts_of (shrunk n.kept)) n.journal m.journal old new
   pub are : AreRecords Two (shrunk n.kept) (texts_of (shrunk n.kept))
   pub same : m ≡ record n { journal = m.journal; halted = halted }
   pub limit : m.journal.limit ≡ n.journal.limit
 
--- It isn't long, and nothing was done; or there is no room for the text; or it may stand or not, and the node halted.
+-- It isn't due, and nothing was done; or there is no room for the text; or it may stand or not, and the node halted.
 abbrev pub Shrinks : Shrunk → State → State → Told → Told → Type 0
-Shrinks NotDue n m old new = ((IsLong n → ⊥) × (m ≡ n)) ⊎ (Anew compacts.Full n.halted n m old new ⊎ Anew compacts.Unsure true n m old new)
+Shrinks NotDue n m old new = ((IsDue n → ⊥) × (m ≡ n)) ⊎ (Anew compacts.Full n.halted n m old new ⊎ Anew compacts.Unsure true n m old new)
 Shrinks Done n m old new = Anew compacts.Done n.halted n m old new
 Shrinks Kept n m old new = Anew compacts.Kept n.halted n m old new
-Shrinks NoMemory n m old new = IsLong n × (m ≡ n)
+Shrinks NoMemory n m old new = IsDue n × (m ≡ n)
 
 -- they make the same Kept, whatever follows
 abbrev pub AreSame : List Record → List Record → Type 0

@@ -6,7 +6,7 @@ ghost use Rattle.decision_log.specs.Held.{known};
 ghost use Rattle.decision_log.specs.Keeping.{kept_of};
 ghost use Rattle.journal_at.specs.declared.version.Version.TheVariants.{Two};
 ghost use Rattle.journal_at.specs.Standing.{Counted};
-ghost use Rattle.node_at.specs.Shrinking.{IsLong, Shrinks, Stays, halted_by, shrunk_by};
+ghost use Rattle.node_at.specs.Shrinking.{IsDue, Shrinks, Stays, halted_by, shrunk_by};
 ghost use Rattle.node_at.specs.Starting.{IsOpen};
 ghost use Rattle.node_at.specs.State.{IsNode, seen};
 ghost use Rattle.node_at.specs.declared.shrink.Shrunk.TheVariants.{NoMemory};
@@ -25,7 +25,7 @@ pub const SHRUNK_FROM: u64 = 65_536;
 /// What became of the journal at the end of a turn.
 #[derive(Clone, Copy, Debug, PartialEq, Eq)]
 pub enum Shrunk {
-    /// It wasn't due to be written anew, or the node halted.
+    /// It wasn't due to be written anew, or the node has halted.
     NotDue,
     /// It was written anew, without its dead records.
     Done,
@@ -36,11 +36,15 @@ pub enum Shrunk {
 }
 
 impl Node {
-    /// Whether the live file, up to and with its last gate, is long, and at least twice as long as it needs to be.
-    fn is_long(&self) -> bool
-        ensures yes { result ≡ true → IsLong (seen self.now) }
-        ensures no { result ≡ false → IsLong (seen self.now) → ⊥ }
+    /// Whether the node goes on and the live file, up to and with its last gate, is long, and at least twice as long as it
+    /// needs to be.
+    fn is_due(&self) -> bool
+        ensures yes { result ≡ true → IsDue (seen self.now) }
+        ensures no { result ≡ false → IsDue (seen self.now) → ⊥ }
     {
+        if self.halted {
+            return false;
+        }
         let size = self.journal.end() + 1;
         if size < SHRUNK_FROM {
             return false;
@@ -70,11 +74,10 @@ impl Node {
 
     fn shrink<S: Site>(&mut self, alloc: Global, site: &mut S) -> Shrunk
         requires node { IsNode (seen self.old) }
-        requires runs { self.old.halted ≡ false }
         ensures shrinks { Shrinks result (seen self.old) (seen self.new) (S.told site.old) (S.told site.new) }
         ensures stays { (rs : List Record) → IsOpen Two rs self.old.journal (S.told site.old) → known self.old.kept ≡ kept_of Two rs
             → Stays rs (seen self.new) (S.told site.old) (S.told site.new) }
-        ensures nothing { (IsLong (seen self.old) → ⊥) → site.new ≡ site.old }
+        ensures nothing { (IsDue (seen self.old) → ⊥) → site.new ≡ site.old }
         ensures memory { result ≡ NoMemory → site.new ≡ site.old }
         ensures node { IsNode (seen self.new) }
         ensures role { self.new.role ≡ self.old.role }
@@ -82,7 +85,7 @@ impl Node {
     {
         are_bodies();
         shrinks_the_same();
-        if !self.is_long() {
+        if !self.is_due() {
             return Shrunk::NotDue;
         }
         match shrink(alloc, &mut self.journal, site, &self.kept) {
@@ -98,11 +101,10 @@ impl Node {
     /// halted.
     pub fn shrink_if_due<S: Site>(&mut self, alloc: Global, site: &mut S) -> Shrunk
         requires node { IsNode (seen self.old) }
-        requires runs { self.old.halted ≡ false }
         ensures shrinks { Shrinks result (seen self.old) (seen self.new) (S.told site.old) (S.told site.new) }
         ensures stays { (rs : List Record) → IsOpen Two rs self.old.journal (S.told site.old) → known self.old.kept ≡ kept_of Two rs
             → Stays rs (seen self.new) (S.told site.old) (S.told site.new) }
-        ensures nothing { (IsLong (seen self.old) → ⊥) → site.new ≡ site.old }
+        ensures nothing { (IsDue (seen self.old) → ⊥) → site.new ≡ site.old }
         ensures memory { result ≡ NoMemory → site.new ≡ site.old }
         ensures told { self.new.shrunk ≡ result }
         ensures node { IsNode (seen self.new) }
