@@ -1,13 +1,12 @@
 -- A start, from what was read to its Start.
-use Rattle.std.proofs.Common.{ℕ, List, Bool, true, Result, Ok, Err, [], ◌∷◌, ◌++◌, ◌+◌, ◌≡◌, ◌≢◌, ◌≤◌, ◌<◌, ◌^◌, ◌⊎◌, ◌↔◌, inl, inr, ⊎_elim, OnOk, map, refl, sym, ◌∙◌, ap, subst, arith}
-use Rattle.std.proofs.lemmas.List.{append_assoc, append-nil}
+use Rattle.std.proofs.Common.{ℕ, List, Bool, true, Result, Ok, Err, [], ◌∷◌, ◌++◌, ◌+◌, ◌≡◌, ◌≢◌, ◌≤◌, ◌<◌, ◌^◌, inl, inr, ⊎_elim, OnOk, map, refl, sym, ◌∙◌, ap, subst, arith}
 use Rattle.at_base.specs.declared.record.Record.{Record}
 use Rattle.at_base.specs.declared.record.Record.TheVariants as records
 use Rattle.at_model.specs.Recover.{last_incarnation}
 use Rattle.decision_log.specs.Folding.{AreRecords}
 use Rattle.decision_log.specs.Held.{known}
 use Rattle.decision_log.specs.Keeping.{Known, kept_of}
-use Rattle.decision_log.specs.Shrinking.{ShrinksTheSame, shrunk}
+use Rattle.decision_log.specs.Shrinking.{ShrinksTheSame}
 use Rattle.journal_at.specs.declared.journal.Journal.{Journal}
 use Rattle.journal_at.specs.declared.load.LoadFault.{LoadFault}
 use Rattle.journal_at.specs.declared.load.LoadFault.TheVariants as loads
@@ -15,7 +14,7 @@ use Rattle.journal_at.specs.declared.records.Records.{Records}
 use Rattle.journal_at.specs.declared.version.Version.{Version}
 use Rattle.journal_at.specs.declared.version.Version.TheVariants.{One, Two}
 use Rattle.journal_at.specs.Format.{records_of}
-use Rattle.journal_at.specs.Loading.{Fails, Lasts, Loads, Spent, shuts, shuts_if, syncs}
+use Rattle.journal_at.specs.Loading.{Fails, Loads, Spent, shuts, shuts_if, syncs}
 use Rattle.journal_at.specs.Pairs.{Holds}
 use Rattle.journal_at.specs.Scanning.{records_in}
 use Rattle.journal_at.specs.Standing.{Counted}
@@ -23,12 +22,12 @@ use Rattle.record_bytes.specs.Bytes.{bytes_of}
 use Rattle.site_model.proofs.Past.{weaker}
 use Rattle.site_model.specs.Counts.{capped}
 use Rattle.site_model.specs.Site.{Counts as Numbers}
-use Rattle.site_model.specs.Told.{Told, Call, Files, Made, done, sent_by}
+use Rattle.site_model.specs.Told.{Told, Files, done, sent_by}
 use Rattle.node_at.specs.declared.fault.StartFault.{StartFault}
 use Rattle.node_at.specs.declared.fault.StartFault.TheVariants as faults
 use Rattle.node_at.specs.declared.opening.Opened.{Opened}
-use Rattle.node_at.specs.Sizes.{end_of, framed_all, size_of}
-use Rattle.node_at.specs.Starting.{Begins, CannotStart, Carries, Either, Ends, Found, Gathers, Goes, IsCause, IsLiveBehind, IsNext, IsNoRecord, IsOpen, IsRead, OnTheWay, Opens, OpensAs, StandFor, append_calls, carried, carrying, load_fault, start_after, started}
+use Rattle.node_at.specs.Sizes.{end_of, size_of}
+use Rattle.node_at.specs.Starting.{Begins, CannotStart, Carries, Either, Ends, Gathers, IsCause, IsLiveBehind, IsNext, IsNoRecord, IsOpen, IsRead, OnTheWay, Opens, OpensAs, append_calls, carried, carrying, load_fault, start_after, started}
 use Rattle.node_at.proofs.Parts.{goes_no_further, goes_then}
 use Rattle.node_at.proofs.Silent.{disk_breaks, disk_silent, opening_disk}
 use Rattle.node_at.proofs.Sizing.{framed_append, start_long}

@@ -1,12 +1,10 @@
 -- How records come into version 2, and how the Start is recorded.
-use Rattle.std.proofs.Common.{ℕ, List, Bool, Result, Ok, Err, true, false, true≢false, zero, suc, [], ◌∷◌, ◌++◌, ◌+◌, ◌-◌, ◌≡◌, ◌≢◌, ◌≤◌, ◌<◌, ◌↔◌, inl, inr, IfSome, OnOk, cond, nat_eq, length, refl, sym, ◌∙◌, ap, subst, arith, rules}
+use Rattle.std.proofs.Common.{ℕ, List, Result, Ok, Err, true, false, [], ◌∷◌, ◌++◌, ◌+◌, ◌≡◌, ◌≢◌, ◌≤◌, ◌<◌, ◌↔◌, inl, IfSome, cond, nat_eq, length, refl, sym, ◌∙◌, ap, subst, arith, rules}
 use Rattle.std.proofs.lemmas.Bool.{ne_eqb}
-use Rattle.std.proofs.lemmas.List.{length-append}
-use Rattle.std.specs.Int.{to_be_bytes, w32}
 use Rattle.at_base.specs.declared.record.Record.{Record}
 use Rattle.at_base.specs.declared.record.Record.TheVariants as records
 use Rattle.decision_log.specs.Folding.{AreRecords}
-use Rattle.decision_log.specs.Keeping.{Known, kept_of}
+use Rattle.decision_log.specs.Keeping.{Known}
 use Rattle.decision_log.specs.declared.keep.KeepFault.{KeepFault}
 use Rattle.decision_log.specs.declared.keep.KeepFault.TheVariants as keeps
 use Rattle.decision_log.specs.Recording.{IsAppended, ending}
@@ -19,15 +17,15 @@ use Rattle.journal_at.specs.declared.journal.Compact.TheVariants as compacts
 use Rattle.journal_at.specs.declared.journal.Journal.{Journal}
 use Rattle.journal_at.specs.declared.version.Version.{Version}
 use Rattle.journal_at.specs.declared.version.Version.TheVariants.{One, Two}
-use Rattle.journal_at.specs.Format.{AreListed, IsBody, frames, head_of, mark_body, records_of}
+use Rattle.journal_at.specs.Format.{AreListed, IsBody, frames, head_of, records_of}
 use Rattle.journal_at.specs.Standing.{Appended, Calls, Counted, HasReason, Keeps, MayFollow}
 use Rattle.record_bytes.specs.Bytes.{bytes_of}
 use Rattle.record_bytes.specs.Versions.{AreBodies as RecordsAreBodies}
 use Rattle.site_model.specs.Told.{Told, Call}
 use Rattle.node_at.specs.declared.fault.StartFault.{StartFault}
 use Rattle.node_at.specs.declared.fault.StartFault.TheVariants.{NoMemory}
-use Rattle.node_at.specs.Sizes.{end_of, framed_all, size_of}
-use Rattle.node_at.specs.Starting.{Carries, Either, Goes, IsOpen, StandFor, anew_calls, append_calls, append_ended, carried, carrying, compact_ended, first_mark, keep_fault}
+use Rattle.node_at.specs.Sizes.{end_of, size_of}
+use Rattle.node_at.specs.Starting.{Carries, Either, Goes, IsOpen, anew_calls, append_calls, append_ended, carried, carrying, compact_ended, first_mark, keep_fault}
 use Rattle.node_at.proofs.Between.{grown_same}
 use Rattle.node_at.proofs.Parts.{append_goes, append_holds, compact_goes, compact_holds, open_images}
 use Rattle.node_at.proofs.Recorded.{are_more, are_none, begun, frames_long, listed_more, new_listed, open_end, records_more}
@@ -122,9 +120,9 @@ migrate_carries rs r j k old new law o fits are h counted =
     let listed = new_listed (j.generation + 1) (carried One rs) texts law are in
     let done = h.compacted o.bodies o.sure o.keeps in
     let not_full : r ≡ compacts.Full → ⊥ = λ f.
-        let g = (h.full.0 f).1 in
-        let n = frames_long (carried One rs) in
-        omega (arith, g, fits, n) in
+    let g = (h.full.0 f).1 in
+    let n = frames_long (carried One rs) in
+    omega (arith, g, fits, n) in
     record {
       goes = compact_goes One rs (carried One rs) o.bodies texts j k old new o.keeps o.of o.are listed are o.sure counted r not_full done (h.moves o.sure) h.ground;
       holds = compact_holds One rs (carried One rs) o.bodies texts j k old new o.keeps o.of o.are listed are o.sure counted r done h.unsure;

@@ -1,5 +1,5 @@
 -- A request, answered by one step.
-use Rattle.std.proofs.Common.{ℕ, List, Bool, true, false, [], ◌∷◌, ◌++◌, ◌+◌, ◌≡◌, ◌≤◌, ◌<◌, ◌⊎◌, inl, inr, ⊎_elim, IfSome, Option, Some, None, map, option_map, length, refl, sym, ◌∙◌, ap, subst, arith, rules}
+use Rattle.std.proofs.Common.{ℕ, List, Bool, true, false, [], ◌++◌, ◌≡◌, inl, inr, ⊎_elim, IfSome, Option, Some, None, option_map, refl, sym, ◌∙◌, ap, subst, arith, rules}
 use Rattle.at_base.specs.Numbers.{Numbers}
 use Rattle.at_base.specs.declared.event.Event.{Event}
 use Rattle.at_base.specs.declared.event.Event.TheVariants as events
@@ -10,7 +10,7 @@ use Rattle.at_base.specs.declared.record.Record.{Record}
 use Rattle.at_base.specs.declared.event.Moment.{Moment}
 use Rattle.at_model.specs.Activities.{on_begin, on_interpose}
 use Rattle.at_model.specs.Book.{Activity, Book, activity_id, find_by, next_id}
-use Rattle.at_model.specs.Step.{moment_of, plan, refuses}
+use Rattle.at_model.specs.Step.{moment_of, refuses}
 use Rattle.completion_at.specs.Planning.{begin_asked, interpose_asked, refused_at, taken, unless}
 use Rattle.completion_at.specs.Whole.{RefusesAsTheModel}
 use Rattle.interposition.specs.declared.plan.Part.TheVariants as parts
@@ -21,15 +21,15 @@ use Rattle.site_model.proofs.Past.{and_then, weaker}
 use Rattle.site_model.specs.Calls.{Reads}
 use Rattle.site_model.specs.Counts.{Rose}
 use Rattle.site_model.specs.Site.{Counts as Numerals}
-use Rattle.site_model.specs.Told.{Told, Files, Made, Between, Elapses, sent_by}
+use Rattle.site_model.specs.Told.{Told, Made, Between}
 use Rattle.node_at.specs.declared.step.Stepped.{Stepped}
 use Rattle.node_at.specs.declared.step.Stepped.TheVariants as stepped
 use Rattle.node_at.specs.Locals.{Asked, Untouched, added_in, answered_id, cleared, named_by}
 use Rattle.node_at.specs.declared.local.Locally.TheVariants as answers
-use Rattle.node_at.specs.Moments.{AtMoment, Deed, Moments}
+use Rattle.node_at.specs.Moments.{Deed, Moments}
 use Rattle.node_at.specs.Sends.{Counts}
 use Rattle.node_at.specs.State.{IsNode, State}
-use Rattle.node_at.specs.Steps.{IsDone, IsFate, IsStopped, Keeping, Steps, Stopped, Went, if_landed, kept_by}
+use Rattle.node_at.specs.Steps.{IsFate, Keeping, Steps, Stopped, Went}
 use Rattle.node_at.specs.Texts.{Leaving}
 use Rattle.node_at.proofs.Going.{keeps_on}
 
@@ -146,14 +146,31 @@ module _ (n k m : State) (l : Local) (now : ℕ) (old mid new : Told) (same : k 
   begins = same ∙ (λ i. record n { effects = none i })
 
   pub asked_done : (id : Numbers) (status : ℕ) → answered_id n.book l ≡ Some id → Steps (stepped.Done status) k m (events.Local l) now mid new → Asked (answers.Done id) n m l old new
-  asked_done id status is h =
-      (runs, taken_is, is, (now, status, r.is, steps_on old mid new (untouched now old mid r) (stepped.Done status) (cleared n) m (events.Local l) now
-      (subst (λ z. Steps (stepped.Done status) z m (events.Local l) now mid new) begins h)))
+  asked_done id status is h = (
+    runs,
+    taken_is,
+    is,
+    (
+      now,
+      status,
+      r.is,
+      steps_on old mid new (untouched now old mid r) (stepped.Done status) (cleared n) m (events.Local l) now
+          (subst (λ z. Steps (stepped.Done status) z m (events.Local l) now mid new) begins h),
+    ),
+  )
 
   pub asked_halted : Steps stepped.Halted k m (events.Local l) now mid new → Asked answers.Halted n m l old new
   asked_halted h =
-      inr (runs, taken_is, (now, r.is, steps_on old mid new (untouched now old mid r) stepped.Halted (cleared n) m (events.Local l) now
-      (subst (λ z. Steps stepped.Halted z m (events.Local l) now mid new) begins h)))
+      inr (
+        runs,
+        taken_is,
+        (
+          now,
+          r.is,
+          steps_on old mid new (untouched now old mid r) stepped.Halted (cleared n) m (events.Local l) now
+              (subst (λ z. Steps stepped.Halted z m (events.Local l) now mid new) begins h),
+        ),
+      )
 
 pub node_from : {k n : State} → k ≡ n → IsNode n → IsNode k
 node_from {k} {n} e h = subst IsNode (sym e) h

@@ -1,33 +1,26 @@
 -- The parts of a start, one after the other.
-use Rattle.std.proofs.Common.{ℕ, List, Bool, Result, Ok, Err, Option, Some, None, true, false, true≢false, [], ◌∷◌, ◌++◌, ◌+◌, ◌-◌, ◌≡◌, ◌≢◌, ◌≤◌, ◌<◌, ◌⊎◌, ◌↔◌, inl, inr, ⊎_elim, OnOk, length, map, option_map, refl, sym, ◌∙◌, ap, subst, arith, rules}
-use Rattle.std.proofs.lemmas.List.{append_assoc, append-nil, length-append, map-append}
+use Rattle.std.proofs.Common.{ℕ, List, Bool, Result, Ok, Err, Some, true, false, true≢false, [], ◌∷◌, ◌++◌, ◌+◌, ◌-◌, ◌≡◌, ◌⊎◌, ◌↔◌, inl, inr, ⊎_elim, OnOk, map, refl, sym, ◌∙◌, ap, subst, arith}
+use Rattle.std.proofs.lemmas.List.{append_assoc, map-append}
 use Rattle.at_base.specs.declared.record.Record.{Record}
-use Rattle.at_base.specs.declared.record.Record.TheVariants as records
 use Rattle.decision_log.specs.Folding.{AreRecords}
-use Rattle.decision_log.specs.Keeping.{kept_of}
-use Rattle.decision_log.specs.Shrinking.{IsCompacted, shrunk, texts_of}
-use Rattle.journal_at.specs.Compacting.{Compacted, EitherStands, HasGround, Meanwhile, Moves, prepare_calls, text_of}
+use Rattle.journal_at.specs.Compacting.{Compacted, HasGround, Moves, prepare_calls, text_of}
 use Rattle.journal_at.specs.declared.journal.Append.{Append}
 use Rattle.journal_at.specs.declared.journal.Append.TheVariants as appends
 use Rattle.journal_at.specs.declared.journal.Compact.{Compact}
 use Rattle.journal_at.specs.declared.journal.Compact.TheVariants as compacts
 use Rattle.journal_at.specs.declared.journal.Journal.{Journal}
 use Rattle.journal_at.specs.declared.version.Version.{Version}
-use Rattle.journal_at.specs.declared.version.Version.TheVariants.{One, Two}
-use Rattle.journal_at.specs.Format.{AreBodies, AreInPlace, AreListed, AreUnmarked, IsBody, Mark, behind, frames, head_of, mark_body, mark_of, marked, old_mark, mark_from, records_of, without}
-use Rattle.journal_at.specs.Pairs.{FilesOf, Holds}
-use Rattle.journal_at.specs.Standing.{Appended, Calls, Counted, EitherHolds, During, HasReason, Keeps, lay, raise}
-use Rattle.record_bytes.specs.Bytes.{bytes_of}
-use Rattle.record_bytes.specs.Versions.{IsRecord}
-use Rattle.record_bytes.specs.Versions.{AreBodies as RecordsAreBodies}
+use Rattle.journal_at.specs.declared.version.Version.TheVariants.{Two}
+use Rattle.journal_at.specs.Format.{AreListed, head_of, mark_body, records_of}
+use Rattle.journal_at.specs.Pairs.{Holds}
+use Rattle.journal_at.specs.Standing.{Appended, Calls, Counted, HasReason, Keeps, lay, raise}
 use Rattle.site_model.proofs.Past.{weaker, and_then}
 use Rattle.site_model.specs.Counts.{Rose}
 use Rattle.site_model.specs.Site.{Counts as Numbers}
-use Rattle.site_model.specs.Told.{Told, Files, Made, Call, Between, BreaksOff, Elapses, done}
+use Rattle.site_model.specs.Told.{Told, Files, Made, Call, BreaksOff, done}
 use Rattle.node_at.specs.declared.fault.StartFault.{StartFault}
 use Rattle.node_at.specs.declared.fault.StartFault.TheVariants.{NoMemory, Disk, Bad, Spent, Full}
-use Rattle.node_at.specs.Sizes.{end_of, framed_all, size_of}
-use Rattle.node_at.specs.Starting.{Either, Goes, IsDue, IsOpen, OnTheWay, Ran, StandFor, append_calls, append_ended, carried, compact_ended, first_mark}
+use Rattle.node_at.specs.Starting.{Either, Goes, IsDue, IsOpen, Ran, StandFor, append_calls, append_ended, compact_ended}
 use Rattle.node_at.proofs.Between.{after_that, grown_then, through}
 
 -- what the live file holds, the files stand for

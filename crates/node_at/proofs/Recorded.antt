@@ -1,23 +1,22 @@
 -- Records of a journal, and the bodies that hold them.
-use Rattle.std.proofs.Common.{ℕ, List, Bool, Option, Some, None, true, false, [], ◌∷◌, ◌++◌, ◌+◌, ◌≡◌, ◌≢◌, ◌≤◌, ◌<◌, cond, length, map, nat_eq, nat_lt, refl, sym, ◌∙◌, ap, subst, arith, rules}
+use Rattle.std.proofs.Common.{ℕ, List, Bool, Option, Some, None, true, false, [], ◌∷◌, ◌++◌, ◌≡◌, ◌<◌, cond, length, nat_eq, nat_lt, refl, sym, ◌∙◌, ap, arith, rules}
 use Rattle.std.proofs.lemmas.Bool.{ltb-true}
 use Rattle.std.proofs.lemmas.List.{length-append}
 use Rattle.std.specs.Int.{from_be_bytes, to_be_bytes, w32}
 use Rattle.std.specs.List.{AllByRecursion}
 use Rattle.at_base.specs.WellFormed.{IsWellFormed}
 use Rattle.at_base.specs.declared.record.Record.{Record}
-use Rattle.at_base.specs.declared.record.Record.TheVariants as records
 use Rattle.decision_log.specs.Folding.{AreRecords}
 use Rattle.decision_log.specs.Shrinking.{texts_of}
 use Rattle.journal_at.specs.declared.journal.Journal.{Journal}
 use Rattle.journal_at.specs.declared.version.Version.{Version}
 use Rattle.journal_at.specs.declared.version.Version.TheVariants.{One, Two}
-use Rattle.journal_at.specs.Format.{AreBodies, AreInPlace, AreListed, AreUnmarked, IsBody, Mark, behind, frames, head_of, mark_body, mark_of, marked, old_mark, mark_from, records_of, without}
+use Rattle.journal_at.specs.Format.{AreBodies, AreListed, AreUnmarked, IsBody, Mark, behind, frames, head_of, mark_body, mark_of, marked, old_mark, records_of, without}
 use Rattle.record_bytes.specs.Bytes.{bytes_of}
 use Rattle.record_bytes.specs.Versions.{IsRecord}
 use Rattle.record_bytes.specs.Versions.{AreBodies as RecordsAreBodies}
 use Rattle.site_model.specs.Told.{Told}
-use Rattle.node_at.specs.Sizes.{end_of, framed, framed_all, size_of}
+use Rattle.node_at.specs.Sizes.{end_of, framed_all}
 use Rattle.node_at.specs.Starting.{IsOpen}
 
 pub are_more : (version : Version) (rs : List Record) (xs : List (List ℕ)) (r : Record) (b : List ℕ) → AreRecords version rs xs → IsRecord version r b

@@ -1,5 +1,5 @@
 -- A journal that is written anew.
-use Rattle.std.proofs.Common.{ℕ, List, Bool, true, false, true≢false, rules, [], ◌∷◌, ◌++◌, ◌+◌, ◌≡◌, ◌≤◌, ◌<◌, ◌⊎◌, ◌↔◌, inl, inr, ⊎_elim, length, refl, sym, ◌∙◌, ap, subst, arith}
+use Rattle.std.proofs.Common.{List, Bool, true, false, true≢false, rules, ◌∷◌, ◌++◌, ◌+◌, ◌≡◌, inl, inr, ⊎_elim, refl, sym, ◌∙◌, ap, subst, arith}
 use Rattle.at_base.specs.declared.record.Record.{Record}
 use Rattle.decision_log.specs.Folding.{AreRecords}
 use Rattle.decision_log.specs.Keeping.{Known, kept_of}
@@ -8,15 +8,14 @@ use Rattle.journal_at.specs.declared.journal.Compact.{Compact}
 use Rattle.journal_at.specs.declared.journal.Compact.TheVariants as compacts
 use Rattle.journal_at.specs.declared.journal.Journal.{Journal}
 use Rattle.journal_at.specs.declared.version.Version.TheVariants.{Two}
-use Rattle.journal_at.specs.Format.{AreListed, frames, mark_body}
+use Rattle.journal_at.specs.Format.{AreListed, mark_body}
 use Rattle.journal_at.specs.Standing.{Counted, Keeps}
 use Rattle.record_bytes.specs.Versions.{AreBodies as RecordsAreBodies}
 use Rattle.site_model.proofs.Past.{weaker}
 use Rattle.site_model.specs.Told.{Told, Files}
 use Rattle.node_at.specs.declared.shrink.Shrunk.{Shrunk}
 use Rattle.node_at.specs.Shrinking.{Anew, AreSame, IsDue, Shrinks, StandForSame, Stays, halted_by, shrunk_by}
-use Rattle.node_at.specs.Sizes.{size_of}
-use Rattle.node_at.specs.Starting.{Either, IsOpen, StandFor}
+use Rattle.node_at.specs.Starting.{Either, IsOpen}
 use Rattle.node_at.specs.State.{IsNode, State}
 use Rattle.node_at.proofs.Parts.{compact_goes, compact_holds, holds_stand, open_images}
 use Rattle.node_at.proofs.Recorded.{frames_long, new_listed}
@@ -84,8 +83,12 @@ module _ (rs : List Record) (n m : State) (j : Journal) (old new : Told) (law : 
       record {
         images = λ c now. either_same c (goes.images c now);
         time = weaker old new _ _ goes.time (λ l c p. (p.0, either_same c p.1));
-        holds = λ runs. (shrunk n.kept, subst (λ z. IsOpen Two (shrunk n.kept) z new) (sym (ap (λ (z : State). z.journal) e))
-            (compact_holds Two rs (shrunk n.kept) o.bodies (texts_of (shrunk n.kept)) n.journal j old new o.keeps o.of o.are listed are o.sure counted compacts.Done done h.unsure), more_same);
+        holds = λ runs. (
+          shrunk n.kept,
+          subst (λ z. IsOpen Two (shrunk n.kept) z new) (sym (ap (λ (z : State). z.journal) e))
+              (compact_holds Two rs (shrunk n.kept) o.bodies (texts_of (shrunk n.kept)) n.journal j old new o.keeps o.of o.are listed are o.sure counted compacts.Done done h.unsure),
+          more_same,
+        );
       }
   stays_by compacts.Kept h e =
       let done = h.compacted o.bodies o.sure o.keeps in

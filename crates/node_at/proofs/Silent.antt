@@ -1,11 +1,11 @@
 -- Calls of the disk send nothing.
-use Rattle.std.proofs.Common.{ℕ, List, Bool, true, false, [], ◌∷◌, ◌++◌, ◌≡◌, ◌⊎◌, inl, inr, ⊎_elim, cond, map, nat_eq, refl, sym, ◌∙◌, ap, subst}
+use Rattle.std.proofs.Common.{ℕ, List, Bool, true, false, [], ◌∷◌, ◌++◌, ◌≡◌, ⊎_elim, cond, map, nat_eq, refl, ◌∙◌, ap, subst}
 use Rattle.at_base.specs.declared.record.Record.{Record}
-use Rattle.journal_at.specs.Compacting.{gate_calls, prepare_calls}
+use Rattle.journal_at.specs.Compacting.{prepare_calls}
 use Rattle.journal_at.specs.declared.journal.Journal.{Journal}
 use Rattle.journal_at.specs.declared.version.Version.{Version}
 use Rattle.journal_at.specs.declared.version.Version.TheVariants.{One, Two}
-use Rattle.journal_at.specs.Loading.{shuts, shuts_if, syncs}
+use Rattle.journal_at.specs.Loading.{shuts_if, syncs}
 use Rattle.site_model.specs.Told.{Call, Made, BreaksOff, done, failed, sent_by, sent_of}
 use Rattle.node_at.specs.Starting.{anew_calls, append_calls, carried, carrying, first_mark, start_after, start_calls}
 use Rattle.node_at.specs.Sizes.{end_of}

@@ -1,5 +1,5 @@
 -- The lengths of a record's bytes.
-use Rattle.std.proofs.Common.{ℕ, List, [], ◌∷◌, ◌++◌, ◌+◌, ◌*◌, ◌≡◌, ◌≢◌, ◌<◌, ◌≤◌, length, map, zero, suc, take, get_or, refl, sym, ap, ◌∙◌, arith, rules}
+use Rattle.std.proofs.Common.{ℕ, List, [], ◌∷◌, ◌++◌, ◌+◌, ◌*◌, ◌≡◌, ◌≢◌, ◌<◌, ◌≤◌, length, map, zero, suc, take, get_or, refl, ap, arith, rules}
 use Rattle.std.proofs.lemmas.List.{length-append, take_all, take_more}
 use Rattle.std.specs.Int.{to_be_bytes, w16, w32}
 use Rattle.at_base.specs.Numbers.{Numbers}
@@ -8,7 +8,6 @@ use Rattle.at_base.specs.declared.record.Seated.{Seated}
 use Rattle.at_base.specs.declared.record.Record.{Record}
 use Rattle.at_base.specs.declared.record.Record.TheVariants as records
 use Rattle.record_bytes.specs.Bytes.{bytes_of, each_seat, endpoint_bytes, id_bytes, seat_bytes, seats_bytes, text_bytes}
-use Rattle.site_model.specs.Counts.{capped}
 use Rattle.decision_log.specs.Keeping.{Known}
 use Rattle.decision_log.specs.Shrinking.{shrunk, start_of}
 use Rattle.node_at.specs.Sizes.{framed, framed_all, size_of}

@@ -1,5 +1,5 @@
 -- A node that was started, or not.
-use Rattle.std.proofs.Common.{ℕ, List, Result, Ok, Err, [], ◌∷◌, ◌++◌, ◌+◌, ◌≡◌, ◌≤◌, ◌<◌, ◌⊎◌, inl, inr, ⊎_elim, false, map, max, option_map, refl, sym, ◌∙◌, ap, subst, arith}
+use Rattle.std.proofs.Common.{ℕ, List, Result, Ok, Err, [], ◌∷◌, ◌++◌, ◌+◌, ◌≡◌, ◌≤◌, ◌<◌, ◌⊎◌, inl, inr, ⊎_elim, false, map, option_map, refl, sym, ◌∙◌, ap, subst, arith}
 use Rattle.std.proofs.lemmas.List.{append_assoc, map-append}
 use Rattle.at_base.specs.declared.record.Record.{Record}
 use Rattle.at_base.specs.declared.record.Record.TheVariants as records
@@ -16,13 +16,13 @@ use Rattle.journal_at.specs.Loading.{Lasts, shuts_if, syncs}
 use Rattle.model_laws.specs.Order.{IdsRise, IsInOrder}
 use Rattle.model_laws.specs.Sound.{IsSound, RecordsAreWellFormed}
 use Rattle.site_model.proofs.Past.{and_then, weaker}
-use Rattle.site_model.specs.Told.{Told, Call, Files, Made, BreaksOff, done, sent_by}
+use Rattle.site_model.specs.Told.{Told, Call, Files, done}
 use Rattle.node_at.specs.declared.fault.StartFault.{StartFault}
 use Rattle.node_at.specs.declared.fault.StartFault.TheVariants as faults
 use Rattle.node_at.specs.declared.opening.Opened.{Opened}
 use Rattle.node_at.specs.Sizes.{size_of}
 use Rattle.node_at.specs.Started.{IsStarted}
-use Rattle.node_at.specs.Starting.{Begins, CannotStart, Found, IsDue, IsEnd, IsLiveBehind, IsNext, IsOpen, OnTheWay, Opens, Ran, StandFor, beginning_calls, carried, start_after, start_calls, started}
+use Rattle.node_at.specs.Starting.{Begins, CannotStart, Found, IsDue, IsEnd, IsLiveBehind, IsNext, IsOpen, OnTheWay, Opens, Ran, beginning_calls, carried, start_after, start_calls, started}
 use Rattle.node_at.specs.State.{IsNode, State}
 use Rattle.node_at.proofs.Beginning.{kept_carried, reads_in}
 use Rattle.node_at.proofs.Between.{after_that, grown_then, through}
@@ -43,7 +43,7 @@ pub is_started : (o after : Opened) (base : List ℕ) (limit n : ℕ) (book : Bo
 is_started o after base limit n book old mid new h (is, least, fits) e b =
     let first = syncs ++ shuts_if h.bare in
     let calls : map done first ++ b.goes.made ≡ map done (start_calls h.bare o.version h.rs o.journal after.journal.live) =
-        ap (λ z. map done first ++ z) b.goes.ran ∙ sym (map-append done first (beginning_calls o.version h.rs o.journal b.file)) ∙ ap (λ z. map done (start_calls h.bare o.version h.rs o.journal z)) b.live.0 in
+    ap (λ z. map done first ++ z) b.goes.ran ∙ sym (map-append done first (beginning_calls o.version h.rs o.journal b.file)) ∙ ap (λ z. map done (start_calls h.bare o.version h.rs o.journal z)) b.live.0 in
     record {
       version = o.version;
       rs = h.rs;

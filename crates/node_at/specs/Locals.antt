@@ -1,5 +1,5 @@
 -- A request of the program that runs a node.
-use Rattle.std.specs.Prelude.{ℕ, List, [], ◌∷◌, Option, Some, None, true, false, ◌≡◌, ◌⊎◌, option_copied}
+use Rattle.std.specs.Prelude.{ℕ, [], Option, Some, None, true, false, ◌≡◌, ◌⊎◌}
 use Rattle.at_base.specs.Numbers.{Numbers}
 use Rattle.at_base.specs.declared.event.Event.TheVariants as events
 use Rattle.at_base.specs.declared.event.Local.{Local}

@@ -1,5 +1,5 @@
 -- When a node's journal is written anew, and what that leaves.
-use Rattle.std.specs.Prelude.{ℕ, List, Bool, true, false, ◌++◌, ◌+◌, ◌*◌, ◌≡◌, ◌≤◌, ◌<◌, ◌⊎◌, ◌↔◌}
+use Rattle.std.specs.Prelude.{List, Bool, true, false, ◌++◌, ◌+◌, ◌*◌, ◌≡◌, ◌≤◌, ◌<◌, ◌⊎◌, ◌↔◌}
 use Rattle.at_base.specs.declared.record.Record.{Record}
 use Rattle.decision_log.specs.Folding.{AreRecords}
 use Rattle.decision_log.specs.Keeping.{kept_of}

@@ -1,5 +1,5 @@
 -- A node that was started.
-use Rattle.std.specs.Prelude.{ℕ, List, Bool, Result, Ok, Err, false, [], ◌∷◌, ◌++◌, ◌≡◌, ◌≤◌, ◌<◌, ◌⊎◌, map, option_map}
+use Rattle.std.specs.Prelude.{ℕ, List, Bool, Result, Ok, Err, false, [], ◌++◌, ◌≡◌, ◌≤◌, ◌<◌, ◌⊎◌, map, option_map}
 use Rattle.at_base.specs.declared.record.Record.{Record}
 use Rattle.at_model.specs.Recover.{last_incarnation, recover}
 use Rattle.decision_log.specs.Keeping.{kept_of}
@@ -41,4 +41,3 @@ pub record IsStarted (base : List ℕ) (limit : ℕ) (n : State) (old new : Told
 abbrev pub Starts : Result Node StartFault → List ℕ → Role → ℕ → Told → Told → Type 0
 Starts (Ok n) base role limit old new = IsStarted base limit (seen n) old new × (n.role ≡ role)
 Starts (Err e) base role limit old new = CannotStart e limit old new
-

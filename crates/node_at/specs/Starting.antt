@@ -1,10 +1,10 @@
 -- What a node does as it starts: it reads its journal, brings its records into version 2, and records its Start.
-use Rattle.std.specs.Prelude.{ℕ, List, Bool, OnOk, Result, Ok, Err, Option, Some, None, true, false, [], ◌∷◌, ◌++◌, ◌+◌, ◌-◌, ◌≡◌, ◌≤◌, ◌<◌, ◌⊎◌, ◌↔◌, cond, nat_eq, length, map, option_map}
+use Rattle.std.specs.Prelude.{ℕ, List, Bool, OnOk, Result, Ok, Err, true, false, [], ◌∷◌, ◌++◌, ◌+◌, ◌-◌, ◌≡◌, ◌≤◌, ◌<◌, ◌⊎◌, ◌↔◌, cond, nat_eq, length, map, option_map}
 use Rattle.at_base.specs.declared.record.Record.{Record}
 use Rattle.at_base.specs.declared.record.Record.TheVariants as records
 use Rattle.at_model.specs.Recover.{last_incarnation}
 use Rattle.decision_log.specs.Folding.{AreRecords, IsBadAt, IsFolded, placed_in}
-use Rattle.decision_log.specs.Keeping.{IsKept, Known, kept_of}
+use Rattle.decision_log.specs.Keeping.{IsKept, kept_of}
 use Rattle.decision_log.specs.Shrinking.{shrunk, texts_of}
 use Rattle.journal_at.specs.Compacting.{prepare_calls, text_of}
 use Rattle.journal_at.specs.declared.journal.Append.{Append}
@@ -26,7 +26,6 @@ use Rattle.journal_at.specs.Standing.{Counted, Keeps, lay, raise}
 use Rattle.record_bytes.specs.Bytes.{bytes_of}
 use Rattle.site_model.specs.Counts.{Rose}
 use Rattle.site_model.specs.Told.{Told, Files, Made, Call, Is, Between, BreaksOff, Elapses, done, sent_by}
-use Rattle.at_base.specs.WellFormed.{IsWellFormed}
 use Rattle.decision_log.specs.declared.keep.KeepFault.{KeepFault}
 use Rattle.decision_log.specs.declared.keep.KeepFault.TheVariants as keeps
 use Rattle.decision_log.specs.Held.{known}

@@ -20,8 +20,8 @@ use at_base::id::Id;
 use at_base::outs::Effect;
 use by_id::list::Alteration;
 use by_id::plan;
-use completion_at::activity::Activity;
 use completion_at::activities::refuses_as_the_model;
+use completion_at::activity::Activity;
 use completion_at::requests::Refusal;
 use decision_log::fold::keeps_on;
 use interposition::plan::Part;
@@ -48,9 +48,8 @@ fn named_by(request: &Local) -> Option<Id>
 {
     match request {
         Local::Begin { .. } | Local::Interpose { .. } => None,
-        Local::Work { activity, .. }
-        | Local::Commit { activity }
-        | Local::Rollback { activity } => Some(*activity),
+        Local::Work { activity, .. } | Local::Commit { activity } | Local::Rollback { activity } =>
+            Some(*activity),
     }
 }
 
@@ -86,13 +85,7 @@ impl Node {
     }
 
     /// The id that a request is answered with. None where there is no memory.
-    fn id_of(
-        &mut self,
-        alloc: Global,
-        named: Option<Id>,
-        event: &Event,
-        now: u64,
-    ) -> Option<Id>
+    fn id_of(&mut self, alloc: Global, named: Option<Id>, event: &Event, now: u64) -> Option<Id>
         ensures id { IfSome result (λ id. (l : Local) → event.now ≡ events.Local l → named ≡ named_by l → refuses self.old.book l ≡ None → answered_id self.old.book l ≡ Some id) }
         ensures same { seen self.new ≡ seen self.old }
         ensures role { self.new.role ≡ self.old.role }

@@ -20,11 +20,11 @@ use decision_log::fold::{FoldFault, fold, grows_by_one};
 use decision_log::keep::{KeepFault, keep};
 use decision_log::kept::Kept;
 use decision_log::shrink::{shrink, shrinks_the_same};
-use record_bytes::write::are_bodies;
 use journal_at::journal::{Append, Compact, Journal};
 use journal_at::load::{LoadFault, load};
 use journal_at::records::Records;
 use journal_at::version::Version;
+use record_bytes::write::are_bodies;
 use site_model::site::Site;
 use std::alloc::{AllocError, Global};
 

@@ -75,7 +75,9 @@ fn with_bytes(size: u64, entry: &Record) -> u64
             ..
         } => with_leaf(size.saturating_add(9), coordinator, key, value),
         Record::Voted {
-            superior, seats, ..
+            superior,
+            seats,
+            ..
         } => with_seats(with_endpoint(size.saturating_add(9), superior), seats),
         Record::Decided { seats, .. } => with_seats(size.saturating_add(9), seats),
         Record::LeafCommitted { .. }

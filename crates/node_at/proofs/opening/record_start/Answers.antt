@@ -1,8 +1,7 @@
-use Rattle.std.proofs.Common.{◌≡◌, ◌∷◌, ◌++◌, [], Err, ap}
+use Rattle.std.proofs.Common.{◌∷◌, ◌++◌, [], Err, ap}
 use Rattle.at_base.specs.declared.record.Record.TheVariants as records
 use Rattle.journal_at.specs.declared.journal.Append.TheVariants as appends
 use Rattle.journal_at.specs.declared.version.Version.TheVariants.{Two}
-use Rattle.node_at.specs.Starting.{append_calls}
 use Rattle.node_at.proofs.Carrying.{carries_same, start_carries, start_refused, stays_put}
 use Rattle.node_at.proofs.opening.record_start.Goals as goal
 

@@ -1,4 +1,4 @@
-use Rattle.std.proofs.Common.{◌≡◌, ap, arith, map}
+use Rattle.std.proofs.Common.{ap, arith, map}
 use Rattle.at_base.specs.declared.record.Record.TheVariants as records
 use Rattle.decision_log.specs.Held.{known}
 use Rattle.decision_log.specs.Shrinking.{start_of}

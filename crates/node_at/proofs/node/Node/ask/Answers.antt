@@ -1,4 +1,4 @@
-use Rattle.std.proofs.Common.{◌≡◌, refl}
+use Rattle.std.proofs.Common.{refl}
 use Rattle.at_base.specs.declared.event.Event.TheVariants as events
 use Rattle.node_at.specs.declared.step.Stepped.TheVariants as stepped
 use Rattle.node_at.specs.State.{seen}

@@ -1,4 +1,4 @@
-use Rattle.std.proofs.Common.{◌≡◌, ap, refl}
+use Rattle.std.proofs.Common.{refl}
 use Rattle.node_at.specs.Shrinking.{shrunk_by}
 use Rattle.node_at.specs.State.{seen}
 use Rattle.node_at.proofs.Renewing.{node_by, node_memory, shrinks_by, shrinks_same, stays_by, stays_memory, stays_still, sure_at}
