@@ -15,3 +15,4 @@ mod Asking
 mod Turning
 mod Replying
 mod Unanswered
+mod Promising

@@ -2,6 +2,7 @@
 #![tactic(auto)]
 
 pub mod due;
+pub mod laws;
 pub mod node;
 pub mod reading;
 pub mod refusing;
