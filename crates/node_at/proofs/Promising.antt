@@ -2,7 +2,6 @@
 use Rattle.std.proofs.Common.{ℕ, List, [], ◌∷◌, ◌≡◌, ◌⊎◌, inl, inr, ⊎_elim, Bool, true, false, Option, Some, None, refl, sym, ◌∙◌, ap, subst, option_map, is_none, true≢false, ◌||◌, if◌then◌else◌}
 use Rattle.std.specs.List.{AllByRecursion}
 use Rattle.at_base.specs.Numbers.{Numbers}
-use Rattle.at_base.specs.declared.epr.Epr.{Epr}
 use Rattle.at_base.specs.declared.event.Event.{Event}
 use Rattle.at_base.specs.declared.message.Message.{Message}
 use Rattle.at_base.specs.declared.message.Message.TheVariants as messages
@@ -12,7 +11,6 @@ use Rattle.at_base.specs.declared.notice.Notice.{Notice}
 use Rattle.at_base.specs.declared.notice.Notice.TheVariants as notices
 use Rattle.at_base.specs.declared.outs.Effect.{Effect}
 use Rattle.at_base.specs.declared.outs.Effect.TheVariants as effects
-use Rattle.at_base.specs.declared.outs.Ending.{Ending}
 use Rattle.at_base.specs.declared.outs.Ending.TheVariants as endings
 use Rattle.at_base.specs.declared.outs.Out.{Out}
 use Rattle.at_base.specs.declared.outs.Out.TheVariants as outs
@@ -23,33 +21,29 @@ use Rattle.at_base.specs.declared.target.Target.{Target}
 use Rattle.at_base.specs.declared.target.Target.TheVariants as targets
 use Rattle.at_tables.specs.declared.cells.State.{State}
 use Rattle.at_tables.specs.declared.cells.State.TheVariants as states
-use Rattle.at_model.specs.Book.{Book, Completion, Enlistment, Leaf, Phase, Transaction, find_by, is_id, leaf_id, transaction_id}
+use Rattle.at_model.specs.Book.{Book, Enlistment, Leaf, Transaction, find_by, is_id, leaf_id, transaction_id}
 use Rattle.at_model.specs.Moves.{Change}
 use Rattle.at_model.specs.Outcomes.{is_kept}
 use Rattle.at_model.specs.Leaves.{leaf_ended}
-use Rattle.at_model.specs.Posts.{notice_post}
-use Rattle.at_model.specs.Seats.{seat_target}
-use Rattle.at_model.specs.Step.{Outcome, has_committed, is_decided_root, leaf_at, moment_of, plan, step, transaction_at}
+use Rattle.at_model.specs.Step.{Outcome, is_decided_root, moment_of, plan, step, transaction_at}
 use Rattle.model_laws.specs.Agreement.{IsIn}
 use Rattle.model_laws.proofs.Recovering.{same_id}
-use Rattle.agreement.specs.ActivityDeeds.{ActivitySays}
 use Rattle.agreement.specs.ActivityDeeds.ActivitySays.{completing, tells_nothing as activity_silent}
 use Rattle.agreement.specs.Branches.{IsNoNotice}
-use Rattle.agreement.specs.Deeds.{Deed, How, IsCommit, StoodFor, WhyInitiator, WhySeat, WhySuperior, recorded, superior_at}
+use Rattle.agreement.specs.Deeds.{How, IsCommit, StoodFor, WhyInitiator, WhySeat, WhySuperior, recorded, superior_at}
 use Rattle.agreement.specs.Deeds.How.{Idles, Aborts, Votes, Decides, DecidesAlone, Leaves, Commits, RollsBack, Ends, Forgets}
 use Rattle.agreement.specs.Done.{standing}
 use Rattle.agreement.specs.LeafDeeds.{LeafDeed, LeafIdles, LeafSays, for_durable}
 use Rattle.agreement.specs.LeafDeeds.LeafDeed.{idles, aborts, prepares, leaves as leaves_early, dropped, commits, rolls_back}
 use Rattle.agreement.specs.LeafDeeds.LeafIdles.{rests, registered, registers_again, votes_again}
 use Rattle.agreement.specs.LeafDeeds.LeafSays.{prepared, read_only, committed, aborted, tells_nothing}
-use Rattle.enlistments.specs.Moves.{IsReady, LeafDid, TransactionDid}
+use Rattle.enlistments.specs.Moves.{LeafDid, TransactionDid}
 use Rattle.enlistments.specs.Telling.{AnswersAsNone, OutIsSaid, Says, StepsTell, Tells}
 use Rattle.enlistments.specs.Telling.Tells.{to_seat, to_left_seat, to_superior, says_aborted, from_left_link, left_link_aborted, to_initiator, to_asking, leaf_says, activity_says, to_late_seat, as_no_seat, as_no_participant, as_committed}
 use Rattle.decision_log.specs.Held.{IsAmong}
 use Rattle.decision_log.specs.Keeping.{Known, tokens_of}
 use Rattle.decision_log.specs.Sending.{IsLeaveOf, IsTold, leave_of, message_leave, notice_leave, own_leave, seat_leave}
 use Rattle.decision_log.specs.Tokens.{Token, token_of}
-use Rattle.decision_log.specs.declared.ready.Leave.{Leave}
 use Rattle.decision_log.specs.declared.ready.Leave.TheVariants as leaves
 use Rattle.decision_log.specs.declared.token.What.{What}
 use Rattle.decision_log.specs.declared.token.What.TheVariants as whats
@@ -66,6 +60,7 @@ found_all {A} P key id (y ∷ ys) x e (h, hs) = by (is_id (key y) id) refl e (λ
   inside : Option A → A
   inside None = y
   inside (Some z) = z
+
   by : (t : Bool) → is_id (key y) id ≡ t → (if t then Some y else find_by key id ys) ≡ Some x → (find_by key id ys ≡ Some x → P x × (key x ≡ id)) → P x × (key x ≡ id)
   by true same f rest = subst (λ z. P z × (key z ≡ id)) (ap inside f) (h, same_id (key y) id same)
   by false differs f rest = rest f
@@ -199,7 +194,6 @@ module _ (b : Book) (e : Event) (now : ℕ) (entry : Option Record) (out : Outco
   initiator_leaves d notices.Commit h leave = free ts k.done (outs.Post p) leave
   initiator_leaves d notices.Rollback h leave = free ts k.done (outs.Post p) leave
   initiator_leaves d notices.Aborted h leave = free ts k.done (outs.Post p) leave
-
 
   -- where the outcome of a root is asked for again
   told_again : (id : Numbers) (found : Option Transaction) → transaction_at b id ≡ found → (decided : Bool) → is_decided_root found ≡ decided → (decided || is_kept id b.outcomes) ≡ true → p.own ≡ Some (targets.Completion id)

@@ -1,5 +1,5 @@
 -- The promises of a book, and the live records that stand for them (WS-AtomicTransaction 1.2, section 3.3.4).
-use Rattle.std.specs.Prelude.{ℕ, List, ◌≡◌, ◌⊎◌, Bool, true, Option, Some, option_map}
+use Rattle.std.specs.Prelude.{ℕ, List, ◌≡◌, ◌⊎◌, Bool, true, Some, option_map}
 use Rattle.std.specs.List.{AllByRecursion}
 use Rattle.at_base.specs.Numbers.{Numbers}
 use Rattle.at_base.specs.declared.event.Event.{Event}
