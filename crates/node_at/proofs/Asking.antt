@@ -1,12 +1,11 @@
 -- Asking the items that are due, one after the other.
-use Rattle.std.proofs.Common.{ℕ, List, [], ◌∷◌, ◌++◌, ◌≡◌, inl, inr, Bool, true, false, Option, Some, None, refl, sym, ◌∙◌, ap, subst, true≢false}
-use Rattle.std.proofs.lemmas.List.{append_assoc, append-nil}
+use Rattle.std.proofs.Common.{ℕ, List, [], ◌∷◌, ◌++◌, ◌≡◌, inl, Bool, true, false, Option, Some, None, refl, sym, ◌∙◌, ap, subst}
+use Rattle.std.proofs.lemmas.List.{append_assoc}
 use Rattle.at_base.specs.declared.event.Event.{Event}
 use Rattle.at_base.specs.declared.event.Event.TheVariants as events
 use Rattle.at_base.specs.declared.event.Item.{Item}
 use Rattle.at_base.specs.declared.record.Record.{Record}
-use Rattle.at_model.specs.Book.{Book}
-use Rattle.at_model.specs.Step.{Outcome, items_of, plan, step}
+use Rattle.at_model.specs.Step.{Outcome, plan, step}
 use Rattle.interposition.specs.Due.{FindsTheDue, WalksTheDue, due_outcome, due_outcomes, items_behind, next_item}
 use Rattle.model_laws.specs.Order.{IdsRise, IsInOrder, IsRising}
 use Rattle.model_laws.specs.Sound.{IsSound, IsSoundEvent, RecordsAreWellFormed}
@@ -16,10 +15,10 @@ use Rattle.site_model.specs.Told.{Told}
 use Rattle.node_at.specs.declared.due.DueEnd.TheVariants as ends
 use Rattle.node_at.specs.declared.step.Stepped.{Stepped}
 use Rattle.node_at.specs.declared.step.Stepped.TheVariants as stepped
-use Rattle.node_at.specs.Doings.{Doing, Ran}
+use Rattle.node_at.specs.Doings.{Ran}
 use Rattle.node_at.specs.Dues.{DueOne, DueRun, IsDueStep, SoFar, is_some_step}
 use Rattle.node_at.specs.State.{IsNode, State}
-use Rattle.node_at.specs.Steps.{IsDone, IsFate, Keeping, Steps, if_landed, kept_by}
+use Rattle.node_at.specs.Steps.{IsFate, Keeping, Steps, if_landed, kept_by}
 use Rattle.node_at.specs.TurnText.{AreDue, IsOutcome, TurnStep}
 use Rattle.node_at.proofs.Rows.{no_less_same, ran_on, ran_one, ran_still}
 

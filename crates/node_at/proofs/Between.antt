@@ -1,7 +1,7 @@
 -- The calls so far, one row of them after another.
-use Rattle.std.proofs.Common.{List, Option, Some, None, [], ◌∷◌, ◌≡◌, ◌++◌, refl, sym, ◌∙◌, ap, subst, option_map}
+use Rattle.std.proofs.Common.{List, Option, Some, None, [], ◌≡◌, ◌++◌, refl, sym, ◌∙◌, ap, subst, option_map}
 use Rattle.std.proofs.lemmas.List.{append_assoc, append-nil}
-use Rattle.site_model.specs.Told.{Told, Made, Between, IsPrefix}
+use Rattle.site_model.specs.Told.{Told, Made, Between}
 
 pub grown_same : (o : Option (List Made)) → o ≡ option_map (λ l. l ++ []) o
 grown_same None = refl

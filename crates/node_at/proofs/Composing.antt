@@ -1,6 +1,6 @@
 -- One row of deeds behind another.
-use Rattle.std.proofs.Common.{ℕ, List, [], ◌∷◌, ◌++◌, ◌+◌, ◌-◌, ◌≡◌, ◌≤◌, Some, refl, sym, ◌∙◌, ap, subst, take, drop, option_map, length, zero, suc, arith}
-use Rattle.std.proofs.lemmas.List.{append_assoc, append-nil, length-append, take-append-le, take-append-drop}
+use Rattle.std.proofs.Common.{ℕ, List, [], ◌∷◌, ◌++◌, ◌+◌, ◌-◌, ◌≡◌, Some, refl, sym, ◌∙◌, ap, subst, take, drop, option_map, length, zero, suc, arith}
+use Rattle.std.proofs.lemmas.List.{append_assoc, length-append, take-append-le, take-append-drop}
 use Rattle.std.proofs.Math.Seq.{take-append-add}
 use Rattle.site_model.proofs.Past.{and_then, weaker}
 use Rattle.site_model.specs.Told.{Told, Files, Made, Call, Elapses, IsPrefix, sent_by}
@@ -25,7 +25,7 @@ fewer_sent : (s : List Call) (k : ℕ) (t : List Deed) → IsPrefix (s ++ sent_o
 fewer_sent s k t = (
   sent_of (drop k t),
   append_assoc s (sent_of (take k t)) (sent_of (drop k t))
-  ∙ ap (λ z. s ++ z) (sym (deeds_sent_append (take k t) (drop k t)) ∙ ap sent_of (take-append-drop k t)),
+      ∙ ap (λ z. s ++ z) (sym (deeds_sent_append (take k t) (drop k t)) ∙ ap sent_of (take-append-drop k t)),
 )
 
 module _ (live : ℕ) (bodies : List (List ℕ)) (s : List Call) (t u : List Deed) (sent : List Call) (c : Files) where
@@ -84,16 +84,16 @@ moments_then old mid new live bodies t u first more e k sent h g =
       after_that old mid new first l e p.0,
       late l c p.1.0 p.1.1 p.1.2,
     )))
-    where
-  late : (l : List Made) (c : Files) (behind : List Made) → mid.calls ≡ Some behind → AtMoment live (bodies ++ landed_of t) (sent_by behind) u (sent_by l) c
-      → (before : List Made) × (old.calls ≡ Some before) × AtMoment live bodies (sent_by before) (t ++ u) (sent_by l) c
-  late l c behind was m =
-      let (before, then, is) = option_map_is (λ z. z ++ first) old.calls behind (sym e ∙ was) in (
-        before,
-        then,
-        at_late live bodies (sent_by before) t u (sent_by l) c
-            (subst (λ z. AtMoment live (bodies ++ landed_of t) z u (sent_by l) c) (ap sent_by is ∙ sent_append before first ∙ ap (λ z. sent_by before ++ z) sent) m),
-      )
+  where
+    late : (l : List Made) (c : Files) (behind : List Made) → mid.calls ≡ Some behind → AtMoment live (bodies ++ landed_of t) (sent_by behind) u (sent_by l) c
+        → (before : List Made) × (old.calls ≡ Some before) × AtMoment live bodies (sent_by before) (t ++ u) (sent_by l) c
+    late l c behind was m =
+        let (before, then, is) = option_map_is (λ z. z ++ first) old.calls behind (sym e ∙ was) in (
+          before,
+          then,
+          at_late live bodies (sent_by before) t u (sent_by l) c
+              (subst (λ z. AtMoment live (bodies ++ landed_of t) z u (sent_by l) c) (ap sent_by is ∙ sent_append before first ∙ ap (λ z. sent_by before ++ z) sent) m),
+        )
 
 -- nothing happened
 pub moments_none : (live : ℕ) (bodies : List (List ℕ)) (t : List Deed) (old new : Told) → Elapses old new (λ l c. ⊥) → Moments live bodies t old new

@@ -1,5 +1,5 @@
 -- How a step with a record ends.
-use Rattle.std.proofs.Common.{ℕ, List, [], ◌∷◌, ◌++◌, ◌≡◌, inl, inr, true, false, Option, Some, None, Result, refl, sym, ◌∙◌, ap, subst}
+use Rattle.std.proofs.Common.{ℕ, List, ◌++◌, ◌≡◌, inl, inr, true, false, Some, None, Result, sym, ◌∙◌, ap, subst}
 use Rattle.at_base.specs.declared.record.Record.{Record}
 use Rattle.decision_log.specs.declared.keep.KeepFault.{KeepFault}
 use Rattle.decision_log.specs.Keeping.{after}
@@ -39,29 +39,38 @@ module _ (r : Record) (p : Plan) (landed absent : List Leaving) (n m : State) (j
       → Sends (given (Some t) n.kept) n.kept.done landed mid new → s ≡ moved p n j → m ≡ record s { kept = after r s.kept }
       → (status : ℕ) → status ≡ status_in (sent p true).outs → Acts (ends.Done status) p r landed absent n m old new
   landed_exit s t h c te k e f status answers =
-      inl (went_landed r n m (done p true n.book) (sent p true).effects landed old mid new
-      (subst (λ z. IsAppended appends.Done r (bytes_of r) n.journal z old mid) (sym (ap (λ (z : State). z.journal) f ∙ ap (λ (z : State). z.journal) e)) h) c
-      (subst (λ z. Sends (given (Some z) n.kept) n.kept.done landed mid new) te k) sure
-      (ap (λ (z : State). z.halted) f ∙ ap (λ (z : State). z.halted) e ∙ runs)
-      (ap (λ (z : State). z.book) f ∙ ap (λ (z : State). z.book) e)
-      (ap (λ (z : State). z.effects) f ∙ ap (λ (z : State). z.effects) e)
-      (ap (λ (z : State). z.kept) f ∙ ap (λ (z : State). after r z.kept) e), answers)
+      inl (
+        went_landed r n m (done p true n.book) (sent p true).effects landed old mid new
+            (subst (λ z. IsAppended appends.Done r (bytes_of r) n.journal z old mid) (sym (ap (λ (z : State). z.journal) f ∙ ap (λ (z : State). z.journal) e)) h) c
+            (subst (λ z. Sends (given (Some z) n.kept) n.kept.done landed mid new) te k) sure
+            (ap (λ (z : State). z.halted) f ∙ ap (λ (z : State). z.halted) e ∙ runs)
+            (ap (λ (z : State). z.book) f ∙ ap (λ (z : State). z.book) e)
+            (ap (λ (z : State). z.effects) f ∙ ap (λ (z : State). z.effects) e)
+            (ap (λ (z : State). z.kept) f ∙ ap (λ (z : State). after r z.kept) e),
+        answers,
+      )
 
   pub refused_exit : IsAppended appends.Refused r (bytes_of r) n.journal j old mid → Counted old mid
       → Sends (given None n.kept) n.kept.done absent mid new → m ≡ unmoved p n j
       → (status : ℕ) → status ≡ status_in (sent p false).outs → Acts (ends.Done status) p r landed absent n m old new
   refused_exit h c k e status answers =
-      inr (went_refused r n m (done p false n.book) (sent p false).effects absent old mid new c k sure
-      (ap (λ (z : State). z.halted) e ∙ runs) (ap (λ (z : State). z.book) e) (ap (λ (z : State). z.effects) e) (ap (λ (z : State). z.kept) e)
-      (subst (λ z. IsAppended appends.Refused r (bytes_of r) n.journal z old mid) (sym (ap (λ (z : State). z.journal) e)) h), answers)
+      inr (
+        went_refused r n m (done p false n.book) (sent p false).effects absent old mid new c k sure
+            (ap (λ (z : State). z.halted) e ∙ runs) (ap (λ (z : State). z.book) e) (ap (λ (z : State). z.effects) e) (ap (λ (z : State). z.kept) e)
+            (subst (λ z. IsAppended appends.Refused r (bytes_of r) n.journal z old mid) (sym (ap (λ (z : State). z.journal) e)) h),
+        answers,
+      )
 
   pub full_exit : IsAppended appends.Full r (bytes_of r) n.journal j old mid → Counted old mid
       → Sends (given None n.kept) n.kept.done absent mid new → m ≡ unmoved p n j
       → (status : ℕ) → status ≡ status_in (sent p false).outs → Acts (ends.Done status) p r landed absent n m old new
   full_exit h c k e status answers =
-      inr (went_full r n m (done p false n.book) (sent p false).effects absent old mid new c k sure
-      (ap (λ (z : State). z.halted) e ∙ runs) (ap (λ (z : State). z.book) e) (ap (λ (z : State). z.effects) e) (ap (λ (z : State). z.kept) e)
-      (subst (λ z. IsAppended appends.Full r (bytes_of r) n.journal z old mid) (sym (ap (λ (z : State). z.journal) e)) h), answers)
+      inr (
+        went_full r n m (done p false n.book) (sent p false).effects absent old mid new c k sure
+            (ap (λ (z : State). z.halted) e ∙ runs) (ap (λ (z : State). z.book) e) (ap (λ (z : State). z.effects) e) (ap (λ (z : State). z.kept) e)
+            (subst (λ z. IsAppended appends.Full r (bytes_of r) n.journal z old mid) (sym (ap (λ (z : State). z.journal) e)) h),
+        answers,
+      )
 
   pub unsure_exit : IsAppended appends.Unsure r (bytes_of r) n.journal j old mid → m ≡ record n { journal = j; halted = true } → Acts ends.Halted p r landed absent n m old mid
   unsure_exit h e =

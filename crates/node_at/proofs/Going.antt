@@ -1,7 +1,7 @@
 -- What a step does, by what became of its record.
-use Rattle.std.proofs.Common.{ℕ, List, [], ◌∷◌, ◌++◌, ◌+◌, ◌≡◌, ◌≤◌, ◌<◌, ◌↔◌, ◌⊎◌, inl, inr, ⊎_elim, Bool, true, false, Option, Some, None, refl, sym, ◌∙◌, ap, subst, map, option_map, length, true≢false, arith}
+use Rattle.std.proofs.Common.{ℕ, List, [], ◌∷◌, ◌++◌, ◌+◌, ◌≡◌, ◌≤◌, ◌<◌, ◌↔◌, ◌⊎◌, inl, inr, ⊎_elim, Bool, true, false, Some, None, refl, sym, ◌∙◌, ap, subst, map, length, true≢false, arith}
 use Rattle.std.proofs.lemmas.Bool.{cases_lt}
-use Rattle.std.proofs.lemmas.List.{append_assoc, append-nil, map-append}
+use Rattle.std.proofs.lemmas.List.{append-nil, map-append}
 use Rattle.at_base.specs.declared.outs.Effect.{Effect}
 use Rattle.at_base.specs.declared.record.Record.{Record}
 use Rattle.at_model.specs.Book.{Book}
@@ -13,13 +13,12 @@ use Rattle.journal_at.specs.declared.journal.Append.{Append}
 use Rattle.journal_at.specs.declared.journal.Append.TheVariants as appends
 use Rattle.journal_at.specs.declared.journal.Journal.{Journal}
 use Rattle.journal_at.specs.Pairs.{Holds}
-use Rattle.journal_at.specs.Standing.{Counted, EitherHolds, Keeps, Makes, Spare, Stands, lay, raise}
+use Rattle.journal_at.specs.Standing.{Counted, EitherHolds, Keeps, Makes, Spare, lay, raise}
 use Rattle.record_bytes.specs.Bytes.{bytes_of}
 use Rattle.site_model.proofs.Past.{weaker}
 use Rattle.site_model.specs.Counts.{Rose}
 use Rattle.site_model.specs.Site.{Counts as Numbers}
-use Rattle.site_model.specs.Told.{Told, Files, Made, Call, Between, BreaksOff, Elapses, done, sent_by}
-use Rattle.node_at.specs.Moments.{Moments}
+use Rattle.site_model.specs.Told.{Told, Files, Made, Call, BreaksOff, done, sent_by}
 use Rattle.node_at.specs.Sends.{Counts, Sends, given}
 use Rattle.node_at.specs.State.{State}
 use Rattle.node_at.specs.Steps.{Keeping, Stopped, Went}

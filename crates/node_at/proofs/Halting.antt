@@ -1,12 +1,10 @@
 -- A step whose record may stand or not, behind what was sent before it.
-use Rattle.std.proofs.Common.{ℕ, List, [], ◌∷◌, ◌++◌, ◌≡◌, ◌≤◌, Bool, true, false, Option, Some, None, refl, sym, ◌∙◌, ap, subst, map, option_map, arith}
-use Rattle.std.proofs.lemmas.List.{append_assoc, append-nil}
+use Rattle.std.proofs.Common.{ℕ, List, [], ◌∷◌, ◌++◌, ◌≡◌, true, Some, refl, sym, ◌∙◌, ap, subst, map, arith}
+use Rattle.std.proofs.lemmas.List.{append-nil}
 use Rattle.at_base.specs.declared.record.Record.{Record}
 use Rattle.journal_at.specs.declared.journal.Append.TheVariants as appends
-use Rattle.journal_at.specs.Format.{frames}
 use Rattle.journal_at.specs.Standing.{Keeps, Makes}
 use Rattle.record_bytes.specs.Bytes.{bytes_of}
-use Rattle.site_model.specs.Counts.{Rose}
 use Rattle.site_model.specs.Told.{Told, Still}
 use Rattle.node_at.specs.Doings.{Does, Doing, NoLess, calls_of, deeds_of}
 use Rattle.node_at.specs.Meanings.{Meaning}
@@ -16,7 +14,7 @@ use Rattle.node_at.specs.Steps.{Keeping, Stopped}
 use Rattle.node_at.specs.Texts.{call_by}
 use Rattle.node_at.specs.Turns.{Halts}
 use Rattle.node_at.specs.TurnText.{IsFirst, TurnStep}
-use Rattle.node_at.proofs.Between.{grown_same, grown_then}
+use Rattle.node_at.proofs.Between.{grown_then}
 use Rattle.node_at.proofs.Composing.{moments_then}
 use Rattle.node_at.proofs.Rows.{does_still, moments_still, no_less_keeping, no_less_then}
 

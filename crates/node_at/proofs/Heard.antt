@@ -1,10 +1,10 @@
 -- What a connection was heard to ask.
-use Rattle.std.proofs.Common.{ℕ, List, [], ◌≡◌, ◌⊎◌, inl, inr, Bool, true, false, Option, Some, None, Result, Ok, Err, refl, sym, ◌∙◌, ap, subst, true≢false, if◌then◌else◌, IsTrue}
+use Rattle.std.proofs.Common.{ℕ, List, [], ◌≡◌, ◌⊎◌, Bool, true, false, Option, Some, None, Result, Ok, Err, refl, sym, ◌∙◌, ap, subst, true≢false, if◌then◌else◌, IsTrue}
 use Rattle.at_base.specs.declared.event.Event.TheVariants as events
 use Rattle.arrivals.specs.Reaching.{reaches}
-use Rattle.http_post.specs.Conversations.{IsAnswered, Says as Speaks, Waits, said, unsaid}
+use Rattle.http_post.specs.Conversations.{IsAnswered, Says as Speaks, Waits, said}
 use Rattle.http_post.specs.Raw.{IsFault}
-use Rattle.http_post.specs.Requests.{Asked as Request, Asks}
+use Rattle.http_post.specs.Requests.{Asks}
 use Rattle.http_post.specs.Written.{has_reason}
 use Rattle.http_post.specs.declared.refusal.HttpRefusal.{HttpRefusal}
 use Rattle.http_post.specs.declared.refusal.HttpRefusal.TheVariants as refusals

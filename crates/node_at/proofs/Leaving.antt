@@ -1,5 +1,5 @@
 -- The outs that leave, one after the other.
-use Rattle.std.proofs.Common.{ℕ, List, [], ◌∷◌, ◌++◌, ◌≡◌, ◌+◌, ◌<◌, ◌≤◌, Option, Some, None, sym, ◌∙◌, ap, subst, take, get_or, length}
+use Rattle.std.proofs.Common.{ℕ, List, [], ◌∷◌, ◌++◌, ◌≡◌, ◌+◌, ◌<◌, ◌≤◌, Some, None, sym, ◌∙◌, ap, subst, take, get_or, length}
 use Rattle.std.proofs.lemmas.List.{take_all, take_more}
 use Rattle.at_base.specs.declared.outs.Out.{Out}
 use Rattle.site_model.specs.Told.{Call}

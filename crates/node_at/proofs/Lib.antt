@@ -24,3 +24,4 @@ mod Asking
 mod Turning
 mod Replying
 mod Unanswered
+mod Promising

@@ -1,5 +1,5 @@
 -- A step of a node is the model's.
-use Rattle.std.proofs.Common.{ℕ, List, [], ◌∷◌, ◌++◌, ◌≡◌, ◌⊎◌, inl, inr, Bool, true, false, Option, Some, None, sym, ◌∙◌, ap, subst}
+use Rattle.std.proofs.Common.{ℕ, List, ◌++◌, ◌≡◌, inl, inr, Bool, true, false, Option, Some, None, sym, ◌∙◌, ap, subst}
 use Rattle.at_base.specs.WellFormed.{IsWellFormed}
 use Rattle.at_base.specs.declared.event.Event.{Event}
 use Rattle.at_base.specs.declared.record.Record.{Record}
@@ -8,13 +8,13 @@ use Rattle.at_model.specs.Step.{plan, step}
 use Rattle.interposition.specs.declared.plan.Plan.{Plan}
 use Rattle.interposition.specs.Doing.{done, recorded, sent}
 use Rattle.interposition.specs.Planning.{planned}
-use Rattle.interposition.specs.Whole.{IsStep, KeepsBounds, StepsAsTheModel}
+use Rattle.interposition.specs.Whole.{KeepsBounds, StepsAsTheModel}
 use Rattle.model_laws.specs.Sound.{IsSound, IsSoundEvent}
 use Rattle.site_model.specs.Told.{Told}
 use Rattle.node_at.specs.declared.step.Stepped.{Stepped}
 use Rattle.node_at.specs.declared.step.Stepped.TheVariants as ends
 use Rattle.node_at.specs.State.{State}
-use Rattle.node_at.specs.Steps.{Acts, IsDone, IsStopped, Steps, Stopped, Went, status_in}
+use Rattle.node_at.specs.Steps.{Acts, IsDone, Steps, Went, status_in}
 use Rattle.node_at.specs.Sends.{Sends, given}
 use Rattle.node_at.specs.Texts.{AreLeaving, Leaving}
 use Rattle.node_at.proofs.Going.{went_plain}

@@ -1,5 +1,5 @@
 -- A request that is refused is a step without a record.
-use Rattle.std.proofs.Common.{ℕ, List, [], ◌∷◌, ◌++◌, ◌≡◌, inl, Bool, true, false, Option, Some, None, Result, refl, sym, ◌∙◌, ap, subst}
+use Rattle.std.proofs.Common.{ℕ, List, [], ◌∷◌, ◌≡◌, inl, true, false, Option, None, Result, refl, sym, ◌∙◌, subst}
 use Rattle.std.proofs.lemmas.List.{append-nil}
 use Rattle.http_post.specs.Written.{answer_of}
 use Rattle.site_model.specs.Calls.{Gave}

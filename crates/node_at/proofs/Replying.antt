@@ -1,12 +1,11 @@
 -- How each plan answers.
-use Rattle.std.proofs.Common.{ℕ, List, [], ◌∷◌, ◌++◌, ◌≡◌, ◌⊎◌, inl, inr, Bool, true, false, not, ◌&&◌, nat_lt, bytes_eq, Option, Some, None, refl, map, length, if◌then◌else◌}
+use Rattle.std.proofs.Common.{ℕ, List, [], ◌∷◌, ◌++◌, inl, inr, Bool, true, false, not, ◌&&◌, nat_lt, bytes_eq, Option, Some, None, refl, map, length, if◌then◌else◌}
 use Rattle.at_base.specs.Numbers.{Numbers}
 use Rattle.at_base.specs.declared.epr.Epr.{Epr}
 use Rattle.at_base.specs.declared.epr.Reply.{Reply}
 use Rattle.at_base.specs.declared.epr.Reply.TheVariants as replies
 use Rattle.at_base.specs.declared.notice.Kind.{Kind}
 use Rattle.at_base.specs.declared.notice.Notice.{Notice}
-use Rattle.at_base.specs.declared.notice.Notice.TheVariants as notices
 use Rattle.at_base.specs.declared.message.Message.{Message}
 use Rattle.at_base.specs.declared.message.Message.TheVariants as messages
 use Rattle.at_base.specs.declared.message.Context.{Context}
@@ -23,7 +22,6 @@ use Rattle.at_base.specs.declared.event.Event.TheVariants as events
 use Rattle.at_base.specs.declared.outs.Post.{Post}
 use Rattle.at_base.specs.declared.outs.Out.{Out}
 use Rattle.at_base.specs.declared.outs.Out.TheVariants as outs
-use Rattle.at_base.specs.declared.record.Record.{Record}
 use Rattle.at_tables.specs.declared.cells.Cell.{Cell}
 use Rattle.at_tables.specs.declared.cells.State.TheVariants as states
 use Rattle.at_tables.specs.Names.{is_kind}
@@ -31,7 +29,7 @@ use Rattle.at_tables.specs.Tables.{participant_of, completion_of, coordinator_of
 use Rattle.at_model.specs.Book.{Book, Transaction, Leaf, Activity, Enlistment, Completion, Superior, next_id}
 use Rattle.at_model.specs.Addresses.{atomic}
 use Rattle.at_model.specs.Posts.{accepted, replied, faulted, invalid_protocol, invalid_parameters, cannot_create, cannot_register}
-use Rattle.at_model.specs.Moves.{Change, Decision}
+use Rattle.at_model.specs.Moves.{Decision}
 use Rattle.at_model.specs.Moves.Decision.{Goes, Records}
 use Rattle.at_model.specs.Register.{protocol_named, Registration, seat_endpoint, completion_endpoint, may_register, is_late, new_seat, late_prepare, accept, refuse_register, register_new, register_again, held_seat, on_register, register_unknown}
 use Rattle.at_model.specs.Create.{new_root, Creation, refuse_create, create_under, create_in, on_create}
@@ -39,7 +37,7 @@ use Rattle.at_model.specs.Arrivals.{on_link, on_seat, on_completion, context_of,
 use Rattle.at_model.specs.Leaves.{on_leaf, Employment, refuse_work, work_for, on_work}
 use Rattle.at_model.specs.Activities.{on_activity}
 use Rattle.at_model.specs.Due.{transaction_due, transaction_reached, leaf_due, leaf_reached, activity_due, activity_reached}
-use Rattle.at_model.specs.Step.{Outcome, Plan, plain, still, at_time, moment_of, put_transaction, put_leaf, put_activity, plan_of, transaction_plan, leaf_plan, activity_plan, stranger_cell, nothing, stranger_plan, created_plan, activation_plan, registration_plan, completion_seat_plan, completion_plan, find_seat, seat_plan, coordinator_plan, leaf_or_stranger_plan, link_plan, participant_plan, initiator_plan, employed_plan, work_plan, transaction_at, leaf_at, activity_at, arrived_plan, transaction_due_plan, leaf_due_plan, activity_due_plan, due_plan, plan, step, outcome_cell, outcome_plan, seatless_plan, has_committed}
+use Rattle.at_model.specs.Step.{Plan, plain, still, at_time, moment_of, put_transaction, put_leaf, put_activity, plan_of, leaf_plan, stranger_cell, nothing, stranger_plan, created_plan, activation_plan, registration_plan, completion_seat_plan, completion_plan, find_seat, seat_plan, coordinator_plan, leaf_or_stranger_plan, link_plan, participant_plan, initiator_plan, employed_plan, work_plan, transaction_at, leaf_at, activity_at, arrived_plan, transaction_due_plan, leaf_due_plan, activity_due_plan, due_plan, plan, outcome_cell, outcome_plan, seatless_plan, has_committed}
 use Rattle.model_laws.specs.Laws.{ArePosts}
 use Rattle.node_at.specs.Replies.{IsReply, StepsReply}
 

@@ -1,7 +1,6 @@
 -- Rows of steps, one behind the other.
-use Rattle.std.proofs.Common.{ℕ, List, [], ◌∷◌, ◌++◌, ◌+◌, ◌≡◌, ◌≤◌, ◌⊎◌, inl, inr, Bool, true, false, Option, Some, None, refl, sym, ◌∙◌, ap, subst, map, option_map, arith}
+use Rattle.std.proofs.Common.{ℕ, List, [], ◌∷◌, ◌++◌, ◌+◌, ◌≡◌, ◌≤◌, inl, inr, Bool, true, false, Option, Some, None, refl, sym, ◌∙◌, ap, subst, option_map, arith}
 use Rattle.std.proofs.lemmas.List.{append_assoc, append-nil, map-append}
-use Rattle.at_base.specs.declared.outs.Effect.{Effect}
 use Rattle.at_base.specs.declared.record.Record.{Record}
 use Rattle.at_model.specs.Book.{Book}
 use Rattle.decision_log.specs.Keeping.{Known}
@@ -12,7 +11,7 @@ use Rattle.journal_at.specs.Pairs.{Holds}
 use Rattle.journal_at.specs.Standing.{Keeps}
 use Rattle.record_bytes.specs.Bytes.{bytes_of}
 use Rattle.site_model.specs.Site.{Counts as Numbers}
-use Rattle.site_model.specs.Told.{Told, Files, Made, Call, Elapses, Still, sent_by}
+use Rattle.site_model.specs.Told.{Told, Made, Still, sent_by}
 use Rattle.site_model.proofs.Past.{and_then, weaker}
 use Rattle.node_at.specs.Doings.{AreDoings, AreFates, Does, Doing, IsFateAt, NoLess, Ran, book_behind, calls_of, came_of, deed_of, deeds_of, kept_behind, lost_of, refused_of}
 use Rattle.node_at.specs.Moments.{Deed, Moments, landed_of, sent_of}
@@ -106,10 +105,11 @@ does_line j made old new h = record {
   moments = λ bodies keeps.
       weaker old new _ _ h.time
       (λ l c p.
-      let between = is_last old new made l h.calls p.0 in
-      (between,
+      let between = is_last old new made l h.calls p.0 in (
+        between,
         sending_moment old old new j.live bodies [] [] made l c (grown_same old.calls) refl h.calls between
-            (subst (λ z. Holds j.live z c) (sym (append-nil bodies)) (keeps.stands.images c p.1))));
+            (subst (λ z. Holds j.live z c) (sym (append-nil bodies)) (keeps.stands.images c p.1)),
+      ));
 }
 
 -- The fate of a record, at the place where it comes.

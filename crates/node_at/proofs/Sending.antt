@@ -1,14 +1,13 @@
 -- How sends compose.
-use Rattle.std.proofs.Common.{ℕ, List, [], ◌∷◌, ◌++◌, ◌+◌, ◌≡◌, ◌≤◌, ◌⊎◌, inl, inr, ⊎_elim, Option, Some, None, Result, Ok, Err, refl, sym, ◌∙◌, ap, subst, map, option_map, length, arith}
-use Rattle.std.proofs.lemmas.List.{append_assoc, append-nil, length-append}
+use Rattle.std.proofs.Common.{ℕ, List, [], ◌∷◌, ◌++◌, ◌+◌, ◌≡◌, ◌⊎◌, inl, inr, ⊎_elim, Result, Ok, Err, refl, sym, ◌∙◌, ap, subst, map, arith}
+use Rattle.std.proofs.lemmas.List.{append_assoc, append-nil}
 use Rattle.at_base.specs.Numbers.{Numbers}
 use Rattle.decision_log.specs.Tokens.{Token}
 use Rattle.site_model.proofs.Past.{and_then, weaker}
-use Rattle.site_model.specs.Counts.{HasCause}
 use Rattle.site_model.specs.Site.{Counts as Counted}
-use Rattle.site_model.specs.Calls.{Gave, Outcome}
-use Rattle.site_model.specs.Told.{Told, Files, Made, Call, Between, BreaksOff, Elapses, done, failed}
-use Rattle.node_at.specs.Sends.{Counts, MayLeave, Sends, Tried}
+use Rattle.site_model.specs.Calls.{Gave}
+use Rattle.site_model.specs.Told.{Told, Made, Call, BreaksOff, done, failed}
+use Rattle.node_at.specs.Sends.{MayLeave, Sends, Tried}
 use Rattle.node_at.specs.Sends.Tried.{none, went, was_lost, was_kept_back}
 use Rattle.node_at.specs.Texts.{Leaving}
 use Rattle.node_at.proofs.Between.{after_that, grown_same, grown_then, is_last, through}

@@ -1,5 +1,5 @@
 -- Whether a token is one of those that are given.
-use Rattle.std.proofs.Common.{List, [], ◌∷◌, ◌≡◌, ◌⊎◌, inl, inr, Option, Some, None, is_some, Bool, true, false, sym, ◌∙◌, ap, subst, true≢false}
+use Rattle.std.proofs.Common.{List, [], ◌∷◌, ◌≡◌, inl, inr, Option, Some, None, is_some, Bool, true, false, sym, ◌∙◌, ap, subst, true≢false}
 use Rattle.std.specs.List.{AllByRecursion}
 use Rattle.at_base.specs.Numbers.{Numbers}
 use Rattle.at_model.specs.Book.{is_id}

@@ -1,9 +1,8 @@
 -- A turn, put together.
-use Rattle.std.proofs.Common.{ℕ, List, [], ◌∷◌, ◌++◌, ◌≡◌, ◌≤◌, ◌⊎◌, inl, inr, ⊎_elim, Bool, true, false, Option, Some, None, Result, Ok, Err, refl, sym, ◌∙◌, ap, subst, option_map, true≢false, arith}
+use Rattle.std.proofs.Common.{ℕ, List, [], ◌∷◌, ◌++◌, ◌≡◌, ◌≤◌, ◌⊎◌, inl, inr, ⊎_elim, Bool, true, false, Option, Some, None, Result, Ok, Err, refl, sym, ◌∙◌, ap, subst, true≢false, arith}
 use Rattle.std.proofs.lemmas.List.{append-nil}
 use Rattle.at_base.specs.declared.event.Event.{Event}
 use Rattle.at_base.specs.declared.event.Event.TheVariants as events
-use Rattle.at_base.specs.declared.record.Record.{Record}
 use Rattle.at_model.specs.Book.{Book}
 use Rattle.at_model.specs.Step.{Outcome, plan, step}
 use Rattle.http_post.specs.Conversations.{Hears as Heard}
@@ -18,17 +17,16 @@ use Rattle.node_at.specs.declared.role.Role.{Role}
 use Rattle.node_at.specs.declared.step.Stepped.TheVariants as stepped
 use Rattle.node_at.specs.declared.turn.Turned.{Turned}
 use Rattle.node_at.specs.declared.turn.Turned.TheVariants as turneds
-use Rattle.node_at.specs.Doings.{Does, Doing, NoLess, Ran, deeds_of}
+use Rattle.node_at.specs.Doings.{Does, Doing, NoLess, Ran}
 use Rattle.node_at.specs.Dues.{DueRun, is_some_step}
 use Rattle.node_at.specs.Meanings.{Hears, IsFit, Meaning, first_of, next_input, open_input}
-use Rattle.node_at.specs.Meanings.Meaning.{Refused, Steps, Lost, Unread}
-use Rattle.node_at.specs.Moments.{landed_of}
+use Rattle.node_at.specs.Meanings.Meaning.{Refused, Steps, Lost}
 use Rattle.node_at.specs.Refusing.{RanOne, Refuses}
 use Rattle.node_at.specs.State.{IsNode, State}
 use Rattle.node_at.specs.Steps.{Keeping, Steps as Stepping, status_in}
-use Rattle.node_at.specs.Turns.{Begun, Cut, Halts, IsLine, Opens, Rests, Serves, Turns, Whole, Works, busy, calm, is_heard, line_of, turned_by}
+use Rattle.node_at.specs.Turns.{Cut, IsLine, Opens, Serves, Turns, Whole, Works, busy, calm, is_heard, line_of, turned_by}
 use Rattle.node_at.specs.Turns.Begun.{none, some}
-use Rattle.node_at.specs.TurnText.{DueSteps, IsFirst, IsOutcome, IsStep, Steppings, TurnStep, refusing}
+use Rattle.node_at.specs.TurnText.{DueSteps, IsFirst, TurnStep, refusing}
 use Rattle.node_at.specs.TurnText.Steppings.{asked, unasked}
 use Rattle.node_at.proofs.Halting.{halts_behind, halts_first, halts_last, halts_one}
 use Rattle.node_at.proofs.Rows.{does_line, does_still, does_then, no_less_same, no_less_then, ran_first, ran_last, ran_none, ran_on, ran_one}

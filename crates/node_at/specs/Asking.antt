@@ -1,5 +1,5 @@
 -- What was read of a connection.
-use Rattle.std.specs.Prelude.{ℕ, List, ◌≡◌, Option, Some, None, Bool, true, false, Result, Ok, Err, if◌then◌else◌, option_map}
+use Rattle.std.specs.Prelude.{None, if◌then◌else◌, option_map}
 use Rattle.arrivals.specs.Reaching.{reaches}
 use Rattle.at_base.specs.declared.event.Event.TheVariants as events
 use Rattle.wire_msgs.specs.declared.decode.Arrival.{Arrival}
@@ -31,4 +31,3 @@ meaning_at refusals.UnsupportedMediaType = Refused (status_of refusals.Unsupport
 -- a message that was taken, by its target
 abbrev pub at_target : Role → Arrival → Meaning
 at_target role arrival = if serves role arrival.target then Steps (events.Arrived (reaches arrival)) else Refused 404 None
-

@@ -12,7 +12,7 @@ use Rattle.journal_at.specs.Standing.{Keeps, Makes}
 use Rattle.record_bytes.specs.Bytes.{bytes_of}
 use Rattle.site_model.specs.Counts.{capped}
 use Rattle.site_model.specs.Site.{Counts as Numbers}
-use Rattle.site_model.specs.Told.{Told, Made, Call, sent_by}
+use Rattle.site_model.specs.Told.{Told, Made, sent_by}
 use Rattle.node_at.specs.Moments.{Deed, Moments, landed_of, sent_of}
 use Rattle.node_at.specs.Sends.{Counts, Tried, given}
 use Rattle.node_at.specs.State.{State}

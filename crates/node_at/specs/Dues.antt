@@ -1,12 +1,12 @@
 -- The items that are due, on their way.
-use Rattle.std.specs.Prelude.{ℕ, List, [], ◌∷◌, ◌++◌, ◌≡◌, Option, Some, None, Bool, true, false}
+use Rattle.std.specs.Prelude.{ℕ, List, [], ◌∷◌, ◌++◌, ◌≡◌, Option, None, Bool, true, false}
 use Rattle.at_base.specs.declared.event.Item.{Item}
 use Rattle.at_model.specs.Step.{Outcome, items_of}
 use Rattle.interposition.specs.Due.{due_outcome, due_outcomes, items_behind}
 use Rattle.site_model.specs.Told.{Told}
 use Rattle.node_at.specs.Doings.{Doing, Ran}
 use Rattle.node_at.specs.Refusing.{RanOne}
-use Rattle.node_at.specs.State.{IsNode, State}
+use Rattle.node_at.specs.State.{State}
 use Rattle.node_at.specs.TurnText.{AreDue, DueSteps, IsOutcome, TurnStep}
 use Rattle.node_at.specs.declared.due.DueEnd.{DueEnd}
 use Rattle.node_at.specs.declared.due.DueEnd.TheVariants as ends

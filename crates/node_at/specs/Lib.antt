@@ -17,5 +17,6 @@ pub mod TurnText
 pub mod Doings
 pub mod Replies
 pub mod Refusing
+pub mod Promises
 pub mod Turns
 pub mod Dues

@@ -1,6 +1,5 @@
 -- The memory of a step.
-use Rattle.std.specs.Prelude.{ℕ, List, [], ◌∷◌, ◌++◌, ◌+◌, ◌≡◌, ◌≤◌, Bool, true, false, Option, Some, None, length, vec_capacity}
-use Rattle.at_base.specs.declared.outs.Effect.{Effect}
+use Rattle.std.specs.Prelude.{◌≡◌, true, false, Some, None}
 use Rattle.decision_log.specs.Held.{HasRoom}
 use Rattle.decision_log.specs.declared.kept.Kept.{Kept}
 use Rattle.interposition.specs.declared.plan.Plan.{Plan}

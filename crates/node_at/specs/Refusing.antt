@@ -1,5 +1,5 @@
 -- A request that is refused.
-use Rattle.std.specs.Prelude.{ℕ, List, [], ◌∷◌, ◌≡◌, Option, Some, None, Bool, true, false}
+use Rattle.std.specs.Prelude.{ℕ, List, [], ◌∷◌, ◌≡◌, Option, Bool, true, false}
 use Rattle.site_model.specs.Told.{Told}
 use Rattle.node_at.specs.Doings.{Doing, Ran}
 use Rattle.node_at.specs.State.{State}

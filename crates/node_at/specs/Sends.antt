@@ -1,5 +1,5 @@
 -- What lets an out leave, and what became of those of a step.
-use Rattle.std.specs.Prelude.{ℕ, List, [], ◌∷◌, ◌++◌, ◌+◌, ◌-◌, ◌^◌, ◌≡◌, ◌≤◌, ◌<◌, ◌⊎◌, Bool, true, false, Option, Some, None, map, option_map}
+use Rattle.std.specs.Prelude.{ℕ, List, [], ◌∷◌, ◌++◌, ◌+◌, ◌-◌, ◌^◌, ◌≡◌, ◌≤◌, ◌<◌, ◌⊎◌, Option, Some, None, option_map}
 use Rattle.at_base.specs.Numbers.{Numbers}
 use Rattle.at_base.specs.declared.outs.Out.{Out}
 use Rattle.decision_log.specs.declared.ready.Leave.TheVariants.{Free, Echo}
@@ -7,7 +7,7 @@ use Rattle.decision_log.specs.Held.{IsAmong}
 use Rattle.decision_log.specs.Keeping.{Known, tokens_of}
 use Rattle.decision_log.specs.Sending.{IsTold, Matches, leave_of}
 use Rattle.decision_log.specs.Tokens.{Token}
-use Rattle.site_model.specs.Told.{Told, Made, Call, Apart, Between, Elapses, Within, done, failed}
+use Rattle.site_model.specs.Told.{Told, Made, Apart, Between, Elapses, Within, done, failed}
 use Rattle.node_at.specs.Texts.{Leaving}
 
 -- the token of the record that the step appended, and those of the live ones before it

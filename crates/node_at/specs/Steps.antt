@@ -1,6 +1,5 @@
 -- One step of a node: its record, its outs with their bytes, and what became of them.
-use Rattle.std.specs.Prelude.{ℕ, List, [], ◌∷◌, ◌++◌, ◌+◌, ◌≡◌, ◌≤◌, ◌<◌, ◌⊎◌, Bool, true, false, Option, Some, None, map, option_map, length, vec_capacity}
-use Rattle.at_base.specs.Numbers.{Numbers}
+use Rattle.std.specs.Prelude.{ℕ, List, [], ◌∷◌, ◌++◌, ◌+◌, ◌≡◌, ◌≤◌, ◌<◌, ◌⊎◌, Bool, true, false, Option, Some, None, map, option_map, length}
 use Rattle.at_base.specs.declared.event.Event.{Event}
 use Rattle.at_base.specs.declared.outs.Effect.{Effect}
 use Rattle.at_base.specs.declared.outs.Out.{Out}
@@ -9,19 +8,19 @@ use Rattle.at_base.specs.declared.record.Record.{Record}
 use Rattle.at_model.specs.Book.{Book}
 use Rattle.at_model.specs.Step.{plan, step}
 use Rattle.interposition.specs.declared.plan.Plan.{Plan}
-use Rattle.interposition.specs.Doing.{done, recorded, sent}
+use Rattle.interposition.specs.Doing.{done, sent}
 use Rattle.decision_log.specs.Keeping.{Known, after}
-use Rattle.decision_log.specs.Tokens.{Token, token_of}
+use Rattle.decision_log.specs.Tokens.{token_of}
 use Rattle.journal_at.specs.declared.journal.Journal.{Journal}
 use Rattle.journal_at.specs.declared.journal.Append.TheVariants as appends
-use Rattle.journal_at.specs.Standing.{Counted, Keeps, Makes}
+use Rattle.journal_at.specs.Standing.{Keeps, Makes}
 use Rattle.record_bytes.specs.Bytes.{bytes_of}
 use Rattle.site_model.specs.Counts.{Rose}
-use Rattle.site_model.specs.Told.{Told, Made, Call, Apart, sent_by}
+use Rattle.site_model.specs.Told.{Told, Made, Apart, sent_by}
 use Rattle.node_at.specs.State.{State}
 use Rattle.node_at.specs.declared.step.Stepped.{Stepped}
 use Rattle.node_at.specs.declared.step.Stepped.TheVariants as ends
-use Rattle.node_at.specs.Moments.{Deed, Moments}
+use Rattle.node_at.specs.Moments.{Moments}
 use Rattle.node_at.specs.Sends.{Counts, Tried, given}
 use Rattle.node_at.specs.Texts.{AreLeaving, Leaving, call_by}
 

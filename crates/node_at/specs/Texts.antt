@@ -1,5 +1,5 @@
 -- The calls by which a step's outs leave: its answer on the connection, and its posts (SOAP 1.1, section 6).
-use Rattle.std.specs.Prelude.{ℕ, List, [], ◌∷◌, ◌++◌, ◌≡◌, Bool, true, false, Option, Some, None, map}
+use Rattle.std.specs.Prelude.{ℕ, List, [], ◌∷◌, ◌++◌, ◌≡◌, Bool, true, false, Option, Some, None}
 use Rattle.addressing.specs.declared.post_to.PostTo.{PostTo}
 use Rattle.addressing.specs.Posting.{post_to_of}
 use Rattle.at_base.specs.declared.epr.Epr.{Epr}

@@ -3,6 +3,7 @@
 
 pub mod due;
 pub mod fault;
+pub mod laws;
 pub mod local;
 pub mod node;
 pub mod opening;

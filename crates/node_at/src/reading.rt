@@ -27,10 +27,7 @@ use wire_posts::encode::{Answer, encode_refusal};
 #[derive(Drop)]
 pub enum Asked {
     /// It is refused with this status, and with this envelope where there is one.
-    Refused {
-        status: u16,
-        text: Option<Vec<u8>>,
-    },
+    Refused { status: u16, text: Option<Vec<u8>> },
     /// A message for the book, or a tick.
     Steps(Event),
     /// The connection failed.

@@ -7,7 +7,6 @@ ghost use Rattle.interposition.specs.Doing.{done, recorded, sent};
 ghost use Rattle.interposition.specs.Planning.{planned};
 ghost use Rattle.model_laws.specs.Sound.{IsSound, IsSoundEvent};
 ghost use Rattle.node_at.specs.Planned.{AreTexts, HasRoomFor};
-ghost use Rattle.node_at.specs.Replies.{StepsReply};
 ghost use Rattle.node_at.specs.Sends.{Sends, given};
 ghost use Rattle.node_at.specs.State.{seen};
 ghost use Rattle.node_at.specs.Steps.{Acts, Keeping, Steps, status_in};
@@ -26,12 +25,6 @@ use interposition::book::{keeps_bounds, steps_as_the_model};
 use interposition::plan::Plan;
 use site_model::site::Site;
 use std::alloc::{AllocError, Global};
-
-/// A message is answered once on the connection, with 200, 202 or 500, and so is a tick; an item that is due answers nobody.
-#[tactic(auto, using(crate::proofs::Replying::steps_reply))]
-pub fn steps_reply()
-    ensures { StepsReply }
-{}
 
 /// What became of a step.
 #[derive(Clone, Copy, Debug, PartialEq, Eq)]

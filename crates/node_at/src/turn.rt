@@ -12,9 +12,10 @@ ghost use Rattle.node_at.specs.Turns.{Serves, Turns, Works, turned_by};
 ghost use Rattle.node_at.specs.declared.turn.Turned.TheVariants.{Halted, Served};
 
 use crate::due::DueEnd;
+use crate::laws::steps_reply;
 use crate::node::Node;
 use crate::reading::{Asked, read};
-use crate::step::{Stepped, steps_reply};
+use crate::step::Stepped;
 use at_base::event::Event;
 use decision_log::fold::keeps_on;
 use model_laws::rules::{ids_rise, records_are_well_formed};

@@ -8,7 +8,10 @@ returns-clause-hears g c =
 
 pub returns-clause-line : goal.returns-clause-line
 returns-clause-line g c =
-    let (made, (heard, says)) = c.take_request.ensures.hears in
-    (made,
-      (heard,
-        line_fault c.take_request.result c.in-Err.refusal (g.S.Site.told c.args.site.now).link made (meaning_of c.without_request.result) c.in-Err.is c.without_request.ensures says))
+    let (made, (heard, says)) = c.take_request.ensures.hears in (
+      made,
+      (
+        heard,
+        line_fault c.take_request.result c.in-Err.refusal (g.S.Site.told c.args.site.now).link made (meaning_of c.without_request.result) c.in-Err.is c.without_request.ensures says,
+      ),
+    )

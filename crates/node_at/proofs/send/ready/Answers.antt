@@ -1,4 +1,4 @@
-use Rattle.std.proofs.Common.{◌≡◌, sym, ◌∙◌, ap, subst, Some, None, is_some, option_copied}
+use Rattle.std.proofs.Common.{sym, ◌∙◌, subst, is_some, option_copied}
 use Rattle.decision_log.specs.Held.{known}
 use Rattle.node_at.specs.Sends.{given}
 use Rattle.node_at.specs.Standing.{IsStanding}

@@ -1,4 +1,4 @@
-use Rattle.std.proofs.Common.{◌≡◌, option_copied}
+use Rattle.std.proofs.Common.{option_copied}
 use Rattle.decision_log.specs.Held.{known}
 use Rattle.node_at.specs.Sends.{MayLeave, given}
 use Rattle.node_at.specs.Texts.{Leaving, call_of}

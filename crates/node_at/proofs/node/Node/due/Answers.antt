@@ -1,4 +1,4 @@
-use Rattle.std.proofs.Common.{Some, refl, sym, ◌∙◌, subst}
+use Rattle.std.proofs.Common.{refl, sym, ◌∙◌, subst}
 use Rattle.node_at.specs.Dues.{DueRun}
 use Rattle.node_at.specs.State.{State, seen}
 use Rattle.node_at.specs.declared.due.DueEnd.TheVariants as ends
@@ -17,7 +17,10 @@ returns-then-not-due_step-clause-run g c =
 pub loop-item-preserved : goal.loop-item-preserved
 loop-item-preserved g c =
     let n : State = seen c.args.self.now in
-    let k : State = seen c.loop-item.self in
-    (far_more c.args.now c.loop-item.after c.loop-item.came c.in-Some.item n k (record k { book = c.next_due.new.self }) (seen c.due_step.new.self) _ _ _ c.walks_the_due.ensures
-      c.loop-item.invariant.1.order.rising (sym c.next_due.ensures.due ∙ c.in-Some.is) c.loop-item.invariant.0 (λ i. record k { book = c.next_due.ensures.kept i }) c.if-not-due_step.ensures.step,
-    c.due_step.ensures.node, c.due_step.ensures.runs, c.due_step.ensures.role ∙ c.loop-item.invariant.3)
+    let k : State = seen c.loop-item.self in (
+      far_more c.args.now c.loop-item.after c.loop-item.came c.in-Some.item n k (record k { book = c.next_due.new.self }) (seen c.due_step.new.self) _ _ _ c.walks_the_due.ensures
+          c.loop-item.invariant.1.order.rising (sym c.next_due.ensures.due ∙ c.in-Some.is) c.loop-item.invariant.0 (λ i. record k { book = c.next_due.ensures.kept i }) c.if-not-due_step.ensures.step,
+      c.due_step.ensures.node,
+      c.due_step.ensures.runs,
+      c.due_step.ensures.role ∙ c.loop-item.invariant.3,
+    )

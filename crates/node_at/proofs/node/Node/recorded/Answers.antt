@@ -1,4 +1,4 @@
-use Rattle.std.proofs.Common.{◌≡◌, ◌∙◌, ap, refl, Err}
+use Rattle.std.proofs.Common.{◌∙◌, ap, Err}
 use Rattle.decision_log.specs.Held.{known}
 use Rattle.decision_log.specs.Recording.{ending}
 use Rattle.decision_log.specs.Tokens.{token_of}
