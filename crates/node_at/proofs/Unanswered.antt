@@ -1,0 +1,66 @@
+-- Whatever is asked is answered.
+use Rattle.std.proofs.Common.{ℕ, List, [], ◌∷◌, ◌≡◌, ◌⊎◌, inl, inr, nat_eq, refl, sym, ◌∙◌, ap, subst, true≢false}
+use Rattle.at_base.specs.declared.event.Event.TheVariants as events
+use Rattle.at_base.specs.declared.outs.Out.{Out}
+use Rattle.at_base.specs.declared.outs.Out.TheVariants as outs
+use Rattle.at_model.specs.Book.{Book}
+use Rattle.at_model.specs.Step.{Outcome}
+use Rattle.http_post.specs.Written.{has_reason}
+use Rattle.site_model.specs.Counts.{Rose}
+use Rattle.site_model.specs.Told.{Told}
+use Rattle.node_at.specs.declared.role.Role.{Role}
+use Rattle.node_at.specs.declared.turn.Turned.{Turned}
+use Rattle.node_at.specs.declared.turn.Turned.TheVariants as turneds
+use Rattle.node_at.specs.Meanings.{IsFit, Meaning}
+use Rattle.node_at.specs.Meanings.Meaning.{Refused, Steps, Lost, Unread}
+use Rattle.node_at.specs.Replies.{IsReply, StepsReply}
+use Rattle.node_at.specs.State.{State}
+use Rattle.node_at.specs.Steps.{status_in}
+use Rattle.node_at.specs.Turns.{Turns}
+use Rattle.node_at.specs.TurnText.{IsFirst, Steppings, TurnStep}
+use Rattle.node_at.specs.TurnText.Steppings.{asked, unasked}
+
+replied : (os : List Out) → IsReply os → status_in os ≡ 0 → ⊥
+replied [] h z = h
+replied (outs.Post post ∷ os) h z = h
+replied (outs.Answer status reply ∷ os) (inl e, h) z = true≢false (ap (λ n. nat_eq n 0) (sym z ∙ e))
+replied (outs.Answer status reply ∷ os) (inr (inl e), h) z = true≢false (ap (λ n. nat_eq n 0) (sym z ∙ e))
+replied (outs.Answer status reply ∷ os) (inr (inr e), h) z = true≢false (ap (λ n. nat_eq n 0) (sym z ∙ e))
+
+has_status : (reply : StepsReply) (b : Book) (now : ℕ) (meaning : Meaning) (s : TurnStep) (status : ℕ) → IsFit meaning → IsFirst b now meaning s status → status ≡ 0 → ⊥
+has_status reply b now (Refused refusal text) s status fit (is, e) z = true≢false (sym fit ∙ ap has_reason (sym e ∙ z))
+has_status reply b now (Steps (events.Arrived a)) s status fit (is, e) z = replied _ (reply.arrived b a now s.landed) (sym e ∙ z)
+has_status reply b now (Steps events.Tick) s status fit (is, e) z = replied _ (reply.ticks b now s.landed) (sym e ∙ z)
+has_status reply b now (Steps (events.Local l)) s status fit is z = fit.1
+has_status reply b now (Steps (events.Due item)) s status fit is z = fit.1
+has_status reply b now Lost s status fit is z = is
+has_status reply b now Unread s status fit is z = is
+
+is_lost : StepsReply → (b : Book) (now : ℕ) (left : List Outcome) (meaning : Meaning) (steps : List TurnStep) (status : ℕ) → IsFit meaning → Steppings now b left meaning steps status → status ≡ 0
+    → meaning ≡ Lost
+is_lost reply b now left meaning steps status fit (unasked due) z = refl
+is_lost reply b now left meaning steps status fit (asked first rest is due all) z = absurd (has_status reply b now meaning first status fit is z)
+
+-- no answer only where the connection failed
+pub served_lost : (status : ℕ) (role : Role) (n m : State) (old new : Told) → StepsReply → Turns (turneds.Served status) role n m old new → status ≡ 0
+    → Rose old.counts.receive new.counts.receive ⊎ Rose old.counts.link new.counts.link
+served_lost status role n m old new reply h z =
+    let s = h.serves in
+    s.lost (is_lost reply n.book s.now [] s.meaning s.works.0.steps status s.fit s.works.0.turns z)
+
+abbrev status_of : Turned → ℕ
+status_of (turneds.Served status) = status
+status_of other = 1
+
+abbrev IsServed : Turned → Type 0
+IsServed (turneds.Served status) = Unit {0}
+IsServed other = ⊥
+
+pub turned_lost : (result : Turned) (role : Role) (n m : State) (old new : Told) → StepsReply → Turns result role n m old new → result ≡ turneds.Served 0
+    → Rose old.counts.receive new.counts.receive ⊎ Rose old.counts.link new.counts.link
+turned_lost (turneds.Served status) role n m old new reply h e = served_lost status role n m old new reply h (ap status_of e)
+turned_lost turneds.Ticked role n m old new reply h e = absurd (subst IsServed (sym e) tt)
+turned_lost turneds.Closed role n m old new reply h e = absurd (subst IsServed (sym e) tt)
+turned_lost turneds.NoRoom role n m old new reply h e = absurd (subst IsServed (sym e) tt)
+turned_lost turneds.Halted role n m old new reply h e = absurd (subst IsServed (sym e) tt)
+turned_lost turneds.LinkDown role n m old new reply h e = absurd (subst IsServed (sym e) tt)

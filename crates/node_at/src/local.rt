@@ -1,0 +1,162 @@
+//! Requests of the program that runs a node.
+
+ghost use Rattle.std.specs.Prelude.{◌≡◌, [], Some, None, IfOk, IfSome, option_map, option_copied, false, true};
+ghost use Rattle.at_base.specs.declared.event.Event.TheVariants as events;
+ghost use Rattle.at_base.specs.declared.event.Local.{Local};
+ghost use Rattle.at_model.specs.Book.{next_id};
+ghost use Rattle.at_model.specs.Step.{refuses};
+ghost use Rattle.completion_at.specs.Names.{refusal_of};
+ghost use Rattle.interposition.specs.Planning.{planned};
+ghost use Rattle.node_at.specs.Locals.{Asked, added_by, added_in, answered_id, named_by};
+ghost use Rattle.node_at.specs.State.{IsNode, seen};
+ghost use Rattle.node_at.specs.Steps.{Keeping};
+ghost use Rattle.completion_at.specs.declared.requests.Refusal.{Refusal};
+ghost use Rattle.node_at.specs.declared.local.Locally.TheVariants.{Refused};
+
+use crate::node::Node;
+use crate::step::Stepped;
+use at_base::event::{Event, Local};
+use at_base::id::Id;
+use at_base::outs::Effect;
+use by_id::list::Alteration;
+use by_id::plan;
+use completion_at::activities::refuses_as_the_model;
+use completion_at::activity::Activity;
+use completion_at::requests::Refusal;
+use decision_log::fold::keeps_on;
+use interposition::plan::Part;
+use model_laws::rules::{ids_rise, records_are_well_formed};
+use site_model::site::Site;
+use std::alloc::{AllocError, Global};
+
+/// What became of a request.
+#[derive(Clone, Copy, Debug, PartialEq, Eq)]
+pub enum Locally {
+    /// Its step was done. The id of the activity that it made, or else of the one that it names.
+    Done { id: Id },
+    /// It does nothing as things stand.
+    Refused { why: Refusal },
+    /// There was no memory, and nothing was done.
+    NoRoom,
+    /// The node does nothing more.
+    Halted,
+}
+
+/// The activity that a request names, where it doesn't make one.
+fn named_by(request: &Local) -> Option<Id>
+    ensures { result ≡ named_by request.now }
+{
+    match request {
+        Local::Begin { .. } | Local::Interpose { .. } => None,
+        Local::Work { activity, .. } | Local::Commit { activity } | Local::Rollback { activity } =>
+            Some(*activity),
+    }
+}
+
+fn added_by(change: &Alteration<Activity>) -> Option<Id>
+    ensures { result ≡ added_by change.entry.now }
+{
+    match change {
+        Alteration::Add(activity) => Some(activity.id),
+        Alteration::Keep | Alteration::Put { .. } => None,
+    }
+}
+
+/// The activity that a plan adds.
+fn added_in(part: &Part) -> Option<Id>
+    ensures { result ≡ added_in part.entry.now }
+{
+    match part {
+        Part::Activities(plan::Plan::Plain(branch)) => added_by(&branch.change),
+        _ => None,
+    }
+}
+
+impl Node {
+    /// The id of the activity that a request makes, which is read off its plan.
+    fn made_by(&mut self, alloc: Global, event: &Event, now: u64) -> Result<Option<Id>, AllocError>
+        ensures made { IfOk result (λ id. id ≡ added_in (planned self.old.book event.now now).part) }
+        ensures same { seen self.new ≡ seen self.old }
+        ensures role { self.new.role ≡ self.old.role }
+        ensures shrunk { self.new.shrunk ≡ self.old.shrunk }
+    {
+        let plan = self.book.plan(alloc, event, now)?;
+        Ok(added_in(&plan.part))
+    }
+
+    /// The id that a request is answered with. None where there is no memory.
+    fn id_of(&mut self, alloc: Global, named: Option<Id>, event: &Event, now: u64) -> Option<Id>
+        ensures id { IfSome result (λ id. (l : Local) → event.now ≡ events.Local l → named ≡ named_by l → refuses self.old.book l ≡ None → answered_id self.old.book l ≡ Some id) }
+        ensures same { seen self.new ≡ seen self.old }
+        ensures role { self.new.role ≡ self.old.role }
+        ensures shrunk { self.new.shrunk ≡ self.old.shrunk }
+    {
+        refuses_as_the_model();
+        match named {
+            Some(id) => Some(id),
+            None => match self.made_by(alloc, event, now) {
+                Ok(made) => made,
+                Err(_) => None,
+            },
+        }
+    }
+
+    /// One step for a request that isn't refused.
+    fn ask<S: Site>(&mut self, alloc: Global, site: &mut S, request: Local) -> Locally
+        requires node { IsNode (seen self.old) }
+        requires runs { self.old.halted ≡ false }
+        requires taken { refuses self.old.book request ≡ None }
+        requires effects { (seen self.old).effects ≡ [] }
+        ensures asked { Asked result (seen self.old) (seen self.new) request (S.told site.old) (S.told site.new) }
+        ensures node { IsNode (seen self.new) }
+        ensures role { self.new.role ≡ self.old.role }
+        ensures counted { Keeping (S.told site.old) (S.told site.new) }
+    {
+        ids_rise();
+        keeps_on();
+        records_are_well_formed();
+        let now = site.now();
+        let named = named_by(&request);
+        let event = Event::Local(request);
+        let id = match self.id_of(alloc, named, &event, now) {
+            Some(id) => id,
+            None => return Locally::NoRoom,
+        };
+        match self.step(alloc, site, &event, now) {
+            Stepped::Done { .. } => Locally::Done { id },
+            Stepped::NoRoom => Locally::NoRoom,
+            Stepped::Halted => Locally::Halted,
+        }
+    }
+
+    /// A request of the program that runs the node: one step, unless it is refused.
+    pub fn local<S: Site>(&mut self, alloc: Global, site: &mut S, request: &Local) -> Locally
+        requires node { IsNode (seen self.old) }
+        ensures asked { Asked result (seen self.old) (seen self.new) request.now (S.told site.old) (S.told site.new) }
+        ensures node { IsNode (seen self.new) }
+        ensures role { self.new.role ≡ self.old.role }
+        ensures nothing { (why : Refusal) → result ≡ Refused why → site.new ≡ site.old }
+        ensures halted { self.old.halted ≡ true → site.new ≡ site.old }
+        ensures counted { Keeping (S.told site.old) (S.told site.new) }
+    {
+        refuses_as_the_model();
+        self.effects.clear();
+        if self.halted {
+            return Locally::Halted;
+        }
+        match self.book.refuses(request) {
+            Some(why) => Locally::Refused { why },
+            None => match request.clone() {
+                Ok(copy) => self.ask(alloc, site, copy),
+                Err(_) => Locally::NoRoom,
+            },
+        }
+    }
+
+    /// The effects of the last call, in order.
+    pub fn effects(&self) -> &[Effect]
+        ensures { result.now ≡ (seen self.now).effects }
+    {
+        self.effects.as_slice()
+    }
+}

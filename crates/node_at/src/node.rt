@@ -1,0 +1,22 @@
+//! A node.
+
+use crate::role::Role;
+use crate::shrink::Shrunk;
+use at_base::outs::Effect;
+use decision_log::kept::Kept;
+use interposition::book::Book;
+use journal_at::journal::Journal;
+
+/// A node: its book, its journal, and what it keeps of the journal's records. `effects` are those of the call that runs or
+/// of the last one, `shrunk` is what became of the journal at the end of the last turn. Once it has `halted` it does nothing
+/// more.
+#[derive(Drop)]
+pub struct Node {
+    pub(crate) book: Book,
+    pub(crate) kept: Kept,
+    pub(crate) journal: Journal,
+    pub(crate) effects: Vec<Effect>,
+    pub(crate) halted: bool,
+    pub(crate) role: Role,
+    pub(crate) shrunk: Shrunk,
+}

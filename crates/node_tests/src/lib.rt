@@ -1,0 +1,11 @@
+//! Tests of a node. They stand apart, since a crate with tests is proved twice.
+#![tactic(auto)]
+
+#[cfg(test)]
+mod locals;
+#[cfg(test)]
+mod shared;
+#[cfg(test)]
+mod shrinks;
+#[cfg(test)]
+mod starts;
