@@ -32,9 +32,6 @@ use Rattle.paired.specs.Paired.{HaveVotes, IsPaired, IsParticipant, IsPlace, IsS
 use Rattle.paired.proofs.Homes.{LeafHome, TransactionHome, leaves_home, transactions_home}
 use Rattle.paired.proofs.OneSeat.{home_is, one_seat}
 
-same_who : (y z : Who) → Some y ≡ Some z → y ≡ z
-same_who y z e = cc
-
 -- what is accepted at a seat
 seat_accepted : (count : ℕ) (w : World) → count < 2 ^ 64 → Reached count w → (n : ℕ) (x : Node) (b : Book) (t : Transaction) (s : Enlistment) → nth n w.nodes ≡ Some x → x.book ≡ Some b
     → IsIn t b.transactions → IsIn s t.seats → IsIn (accepted_seat n w.nodes t.id s) w.accepted

@@ -43,9 +43,6 @@ leaf_own b id l found = ap (leaf_at b) (found_id leaf_id id b.leaves l found) �
 pub in_book : (b : Book) (id : Numbers) (t : Transaction) → transaction_at b id ≡ Some t → IsIn t b.transactions
 in_book b id t found = found_stands transaction_id id t b.transactions found
 
-pub same_transaction : (o : Option Transaction) (t z : Transaction) → o ≡ Some t → o ≡ Some z → t ≡ z
-same_transaction o t z e f = cc
-
 pub shape_at : (count : ℕ) (w : World) → Reached count w → (n : ℕ) (b : Book) → Holds w n b → (id : Numbers) (t : Transaction) → transaction_at b id ≡ Some t → IsShaped t
 shape_at count w reached n b h id t found = all_find IsShaped transaction_id id b.transactions t (reached_shaped count w reached n h.node b h.found h.up) found
 

@@ -364,11 +364,11 @@ above count es queue small q x a = by_superior k.transaction.superior refl
         if_known s.durable.coordinator
         (subst (λ d. LinkKnows s.request d s.durable.coordinator) links.1
         (subst (λ y. StandsUnder k.transaction.phase y k.transaction.completion) e (shape_at count w (run_reached count es) x.node k.book k.holds x.id k.transaction k.found).1.1).1) in
-        let (at, enlists) = link_seat count w small (run_reached count es) x.node k.book k.holds x.id k.transaction kinds.Durable c k.found (ap (coordinator_at kinds.Durable) e ∙ knows) in
+        let (at, enlists) = link_seat count w small (run_reached count es) x.node k.book k.holds x.id k.transaction kinds.Durable c k.found (ap (coordinator_at kinds.Durable) {y = Some s} e ∙ knows) in
         let z : Who = at.transaction in
         let prepared : IsPreparedAt w z at.number =
         outcome_prepared w queue (record { node = x.node; id = k.transaction.id }) z at.number q.none
-        (q.outcomes.links x.node k.book k.transaction s z at.number tt k.holds own e links.1 (record { place = at.place; least = at.least; most = at.most }) (knows ∙ ap Some at.is)) in
+        (q.outcomes.links x.node k.book k.transaction s z at.number tt k.holds own e links.1 (record { place = at.place; least = at.least; most = at.most }) (knows ∙ ap Some {y = seat_of z at.number kinds.Durable} at.is)) in
         record {
           who = z;
           number = at.number;
