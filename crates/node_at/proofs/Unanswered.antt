@@ -1,16 +1,20 @@
 -- Whatever is asked is answered.
-use Rattle.std.proofs.Common.{ℕ, List, [], ◌∷◌, ◌≡◌, ◌⊎◌, inl, inr, nat_eq, refl, sym, ◌∙◌, ap, subst, true≢false}
+use Rattle.std.proofs.Common.{ℕ, List, [], ◌∷◌, ◌≡◌, ◌⊎◌, inl, inr, nat_eq, refl, sym, ◌∙◌, ap, subst, true≢false, if◌then◌else◌, Bool, true, false, ⊎_elim}
 use Rattle.at_base.specs.declared.event.Event.TheVariants as events
 use Rattle.at_base.specs.declared.outs.Out.{Out}
 use Rattle.at_base.specs.declared.outs.Out.TheVariants as outs
 use Rattle.at_model.specs.Book.{Book}
 use Rattle.at_model.specs.Step.{Outcome}
 use Rattle.http_post.specs.Written.{has_reason}
+use Rattle.journal_at.specs.Standing.{Counted}
 use Rattle.site_model.specs.Counts.{Rose}
+use Rattle.site_model.specs.Site.{Counts as Numbers}
 use Rattle.site_model.specs.Told.{Told}
 use Rattle.node_at.specs.declared.role.Role.{Role}
 use Rattle.node_at.specs.declared.turn.Turned.{Turned}
 use Rattle.node_at.specs.declared.turn.Turned.TheVariants as turneds
+use Rattle.node_at.specs.declared.shrink.Shrunk.{Shrunk}
+use Rattle.node_at.specs.Endings.{Ends}
 use Rattle.node_at.specs.Meanings.{IsFit, Meaning}
 use Rattle.node_at.specs.Meanings.Meaning.{Refused, Steps, Lost, Unread}
 use Rattle.node_at.specs.Replies.{IsReply, StepsReply}
@@ -64,3 +68,26 @@ turned_lost turneds.Closed role n m old new reply h e = absurd (subst IsServed (
 turned_lost turneds.NoRoom role n m old new reply h e = absurd (subst IsServed (sym e) tt)
 turned_lost turneds.Halted role n m old new reply h e = absurd (subst IsServed (sym e) tt)
 turned_lost turneds.LinkDown role n m old new reply h e = absurd (subst IsServed (sym e) tt)
+
+-- and what is done behind the steps changes that no more
+ended : {S : Type 0} (told : S → Told) (first result : Turned) (shrunk : Shrunk) (n m : State) (old new : S) → Ends told first result shrunk n m old new → result ≡ turneds.Served 0 → first ≡ turneds.Served 0
+ended told (turneds.Served status) result shrunk n m old new h e = by m.halted (sym h.answers ∙ e) where
+  by : (halted : Bool) → (if halted then turneds.Halted else turneds.Served status) ≡ turneds.Served 0 → turneds.Served status ≡ turneds.Served 0
+  by true f = absurd (subst IsServed (sym f) tt)
+  by false f = f
+ended told turneds.Ticked result shrunk n m old new h e = by m.halted (sym h.answers ∙ e) where
+  by : (halted : Bool) → (if halted then turneds.Halted else turneds.Ticked) ≡ turneds.Served 0 → turneds.Ticked ≡ turneds.Served 0
+  by true f = absurd (subst IsServed (sym f) tt)
+  by false f = f
+ended told turneds.Closed result shrunk n m old new h e = sym h.answers ∙ e
+ended told turneds.NoRoom result shrunk n m old new h e = sym h.answers ∙ e
+ended told turneds.Halted result shrunk n m old new h e = sym h.answers ∙ e
+ended told turneds.LinkDown result shrunk n m old new h e = sym h.answers ∙ e
+
+pub turn_lost : {S : Type 0} (told : S → Told) (first result : Turned) (role : Role) (shrunk : Shrunk) (n k m : State) (old mid new : S) → StepsReply → Turns first role n k (told old) (told mid)
+    → Ends told first result shrunk k m mid new → Counted (told mid) (told new) → result ≡ turneds.Served 0
+    → Rose (told old).counts.receive (told new).counts.receive ⊎ Rose (told old).counts.link (told new).counts.link
+turn_lost told first result role shrunk n k m old mid new reply steps ends counted e =
+    let rose = turned_lost first role n k (told old) (told mid) reply steps (ended told first result shrunk k m mid new ends e) in
+    ⊎_elim (λ r. inl (subst (Rose (told old).counts.receive) (sym (ap (λ (z : Numbers). z.receive) counted.others)) r))
+    (λ r. inr (subst (Rose (told old).counts.link) (sym (ap (λ (z : Numbers). z.link) counted.others)) r)) rose

@@ -19,4 +19,5 @@ pub mod Replies
 pub mod Refusing
 pub mod Promises
 pub mod Turns
+pub mod Endings
 pub mod Dues

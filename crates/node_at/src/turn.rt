@@ -7,6 +7,8 @@ ghost use Rattle.site_model.specs.Counts.{Rose};
 ghost use Rattle.node_at.specs.Asking.{meaning_of};
 ghost use Rattle.node_at.specs.Meanings.{IsFit, open_input};
 ghost use Rattle.node_at.specs.Meanings.Meaning.{Lost, Refused, Steps};
+ghost use Rattle.journal_at.specs.Standing.{Counted};
+ghost use Rattle.node_at.specs.Endings.{Ends, TakesTurn};
 ghost use Rattle.node_at.specs.State.{IsNode, seen};
 ghost use Rattle.node_at.specs.Turns.{Serves, Turns, Works, turned_by};
 ghost use Rattle.node_at.specs.declared.turn.Turned.TheVariants.{Halted, Served};
@@ -15,6 +17,7 @@ use crate::due::DueEnd;
 use crate::laws::steps_reply;
 use crate::node::Node;
 use crate::reading::{Asked, read};
+use crate::shrink::Shrunk;
 use crate::step::Stepped;
 use at_base::event::Event;
 use decision_log::fold::keeps_on;
@@ -182,18 +185,40 @@ impl Node {
         }
     }
 
+    /// Where all steps were done, writes the journal anew, if that is due.
+    #[tactic(auto, using(crate::proofs::Going::counted_none))]
+    fn end_turn<S: Site>(&mut self, alloc: Global, site: &mut S, turned: Turned) -> Turned
+        requires { IsNode (seen self.old) }
+        ensures ends { Ends S.told turned result self.new.shrunk (seen self.old) (seen self.new) site.old site.new }
+        ensures counted { Counted (S.told site.old) (S.told site.new) }
+        ensures node { IsNode (seen self.new) }
+        ensures role { self.new.role ≡ self.old.role }
+    {
+        match turned {
+            Turned::Served { .. } | Turned::Ticked => {
+                let _ = self.shrink_if_due(alloc, site);
+                if self.halted { Turned::Halted } else { turned }
+            }
+            Turned::Closed | Turned::NoRoom | Turned::Halted | Turned::LinkDown => {
+                self.shrunk = Shrunk::NotDue;
+                turned
+            }
+        }
+    }
+
     /// Takes one connection: reads its request, does the step of it, answers and posts, and then does one step for each item
-    /// that is due, at the time of one look at the clock.
-    #[tactic(auto, using(crate::proofs::Unanswered::turned_lost))]
+    /// that is due, at the time of one look at the clock. At its end the journal is written anew, if that is due.
+    #[tactic(auto, using(crate::proofs::Unanswered::turn_lost))]
     pub fn turn<S: Site>(&mut self, alloc: Global, site: &mut S) -> Turned
         requires { IsNode (seen self.old) }
-        ensures turns { Turns result self.old.role (seen self.old) (seen self.new) (S.told site.old) (S.told site.new) }
+        ensures turn { TakesTurn S.told result self.old.role self.new.shrunk (seen self.old) (seen self.new) site.old site.new }
         ensures unanswered { result ≡ Served 0 → Rose (S.told site.old).counts.receive (S.told site.new).counts.receive ⊎ Rose (S.told site.old).counts.link (S.told site.new).counts.link }
         ensures halted { self.old.halted ≡ true → (result ≡ Halted) × (site.new ≡ site.old) }
         ensures node { IsNode (seen self.new) }
         ensures role { self.new.role ≡ self.old.role }
     {
         steps_reply();
-        self.take_turn(alloc, site)
+        let turned = self.take_turn(alloc, site);
+        self.end_turn(alloc, site, turned)
     }
 }
