@@ -1,7 +1,8 @@
 -- What settling is, of the world of a run.
-use Rattle.std.proofs.Common.{ℕ, ◌≡◌, ◌≤◌, ◌<◌, List, length, map}
-use Rattle.at_model.specs.World.{World, WorldEvent}
-use Rattle.model_laws.specs.Settle.{all_up, most_deliveries, settle, settle_bound, settle_from, settle_rounds, settled, waiting}
+use Rattle.std.proofs.Common.{ℕ, ◌≡◌, ◌≤◌, ◌<◌, List, length, map, true, arith}
+use Rattle.std.specs.List.{AllByRecursion}
+use Rattle.at_model.specs.World.{World, WorldEvent, run_on}
+use Rattle.model_laws.specs.Settle.{MayStart, Settles, all_up, is_settled, most_deliveries, settle, settle_bound, settle_from, settle_rounds, settled, waiting}
 use Rattle.settling.specs.Drains.{Drains, IsDrained}
 use Rattle.world_laws.specs.Events.{event_of}
 use Rattle.world_laws.specs.Runs.{Run, world_of}

@@ -20,7 +20,6 @@ use world_laws::world::World;
 /// Behind them no durable participant is in doubt, no subordinate that has voted waits for an outcome, and no decision waits to be
 /// carried out, where no node has spent its incarnations (`rests`). They are few (`few`): at most N + 8 (N + 128 (K + 1)) for N nodes, of which K seats, links, leaves and activities wait once
 /// all are up.
-#[tactic(auto, using(crate::proofs::Settled::are_few, crate::proofs::Settled::rests))]
 pub fn settle(alloc: Global, world: &World) -> Result<Vec<WorldEvent>, AllocError>
     ensures is { IfOk result (λ events. map event_of events.items ≡ settle (world_of world.now)) }
     ensures few { length (settle (world_of world.now)) ≤ settle_bound (world_of world.now) }

@@ -1,7 +1,22 @@
-use Rattle.std.specs.Prelude.{map}
+use Rattle.std.specs.Prelude.{◌≤◌, map}
+use Rattle.std.proofs.Common.{subst}
 use Rattle.world_laws.specs.Events.{event_of}
-use Rattle.settlement.proofs.Settled.{settles}
+use Rattle.settlement.proofs.Settled.{are_few, rests, settles}
 use Rattle.settlement.proofs.settle.settle.Goals as goal
 
 pub returns-clause-is : goal.returns-clause-is
 returns-clause-is c = settles c.args.world.now (map event_of c.in_ok-events.events.items) c.drains.ensures c.in_ok-events.ensures
+
+pub returns-in_err-events-clause-few : goal.returns-in_err-events-clause-few
+returns-in_err-events-clause-few c = are_few c.args.world.now c.drains.ensures
+
+pub returns-in_err-events-clause-rests : goal.returns-in_err-events-clause-rests
+returns-in_err-events-clause-rests c =
+    rests c.args.world.now c.settles.ensures (subst (λ n. n ≤ 8) c.count-count.ensures.value c.count-count.ensures.nodes.1)
+
+pub returns-clause-few : goal.returns-clause-few
+returns-clause-few c = are_few c.args.world.now c.drains.ensures
+
+pub returns-clause-rests : goal.returns-clause-rests
+returns-clause-rests c =
+    rests c.args.world.now c.settles.ensures (subst (λ n. n ≤ 8) c.count-count.ensures.value c.count-count.ensures.nodes.1)
