@@ -9,3 +9,5 @@ mod shared;
 mod shrinks;
 #[cfg(test)]
 mod starts;
+#[cfg(test)]
+mod turns;
