@@ -1,5 +1,7 @@
 //! Local requests.
 
+ghost use Rattle.node_at.specs.State.{IsNode, seen};
+
 use crate::shared::started;
 use at_base::event::Local;
 use at_base::id::Id;
@@ -11,7 +13,10 @@ use site_memory::machine::MemSite;
 use std::alloc::Global;
 use std::test::Fail;
 
-fn begin(alloc: Global, node: &mut Node, site: &mut MemSite) -> Locally {
+fn begin(alloc: Global, node: &mut Node, site: &mut MemSite) -> Locally
+    requires { IsNode (seen node.old) }
+    ensures { IsNode (seen node.new) }
+{
     match Text::copied(alloc, "http://n2.example") {
         Ok(coordinator) => {
             let request = Local::Begin { coordinator, ms: 0 };
@@ -63,7 +68,7 @@ fn last(alloc: Global, count: u32) -> Locally {
         return Locally::NoRoom;
     };
     let mut answer = Locally::NoRoom;
-    for _ in 0..count {
+    for _time in 0..count {
         answer = begin(alloc, &mut node, &mut site);
     }
     answer

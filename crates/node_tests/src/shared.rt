@@ -1,5 +1,8 @@
 //! Nodes to test.
 
+ghost use Rattle.std.specs.Prelude.{IfOk};
+ghost use Rattle.node_at.specs.State.{IsNode, seen};
+
 use at_base::text::Text;
 use node_at::fault::StartFault;
 use node_at::node::Node;
@@ -10,7 +13,9 @@ use site_model::site::Site;
 use std::alloc::Global;
 
 /// A node of all roles at n1.example.
-pub fn started(alloc: Global, site: &mut MemSite, limit: u32) -> Result<Node, StartFault> {
+pub fn started(alloc: Global, site: &mut MemSite, limit: u32) -> Result<Node, StartFault>
+    ensures { IfOk result (λ n. IsNode (seen n)) }
+{
     match Text::copied(alloc, "http://n1.example") {
         Ok(base) => start(alloc, site, &base, Role::All, limit),
         Err(_) => Err(StartFault::NoMemory),

@@ -1,5 +1,8 @@
 //! Journals that are written anew.
 
+ghost use Rattle.std.specs.Prelude.{IfSome};
+ghost use Rattle.node_at.specs.State.{IsNode, seen};
+
 use crate::shared::{holding, started};
 use at_base::event::Local;
 use at_base::id::Id;
@@ -30,7 +33,9 @@ fn starts(alloc: Global, count: u32) -> Option<Vec<u8>> {
 }
 
 /// A node whose journal has so many Starts before its own.
-fn node_behind(alloc: Global, count: u32) -> Option<(Node, MemSite)> {
+fn node_behind(alloc: Global, count: u32) -> Option<(Node, MemSite)>
+    ensures { IfSome result (λ p. IsNode (seen p.0)) }
+{
     let Some(file) = starts(alloc, count) else {
         return None;
     };

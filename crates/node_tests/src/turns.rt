@@ -1,5 +1,8 @@
 //! What a turn answers: each answer once, and requests that are refused beside their neighbours that aren't.
 
+ghost use Rattle.std.specs.Prelude.{IfSome};
+ghost use Rattle.node_at.specs.State.{IsNode, seen};
+
 use at_base::text::Text;
 use node_at::node::Node;
 use node_at::role::Role;
@@ -9,9 +12,14 @@ use site_memory::machine::MemSite;
 use std::alloc::Global;
 use std::test::Fail;
 
-fn up(alloc: Global, site: &mut MemSite, role: Role) -> Option<Node> {
+fn up(alloc: Global, site: &mut MemSite, role: Role) -> Option<Node>
+    ensures { IfSome result (λ n. IsNode (seen n)) }
+{
     let base = Text::copied(alloc, "http://n1.example").ok()?;
-    start(alloc, site, &base, role, 1_000_000).ok()
+    match start(alloc, site, &base, role, 1_000_000) {
+        Ok(node) => Some(node),
+        Err(_) => None,
+    }
 }
 
 /// The status of a turn, or 1 Ticked, 2 Closed, 3 NoRoom, 4 Halted, 5 LinkDown.
