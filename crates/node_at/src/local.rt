@@ -110,6 +110,7 @@ impl Node {
         ensures asked { Asked result (seen self.old) (seen self.new) request (S.told site.old) (S.told site.new) }
         ensures node { IsNode (seen self.new) }
         ensures role { self.new.role ≡ self.old.role }
+        ensures shrunk { self.new.shrunk ≡ self.old.shrunk }
         ensures counted { Keeping (S.told site.old) (S.told site.new) }
     {
         ids_rise();
@@ -135,6 +136,7 @@ impl Node {
         ensures asked { Asked result (seen self.old) (seen self.new) request.now (S.told site.old) (S.told site.new) }
         ensures node { IsNode (seen self.new) }
         ensures role { self.new.role ≡ self.old.role }
+        ensures shrunk { self.new.shrunk ≡ self.old.shrunk }
         ensures nothing { (why : Refusal) → result ≡ Refused why → site.new ≡ site.old }
         ensures halted { self.old.halted ≡ true → site.new ≡ site.old }
         ensures counted { Keeping (S.told site.old) (S.told site.new) }

@@ -99,7 +99,7 @@ impl Node {
     ///
     /// Memory is taken before the first call of the disk. Where a call that opens the new file's gate fails, the node has
     /// halted.
-    pub fn shrink_if_due<S: Site>(&mut self, alloc: Global, site: &mut S) -> Shrunk
+    pub(crate) fn shrink_if_due<S: Site>(&mut self, alloc: Global, site: &mut S) -> Shrunk
         requires node { IsNode (seen self.old) }
         ensures shrinks { Shrinks result (seen self.old) (seen self.new) (S.told site.old) (S.told site.new) }
         ensures stays { (rs : List Record) → IsOpen Two rs self.old.journal (S.told site.old) → known self.old.kept ≡ kept_of Two rs

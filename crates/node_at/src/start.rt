@@ -4,6 +4,7 @@ ghost use Rattle.std.specs.Prelude.{◌≡◌, [], false, IfOk};
 ghost use Rattle.decision_log.specs.Held.{known};
 ghost use Rattle.node_at.specs.Started.{Starts};
 ghost use Rattle.node_at.specs.State.{IsNode, seen};
+ghost use Rattle.node_at.specs.declared.shrink.Shrunk.TheVariants.{NotDue};
 
 use crate::fault::StartFault;
 use crate::node::Node;
@@ -22,6 +23,7 @@ use std::alloc::Global;
 fn node_of(alloc: Global, book: Book, opened: Opened, role: Role) -> Node
     ensures seen { seen result ≡ record { book = book; kept = known opened.kept; journal = opened.journal; effects = []; halted = false } }
     ensures role { result.role ≡ role }
+    ensures shrunk { result.shrunk ≡ NotDue }
 {
     let Opened { journal, kept, .. } = opened;
     Node {
@@ -48,6 +50,7 @@ pub fn start<S: Site>(
 ) -> Result<Node, StartFault>
     ensures starts { Starts result base.now role limit (S.told site.old) (S.told site.new) }
     ensures node { IfOk result (λ n. IsNode (seen n)) }
+    ensures shrunk { IfOk result (λ n. n.shrunk ≡ NotDue) }
 {
     grows_by_one();
     ids_rise();

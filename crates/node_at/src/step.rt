@@ -121,6 +121,7 @@ impl Node {
         ensures effects { IfOk result (λ p. (landed : Bool) → length self.new.effects.items + length (sent p.plan landed).effects ≤ vec_capacity self.new.effects) }
         ensures same { seen self.new ≡ seen self.old }
         ensures role { self.new.role ≡ self.old.role }
+        ensures shrunk { self.new.shrunk ≡ self.old.shrunk }
     {
         let plan = self.book.plan(alloc, event, now)?;
         make_room(&mut self.effects, plan.outs(true), plan.outs(false))?;
@@ -141,6 +142,7 @@ impl Node {
         ensures seen { seen self.new ≡ record (seen self.old) { book = done plan landed self.old.book; effects = self.old.effects.items ++ (sent plan landed).effects } }
         ensures kept { self.new.kept ≡ self.old.kept }
         ensures role { self.new.role ≡ self.old.role }
+        ensures shrunk { self.new.shrunk ≡ self.old.shrunk }
         ensures status { result ≡ status_in (sent plan landed).outs }
         ensures sends { Sends (given (option_copied fresh.entry) (known self.old.kept)) (known self.old.kept).done all.items (S.told site.old) (S.told site.new) }
     {
@@ -169,6 +171,7 @@ impl Node {
         ensures acts { Acts result plan entry.entry landed.items absent.items (seen self.old) (seen self.new) (S.told site.old) (S.told site.new) }
         ensures nothing { result ≡ NoRoom → site.new ≡ site.old }
         ensures role { self.new.role ≡ self.old.role }
+        ensures shrunk { self.new.shrunk ≡ self.old.shrunk }
         ensures counted { Keeping (S.told site.old) (S.told site.new) }
     {
         match keep(alloc, &mut self.journal, site, entry.entry()) {
@@ -197,7 +200,13 @@ impl Node {
     ///
     /// All memory is taken before the first call of the disk.
     #[tactic(auto, using(crate::proofs::Modelled::plain_exit, crate::proofs::Modelled::recorded_steps, crate::proofs::Modelled::sound_after, crate::proofs::Modelled::formed))]
-    pub fn step<S: Site>(&mut self, alloc: Global, site: &mut S, event: &Event, now: u64) -> Stepped
+    pub(crate) fn step<S: Site>(
+        &mut self,
+        alloc: Global,
+        site: &mut S,
+        event: &Event,
+        now: u64,
+    ) -> Stepped
         requires sound { IsSound self.old.book }
         requires event { IsSoundEvent event.now }
         requires runs { self.old.halted ≡ false }
@@ -206,6 +215,7 @@ impl Node {
         ensures sound { IsSound self.new.book }
         ensures nothing { result ≡ NoRoom → site.new ≡ site.old }
         ensures role { self.new.role ≡ self.old.role }
+        ensures shrunk { self.new.shrunk ≡ self.old.shrunk }
         ensures counted { Keeping (S.told site.old) (S.told site.new) }
     {
         steps_as_the_model();

@@ -4,11 +4,9 @@ ghost use Rattle.std.specs.Prelude.{IfSome};
 ghost use Rattle.node_at.specs.State.{IsNode, seen};
 
 use crate::shared::{holding, started};
-use at_base::event::Local;
-use at_base::id::Id;
-use node_at::local::Locally;
 use node_at::node::Node;
 use node_at::shrink::Shrunk;
+use node_at::turn::Turned;
 use site_memory::machine::MemSite;
 use std::alloc::Global;
 use std::test::Fail;
@@ -52,17 +50,32 @@ fn node_behind(alloc: Global, count: u32) -> Option<(Node, MemSite)>
 const LEFT: &[u8] =
     b"\x01\x00\x00\x00\x05\x0b\x00\x00\x00\x01\x01\x00\x00\x00\x05\x01\x00\x00\x00\x02\x00";
 
+const TICK: &[u8] = b"POST /tick HTTP/1.0\r\nContent-Length: 0\r\n\r\n";
+
+/// The turn of a tick.
+fn tick(alloc: Global, node: &mut Node, site: &mut MemSite) -> Turned
+    requires { IsNode (seen node.old) }
+    ensures { IsNode (seen node.new) }
+{
+    if site.connect(TICK).is_err() {
+        return Turned::NoRoom;
+    }
+    node.turn(alloc, site)
+}
+
 /// Whether the journal of so many Starts is shrunk to the last one, and then not again.
 fn shrinks(alloc: Global, count: u32) -> bool {
     let Some((mut node, mut site)) = node_behind(alloc, count) else {
         return false;
     };
-    let first = node.shrink_if_due(alloc, &mut site);
+    let first = tick(alloc, &mut node, &mut site);
     let told = node.shrunk();
-    let second = node.shrink_if_due(alloc, &mut site);
-    first == Shrunk::Done
+    let second = tick(alloc, &mut node, &mut site);
+    let again = node.shrunk();
+    first == Turned::Ticked
         && told == Shrunk::Done
-        && second == Shrunk::NotDue
+        && second == Turned::Ticked
+        && again == Shrunk::NotDue
         && site.file(1) == LEFT
 }
 
@@ -71,8 +84,8 @@ fn stays(alloc: Global, count: u32) -> bool {
     let Some((mut node, mut site)) = node_behind(alloc, count) else {
         return false;
     };
-    let answer = node.shrink_if_due(alloc, &mut site);
-    answer == Shrunk::NotDue && site.file(1).is_empty()
+    let answer = tick(alloc, &mut node, &mut site);
+    answer == Turned::Ticked && node.shrunk() == Shrunk::NotDue && site.file(1).is_empty()
 }
 
 #[test]
@@ -83,22 +96,27 @@ fn a_journal_is_shrunk_from_65536_bytes_on(rt: HostRuntime) -> Result<(), Fail> 
     Ok(())
 }
 
-/// What a call that fails leaves: a journal as before, which is shrunk later, or a node that has halted.
+/// What a call that fails leaves, of those behind the answer: a journal as before, which is shrunk later, or a node that has
+/// halted.
 fn fails(alloc: Global, k: u32) -> bool {
     let Some((mut node, mut site)) = node_behind(alloc, 6552) else {
         return false;
     };
-    site.fail(k);
-    let first = node.shrink_if_due(alloc, &mut site);
-    let second = node.shrink_if_due(alloc, &mut site);
-    let request = Local::Commit {
-        activity: Id::new(1, 1),
-    };
-    let halted = node.local(alloc, &mut site, &request) == Locally::Halted;
+    site.fail(k.saturating_add(1));
+    let first = tick(alloc, &mut node, &mut site);
+    let told = node.shrunk();
+    let second = tick(alloc, &mut node, &mut site);
+    let again = node.shrunk();
     if k < 5 {
-        first == Shrunk::Kept && second == Shrunk::Done && !halted
+        first == Turned::Ticked
+            && told == Shrunk::Kept
+            && second == Turned::Ticked
+            && again == Shrunk::Done
     } else {
-        first == Shrunk::NotDue && second == Shrunk::NotDue && halted
+        first == Turned::Halted
+            && told == Shrunk::NotDue
+            && second == Turned::Halted
+            && again == Shrunk::NotDue
     }
 }
 

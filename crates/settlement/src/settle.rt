@@ -15,11 +15,13 @@ use world_laws::event::WorldEvent;
 use world_laws::world::World;
 
 /// The events that bring a world to rest: each node that is down comes up; and eight times each node lets 5,000 milliseconds go by,
-/// and the messages that are posted from then on are delivered, the first one first, until none is left.
+/// and the messages that are posted from then on are delivered, the first one first, until none is left. It runs the world's events
+/// once more to find them.
 ///
 /// Behind them no durable participant is in doubt, no subordinate that has voted waits for an outcome, and no decision waits to be
-/// carried out, where no node has spent its incarnations (`rests`). They are few (`few`): at most N + 8 (N + 128 (K + 1)) for N nodes, of which K seats, links, leaves and activities wait once
-/// all are up.
+/// carried out, where no node has spent its incarnations (`rests`). They are few (`few`): at most N + 8 (N + 128 (K + 1)) for N
+/// nodes, which hold K seats, completion seats, links (two for each subordinate), leaves and activities once all are up. Want of
+/// memory is answered too where a world would have more than 4,294,967,295 events.
 pub fn settle(alloc: Global, world: &World) -> Result<Vec<WorldEvent>, AllocError>
     ensures is { IfOk result (λ events. map event_of events.items ≡ settle (world_of world.now)) }
     ensures few { length (settle (world_of world.now)) ≤ settle_bound (world_of world.now) }
