@@ -7,16 +7,18 @@ use Rattle.at_base.specs.declared.event.Item.{Item}
 use Rattle.at_base.specs.declared.record.Record.{Record}
 use Rattle.at_model.specs.Step.{Outcome, plan, step}
 use Rattle.interposition.specs.Due.{FindsTheDue, WalksTheDue, due_outcome, due_outcomes, items_behind, next_item}
-use Rattle.model_laws.specs.Order.{IdsRise, IsInOrder, IsRising}
+use Rattle.model_laws.specs.Order.{IsRising}
 use Rattle.model_laws.specs.Sound.{IsSound, IsSoundEvent, RecordsAreWellFormed}
 use Rattle.at_base.specs.WellFormed.{IsWellFormed}
 use Rattle.decision_log.specs.Keeping.{IsKept, KeepsOn, Known}
 use Rattle.site_model.specs.Told.{Told}
+use Rattle.node_at.specs.Behind.{PromisesStay}
 use Rattle.node_at.specs.declared.due.DueEnd.TheVariants as ends
 use Rattle.node_at.specs.declared.step.Stepped.{Stepped}
 use Rattle.node_at.specs.declared.step.Stepped.TheVariants as stepped
 use Rattle.node_at.specs.Doings.{Ran}
 use Rattle.node_at.specs.Dues.{DueOne, DueRun, IsDueStep, SoFar, is_some_step}
+use Rattle.node_at.specs.Promises.{PromisesStand}
 use Rattle.node_at.specs.State.{IsNode, State}
 use Rattle.node_at.specs.Steps.{IsFate, Keeping, Steps, if_landed, kept_by}
 use Rattle.node_at.specs.TurnText.{AreDue, IsOutcome, TurnStep}
@@ -29,19 +31,20 @@ kept_after false (Some r) k on h formed = h
 kept_after true None k on h formed = h
 kept_after false None k on h formed = h
 
-pub node_after : (result : Stepped) (n m : State) (e : Event) (now : ℕ) (old new : Told) → IdsRise → KeepsOn → RecordsAreWellFormed → IsSoundEvent e → IsNode n → Steps result n m e now old new
+pub node_after : (result : Stepped) (n m : State) (e : Event) (now : ℕ) (old new : Told) → KeepsOn → PromisesStay → RecordsAreWellFormed → IsSoundEvent e → IsNode n → Steps result n m e now old new
     → IsSound m.book → IsNode m
-node_after (stepped.Done status) n m e now old new rise on formed event h w sound = record {
+node_after (stepped.Done status) n m e now old new on stay formed event h w sound = record {
   sound = sound;
-  order = subst IsInOrder (sym w.went.book) (rise.stays n.book e now w.landed h.order);
   kept = subst IsKept (sym w.went.kept) (kept_after w.landed (plan n.book e now).entry n.kept on h.kept (λ r is. formed.entry n.book e now r h.sound event is));
+  promises = subst (λ z. PromisesStand z m.kept) (sym w.went.book)
+      (subst (PromisesStand (step n.book e now w.landed).book) (sym w.went.kept) (stay.steps n.book n.kept e now w.landed h.promises));
   sure = w.went.sure ∙ sym w.went.runs;
 }
-node_after stepped.NoRoom n m e now old new rise on formed event h w sound = subst IsNode (sym w) h
-node_after stepped.Halted n m e now old new rise on formed event h w sound = record {
+node_after stepped.NoRoom n m e now old new on stay formed event h w sound = subst IsNode (sym w) h
+node_after stepped.Halted n m e now old new on stay formed event h w sound = record {
   sound = sound;
-  order = subst IsInOrder (sym (ap (λ (z : State). z.book) w.stopped.same)) h.order;
   kept = subst IsKept (sym (ap (λ (z : State). z.kept) w.stopped.same)) h.kept;
+  promises = subst (λ (z : State). PromisesStand z.book z.kept) (sym w.stopped.same) h.promises;
   sure = w.stopped.unsure ∙ sym (ap (λ (z : State). z.halted) w.stopped.same);
 }
 

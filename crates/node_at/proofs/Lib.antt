@@ -25,3 +25,6 @@ mod Turning
 mod Replying
 mod Unanswered
 mod Promising
+mod Staying
+mod Restored
+mod Allowed

@@ -47,7 +47,8 @@ use Rattle.decision_log.specs.Tokens.{Token, token_of}
 use Rattle.decision_log.specs.declared.ready.Leave.TheVariants as leaves
 use Rattle.decision_log.specs.declared.token.What.{What}
 use Rattle.decision_log.specs.declared.token.What.TheVariants as whats
-use Rattle.node_at.specs.Promises.{ArePromised, IsLeafPromised, IsPromised, OutsMayLeave, Stands}
+use Rattle.node_at.specs.Behind.{OutsMayLeave}
+use Rattle.node_at.specs.Promises.{ArePromised, IsLeafPromised, IsPromised, Stands}
 use Rattle.node_at.specs.Sends.{MayLeave, given}
 use Rattle.node_at.specs.Steps.{if_landed}
 
@@ -93,7 +94,7 @@ abbrev IsSome : {A : Type 0} → Option A → Type 0
 IsSome None = ⊥
 IsSome (Some x) = Unit {0}
 
-is_some : {A : Type 0} (o : Option A) → is_none o ≡ false → (x : A) × (o ≡ Some x)
+pub is_some : {A : Type 0} (o : Option A) → is_none o ≡ false → (x : A) × (o ≡ Some x)
 is_some None e = absurd (true≢false e)
 is_some (Some x) e = (x, refl)
 
@@ -328,7 +329,7 @@ all_leave : (P Q : Out → Type 0) → ((o : Out) → P o → Q o) → (os : Lis
 all_leave P Q f [] h = tt
 all_leave P Q f (o ∷ os) (h, hs) = (f o h, all_leave P Q f os hs)
 
-same_entry : (landed : Bool) (entry : Option Record) → standing landed entry ≡ if_landed landed entry
+pub same_entry : (landed : Bool) (entry : Option Record) → standing landed entry ≡ if_landed landed entry
 same_entry true entry = refl
 same_entry false entry = refl
 

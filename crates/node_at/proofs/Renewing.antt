@@ -123,7 +123,7 @@ sure_at n h runs = h.sure ∙ runs
 
 pub node_by : (r : Compact) (n m : State) (j : Journal) (old new : Told) → IsNode n → n.halted ≡ false → IsCompacted r (texts_of (shrunk n.kept)) n.journal j old new
     → m ≡ record n { journal = j; halted = halted_by r n.halted } → IsNode m
-node_by r n m j old new h runs c e = subst IsNode (sym e) (record { sound = h.sound; order = h.order; kept = h.kept; sure = sure r c }) where
+node_by r n m j old new h runs c e = subst IsNode (sym e) (record { sound = h.sound; kept = h.kept; promises = h.promises; sure = sure r c }) where
   sure : (r : Compact) → IsCompacted r (texts_of (shrunk n.kept)) n.journal j old new → j.unsure ≡ halted_by r n.halted
   sure compacts.Done c = stays_sure j.unsure (λ f. subst IsUnsure (sym (c.unsure.0 f)) tt) ∙ sym runs
   sure compacts.Kept c = stays_sure j.unsure (λ f. subst IsUnsure (sym (c.unsure.0 f)) tt) ∙ sym runs
@@ -131,4 +131,4 @@ node_by r n m j old new h runs c e = subst IsNode (sym e) (record { sound = h.so
   sure compacts.Unsure c = c.unsure.1 refl
 
 pub node_memory : (n : State) (j : Journal) → j ≡ n.journal → IsNode n → IsNode (record n { journal = j })
-node_memory n j e h = record { sound = h.sound; order = h.order; kept = h.kept; sure = ap (λ (z : Journal). z.unsure) e ∙ h.sure }
+node_memory n j e h = record { sound = h.sound; kept = h.kept; promises = h.promises; sure = ap (λ (z : Journal). z.unsure) e ∙ h.sure }

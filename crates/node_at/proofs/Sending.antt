@@ -1,14 +1,16 @@
 -- How sends compose.
-use Rattle.std.proofs.Common.{ℕ, List, [], ◌∷◌, ◌++◌, ◌+◌, ◌≡◌, ◌⊎◌, inl, inr, ⊎_elim, Result, Ok, Err, refl, sym, ◌∙◌, ap, subst, map, arith}
+use Rattle.std.proofs.Common.{ℕ, List, [], ◌∷◌, ◌++◌, ◌+◌, ◌≡◌, ◌⊎◌, inl, inr, ⊎_elim, Option, Some, Result, Ok, Err, refl, sym, ◌∙◌, ap, subst, map, arith}
 use Rattle.std.proofs.lemmas.List.{append_assoc, append-nil}
+use Rattle.std.specs.Vec.Iter.{into_iter_items, into_iter_steps}
+use Rattle.std.specs.declared.vec.IntoIter.{IntoIter}
 use Rattle.at_base.specs.Numbers.{Numbers}
 use Rattle.decision_log.specs.Tokens.{Token}
 use Rattle.site_model.proofs.Past.{and_then, weaker}
 use Rattle.site_model.specs.Site.{Counts as Counted}
 use Rattle.site_model.specs.Calls.{Gave}
 use Rattle.site_model.specs.Told.{Told, Made, Call, BreaksOff, done, failed}
-use Rattle.node_at.specs.Sends.{MayLeave, Sends, Tried}
-use Rattle.node_at.specs.Sends.Tried.{none, went, was_lost, was_kept_back}
+use Rattle.node_at.specs.Sends.{AllMayLeave, MayLeave, Sends, Tried}
+use Rattle.node_at.specs.Sends.Tried.{none, went, was_lost}
 use Rattle.node_at.specs.Texts.{Leaving}
 use Rattle.node_at.proofs.Between.{after_that, grown_same, grown_then, is_last, through}
 
@@ -23,8 +25,6 @@ tried_then {xs = xs} {made = made} {n = n} h (was_lost {xs = zs} {made = some} {
     was_lost x (tried_then h k) may (ap (λ z. xs ++ z) e ∙ sym (append_assoc xs zs (x ∷ [])))
     (⊎_elim (λ f. inl (ap (λ z. made ++ z) f ∙ sym (append_assoc made some (failed x.call ∷ [])))) (λ f. inr (ap (λ z. made ++ z) f)) f)
     (omega (arith, g))
-tried_then {xs = xs} {made = made} h (was_kept_back {xs = zs} x k may e f) =
-    was_kept_back x (tried_then h k) may (ap (λ z. xs ++ z) e ∙ sym (append_assoc xs zs (x ∷ []))) (ap (λ z. made ++ z) f)
 
 pub sends_none : (ts : List Token) (ids : List Numbers) (s : Told) → Sends ts ids [] s s
 sends_none ts ids s = record {
@@ -40,24 +40,6 @@ sends_none ts ids s = record {
   counted = λ below. omega arith;
   others = refl;
 }
-
-pub sends_nothing : (ts : List Token) (ids : List Numbers) (x : Leaving) (s : Told) → (MayLeave ts ids x.out → ⊥) → Sends ts ids (x ∷ []) s s
-unfolding sends_none
-sends_nothing ts ids x s h =
-    let k = sends_none ts ids s in
-    record {
-      made = [];
-      lost = 0;
-      tried = was_kept_back x none h refl refl;
-      calls = k.calls;
-      files = k.files;
-      images = k.images;
-      time = k.time;
-      apart = k.apart;
-      later = k.later;
-      counted = k.counted;
-      others = k.others;
-    }
 
 abbrev first : Call → List Call → Call
 first d [] = d
@@ -133,3 +115,11 @@ sends_then ts ids xs ys old mid new h k = record {
 
 pub same_out : {ts : List Token} {ids : List Numbers} {x y : Leaving} {old new : Told} → x ≡ y → Sends ts ids (x ∷ []) old new → Sends ts ids (y ∷ []) old new
 same_out {ts} {ids} {old = old} {new = new} e h = subst (λ z. Sends ts ids (z ∷ []) old new) e h
+
+pub may_as : (ts : List Token) (ids : List Numbers) {x y : Leaving} → x ≡ y → MayLeave ts ids y.out → MayLeave ts ids x.out
+may_as ts ids {x} {y} e h = subst (λ (z : Leaving). MayLeave ts ids z.out) (sym e) h
+
+-- those that are still to be sent
+pub first_may : {Z : Type 0} (ts : List Token) (ids : List Numbers) (s t : IntoIter Leaving Z) (r : Option Leaving) (x : Leaving) → r ≡ Some x → into_iter_steps s r t
+    → AllMayLeave ts ids (into_iter_items s) → MayLeave ts ids x.out × AllMayLeave ts ids (into_iter_items t)
+first_may ts ids s t r x e steps h = subst (AllMayLeave ts ids) (subst (λ o. into_iter_steps s o t) e steps).0 h

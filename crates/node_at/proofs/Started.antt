@@ -20,6 +20,8 @@ use Rattle.site_model.specs.Told.{Told, Call, Files, done}
 use Rattle.node_at.specs.declared.fault.StartFault.{StartFault}
 use Rattle.node_at.specs.declared.fault.StartFault.TheVariants as faults
 use Rattle.node_at.specs.declared.opening.Opened.{Opened}
+use Rattle.node_at.specs.Behind.{PromisesStay}
+use Rattle.node_at.specs.Promises.{PromisesStand}
 use Rattle.node_at.specs.Sizes.{size_of}
 use Rattle.node_at.specs.Started.{IsStarted}
 use Rattle.node_at.specs.Starting.{Begins, CannotStart, Found, IsDue, IsEnd, IsLiveBehind, IsNext, IsOpen, OnTheWay, Opens, Ran, beginning_calls, carried, start_after, start_calls, started}
@@ -169,3 +171,12 @@ node_same {s} {t} e h = subst IsNode (sym e) h
 
 pub kept_start : {T : Type 0} (rs : List Record) (x : T) (o after : Opened) (mid new : Told) → Begins {T = T} (Ok x) rs o after mid new → IsKept (known after.kept)
 kept_start rs x o after mid new b = record { all = started o.version rs; formed = are_formed Two (started o.version rs) (records_of b.holds.bodies) b.holds.are; is = b.kept }
+
+pub promises_start : (o after : Opened) (base : List ℕ) (limit n : ℕ) (book : Book) (old mid new : Told) (h : Opens o limit old mid) → PromisesStay → IsNext (Ok n) o.version h.rs limit
+    → book ≡ recover base (carried o.version h.rs ++ records.Start n ∷ []) → IsInOrder book → Begins {T = Unit {0}} (Ok tt) h.rs o after mid new → PromisesStand book (known after.kept)
+promises_start o after base limit n book old mid new h law (is, least, fits) e order b =
+    let rs = started o.version h.rs in
+    let at : book ≡ recover base rs = e ∙ ap (λ z. recover base (carried o.version h.rs ++ records.Start z ∷ [])) is in
+    subst (λ z. PromisesStand z (known after.kept)) (sym at)
+    (subst (PromisesStand (recover base rs)) (sym b.kept)
+    (law.recovered base rs (are_formed Two rs (records_of b.holds.bodies) b.holds.are) (subst IsInOrder at order)))

@@ -1,5 +1,5 @@
 -- A whole turn: its steps, and then its journal is written anew, where all steps were done and that is due.
-use Rattle.std.specs.Prelude.{ℕ, List, ◌≡◌, Bool, if◌then◌else◌}
+use Rattle.std.specs.Prelude.{List, ◌≡◌, if◌then◌else◌}
 use Rattle.at_base.specs.declared.record.Record.{Record}
 use Rattle.decision_log.specs.Keeping.{kept_of}
 use Rattle.journal_at.specs.Standing.{Counted}

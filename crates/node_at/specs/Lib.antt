@@ -3,6 +3,7 @@ pub mod Texts
 pub mod Standing
 pub mod Sends
 pub mod Moments
+pub mod Promises
 pub mod State
 pub mod Planned
 pub mod Steps
@@ -17,7 +18,7 @@ pub mod TurnText
 pub mod Doings
 pub mod Replies
 pub mod Refusing
-pub mod Promises
+pub mod Behind
 pub mod Turns
 pub mod Endings
 pub mod Dues

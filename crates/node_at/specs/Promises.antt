@@ -1,21 +1,19 @@
 -- The promises of a book, and the live records that stand for them (WS-AtomicTransaction 1.2, section 3.3.4).
-use Rattle.std.specs.Prelude.{ℕ, List, ◌≡◌, ◌⊎◌, Bool, true, Some, option_map}
+use Rattle.std.specs.Prelude.{List, ◌≡◌, ◌⊎◌, true, Some, map}
 use Rattle.std.specs.List.{AllByRecursion}
 use Rattle.at_base.specs.Numbers.{Numbers}
-use Rattle.at_base.specs.declared.event.Event.{Event}
 use Rattle.at_base.specs.declared.notice.Kind.TheVariants as kinds
 use Rattle.at_tables.specs.declared.cells.State.TheVariants as states
-use Rattle.at_model.specs.Book.{Book, Completion, Enlistment, Leaf, Phase, Transaction}
-use Rattle.at_model.specs.Step.{is_decided_root, plan, step}
+use Rattle.at_model.specs.Book.{Book, Completion, Enlistment, Leaf, Phase, Transaction, leaf_id, transaction_id}
+use Rattle.at_model.specs.Step.{is_decided_root}
 use Rattle.model_laws.specs.Agreement.{IsIn}
 use Rattle.enlistments.specs.Moves.{IsReady}
+use Rattle.owed.specs.Shape.{AreShaped}
 use Rattle.decision_log.specs.Held.{IsAmong}
 use Rattle.decision_log.specs.Keeping.{Known, tokens_of}
-use Rattle.decision_log.specs.Tokens.{Token, token_of}
+use Rattle.decision_log.specs.Tokens.{Token}
 use Rattle.decision_log.specs.declared.token.What.{What}
 use Rattle.decision_log.specs.declared.token.What.TheVariants as whats
-use Rattle.node_at.specs.Sends.{MayLeave, given}
-use Rattle.node_at.specs.Steps.{if_landed}
 
 -- a record of this id and kind stands
 abbrev pub Stands : List Token → Numbers → What → Type 0
@@ -40,8 +38,13 @@ pub record ArePromised (b : Book) (k : Known) : Type 0 where
   pub leaves : AllByRecursion (IsLeafPromised (tokens_of k.live)) b.leaves
   pub outcomes : b.outcomes ≡ k.done
 
--- Every out of a step of a book whose promises are live may leave behind the step's record.
-abbrev pub OutsMayLeave : Type 0
-OutsMayLeave =
-    (b : Book) (k : Known) (e : Event) (now : ℕ) (landed : Bool) → IsReady b → ArePromised b k
-    → AllByRecursion (MayLeave (given (option_map token_of (if_landed landed (plan b e now).entry)) k) k.done) (step b e now landed).outs
+-- no leaf has the id of a transaction
+abbrev pub AreApart : Book → Type 0
+AreApart b = (i : Numbers) → IsIn i (map transaction_id b.transactions) → IsIn i (map leaf_id b.leaves) → ⊥
+
+-- A book whose items stand as in every run, and whose promises are live.
+pub record PromisesStand (b : Book) (k : Known) : Type 0 where
+  pub ready : IsReady b
+  pub shaped : AreShaped b
+  pub apart : AreApart b
+  pub promised : ArePromised b k

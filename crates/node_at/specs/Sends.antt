@@ -1,5 +1,6 @@
 -- What lets an out leave, and what became of those of a step.
 use Rattle.std.specs.Prelude.{ℕ, List, [], ◌∷◌, ◌++◌, ◌+◌, ◌-◌, ◌^◌, ◌≡◌, ◌≤◌, ◌<◌, ◌⊎◌, Option, Some, None, option_map}
+use Rattle.std.specs.List.{AllByRecursion}
 use Rattle.at_base.specs.Numbers.{Numbers}
 use Rattle.at_base.specs.declared.outs.Out.{Out}
 use Rattle.decision_log.specs.declared.ready.Leave.TheVariants.{Free, Echo}
@@ -24,16 +25,17 @@ IsBacked ts o = (t : Token) × IsAmong t ts × Matches o t
 abbrev pub MayLeave : List Token → List Numbers → Out → Type 0
 MayLeave ts ids o = (leave_of o ≡ Free) ⊎ ((leave_of o ≡ Echo) ⊎ (IsBacked ts o ⊎ IsTold o ids))
 
--- Of these outs, in order, those calls were made, and that many failed. A call that failed is among the calls as failed,
--- or wasn't made at all. An out that may not leave is kept back.
+abbrev pub AllMayLeave : List Token → List Numbers → List Leaving → Type 0
+AllMayLeave ts ids xs = AllByRecursion (λ x. MayLeave ts ids x.out) xs
+
+-- Of these outs, each of which may leave, in order, those calls were made, and that many failed: an out was sent, or its call
+-- failed. A call that failed is among the calls as failed, or wasn't made at all.
 pub data Tried (ts : List Token) (ids : List Numbers) : List Leaving → List Made → ℕ → Type 0 where
   none : Tried ts ids [] [] 0
   went : {xs all : List Leaving} {made more : List Made} {lost : ℕ} (x : Leaving) → Tried ts ids xs made lost → MayLeave ts ids x.out
       → all ≡ xs ++ x ∷ [] → more ≡ made ++ done x.call ∷ [] → Tried ts ids all more lost
   was_lost : {xs all : List Leaving} {made more : List Made} {lost total : ℕ} (x : Leaving) → Tried ts ids xs made lost → MayLeave ts ids x.out
       → all ≡ xs ++ x ∷ [] → (more ≡ made ++ failed x.call ∷ []) ⊎ (more ≡ made) → total ≡ lost + 1 → Tried ts ids all more total
-  was_kept_back : {xs all : List Leaving} {made more : List Made} {lost : ℕ} (x : Leaving) → Tried ts ids xs made lost → (MayLeave ts ids x.out → ⊥)
-      → all ≡ xs ++ x ∷ [] → more ≡ made → Tried ts ids all more lost
 
 -- each failure is counted, up to where the count ends
 abbrev pub Counts : ℕ → ℕ → ℕ → Type 0

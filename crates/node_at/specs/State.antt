@@ -5,9 +5,9 @@ use Rattle.at_model.specs.Book.{Book}
 use Rattle.decision_log.specs.Held.{known}
 use Rattle.decision_log.specs.Keeping.{IsKept, Known}
 use Rattle.journal_at.specs.declared.journal.Journal.{Journal}
-use Rattle.model_laws.specs.Order.{IsInOrder}
 use Rattle.model_laws.specs.Sound.{IsSound}
 use Rattle.node_at.specs.declared.node.Node.{Node}
+use Rattle.node_at.specs.Promises.{PromisesStand}
 
 pub record State : Type 0 where
   pub book : Book
@@ -19,10 +19,10 @@ pub record State : Type 0 where
 abbrev pub seen : Node → State
 seen n = record { book = n.book; kept = known n.kept; journal = n.journal; effects = n.effects.items; halted = n.halted }
 
--- What holds of a node between its calls: its book is within its bounds and in order, it keeps what well-formed records leave,
--- and it has halted exactly where its journal is unsure.
+-- What holds of a node between its calls: its book is within its bounds, it keeps what well-formed records leave, the promises
+-- of the book are live in what it keeps, and it has halted exactly where its journal is unsure.
 pub record IsNode (n : State) : Type 0 where
   pub sound : IsSound n.book
-  pub order : IsInOrder n.book
   pub kept : IsKept n.kept
+  pub promises : PromisesStand n.book n.kept
   pub sure : n.journal.unsure ≡ n.halted

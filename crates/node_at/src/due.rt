@@ -4,12 +4,13 @@ ghost use Rattle.std.specs.Prelude.{◌≡◌, false};
 ghost use Rattle.node_at.specs.Dues.{DueRun, IsDueStep};
 ghost use Rattle.node_at.specs.State.{IsNode, seen};
 
+use crate::laws::promises_stay;
 use crate::node::Node;
 use crate::step::Stepped;
 use at_base::event::{Event, Item};
 use decision_log::fold::keeps_on;
 use interposition::book::{finds_the_due, walks_the_due};
-use model_laws::rules::{ids_rise, records_are_well_formed};
+use model_laws::rules::records_are_well_formed;
 use site_model::site::Site;
 use std::alloc::Global;
 
@@ -34,8 +35,8 @@ impl Node {
         ensures role { self.new.role ≡ self.old.role }
         ensures nothing { result ≡ false → site.new ≡ site.old }
     {
-        ids_rise();
         keeps_on();
+        promises_stay();
         records_are_well_formed();
         walks_the_due();
         match self.step(alloc, site, &Event::Due(*item), now) {

@@ -13,6 +13,7 @@ ghost use Rattle.node_at.specs.Steps.{Keeping};
 ghost use Rattle.completion_at.specs.declared.requests.Refusal.{Refusal};
 ghost use Rattle.node_at.specs.declared.local.Locally.TheVariants.{Refused};
 
+use crate::laws::promises_stay;
 use crate::node::Node;
 use crate::step::Stepped;
 use at_base::event::{Event, Local};
@@ -25,7 +26,7 @@ use completion_at::activity::Activity;
 use completion_at::requests::Refusal;
 use decision_log::fold::keeps_on;
 use interposition::plan::Part;
-use model_laws::rules::{ids_rise, records_are_well_formed};
+use model_laws::rules::records_are_well_formed;
 use site_model::site::Site;
 use std::alloc::{AllocError, Global};
 
@@ -113,8 +114,8 @@ impl Node {
         ensures shrunk { self.new.shrunk ≡ self.old.shrunk }
         ensures counted { Keeping (S.told site.old) (S.told site.new) }
     {
-        ids_rise();
         keeps_on();
+        promises_stay();
         records_are_well_formed();
         let now = site.now();
         let named = named_by(&request);

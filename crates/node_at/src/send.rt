@@ -4,7 +4,7 @@ ghost use Rattle.std.specs.Prelude.{◌≡◌, ◌∷◌, [], true, false, IfSom
 ghost use Rattle.decision_log.specs.Held.{IsAmong, IsFound, known};
 ghost use Rattle.decision_log.specs.Sending.{IsTold};
 ghost use Rattle.site_model.specs.Calls.{Gave};
-ghost use Rattle.node_at.specs.Sends.{MayLeave, Sends, given};
+ghost use Rattle.node_at.specs.Sends.{AllMayLeave, MayLeave, Sends, given};
 ghost use Rattle.node_at.specs.Standing.{IsStanding, Rules};
 ghost use Rattle.at_model.specs.Outcomes.{is_kept};
 ghost use Rattle.node_at.specs.Texts.{call_of};
@@ -124,9 +124,10 @@ fn give<S: Site>(site: &mut S, _ready: Ready, sending: &Sending) -> Result<(), F
     }
 }
 
-/// Sends an out, if it may leave.
-#[tactic(auto, using(crate::proofs::Sending::sends_given, crate::proofs::Sending::sends_nothing))]
+/// Sends an out, which may leave.
+#[tactic(auto, using(crate::proofs::Sending::sends_given))]
 fn send<S: Site>(site: &mut S, encoded: Encoded, fresh: Option<&Durable>, kept: &Kept)
+    requires { MayLeave (given (option_copied fresh) (known kept.now)) (known kept.now).done encoded.out }
     ensures { Sends (given (option_copied fresh.entry) (known kept.now)) (known kept.now).done (encoded ∷ []) (S.told site.old) (S.told site.new) }
 {
     let Encoded { out, sending } = encoded;
@@ -138,9 +139,10 @@ fn send<S: Site>(site: &mut S, encoded: Encoded, fresh: Option<&Durable>, kept: 
     }
 }
 
-/// Sends outs in order, each once. One that may not leave is kept back.
+/// Sends outs in order, each once. Each of them may leave.
 #[tactic(auto, using(crate::proofs::Sending::sends_none, crate::proofs::Sending::sends_then, crate::proofs::Moving::step_moments))]
 pub fn send_all<S: Site>(site: &mut S, all: Vec<Encoded>, fresh: Option<&Durable>, kept: &Kept)
+    requires { AllMayLeave (given (option_copied fresh) (known kept.now)) (known kept.now).done all.items }
     ensures { Sends (given (option_copied fresh.entry) (known kept.now)) (known kept.now).done all.items (S.told site.old) (S.told site.new) }
 {
     for encoded in all {

@@ -7,6 +7,7 @@ ghost use Rattle.node_at.specs.State.{IsNode, seen};
 ghost use Rattle.node_at.specs.declared.shrink.Shrunk.TheVariants.{NotDue};
 
 use crate::fault::StartFault;
+use crate::laws::promises_stay;
 use crate::node::Node;
 use crate::opening::{Opened, open};
 use crate::role::Role;
@@ -54,6 +55,7 @@ pub fn start<S: Site>(
 {
     grows_by_one();
     ids_rise();
+    promises_stay();
     records_are_well_formed();
     shrinks_the_same();
     let mut opened = match open(alloc, site, limit) {

@@ -1,17 +1,20 @@
 //! One step.
 
-ghost use Rattle.std.specs.Prelude.{◌≡◌, ◌≤◌, ◌+◌, ◌++◌, ◌∷◌, [], Bool, true, false, IfOk, OnOk, length, vec_capacity, option_copied, ℕ};
+ghost use Rattle.std.specs.Prelude.{◌≡◌, ◌≤◌, ◌+◌, ◌++◌, ◌∷◌, [], Bool, true, false, IfOk, OnOk, length, vec_capacity, Some, None, option_copied, ℕ};
 ghost use Rattle.at_base.specs.WellFormed.{IsWellFormed};
 ghost use Rattle.decision_log.specs.Held.{HasRoom, known};
+ghost use Rattle.decision_log.specs.Tokens.{token_of};
 ghost use Rattle.interposition.specs.Doing.{done, recorded, sent};
 ghost use Rattle.interposition.specs.Planning.{planned};
 ghost use Rattle.model_laws.specs.Sound.{IsSound, IsSoundEvent};
 ghost use Rattle.node_at.specs.Planned.{AreTexts, HasRoomFor};
-ghost use Rattle.node_at.specs.Sends.{Sends, given};
+ghost use Rattle.node_at.specs.Promises.{PromisesStand};
+ghost use Rattle.node_at.specs.Sends.{AllMayLeave, Sends, given};
 ghost use Rattle.node_at.specs.State.{seen};
 ghost use Rattle.node_at.specs.Steps.{Acts, Keeping, Steps, status_in};
 ghost use Rattle.node_at.specs.declared.step.Stepped.TheVariants.{NoRoom};
 
+use crate::laws::outs_may_leave;
 use crate::node::Node;
 use crate::send::send_all;
 use crate::text::{Encoded, encode_outs};
@@ -120,6 +123,7 @@ impl Node {
         ensures room { IfOk result (λ p. HasRoomFor p.texts self.new.kept) }
         ensures effects { IfOk result (λ p. (landed : Bool) → length self.new.effects.items + length (sent p.plan landed).effects ≤ vec_capacity self.new.effects) }
         ensures same { seen self.new ≡ seen self.old }
+        ensures kept { known self.new.kept ≡ known self.old.kept }
         ensures role { self.new.role ≡ self.old.role }
         ensures shrunk { self.new.shrunk ≡ self.old.shrunk }
     {
@@ -138,7 +142,8 @@ impl Node {
         all: Vec<Encoded>,
         fresh: Option<&Durable>,
     ) -> u16
-        requires { length self.old.effects.items + length (sent plan landed).effects ≤ vec_capacity self.old.effects }
+        requires effects { length self.old.effects.items + length (sent plan landed).effects ≤ vec_capacity self.old.effects }
+        requires leave { AllMayLeave (given (option_copied fresh) (known self.old.kept)) (known self.old.kept).done all.items }
         ensures seen { seen self.new ≡ record (seen self.old) { book = done plan landed self.old.book; effects = self.old.effects.items ++ (sent plan landed).effects } }
         ensures kept { self.new.kept ≡ self.old.kept }
         ensures role { self.new.role ≡ self.old.role }
@@ -153,7 +158,7 @@ impl Node {
     }
 
     /// Appends the record, and does what was planned by what became of it.
-    #[tactic(auto, using(crate::proofs::Going::stopped, crate::proofs::Going::keeping_both, crate::proofs::Going::keeping_counted))]
+    #[tactic(auto, using(crate::proofs::Going::stopped, crate::proofs::Going::keeping_both, crate::proofs::Going::keeping_counted, crate::proofs::Allowed::given_as))]
     fn recorded<S: Site>(
         &mut self,
         alloc: Global,
@@ -166,6 +171,8 @@ impl Node {
         requires formed { IsWellFormed entry.entry }
         requires room { HasRoom self.old.kept }
         requires effects { (landed : Bool) → length self.old.effects.items + length (sent plan landed).effects ≤ vec_capacity self.old.effects }
+        requires landed { AllMayLeave (given (Some (token_of entry.entry)) (known self.old.kept)) (known self.old.kept).done landed.items }
+        requires absent { AllMayLeave (given None (known self.old.kept)) (known self.old.kept).done absent.items }
         requires runs { self.old.halted ≡ false }
         requires sure { self.old.journal.unsure ≡ false }
         ensures acts { Acts result plan entry.entry landed.items absent.items (seen self.old) (seen self.new) (S.told site.old) (S.told site.new) }
@@ -209,6 +216,7 @@ impl Node {
     ) -> Stepped
         requires sound { IsSound self.old.book }
         requires event { IsSoundEvent event.now }
+        requires promises { PromisesStand self.old.book (known self.old.kept) }
         requires runs { self.old.halted ≡ false }
         requires sure { self.old.journal.unsure ≡ false }
         ensures steps { Steps result (seen self.old) (seen self.new) event.now now (S.told site.old) (S.told site.new) }
@@ -220,6 +228,7 @@ impl Node {
     {
         steps_as_the_model();
         keeps_bounds();
+        outs_may_leave();
         match self.prepare(alloc, event, now) {
             Ok(Prepared { plan, texts }) => match texts {
                 Texts::Plain { outs } => {

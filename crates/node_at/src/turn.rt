@@ -14,14 +14,14 @@ ghost use Rattle.node_at.specs.Turns.{Serves, Turns, Works, turned_by};
 ghost use Rattle.node_at.specs.declared.turn.Turned.TheVariants.{Halted, Served};
 
 use crate::due::DueEnd;
-use crate::laws::steps_reply;
+use crate::laws::{promises_stay, steps_reply};
 use crate::node::Node;
 use crate::reading::{Asked, read};
 use crate::shrink::Shrunk;
 use crate::step::Stepped;
 use at_base::event::Event;
 use decision_log::fold::keeps_on;
-use model_laws::rules::{ids_rise, records_are_well_formed};
+use model_laws::rules::records_are_well_formed;
 use site_model::site::{Site, Taken};
 use site_model::source::Failed;
 use std::alloc::Global;
@@ -92,8 +92,8 @@ impl Node {
         ensures node { IsNode (seen self.new) }
         ensures role { self.new.role ≡ self.old.role }
     {
-        ids_rise();
         keeps_on();
+        promises_stay();
         records_are_well_formed();
         match self.step(alloc, site, event, now) {
             Stepped::Done { status } => match self.due(alloc, site, now) {

@@ -2,7 +2,7 @@ use Rattle.std.proofs.Common.{option_copied}
 use Rattle.decision_log.specs.Held.{known}
 use Rattle.node_at.specs.Sends.{MayLeave, given}
 use Rattle.node_at.specs.Texts.{Leaving, call_of}
-use Rattle.node_at.proofs.Sending.{same_out, sends_given, sends_nothing}
+use Rattle.node_at.proofs.Sending.{may_as, same_out, sends_given}
 use Rattle.node_at.proofs.Standing.{ruled_no, ruled_yes}
 use Rattle.node_at.proofs.send.send.Goals as goal
 
@@ -18,4 +18,4 @@ returns g c =
     let ts = given (option_copied c.args.fresh) (known c.args.kept.now) in
     let ids = (known c.args.kept.now).done in
     let x : Leaving = record { out = c.encoded.inside.out; call = call_of c.encoded.inside.sending } in
-    same_out c.encoded.view_is (sends_nothing ts ids x _ (ruled_no (MayLeave ts ids x.out) c.ready.result c.in-None.is c.ready.ensures.rule))
+    absurd (ruled_no (MayLeave ts ids x.out) c.ready.result c.in-None.is c.ready.ensures.rule (may_as ts ids c.encoded.view_is c.requires))

@@ -1,5 +1,5 @@
 use Rattle.std.proofs.Common.{Err, Ok, arith}
-use Rattle.node_at.proofs.Started.{begin_failed, begins_in, book_in, is_later, is_started, kept_start, next_in, no_room, node_same, not_next, open_generation, order_start, sound_start, started_same}
+use Rattle.node_at.proofs.Started.{begin_failed, begins_in, book_in, is_later, is_started, kept_start, next_in, no_room, node_same, not_next, open_generation, order_start, promises_start, sound_start, started_same}
 use Rattle.node_at.proofs.start.start.Goals as goal
 
 pub returns-in-Err-next-clause-starts : goal.returns-in-Err-next-clause-starts
@@ -45,8 +45,9 @@ returns-in-Ok-begin-clause-node g c =
     let book = book_in o c.args.base.now c.args.limit n c.in-Ok-recover.book _ _ h same c.in-Ok-recover.ensures in
     node_same c.node_of.ensures.seen (record {
       sound = sound_start o c.begin.new.self c.args.base.now c.args.limit n c.in-Ok-recover.book _ _ _ h c.records_are_well_formed.ensures c.grows_by_one.ensures same x book b;
-      order = order_start o c.begin.new.self c.args.base.now c.args.limit n c.in-Ok-recover.book _ _ h c.ids_rise.ensures same x book;
       kept = kept_start h.rs _ o c.begin.new.self _ _ b;
+      promises = promises_start o c.begin.new.self c.args.base.now c.args.limit n c.in-Ok-recover.book _ _ _ h c.promises_stay.ensures x book
+          (order_start o c.begin.new.self c.args.base.now c.args.limit n c.in-Ok-recover.book _ _ h c.ids_rise.ensures same x book) b;
       sure = b.holds.sure;
     })
 

@@ -13,7 +13,7 @@ returns-in-Done-clause-asked g c =
 
 pub returns-in-Done-clause-node : goal.returns-in-Done-clause-node
 returns-in-Done-clause-node g c =
-    node_after (stepped.Done c.in-Done.status) (seen c.id_of.new.self) (seen c.step.new.self) (events.Local c.args.request) c.now-now.result _ _ c.ids_rise.ensures c.keeps_on.ensures c.records_are_well_formed.ensures tt
+    node_after (stepped.Done c.in-Done.status) (seen c.id_of.new.self) (seen c.step.new.self) (events.Local c.args.request) c.now-now.result _ _ c.keeps_on.ensures c.promises_stay.ensures c.records_are_well_formed.ensures tt
     (node_from c.id_of.ensures.same c.requires.node) c.in-Done.ensures.steps c.in-Done.ensures.sound
 
 pub returns-clause-asked : goal.returns-clause-asked
@@ -23,5 +23,5 @@ returns-clause-asked g c =
 
 pub returns-clause-node : goal.returns-clause-node
 returns-clause-node g c =
-    node_after stepped.Halted (seen c.id_of.new.self) (seen c.step.new.self) (events.Local c.args.request) c.now-now.result _ _ c.ids_rise.ensures c.keeps_on.ensures c.records_are_well_formed.ensures tt
+    node_after stepped.Halted (seen c.id_of.new.self) (seen c.step.new.self) (events.Local c.args.request) c.now-now.result _ _ c.keeps_on.ensures c.promises_stay.ensures c.records_are_well_formed.ensures tt
     (node_from c.id_of.ensures.same c.requires.node) c.in-Halted.ensures.steps c.in-Halted.ensures.sound
