@@ -1,0 +1,8 @@
+pub mod Places
+pub mod Stepping
+pub mod Turning
+pub mod Running
+pub mod Keeping
+pub mod Restarting
+pub mod Agreeing
+pub mod Hearing

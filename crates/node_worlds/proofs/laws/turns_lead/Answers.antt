@@ -1,0 +1,5 @@
+use Rattle.node_worlds.proofs.Turning.{turns_lead}
+use Rattle.node_worlds.proofs.laws.turns_lead.Goals as goal
+
+pub returns : goal.returns
+returns c = turns_lead c.walks_the_due.ensures

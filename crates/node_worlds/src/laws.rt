@@ -1,0 +1,77 @@
+//! Laws of nodes that serve.
+
+ghost use Rattle.node_worlds.specs.Agreement.{AgreesWherever, NetsAgree};
+ghost use Rattle.node_worlds.specs.Delivered.{PostsAreHeard};
+ghost use Rattle.node_worlds.specs.Keeping.{NetsKeep};
+ghost use Rattle.node_worlds.specs.Leads.{StepsLead, TurnsLead};
+ghost use Rattle.node_worlds.specs.Nets.{NetsAreWorlds};
+ghost use Rattle.node_worlds.specs.Restarting.{RestartsOnRecords};
+
+use arrivals::laws::what_is_posted_reaches_the_book;
+use decision_log::fold::grows_by_one;
+use decision_log::shrink::shrinks_the_same;
+use interposition::book::walks_the_due;
+use model_laws::rules::recovers_the_compacted;
+use record_bytes::read::are_apart;
+use site_model::site::Site;
+use xml_grammar::laws::one_text_spells_one_tree;
+
+/// A step that a node does is a step of the world that the node stands in: of the same event, with the same record, book and
+/// effects, and what was sent is posted there.
+pub fn steps_lead()
+    ensures { StepsLead }
+{}
+
+/// So are the steps of a turn, as many as were done: that of what the connection asks, and one for each item that is due.
+pub fn turns_lead()
+    ensures { TurnsLead }
+{
+    walks_the_due();
+}
+
+/// Whatever nodes do that serve and post to one another, over any machine: they are a world that the model reaches, in which each
+/// has the book and the records that it has here, and in which the same was posted and the same happened.
+pub fn nets_are_worlds<S: Site>()
+    ensures { NetsAreWorlds S.told }
+{
+    walks_the_due();
+    recovers_the_compacted();
+    shrinks_the_same();
+}
+
+/// What each node of such a net keeps is what the records of its journal make of it.
+pub fn nets_keep<S: Site>()
+    ensures { NetsKeep S.told }
+{
+    grows_by_one();
+    shrinks_the_same();
+}
+
+/// A start on files that stand for a node's records goes on with what stands for them, and such are the files, and whatever a crash
+/// leaves of them, of a machine whose journal holds these records.
+pub fn restarts_on_records<S: Site>()
+    ensures { RestartsOnRecords S.told }
+{
+    are_apart();
+}
+
+/// Of the envelope of a message that was posted to a node, it takes no other message than that, as the world decodes it there.
+pub fn posts_are_heard()
+    ensures { PostsAreHeard }
+{
+    one_text_spells_one_tree();
+    what_is_posted_reaches_the_book();
+}
+
+/// Agreement in every world of fewer than 2^64 nodes that is reached step by step.
+#[tactic(auto, using(crate::proofs::Agreeing::agrees_wherever))]
+pub fn agrees_wherever()
+    ensures { AgreesWherever }
+{}
+
+/// Agreement among fewer than 2^64 nodes that serve (WS-AtomicTransaction 1.2, section 1).
+pub fn nets_agree<S: Site>()
+    ensures { NetsAgree S.told }
+{
+    nets_are_worlds::<S>();
+}
