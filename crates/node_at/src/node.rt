@@ -1,5 +1,8 @@
 //! A node.
 
+ghost use Rattle.std.specs.Prelude.{◌≡◌};
+ghost use Rattle.node_at.specs.State.{seen};
+
 use crate::role::Role;
 use crate::shrink::Shrunk;
 use at_base::outs::Effect;
@@ -19,4 +22,13 @@ pub struct Node {
     pub(crate) halted: bool,
     pub(crate) role: Role,
     pub(crate) shrunk: Shrunk,
+}
+
+impl Node {
+    /// The incarnation that the node came up in.
+    pub fn incarnation(&self) -> u32
+        ensures { result ≡ (seen self.now).book.incarnation }
+    {
+        self.book.incarnation()
+    }
 }

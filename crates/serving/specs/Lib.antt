@@ -1,0 +1,5 @@
+pub mod Lines
+pub mod Requests
+pub mod Runs
+pub mod Services
+pub mod Sessions

@@ -1,0 +1,137 @@
+-- A node that serves: its journal is opened and its listener, it comes up, and then it does line after line.
+use Rattle.std.specs.Prelude.{ℕ, List, [], ◌∷◌, ◌++◌, ◌≡◌, ◌≤◌, Option, Some, None, Ok, Err, length, replicate, take, zero, suc}
+use Rattle.std.specs.Io.KnownBytes.{Appends}
+use Rattle.at_base.specs.Numbers.{Numbers}
+use Rattle.node_at.specs.Endings.{TakesTurn}
+use Rattle.node_at.specs.Locals.{Asked}
+use Rattle.node_at.specs.Started.{IsStarted}
+use Rattle.node_at.specs.Starting.{CannotStart}
+use Rattle.node_at.specs.State.{State}
+use Rattle.node_at.specs.Steps.{Keeping}
+use Rattle.node_at.specs.declared.fault.StartFault.{StartFault}
+use Rattle.node_at.specs.declared.fault.StartFault.TheVariants as faults
+use Rattle.node_at.specs.declared.role.Role.{Role}
+use Rattle.node_at.specs.declared.shrink.Shrunk.{Shrunk}
+use Rattle.schedules.specs.declared.initiator_line.InitiatorLine.{InitiatorLine}
+use Rattle.schedules.specs.declared.initiator_line.InitiatorLine.TheVariants as lines
+use Rattle.site_model.specs.Calls.{Attaches}
+use Rattle.site_model.specs.Told.{Told}
+use Rattle.site_model.specs.declared.site.AttachFailed.{AttachFailed}
+use Rattle.site_model.specs.declared.site.AttachFailed.TheVariants as attaching
+use Rattle.serving.specs.declared.answer.Answer.{Answer}
+use Rattle.serving.specs.declared.answer.Answer.TheVariants as answers
+use Rattle.serving.specs.declared.ended.Ended.{Ended}
+use Rattle.serving.specs.declared.ended.Ended.TheVariants as endings
+use Rattle.serving.specs.declared.request.Request.{Request}
+use Rattle.serving.specs.declared.request.Request.TheVariants as requests
+use Rattle.serving.specs.Lines.{fault_text, up_line}
+use Rattle.serving.specs.Requests.{adds, ended_by, printed, request_of}
+
+-- What a node does for a line: a step for a request, a turn for a `wait`. A line on an activity whose own line was refused
+-- is refused, and nothing is done.
+abbrev pub Does : {S : Type 0} → (S → Told) → Role → Request → Answer → State → State → S → S → Type 0
+Does told role (requests.Local l) (answers.Local answer) n m s t = Asked answer n m l (told s) (told t) × Keeping (told s) (told t)
+Does told role requests.Stale answers.Stale n m s t = (m ≡ n) × (t ≡ s)
+Does told role requests.Wait (answers.Turn turned) n m s t = (shrunk : Shrunk) × TakesTurn told turned role shrunk n m s t
+Does told role request answer n m s t = ⊥
+
+-- A row of lines that were done one after the other, from this node and this machine on: the activities that they made, what
+-- is printed of them, and the node and the machine behind them.
+pub data Row {S : Type 0} (told : S → Told) (role : Role) (n : State) (s : S) : List InitiatorLine → List (Option Numbers) → List ℕ → State → S → Type 0 where
+  none : Row told role n s [] [] [] n s
+  more : {all : List InitiatorLine} {made : List (Option Numbers)} {text : List ℕ} {m : State} {t : S} (line : InitiatorLine) (answer : Answer) (k : State) (u : S)
+      → Row told role n s all made text m t → Does told role (request_of made line) answer m k t u → ended_by answer ≡ None
+      → Row told role n s (all ++ line ∷ []) (made ++ adds line answer) (text ++ printed answer k.effects) k u
+
+-- How far a node that came up has come with its lines, what is printed of that, and how it ended, where it did.
+pub data Attends {S : Type 0} (told : S → Told) (role : Role) (all : List InitiatorLine) (n : State) (s new : S) : List ℕ → Option Ended → Type 0 where
+  -- it did some of them
+  some : {m : State} {front : List InitiatorLine} {made : List (Option Numbers)} {text : List ℕ} (rest : List InitiatorLine)
+      → Row told role n s front made text m new → front ++ rest ≡ all → Attends told role all n s new text None
+  -- it did them all
+  whole : {m : State} {made : List (Option Numbers)} {text : List ℕ} → Row told role n s all made text m new → Attends told role all n s new text (Some endings.Done)
+  -- it came to an end with one of them
+  last : {m : State} {t : S} {front : List InitiatorLine} {made : List (Option Numbers)} {text : List ℕ} {ended : Option Ended}
+      (line : InitiatorLine) (rest : List InitiatorLine) (answer : Answer) (k : State)
+      → Row told role n s front made text m t → front ++ line ∷ rest ≡ all → Does told role (request_of made line) answer m k t new → ended_by answer ≡ ended
+      → Attends told role all n s new (text ++ printed answer k.effects) ended
+
+-- What is to be served: at this base, with these lines before so many turns.
+pub record Serviced : Type 0 where
+  pub base : List ℕ
+  pub role : Role
+  pub lines : List InitiatorLine
+  pub turns : ℕ
+
+-- a turn is one more `wait`
+abbrev pub all_lines : Serviced → List InitiatorLine
+all_lines v = v.lines ++ replicate v.turns lines.Wait
+
+-- the most bytes of a journal's file
+abbrev pub journal_limit : ℕ
+journal_limit = 4294967295
+
+-- the node came up, on a machine whose files and listener were opened
+pub record IsUp {S : Type 0} (told : S → Told) (v : Serviced) (n : State) (old new : S) : Type 0 where
+  pub opened : S
+  pub attaches : Attaches {T = Unit {0}} (Ok tt) (told old) (told opened)
+  pub starts : IsStarted v.base journal_limit n (told opened) (told new)
+
+abbrev pub attach_ended : AttachFailed → Ended
+attach_ended attaching.Disk = endings.DiskFailed
+attach_ended attaching.Link = endings.ListenerFailed
+
+abbrev pub start_ended : StartFault → Ended
+start_ended faults.NoMemory = endings.NoMemory
+start_ended faults.Disk = endings.DiskFailed
+start_ended (faults.Bad file place) = endings.BadJournal
+start_ended faults.Spent = endings.Spent
+start_ended faults.Full = endings.Full
+
+-- the node says that it is up, before all else
+pub data Comes {S : Type 0} (told : S → Told) (role : Role) (all : List InitiatorLine) (n : State) (s new : S) : List ℕ → Option Ended → Type 0 where
+  comes : {text : List ℕ} {ended : Option Ended} → Attends told role all n s new text ended → Comes told role all n s new (up_line n.book.incarnation ++ text) ended
+
+-- How far serving has come, what is printed of that, and how it ended, where it did.
+pub data Course {S : Type 0} (told : S → Told) (v : Serviced) (old new : S) : List ℕ → Option Ended → Type 0 where
+  -- files or listener couldn't be opened
+  unopened : (why : AttachFailed) → Attaches {T = Unit {0}} (Err why) (told old) (told new) → Course told v old new [] (Some (attach_ended why))
+  -- they were
+  opened : Attaches {T = Unit {0}} (Ok tt) (told old) (told new) → Course told v old new [] None
+  -- the node couldn't start
+  unstarted : (opened : S) (fault : StartFault) → Attaches {T = Unit {0}} (Ok tt) (told old) (told opened)
+      → CannotStart fault journal_limit (told opened) (told new) → Course told v old new (fault_text fault) (Some (start_ended fault))
+  -- it came up, and attends to its lines
+  up : {n : State} {s : S} {text : List ℕ} {ended : Option Ended} → IsUp told v n old s → Comes told v.role (all_lines v) n s new text ended
+      → Course told v old new text ended
+
+-- a beginning of what was to be printed was printed
+pub record IsCut (P : List ℕ → Option Ended → Type 0) (before after : Option (List ℕ)) : Type 0 where
+  pub text : List ℕ
+  pub ended : Option Ended
+  pub is : P text ended
+  pub count : ℕ
+  pub within : count ≤ length text
+  pub printed : Appends before after (take count text)
+
+-- all of it was printed
+pub record IsTold (P : List ℕ → Option Ended → Type 0) (ended : Ended) (before after : Option (List ℕ)) : Type 0 where
+  pub text : List ℕ
+  pub is : P text (Some ended)
+  pub printed : Appends before after text
+
+-- Want of memory and a sink that fails may end it anywhere; else it ends as it is said, and all is printed.
+abbrev pub Prints : (List ℕ → Option Ended → Type 0) → Ended → Option (List ℕ) → Option (List ℕ) → Type 0
+Prints P endings.NoMemory before after = IsCut P before after
+Prints P endings.SinkFailed before after = IsCut P before after
+Prints P endings.Done before after = IsTold P endings.Done before after
+Prints P endings.DiskFailed before after = IsTold P endings.DiskFailed before after
+Prints P endings.Halted before after = IsTold P endings.Halted before after
+Prints P endings.BadJournal before after = IsTold P endings.BadJournal before after
+Prints P endings.ListenerFailed before after = IsTold P endings.ListenerFailed before after
+Prints P endings.Spent before after = IsTold P endings.Spent before after
+Prints P endings.Full before after = IsTold P endings.Full before after
+
+-- How serving ended, and what was printed.
+abbrev pub Serves : {S : Type 0} → (S → Told) → Serviced → Ended → Option (List ℕ) → Option (List ℕ) → S → S → Type 0
+Serves told v ended before after old new = Prints (Course told v old new) ended before after

@@ -1,0 +1,53 @@
+//! How serving ended.
+
+ghost use Rattle.std.specs.Prelude.{◌≡◌};
+ghost use Rattle.serving.specs.Runs.{attach_ended, start_ended};
+
+use node_at::fault::StartFault;
+use site_model::site::AttachFailed;
+
+/// How serving ended.
+#[derive(Clone, Copy, Debug, PartialEq, Eq)]
+pub enum Ended {
+    /// All lines and turns were done, or no connection comes any more.
+    Done,
+    /// What was to be printed couldn't be.
+    SinkFailed,
+    /// The journal's files couldn't be opened, or a call of them failed before the node was up.
+    DiskFailed,
+    /// A record of the node may stand or not. The node did nothing more.
+    Halted,
+    /// The journal stands for no list of records.
+    BadJournal,
+    /// There is no listener, or it failed.
+    ListenerFailed,
+    /// Want of memory.
+    NoMemory,
+    /// There is no incarnation behind the journal's last.
+    Spent,
+    /// The journal has no room for the record of one more start.
+    Full,
+}
+
+/// How it ends where files or listener couldn't be opened.
+pub(crate) fn attach_ended(why: AttachFailed) -> Ended
+    ensures { result ≡ attach_ended why }
+{
+    match why {
+        AttachFailed::Disk => Ended::DiskFailed,
+        AttachFailed::Link => Ended::ListenerFailed,
+    }
+}
+
+/// How it ends where the node couldn't start.
+pub(crate) fn start_ended(fault: &StartFault) -> Ended
+    ensures { result ≡ start_ended fault.now }
+{
+    match fault {
+        StartFault::NoMemory => Ended::NoMemory,
+        StartFault::Disk => Ended::DiskFailed,
+        StartFault::Bad { .. } => Ended::BadJournal,
+        StartFault::Spent => Ended::Spent,
+        StartFault::Full => Ended::Full,
+    }
+}

@@ -1,0 +1,19 @@
+//! What is to be served.
+
+use node_at::role::Role;
+use schedules::initiator_line::InitiatorLine;
+
+/// What is to be served. The base is `http://` and the address. The address and `http://` have at most 1,024 bytes, each in 33
+/// to 126.
+#[derive(Clone, Copy, Debug)]
+pub struct Service<'a> {
+    pub role: Role,
+    /// Where it listens.
+    pub listen: &'a str,
+    /// The name of the journal's first file.
+    pub journal: &'a str,
+    /// What is done first, line after line.
+    pub lines: &'a [InitiatorLine],
+    /// How many connections are served behind the lines.
+    pub turns: u32,
+}
