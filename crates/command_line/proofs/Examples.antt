@@ -1,13 +1,15 @@
 -- Words that are a job, that ask, and that are faulty.
-use Rattle.std.proofs.Common.{◌≡◌, [], ◌∷◌, codes, refl}
+use Rattle.std.proofs.Common.{◌≡◌, [], ◌∷◌, codes, false, refl, true}
+use Rattle.std.specs.Fmt.{digits}
 use Rattle.at_tables.specs.declared.cells.State.TheVariants as states
 use Rattle.clap.specs.Faults.{fault_of}
 use Rattle.clap.specs.declared.error.kind.ErrorKind.TheVariants.{InvalidSubcommand, MissingRequiredArgument, MissingSubcommand, UnknownArgument}
 use Rattle.clap.proofs.OnLiterals.{clap_on_literals}
 use Rattle.command_line.specs.Commands.{whole}
-use Rattle.command_line.specs.Jobs.{IsJobOf, IsQuestion}
+use Rattle.command_line.specs.Jobs.{IsJobOf, IsQuestion, Serving}
+use Rattle.command_line.specs.Jobs.Role.{Coordinator}
 use Rattle.command_line.specs.Jobs.Filter.{Cell, Check, Replay}
-use Rattle.command_line.specs.Jobs.Job.{Filters}
+use Rattle.command_line.specs.Jobs.Job.{Filters, Make}
 
 cell_in_state : IsJobOf (codes "cell" ∷ codes "--state" ∷ codes "None" ∷ []) (Filters (Cell states.None))
 unfolding clap_on_literals
@@ -21,9 +23,17 @@ check_at_a_path : IsJobOf (codes "check" ∷ codes "--path=/work" ∷ []) (Filte
 unfolding clap_on_literals
 check_at_a_path = (refl, (refl, refl))
 
-replay : IsJobOf (codes "replay" ∷ []) (Filters Replay)
+replay : IsJobOf (codes "replay" ∷ []) (Filters (Replay false))
 unfolding clap_on_literals
-replay = (refl, refl)
+replay = (refl, (refl, refl))
+
+replay_to_rest : IsJobOf (codes "replay" ∷ codes "--settle" ∷ []) (Filters (Replay true))
+unfolding clap_on_literals
+replay_to_rest = (refl, (refl, refl))
+
+make : IsJobOf (codes "make" ∷ codes "--seed" ∷ codes "18446744073709551615" ∷ codes "--steps=9999" ∷ []) (Make 18446744073709551615 9999)
+unfolding clap_on_literals digits
+make = (refl, (refl, (refl, refl)))
 
 help_of_all : IsQuestion (codes "--help" ∷ [])
 unfolding clap_on_literals
@@ -56,6 +66,10 @@ unknown_command = refl
 no_option_yet : fault_of whole (codes "replay" ∷ codes "--bytes" ∷ []) ≡ UnknownArgument ∷ []
 unfolding clap_on_literals
 no_option_yet = refl
+
+no_seed : fault_of whole (codes "make" ∷ codes "--steps" ∷ codes "1" ∷ []) ≡ MissingRequiredArgument ∷ []
+unfolding clap_on_literals
+no_seed = refl
 
 no_url : fault_of whole (codes "tick" ∷ []) ≡ MissingRequiredArgument ∷ []
 unfolding clap_on_literals

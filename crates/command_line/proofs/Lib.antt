@@ -1,7 +1,9 @@
 mod Examples
+mod Making
 mod Parsing
 mod Printing
 mod Purity
 mod Rows
+mod Served
 mod Ticking
 mod Words

@@ -7,11 +7,11 @@ use Rattle.site_model.specs.Counts.{RisesBy}
 use Rattle.site_model.specs.Source.{IsWhole}
 use Rattle.envelope_cmd.specs.Output.{Output}
 use Rattle.command_line.specs.Jobs.{Filter}
-use Rattle.replay_cmd.specs.Laws.{ReadIsReplayable, ReportsAreSafe}
+use Rattle.replay_cmd.specs.Laws.{ReadIsReplayable, ReportsAreSafe, ReportsComeToRest}
 use Rattle.schedules.specs.Schedules.{schedule_of}
 use Rattle.command_line.specs.Reports.{IsCut, IsDone, IsReplayOf, Reports, replayed, status_of}
 
-on_some : {P Q : List ℕ → Type 0} (left : Option (List ℕ)) → ((input : List ℕ) → P input → Q input) → IfSome left P → IfSome left Q
+pub on_some : {P Q : List ℕ → Type 0} (left : Option (List ℕ)) → ((input : List ℕ) → P input → Q input) → IfSome left P → IfSome left Q
 on_some None f h = tt
 on_some (Some input) f h = f input h
 
@@ -49,5 +49,7 @@ part_printed left before now bytes told job old new output whole t reports (n, (
     (λ input f. record { output = output; reports = reported job bytes told input output t f reports; count = n; within = within; printed = part }) whole.all
 
 pub replay_of :
-    (input : List ℕ) (output : Output) → ReadIsReplayable → ReportsAreSafe → output ≡ replayed (schedule_of input) → IsReplayOf input output
-replay_of input output reads safe e = record { is = e; safe = λ lines f. safe lines (reads input lines f) }
+    (settle : Bool) (input : List ℕ) (output : Output) → ReadIsReplayable → ReportsAreSafe → ReportsComeToRest → output ≡ replayed settle (schedule_of input)
+    → IsReplayOf settle input output
+replay_of settle input output reads safe rests e =
+    record { is = e; safe = λ lines f. safe settle lines (reads input lines f); rests = λ lines f. rests lines (reads input lines f) }

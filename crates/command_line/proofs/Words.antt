@@ -14,7 +14,7 @@ use Rattle.command_line.specs.Views.{Says, SaysUnread, Tells, statuses_of, told,
 use Rattle.std.specs.List.{list_any}
 use Rattle.std.specs.Io.KnownBytes.{Appends}
 use Rattle.command_line.specs.declared.job.NoJob.{NoJob}
-use Rattle.command_line.specs.declared.job.NoJob.TheVariants.{NoDestination, NoMemory, Question, Refused, UnknownState}
+use Rattle.command_line.specs.declared.job.NoJob.TheVariants.{NoDestination, NoMemory, NoNumbers, NoServing, Question, Refused, UnknownState}
 use Rattle.command_line.proofs.Purity.{IsPure, fault_is_pure}
 
 no_job : (words : List Text) → fault_of whole words ≢ [] → IsJob words → ⊥
@@ -42,8 +42,10 @@ told_of words error (Question text) h s = asked (fault_of whole words) (kind_of 
 told_of words error (Refused text) h s = refusal words (kind_of error) (fault_is_pure words) h s.0 s.1
 told_of words error UnknownState h s = absurd s
 told_of words error NoDestination h s = absurd s
+told_of words error NoNumbers h s = absurd s
+told_of words error NoServing h s = absurd s
 
-asks_nothing : (kinds : Kinds) → kinds ≡ [] → IsTrue (asks kinds) → ⊥
+pub asks_nothing : (kinds : Kinds) → kinds ≡ [] → IsTrue (asks kinds) → ⊥
 asks_nothing kinds e h = not_true (asks kinds) (ap asks e) h
 
 pub unread : (words : List Text) (found : Option (Text × List Row)) (name : Text) (rows : List Row) (answer : NoJob) → fault_of whole words ≡ [] → found ≡ subcommand_of whole words
@@ -53,6 +55,8 @@ unread words found name rows (Question text) e f g h n = absurd h
 unread words found name rows (Refused text) e f g h n = absurd h
 unread words found name rows UnknownState e f g h n = ((n, asks_nothing (fault_of whole words) e), e, ap unread_text (sym f ∙ g) ∙ h)
 unread words found name rows NoDestination e f g h n = ((n, asks_nothing (fault_of whole words) e), e, ap unread_text (sym f ∙ g) ∙ h)
+unread words found name rows NoNumbers e f g h n = ((n, asks_nothing (fault_of whole words) e), e, ap unread_text (sym f ∙ g) ∙ h)
+unread words found name rows NoServing e f g h n = ((n, asks_nothing (fault_of whole words) e), e, ap unread_text (sym f ∙ g) ∙ h)
 
 pub none_found : (words : List Text) (found : Option (Text × List Row)) → fault_of whole words ≡ [] → found ≡ subcommand_of whole words → found ≡ None → (IsJob words → ⊥)
     → Tells words UnknownState
@@ -70,3 +74,5 @@ unknown_said words (Question text) old new status h s t e f = let no_more : IsTr
 unknown_said words (Refused text) old new status h s t e f = absurd (h.1 f)
 unknown_said words UnknownState old new status h s t e f = subst (Appends old new) (sym h.2) (t (not_five status e))
 unknown_said words NoDestination old new status h s t e f = subst (Appends old new) (sym h.2) (t (not_five status e))
+unknown_said words NoNumbers old new status h s t e f = subst (Appends old new) (sym h.2) (t (not_five status e))
+unknown_said words NoServing old new status h s t e f = subst (Appends old new) (sym h.2) (t (not_five status e))

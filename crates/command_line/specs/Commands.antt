@@ -2,7 +2,7 @@
 use Rattle.std.specs.Prelude.{◌≡◌, [], ◌∷◌, Some, true, false, codes}
 use Rattle.clap.specs.Simple.{App, app_of, new_app, new_rule, on_top, with_rule, with_subcommand}
 use Rattle.clap.specs.Walk.{Rule, Text}
-use Rattle.clap.specs.declared.builder.action.ArgAction.TheVariants.{Set}
+use Rattle.clap.specs.declared.builder.action.ArgAction.TheVariants.{Set, SetTrue}
 use Rattle.clap.specs.declared.builder.command.Command.{Command}
 use Rattle.clap.specs.declared.builder.command.Command.TheViews.{out-Command}
 
@@ -18,6 +18,10 @@ wanted name = record (valued name) { required = true }
 abbrev pub preset : Text → Text → Rule
 preset name value = record (valued name) { defaults = value ∷ [] }
 
+-- a flag, which is true where it is given, and else false
+abbrev pub flag : Text → Rule
+flag name = record (new_rule name) { long = Some name; action = Some SetTrue }
+
 -- `cell --state S`
 abbrev pub cell : App
 cell = with_rule (new_app (codes "cell")) (wanted (codes "state"))
@@ -26,9 +30,13 @@ cell = with_rule (new_app (codes "cell")) (wanted (codes "state"))
 abbrev pub check : App
 check = with_rule (new_app (codes "check")) (preset (codes "path") (codes "/"))
 
--- `replay`
+-- `replay [--settle]`
 abbrev pub replay : App
-replay = new_app (codes "replay")
+replay = with_rule (new_app (codes "replay")) (flag (codes "settle"))
+
+-- `make --seed S --steps N`
+abbrev pub make : App
+make = with_rule (with_rule (new_app (codes "make")) (wanted (codes "seed"))) (wanted (codes "steps"))
 
 -- `tick --to U`
 abbrev pub tick : App
@@ -43,8 +51,27 @@ top = on_top (λ s. record s { no_binary_name = true; disable_help_subcommand = 
 abbrev pub filters : App
 filters = with_subcommand (with_subcommand (with_subcommand top cell.top) check.top) replay.top
 
+-- with the one that makes its schedule itself
+abbrev pub printing : App
+printing = with_subcommand filters make.top
+
+-- `NAME --listen ADDR --journal F --turns N`
+abbrev pub serving : Text → App
+serving name = with_rule (with_rule (with_rule (new_app name) (wanted (codes "listen"))) (wanted (codes "journal"))) (wanted (codes "turns"))
+
+-- with the command that posts
+abbrev pub posting : App
+posting = with_subcommand printing tick.top
+
+-- with one that serves
+abbrev pub coordinating : App
+coordinating = with_subcommand posting (serving (codes "coordinator")).top
+
+abbrev pub participating : App
+participating = with_subcommand coordinating (serving (codes "participant")).top
+
 abbrev pub whole : App
-whole = with_subcommand filters tick.top
+whole = with_subcommand participating (serving (codes "initiator")).top
 
 -- clap's command is this one
 pub record IsCommand (app : App) (command : Command) : Type 0 where

@@ -1,5 +1,6 @@
 -- What the words are: a job, a question for the help or the version, or faulty.
-use Rattle.std.specs.Prelude.{ℕ, List, [], ◌∷◌, ◌++◌, ◌≡◌, Bool, true, false, nat_le, length, if◌then◌else◌, Option, Some, None, codes, IsSomeAnd, IsTrue}
+use Rattle.std.specs.Prelude.{ℕ, List, [], ◌∷◌, ◌++◌, ◌-◌, ◌^◌, ◌≡◌, Bool, true, false, ◌&&◌, is_some, nat_le, length, if◌then◌else◌, Option, Some, None, Ok, codes, IsSomeAnd, IsTrue}
+use Rattle.std.specs.List.{list_all}
 use Rattle.addressing.specs.Posting.{post_to_of}
 use Rattle.addressing.specs.declared.post_to.PostTo.{PostTo}
 use Rattle.at_tables.specs.Texts.{state_name}
@@ -10,6 +11,7 @@ use Rattle.clap.specs.Simple.{subcommand_of}
 use Rattle.clap.specs.Walk.{Row, Text, first_of}
 use Rattle.clap.specs.declared.error.kind.ErrorKind.{ErrorKind}
 use Rattle.clap.specs.declared.error.kind.ErrorKind.TheVariants.{DisplayHelp, DisplayVersion}
+use Rattle.schedules.specs.Values.{number_in}
 use Rattle.command_line.specs.Commands.{whole}
 
 -- what reads its input to the end, and prints what it makes of it
@@ -18,18 +20,50 @@ pub data Filter : Type 0 where
   Cell : State → Filter
   -- what an envelope says, for the path of its request
   Check : List ℕ → Filter
-  -- the report of a schedule
-  Replay : Filter
+  -- the report of a schedule, whose world is brought to rest behind it where that is asked
+  Replay : Bool → Filter
+
+-- what a node that serves is
+pub data Role : Type 0 where
+  Coordinator : Role
+  Participant : Role
+  Initiator : Role
+
+abbrev pub role_name : Role → Text
+role_name Coordinator = codes "coordinator"
+role_name Participant = codes "participant"
+role_name Initiator = codes "initiator"
+
+-- a node that takes so many connections at an address, with its journal in a file of that name
+pub record Serving : Type 0 where
+  pub role : Role
+  pub listen : List ℕ
+  pub journal : List ℕ
+  pub turns : ℕ
 
 pub data Job : Type 0 where
   Filters : Filter → Job
+  -- how so many lines that are made of a seed come out
+  Make : ℕ → ℕ → Job
   -- a post to this destination, which asks a node for what is due
   Tick : PostTo → Job
+  Serve : Serving → Job
+
+-- the value of a flag
+abbrev pub flag_text : Bool → Text
+flag_text true = codes "true"
+flag_text false = codes "false"
 
 abbrev pub MeansFilter : Text → List Row → Filter → Type 0
 MeansFilter name rows (Cell state) = (name ≡ codes "cell") × (first_of (codes "state") rows ≡ Some (state_name state))
 MeansFilter name rows (Check path) = (name ≡ codes "check") × (first_of (codes "path") rows ≡ Some path)
-MeansFilter name rows Replay = name ≡ codes "replay"
+MeansFilter name rows (Replay settle) = (name ≡ codes "replay") × (first_of (codes "settle") rows ≡ Some (flag_text settle))
+
+-- the seed and how many lines, in decimal without sign or leading zeros
+abbrev pub MeansMade : List Row → ℕ → ℕ → Type 0
+MeansMade rows seed steps =
+    IsSomeAnd (first_of (codes "seed") rows) (λ word. number_in 0 (2 ^ 64 - 1) word ≡ Ok seed)
+    × IsSomeAnd (first_of (codes "steps") rows) (λ word. number_in 0 9999 word ≡ Ok steps)
 
 -- where a node at this base is asked: an http URL of at most 2,048 bytes
 abbrev pub tick_address : List ℕ → List ℕ
@@ -38,10 +72,24 @@ tick_address url = url ++ codes "/tick"
 abbrev pub tick_to : List ℕ → Option PostTo
 tick_to url = if nat_le (length (tick_address url)) 2048 then post_to_of (tick_address url) else None
 
+abbrev pub is_visible : ℕ → Bool
+is_visible b = nat_le 33 b && nat_le b 126
+
+-- the address of a node, which with `http://` before it is its base: something can be posted there
+abbrev pub is_address : List ℕ → Bool
+is_address listen = nat_le (length listen) 1000 && list_all is_visible listen && is_some (post_to_of (codes "http://" ++ listen))
+
+abbrev pub MeansServing : Text → List Row → Serving → Type 0
+MeansServing name rows s =
+    (name ≡ role_name s.role) × (first_of (codes "listen") rows ≡ Some s.listen) × (is_address s.listen ≡ true)
+    × (first_of (codes "journal") rows ≡ Some s.journal) × IsSomeAnd (first_of (codes "turns") rows) (λ word. number_in 0 (2 ^ 32 - 1) word ≡ Ok s.turns)
+
 -- a command of this name, with these values of its options, is the job
 abbrev pub Means : Text → List Row → Job → Type 0
 Means name rows (Filters filter) = MeansFilter name rows filter
+Means name rows (Make seed steps) = (name ≡ codes "make") × MeansMade rows seed steps
 Means name rows (Tick to) = (name ≡ codes "tick") × IsSomeAnd (first_of (codes "to") rows) (λ url. tick_to url ≡ Some to)
+Means name rows (Serve s) = MeansServing name rows s
 
 -- clap finds no fault in the words, and the command that it finds is the job
 abbrev pub IsJobOf : List Text → Job → Type 0
@@ -53,6 +101,14 @@ IsJob words = (job : Job) × IsJobOf words job
 -- they are a job that reads its input
 abbrev pub IsFilter : List Text → Type 0
 IsFilter words = (filter : Filter) × IsJobOf words (Filters filter)
+
+-- they are a node that serves
+abbrev pub IsServing : List Text → Type 0
+IsServing words = (serving : Serving) × IsJobOf words (Serve serving)
+
+-- they are an initiator
+abbrev pub IsInitiator : List Text → Type 0
+IsInitiator words = (serving : Serving) × (serving.role ≡ Initiator) × IsJobOf words (Serve serving)
 
 abbrev pub asks_for : ErrorKind → Bool
 asks_for DisplayHelp = true

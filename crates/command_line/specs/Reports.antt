@@ -1,11 +1,11 @@
 -- What a job prints of its input, and the status that it ends with.
-use Rattle.std.specs.Prelude.{ℕ, List, [], ◌++◌, codes, decimal, Result, Ok, Err, Option, length, take, if◌then◌else◌, ◌≡◌, ◌≤◌, ◌⊎◌}
+use Rattle.std.specs.Prelude.{ℕ, Bool, List, [], ◌++◌, codes, decimal, Result, Ok, Err, Option, length, take, if◌then◌else◌, ◌≡◌, ◌≤◌, ◌⊎◌}
 use Rattle.std.specs.Io.KnownBytes.{Appends}
 use Rattle.envelope_cmd.specs.Output.{Output, accepted, refused}
 use Rattle.envelope_cmd.specs.Cells.{IsCellOf}
 use Rattle.envelope_cmd.specs.Checks.{IsCheckOf}
-use Rattle.replay_cmd.specs.Laws.{IsSafe}
-use Rattle.replay_cmd.specs.ReportOf.{nodes_of, report_of, world_of}
+use Rattle.replay_cmd.specs.Laws.{ComesToRest, IsSafe}
+use Rattle.replay_cmd.specs.ReportOf.{nodes_of, report_with, world_with}
 use Rattle.schedules.specs.Causes.{number_of_cause}
 use Rattle.schedules.specs.Schedules.{schedule_of}
 use Rattle.schedules.specs.declared.line.BadLine.{BadLine}
@@ -17,22 +17,23 @@ use Rattle.command_line.specs.Jobs.Filter.{Cell, Check, Replay}
 unfoldable pub bad_line : BadLine → List ℕ
 bad_line bad = codes "line " ++ (decimal bad.line ++ (codes " cause " ++ (decimal (number_of_cause bad.cause) ++ codes "\n")))
 
--- the report of a schedule, or of its first bad line
-abbrev pub replayed : Result (List Line) BadLine → Output
-replayed (Ok lines) = accepted (report_of lines)
-replayed (Err bad) = refused (bad_line bad)
+-- the report of a schedule, whose world is brought to rest where that is asked, or of its first bad line
+abbrev pub replayed : Bool → Result (List Line) BadLine → Output
+replayed settle (Ok lines) = accepted (report_with settle lines)
+replayed settle (Err bad) = refused (bad_line bad)
 
 -- The report of a schedule is of a world in which no two participants of one transaction end differently, with all else that
--- holds of every run.
-pub record IsReplayOf (input : List ℕ) (output : Output) : Type 0 where
-  pub is : output ≡ replayed (schedule_of input)
-  pub safe : (lines : List Line) → schedule_of input ≡ Ok lines → IsSafe (nodes_of lines) (world_of lines)
+-- holds of every run. A world that is brought to rest is at rest.
+pub record IsReplayOf (settle : Bool) (input : List ℕ) (output : Output) : Type 0 where
+  pub is : output ≡ replayed settle (schedule_of input)
+  pub safe : (lines : List Line) → schedule_of input ≡ Ok lines → IsSafe (nodes_of lines) (world_with settle lines)
+  pub rests : (lines : List Line) → schedule_of input ≡ Ok lines → ComesToRest lines
 
 -- a filter prints this of its input
 abbrev pub Reports : Filter → List ℕ → Output → Type 0
 Reports (Cell state) input output = IsCellOf input state output
 Reports (Check path) input output = IsCheckOf input path output
-Reports Replay input output = IsReplayOf input output
+Reports (Replay settle) input output = IsReplayOf settle input output
 
 -- 0 where it ended, 3 where it refused its input
 abbrev pub status_of : Output → ℕ

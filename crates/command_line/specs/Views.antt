@@ -12,18 +12,32 @@ use Rattle.command_line.specs.declared.job.NoJob.TheVariants as none
 use Rattle.command_line.specs.Commands.{whole}
 use Rattle.command_line.specs.declared.job.Filter.{Filter as NamedFilter}
 use Rattle.command_line.specs.declared.job.Filter.TheVariants as filters
-use Rattle.command_line.specs.Jobs.{Filter, IsFaulty, IsQuestion, Job, asks_for}
+use Rattle.command_line.specs.declared.job.Role.{Role as NamedRole}
+use Rattle.command_line.specs.declared.job.Role.TheVariants as roles
+use Rattle.command_line.specs.declared.job.Serving.{Serving as NamedServing}
+use Rattle.command_line.specs.Jobs.{Filter, IsFaulty, IsQuestion, Job, Role, Serving, asks_for}
+use Rattle.command_line.specs.Jobs.Role.{Coordinator, Participant, Initiator}
 use Rattle.command_line.specs.Jobs.Filter.{Cell, Check, Replay}
-use Rattle.command_line.specs.Jobs.Job.{Filters, Tick}
+use Rattle.command_line.specs.Jobs.Job.{Filters, Make, Serve, Tick}
 
 abbrev pub meant_filter : NamedFilter → Filter
 meant_filter (filters.Cell state) = Cell state
 meant_filter (filters.Check path) = Check path.now
-meant_filter filters.Replay = Replay
+meant_filter (filters.Replay settle) = Replay settle
+
+abbrev pub meant_role : NamedRole → Role
+meant_role roles.Coordinator = Coordinator
+meant_role roles.Participant = Participant
+meant_role roles.Initiator = Initiator
+
+abbrev pub meant_serving : NamedServing → Serving
+meant_serving s = record { role = meant_role s.role; listen = s.listen.now; journal = s.journal.now; turns = s.turns }
 
 abbrev pub meant : Named → Job
 meant (named.Filter filter) = Filters (meant_filter filter)
+meant (named.Make seed steps) = Make seed steps
 meant (named.Tick to) = Tick to
+meant (named.Serve s) = Serve (meant_serving s)
 
 -- what is said of a value that doesn't read: the states that there are, which clap takes any value for,
 unfoldable pub unknown_state : List ℕ
@@ -33,9 +47,21 @@ unknown_state = codes "error: invalid value for '--state <STATE>'\n  [possible v
 unfoldable pub no_destination : List ℕ
 no_destination = codes "error: invalid value for '--to <URL>'\n  [an http URL, with '/tick' behind it of at most 2048 bytes]\n\nFor more information, try '--help'.\n"
 
+-- or what the numbers are of which a schedule is made
+unfoldable pub no_numbers : List ℕ
+no_numbers = codes "error: invalid value for '--seed <SEED>' or '--steps <N>'\n  [SEED: 0 to 18446744073709551615; N: 0 to 9999]\n\nFor more information, try '--help'.\n"
+
+-- or what the address and the number of a node that serves are
+unfoldable pub no_serving : List ℕ
+no_serving = codes "error: invalid value for '--listen <ADDR>' or '--turns <N>'\n  [ADDR: an address of at most 1000 bytes that is an http URL with 'http://' before it; N: 0 to 4294967295]\n\nFor more information, try '--help'.\n"
+
 -- of the command of this name
 abbrev pub unread_at : Text → List ℕ
-unread_at name = if bytes_eq name (codes "tick") then no_destination else unknown_state
+unread_at name =
+    if bytes_eq name (codes "tick") then no_destination
+    else if bytes_eq name (codes "make") then no_numbers
+    else if bytes_eq name (codes "cell") then unknown_state
+    else no_serving
 
 abbrev pub unread_text : Option (Text × List Row) → List ℕ
 unread_text (Some found) = unread_at found.0
@@ -48,6 +74,8 @@ Tells words (none.Question text) = IsQuestion words
 Tells words (none.Refused text) = IsFaulty words × (fault_of whole words ≢ [])
 Tells words none.UnknownState = IsFaulty words × (fault_of whole words ≡ []) × (unread_text (subcommand_of whole words) ≡ unknown_state)
 Tells words none.NoDestination = IsFaulty words × (fault_of whole words ≡ []) × (unread_text (subcommand_of whole words) ≡ no_destination)
+Tells words none.NoNumbers = IsFaulty words × (fault_of whole words ≡ []) × (unread_text (subcommand_of whole words) ≡ no_numbers)
+Tells words none.NoServing = IsFaulty words × (fault_of whole words ≡ []) × (unread_text (subcommand_of whole words) ≡ no_serving)
 
 -- what an error of clap's says, by its kind
 abbrev pub Says : ErrorKind → NoJob → Type 0
@@ -56,11 +84,15 @@ Says kind (none.Question text) = asks_for kind ≡ true
 Says kind (none.Refused text) = (asks_for kind ≡ false) × (kind ≢ OutOfMemory)
 Says kind none.UnknownState = ⊥
 Says kind none.NoDestination = ⊥
+Says kind none.NoNumbers = ⊥
+Says kind none.NoServing = ⊥
 
 -- what a value that doesn't read says, by the command's name
 abbrev pub SaysUnread : Text → NoJob → Type 0
 SaysUnread name none.UnknownState = unread_at name ≡ unknown_state
 SaysUnread name none.NoDestination = unread_at name ≡ no_destination
+SaysUnread name none.NoNumbers = unread_at name ≡ no_numbers
+SaysUnread name none.NoServing = unread_at name ≡ no_serving
 SaysUnread name _ = ⊥
 
 -- the statuses that it ends with
@@ -70,6 +102,8 @@ statuses_of (none.Question text) = 0 ∷ 5 ∷ []
 statuses_of (none.Refused text) = 2 ∷ 5 ∷ []
 statuses_of none.UnknownState = 2 ∷ 5 ∷ []
 statuses_of none.NoDestination = 2 ∷ 5 ∷ []
+statuses_of none.NoNumbers = 2 ∷ 5 ∷ []
+statuses_of none.NoServing = 2 ∷ 5 ∷ []
 
 -- what is printed of it
 abbrev pub told : NoJob → List ℕ
@@ -78,6 +112,8 @@ told (none.Question text) = string_bytes text
 told (none.Refused text) = string_bytes text
 told none.UnknownState = unknown_state
 told none.NoDestination = no_destination
+told none.NoNumbers = no_numbers
+told none.NoServing = no_serving
 
 -- where nothing is said, this holds
 abbrev pub Leaves : NoJob → Type 0 → Type 0

@@ -1,8 +1,8 @@
 //! The command line, for clap to read.
 
-ghost use Rattle.std.specs.Prelude.{◌≡◌, false, IfOk};
+ghost use Rattle.std.specs.Prelude.{◌≡◌, false, IfOk, codes};
 ghost use Rattle.clap.specs.Walk.{rule_of};
-ghost use Rattle.command_line.specs.Commands.{IsCommand, valued, cell, check, replay, filters, tick, top, whole};
+ghost use Rattle.command_line.specs.Commands.{IsCommand, valued, wanted, flag, cell, check, replay, make, coordinating, filters, participating, posting, printing, serving, tick, top, whole};
 
 use clap::{Arg, ArgAction, Command};
 use std::alloc::{AllocError, Global};
@@ -16,6 +16,14 @@ fn valued<'a>(alloc: Global, name: &'a str, value: &'a str) -> Arg<'a>
         .long(name)
         .value_name(value)
         .action(ArgAction::Set)
+}
+
+/// A flag `--NAME`.
+fn flag<'a>(alloc: Global, name: &'a str) -> Arg<'a>
+    ensures rule { rule_of result ≡ flag name.entry.now }
+    ensures local { result.global ≡ false }
+{
+    Arg::new(alloc, name).long(name).action(ArgAction::SetTrue)
 }
 
 /// `cell --state S`.
@@ -42,13 +50,30 @@ fn check<'a>(alloc: Global) -> Result<Command<'a>, AllocError>
         .arg(path)
 }
 
-/// `replay`.
-fn replay<'a>(alloc: Global) -> Command<'a>
-    ensures { IsCommand replay result }
+/// `replay [--settle]`.
+fn replay<'a>(alloc: Global) -> Result<Command<'a>, AllocError>
+    ensures { IfOk result (IsCommand replay) }
 {
-    Command::new(alloc, "replay").about(
-        "Print what the lines of a schedule bring about, line by line",
-    )
+    let settle = flag(alloc, "settle").help("Bring the world to rest behind the last line");
+    Command::new(alloc, "replay")
+        .about("Print what the lines of a schedule bring about, line by line")
+        .arg(settle)
+}
+
+/// `make --seed S --steps N`.
+fn make<'a>(alloc: Global) -> Result<Command<'a>, AllocError>
+    ensures { IfOk result (IsCommand make) }
+{
+    let seed = valued(alloc, "seed", "SEED")
+        .required(true)
+        .help("Any number below 2^64");
+    let steps = valued(alloc, "steps", "N")
+        .required(true)
+        .help("How many lines are made, 0 to 9999");
+    Command::new(alloc, "make")
+        .about("Print how a schedule that is made of a seed comes out")
+        .arg(seed)?
+        .arg(steps)
 }
 
 /// `tick --to U`.
@@ -82,12 +107,103 @@ fn filters<'a>(alloc: Global) -> Result<Command<'a>, AllocError>
 {
     let command = top(alloc)?.subcommand(cell(alloc)?)?;
     let command = command.subcommand(check(alloc)?)?;
-    command.subcommand(replay(alloc))
+    command.subcommand(replay(alloc)?)
+}
+
+/// With the one that makes its schedule itself.
+fn printing<'a>(alloc: Global) -> Result<Command<'a>, AllocError>
+    ensures { IfOk result (IsCommand printing) }
+{
+    filters(alloc)?.subcommand(make(alloc)?)
+}
+
+/// `--listen ADDR`.
+fn listen<'a>(alloc: Global) -> Arg<'a>
+    ensures rule { rule_of result ≡ wanted (codes "listen") }
+    ensures local { result.global ≡ false }
+{
+    valued(alloc, "listen", "ADDR").required(true).help(
+        "The address at which other nodes reach this one, as 127.0.0.1:9001",
+    )
+}
+
+/// `--journal F`.
+fn journal<'a>(alloc: Global) -> Arg<'a>
+    ensures rule { rule_of result ≡ wanted (codes "journal") }
+    ensures local { result.global ≡ false }
+{
+    valued(alloc, "journal", "F").required(true).help(
+        "The journal's first file; the second has .1 behind this name",
+    )
+}
+
+/// `--turns N`.
+fn turns<'a>(alloc: Global) -> Arg<'a>
+    ensures rule { rule_of result ≡ wanted (codes "turns") }
+    ensures local { result.global ≡ false }
+{
+    valued(alloc, "turns", "N")
+        .required(true)
+        .help("How many connections are served")
+}
+
+/// `coordinator --listen ADDR --journal F --turns N`.
+fn coordinator<'a>(alloc: Global) -> Result<Command<'a>, AllocError>
+    ensures { IfOk result (IsCommand (serving (codes "coordinator"))) }
+{
+    Command::new(alloc, "coordinator")
+        .about("Serve as a coordinator")
+        .arg(listen(alloc))?
+        .arg(journal(alloc))?
+        .arg(turns(alloc))
+}
+
+/// `participant --listen ADDR --journal F --turns N`.
+fn participant<'a>(alloc: Global) -> Result<Command<'a>, AllocError>
+    ensures { IfOk result (IsCommand (serving (codes "participant"))) }
+{
+    Command::new(alloc, "participant")
+        .about("Serve as a participant")
+        .arg(listen(alloc))?
+        .arg(journal(alloc))?
+        .arg(turns(alloc))
+}
+
+/// `initiator --listen ADDR --journal F --turns N`.
+fn initiator<'a>(alloc: Global) -> Result<Command<'a>, AllocError>
+    ensures { IfOk result (IsCommand (serving (codes "initiator"))) }
+{
+    Command::new(alloc, "initiator")
+        .about("Do the lines of the input as an initiator, and serve")
+        .arg(listen(alloc))?
+        .arg(journal(alloc))?
+        .arg(turns(alloc))
+}
+
+/// With the command that posts.
+fn posting<'a>(alloc: Global) -> Result<Command<'a>, AllocError>
+    ensures { IfOk result (IsCommand posting) }
+{
+    printing(alloc)?.subcommand(tick(alloc)?)
+}
+
+/// With a node that coordinates.
+fn coordinating<'a>(alloc: Global) -> Result<Command<'a>, AllocError>
+    ensures { IfOk result (IsCommand coordinating) }
+{
+    posting(alloc)?.subcommand(coordinator(alloc)?)
+}
+
+/// With a node that takes part.
+fn participating<'a>(alloc: Global) -> Result<Command<'a>, AllocError>
+    ensures { IfOk result (IsCommand participating) }
+{
+    coordinating(alloc)?.subcommand(participant(alloc)?)
 }
 
 /// All commands.
 pub fn whole<'a>(alloc: Global) -> Result<Command<'a>, AllocError>
     ensures { IfOk result (IsCommand whole) }
 {
-    filters(alloc)?.subcommand(tick(alloc)?)
+    participating(alloc)?.subcommand(initiator(alloc)?)
 }

@@ -1,6 +1,7 @@
 //! The job that the words name.
 
-ghost use Rattle.std.specs.Prelude.{◌≡◌, [], IfOk, IfErr, IfSome, IsSomeAnd, Some, codes, map, option_map, string_bytes};
+ghost use Rattle.std.specs.List.{list_all};
+ghost use Rattle.std.specs.Prelude.{ℕ, ◌≡◌, ◌≢◌, [], Bool, IfOk, IfErr, IfSome, IsSomeAnd, Some, codes, map, option_map, string_bytes};
 ghost use Rattle.addressing.specs.declared.post_to.PostTo.{PostTo as MeantTo};
 ghost use Rattle.clap.specs.Faults.{fault_of};
 ghost use Rattle.clap.specs.Kinds.{HasKind};
@@ -9,16 +10,17 @@ ghost use Rattle.clap.specs.Walk.{first_of, rows_of};
 ghost use Rattle.clap.specs.Matches.{found_of};
 ghost use Rattle.clap.specs.Values.{kind_of};
 ghost use Rattle.command_line.specs.Commands.{whole};
-ghost use Rattle.command_line.specs.Jobs.{Filter as MeantFilter, IsJobOf, Job as Meant, Means, MeansFilter, tick_to};
-ghost use Rattle.command_line.specs.Views.{Says, SaysUnread, Tells, meant, meant_filter};
+ghost use Rattle.command_line.specs.Jobs.{Filter as MeantFilter, IsJobOf, Job as Meant, Means, MeansFilter, MeansMade, MeansServing, Role as MeantRole, Serving as MeantServing, flag_text, is_address, is_visible, role_name, tick_to};
+ghost use Rattle.command_line.specs.Views.{Says, SaysUnread, Tells, meant, meant_filter, meant_role, meant_serving};
 
 use crate::commands::whole;
-use addressing::post_to::{PostTo, post_to};
+use addressing::post_to::{PostTo, is_postable, post_to};
 use at_base::epr::Epr;
 use at_base::text::Text;
 use at_tables::cells::State;
 use clap::error::ErrorKind;
 use clap::{ArgMatches, Error};
+use schedules::values::{read_long, read_number, read_small};
 use std::alloc::{AllocError, Global};
 
 /// What reads its input to the end, and prints what it makes of it.
@@ -28,16 +30,40 @@ pub enum Filter<'a> {
     Cell(State),
     /// `check --path P`, or `check`, whose path is `/`.
     Check(&'a str),
-    /// `replay`.
-    Replay,
+    /// `replay`, or `replay --settle`.
+    Replay { settle: bool },
+}
+
+/// What a node that serves is.
+#[derive(Clone, Copy, Debug, PartialEq, Eq)]
+pub enum Role {
+    Coordinator,
+    Participant,
+    Initiator,
+}
+
+/// A node that serves: `ROLE --listen ADDR --journal F --turns N`.
+#[derive(Clone, Copy, Debug, PartialEq, Eq)]
+pub struct Serving<'a> {
+    pub role: Role,
+    /// Where it listens; with `http://` before it the node's base. At most 1,000 bytes, each in 33 to 126.
+    pub listen: &'a str,
+    /// The name of the journal's first file.
+    pub journal: &'a str,
+    /// How many connections it serves.
+    pub turns: u32,
 }
 
 /// What is to be done.
 #[derive(Debug, PartialEq, Eq, Drop)]
 pub enum Job<'a> {
     Filter(Filter<'a>),
+    /// `make --seed S --steps N`.
+    Make { seed: u64, steps: u16 },
     /// `tick --to U`.
     Tick(PostTo),
+    /// `coordinator`, `participant` or `initiator`.
+    Serve(Serving<'a>),
 }
 
 /// Why the words gave no job.
@@ -52,7 +78,17 @@ pub enum NoJob {
     UnknownState,
     /// Nothing can be posted there.
     NoDestination,
+    /// No schedule is made of these numbers.
+    NoNumbers,
+    /// No node listens there, or serves so many connections.
+    NoServing,
 }
+
+/// The most lines that are made of a seed.
+const MOST_STEPS: u16 = 9_999;
+
+/// The most bytes of the address at which a node listens (this profile).
+const LISTEN_BYTES: usize = 1000;
 
 /// The most bytes of an address (this profile).
 const ADDRESS_BYTES: usize = 2048;
@@ -71,6 +107,18 @@ fn text_at<'a>(found: &ArgMatches<'a>, id: &str) -> Option<&'a str>
     found.get_str(id)
 }
 
+/// Whether a flag was given.
+fn flag_at(found: &ArgMatches<'_>, id: &str) -> Option<bool>
+    ensures found { IfSome result (λ given. first_of id.now (rows_of (found_of found.now)) ≡ Some (flag_text given)) }
+    ensures every { (given : Bool) → first_of id.now (rows_of (found_of found.now)) ≡ Some (flag_text given) → result ≡ Some given }
+{
+    match text_at(found, id)? {
+        "true" => Some(true),
+        "false" => Some(false),
+        _ => None,
+    }
+}
+
 /// The filter that the matches of a command are. None exactly where they are none.
 fn read_filter<'a>(name: &str, found: &ArgMatches<'a>) -> Option<Filter<'a>>
     ensures found { IfSome result (λ filter. MeansFilter name.now (rows_of (found_of found.now)) (meant_filter filter)) }
@@ -79,7 +127,9 @@ fn read_filter<'a>(name: &str, found: &ArgMatches<'a>) -> Option<Filter<'a>>
     match name {
         "cell" => Some(Filter::Cell(State::from_name(text_at(found, "state")?)?)),
         "check" => Some(Filter::Check(text_at(found, "path")?)),
-        "replay" => Some(Filter::Replay),
+        "replay" => Some(Filter::Replay {
+            settle: flag_at(found, "settle")?,
+        }),
         _ => None,
     }
 }
@@ -108,6 +158,110 @@ fn read_tick(alloc: Global, found: &ArgMatches<'_>) -> Result<Option<PostTo>, Al
     }
 }
 
+/// The seed and the number of lines that the matches of `make` name.
+fn read_make(found: &ArgMatches<'_>) -> Option<(u64, u16)>
+    ensures found { IfSome result (λ made. MeansMade (rows_of (found_of found.now)) made.0 made.1) }
+    ensures every { (seed steps : ℕ) → MeansMade (rows_of (found_of found.now)) seed steps → result ≡ Some (seed, steps) }
+{
+    let Ok(seed) = read_long(text_at(found, "seed")?, 0, u64::MAX) else {
+        return None;
+    };
+    let Ok(steps) = read_small(text_at(found, "steps")?, 0, MOST_STEPS) else {
+        return None;
+    };
+    Some((seed, steps))
+}
+
+/// Whether all bytes are in 33 to 126.
+fn are_visible(word: &str) -> bool
+    ensures { result ≡ list_all is_visible word.now }
+{
+    for byte in word.as_bytes() {
+        if *byte < 33 || *byte > 126 {
+            return false;
+        }
+    }
+    true
+}
+
+/// Whether a node may listen there.
+fn is_address(alloc: Global, listen: &str) -> Result<bool, AllocError>
+    ensures { IfOk result (λ is. is ≡ is_address listen.now) }
+{
+    if listen.len() > LISTEN_BYTES || !are_visible(listen) {
+        return Ok(false);
+    }
+    let mut base = String::from_str(alloc, "http://")?;
+    base.push_str(listen)?;
+    is_postable(alloc, base.as_str())
+}
+
+fn role_of(name: &str) -> Option<Role>
+    ensures found { IfSome result (λ role. name.now ≡ role_name (meant_role role)) }
+    ensures every { (role : MeantRole) → name.now ≡ role_name role → option_map meant_role result ≡ Some role }
+{
+    match name {
+        "coordinator" => Some(Role::Coordinator),
+        "participant" => Some(Role::Participant),
+        "initiator" => Some(Role::Initiator),
+        _ => None,
+    }
+}
+
+/// The node that the matches of a command are. None exactly where they are none.
+fn read_serving<'a>(
+    alloc: Global,
+    name: &str,
+    found: &ArgMatches<'a>,
+) -> Result<Option<Serving<'a>>, AllocError>
+    ensures found { IfOk result (λ serving. IfSome serving (λ s. MeansServing name.now (rows_of (found_of found.now)) (meant_serving s))) }
+    ensures every { IfOk result (λ found_serving. (s : MeantServing) → MeansServing name.now (rows_of (found_of found.now)) s → option_map meant_serving found_serving ≡ Some s) }
+{
+    let Some(role) = role_of(name) else {
+        return Ok(None);
+    };
+    let Some(listen) = text_at(found, "listen") else {
+        return Ok(None);
+    };
+    let Some(journal) = text_at(found, "journal") else {
+        return Ok(None);
+    };
+    let Some(word) = text_at(found, "turns") else {
+        return Ok(None);
+    };
+    if !is_address(alloc, listen)? {
+        return Ok(None);
+    }
+    match read_number(word, 0, u32::MAX) {
+        Ok(turns) => Ok(Some(Serving {
+            role,
+            listen,
+            journal,
+            turns,
+        })),
+        Err(_) => Ok(None),
+    }
+}
+
+/// A filter, or a node that serves.
+fn read_longer<'a>(
+    alloc: Global,
+    name: &str,
+    found: &ArgMatches<'a>,
+) -> Result<Option<Job<'a>>, AllocError>
+    requires { (name.now ≢ codes "tick") × (name.now ≢ codes "make") }
+    ensures found { IfOk result (λ job. IfSome job (λ job. Means name.now (rows_of (found_of found.now)) (meant job))) }
+    ensures every { IfOk result (λ found_job. (job : Meant) → Means name.now (rows_of (found_of found.now)) job → option_map meant found_job ≡ Some job) }
+{
+    if let Some(filter) = read_filter(name, found) {
+        return Ok(Some(Job::Filter(filter)));
+    }
+    match read_serving(alloc, name, found)? {
+        Some(serving) => Ok(Some(Job::Serve(serving))),
+        None => Ok(None),
+    }
+}
+
 /// The job that the matches of a command are. None exactly where they are none.
 fn read_job<'a>(
     alloc: Global,
@@ -117,15 +271,16 @@ fn read_job<'a>(
     ensures found { IfOk result (λ job. IfSome job (λ job. Means name.now (rows_of (found_of found.now)) (meant job))) }
     ensures every { IfOk result (λ found_job. (job : Meant) → Means name.now (rows_of (found_of found.now)) job → option_map meant found_job ≡ Some job) }
 {
-    if name == "tick" {
-        return match read_tick(alloc, found)? {
+    match name {
+        "tick" => match read_tick(alloc, found)? {
             Some(to) => Ok(Some(Job::Tick(to))),
             None => Ok(None),
-        };
-    }
-    match read_filter(name, found) {
-        Some(filter) => Ok(Some(Job::Filter(filter))),
-        None => Ok(None),
+        },
+        "make" => match read_make(found) {
+            Some((seed, steps)) => Ok(Some(Job::Make { seed, steps })),
+            None => Ok(None),
+        },
+        _ => read_longer(alloc, name, found),
     }
 }
 
@@ -133,10 +288,11 @@ fn read_job<'a>(
 fn unread(name: &str) -> NoJob
     ensures { SaysUnread name.now result }
 {
-    if name == "tick" {
-        NoJob::NoDestination
-    } else {
-        NoJob::UnknownState
+    match name {
+        "tick" => NoJob::NoDestination,
+        "make" => NoJob::NoNumbers,
+        "cell" => NoJob::UnknownState,
+        _ => NoJob::NoServing,
     }
 }
 

@@ -3,6 +3,8 @@
 
 mod commands;
 mod job;
+mod make;
+mod node;
 mod replay;
 pub mod run;
 mod tick;

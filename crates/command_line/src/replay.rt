@@ -3,53 +3,55 @@
 ghost use Rattle.std.specs.Prelude.{◌≡◌, IfOk};
 ghost use Rattle.envelope_cmd.specs.Output.{accepted, refused};
 ghost use Rattle.replay_cmd.specs.Laws.{IsReplayable};
-ghost use Rattle.replay_cmd.specs.ReportOf.{report_of};
+ghost use Rattle.replay_cmd.specs.ReportOf.{report_with};
 ghost use Rattle.schedules.specs.Schedules.{schedule_of};
 ghost use Rattle.command_line.specs.Reports.{IsReplayOf, bad_line, replayed};
 
 use envelope_cmd::printed::Printed;
-use replay_cmd::laws::{reports_are_safe, what_is_read_is_replayable};
+use replay_cmd::laws::{reports_are_safe, reports_come_to_rest, what_is_read_is_replayable};
 use replay_cmd::replay::replay;
 use schedules::line::{BadLine, Schedule, ScheduleError};
 use schedules::reader::read_schedule;
 use std::alloc::{AllocError, Global};
 
 #[tactic(auto, unfolding(crate::specs::Reports::bad_line))]
-fn refusal(alloc: Global, bad: BadLine) -> Result<Printed, AllocError>
+pub(crate) fn refusal(alloc: Global, bad: BadLine) -> Result<Printed, AllocError>
     ensures { IfOk result (λ printed. printed ≡ refused (bad_line bad)) }
 {
     let line = format!(in alloc; "line {} cause {}\n", bad.line, bad.cause.number())?;
     Printed::refused(alloc, line.as_str())
 }
 
-fn report(alloc: Global, schedule: &Schedule) -> Result<Printed, AllocError>
+fn report(alloc: Global, schedule: &Schedule, settle: bool) -> Result<Printed, AllocError>
     requires { IsReplayable schedule.now }
-    ensures { IfOk result (λ printed. printed ≡ accepted (report_of schedule.now)) }
+    ensures { IfOk result (λ printed. printed ≡ accepted (report_with settle schedule.now)) }
 {
-    let report = replay(alloc, schedule)?;
-    let text = Vec::from_slice(alloc, report.text.as_slice())?;
+    let lines = replay(alloc, schedule, settle)?;
+    let text = Vec::from_slice(alloc, lines.as_slice())?;
     Ok(Printed::accepted(text))
 }
 
-fn printed(alloc: Global, input: &[u8]) -> Result<Printed, AllocError>
-    ensures { IfOk result (λ printed. printed ≡ replayed (schedule_of input.now)) }
+fn printed(alloc: Global, input: &[u8], settle: bool) -> Result<Printed, AllocError>
+    ensures { IfOk result (λ printed. printed ≡ replayed settle (schedule_of input.now)) }
 {
     what_is_read_is_replayable();
     match read_schedule(alloc, input) {
-        Ok(schedule) => report(alloc, &schedule),
+        Ok(schedule) => report(alloc, &schedule, settle),
         Err(ScheduleError::Bad(bad)) => refusal(alloc, bad),
         Err(ScheduleError::OutOfMemory) => Err(AllocError),
     }
 }
 
-/// The report of the schedule that the bytes are, or the line of their first bad line. In the world of the report no two
-/// participants of one transaction ended differently (WS-AtomicTransaction 1.2, section 1).
+/// The report of the schedule that the bytes are, whose world is brought to rest behind it where that is asked, or the line of
+/// their first bad line. In the world of the report no two participants of one transaction ended differently
+/// (WS-AtomicTransaction 1.2, section 1).
 #[tactic(auto, using(crate::proofs::Printing::replay_of))]
-pub fn replayed(alloc: Global, input: &[u8]) -> Result<Printed, AllocError>
-    ensures { IfOk result (λ printed. IsReplayOf input.now printed) }
+pub fn replayed(alloc: Global, input: &[u8], settle: bool) -> Result<Printed, AllocError>
+    ensures { IfOk result (λ printed. IsReplayOf settle input.now printed) }
 {
     what_is_read_is_replayable();
     reports_are_safe();
-    let printed = printed(alloc, input)?;
+    reports_come_to_rest();
+    let printed = printed(alloc, input, settle)?;
     Ok(printed)
 }

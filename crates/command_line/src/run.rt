@@ -1,6 +1,6 @@
 //! The top call.
 
-ghost use Rattle.std.specs.Prelude.{ℕ, List, ◌≡◌, ◌≢◌, ◌+◌, ◌<◌, ◌≤◌, IsTrue, IfOk, IfSome, Some, nat_eq, map, string_bytes, length, take, ◌∷◌, []};
+ghost use Rattle.std.specs.Prelude.{ℕ, List, true, false, ◌≡◌, ◌≢◌, ◌+◌, ◌<◌, ◌≤◌, IsTrue, IfOk, IfSome, Some, nat_eq, map, string_bytes, length, take, ◌∷◌, []};
 ghost use Rattle.std.specs.List.{list_any};
 ghost use Rattle.std.specs.Io.KnownBytes.{Appends};
 ghost use Rattle.site_model.specs.Counts.{capped, RisesBy, Rose};
@@ -8,13 +8,17 @@ ghost use Rattle.addressing.specs.declared.post_to.PostTo.{PostTo};
 ghost use Rattle.clap.specs.Faults.{fault_of};
 ghost use Rattle.clap.specs.Simple.{subcommand_of};
 ghost use Rattle.command_line.specs.Commands.{whole};
-ghost use Rattle.command_line.specs.Jobs.{Filter as Filtering, IsFaulty, IsFilter, IsJob, IsJobOf, IsQuestion};
+ghost use Rattle.command_line.specs.Jobs.{Filter as Filtering, IsFaulty, IsFilter, IsInitiator, IsJob, IsJobOf, IsQuestion, IsServing, Serving as Served};
 ghost use Rattle.command_line.specs.Reports.{IsCut, IsDone, IsReport, Reports, status_of};
-ghost use Rattle.command_line.specs.Jobs.Job.{Filters, Tick};
+ghost use Rattle.command_line.specs.Jobs.Job.{Filters, Make, Serve, Tick};
+ghost use Rattle.command_line.specs.Servings.{HasServed, Initiates, initiates};
+ghost use Rattle.command_line.specs.Summaries.{IsSummed, IsSummedInPart};
 ghost use Rattle.command_line.specs.Ticks.{FailedToTick, HasTicked};
-ghost use Rattle.command_line.specs.Views.{meant_filter, no_destination, statuses_of, told, unknown_state, unread_text, Leaves};
+ghost use Rattle.command_line.specs.Views.{meant_filter, no_destination, no_numbers, no_serving, statuses_of, told, unknown_state, unread_text, Leaves};
 
 use crate::job::{Filter, Job, NoJob, job_of};
+use crate::make::make;
+use crate::node::serve_node;
 use crate::replay::replayed;
 use crate::tick::tick;
 use envelope_cmd::cell::cell;
@@ -56,12 +60,12 @@ fn report(alloc: Global, filter: &Filter<'_>, input: &[u8]) -> Result<Printed, A
     match filter {
         Filter::Cell(state) => cell(alloc, input, *state),
         Filter::Check(path) => check(alloc, input, path),
-        Filter::Replay => replayed(alloc, input),
+        Filter::Replay { settle } => replayed(alloc, input, *settle),
     }
 }
 
 /// Writes what was made in memory, and gives the status.
-fn print<K: Sink>(sink: &mut K, printed: &Printed) -> u8
+pub(crate) fn print<K: Sink>(sink: &mut K, printed: &Printed) -> u8
     ensures statuses { IsTrue (list_any (nat_eq result) (status_of printed.now ∷ 5 ∷ [])) }
     ensures cause { result ≡ 5 → Rose (K.faults sink.old) (K.faults sink.new) }
     ensures all { result ≡ status_of printed.now → Appends (K.contents sink.old) (K.contents sink.new) printed.now.text }
@@ -104,6 +108,24 @@ fn no_destination() -> &'static str
 For more information, try '--help'.\n"
 }
 
+/// What is said of numbers of which no schedule is made.
+fn no_numbers() -> &'static str
+    ensures { result.now ≡ no_numbers }
+{
+    "error: invalid value for '--seed <SEED>' or '--steps <N>'\n  \
+[SEED: 0 to 18446744073709551615; N: 0 to 9999]\n\n\
+For more information, try '--help'.\n"
+}
+
+/// What is said of an address or a number of a node that serves.
+fn no_serving() -> &'static str
+    ensures { result.now ≡ no_serving }
+{
+    "error: invalid value for '--listen <ADDR>' or '--turns <N>'\n  \
+[ADDR: an address of at most 1000 bytes that is an http URL with 'http://' before it; N: 0 to 4294967295]\n\n\
+For more information, try '--help'.\n"
+}
+
 /// Says why the words are no job, and gives the status.
 fn tell<K: Sink>(sink: &mut K, reason: &NoJob) -> u8
     ensures statuses { IsTrue (list_any (nat_eq result) (statuses_of reason.now)) }
@@ -118,6 +140,8 @@ fn tell<K: Sink>(sink: &mut K, reason: &NoJob) -> u8
         NoJob::Refused(text) => say(sink, text.as_str(), NO_JOB),
         NoJob::UnknownState => say(sink, unknown_state(), NO_JOB),
         NoJob::NoDestination => say(sink, no_destination(), NO_JOB),
+        NoJob::NoNumbers => say(sink, no_numbers(), NO_JOB),
+        NoJob::NoServing => say(sink, no_serving(), NO_JOB),
     }
 }
 
@@ -157,11 +181,13 @@ fn filter<S: Source, K: Sink>(
 ///
 /// `cell --state S` reads one envelope from the source, and prints the cell of state S that it meets and the envelope
 /// that the cell posts. `check [--path P]` prints what the envelope says, line by line. `replay` reads a schedule, and
-/// prints its report. All that is printed is made in memory before the first write. `tick --to U` posts to U`/tick`, and
-/// reads and prints nothing. `--help` and `--version` are answered without a look at the source, and so are words that
-/// clap refuses: it says why. A value that doesn't read is answered with what it may be. But for `tick` the site stays as
-/// it is.
-#[tactic(auto, using(crate::proofs::Words::unknown_said))]
+/// prints its report; `replay --settle` brings its world to rest behind the last line. `make --seed S --steps N` reads
+/// nothing, and prints how the schedule of a seed comes out. All that these print is made in memory before the first write.
+/// `tick --to U` posts to U`/tick`, and reads and prints nothing. `--help` and `--version` are answered without a look at
+/// the source, and so are words that clap refuses: it says why. A value that doesn't read is answered with what it may be.
+/// `coordinator`, `participant` and `initiator` serve a node (`serving`), the last after it has read its lines from the source.
+/// But for these and for `tick` the site stays as it is.
+#[tactic(auto, using(crate::proofs::Words::unknown_said, crate::proofs::Making::few_steps, crate::proofs::Served::unread_by))]
 pub fn run<S: Source, K: Sink, H: Site>(
     alloc: Global,
     words: &[String],
@@ -169,35 +195,42 @@ pub fn run<S: Source, K: Sink, H: Site>(
     sink: &mut K,
     site: &mut H,
 ) -> u8
-    ensures statuses { IsTrue (list_any (nat_eq result) (0 ∷ 2 ∷ 3 ∷ 4 ∷ 5 ∷ 8 ∷ 9 ∷ 10 ∷ [])) }
+    ensures statuses { IsTrue (list_any (nat_eq result) (0 ∷ 2 ∷ 3 ∷ 4 ∷ 5 ∷ 6 ∷ 7 ∷ 8 ∷ 9 ∷ 10 ∷ 11 ∷ 12 ∷ [])) }
     ensures words { result ≡ 2 → IsFaulty (map string_bytes words.now) }
     ensures faulty { IsFaulty (map string_bytes words.now) → IsTrue (list_any (nat_eq result) (2 ∷ 5 ∷ 9 ∷ [])) }
     ensures question { IsQuestion (map string_bytes words.now) → IsTrue (list_any (nat_eq result) (0 ∷ 5 ∷ 9 ∷ [])) }
     ensures filtered { IsFilter (map string_bytes words.now) → IsTrue (list_any (nat_eq result) (0 ∷ 3 ∷ 4 ∷ 5 ∷ 9 ∷ 10 ∷ [])) }
-    ensures unread { ¬ (IsFilter (map string_bytes words.now)) → source.new ≡ source.old }
+    ensures unread { ¬ (IsFilter (map string_bytes words.now)) → ¬ (IsInitiator (map string_bytes words.now)) → source.new ≡ source.old }
     ensures said { ¬ (IsJob (map string_bytes words.now)) → (said : List ℕ) × Appends (K.contents sink.old) (K.contents sink.new) said }
     ensures unknown { result ≡ 2 → fault_of whole (map string_bytes words.now) ≡ [] → Appends (K.contents sink.old) (K.contents sink.new) (unread_text (subcommand_of whole (map string_bytes words.now))) }
-    ensures untouched { ((to : PostTo) → ¬ (IsJobOf (map string_bytes words.now) (Tick to))) → site.new ≡ site.old }
+    ensures untouched { ((to : PostTo) → ¬ (IsJobOf (map string_bytes words.now) (Tick to))) → ¬ (IsServing (map string_bytes words.now)) → site.new ≡ site.old }
+    ensures making { (seed steps : ℕ) → IsJobOf (map string_bytes words.now) (Make seed steps) → IsTrue (list_any (nat_eq result) (0 ∷ 5 ∷ 9 ∷ [])) }
+    ensures summed { (seed steps : ℕ) → IsJobOf (map string_bytes words.now) (Make seed steps) → result ≡ 0 → IsSummed seed steps (K.contents sink.old) (K.contents sink.new) }
+    ensures summed_in_part { (seed steps : ℕ) → IsJobOf (map string_bytes words.now) (Make seed steps) → result ≡ 5 → IsSummedInPart seed steps (K.contents sink.old) (K.contents sink.new) }
     ensures asked { (to : PostTo) → IsJobOf (map string_bytes words.now) (Tick to) → IsTrue (list_any (nat_eq result) (0 ∷ 8 ∷ 9 ∷ [])) }
     ensures silent { (to : PostTo) → IsJobOf (map string_bytes words.now) (Tick to) → Appends (K.contents sink.old) (K.contents sink.new) [] }
     ensures ticked { (to : PostTo) → IsJobOf (map string_bytes words.now) (Tick to) → result ≡ 0 → HasTicked to (H.told site.old) (H.told site.new) }
     ensures not_ticked { (to : PostTo) → IsJobOf (map string_bytes words.now) (Tick to) → result ≡ 8 → FailedToTick to (H.told site.old) (H.told site.new) }
-    ensures link_failed { result ≡ 8 → Rose (H.told site.old).counts.link (H.told site.new).counts.link }
-    ensures idle { result ≡ 9 → site.new ≡ site.old }
+    ensures link_failed { (to : PostTo) → IsJobOf (map string_bytes words.now) (Tick to) → result ≡ 8 → Rose (H.told site.old).counts.link (H.told site.new).counts.link }
+    ensures idle { ¬ (IsServing (map string_bytes words.now)) → result ≡ 9 → site.new ≡ site.old }
+    ensures served { (serving : Served) → IsJobOf (map string_bytes words.now) (Serve serving) → initiates serving ≡ false → HasServed H.told serving [] result (K.contents sink.old) (K.contents sink.new) site.old site.new }
+    ensures initiated { (serving : Served) → IsJobOf (map string_bytes words.now) (Serve serving) → initiates serving ≡ true → Initiates H.told serving (S.left source.old) result (K.contents sink.old) (K.contents sink.new) site.old site.new }
     ensures source_failed { result ≡ 4 → Rose (S.faults source.old) (S.faults source.new) }
     ensures sink_failed { result ≡ 5 → Rose (K.faults sink.old) (K.faults sink.new) }
     ensures too_long { result ≡ 10 → capped (S.given source.old + 1048577) ≤ S.given source.new }
     ensures not_longer { S.given source.old + 1048576 < S.given source.new → result ≡ 10 }
     ensures longer { result ≡ 10 → IfSome (S.left source.old) (λ input. 1048576 < length input) }
     ensures whole { IsFilter (map string_bytes words.now) → IsTrue (list_any (nat_eq result) (0 ∷ 3 ∷ 5 ∷ [])) → IfSome (S.left source.old) (λ input. RisesBy (length input) (S.given source.old) (S.given source.new)) }
-    ensures quiet { IsTrue (list_any (nat_eq result) (4 ∷ 8 ∷ 9 ∷ 10 ∷ [])) → Appends (K.contents sink.old) (K.contents sink.new) [] }
+    ensures quiet { ¬ (IsServing (map string_bytes words.now)) → IsTrue (list_any (nat_eq result) (4 ∷ 8 ∷ 9 ∷ 10 ∷ [])) → Appends (K.contents sink.old) (K.contents sink.new) [] }
     ensures ended { (filter : Filtering) → IsJobOf (map string_bytes words.now) (Filters filter) → IsTrue (list_any (nat_eq result) (0 ∷ 3 ∷ [])) → IfSome (S.left source.old) (λ input. IsDone filter input (K.contents sink.old) (K.contents sink.new) result) }
     ensures cut { (filter : Filtering) → IsJobOf (map string_bytes words.now) (Filters filter) → result ≡ 5 → IfSome (S.left source.old) (λ input. IsCut filter input (K.contents sink.old) (K.contents sink.new)) }
     ensures report { (filter : Filtering) → (input : List ℕ) → IsJobOf (map string_bytes words.now) (Filters filter) → S.left source.old ≡ Some input → length input ≤ 1048576 → ¬ (Rose (S.faults source.old) (S.faults source.new)) → ¬ (Rose (K.faults sink.old) (K.faults sink.new)) → IsReport filter input (K.contents sink.old) (K.contents sink.new) result }
 {
     match job_of(alloc, words) {
         Ok(Job::Filter(chosen)) => filter(alloc, &chosen, source, sink),
+        Ok(Job::Make { seed, steps }) => make(alloc, seed, steps, sink),
         Ok(Job::Tick(to)) => tick(alloc, &to, site),
+        Ok(Job::Serve(serving)) => serve_node(alloc, &serving, source, sink, site),
         Err(reason) => tell(sink, &reason),
     }
 }

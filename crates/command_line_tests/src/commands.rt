@@ -122,6 +122,41 @@ fn worked_cells(rt: HostRuntime) -> Result<(), Fail> {
     Ok(())
 }
 
+const COMMITTED: &str = "send Committed -> Done\n\
+<s:Envelope xmlns:s=\"http://schemas.xmlsoap.org/soap/envelope/\" \
+xmlns:wsa=\"http://www.w3.org/2005/08/addressing\" \
+xmlns:wsat=\"http://docs.oasis-open.org/ws-tx/wsat/2006/06\">\
+<s:Header><wsa:To>http://n1.example/i/1-1</wsa:To>\
+<wsa:Action>http://docs.oasis-open.org/ws-tx/wsat/2006/06/Committed</wsa:Action>\
+<wsa:ReplyTo><wsa:Address>http://www.w3.org/2005/08/addressing/none</wsa:Address></wsa:ReplyTo></s:Header>\
+<s:Body><wsat:Committed/></s:Body></s:Envelope>\n";
+
+const INVALID_STATE: &str = "fault InvalidState -> Done\n\
+<s:Envelope xmlns:s=\"http://schemas.xmlsoap.org/soap/envelope/\" \
+xmlns:wsa=\"http://www.w3.org/2005/08/addressing\" \
+xmlns:wscoor=\"http://docs.oasis-open.org/ws-tx/wscoor/2006/06\">\
+<s:Header><wsa:To>http://n1.example/i/1-1</wsa:To>\
+<wsa:Action>http://docs.oasis-open.org/ws-tx/wscoor/2006/06/fault</wsa:Action></s:Header>\
+<s:Body><s:Fault><faultcode>wscoor:InvalidState</faultcode><faultstring>invalid state</faultstring>\
+<detail><wscoor:InvalidState/></detail></s:Fault></s:Body></s:Envelope>\n";
+
+/// A transaction that committed says so again, and can't be rolled back.
+#[test]
+fn cells_of_what_is_done(rt: HostRuntime) -> Result<(), Fail> {
+    for (name, printed) in [("Commit", COMMITTED), ("Rollback", INVALID_STATE)] {
+        let input = notice(
+            rt.alloc(),
+            "/completion/1-1",
+            "http://n1.example/i/1-1",
+            name,
+            "",
+        )?;
+        let found = prints(rt, "cell --state Done", input.as_bytes(), printed)?;
+        assert!(rt; found == (0, true), "{name}: {found:?}");
+    }
+    Ok(())
+}
+
 /// Words that are no job, and what clap says of them.
 const FAULTY: &[(&str, &str)] = &[
     (
@@ -153,8 +188,20 @@ const FAULTY: &[(&str, &str)] = &[
         "error: the argument '--path <PATH>' cannot be used multiple times\n\nUsage: atx check [OPTIONS]\n",
     ),
     (
+        "replay --settle --settle",
+        "error: the argument '--settle' cannot be used multiple times\n\nUsage: atx replay [OPTIONS]\n",
+    ),
+    (
+        "make --steps 1",
+        "error: the following required arguments were not provided:\n  --seed <SEED>\n\nUsage: atx make --seed <SEED> --steps <N>\n",
+    ),
+    (
         "tick",
         "error: the following required arguments were not provided:\n  --to <URL>\n\nUsage: atx tick --to <URL>\n",
+    ),
+    (
+        "coordinator --listen a --journal j",
+        "error: the following required arguments were not provided:\n  --turns <N>\n\nUsage: atx coordinator --listen <ADDR> --journal <F> --turns <N>\n",
     ),
     (
         "check --version",
@@ -169,12 +216,20 @@ const UNKNOWN_STATE: &str = "error: invalid value for '--state <STATE>'\n  \
 [possible values: None, Registering, Active, Preparing, Prepared, PreparedSuccess, Committing, Aborting, Completing, Done]\n\n\
 For more information, try '--help'.\n";
 
+const NO_NUMBERS: &str = "error: invalid value for '--seed <SEED>' or '--steps <N>'\n  \
+[SEED: 0 to 18446744073709551615; N: 0 to 9999]\n\n\
+For more information, try '--help'.\n";
+
 const HELP: &str =
     "Atomic transactions between web services (WS-AtomicTransaction 1.2)\n\nUsage: atx <COMMAND>\n\nCommands:\n  \
-cell    Print the cell that an envelope meets in a state, and the envelope that it posts\n  \
-check   Print what an envelope says, line by line\n  \
-replay  Print what the lines of a schedule bring about, line by line\n  \
-tick    Ask a node to do what is due\n\nOptions:\n  \
+cell         Print the cell that an envelope meets in a state, and the envelope that it posts\n  \
+check        Print what an envelope says, line by line\n  \
+replay       Print what the lines of a schedule bring about, line by line\n  \
+make         Print how a schedule that is made of a seed comes out\n  \
+tick         Ask a node to do what is due\n  \
+coordinator  Serve as a coordinator\n  \
+participant  Serve as a participant\n  \
+initiator    Do the lines of the input as an initiator, and serve\n\nOptions:\n  \
 -h, --help     Print help\n  -V, --version  Print version\n";
 
 const CHECK_HELP: &str =
@@ -698,22 +753,63 @@ deliver 14 2 202\n\
 end messages 14 committed 1 aborted 0 lost 0\n\
 ";
 
-/// Schedules, the status of their replay, and what it prints.
-const SCHEDULES: &[(&str, u8, &str)] = &[
-    (PLAIN, 0, PLAIN_REPORT),
+/// Commands, schedules, the status of their replay, and what it prints.
+const SCHEDULES: &[(&str, &str, u8, &str)] = &[
+    ("replay", PLAIN, 0, PLAIN_REPORT),
     (
+        "replay",
         "nodes 1",
         0,
         "up 1 1\nend messages 0 committed 0 aborted 0 lost 0\n",
     ),
-    ("", 3, "line 1 cause 7\n"),
-    ("nodes 1\nflush 1\nfoo\n", 3, "line 3 cause 1\n"),
+    (
+        "replay --settle",
+        "nodes 1",
+        0,
+        "up 1 1\ntick 1 5000 202\ntick 1 10000 202\ntick 1 15000 202\ntick 1 20000 202\n\
+tick 1 25000 202\ntick 1 30000 202\ntick 1 35000 202\ntick 1 40000 202\n\
+end messages 0 committed 0 aborted 0 lost 0\n",
+    ),
+    ("replay", "", 3, "line 1 cause 7\n"),
+    (
+        "replay --settle",
+        "nodes 1\nflush 1\nfoo\n",
+        3,
+        "line 3 cause 1\n",
+    ),
 ];
 
 #[test]
 fn replays(rt: HostRuntime) -> Result<(), Fail> {
-    for (schedule, status, printed) in SCHEDULES {
-        let outcome = prints(rt, "replay", schedule.as_bytes(), printed)?;
+    for (line, schedule, status, printed) in SCHEDULES {
+        let outcome = prints(rt, line, schedule.as_bytes(), printed)?;
+        assert!(rt; outcome == (*status, true));
+    }
+    Ok(())
+}
+
+/// Seeds with how many lines are made of them, the status, and what is printed.
+const MADE: &[(&str, u8, &str)] = &[
+    (
+        "make --seed 1 --steps 0",
+        0,
+        "steps 0 messages 0 committed 0 aborted 0 lost 0\n",
+    ),
+    (
+        "make --steps=1 --seed=18446744073709551615",
+        0,
+        "steps 1 messages 0 committed 0 aborted 0 lost 0\n",
+    ),
+    ("make --seed 18446744073709551616 --steps 0", 2, NO_NUMBERS),
+    ("make --seed 01 --steps 0", 2, NO_NUMBERS),
+    ("make --seed 1 --steps 10000", 2, NO_NUMBERS),
+    ("make --seed 1 --steps +1", 2, NO_NUMBERS),
+];
+
+#[test]
+fn makes(rt: HostRuntime) -> Result<(), Fail> {
+    for (line, status, printed) in MADE {
+        let outcome = prints(rt, line, b"", printed)?;
         assert!(rt; outcome == (*status, true));
     }
     Ok(())
@@ -726,6 +822,8 @@ const FAULTS: &[(&str, u32, u32, u32, u8)] = &[
     ("replay", 2, 0, 0, 4),
     ("replay", 0, 1, 0, 5),
     ("replay", 0, 0, 1, 5),
+    ("make --seed 7 --steps 0", 1, 0, 0, 0),
+    ("make --seed 7 --steps 0", 0, 1, 0, 5),
     ("check", 0, 0, 0, 3),
     ("check", 2, 0, 0, 4),
     ("check", 0, 1, 0, 5),

@@ -1,5 +1,6 @@
 pub mod Loops
 pub mod Marks
 pub mod Reading
+pub mod Resting
 pub mod Running
 mod Printing

@@ -5,25 +5,22 @@ use Rattle.std.specs.List.{AllByRecursion}
 use Rattle.at_base.specs.declared.event.Local.TheVariants as locals
 use Rattle.at_model.specs.Views.{up, deliver_to, tick_at, request, begin_at, interpose_at, work_at, commit_at}
 use Rattle.at_model.specs.World.{Crash, World, WorldEvent, nth, opening, run_on, world_step}
-use Rattle.model_laws.specs.Agreement.{Agrees, HasOneSuperior, IsAgreed, IsBehindAnswers, IsToldTruly}
-use Rattle.model_laws.specs.Enlisted.{EnlistsUnderOne}
-use Rattle.model_laws.specs.Made.{MakesNoIdTwice}
 use Rattle.schedules.specs.Generator.{made}
 use Rattle.schedules.specs.declared.line.Line.{Line}
 use Rattle.schedules.specs.declared.line.Line.TheVariants as lines
 use Rattle.replay_cmd.specs.Delivered.{lowest}
 use Rattle.replay_cmd.specs.ReportOf.{Course, all_taken, all_up, begun, delivered_to, delivers_lowest, delivers_where, flushes, happens, nodes_of, receiver_in, taken, world_of}
-use Rattle.replay_cmd.specs.Laws.{IsOfRun, IsReplayable, IsSafe, IsSmooth, ReportsAreSafe, ReportsRuns}
+use Rattle.replay_cmd.specs.Laws.{IsOfRun, IsReplayable, IsSmooth}
 
 run_append : (w : World) (es : List WorldEvent) (e : WorldEvent) → run_on w (es ++ e ∷ []) ≡ world_step (run_on w es) e
 run_append w [] e = refl
 run_append w (x ∷ es) e = run_append (world_step w x) es e
 
-smooth_append : (es : List WorldEvent) (e : WorldEvent) → AllByRecursion IsSmooth es → IsSmooth e → AllByRecursion IsSmooth (es ++ e ∷ [])
+pub smooth_append : (es : List WorldEvent) (e : WorldEvent) → AllByRecursion IsSmooth es → IsSmooth e → AllByRecursion IsSmooth (es ++ e ∷ [])
 smooth_append [] e h k = (k, tt)
 smooth_append (x ∷ es) e h k = (h.0, smooth_append es e h.1 k)
 
-step_on : (count : ℕ) (w : World) (e : WorldEvent) → IsOfRun count w → IsSmooth e → IsOfRun count (world_step w e)
+pub step_on : (count : ℕ) (w : World) (e : WorldEvent) → IsOfRun count w → IsSmooth e → IsOfRun count (world_step w e)
 step_on count w e r smooth = record {
   events = r.events ++ e ∷ [];
   smooth = smooth_append r.events e r.smooth smooth;
@@ -71,26 +68,12 @@ up_on : (count left n : ℕ) (c : Course) → IsOfRun count c.world → IsOfRun 
 up_on count zero n c r = r
 up_on count (suc left) n c r = up_on count left (n + 1) (happens (up n) c) (step_on count c.world (up n) r refl)
 
-pub reports_runs : ReportsRuns
-reports_runs all =
+-- the world of a report
+pub report_run : (all : List Line) → IsOfRun (nodes_of all) (world_of all)
+report_run all =
     all_on (nodes_of all) all (begun (nodes_of all))
     (up_on (nodes_of all) (nodes_of all) 1 (record { world = opening (nodes_of all); delivered = []; text = [] })
     (record { events = []; smooth = tt; run = refl }))
-
--- What holds of each run holds of the world of a report.
-safe_run : (count : ℕ) (w : World) → IsOfRun count w → count < 2 ^ 64 → Agrees → EnlistsUnderOne → MakesNoIdTwice → IsSafe count w
-safe_run count w r few agrees superior made = record {
-  of_run = r;
-  agreed = subst IsAgreed (sym r.run) (agrees.agreed count r.events few);
-  behind = subst IsBehindAnswers (sym r.run) (agrees.behind count r.events few);
-  told = subst IsToldTruly (sym r.run) (agrees.told count r.events few);
-  superior = subst HasOneSuperior (sym r.run) (superior count r.events few);
-  ids = λ n. made.apart count n r.events;
-}
-
-pub reports_are_safe : Agrees → EnlistsUnderOne → MakesNoIdTwice → ReportsAreSafe
-reports_are_safe agrees superior made all can =
-    safe_run (nodes_of all) (world_of all) (reports_runs all) (omega (arith, can.most)) agrees superior made
 
 -- what is made of a seed may be replayed
 pub made_is_replayable : (seed steps : ℕ) (all : List Line) → all ≡ made seed steps → IsReplayable all

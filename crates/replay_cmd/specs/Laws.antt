@@ -5,9 +5,10 @@ use Rattle.at_model.specs.World.{World, WorldEvent, Deliver, Tick, Raw, Turn, As
 use Rattle.model_laws.specs.Agreement.{HasOneSuperior, IsAgreed, IsBehindAnswers, IsToldTruly}
 use Rattle.model_laws.specs.Drawn.{AreApart}
 use Rattle.model_laws.specs.Made.{made_on}
+use Rattle.model_laws.specs.Settle.{MayStart, is_settled}
 use Rattle.schedules.specs.declared.line.Line.{Line}
 use Rattle.schedules.specs.Schedules.{schedule_of}
-use Rattle.replay_cmd.specs.ReportOf.{nodes_of, world_of}
+use Rattle.replay_cmd.specs.ReportOf.{nodes_of, settled_world_of, world_of, world_with}
 
 -- There are 1 to 8 nodes.
 pub record IsReplayable (lines : List Line) : Type 0 where
@@ -40,9 +41,9 @@ pub record IsOfRun (count : ℕ) (w : World) : Type 0 where
   pub smooth : AllByRecursion IsSmooth events
   pub run : w ≡ run_of count events
 
--- A report is that of a run.
+-- A report is that of a run, also where its world is brought to rest.
 abbrev pub ReportsRuns : Type 0
-ReportsRuns = (all : List Line) → IsOfRun (nodes_of all) (world_of all)
+ReportsRuns = (settle : Bool) (all : List Line) → IsOfRun (nodes_of all) (world_with settle all)
 
 -- What holds of a run's world: no two participants of one transaction end differently, through any depth of interposition,
 -- and nothing ends twice; a root commits and a subordinate votes behind every answer; activities are told what their roots
@@ -55,6 +56,14 @@ pub record IsSafe (count : ℕ) (w : World) : Type 0 where
   pub superior : HasOneSuperior w
   pub ids : (n : ℕ) → AreApart (made_on n (opening count) of_run.events)
 
--- It holds of the world of each report.
+-- It holds of the world of each report, also where it is brought to rest.
 abbrev pub ReportsAreSafe : Type 0
-ReportsAreSafe = (all : List Line) → IsReplayable all → IsSafe (nodes_of all) (world_of all)
+ReportsAreSafe = (settle : Bool) (all : List Line) → IsReplayable all → IsSafe (nodes_of all) (world_with settle all)
+
+-- A world that is brought to rest is at rest: no durable participant is in doubt, no subordinate that has voted waits for an
+-- outcome, and no decision waits to be carried out, where no node has spent its incarnations.
+abbrev pub ComesToRest : List Line → Type 0
+ComesToRest all = AllByRecursion MayStart (world_of all).nodes → is_settled (settled_world_of all) ≡ true
+
+abbrev pub ReportsComeToRest : Type 0
+ReportsComeToRest = (all : List Line) → IsReplayable all → ComesToRest all

@@ -13,6 +13,7 @@ use Rattle.at_model.specs.Book.{Book}
 use Rattle.at_model.specs.Step.{refuses}
 use Rattle.at_model.specs.Views.{line_of, up, deliver_to, tick_at, request, begin_at, interpose_at, work_at, commit_at}
 use Rattle.at_model.specs.World.{World, WorldEvent, Posted, Happened, Turn, Ask, Crash, Up, Deliver, Tick, nth, node_of, opening, world_step}
+use Rattle.model_laws.specs.Settle.{settle}
 use Rattle.schedules.specs.Generator.{made}
 use Rattle.schedules.specs.declared.line.Line.{Line}
 use Rattle.schedules.specs.declared.line.Line.TheVariants as lines
@@ -226,6 +227,32 @@ world_of all = (course_of all).world
 -- The report of a schedule.
 abbrev pub report_of : List Line → List ℕ
 report_of all = whole (course_of all)
+
+-- These events happen, one after another.
+abbrev pub all_happen : List WorldEvent → Course → Course
+all_happen [] c = c
+all_happen (e ∷ es) c = all_happen es (happens e c)
+
+-- The events that bring its world to rest happen behind all that happened.
+abbrev pub comes_to_rest : Course → Course
+comes_to_rest c = all_happen (settle c.world) c
+
+-- How a schedule comes out whose world is brought to rest behind its last line, where that is asked.
+abbrev pub course_with : Bool → List Line → Course
+course_with false all = course_of all
+course_with true all = comes_to_rest (course_of all)
+
+abbrev pub world_with : Bool → List Line → World
+world_with settle all = (course_with settle all).world
+
+abbrev pub report_with : Bool → List Line → List ℕ
+report_with settle all = whole (course_with settle all)
+
+abbrev pub settled_world_of : List Line → World
+settled_world_of = world_with true
+
+abbrev pub settled_report_of : List Line → List ℕ
+settled_report_of = report_with true
 
 -- What is said of the schedule of a seed.
 abbrev pub summary_of : ℕ → ℕ → List ℕ

@@ -1,6 +1,6 @@
 //! A replay on its way.
 
-ghost use Rattle.std.specs.Prelude.{◌≡◌, ◌≤◌, ◌<◌, ◌+◌, ◌-◌, ◌^◌, ◌++◌, [], IfOk, OnOk, None, length, drop, option_map, option_copied};
+ghost use Rattle.std.specs.Prelude.{◌≡◌, ◌≤◌, ◌<◌, ◌+◌, ◌-◌, ◌^◌, ◌++◌, [], IfOk, OnOk, None, length, drop, map, option_map, option_copied};
 ghost use Rattle.at_model.specs.Views.{deliver_to, request, tick_at, up};
 ghost use Rattle.at_model.specs.World.{Turn, Ask, Crash, nth, opening, world_step};
 ghost use Rattle.world_laws.specs.Events.{event_of, input_of};
@@ -8,7 +8,7 @@ ghost use Rattle.world_laws.specs.Runs.{book_at, world_of};
 ghost use Rattle.world_laws.specs.Moves.{losses_of, steps_of};
 ghost use Rattle.replay_cmd.specs.Delivered.{lowest, yes_at};
 ghost use Rattle.replay_cmd.specs.Lines.{no_message_line};
-ghost use Rattle.replay_cmd.specs.ReportOf.{all_up, delivers, effect_lines, flushes, goes_to, happens, line_before, line_behind, behind_of, printed, receiver_in, request_result, step_lines, summed, up_result, whole, begun};
+ghost use Rattle.replay_cmd.specs.ReportOf.{all_happen, all_up, comes_to_rest, delivers, effect_lines, flushes, goes_to, happens, line_before, line_behind, behind_of, printed, receiver_in, request_result, step_lines, summed, up_result, whole, begun};
 
 use crate::delivered::Delivered;
 use crate::endings::{push_ended, push_summed};
@@ -16,6 +16,7 @@ use crate::lines::{Lines, refusal_word};
 use crate::steps::{answer_of, push_effects, push_steps};
 use at_base::event::Local;
 use at_base::outs::Effects;
+use settlement::settle::settle;
 use std::alloc::{AllocError, Global};
 use std::marker::Model;
 use world_laws::event::{Fates, Input, WorldEvent};
@@ -409,6 +410,25 @@ impl Course {
     {
         let course = Course::opening(alloc, count)?;
         course.all_up(alloc, count)
+    }
+
+    /// Events happen, one after another.
+    fn all_happen(self, alloc: Global, events: &[WorldEvent]) -> Result<Course, AllocError>
+        ensures { IfOk result (λ c. c ≡ all_happen (map event_of events.now) self) }
+    {
+        let mut course = self;
+        for event in events {
+            course = course.happen(alloc, event.clone()?)?;
+        }
+        Ok(course)
+    }
+
+    /// The events that bring its world to rest happen.
+    pub fn come_to_rest(self, alloc: Global) -> Result<Course, AllocError>
+        ensures { IfOk result (λ c. c ≡ comes_to_rest self) }
+    {
+        let events = settle(alloc, &self.world)?;
+        self.all_happen(alloc, events.as_slice())
     }
 
     /// What was printed, with the last line.

@@ -1,44 +1,19 @@
 //! `replay`: the report of a schedule.
 
-ghost use Rattle.std.specs.Prelude.{◌≡◌, ◌≤◌, [], IfOk, replicate};
+ghost use Rattle.std.specs.Prelude.{◌≡◌, ◌≤◌, IfOk};
 ghost use Rattle.at_base.specs.declared.event.Local.TheVariants as locals;
-ghost use Rattle.replay_cmd.specs.Laws.{IsReplayable, IsSafe};
-ghost use Rattle.replay_cmd.specs.ReportOf.{all_taken, course_of, nodes_of, report_of, summary_of, taken, world_of};
+ghost use Rattle.replay_cmd.specs.Laws.{ComesToRest, IsReplayable, IsSafe};
+ghost use Rattle.replay_cmd.specs.ReportOf.{all_taken, course_of, course_with, nodes_of, report_with, summary_of, taken, world_of, world_with};
 ghost use Rattle.schedules.specs.Generator.{made};
 
 use crate::course::Course;
-use crate::laws::reports_are_safe;
+use crate::laws::{reports_are_safe, reports_come_to_rest};
 use crate::lines::Lines;
 use crate::requests::{begin, interpose, work};
 use at_base::event::Local;
 use schedules::generator::make;
 use schedules::line::{Line, Schedule};
 use std::alloc::{AllocError, Global};
-use std::marker::Model;
-
-/// The bytes of each node's file, in the order of the nodes.
-#[derive(Debug, Drop)]
-pub struct Files {
-    items: Vec<Vec<u8>>,
-}
-
-impl Model for Files {
-    ghost use Rattle.std.specs.Prelude.{ℕ, List, map};
-    ghost use Rattle.std.specs.declared.vec.Vec.{Vec};
-
-    ghost Value = { List (List ℕ) };
-
-    ghost view = { λ f. map (λ v. v.items) f.items.items };
-}
-
-/// What a replay gives.
-#[derive(Debug, Drop)]
-pub struct Report {
-    /// What is printed.
-    pub text: Lines,
-    /// The nodes of a replay keep no journal yet, and so each file is empty.
-    pub files: Files,
-}
 
 fn take_line(course: Course, alloc: Global, line: &Line) -> Result<Course, AllocError>
     ensures { IfOk result (λ c. c ≡ taken line.now course) }
@@ -113,16 +88,6 @@ fn nodes_of(lines: &[Line]) -> u8
     }
 }
 
-fn empty_files(alloc: Global, count: u8) -> Result<Files, AllocError>
-    ensures { IfOk result (λ files. files ≡ replicate count []) }
-{
-    let mut items = Vec::new(alloc);
-    for _node in 0..count {
-        items.push(Vec::new(alloc))?;
-    }
-    Ok(Files { items })
-}
-
 /// How a schedule comes out.
 fn ran(alloc: Global, schedule: &Schedule) -> Result<Course, AllocError>
     requires { IsReplayable schedule.now }
@@ -133,27 +98,41 @@ fn ran(alloc: Global, schedule: &Schedule) -> Result<Course, AllocError>
     take_lines(course, alloc, lines)
 }
 
-fn reported(alloc: Global, schedule: &Schedule) -> Result<Report, AllocError>
+/// How a schedule comes out whose world is brought to rest behind its last line, where that is asked.
+fn ended(alloc: Global, schedule: &Schedule, settle: bool) -> Result<Course, AllocError>
     requires { IsReplayable schedule.now }
-    ensures text { IfOk result (λ report. report.text ≡ report_of schedule.now) }
-    ensures files { IfOk result (λ report. report.files ≡ replicate (nodes_of schedule.now) []) }
+    ensures { IfOk result (λ course. course ≡ course_with settle schedule.now) }
 {
-    let files = empty_files(alloc, nodes_of(schedule.as_slice()))?;
     let course = ran(alloc, schedule)?;
-    let text = course.whole(alloc)?;
-    Ok(Report { text, files })
+    if settle {
+        course.come_to_rest(alloc)
+    } else {
+        Ok(course)
+    }
+}
+
+fn reported(alloc: Global, schedule: &Schedule, settle: bool) -> Result<Lines, AllocError>
+    requires { IsReplayable schedule.now }
+    ensures { IfOk result (λ lines. lines ≡ report_with settle schedule.now) }
+{
+    let course = ended(alloc, schedule, settle)?;
+    course.whole(alloc)
 }
 
 /// The report of a schedule. Its world is that of a run, and what holds of every run holds of it (`safe`): no two participants of
 /// one transaction ended differently, through any depth of interposition (WS-AtomicTransaction 1.2, section 1).
-pub fn replay(alloc: Global, schedule: &Schedule) -> Result<Report, AllocError>
+///
+/// With `settle` the events that bring the world to rest happen behind the last line, and are reported as others are. Behind them
+/// nobody is in doubt (`rests`).
+pub fn replay(alloc: Global, schedule: &Schedule, settle: bool) -> Result<Lines, AllocError>
     requires { IsReplayable schedule.now }
-    ensures text { IfOk result (λ report. report.text ≡ report_of schedule.now) }
-    ensures files { IfOk result (λ report. report.files ≡ replicate (nodes_of schedule.now) []) }
-    ensures safe { IsSafe (nodes_of schedule.now) (world_of schedule.now) }
+    ensures text { IfOk result (λ lines. lines ≡ report_with settle schedule.now) }
+    ensures safe { IsSafe (nodes_of schedule.now) (world_with settle schedule.now) }
+    ensures rests { ComesToRest schedule.now }
 {
     reports_are_safe();
-    reported(alloc, schedule)
+    reports_come_to_rest();
+    reported(alloc, schedule, settle)
 }
 
 /// The schedule of a seed.

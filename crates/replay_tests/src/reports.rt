@@ -1,7 +1,8 @@
 //! Schedules and their reports.
 
 use replay_cmd::laws::what_is_read_is_replayable;
-use replay_cmd::replay::{Report, replay, summary};
+use replay_cmd::lines::Lines;
+use replay_cmd::replay::{replay, summary};
 use schedules::reader::read_schedule;
 use std::alloc::{AllocError, Global};
 use std::test::Fail;
@@ -595,6 +596,90 @@ end messages 45 committed 0 aborted 4 lost 0\n\
     ),
 ];
 
+/// The same of schedules whose worlds are brought to rest behind their last lines.
+const SETTLED: &[(&str, &str, &str)] = &[
+    // A participant crashes behind its vote, and nothing that was posted then was delivered.
+    (
+        "\
+nodes 3\n\
+begin 1 2 60000\n\
+flush 99\n\
+work 1 1-1 3 d prepared\n\
+flush 99\n\
+commit 1 1-1\n\
+deliver 9\n\
+deliver 10\n\
+deliver 11\n\
+crash 3\n\
+",
+        "\nmsg 13 ",
+        "\
+down 3\n\
+up 3 2\n\
+tick 1 5000 202\n\
+msg 14 1>2 Commit /completion/1-1\n\
+tick 2 5000 202\n\
+msg 15 2>3 Commit /p/d/1-1\n\
+tick 3 5000 202\n\
+msg 16 3>2 Prepared /c/d/1-1/1\n\
+deliver 14 2 202\n\
+msg 17 2>1 Committed /i/1-1\n\
+deliver 15 3 202\n\
+leaf 3 1-1 d committed\n\
+msg 18 3>2 Committed /c/d/1-1/1\n\
+deliver 16 2 202\n\
+msg 19 2>3 Commit /p/d/1-1\n\
+deliver 17 1 202\n\
+told 1 1-1 committed\n\
+deliver 18 2 202\n\
+deliver 19 3 202\n\
+msg 20 3>2 Committed /c/d/1-1/1\n\
+deliver 20 2 202\n\
+tick 1 10000 202\n\
+tick 2 10000 202\n\
+tick 3 10000 202\n\
+tick 1 15000 202\n\
+tick 2 15000 202\n\
+tick 3 15000 202\n\
+tick 1 20000 202\n\
+tick 2 20000 202\n\
+tick 3 20000 202\n\
+tick 1 25000 202\n\
+tick 2 25000 202\n\
+tick 3 25000 202\n\
+tick 1 30000 202\n\
+tick 2 30000 202\n\
+tick 3 30000 202\n\
+tick 1 35000 202\n\
+tick 2 35000 202\n\
+tick 3 35000 202\n\
+tick 1 40000 202\n\
+tick 2 40000 202\n\
+tick 3 40000 202\n\
+end messages 20 committed 1 aborted 0 lost 0\n\
+",
+    ),
+    // A node alone.
+    (
+        "\
+nodes 1\n\
+",
+        "",
+        "\
+up 1 1\n\
+tick 1 5000 202\n\
+tick 1 10000 202\n\
+tick 1 15000 202\n\
+tick 1 20000 202\n\
+tick 1 25000 202\n\
+tick 1 30000 202\n\
+tick 1 35000 202\n\
+tick 1 40000 202\n\
+end messages 0 committed 0 aborted 0 lost 0\n\
+",
+    ),
+];
+
 /// What follows the first line that begins so.
 fn behind<'a>(text: &'a str, start: &str) -> &'a str {
     if start == "" {
@@ -609,18 +694,24 @@ fn behind<'a>(text: &'a str, start: &str) -> &'a str {
     rest
 }
 
-fn reported(alloc: Global, script: &str) -> Result<Report, AllocError> {
+fn reported(alloc: Global, script: &str, settle: bool) -> Result<Lines, AllocError> {
     what_is_read_is_replayable();
     match read_schedule(alloc, script.as_bytes()) {
-        Ok(schedule) => replay(alloc, &schedule),
+        Ok(schedule) => replay(alloc, &schedule, settle),
         Err(_) => Err(AllocError),
     }
 }
 
 /// Whether the report of a schedule is this, from behind the line that begins so.
-fn reports(alloc: Global, script: &str, start: &str, lines: &str) -> Result<bool, AllocError> {
-    let report = reported(alloc, script)?;
-    match str::from_utf8(report.text.as_slice()) {
+fn reports(
+    alloc: Global,
+    script: &str,
+    settle: bool,
+    start: &str,
+    lines: &str,
+) -> Result<bool, AllocError> {
+    let report = reported(alloc, script, settle)?;
+    match str::from_utf8(report.as_slice()) {
         Ok(text) => Ok(behind(text, start) == lines),
         Err(_) => Ok(false),
     }
@@ -629,7 +720,16 @@ fn reports(alloc: Global, script: &str, start: &str, lines: &str) -> Result<bool
 #[test]
 fn reports_of_schedules(rt: HostRuntime) -> Result<(), Fail> {
     for (script, start, lines) in ROWS {
-        let holds = reports(rt.alloc(), script, start, lines)?;
+        let holds = reports(rt.alloc(), script, false, start, lines)?;
+        assert!(rt; holds);
+    }
+    Ok(())
+}
+
+#[test]
+fn reports_of_settled_schedules(rt: HostRuntime) -> Result<(), Fail> {
+    for (script, start, lines) in SETTLED {
+        let holds = reports(rt.alloc(), script, true, start, lines)?;
         assert!(rt; holds);
     }
     Ok(())

@@ -37,10 +37,10 @@ zero_is bs n e d long =
     let short : 1 ≡ length bs = ap length whole in
     omega arith
 
-pub some_digit : (bs : List ℕ) (n : ℕ) → n < 2 ^ 32 → decimal_of bs ≡ Some n → 0 < length bs
+pub some_digit : (bs : List ℕ) (n : ℕ) → n < 2 ^ 64 → decimal_of bs ≡ Some n → 0 < length bs
 some_digit bs n small e = subst (λ x. 0 < length x) (spelled bs n e) (decimal_nonempty n (omega arith))
 
-pub no_sign : (bs : List ℕ) (n : ℕ) → n < 2 ^ 32 → decimal_of bs ≡ Some n → get_or bs 0 0 ≡ 43 → ⊥
+pub no_sign : (bs : List ℕ) (n : ℕ) → n < 2 ^ 64 → decimal_of bs ≡ Some n → get_or bs 0 0 ≡ 43 → ⊥
 no_sign bs n small e first = by_case n refl
   where
     begins : 0 < n → 48 < get_or bs 0 0
@@ -53,7 +53,7 @@ no_sign bs n small e first = by_case n refl
         omega arith
     by_case (suc m) s = let k = begins (omega (arith, s)) in omega arith
 
-pub no_zero : (bs : List ℕ) (n : ℕ) → n < 2 ^ 32 → decimal_of bs ≡ Some n → get_or bs 0 0 ≡ 48 → 1 < length bs → ⊥
+pub no_zero : (bs : List ℕ) (n : ℕ) → n < 2 ^ 64 → decimal_of bs ≡ Some n → get_or bs 0 0 ≡ 48 → 1 < length bs → ⊥
 no_zero bs n small e first long = by_case n refl
   where
     by_case : (m : ℕ) → n ≡ m → ⊥
@@ -62,23 +62,23 @@ no_zero bs n small e first long = by_case n refl
         let k = subst (λ x. 48 < get_or x 0 0) (spelled bs n e) (first_decimal n (omega (arith, s)) (omega arith)) in
         omega arith
 
-pub parses : {E : Type 0} (bs : List ℕ) (n : ℕ) (r : Result ℕ E) → ParsesUnsigned 32 10 bs r
-    → n < 2 ^ 32 → decimal_of bs ≡ Some n → r ≡ Ok n
-parses bs n r h small e = parse-decimal 32 n bs r small (omega arith) (sym (spelled bs n e)) h
+pub parses : {E : Type 0} (bs : List ℕ) (n : ℕ) (r : Result ℕ E) → ParsesUnsigned 64 10 bs r
+    → n < 2 ^ 64 → decimal_of bs ≡ Some n → r ≡ Ok n
+parses bs n r h small e = parse-decimal 64 n bs r small (omega arith) (sym (spelled bs n e)) h
 
 plain : {E : Type 0} (bs : List ℕ) (r : Result ℕ E)
-    → OkIff r (are_digits bs × (0 < length bs) × (digits_value 10 bs < 2 ^ 32)) (digits_value 10 bs)
+    → OkIff r (are_digits bs × (0 < length bs) × (digits_value 10 bs < 2 ^ 64)) (digits_value 10 bs)
     → (get_or bs 0 0 ≡ 48 → length bs ≡ 1) → IfSome (result_ok r) (λ n. decimal_of bs ≡ Some n)
 plain bs (Ok x) (((digits, some, small), value)) lead =
     subst (λ v. decimal_of bs ≡ Some v) (sym value)
     (valued bs (decimal-digits_value own bs digits some lead (omega arith)))
 plain bs (Err e) h lead = tt
 
-pub parsed : {E : Type 0} (bs : List ℕ) (o : Option ℕ) (r : Result ℕ E) → ParsesUnsigned 32 10 bs r
+pub parsed : {E : Type 0} (bs : List ℕ) (o : Option ℕ) (r : Result ℕ E) → ParsesUnsigned 64 10 bs r
     → (get_or bs 0 0 ≡ 43 → ⊥) → (get_or bs 0 0 ≡ 48 → length bs ≡ 1) → o ≡ result_ok r
     → IfSome o (λ n. decimal_of bs ≡ Some n)
 parsed bs o r h plus lead same =
-    subst (λ x. IfSome x (λ n. decimal_of bs ≡ Some n)) (sym same) (plain bs r (parse_plain own 32 bs r h plus) lead)
+    subst (λ x. IfSome x (λ n. decimal_of bs ≡ Some n)) (sym same) (plain bs r (parse_plain own 64 bs r h plus) lead)
 
 pub one_zero : (bs : List ℕ) (b : ℕ) → b ≡ get_or bs 0 0 → (b ≡ 48 × length bs ≤ 1) ⊎ (b ≡ 48 → ⊥) → get_or bs 0 0 ≡ 48 → length bs ≡ 1
 one_zero [] b e h z = absurd (omega (arith, z))

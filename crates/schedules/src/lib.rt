@@ -10,5 +10,5 @@ pub mod laws;
 pub mod line;
 mod meaning;
 pub mod reader;
-mod values;
+pub mod values;
 mod words;

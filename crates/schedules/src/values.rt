@@ -8,9 +8,9 @@ use at_base::id::Id;
 use at_base::notice::{Kind, Vote};
 
 /// The number that the word spells in decimal, without sign or leading zeros.
-fn read_decimal(word: &str) -> Option<u32>
+fn read_decimal(word: &str) -> Option<u64>
     ensures spelled { IfSome result (λ n. decimal_of word.now ≡ Some n) }
-    ensures every { (n : ℕ) → n < 2 ^ 32 → decimal_of word.now ≡ Some n → result ≡ Some n }
+    ensures every { (n : ℕ) → n < 2 ^ 64 → decimal_of word.now ≡ Some n → result ≡ Some n }
 {
     let first = *word.as_bytes().first()?;
     if first == b'+' {
@@ -23,13 +23,21 @@ fn read_decimal(word: &str) -> Option<u32>
 }
 
 /// A number within these bounds.
-pub fn read_number(word: &str, least: u32, most: u32) -> Result<u32, Cause>
+pub fn read_long(word: &str, least: u64, most: u64) -> Result<u64, Cause>
     ensures { result ≡ number_in least most word.now }
 {
     match read_decimal(word) {
         Some(number) if least <= number && number <= most => Ok(number),
         _ => Err(Cause::Number),
     }
+}
+
+/// A number within these bounds.
+pub fn read_number(word: &str, least: u32, most: u32) -> Result<u32, Cause>
+    ensures { result ≡ number_in least most word.now }
+{
+    let number = read_long(word, u64::from(least), u64::from(most))?;
+    Ok(number as u32)
 }
 
 /// A number within these bounds.

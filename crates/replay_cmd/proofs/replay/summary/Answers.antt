@@ -1,9 +1,9 @@
-use Rattle.std.proofs.Common.{refl}
+use Rattle.std.proofs.Common.{false, refl}
 use Rattle.schedules.specs.Generator.{made}
 use Rattle.replay_cmd.proofs.Running.{made_is_replayable}
 use Rattle.replay_cmd.proofs.replay.summary.Goals as goal
 
 pub returns-clause-safe : goal.returns-clause-safe
 returns-clause-safe c =
-    c.reports_are_safe.ensures (made c.args.seed c.args.steps)
+    c.reports_are_safe.ensures false (made c.args.seed c.args.steps)
     (made_is_replayable c.args.seed c.args.steps (made c.args.seed c.args.steps) refl)

@@ -1,0 +1,32 @@
+use Rattle.std.specs.Prelude.{◌≡◌, [], map, string_bytes}
+use Rattle.std.proofs.Common.{subst}
+use Rattle.command_line.specs.Jobs.{IsJobOf}
+use Rattle.command_line.specs.Jobs.Job.{Make, Serve}
+use Rattle.command_line.specs.Views.{meant, meant_serving}
+use Rattle.command_line.proofs.Making.{summed_as}
+use Rattle.command_line.proofs.Served.{initiated_as, served_as, unread_by, unserved}
+use Rattle.command_line.proofs.run.run.Goals as goal
+
+pub returns-in-Ok-Make-clause-summed : goal.returns-in-Ok-Make-clause-summed
+returns-in-Ok-Make-clause-summed g c = λ seed steps job ended.
+    summed_as c.in-Ok-Make.seed c.in-Ok-Make.steps seed steps _ _ (subst (λ z. meant z ≡ Make seed steps) c.in-Ok-Make.field-0-is (c.in-Ok-Make.ensures.every (Make seed steps) job))
+    (c.make.ensures.summed ended)
+
+pub returns-in-Ok-Serve-clause-unread : goal.returns-in-Ok-Serve-clause-unread
+returns-in-Ok-Serve-clause-unread g c = λ filters other.
+    unread_by (map string_bytes c.args.words.now) (meant_serving c.in-Ok-Serve.serving) _ other
+    (subst (λ z. IsJobOf (map string_bytes c.args.words.now) (meant z)) c.in-Ok-Serve.field-0-is c.in-Ok-Serve.ensures.found) c.serve_node.ensures.unread
+
+pub returns-in-Ok-Serve-clause-served : goal.returns-in-Ok-Serve-clause-served
+returns-in-Ok-Serve-clause-served g c = λ serving job.
+    served_as g.H.Site.told (meant_serving c.in-Ok-Serve.serving) serving [] _ _ _ _ _
+    (subst (λ z. meant z ≡ Serve serving) c.in-Ok-Serve.field-0-is (c.in-Ok-Serve.ensures.every (Serve serving) job)) c.serve_node.ensures.served
+
+pub returns-in-Ok-Serve-clause-initiated : goal.returns-in-Ok-Serve-clause-initiated
+returns-in-Ok-Serve-clause-initiated g c = λ serving job.
+    initiated_as g.H.Site.told (meant_serving c.in-Ok-Serve.serving) serving _ _ _ _ _ _
+    (subst (λ z. meant z ≡ Serve serving) c.in-Ok-Serve.field-0-is (c.in-Ok-Serve.ensures.every (Serve serving) job)) c.serve_node.ensures.initiated
+
+pub returns-in-Err-clause-served : goal.returns-in-Err-clause-served
+returns-in-Err-clause-served g c = λ serving job other.
+    unserved g.H.Site.told (map string_bytes c.args.words.now) c.in-Err.reason serving [] _ _ _ _ c.in-Err.ensures.none job c.tell.ensures.statuses c.tell.ensures.silent

@@ -1,0 +1,42 @@
+# What serve.sh and crash.sh share: nodes that run beside the script, and what they print. The script names the repository in
+# `top` first.
+room=$(mktemp -d) || exit 1
+failed=0
+# the nodes end with the script, whose status is 1 where something was wrong
+trap 'status=$?; kill $(jobs -p) 2>/dev/null; rm -rf "$room"; [ "$status" = 0 ] && status=$failed; exit "$status"' EXIT
+"$top/atx" --version >/dev/null || exit 1
+
+# `begin ROLE PORT TURNS` starts a node, keeps its process in the variable of its role's name, and waits until it is up.
+begin() {
+  local role=$1 port=$2 turns=$3 waited
+  "$top/atx" "$role" --listen "127.0.0.1:$port" --journal "$room/$role" --turns "$turns" >"$room/$role.out" </dev/null &
+  printf -v "$role" '%s' $!
+  for waited in $(seq 100); do
+    grep -q '^up ' "$room/$role.out" && return
+    kill -0 "${!role}" 2>/dev/null || break
+    sleep 0.1
+  done
+  wait "${!role}"
+  echo "$role: not up, status $?" >&2
+  exit 1
+}
+
+# `ended NAME STATUS` says where a process didn't end well.
+ended() {
+  [ "$2" = 0 ] && return
+  echo "$1: status $2" >&2
+  failed=1
+}
+
+# `printed ROLE LINE ..` compares what a node printed, and shows it.
+printed() {
+  local role=$1
+  shift
+  if [ "$(cat "$room/$role.out")" = "$(printf '%s\n' "$@")" ]; then
+    sed "s/^/$role: /" "$room/$role.out"
+    return
+  fi
+  echo "$role printed something else than $*:" >&2
+  cat "$room/$role.out" >&2
+  failed=1
+}
