@@ -8,19 +8,25 @@ use Rattle.at_base.specs.declared.event.Event.{Event}
 use Rattle.at_base.specs.declared.event.Event.TheVariants as events
 use Rattle.at_base.specs.declared.outs.Post.{Post}
 use Rattle.at_model.specs.World.{base_of, decoded}
-use Rattle.node_at.specs.Meanings.{Meaning, Says}
+use Rattle.node_at.specs.Meanings.{Meaning, Means, Says, request}
 use Rattle.node_at.specs.Meanings.Meaning.{Refused, Steps, Lost, Unread}
+use Rattle.node_at.specs.Meanings.Means.{is_refused, is_request}
 use Rattle.node_at.specs.Meanings.Says.{says, says_elsewhere, says_nothing, ticks}
 use Rattle.node_at.specs.declared.role.Role.{Role}
 use Rattle.wire_msgs.specs.declared.decode.Arrival.{Arrival}
 use Rattle.wire_msgs.specs.declared.refusal.Refusal.{Refusal}
 use Rattle.wire_msgs.specs.Arrivals.{Arrives, arrival_of}
-use Rattle.wire_posts.specs.Envelopes.{IsTextOf}
+use Rattle.wire_posts.specs.Envelopes.{IsTextOf, action_in}
 use Rattle.wire_posts.specs.Returning.{IsInLimits}
 use Rattle.xml_grammar.specs.Refusals.{IsShort}
 use Rattle.xml_grammar.specs.Spells.{Spells}
 use Rattle.xml_profile.specs.declared.tree.Tree.{Tree}
-use Rattle.node_worlds.specs.Delivered.{IsDelivered, PostsAreHeard}
+use Rattle.http_post.specs.Laws.{AskOneThing, PostsAreReadBack}
+use Rattle.http_post.specs.Readable.{CanBeRead}
+use Rattle.http_post.specs.Requests.{Asked, Asks, without_query}
+use Rattle.http_post.specs.Written.{authority, post_of}
+use Rattle.http_post.specs.declared.refusal.HttpRefusal.{HttpRefusal}
+use Rattle.node_worlds.specs.Delivered.{IsDelivered, PostsAreBrought, PostsAreHeard}
 use Rattle.node_worlds.specs.Nets.{IsPostedTo, Net}
 
 abbrev OneTree : Type 0
@@ -90,3 +96,33 @@ module _ (one : OneTree) (reach : OnANode) where
 
   pub posts_heard : PostsAreHeard
   posts_heard net i role path text a few d asks = heard_so net i path text a few d (said role path text (Steps (events.Arrived a)) asks a refl)
+
+-- what bytes that ask for a step ask for
+record Requests (role : Role) (input : List ℕ) (meaning : Meaning) : Type 0 where
+  path : List ℕ
+  body : List ℕ
+  asks : Asks input (request path body)
+  says : Says role path body meaning
+
+requested : (role : Role) (input : List ℕ) (meaning : Meaning) → Means role input meaning → (e : Event) → meaning ≡ Steps e → Requests role input meaning
+requested role input meaning (is_refused refusal why) e h = absurd (not_refused _ _ _ h)
+requested role input meaning (is_request path body asked told) e h = record { path = path; body = body; asks = asked; says = told }
+
+body_or : List ℕ → Result Asked HttpRefusal → List ℕ
+body_or x (Ok y) = y.body
+body_or x (Err e) = x
+
+same_body : (p q x y : List ℕ) → request p x ≡ request q y → x ≡ y
+unfolding body_or
+same_body p q x y e = ap (body_or x) e
+
+module _ (back : PostsAreReadBack) (one_thing : AskOneThing) (heard : PostsAreHeard) where
+  pub posts_brought : PostsAreBrought
+  posts_brought net i role input a few b means =
+      let r = requested role input (Steps (events.Arrived a)) means (events.Arrived a) refl in
+      let action = action_in b.delivered.posted.content.message in
+      let asked : Asks (post_of b.to action b.text) (request (without_query b.to.path) b.text) = back b.to action b.text (subst (CanBeRead b.to.path (authority b.to) action b.text) b.is b.can) in
+      let same : r.body ≡ b.text =
+      same_body r.path (without_query b.to.path) r.body b.text
+      (one_thing input (request r.path r.body) (request (without_query b.to.path) b.text) r.asks (subst (λ z. Asks z (request (without_query b.to.path) b.text)) (sym b.is) asked)) in
+      heard net i role r.path b.text a few b.delivered (subst (λ z. Says role r.path z (Steps (events.Arrived a))) same r.says)

@@ -6,3 +6,4 @@ pub mod Keeping
 pub mod Restarting
 pub mod Agreeing
 pub mod Hearing
+pub mod Calling

@@ -1,7 +1,7 @@
 //! Laws of nodes that serve.
 
 ghost use Rattle.node_worlds.specs.Agreement.{AgreesWherever, NetsAgree};
-ghost use Rattle.node_worlds.specs.Delivered.{PostsAreHeard};
+ghost use Rattle.node_worlds.specs.Delivered.{CallsArePosts, PostsAreBrought, PostsAreHeard};
 ghost use Rattle.node_worlds.specs.Keeping.{NetsKeep};
 ghost use Rattle.node_worlds.specs.Leads.{StepsLead, TurnsLead};
 ghost use Rattle.node_worlds.specs.Nets.{NetsAreWorlds};
@@ -10,6 +10,7 @@ ghost use Rattle.node_worlds.specs.Restarting.{RestartsOnRecords};
 use arrivals::laws::what_is_posted_reaches_the_book;
 use decision_log::fold::grows_by_one;
 use decision_log::shrink::shrinks_the_same;
+use http_post::laws::{bytes_ask_one_thing, posts_are_read_back};
 use interposition::book::walks_the_due;
 use model_laws::rules::recovers_the_compacted;
 use record_bytes::read::are_apart;
@@ -62,6 +63,21 @@ pub fn posts_are_heard()
     one_text_spells_one_tree();
     what_is_posted_reaches_the_book();
 }
+
+/// Whatever message the bytes of its post ask a node to take, in whatever pieces a connection brings them, it is the one that was
+/// posted.
+pub fn posts_are_brought()
+    ensures { PostsAreBrought }
+{
+    posts_are_read_back();
+    bytes_ask_one_thing();
+    posts_are_heard();
+}
+
+/// What leaves a node as a post is one of the messages that its step posted, written for the address to which it goes.
+pub fn calls_are_posts()
+    ensures { CallsArePosts }
+{}
 
 /// Agreement in every world of fewer than 2^64 nodes that is reached step by step.
 #[tactic(auto, using(crate::proofs::Agreeing::agrees_wherever))]

@@ -1,0 +1,5 @@
+use Rattle.node_worlds.proofs.Calling.{calls_are_posts}
+use Rattle.node_worlds.proofs.laws.calls_are_posts.Goals as goal
+
+pub returns : goal.returns
+returns c = calls_are_posts
