@@ -24,7 +24,8 @@ use Rattle.world_laws.specs.declared.taken.Answer.{Answer}
 use Rattle.replay_cmd.specs.declared.course.Behind.{Behind}
 use Rattle.replay_cmd.specs.declared.course.Behind.TheVariants as behinds
 use Rattle.replay_cmd.specs.Delivered.{yes_at, lowest}
-use Rattle.replay_cmd.specs.Lines.{up_line, up_already_line, down_line, deliver_line, no_message_line, tick_line, refused_line, refusal_word, effect_line, message_line, end_line, summary_line}
+use Rattle.effect_words.specs.Words.{refusal_word}
+use Rattle.replay_cmd.specs.Lines.{up_line, up_already_line, down_line, deliver_line, no_message_line, tick_line, refused_line, effect_line, message_line, end_line, summary_line}
 
 -- The HTTP status of an answer, 0 where there is none.
 abbrev pub status_of : Option Answer → ℕ

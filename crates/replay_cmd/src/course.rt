@@ -12,10 +12,11 @@ ghost use Rattle.replay_cmd.specs.ReportOf.{all_happen, all_up, comes_to_rest, d
 
 use crate::delivered::Delivered;
 use crate::endings::{push_ended, push_summed};
-use crate::lines::{Lines, refusal_word};
+use crate::lines::Lines;
 use crate::steps::{answer_of, push_effects, push_steps};
 use at_base::event::Local;
 use at_base::outs::Effects;
+use effect_words::refusal_word;
 use settlement::settle::settle;
 use std::alloc::{AllocError, Global};
 use std::marker::Model;

@@ -2,17 +2,15 @@
 
 ghost use Rattle.std.specs.Prelude.{ℕ, ◌≡◌, ◌++◌, [], OnOk, codes};
 ghost use Rattle.at_base.specs.declared.outs.Effect.TheVariants as effects;
-ghost use Rattle.at_model.specs.Addresses.{kind_letter};
 ghost use Rattle.at_model.specs.Views.{behind_slash, line_of, message_name, notice_name, path_in, receiver_number};
-ghost use Rattle.completion_at.specs.Names.{refusal_of};
-ghost use Rattle.replay_cmd.specs.Lines.{deliver_line, down_line, effect_line, end_line, ending_word, item_line, leaf_words, message_line, message_start, no_message_line, refusal_word, refused_line, summary_line, tick_line, told_word, up_already_line, up_line};
+ghost use Rattle.replay_cmd.specs.Lines.{deliver_line, down_line, effect_line, end_line, item_line, leaf_words, message_line, message_start, no_message_line, refused_line, summary_line, tick_line, up_already_line, up_line};
 
 use at_base::epr::Epr;
 use at_base::id::Id;
 use at_base::message::Message;
 use at_base::notice::{Kind, Notice};
-use at_base::outs::{Effect, Ending, Told};
-use completion_at::requests::Refusal;
+use at_base::outs::{Effect, Ending};
+use effect_words::{ending_word, kind_letter, told_word};
 use std::alloc::{AllocError, Global};
 use std::marker::Model;
 use world_laws::posted::Posted;
@@ -29,49 +27,6 @@ impl Model for Lines {
     ghost Value = { List ℕ };
 
     ghost view = { λ l. l.bytes.items };
-}
-
-/// How a transaction or leaf ended.
-pub fn ending_word(ending: Ending) -> &'static str
-    ensures { result.now ≡ ending_word ending }
-{
-    match ending {
-        Ending::Committed => "committed",
-        Ending::Aborted => "aborted",
-        Ending::Lost => "lost",
-    }
-}
-
-/// What an initiator was told of its activity.
-pub fn told_word(told: Told) -> &'static str
-    ensures { result.now ≡ told_word told }
-{
-    match told {
-        Told::Committed => "committed",
-        Told::Aborted => "aborted",
-        Told::Unknown => "unknown",
-        Told::Refused => "refused",
-    }
-}
-
-/// Why a local request is refused.
-pub fn refusal_word(refusal: Refusal) -> &'static str
-    ensures { result.now ≡ refusal_word (refusal_of refusal) }
-{
-    match refusal {
-        Refusal::Full => "full",
-        Refusal::Stale => "state",
-        Refusal::Spent => "spent",
-    }
-}
-
-fn kind_letter(kind: Kind) -> &'static str
-    ensures { result.now ≡ kind_letter kind }
-{
-    match kind {
-        Kind::Durable => "d",
-        Kind::Volatile => "v",
-    }
 }
 
 fn notice_name(notice: Notice) -> &'static str
