@@ -2,7 +2,17 @@
 #![tactic(auto)]
 
 #[cfg(test)]
+mod commits;
+#[cfg(test)]
+mod hostile;
+#[cfg(test)]
 mod locals;
+#[cfg(test)]
+mod net;
+#[cfg(test)]
+mod peer;
+#[cfg(test)]
+mod replies;
 #[cfg(test)]
 mod shared;
 #[cfg(test)]

@@ -1,6 +1,6 @@
 //! Nodes to test.
 
-ghost use Rattle.std.specs.Prelude.{IfOk};
+ghost use Rattle.std.specs.Prelude.{IfOk, IfSome};
 ghost use Rattle.node_at.specs.State.{IsNode, seen};
 
 use at_base::text::Text;
@@ -8,6 +8,7 @@ use node_at::fault::StartFault;
 use node_at::node::Node;
 use node_at::role::Role;
 use node_at::start::start;
+use node_at::turn::Turned;
 use site_memory::machine::MemSite;
 use site_model::site::Site;
 use std::alloc::Global;
@@ -22,6 +23,17 @@ pub fn started(alloc: Global, site: &mut MemSite, limit: u32) -> Result<Node, St
     }
 }
 
+/// A node of a role at this base.
+pub fn up(alloc: Global, site: &mut MemSite, base: &str, role: Role) -> Option<Node>
+    ensures { IfSome result (λ n. IsNode (seen n)) }
+{
+    let base = Text::copied(alloc, base).ok()?;
+    match start(alloc, site, &base, role, 1_000_000) {
+        Ok(node) => Some(node),
+        Err(_) => None,
+    }
+}
+
 /// A machine whose file 0 is this.
 pub fn holding(alloc: Global, file: &[u8]) -> Option<MemSite> {
     let mut site = MemSite::new(alloc);
@@ -29,4 +41,16 @@ pub fn holding(alloc: Global, file: &[u8]) -> Option<MemSite> {
         return None;
     }
     Some(site)
+}
+
+/// The status of a turn, or 1 Ticked, 2 Closed, 3 NoRoom, 4 Halted, 5 LinkDown.
+pub fn number(turned: Turned) -> u16 {
+    match turned {
+        Turned::Served { status } => status,
+        Turned::Ticked => 1,
+        Turned::Closed => 2,
+        Turned::NoRoom => 3,
+        Turned::Halted => 4,
+        Turned::LinkDown => 5,
+    }
 }

@@ -1,43 +1,15 @@
 //! What a turn answers: each answer once, and requests that are refused beside their neighbours that aren't.
 
-ghost use Rattle.std.specs.Prelude.{IfSome};
-ghost use Rattle.node_at.specs.State.{IsNode, seen};
-
-use at_base::text::Text;
-use node_at::node::Node;
+use crate::shared::{number, up};
 use node_at::role::Role;
-use node_at::start::start;
-use node_at::turn::Turned;
 use site_memory::machine::MemSite;
 use std::alloc::Global;
 use std::test::Fail;
 
-fn up(alloc: Global, site: &mut MemSite, role: Role) -> Option<Node>
-    ensures { IfSome result (λ n. IsNode (seen n)) }
-{
-    let base = Text::copied(alloc, "http://n1.example").ok()?;
-    match start(alloc, site, &base, role, 1_000_000) {
-        Ok(node) => Some(node),
-        Err(_) => None,
-    }
-}
-
-/// The status of a turn, or 1 Ticked, 2 Closed, 3 NoRoom, 4 Halted, 5 LinkDown.
-fn number(turned: Turned) -> u16 {
-    match turned {
-        Turned::Served { status } => status,
-        Turned::Ticked => 1,
-        Turned::Closed => 2,
-        Turned::NoRoom => 3,
-        Turned::Halted => 4,
-        Turned::LinkDown => 5,
-    }
-}
-
 /// What the turn of a connection with these bytes answers, and how many answers and posts it sent.
 fn turn(alloc: Global, role: Role, bytes: &[u8]) -> Option<(u16, usize, usize)> {
     let mut site = MemSite::new(alloc);
-    let mut node = up(alloc, &mut site, role)?;
+    let mut node = up(alloc, &mut site, "http://n1.example", role)?;
     site.connect(bytes).ok()?;
     let turned = node.turn(alloc, &mut site);
     Some((number(turned), site.answers().len(), site.posts().len()))
@@ -147,7 +119,7 @@ fn each_turn_has_its_answer(rt: HostRuntime) -> Result<(), Fail> {
 /// What a turn answers whose k-th call of the listener and the connection fails, on a connection or on none.
 fn failing(alloc: Global, k: u32, connected: bool) -> Option<(u16, usize)> {
     let mut site = MemSite::new(alloc);
-    let mut node = up(alloc, &mut site, Role::All)?;
+    let mut node = up(alloc, &mut site, "http://n1.example", Role::All)?;
     if connected {
         site.connect(b"POST /tick HTTP/1.0\r\nContent-Length: 0\r\n\r\n")
             .ok()?;
