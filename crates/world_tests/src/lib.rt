@@ -2,6 +2,12 @@
 #![tactic(auto)]
 
 #[cfg(test)]
+mod ends;
+#[cfg(test)]
+mod faults;
+#[cfg(test)]
+mod rounds;
+#[cfg(test)]
 mod script;
 #[cfg(test)]
 mod words;

@@ -1,6 +1,6 @@
 //! A world that goes by lines of text.
 
-use crate::words::{event_in, node, number, turn, word};
+use crate::words::{event_in, most, node, number, turn, word};
 use at_base::message::Message;
 use at_base::notice::Notice;
 use at_base::outs::{Effect, Ending, Told};
@@ -43,7 +43,8 @@ fn push_effects(
     Ok(())
 }
 
-fn is_commit(effect: &Effect) -> bool {
+/// Whether it says that an item committed, or that an initiator was told so.
+pub fn is_commit(effect: &Effect) -> bool {
     match effect {
         Effect::Root { what, .. } | Effect::Sub { what, .. } | Effect::Leaf { what, .. } => {
             matches!(what, Ending::Committed)
@@ -135,10 +136,10 @@ impl Script {
         script.happen(alloc, event)
     }
 
-    /// Each message goes to its node, the next one first, until there is none.
-    fn flush(self, alloc: Global) -> Result<Script, AllocError> {
+    /// Each message goes to its node, the next one first, until there is none, or so many have gone.
+    fn flush(self, alloc: Global, most: u64) -> Result<Script, AllocError> {
         let mut script = self;
-        for _time in 0..99 {
+        for _time in 0..most {
             if script.carried >= script.world.messages() as u64 {
                 return Ok(script);
             }
@@ -146,6 +147,13 @@ impl Script {
             script = script.deliver(alloc, next, "")?;
         }
         Ok(script)
+    }
+
+    /// What wasn't delivered so far is lost.
+    fn lose(self) -> Script {
+        let mut script = self;
+        script.carried = script.world.messages() as u64;
+        script
     }
 
     /// Each message goes to its node, until this node votes.
@@ -174,7 +182,8 @@ impl Script {
     fn take(self, alloc: Global, line: &str) -> Result<Script, AllocError> {
         match word(line, 0) {
             "settle" => self.settle(alloc),
-            "flush" => self.flush(alloc),
+            "flush" => self.flush(alloc, most(line)),
+            "lose" => Ok(self.lose()),
             "prepared" => self.await_vote(alloc, node(line, 1)),
             "deliver" => self.deliver(alloc, number(line, 1), line),
             _ => {
@@ -223,6 +232,11 @@ fn shown(alloc: Global, world: &World) -> Result<Lines, AllocError> {
 }
 
 impl Script {
+    /// Its world.
+    pub fn world(&self) -> &World {
+        &self.world
+    }
+
     /// Whether its steps gave these lines, and then those.
     pub fn gave(&self, first: &str, then: &str) -> bool {
         match self.lines.as_slice().strip_prefix(first.as_bytes()) {

@@ -22,6 +22,11 @@ pub fn number(line: &str, place: usize) -> u64 {
     word(line, place).parse().unwrap_or(0)
 }
 
+/// How many messages a line delivers at most: its own number, or more than there are.
+pub fn most(line: &str) -> u64 {
+    word(line, 1).parse().unwrap_or(99)
+}
+
 fn span(line: &str, place: usize) -> u32 {
     word(line, place).parse().unwrap_or(0)
 }
@@ -84,7 +89,7 @@ fn work_in(alloc: Global, line: &str) -> Result<Local, AllocError> {
 }
 
 /// `begin NODE COORDINATOR MS`, `interpose NODE ACTIVITY COORDINATOR`, `work NODE ACTIVITY SERVICE KIND VOTE`,
-/// `commit NODE ACTIVITY`.
+/// `commit NODE ACTIVITY`; behind a commit its fates and its stop may stand.
 fn local_in(alloc: Global, line: &str) -> Result<Local, AllocError> {
     match word(line, 0) {
         "begin" => begin_in(alloc, line),
@@ -105,6 +110,11 @@ fn fates_in(alloc: Global, text: &str) -> Result<Fates, AllocError> {
     Ok(Fates::from_vec(fates))
 }
 
+/// The stop of a word: behind how many fates.
+fn until_in(line: &str, place: usize) -> Option<u64> {
+    word(line, place).parse().ok()
+}
+
 /// A turn of a node with this input, and with the fates and the stop that stand at this place of a line.
 pub fn turn(
     alloc: Global,
@@ -114,7 +124,7 @@ pub fn turn(
     place: usize,
 ) -> Result<WorldEvent, AllocError> {
     let fates = fates_in(alloc, word(line, place))?;
-    let until = word(line, place.saturating_add(1)).parse().ok();
+    let until = until_in(line, place.saturating_add(1));
     Ok(WorldEvent::Turn {
         node,
         input,
@@ -123,14 +133,23 @@ pub fn turn(
     })
 }
 
+/// Where the fates of a request stand.
+fn behind(request: &str) -> usize {
+    match request {
+        "commit" => 3,
+        _ => 6,
+    }
+}
+
 fn asked(alloc: Global, line: &str) -> Result<WorldEvent, AllocError> {
+    let place = behind(word(line, 0));
+    let fates = fates_in(alloc, word(line, place))?;
     let local = local_in(alloc, line)?;
-    let fates = fates_in(alloc, "")?;
     Ok(WorldEvent::Ask {
         node: node(line, 1),
         local,
         fates,
-        until: None,
+        until: until_in(line, place.saturating_add(1)),
     })
 }
 
