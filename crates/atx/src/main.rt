@@ -2,8 +2,10 @@
 #![tactic(auto)]
 
 mod outside;
+mod words;
 
 use crate::outside::{Reading, Writing};
+use crate::words::behind_name;
 use atx_sites::node_site::NodeSite;
 use command_line::run::{NO_JOB, NO_MEMORY, run};
 use std::env;
@@ -16,12 +18,9 @@ fn main(rt: HostRuntime) -> ExitCode {
         Err(fault) if fault.kind() == ErrorKind::OutOfMemory => return ExitCode::from(NO_MEMORY),
         Err(_) => return ExitCode::from(NO_JOB),
     };
-    let mut words = Vec::new(rt.alloc());
-    for word in args.skip(1) {
-        if words.push(word).is_err() {
-            return ExitCode::from(NO_MEMORY);
-        }
-    }
+    let Ok(words) = behind_name(rt.alloc(), args) else {
+        return ExitCode::from(NO_MEMORY);
+    };
     let mut source = Reading::new(rt.stdin());
     let mut sink = Writing::new(rt.stdout());
     let mut site = NodeSite::new(&rt);
