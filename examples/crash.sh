@@ -10,16 +10,7 @@ top=$(cd "$(dirname "${BASH_SOURCE[0]}")/.." && pwd) || exit 1
 # the participant goes away when it has voted: it has taken Work, RegisterResponse and Prepare
 begin coordinator 9001 100
 begin participant 9002 3
-"$top/atx" initiator --listen 127.0.0.1:9003 --journal "$room/initiator" --turns 0 >"$room/initiator.out" <<'LINES'
-begin http://127.0.0.1:9001 60000
-wait
-wait
-work 1 http://127.0.0.1:9002 d prepared seat 12A
-wait
-commit 1
-wait
-LINES
-ended initiator $?
+commits
 wait "$participant"
 ended participant $?
 kill -9 "$coordinator"

@@ -40,3 +40,17 @@ printed() {
   cat "$room/$role.out" >&2
   failed=1
 }
+
+# `commits` has the initiator begin a transaction at the coordinator, have the participant work in it, and commit it.
+commits() {
+  "$top/atx" initiator --listen 127.0.0.1:9003 --journal "$room/initiator" --turns 0 >"$room/initiator.out" <<'LINES'
+begin http://127.0.0.1:9001 60000
+wait
+wait
+work 1 http://127.0.0.1:9002 d prepared seat 12A
+wait
+commit 1
+wait
+LINES
+  ended initiator $?
+}

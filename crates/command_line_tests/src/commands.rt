@@ -1,10 +1,7 @@
-//! Worked envelopes and schedules through the top call.
+//! Worked envelopes through the top call, and words that are no job.
 
-use command_line::run::run;
-use site_model::memory::{MemSink, MemSource};
-use site_model::sink::Sink;
-use site_model::source::Failed;
-use site_model::sure::SureSite;
+use crate::reports::NO_NUMBERS;
+use crate::shared::prints;
 use std::alloc::{AllocError, Global};
 use std::test::Fail;
 
@@ -55,7 +52,7 @@ fn notice(
 }
 
 /// A Prepared of a participant of this kind.
-fn prepared(alloc: Global, kind: &str, more: &str) -> Result<String, AllocError> {
+pub fn prepared(alloc: Global, kind: &str, more: &str) -> Result<String, AllocError> {
     let to = format!(in alloc; "/c/{kind}/1-1/1")?;
     let from = format!(in alloc; "http://n3.example/p/{kind}/1-1")?;
     notice(alloc, to.as_str(), from.as_str(), "Prepared", more)
@@ -67,30 +64,6 @@ fn message(alloc: Global, action: &str, more: &str, body: &str) -> Result<String
         "<Action>http://docs.oasis-open.org/ws-tx/{action}</Action>{more}"
     )?;
     sealed(alloc, headers.as_str(), body)
-}
-
-/// The words of a command line.
-fn words_of(alloc: Global, line: &str) -> Result<Vec<String>, AllocError> {
-    let mut words = Vec::new(alloc);
-    for word in line.split(' ') {
-        words.push(String::from_str(alloc, word)?)?;
-    }
-    Ok(words)
-}
-
-/// The status of a command over this input, and whether what it prints is this.
-fn prints(rt: HostRuntime, line: &str, input: &[u8], printed: &str) -> Result<(u8, bool), Fail> {
-    let words = words_of(rt.alloc(), line)?;
-    let mut source = MemSource::new(rt.alloc(), input)?;
-    let mut sink = MemSink::new(rt.alloc());
-    let status = run(
-        rt.alloc(),
-        words.as_slice(),
-        &mut source,
-        &mut sink,
-        &mut SureSite::new(),
-    );
-    Ok((status, sink.as_slice() == printed.as_bytes()))
 }
 
 #[test]
@@ -214,10 +187,6 @@ const TRY: &str = "\nFor more information, try '--help'.\n";
 
 const UNKNOWN_STATE: &str = "error: invalid value for '--state <STATE>'\n  \
 [possible values: None, Registering, Active, Preparing, Prepared, PreparedSuccess, Committing, Aborting, Completing, Done]\n\n\
-For more information, try '--help'.\n";
-
-const NO_NUMBERS: &str = "error: invalid value for '--seed <SEED>' or '--steps <N>'\n  \
-[SEED: 0 to 18446744073709551615; N: 0 to 9999]\n\n\
 For more information, try '--help'.\n";
 
 const HELP: &str =
@@ -654,234 +623,6 @@ fn check_of_each_notification(rt: HostRuntime) -> Result<(), Fail> {
             "message {name}\ntarget {target}\nfrom http://n3.example/\n"
         )?;
         assert!(rt; says(rt, "/work", input, printed.as_str())? == (0, true));
-    }
-    Ok(())
-}
-
-/// A sink with room for so many bytes.
-#[derive(Drop)]
-struct ShortSink {
-    bytes: Vec<u8>,
-    room: usize,
-    faults: u64,
-}
-
-impl Sink for ShortSink {
-    ghost use Rattle.std.specs.Prelude.{Some};
-
-    ghost contents = { λ s. Some s.bytes.items };
-
-    ghost faults = { λ s. s.faults };
-
-    fn write(&mut self, piece: &[u8]) -> Result<usize, Failed> {
-        let n = piece.len().min(self.room);
-        if n == 0 || self.bytes.extend_from_slice(&piece[..n]).is_err() {
-            self.faults = self.faults.saturating_add(1);
-            return Err(Failed);
-        }
-        self.room -= n;
-        Ok(n)
-    }
-}
-
-#[test]
-fn a_sink_that_stops_in_a_line(rt: HostRuntime) -> Result<(), Fail> {
-    let words = words_of(rt.alloc(), "cell --state None")?;
-    let input = prepared(rt.alloc(), "d", "")?;
-    let mut source = MemSource::new(rt.alloc(), input.as_bytes())?;
-    let mut sink = ShortSink {
-        bytes: Vec::new(rt.alloc()),
-        room: 8,
-        faults: 0,
-    };
-    let status = run(
-        rt.alloc(),
-        words.as_slice(),
-        &mut source,
-        &mut sink,
-        &mut SureSite::new(),
-    );
-    assert!(rt; status == 5 && sink.bytes.as_slice() == b"send Rol".as_slice());
-    Ok(())
-}
-
-const PLAIN: &str = "\
-nodes 3\n\
-begin 1 2 60000\n\
-flush 99\n\
-work 1 1-1 3 d prepared\n\
-flush 99\n\
-commit 1 1-1\n\
-flush 99\n\
-";
-
-const PLAIN_REPORT: &str = "\
-up 1 1\n\
-up 2 1\n\
-up 3 1\n\
-msg 1 1>2 CreateCoordinationContext /activation\n\
-deliver 1 2 202\n\
-msg 2 2>1 CreateCoordinationContextResponse /i/1-1\n\
-deliver 2 1 202\n\
-msg 3 1>2 Register /registration/1-1\n\
-deliver 3 2 202\n\
-msg 4 2>1 RegisterResponse /i/1-1\n\
-deliver 4 1 202\n\
-msg 5 1>3 Work /work\n\
-deliver 5 3 202\n\
-msg 6 3>2 Register /registration/1-1\n\
-deliver 6 2 202\n\
-msg 7 2>3 RegisterResponse /p/d/1-1\n\
-deliver 7 3 202\n\
-msg 8 3>1 WorkDone /i/1-1\n\
-deliver 8 1 202\n\
-msg 9 1>2 Commit /completion/1-1\n\
-deliver 9 2 202\n\
-msg 10 2>3 Prepare /p/d/1-1\n\
-deliver 10 3 202\n\
-msg 11 3>2 Prepared /c/d/1-1/1\n\
-deliver 11 2 202\n\
-root 2 1-1 committed\n\
-msg 12 2>3 Commit /p/d/1-1\n\
-msg 13 2>1 Committed /i/1-1\n\
-deliver 12 3 202\n\
-leaf 3 1-1 d committed\n\
-msg 14 3>2 Committed /c/d/1-1/1\n\
-deliver 13 1 202\n\
-told 1 1-1 committed\n\
-deliver 14 2 202\n\
-end messages 14 committed 1 aborted 0 lost 0\n\
-";
-
-/// Commands, schedules, the status of their replay, and what it prints.
-const SCHEDULES: &[(&str, &str, u8, &str)] = &[
-    ("replay", PLAIN, 0, PLAIN_REPORT),
-    (
-        "replay",
-        "nodes 1",
-        0,
-        "up 1 1\nend messages 0 committed 0 aborted 0 lost 0\n",
-    ),
-    (
-        "replay --settle",
-        "nodes 1",
-        0,
-        "up 1 1\ntick 1 5000 202\ntick 1 10000 202\ntick 1 15000 202\ntick 1 20000 202\n\
-tick 1 25000 202\ntick 1 30000 202\ntick 1 35000 202\ntick 1 40000 202\n\
-end messages 0 committed 0 aborted 0 lost 0\n",
-    ),
-    ("replay", "", 3, "line 1 cause 7\n"),
-    (
-        "replay --settle",
-        "nodes 1\nflush 1\nfoo\n",
-        3,
-        "line 3 cause 1\n",
-    ),
-];
-
-#[test]
-fn replays(rt: HostRuntime) -> Result<(), Fail> {
-    for (line, schedule, status, printed) in SCHEDULES {
-        let outcome = prints(rt, line, schedule.as_bytes(), printed)?;
-        assert!(rt; outcome == (*status, true));
-    }
-    Ok(())
-}
-
-/// Seeds with how many lines are made of them, the status, and what is printed.
-const MADE: &[(&str, u8, &str)] = &[
-    (
-        "make --seed 1 --steps 0",
-        0,
-        "steps 0 messages 0 committed 0 aborted 0 lost 0\n",
-    ),
-    (
-        "make --steps=1 --seed=18446744073709551615",
-        0,
-        "steps 1 messages 0 committed 0 aborted 0 lost 0\n",
-    ),
-    ("make --seed 18446744073709551616 --steps 0", 2, NO_NUMBERS),
-    ("make --seed 01 --steps 0", 2, NO_NUMBERS),
-    ("make --seed 1 --steps 10000", 2, NO_NUMBERS),
-    ("make --seed 1 --steps +1", 2, NO_NUMBERS),
-];
-
-#[test]
-fn makes(rt: HostRuntime) -> Result<(), Fail> {
-    for (line, status, printed) in MADE {
-        let outcome = prints(rt, line, b"", printed)?;
-        assert!(rt; outcome == (*status, true));
-    }
-    Ok(())
-}
-
-/// A command, the read at which its source fails, the writes at which its sink fails and idles, and the status.
-const FAULTS: &[(&str, u32, u32, u32, u8)] = &[
-    ("replay", 0, 0, 0, 0),
-    ("replay", 1, 0, 0, 4),
-    ("replay", 2, 0, 0, 4),
-    ("replay", 0, 1, 0, 5),
-    ("replay", 0, 0, 1, 5),
-    ("make --seed 7 --steps 0", 1, 0, 0, 0),
-    ("make --seed 7 --steps 0", 0, 1, 0, 5),
-    ("check", 0, 0, 0, 3),
-    ("check", 2, 0, 0, 4),
-    ("check", 0, 1, 0, 5),
-    ("cell --state None", 1, 0, 0, 4),
-    ("cell --state None", 0, 0, 1, 5),
-    ("--help", 1, 0, 0, 0),
-    ("--help", 0, 1, 0, 5),
-    ("help", 1, 0, 0, 2),
-    ("help", 0, 0, 1, 5),
-];
-
-/// The status of a command over the plain schedule, with these faults.
-fn faulty(
-    rt: HostRuntime,
-    line: &str,
-    source_fails: u32,
-    sink_fails: u32,
-    sink_idles: u32,
-) -> Result<u8, Fail> {
-    let words = words_of(rt.alloc(), line)?;
-    let mut source = MemSource::new(rt.alloc(), PLAIN.as_bytes())?;
-    source.fail(source_fails);
-    let mut sink = MemSink::new(rt.alloc());
-    sink.fail(sink_fails);
-    sink.idle(sink_idles);
-    Ok(run(
-        rt.alloc(),
-        words.as_slice(),
-        &mut source,
-        &mut sink,
-        &mut SureSite::new(),
-    ))
-}
-
-#[test]
-fn faults(rt: HostRuntime) -> Result<(), Fail> {
-    for (line, source_fails, sink_fails, sink_idles, status) in FAULTS {
-        let ended = faulty(rt, line, *source_fails, *sink_fails, *sink_idles)?;
-        assert!(rt; ended == *status);
-    }
-    Ok(())
-}
-
-/// What is printed of an input of so many spaces.
-fn prints_of_spaces(rt: HostRuntime, count: usize, printed: &str) -> Result<(u8, bool), Fail> {
-    let input = vec![in rt.alloc(); b' '; count]?;
-    prints(rt, "check", input.as_slice(), printed)
-}
-
-#[test]
-fn limits_of_the_source(rt: HostRuntime) -> Result<(), Fail> {
-    for (count, status, printed) in [
-        (65_536, 3, "refused 3 NotSpelled\n"),
-        (65_537, 3, "refused 1 TooLong\n"),
-        (1_048_576, 3, "refused 1 TooLong\n"),
-        (1_048_577, 10, ""),
-    ] {
-        assert!(rt; prints_of_spaces(rt, count, printed)? == (status, true));
     }
     Ok(())
 }

@@ -4,6 +4,12 @@
 #[cfg(test)]
 mod commands;
 #[cfg(test)]
+mod faults;
+#[cfg(test)]
+mod reports;
+#[cfg(test)]
 mod serves;
+#[cfg(test)]
+mod shared;
 #[cfg(test)]
 mod ticks;

@@ -1,5 +1,6 @@
 //! Commands that serve, through the top call.
 
+use crate::shared::words_of;
 use command_line::run::run;
 use site_memory::machine::MemSite;
 use site_model::memory::{MemSink, MemSource};
@@ -8,14 +9,6 @@ use site_model::site::Site;
 use site_model::sure::SureSite;
 use std::alloc::{AllocError, Global};
 use std::test::Fail;
-
-fn words_of(alloc: Global, line: &str) -> Result<Vec<String>, AllocError> {
-    let mut words = Vec::new(alloc);
-    for word in line.split(' ') {
-        words.push(String::from_str(alloc, word)?)?;
-    }
-    Ok(words)
-}
 
 /// The status of a command over this input and machine, and whether it prints this.
 fn serves<H: Site>(

@@ -1,0 +1,129 @@
+//! Sources and sinks that fail, and the limits of a source.
+
+use crate::commands::prepared;
+use crate::reports::PLAIN;
+use crate::shared::{prints, words_of};
+use command_line::run::run;
+use site_model::memory::{MemSink, MemSource};
+use site_model::sink::Sink;
+use site_model::source::Failed;
+use site_model::sure::SureSite;
+use std::test::Fail;
+
+/// A sink with room for so many bytes.
+#[derive(Drop)]
+struct ShortSink {
+    bytes: Vec<u8>,
+    room: usize,
+    faults: u64,
+}
+
+impl Sink for ShortSink {
+    ghost use Rattle.std.specs.Prelude.{Some};
+
+    ghost contents = { λ s. Some s.bytes.items };
+
+    ghost faults = { λ s. s.faults };
+
+    fn write(&mut self, piece: &[u8]) -> Result<usize, Failed> {
+        let n = piece.len().min(self.room);
+        if n == 0 || self.bytes.extend_from_slice(&piece[..n]).is_err() {
+            self.faults = self.faults.saturating_add(1);
+            return Err(Failed);
+        }
+        self.room -= n;
+        Ok(n)
+    }
+}
+
+#[test]
+fn a_sink_that_stops_in_a_line(rt: HostRuntime) -> Result<(), Fail> {
+    let words = words_of(rt.alloc(), "cell --state None")?;
+    let input = prepared(rt.alloc(), "d", "")?;
+    let mut source = MemSource::new(rt.alloc(), input.as_bytes())?;
+    let mut sink = ShortSink {
+        bytes: Vec::new(rt.alloc()),
+        room: 8,
+        faults: 0,
+    };
+    let status = run(
+        rt.alloc(),
+        words.as_slice(),
+        &mut source,
+        &mut sink,
+        &mut SureSite::new(),
+    );
+    assert!(rt; status == 5 && sink.bytes.as_slice() == b"send Rol".as_slice());
+    Ok(())
+}
+
+/// A command, the read at which its source fails, the writes at which its sink fails and idles, and the status.
+const FAULTS: &[(&str, u32, u32, u32, u8)] = &[
+    ("replay", 0, 0, 0, 0),
+    ("replay", 1, 0, 0, 4),
+    ("replay", 2, 0, 0, 4),
+    ("replay", 0, 1, 0, 5),
+    ("replay", 0, 0, 1, 5),
+    ("make --seed 7 --steps 0", 1, 0, 0, 0),
+    ("make --seed 7 --steps 0", 0, 1, 0, 5),
+    ("check", 0, 0, 0, 3),
+    ("check", 2, 0, 0, 4),
+    ("check", 0, 1, 0, 5),
+    ("cell --state None", 1, 0, 0, 4),
+    ("cell --state None", 0, 0, 1, 5),
+    ("--help", 1, 0, 0, 0),
+    ("--help", 0, 1, 0, 5),
+    ("help", 1, 0, 0, 2),
+    ("help", 0, 0, 1, 5),
+];
+
+/// The status of a command over the plain schedule, with these faults.
+fn faulty(
+    rt: HostRuntime,
+    line: &str,
+    source_fails: u32,
+    sink_fails: u32,
+    sink_idles: u32,
+) -> Result<u8, Fail> {
+    let words = words_of(rt.alloc(), line)?;
+    let mut source = MemSource::new(rt.alloc(), PLAIN.as_bytes())?;
+    source.fail(source_fails);
+    let mut sink = MemSink::new(rt.alloc());
+    sink.fail(sink_fails);
+    sink.idle(sink_idles);
+    Ok(run(
+        rt.alloc(),
+        words.as_slice(),
+        &mut source,
+        &mut sink,
+        &mut SureSite::new(),
+    ))
+}
+
+#[test]
+fn faults(rt: HostRuntime) -> Result<(), Fail> {
+    for (line, source_fails, sink_fails, sink_idles, status) in FAULTS {
+        let ended = faulty(rt, line, *source_fails, *sink_fails, *sink_idles)?;
+        assert!(rt; ended == *status);
+    }
+    Ok(())
+}
+
+/// What is printed of an input of so many spaces.
+fn prints_of_spaces(rt: HostRuntime, count: usize, printed: &str) -> Result<(u8, bool), Fail> {
+    let input = vec![in rt.alloc(); b' '; count]?;
+    prints(rt, "check", input.as_slice(), printed)
+}
+
+#[test]
+fn limits_of_the_source(rt: HostRuntime) -> Result<(), Fail> {
+    for (count, status, printed) in [
+        (65_536, 3, "refused 3 NotSpelled\n"),
+        (65_537, 3, "refused 1 TooLong\n"),
+        (1_048_576, 3, "refused 1 TooLong\n"),
+        (1_048_577, 10, ""),
+    ] {
+        assert!(rt; prints_of_spaces(rt, count, printed)? == (status, true));
+    }
+    Ok(())
+}
