@@ -18,7 +18,7 @@ use Rattle.at_model.specs.Arrivals.{with_answer}
 use Rattle.at_model.specs.Activities.{Refusal, on_begin, on_interpose}
 use Rattle.at_model.specs.Register.{on_register}
 use Rattle.at_model.specs.Step.{Outcome, Plan, plain, still, activity_at, at_time, moment_of, is_under, local_plan, put_transaction, put_leaf, put_activities, put_activity, make_transaction, make_leaf, make_activity, refuses, registration_outcome, plan, step}
-use Rattle.at_model.specs.World.{Node, WorldEvent, nth, run_of}
+use Rattle.at_model.specs.World.{Node, WorldEvent, nth, run_of, Hosts}
 use Rattle.model_laws.specs.Shapes.{MakesActivity, Shape, begins, interposes, nothing_moves, time_moves, time_passes, transaction_moves, leaf_moves, activity_moves, transaction_registers, transaction_made, leaf_made, activity_made}
 use Rattle.model_laws.proofs.Deciding.{Both, in_branch, plain_both, decision_both, DecisionHas, IfThere, decided_both, all_filter, all_find, all_put, all_join, found_id}
 use Rattle.model_laws.proofs.Reaching.{NodeLaw, nodes_hold, run_reached}
@@ -36,12 +36,12 @@ again a sent (runs context to o p x c) = runs context to o p x c
 again a sent (runs_under context o p x c) = runs_under context o p x c
 again a sent (completes n context to o w p x c) = completes n context to o w p x c
 
-worked : (a : Activity) (count : ℕ) → ActivityStands a → ActivityStands (record a { works = count })
-worked a count (creates p x c) = creates p x c
-worked a count (registers context o p x c) = registers context o p x c
-worked a count (runs context to o p x c) = runs context to o p x c
-worked a count (runs_under context o p x c) = runs_under context o p x c
-worked a count (completes n context to o w p x c) = completes n context to o w p x c
+worked : (a : Activity) (hosts : Hosts) → ActivityStands a → ActivityStands (record a { works = hosts })
+worked a hosts (creates p x c) = creates p x c
+worked a hosts (registers context o p x c) = registers context o p x c
+worked a hosts (runs context to o p x c) = runs context to o p x c
+worked a hosts (runs_under context o p x c) = runs_under context o p x c
+worked a hosts (completes n context to o w p x c) = completes n context to o w p x c
 
 no_coordinator : (a : Activity) → ActivityStands a → a.progress ≡ Progress.Creating → a.coordinator ≡ None
 no_coordinator a (creates p x c) e = c
@@ -162,10 +162,10 @@ standing_law = record {
   rises = λ base rs small h. tt;
 }
 
-run_stands : (count : ℕ) (es : List WorldEvent) (n : ℕ) (x : Node) (b : Book) → nth n (run_of count es).nodes ≡ Some x → x.book ≡ Some b → ActivitiesStand b
+run_stands : (hosts : Hosts) (es : List WorldEvent) (n : ℕ) (x : Node) (b : Book) → nth n (run_of hosts es).nodes ≡ Some x → x.book ≡ Some b → ActivitiesStand b
 unfolding standing_law
-run_stands count es n x b found up =
-    subst (IfThere ActivitiesStand) up (nodes_hold standing_law count (run_of count es) (run_reached count es) n x found)
+run_stands hosts es n x b found up =
+    subst (IfThere ActivitiesStand) up (nodes_hold standing_law hosts (run_of hosts es) (run_reached hosts es) n x found)
 
 pub activity_states : ActivityStates
 activity_states = record { book = step_stands; recovered = λ base rs. tt; books = run_stands }

@@ -18,7 +18,7 @@ use Rattle.at_model.specs.Arrivals.{with_answer}
 use Rattle.at_model.specs.Register.{on_register}
 use Rattle.at_model.specs.Step.{Outcome, Plan, still, at_time, moment_of, put_transaction, put_leaf, put_activity, make_transaction, make_leaf, make_activity, registration_outcome, plan, step}
 use Rattle.at_model.specs.Recover.{live, is_sub_committed, transactions_of, recovered_seat, recovered_voted, recovered_decided, recover}
-use Rattle.at_model.specs.World.{Node, WorldEvent, nth, run_of}
+use Rattle.at_model.specs.World.{Node, WorldEvent, nth, run_of, Hosts}
 use Rattle.model_laws.specs.Behind.{IsInPhase}
 use Rattle.model_laws.specs.Drawn.{restarted, with_entry}
 use Rattle.model_laws.specs.Laws.{HasLeafId}
@@ -177,9 +177,9 @@ finished_law = record {
   };
 }
 
-node_good : (count : ℕ) (es : List WorldEvent) (n : ℕ) (x : Node) → nth n (run_of count es).nodes ≡ Some x → IsGoodNode x.journal x.book
+node_good : (hosts : Hosts) (es : List WorldEvent) (n : ℕ) (x : Node) → nth n (run_of hosts es).nodes ≡ Some x → IsGoodNode x.journal x.book
 unfolding finished_law
-node_good count es n x found = nodes_hold finished_law count (run_of count es) (run_reached count es) n x found
+node_good hosts es n x found = nodes_hold finished_law hosts (run_of hosts es) (run_reached hosts es) n x found
 
 book_good : (o : Option Book) (b : Book) → o ≡ Some b → IfThere IsGood o → IsGood b
 book_good o b up h = subst (IfThere IsGood) up h
@@ -189,6 +189,6 @@ finishes_all = record {
   book = step_finished;
   entry = step_names;
   recovered = recovered_finished;
-  journals = λ count es n x found. (node_good count es n x found).names;
-  books = λ count es n x b found up. (book_good x.book b up (node_good count es n x found).book).finished;
+  journals = λ hosts es n x found. (node_good hosts es n x found).names;
+  books = λ hosts es n x b found up. (book_good x.book b up (node_good hosts es n x found).book).finished;
 }

@@ -12,7 +12,7 @@ use Rattle.at_model.specs.Posts.{accepted}
 use Rattle.at_model.specs.Register.{on_register}
 use Rattle.at_model.specs.Recover.{is_promise, live, recover, recovered_leaf}
 use Rattle.at_model.specs.Step.{Plan, activity_plan, at_time, leaf_plan, make_activity, make_leaf, make_transaction, moment_of, plain, plan, put_activity, put_transaction, registration_outcome, step, still, transaction_plan}
-use Rattle.at_model.specs.World.{Node, WorldEvent, nth, run_of}
+use Rattle.at_model.specs.World.{Node, WorldEvent, nth, run_of, Hosts}
 use Rattle.model_laws.specs.Agreement.{IsIn}
 use Rattle.model_laws.specs.Drawn.{IsDrawnRecord, restarted, with_entry}
 use Rattle.model_laws.specs.Laws.{KeepsPlace}
@@ -223,12 +223,12 @@ safe_law = record {
   rises = λ base rs small h. start_safe base rs;
 }
 
-run_safe : (count : ℕ) (es : List WorldEvent) (n : ℕ) (x : Node) (b : Book) → nth n (run_of count es).nodes ≡ Some x → x.book ≡ Some b → IsSafe x.journal b
+run_safe : (hosts : Hosts) (es : List WorldEvent) (n : ℕ) (x : Node) (b : Book) → nth n (run_of hosts es).nodes ≡ Some x → x.book ≡ Some b → IsSafe x.journal b
 unfolding safe_law
-run_safe count es n x b found up = subst (IfThere (IsSafe x.journal)) up (nodes_hold safe_law count (run_of count es) (run_reached count es) n x found)
+run_safe hosts es n x b found up = subst (IfThere (IsSafe x.journal)) up (nodes_hold safe_law hosts (run_of hosts es) (run_reached hosts es) n x found)
 
 pub leaves_are_backed : LeavesAreBacked
 leaves_are_backed = record {
-  backed = λ count es n x b found up. (run_safe count es n x b found up).leaves;
-  waiting = λ count es n x b found up. (run_safe count es n x b found up).waiting;
+  backed = λ hosts es n x b found up. (run_safe hosts es n x b found up).leaves;
+  waiting = λ hosts es n x b found up. (run_safe hosts es n x b found up).waiting;
 }

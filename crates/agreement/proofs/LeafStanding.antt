@@ -20,7 +20,7 @@ use Rattle.at_model.specs.Leaves.{on_work, refuse_work, work_for}
 use Rattle.at_model.specs.Register.{on_register}
 use Rattle.at_model.specs.Step.{Outcome, Plan, still, at_time, moment_of, put_transaction, put_leaf, put_activity, make_transaction, make_leaf, make_activity, registration_outcome, plan, step}
 use Rattle.at_model.specs.Recover.{live, leaves_of, recover}
-use Rattle.at_model.specs.World.{Node, WorldEvent, nth, run_of}
+use Rattle.at_model.specs.World.{Node, WorldEvent, nth, run_of, Hosts}
 use Rattle.model_laws.specs.Drawn.{restarted}
 use Rattle.model_laws.specs.Shapes.{Shape, nothing_moves, time_moves, time_passes, transaction_moves, leaf_moves, activity_moves, transaction_registers, transaction_made, leaf_made, activity_made}
 use Rattle.model_laws.proofs.Deciding.{Both, in_branch, plain_both, decision_both, either_of, DecisionHas, IfThere, decided_both, all_find, all_put, all_join}
@@ -145,10 +145,10 @@ standing_law = record {
   rises = λ base rs small h. recovered_stand base (restarted rs);
 }
 
-run_stands : (count : ℕ) (es : List WorldEvent) (n : ℕ) (x : Node) (b : Book) → nth n (run_of count es).nodes ≡ Some x → x.book ≡ Some b → LeavesStand b
+run_stands : (hosts : Hosts) (es : List WorldEvent) (n : ℕ) (x : Node) (b : Book) → nth n (run_of hosts es).nodes ≡ Some x → x.book ≡ Some b → LeavesStand b
 unfolding standing_law
-run_stands count es n x b found up =
-    subst (IfThere LeavesStand) up (nodes_hold standing_law count (run_of count es) (run_reached count es) n x found)
+run_stands hosts es n x b found up =
+    subst (IfThere LeavesStand) up (nodes_hold standing_law hosts (run_of hosts es) (run_reached hosts es) n x found)
 
 pub leaf_states : LeafStates
 leaf_states = record { book = step_stands; recovered = recovered_stand; books = run_stands }

@@ -19,7 +19,7 @@ use Rattle.at_model.specs.Recover.{incarnation_of, is_promise, last_incarnation,
 use Rattle.at_model.specs.Leaves.{leaf_ended}
 use Rattle.at_model.specs.Seats.{ending}
 use Rattle.at_model.specs.Step.{leaf_at, plan, step, transaction_at}
-use Rattle.at_model.specs.World.{Happened, Node, World, WorldEvent, goes_down, happened_at, is_lost_leaf, is_lost_root, is_lost_subordinate, lost_in, nth, put_book, put_nth, run_of, started, up_after, with_post}
+use Rattle.at_model.specs.World.{Happened, Node, World, WorldEvent, goes_down, happened_at, is_lost_leaf, is_lost_root, is_lost_subordinate, lost_in, nth, put_book, put_nth, run_of, started, up_after, with_post, Hosts}
 use Rattle.model_laws.specs.Agreement.{HasAborted, HasCommitted, HasEnded, IsIn, ends_as}
 use Rattle.model_laws.specs.Drawn.{restarted, with_entry}
 use Rattle.model_laws.specs.Laws.{IsDrawn}
@@ -244,31 +244,31 @@ gone_down : (n : ℕ) (b : Book) (u : World) (x : Node) → nth n u.nodes ≡ So
     → goes_down n b u ≡ record u { nodes = put_nth n (record x { book = None }) u.nodes; happened = u.happened ++ lost_in n b }
 gone_down n b u x found = ap (put_book n None (record u { happened = u.happened ++ lost_in n b })) found
 
-node_is : (count : ℕ) (w : World) → Reached count w → (n : ℕ) (x : Node) → nth n w.nodes ≡ Some x → NodeIs w.happened n x
-node_is count w (opened is) n x found =
+node_is : (hosts : Hosts) (w : World) → Reached hosts w → (n : ℕ) (x : Node) → nth n w.nodes ≡ Some x → NodeIs w.happened n x
+node_is hosts w (opened is) n x found =
     subst (λ hs. NodeIs hs n x) (sym (ap (λ (v : World). v.happened) is))
-    (subst (NodeIs [] n) (sym (opening_node count n x (ap (λ (v : World). nth n v.nodes) (sym is) ∙ found))) new_down)
-node_is count w (stepped u n x b e now landed ps reached found up heard posts is) m y f =
+    (subst (NodeIs [] n) (sym (opening_node hosts n x (ap (λ (v : World). nth n v.nodes) (sym is) ∙ found))) new_down)
+node_is hosts w (stepped u n x b e now landed ps reached found up heard posts is) m y f =
     subst (λ hs. NodeIs hs m y) (sym (ap (λ (v : World). v.happened) is ∙ posted_happened n ps (counts u n x b e now landed)))
     (each_put (NodeIs (u.happened ++ map (happened_at n) (step b e now landed).effects)) u.nodes n x
     (record x { book = Some (step b e now landed).book; journal = with_entry (plan b e now).entry landed x.journal }) found
     (subst (IsUp (step b e now landed).book (with_entry (plan b e now).entry landed x.journal)) (sym (step_here n u.happened (step b e now landed).effects))
-    (goes_on x.journal (happened_on n u.happened) b e now landed (subst (λ o. AsItIs x.journal o (happened_on n u.happened)) up (node_is count u reached n x found))))
-    (λ k z differ r. subst (AsItIs z.journal z.book) (sym (step_there k n u.happened (step b e now landed).effects differ)) (node_is count u reached k z r)) m y
+    (goes_on x.journal (happened_on n u.happened) b e now landed (subst (λ o. AsItIs x.journal o (happened_on n u.happened)) up (node_is hosts u reached n x found))))
+    (λ k z differ r. subst (AsItIs z.journal z.book) (sym (step_there k n u.happened (step b e now landed).effects differ)) (node_is hosts u reached k z r)) m y
     (sym (ap (nth m) (ap (λ (v : World). v.nodes) is ∙ posted_nodes n ps (counts u n x b e now landed))) ∙ f))
-node_is count w (fell u n x b reached found up is) m y f =
+node_is hosts w (fell u n x b reached found up is) m y f =
     subst (λ hs. NodeIs hs m y) (sym (ap (λ (v : World). v.happened) (is ∙ gone_down n b u x found)))
     (each_put (NodeIs (u.happened ++ lost_in n b)) u.nodes n x (record x { book = None }) found
     (subst (IsDown x.journal) (sym (on_join n u.happened (lost_in n b) ∙ ap (λ zs. happened_on n u.happened ++ zs) (lost_here n b)))
-    (falls x.journal (happened_on n u.happened) b (subst (λ o. AsItIs x.journal o (happened_on n u.happened)) up (node_is count u reached n x found))))
+    (falls x.journal (happened_on n u.happened) b (subst (λ o. AsItIs x.journal o (happened_on n u.happened)) up (node_is hosts u reached n x found))))
     (λ k z differ r. subst (AsItIs z.journal z.book)
     (sym (on_join k u.happened (lost_in n b) ∙ ap (λ zs. happened_on k u.happened ++ zs) (lost_there k n b differ) ∙ append-nil (happened_on k u.happened)))
-    (node_is count u reached k z r)) m y
+    (node_is hosts u reached k z r)) m y
     (sym (ap (λ (v : World). nth m v.nodes) (is ∙ gone_down n b u x found)) ∙ f))
-node_is count w (rose u n x stop reached found down small is) m y f =
+node_is hosts w (rose u n x stop reached found down small is) m y f =
     subst (λ hs. NodeIs hs m y) (sym (ap (λ (v : World). v.happened) is))
     (each_put (NodeIs u.happened) u.nodes n x (up_after (started (last_incarnation x.journal + 1) x) stop) found
-    (by_stop stop (subst (λ o. AsItIs x.journal o (happened_on n u.happened)) down (node_is count u reached n x found))) (λ k z differ r. node_is count u reached k z r) m y
+    (by_stop stop (subst (λ o. AsItIs x.journal o (happened_on n u.happened)) down (node_is hosts u reached n x found))) (λ k z differ r. node_is hosts u reached k z r) m y
     (sym (ap (λ (v : World). nth m v.nodes) is) ∙ f))
   where
     stopped : IsDown x.journal (happened_on n u.happened) → IsDown (restarted x.journal) (happened_on n u.happened)
@@ -282,9 +282,9 @@ node_is count w (rose u n x stop reached found down small is) m y f =
         → AsItIs (restarted x.journal) (up_after (started (last_incarnation x.journal + 1) x) s).book (happened_on n u.happened)
     by_stop true h = stopped h
     by_stop false h = rises x.base x.journal (happened_on n u.happened) h
-node_is count w (waited u n x clock reached found is) m y f =
+node_is hosts w (waited u n x clock reached found is) m y f =
     subst (λ hs. NodeIs hs m y) (sym (ap (λ (v : World). v.happened) is))
-    (each_put (NodeIs u.happened) u.nodes n x (record x { clock = clock }) found (node_is count u reached n x found) (λ k z differ r. node_is count u reached k z r) m y
+    (each_put (NodeIs u.happened) u.nodes n x (record x { clock = clock }) found (node_is hosts u reached n x found) (λ k z differ r. node_is hosts u reached k z r) m y
     (sym (ap (λ (v : World). nth m v.nodes) is) ∙ f))
 
 -- the standing book
@@ -293,9 +293,9 @@ stands : (base : List ℕ) (rs : List Record) (o : Option Book) (fx : List Effec
 stands base rs None fx h id = h.lives base id
 stands base rs (Some b) fx h id = h.good.lives id
 
-run_lives : (count : ℕ) (es : List WorldEvent) (n : ℕ) (x : Node) → nth n (run_of count es).nodes ≡ Some x → (id : Numbers)
-    → Life x.journal (happened_on n (run_of count es).happened) id (transaction_at (book_of x) id) (leaf_at (book_of x) id)
-run_lives count es n x found id = stands x.base x.journal x.book (happened_on n (run_of count es).happened) (node_is count (run_of count es) (run_reached count es) n x found) id
+run_lives : (hosts : Hosts) (es : List WorldEvent) (n : ℕ) (x : Node) → nth n (run_of hosts es).nodes ≡ Some x → (id : Numbers)
+    → Life x.journal (happened_on n (run_of hosts es).happened) id (transaction_at (book_of x) id) (leaf_at (book_of x) id)
+run_lives hosts es n x found id = stands x.base x.journal x.book (happened_on n (run_of hosts es).happened) (node_is hosts (run_of hosts es) (run_reached hosts es) n x found) id
 
 -- it ends once
 at_most_one : (es : List Effect) (e : Effect) → es ≡ e ∷ [] → length es ≤ 1
@@ -365,18 +365,18 @@ ended_as w n id what (inr (inr i)) = record {
 both_ended : (fx : List Effect) (id : Numbers) (one other : Ending) → length (ends id fx) ≤ 1 → EndedAs fx id one → EndedAs fx id other → Some one ≡ Some other
 both_ended fx id one other l h k = sym h.so ∙ ap as_what (one_only (ends id fx) h.effect k.effect l h.ended k.ended) ∙ k.so
 
-run_once : (count : ℕ) (es : List WorldEvent) (n : ℕ) (x : Node) → nth n (run_of count es).nodes ≡ Some x → (id : Numbers) → length (ends id (happened_on n (run_of count es).happened)) ≤ 1
-run_once count es n x found id =
-    life_once x.journal (happened_on n (run_of count es).happened) id (transaction_at (book_of x) id) (leaf_at (book_of x) id) (run_lives count es n x found id)
+run_once : (hosts : Hosts) (es : List WorldEvent) (n : ℕ) (x : Node) → nth n (run_of hosts es).nodes ≡ Some x → (id : Numbers) → length (ends id (happened_on n (run_of hosts es).happened)) ≤ 1
+run_once hosts es n x found id =
+    life_once x.journal (happened_on n (run_of hosts es).happened) id (transaction_at (book_of x) id) (leaf_at (book_of x) id) (run_lives hosts es n x found id)
 
-run_one : (count : ℕ) (es : List WorldEvent) (n : ℕ) (x : Node) → nth n (run_of count es).nodes ≡ Some x → (id : Numbers)
-    → HasCommitted (run_of count es) (record { node = n; id = id }) → HasAborted (run_of count es) (record { node = n; id = id }) → ⊥
-run_one count es n x found id c (inl a) =
-    let e : Some endings.Committed ≡ Some endings.Aborted = both_ended (happened_on n (run_of count es).happened) id endings.Committed endings.Aborted (run_once count es n x found id)
-    (ended_as (run_of count es) n id endings.Committed c) (ended_as (run_of count es) n id endings.Aborted a) in cc
-run_one count es n x found id c (inr a) =
-    let e : Some endings.Committed ≡ Some endings.Lost = both_ended (happened_on n (run_of count es).happened) id endings.Committed endings.Lost (run_once count es n x found id)
-    (ended_as (run_of count es) n id endings.Committed c) (ended_as (run_of count es) n id endings.Lost a) in cc
+run_one : (hosts : Hosts) (es : List WorldEvent) (n : ℕ) (x : Node) → nth n (run_of hosts es).nodes ≡ Some x → (id : Numbers)
+    → HasCommitted (run_of hosts es) (record { node = n; id = id }) → HasAborted (run_of hosts es) (record { node = n; id = id }) → ⊥
+run_one hosts es n x found id c (inl a) =
+    let e : Some endings.Committed ≡ Some endings.Aborted = both_ended (happened_on n (run_of hosts es).happened) id endings.Committed endings.Aborted (run_once hosts es n x found id)
+    (ended_as (run_of hosts es) n id endings.Committed c) (ended_as (run_of hosts es) n id endings.Aborted a) in cc
+run_one hosts es n x found id c (inr a) =
+    let e : Some endings.Committed ≡ Some endings.Lost = both_ended (happened_on n (run_of hosts es).happened) id endings.Committed endings.Lost (run_once hosts es n x found id)
+    (ended_as (run_of hosts es) n id endings.Committed c) (ended_as (run_of hosts es) n id endings.Lost a) in cc
 
 pub lives_agree : LivesAgree
 lives_agree = record { lives = run_lives; one = run_one; once = run_once }

@@ -35,7 +35,7 @@ use Rattle.at_model.specs.Register.{on_register, protocol_named}
 use Rattle.at_model.specs.Due.{transaction_due, leaf_due, activity_due}
 use Rattle.at_model.specs.Recover.{last_incarnation, recover}
 use Rattle.at_model.specs.Step.{Outcome, Plan, plain, still, at_time, moment_of, make_transaction, make_leaf, make_activity, put_transaction, put_leaf, put_activity, plan_of, registration_outcome, stranger_act, stranger_cell, outcome_act, outcome_cell, transaction_at, leaf_at, activity_at, branch, plan, step}
-use Rattle.at_model.specs.World.{Node, Posted, World, nth, put_nth, put_book, base_of, with_post, lost_in, goes_down, started, up_after, run_of}
+use Rattle.at_model.specs.World.{Node, Posted, World, nth, put_nth, put_book, with_post, lost_in, goes_down, started, up_after, run_of, Hosts, HaveOwnAddresses}
 use Rattle.model_laws.specs.Agreement.{IsIn}
 use Rattle.model_laws.specs.Drawn.{AreDrawn, restarted, with_entry}
 use Rattle.model_laws.specs.Laws.{IsDrawn}
@@ -300,9 +300,9 @@ records_law = record {
   rises = λ base rs small h. omega arith;
 }
 
-pub of_records : (count : ℕ) (w : World) → Reached count w → (n : ℕ) (x : Node) → nth n w.nodes ≡ Some x → IsOfRecords x.journal x.book
+pub of_records : (hosts : Hosts) (w : World) → Reached hosts w → (n : ℕ) (x : Node) → nth n w.nodes ≡ Some x → IsOfRecords x.journal x.book
 unfolding records_law
-of_records count w reached n x found = nodes_hold records_law count w reached n x found
+of_records hosts w reached n x found = nodes_hold records_law hosts w reached n x found
 
 -- what was drawn stays drawn
 pub drawn_put : (u v : World) (n : ℕ) (x z : Node) → nth n u.nodes ≡ Some x → v.nodes ≡ put_nth n z u.nodes → ((id : Numbers) → HasDrawn x.journal x.book id → HasDrawn z.journal z.book id)
@@ -340,7 +340,7 @@ drawn_up base rs false id h = inl (omega (arith, h, (incarnations_rise rs).0))
 
 -- runs
 abbrev PostedWhose : World → Posted → Type 0
-PostedWhose w p = IsWhose (IsOwnId w p.sender) (base_of p.sender) p.content
+PostedWhose w p = IsWhose (IsOwnId w p.sender) (hosts.base_of p.sender) p.content
 
 abbrev AllWhose : World → Type 0
 AllWhose w = AllByRecursion (PostedWhose w) w.posted
@@ -348,35 +348,35 @@ AllWhose w = AllByRecursion (PostedWhose w) w.posted
 whose_on : (u v : World) → ((m : ℕ) (id : Numbers) → WasDrawn u m id → WasDrawn v m id) → (ps : List Posted) → AllByRecursion (PostedWhose u) ps → AllByRecursion (PostedWhose v) ps
 whose_on u v f ps h =
     all_more (PostedWhose u) (PostedWhose v) ps
-    (λ p k. whose_more (IsOwnId u p.sender) (IsOwnId v p.sender) (base_of p.sender) p.content p.content.message (λ own id i. (i.0, f p.sender id i.1)) k) h
+    (λ p k. whose_more (IsOwnId u p.sender) (IsOwnId v p.sender) (hosts.base_of p.sender) p.content p.content.message (λ own id i. (i.0, f p.sender id i.1)) k) h
 
 pub outs_on : (P Q : Target → Numbers → Type 0) (base : List ℕ) (os : List Out) → ((own : Target) (id : Numbers) → P own id → Q own id) → OutsWhose P base os → AllByRecursion (OutFine (IsWhose Q base)) os
 outs_on P Q base [] f h = tt
 outs_on P Q base (outs.Post p ∷ os) f (h, k) = (whose_more P Q base p p.message f h, outs_on P Q base os f k)
 outs_on P Q base (outs.Answer status reply ∷ os) f (h, k) = (tt, outs_on P Q base os f k)
 
-steps_whose : (count : ℕ) (u : World) (n : ℕ) (x : Node) (b : Book) (e : Event) (now : ℕ) (landed : Bool) → count < 2 ^ 64 → Reached count u → nth n u.nodes ≡ Some x → x.book ≡ Some b → AllWhose u
-    → AllWhose (counts u n x b e now landed) × AllByRecursion (OutFine (IsWhose (IsOwnId (counts u n x b e now landed) n) (base_of n))) (step b e now landed).outs
-steps_whose count u n x b e now landed small reached found up h =
+steps_whose : (hosts : Hosts) (u : World) (n : ℕ) (x : Node) (b : Book) (e : Event) (now : ℕ) (landed : Bool) → HaveOwnAddresses hosts → Reached hosts u → nth n u.nodes ≡ Some x → x.book ≡ Some b → AllWhose u
+    → AllWhose (counts u n x b e now landed) × AllByRecursion (OutFine (IsWhose (IsOwnId (counts u n x b e now landed) n) (hosts.base_of n))) (step b e now landed).outs
+steps_whose hosts u n x b e now landed small reached found up h =
     let v : World = counts u n x b e now landed in
-    let g : WorldGood count u = world_good count u small reached in
-    let known : IsUp (base_of n) (g.choices n) x.journal b = subst (IsKnown (base_of n) (g.choices n) x.journal) up (g.nodes n x found) in (
+    let g : WorldGood hosts u = world_good hosts u small reached in
+    let known : IsUp (hosts.base_of n) (g.choices n) x.journal b = subst (IsKnown (hosts.base_of n) (g.choices n) x.journal) up (g.nodes n x found) in (
       whose_on u v (drawn_put u v n x z found refl (λ id k. drawn_step x b e now landed x.book refl up id k)) u.posted h,
-      outs_on (IsKept (step b e now landed).book) (IsOwnId v n) (base_of n) (step b e now landed).outs (λ own id k. (k.0, (z, put_this u.nodes n x z found, k.1)))
+      outs_on (IsKept (step b e now landed).book) (IsOwnId v n) (hosts.base_of n) (step b e now landed).outs (λ own id k. (k.0, (z, put_this u.nodes n x z found, k.1)))
           (subst (λ base. OutsWhose (IsKept (step b e now landed).book) base (step b e now landed).outs) known.says.base_is
-          (step_whose (base_of n) (g.choices n) b e now landed known.says)),
+          (step_whose (hosts.base_of n) (g.choices n) b e now landed known.says)),
     )
   where
     z : Node
     z = record x { book = Some (step b e now landed).book; journal = with_entry (plan b e now).entry landed x.journal }
 
-falls_whose : (count : ℕ) (u : World) (n : ℕ) (x : Node) (b : Book) → Reached count u → nth n u.nodes ≡ Some x → AllWhose u → AllWhose (goes_down n b u)
-falls_whose count u n x b reached found h =
+falls_whose : (hosts : Hosts) (u : World) (n : ℕ) (x : Node) (b : Book) → Reached hosts u → nth n u.nodes ≡ Some x → AllWhose u → AllWhose (goes_down n b u)
+falls_whose hosts u n x b reached found h =
     let is : goes_down n b u ≡ put_book n None (record u { happened = u.happened ++ lost_in n b }) (Some x) = ap (put_book n None (record u { happened = u.happened ++ lost_in n b })) found in
     subst AllWhose (sym is)
     (whose_on u (put_book n None (record u { happened = u.happened ++ lost_in n b }) (Some x))
     (drawn_put u (put_book n None (record u { happened = u.happened ++ lost_in n b }) (Some x)) n x (record x { book = None }) found refl
-    (drawn_down x.journal x.book (of_records count u reached n x found))) u.posted h)
+    (drawn_down x.journal x.book (of_records hosts u reached n x found))) u.posted h)
 
 rises_whose : (u : World) (n : ℕ) (x : Node) (stop : Bool) → nth n u.nodes ≡ Some x → x.book ≡ None → AllWhose u
     → AllWhose (record u { nodes = put_nth n (up_after (started (last_incarnation x.journal + 1) x) stop) u.nodes })
@@ -386,15 +386,15 @@ rises_whose u n x stop found down h =
     (drawn_put u v n x (up_after (started (last_incarnation x.journal + 1) x) stop) found refl
     (λ id k. drawn_up x.base x.journal stop id (subst (λ o. HasDrawn x.journal o id) down k))) u.posted h
 
-registering : (count : ℕ) → count < 2 ^ 64 → Law count
-registering count small = record {
+registering : (hosts : Hosts) → HaveOwnAddresses hosts → Law hosts
+registering hosts small = record {
   Good = AllWhose;
-  Fine = λ w g n p. IsWhose (IsOwnId w n) (base_of n) p;
+  Fine = λ w g n p. IsWhose (IsOwnId w n) (hosts.base_of n) p;
   opens = tt;
-  steps = λ u n x b e now landed reached found up heard g. steps_whose count u n x b e now landed small reached found up g;
+  steps = λ u n x b e now landed reached found up heard g. steps_whose hosts u n x b e now landed small reached found up g;
   posts = λ w g n p f. all_join (PostedWhose (with_post n p w)) w.posted _ g (f, tt);
   still_fine = λ w g n p q f h. h;
-  falls = λ u n x b reached found up g. falls_whose count u n x b reached found g;
+  falls = λ u n x b reached found up g. falls_whose hosts u n x b reached found g;
   rises = λ u n x stop reached found down little g. rises_whose u n x stop found down g;
   waits = λ u n x clock reached found g.
       whose_on u (record u { nodes = put_nth n (record x { clock = clock }) u.nodes })
@@ -407,11 +407,11 @@ one_whose w (q ∷ ps) p (h, k) (inl e) = subst (PostedWhose w) (sym e) h
 one_whose w (q ∷ ps) p (h, k) (inr i) = one_whose w ps p k i
 
 -- each Register that was posted, in every world that is reached
-pub registers_named : (count : ℕ) (w : World) → count < 2 ^ 64 → Reached count w → (p : Posted) (r : Register) → IsIn p w.posted → p.content.message ≡ messages.Register r
-    → IsOwnRegister (IsOwnId w p.sender) (base_of p.sender) p.content r
+pub registers_named : (hosts : Hosts) (w : World) → HaveOwnAddresses hosts → Reached hosts w → (p : Posted) (r : Register) → IsIn p w.posted → p.content.message ≡ messages.Register r
+    → IsOwnRegister (IsOwnId w p.sender) (hosts.base_of p.sender) p.content r
 unfolding registering
-registers_named count w small reached p r i e =
-    subst (Whose (IsOwnId w p.sender) (base_of p.sender) p.content) e (one_whose w w.posted p (holds count (registering count small) w reached) i)
+registers_named hosts w small reached p r i e =
+    subst (Whose (IsOwnId w p.sender) (hosts.base_of p.sender) p.content) e (one_whose w w.posted p (holds hosts (registering hosts small) w reached) i)
 
 pub registers_name_their_sender : RegistersNameTheirSender
-registers_name_their_sender count es small p r i e = registers_named count (run_of count es) small (run_reached count es) p r i e
+registers_name_their_sender hosts es small p r i e = registers_named hosts (run_of hosts es) small (run_reached hosts es) p r i e

@@ -16,7 +16,7 @@ use Rattle.at_model.specs.Due.{may_expire}
 use Rattle.at_model.specs.Recover.{is_before, last_incarnation}
 use Rattle.at_model.specs.Register.{Registration, accept, accepts, held_seat, may_register, on_register, protocol_named, register_again, register_new}
 use Rattle.at_model.specs.Step.{Outcome, moment_of, plan, step, transaction_at}
-use Rattle.at_model.specs.World.{Node, World, nth}
+use Rattle.at_model.specs.World.{Node, World, nth, Hosts}
 use Rattle.model_laws.specs.Behind.{IsInPhase}
 use Rattle.model_laws.specs.Drawn.{restarted, with_entry}
 use Rattle.model_laws.specs.Laws.{HasId, IsDrawn}
@@ -89,9 +89,9 @@ sound_law = record {
     same_most : (n : ℕ) → n ≤ n
     same_most n = omega arith
 
-pub book_sound : (count : ℕ) (w : World) → Reached count w → (n : ℕ) (x : Node) (b : Book) → nth n w.nodes ≡ Some x → x.book ≡ Some b → IsSoundBook x.journal b
+pub book_sound : (hosts : Hosts) (w : World) → Reached hosts w → (n : ℕ) (x : Node) (b : Book) → nth n w.nodes ≡ Some x → x.book ≡ Some b → IsSoundBook x.journal b
 unfolding sound_law
-book_sound count w reached n x b found up = subst (IfThere (IsSoundBook x.journal)) up (nodes_hold sound_law count w reached n x found).book
+book_sound hosts w reached n x b found up = subst (IfThere (IsSoundBook x.journal)) up (nodes_hold sound_law hosts w reached n x found).book
 
 -- each is found by its id
 pub finds_each : {A : Type 0} (key : A → Numbers) (xs : List A) → AreRising (map key xs) → AllByRecursion (λ x. find_by key (key x) xs ≡ Some x) xs

@@ -7,7 +7,7 @@ use Rattle.at_base.specs.Numbers.{Numbers}
 use Rattle.at_base.specs.declared.target.Seat.{Seat}
 use Rattle.at_model.specs.Book.{Book, Completion, Enlistment, Transaction}
 use Rattle.at_model.specs.Step.{transaction_at}
-use Rattle.at_model.specs.World.{Accepted, Node, accepted_by, accepted_completion, accepted_in, accepted_seat, who_of}
+use Rattle.at_model.specs.World.{Accepted, Node, accepted_by, accepted_completion, accepted_in, accepted_seat, who_of, Hosts}
 use Rattle.model_laws.specs.Agreement.{IsIn}
 use Rattle.model_laws.specs.Behind.{Accepted as Seating, accepted_as}
 use Rattle.model_laws.specs.Sound.{AreNumbered}
@@ -43,56 +43,56 @@ in_either x (y ∷ xs) ys (inr h) = further (in_either x xs ys h)
     further (inr i) = inr i
 
 -- a seat as it was accepted
-abbrev pub entry : ℕ → ℕ → Numbers → Seating → Accepted
-entry count n id a = record {
+abbrev pub entry : Hosts → ℕ → Numbers → Seating → Accepted
+entry hosts n id a = record {
   transaction = record { node = n; id = id };
   seat = Some (record { number = a.number; kind = a.kind });
-  participant = who_of (nodes_of count) a.participant;
+  participant = who_of (nodes_of hosts) a.participant;
 }
 
-abbrev pub entries : ℕ → ℕ → Numbers → List Enlistment → List Accepted
-entries count n id seats = map (entry count n id) (map accepted_as seats)
+abbrev pub entries : Hosts → ℕ → Numbers → List Enlistment → List Accepted
+entries hosts n id seats = map (entry hosts n id) (map accepted_as seats)
 
-pub are_entries : (count n : ℕ) (id : Numbers) (seats : List Enlistment) → map (accepted_seat n (nodes_of count) id) seats ≡ entries count n id seats
-are_entries count n id [] = refl
-are_entries count n id (s ∷ seats) = ap (λ k. entry count n id (accepted_as s) ∷ k) (are_entries count n id seats)
+pub are_entries : (hosts : Hosts) (n : ℕ) (id : Numbers) (seats : List Enlistment) → map (accepted_seat n (nodes_of hosts) id) seats ≡ entries hosts n id seats
+are_entries hosts n id [] = refl
+are_entries hosts n id (s ∷ seats) = ap (λ k. entry hosts n id (accepted_as s) ∷ k) (are_entries hosts n id seats)
 
 -- those of a transaction that has grown
-pub grown_entries : (count n : ℕ) (id : Numbers) (old t : List Enlistment) → map accepted_as (take (length old) t) ≡ map accepted_as old
-    → entries count n id t ≡ entries count n id old ++ entries count n id (drop (length old) t)
-grown_entries count n id old t e =
-    ap (entries count n id) (sym (take-append-drop (length old) t)) ∙ ap (map (entry count n id)) (map-append accepted_as (take (length old) t) (drop (length old) t))
-    ∙ map-append (entry count n id) (map accepted_as (take (length old) t)) (map accepted_as (drop (length old) t))
-    ∙ ap (λ k. map (entry count n id) k ++ entries count n id (drop (length old) t)) e
+pub grown_entries : (hosts : Hosts) (n : ℕ) (id : Numbers) (old t : List Enlistment) → map accepted_as (take (length old) t) ≡ map accepted_as old
+    → entries hosts n id t ≡ entries hosts n id old ++ entries hosts n id (drop (length old) t)
+grown_entries hosts n id old t e =
+    ap (entries hosts n id) (sym (take-append-drop (length old) t)) ∙ ap (map (entry hosts n id)) (map-append accepted_as (take (length old) t) (drop (length old) t))
+    ∙ map-append (entry hosts n id) (map accepted_as (take (length old) t)) (map accepted_as (drop (length old) t))
+    ∙ ap (λ k. map (entry hosts n id) k ++ entries hosts n id (drop (length old) t)) e
 
 -- numbers
-later : (count n : ℕ) (id : Numbers) (last : ℕ) (seats : List Enlistment) (a : Accepted) (s : Seat) → AreNumbered last seats → IsIn a (entries count n id seats) → a.seat ≡ Some s → last < s.number
-later count n id last [] a s h i e = absurd i
-later count n id last (x ∷ seats) a s (h, k) (inl f) e =
+later : (hosts : Hosts) (n : ℕ) (id : Numbers) (last : ℕ) (seats : List Enlistment) (a : Accepted) (s : Seat) → AreNumbered last seats → IsIn a (entries hosts n id seats) → a.seat ≡ Some s → last < s.number
+later hosts n id last [] a s h i e = absurd i
+later hosts n id last (x ∷ seats) a s (h, k) (inl f) e =
     let same : x.number ≡ s.number = numbers (record { number = x.number; kind = x.kind }) s (sym (ap (λ (y : Accepted). y.seat) f) ∙ e) in
     omega (arith, h, same)
   where
     numbers : (p q : Seat) → Some p ≡ Some q → p.number ≡ q.number
     numbers p q e = cc
-later count n id last (x ∷ seats) a s (h, k) (inr i) e = omega (arith, later count n id (last + 1) seats a s k i e)
+later hosts n id last (x ∷ seats) a s (h, k) (inr i) e = omega (arith, later hosts n id (last + 1) seats a s k i e)
 
-pub numbered_once : (count n : ℕ) (id : Numbers) (last : ℕ) (seats : List Enlistment) (a c : Accepted) (s r : Seat) → AreNumbered last seats → IsIn a (entries count n id seats)
-    → IsIn c (entries count n id seats) → a.seat ≡ Some s → c.seat ≡ Some r → s.number ≡ r.number → a ≡ c
-numbered_once count n id last [] a c s r h i j e f g = absurd i
-numbered_once count n id last (x ∷ seats) a c s r (h, k) (inl i) (inl j) e f g = i ∙ sym j
-numbered_once count n id last (x ∷ seats) a c s r (h, k) (inl i) (inr j) e f g =
+pub numbered_once : (hosts : Hosts) (n : ℕ) (id : Numbers) (last : ℕ) (seats : List Enlistment) (a c : Accepted) (s r : Seat) → AreNumbered last seats → IsIn a (entries hosts n id seats)
+    → IsIn c (entries hosts n id seats) → a.seat ≡ Some s → c.seat ≡ Some r → s.number ≡ r.number → a ≡ c
+numbered_once hosts n id last [] a c s r h i j e f g = absurd i
+numbered_once hosts n id last (x ∷ seats) a c s r (h, k) (inl i) (inl j) e f g = i ∙ sym j
+numbered_once hosts n id last (x ∷ seats) a c s r (h, k) (inl i) (inr j) e f g =
     let same : x.number ≡ s.number = numbers (record { number = x.number; kind = x.kind }) s (sym (ap (λ (y : Accepted). y.seat) i) ∙ e) in
-    absurd (omega (arith, h, same, g, later count n id (last + 1) seats c r k j f))
+    absurd (omega (arith, h, same, g, later hosts n id (last + 1) seats c r k j f))
   where
     numbers : (p q : Seat) → Some p ≡ Some q → p.number ≡ q.number
     numbers p q e = cc
-numbered_once count n id last (x ∷ seats) a c s r (h, k) (inr i) (inl j) e f g =
+numbered_once hosts n id last (x ∷ seats) a c s r (h, k) (inr i) (inl j) e f g =
     let same : x.number ≡ r.number = numbers (record { number = x.number; kind = x.kind }) r (sym (ap (λ (y : Accepted). y.seat) j) ∙ f) in
-    absurd (omega (arith, h, same, g, later count n id (last + 1) seats a s k i e))
+    absurd (omega (arith, h, same, g, later hosts n id (last + 1) seats a s k i e))
   where
     numbers : (p q : Seat) → Some p ≡ Some q → p.number ≡ q.number
     numbers p q e = cc
-numbered_once count n id last (x ∷ seats) a c s r (h, k) (inr i) (inr j) e f g = numbered_once count n id (last + 1) seats a c s r k i j e f g
+numbered_once hosts n id last (x ∷ seats) a c s r (h, k) (inr i) (inr j) e f g = numbered_once hosts n id (last + 1) seats a c s r k i j e f g
 
 -- what a step accepts is accepted by a transaction of its book
 pub record IsNew (n : ℕ) (nodes : List Node) (b : Book) (new : List Transaction) (a : Accepted) : Type 0 where
@@ -144,20 +144,20 @@ of_transaction n nodes (Some old) t a h =
     either_one (inr i) = (of_completion n nodes t.id old.completion t.completion a i).0
 
 -- a seat's registration is one of the further seats
-pub at_further_seat : (count n : ℕ) (old t : Transaction) (a : Accepted) (s : Seat) → IsIn a (accepted_by n (nodes_of count) (Some old) t) → a.seat ≡ Some s
-    → IsIn a (entries count n t.id (drop (length old.seats) t.seats))
-at_further_seat count n old t a s h e =
-    either_one (in_either a (map (accepted_seat n (nodes_of count) t.id) (drop (length old.seats) t.seats)) (accepted_completion n (nodes_of count) t.id old.completion t.completion) h)
+pub at_further_seat : (hosts : Hosts) (n : ℕ) (old t : Transaction) (a : Accepted) (s : Seat) → IsIn a (accepted_by n (nodes_of hosts) (Some old) t) → a.seat ≡ Some s
+    → IsIn a (entries hosts n t.id (drop (length old.seats) t.seats))
+at_further_seat hosts n old t a s h e =
+    either_one (in_either a (map (accepted_seat n (nodes_of hosts) t.id) (drop (length old.seats) t.seats)) (accepted_completion n (nodes_of hosts) t.id old.completion t.completion) h)
   where
     no_seat : (o : Option Seat) → o ≡ None → o ≡ Some s → ⊥
     no_seat o f g = cc
 
-    either_one : IsIn a (map (accepted_seat n (nodes_of count) t.id) (drop (length old.seats) t.seats)) ⊎ IsIn a (accepted_completion n (nodes_of count) t.id old.completion t.completion)
-        → IsIn a (entries count n t.id (drop (length old.seats) t.seats))
-    either_one (inl i) = subst (IsIn a) (are_entries count n t.id (drop (length old.seats) t.seats)) i
-    either_one (inr i) = absurd (no_seat a.seat (of_completion n (nodes_of count) t.id old.completion t.completion a i).1 e)
+    either_one : IsIn a (map (accepted_seat n (nodes_of hosts) t.id) (drop (length old.seats) t.seats)) ⊎ IsIn a (accepted_completion n (nodes_of hosts) t.id old.completion t.completion)
+        → IsIn a (entries hosts n t.id (drop (length old.seats) t.seats))
+    either_one (inl i) = subst (IsIn a) (are_entries hosts n t.id (drop (length old.seats) t.seats)) i
+    either_one (inr i) = absurd (no_seat a.seat (of_completion n (nodes_of hosts) t.id old.completion t.completion a i).1 e)
 
-pub further_seat_in : (count n : ℕ) (old t : Transaction) (a : Accepted) → IsIn a (entries count n t.id (drop (length old.seats) t.seats)) → IsIn a (accepted_by n (nodes_of count) (Some old) t)
-further_seat_in count n old t a i =
-    in_front a (map (accepted_seat n (nodes_of count) t.id) (drop (length old.seats) t.seats)) (accepted_completion n (nodes_of count) t.id old.completion t.completion)
-    (subst (IsIn a) (sym (are_entries count n t.id (drop (length old.seats) t.seats))) i)
+pub further_seat_in : (hosts : Hosts) (n : ℕ) (old t : Transaction) (a : Accepted) → IsIn a (entries hosts n t.id (drop (length old.seats) t.seats)) → IsIn a (accepted_by n (nodes_of hosts) (Some old) t)
+further_seat_in hosts n old t a i =
+    in_front a (map (accepted_seat n (nodes_of hosts) t.id) (drop (length old.seats) t.seats)) (accepted_completion n (nodes_of hosts) t.id old.completion t.completion)
+    (subst (IsIn a) (sym (are_entries hosts n t.id (drop (length old.seats) t.seats))) i)

@@ -36,7 +36,7 @@ use Rattle.at_base.specs.declared.outs.Effect.TheVariants as effects
 use Rattle.at_model.specs.Book.{Book, Transaction, Superior, Request, transaction_id, leaf_id, activity_id, next_id}
 use Rattle.at_model.specs.Recover.{last_incarnation, live, is_sub_committed, recover, recovered_voted, transactions_of, leaves_of}
 use Rattle.at_model.specs.Step.{Plan, plain, still, at_time, make_transaction, make_leaf, branch, plan, step}
-use Rattle.at_model.specs.World.{Node, Happened, Posted, Accepted, Who, World, base_of, new_nodes, place_of, who_at, who_of, accepted_in, nth, put_nth, put_book, new_node, opening, happened_at, is_lost_root, is_lost_subordinate, is_lost_leaf, transaction_lost, leaf_lost, lost_in, goes_down, started, up_after, run_of}
+use Rattle.at_model.specs.World.{Node, Happened, Posted, Accepted, Who, World, new_nodes, place_of, who_at, who_of, accepted_in, nth, put_nth, put_book, new_node, opening, happened_at, is_lost_root, is_lost_subordinate, is_lost_leaf, transaction_lost, leaf_lost, lost_in, goes_down, started, up_after, run_of, Hosts, HaveOwnAddresses}
 use Rattle.model_laws.specs.Drawn.{restarted, with_entry}
 use Rattle.model_laws.specs.Laws.{IsDrawn}
 use Rattle.model_laws.specs.Reached.{Heard, counts, Reached}
@@ -100,9 +100,9 @@ standing_law = record {
       };
 }
 
-node_stands : (count : ℕ) (w : World) → Reached count w → (n : ℕ) (x : Node) → nth n w.nodes ≡ Some x → StandNode x.journal x.book
+node_stands : (hosts : Hosts) (w : World) → Reached hosts w → (n : ℕ) (x : Node) → nth n w.nodes ≡ Some x → StandNode x.journal x.book
 unfolding standing_law
-node_stands count w reached n x found = nodes_hold standing_law count w reached n x found
+node_stands hosts w reached n x found = nodes_hold standing_law hosts w reached n x found
 
 -- what is recovered
 voted_fits : (s : Numbers → Sort) (id : Numbers) (superior : Epr) (seats : List Seated) (committed : Bool) → s id ≡ Subordinate
@@ -192,7 +192,7 @@ abbrev Fitting : (Numbers → Sort) → ℕ → Target → Numbers → Type 0
 Fitting s n own id = FitsTarget s own × (IsId id × (n < 2 ^ 64))
 
 abbrev FitsPosted : Sorts → Posted → Type 0
-FitsPosted sorts p = IsWhose (Fitting (sorts p.sender) p.sender) (base_of p.sender) p.content
+FitsPosted sorts p = IsWhose (Fitting (sorts p.sender) p.sender) (hosts.base_of p.sender) p.content
 
 all_last : {A : Type 0} (P : A → Type 0) (xs : List A) (x : A) → AllByRecursion P (xs ++ x ∷ []) → P x
 all_last P [] x h = h.0
@@ -239,7 +239,7 @@ fits_drawn t n b now p landed small named h = record {
 posted_on : (old new : Sorts) → ((m : ℕ) → Keeps (old m) (new m)) → (ps : List Posted) → AllByRecursion (FitsPosted old) ps → AllByRecursion (FitsPosted new) ps
 posted_on old new k ps h =
     all_more (FitsPosted old) (FitsPosted new) ps
-    (λ p i. whose_more (Fitting (old p.sender) p.sender) (Fitting (new p.sender) p.sender) (base_of p.sender) p.content p.content.message (λ own id j. (own_on (old p.sender) (new p.sender) (k p.sender) own j.0, j.1)) i) h
+    (λ p i. whose_more (Fitting (old p.sender) p.sender) (Fitting (new p.sender) p.sender) (hosts.base_of p.sender) p.content p.content.message (λ own id j. (own_on (old p.sender) (new p.sender) (k p.sender) own j.0, j.1)) i) h
 
 -- numbers of nodes
 at_most : (n : ℕ) (xs : List Node) (x : Node) → nth n xs ≡ Some x → n ≤ length xs
@@ -260,8 +260,8 @@ new_length : (k m : ℕ) → length (new_nodes k m) ≡ k
 new_length zero m = refl
 new_length (suc k) m = ap suc (new_length k (m + 1))
 
-number_small : (count n : ℕ) (xs : List Node) (x : Node) → count < 2 ^ 64 → HaveBases xs (new_nodes count 1) → nth n xs ≡ Some x → n < 2 ^ 64
-number_small count n xs x small bases found = omega (arith, small, at_most n xs x found, as_long xs (new_nodes count 1) bases, new_length count 1)
+number_small : (hosts : Hosts) (n : ℕ) (xs : List Node) (x : Node) → HaveOwnAddresses hosts → HaveBases xs (new_nodes hosts.base_of hosts.count 1) → nth n xs ≡ Some x → n < 2 ^ 64
+number_small hosts n xs x small bases found = omega (arith, small, at_most n xs x found, as_long xs (new_nodes hosts.base_of hosts.count 1) bases, new_length hosts 1)
 
 -- registrations
 accepted_on : (old new : Sorts) → ((m : ℕ) → Keeps (old m) (new m)) → (acc : Accepted) → FitsAccepted old acc → FitsAccepted new acc
@@ -303,23 +303,23 @@ own_fits sorts m (targets.Registration i) id protocol seat h k f = absurd h
 own_fits sorts m (targets.Completion i) id protocol seat h k f = absurd h
 own_fits sorts m (targets.Coordinator i s) id protocol seat h k f = absurd h
 
-placed_fits : (count : ℕ) (sorts : Sorts) (m : ℕ) (p : Post) (r : Register) (seat : Option Seat) → count < 2 ^ 64 → IsOwnRegister (Fitting (sorts m) m) (base_of m) p r → SeatFor (protocol_named r.protocol) seat
-    → FitsParticipant sorts (who_of (new_nodes count 1) r.participant) seat
-placed_fits count sorts m p r seat small o f =
-    subst (λ (e : Epr). FitsParticipant sorts (who_of (new_nodes count 1) e) seat) (sym o.participant)
-    (by_place (place_of 1 (new_nodes count 1) (endpoint_of (base_of m) o.own).address) refl)
+placed_fits : (hosts : Hosts) (sorts : Sorts) (m : ℕ) (p : Post) (r : Register) (seat : Option Seat) → HaveOwnAddresses hosts → IsOwnRegister (Fitting (sorts m) m) (hosts.base_of m) p r → SeatFor (protocol_named r.protocol) seat
+    → FitsParticipant sorts (who_of (new_nodes hosts.base_of hosts.count 1) r.participant) seat
+placed_fits hosts sorts m p r seat small o f =
+    subst (λ (e : Epr). FitsParticipant sorts (who_of (new_nodes hosts.base_of hosts.count 1) e) seat) (sym o.participant)
+    (by_place (place_of 1 (new_nodes hosts.base_of hosts.count 1) (endpoint_of (hosts.base_of m) o.own).address) refl)
   where
-    by_place : (q : Option (ℕ × Target)) → place_of 1 (new_nodes count 1) (endpoint_of (base_of m) o.own).address ≡ q → FitsParticipant sorts (who_at q) seat
+    by_place : (q : Option (ℕ × Target)) → place_of 1 (new_nodes hosts.base_of hosts.count 1) (endpoint_of (hosts.base_of m) o.own).address ≡ q → FitsParticipant sorts (who_at q) seat
     by_place None e = tt
     by_place (Some (j, S)) e =
-        let (same, target) = addresses_lead_home count m j o.own S small o.known.1.1 (has_path o.own o.id r.protocol o.registers o.known.1.0) e in
+        let (same, target) = addresses_lead_home hosts m j o.own S small o.known.1.1 (has_path o.own o.id r.protocol o.registers o.known.1.0) e in
         subst (λ i. FitsParticipant sorts (who_at (Some (i, S))) seat) (sym same)
         (subst (λ T. FitsParticipant sorts (who_at (Some (m, T))) seat) (sym target) (own_fits sorts m o.own o.id r.protocol seat o.registers o.known.0 f))
 
 -- the Register that came was posted
 abbrev CameFrom : Sorts → Event → Type 0
 CameFrom sorts e =
-    (a : Arrived) (r : Register) → e ≡ events.Arrived a → a.message ≡ messages.Register r → (p : Posted) × IsOwnRegister (Fitting (sorts p.sender) p.sender) (base_of p.sender) p.content r
+    (a : Arrived) (r : Register) → e ≡ events.Arrived a → a.message ≡ messages.Register r → (p : Posted) × IsOwnRegister (Fitting (sorts p.sender) p.sender) (hosts.base_of p.sender) p.content r
 
 one_posted : (sorts : Sorts) (ps : List Posted) (p : Posted) → AllByRecursion (FitsPosted sorts) ps → IsIn p ps → FitsPosted sorts p
 one_posted sorts [] p h i = absurd i
@@ -329,34 +329,34 @@ one_posted sorts (q ∷ ps) p (h, k) (inr i) = one_posted sorts ps p k i
 came_from : (u : World) (n : ℕ) (x : Node) (e : Event) (g : AreSorted u) → Heard u n x e → CameFrom g.sort e
 came_from u n x (events.Arrived a) g (p, posted, received, decodes) c r came says = (
   p,
-  subst (Whose (Fitting (g.sort p.sender) p.sender) (base_of p.sender) p.content) (sym (decoded_says x.base p.content a decodes) ∙ ap (λ (y : Arrived). y.message) (same_arrival a c (events.Arrived a) refl came) ∙ says)
+  subst (Whose (Fitting (g.sort p.sender) p.sender) (hosts.base_of p.sender) p.content) (sym (decoded_says x.base p.content a decodes) ∙ ap (λ (y : Arrived). y.message) (same_arrival a c (events.Arrived a) refl came) ∙ says)
       (one_posted g.sort u.posted p g.posted posted),
 )
 came_from u n x (events.Local l) g h c r came says = absurd (no_local (events.Local l) l c refl came)
 came_from u n x (events.Due i) g h c r came says = absurd (no_due (events.Due i) i c refl came)
 came_from u n x events.Tick g h c r came says = absurd cc
 
-seat_fits : (count : ℕ) (sorts : Sorts) (n : ℕ) (b : Book) (e : Event) (nodes : List Node) (acc : Accepted) → count < 2 ^ 64 → HaveBases nodes (new_nodes count 1) → FitsBook (sorts n) b → CameFrom sorts e
+seat_fits : (hosts : Hosts) (sorts : Sorts) (n : ℕ) (b : Book) (e : Event) (nodes : List Node) (acc : Accepted) → HaveOwnAddresses hosts → HaveBases nodes (new_nodes hosts.base_of hosts.count 1) → FitsBook (sorts n) b → CameFrom sorts e
     → NewSeat b e n nodes acc → FitsAccepted sorts acc
-seat_fits count sorts n b e nodes acc small bases book from new =
+seat_fits hosts sorts n b e nodes acc small bases book from new =
     let (p, o) = from new.arrived new.register new.came new.says in (
       subst (λ (w : Who). IsTransaction (sorts w.node w.id)) (sym new.transaction)
           (either_sort (sorts n new.standing.id) new.standing.superior (all_find (λ y. sorts n y.id ≡ sort_under y.superior) transaction_id new.id b.transactions new.standing book.transactions new.found)),
-      subst (λ w. FitsParticipant sorts w acc.seat) (sym (new.participant ∙ who_same nodes (new_nodes count 1) new.register.participant bases))
-          (placed_fits count sorts p.sender p.content new.register acc.seat small o new.seat),
+      subst (λ w. FitsParticipant sorts w acc.seat) (sym (new.participant ∙ who_same nodes (new_nodes hosts.base_of hosts.count 1) new.register.participant bases))
+          (placed_fits hosts sorts p.sender p.content new.register acc.seat small o new.seat),
     )
 
 -- a step
 stands_now : (o : Option Book) (b : Book) → o ≡ Some b → IfThere Stands o → Stands b
 stands_now o b up h = subst (IfThere Stands) up h
 
-steps_sorted : (count : ℕ) (u : World) (n : ℕ) (x : Node) (b : Book) (e : Event) (now : ℕ) (landed : Bool) → count < 2 ^ 64 → Reached count u → nth n u.nodes ≡ Some x → x.book ≡ Some b
-    → Heard u n x e → AreSorted u → (v : AreSorted (counts u n x b e now landed)) × AllByRecursion (OutFine (IsWhose (Fitting (v.sort n) n) (base_of n))) (step b e now landed).outs
-steps_sorted count u n x b e now landed small reached found up heard g =
+steps_sorted : (hosts : Hosts) (u : World) (n : ℕ) (x : Node) (b : Book) (e : Event) (now : ℕ) (landed : Bool) → HaveOwnAddresses hosts → Reached hosts u → nth n u.nodes ≡ Some x → x.book ≡ Some b
+    → Heard u n x e → AreSorted u → (v : AreSorted (counts u n x b e now landed)) × AllByRecursion (OutFine (IsWhose (Fitting (v.sort n) n) (hosts.base_of n))) (step b e now landed).outs
+steps_sorted hosts u n x b e now landed small reached found up heard g =
     let fits : FitsNode (g.sort n) x = g.nodes n x found in
     let undrawn : (id : Numbers) → (IsDrawn b id → ⊥) → g.sort n id ≡ Unmade = (λ id f. fits.undrawn id (λ d. f (subst (λ o. HasDrawn x.journal o id) up d))) in
     let r : Grown (g.sort n) (plan b e now) landed =
-    step_sorts (g.sort n) b e now landed (stands_now x.book b up (node_stands count u reached n x found).book) (subst (FitsIfUp (g.sort n)) up fits.book) undrawn in
+    step_sorts (g.sort n) b e now landed (stands_now x.book b up (node_stands hosts u reached n x found).book) (subst (FitsIfUp (g.sort n)) up fits.book) undrawn in
     let new : Sorts = put g.sort n r.after in
     let here : FitsNode r.after z =
     record {
@@ -365,17 +365,17 @@ steps_sorted count u n x b e now landed small reached found up heard g =
       book = r.book;
       undrawn = λ id f. r.undrawn id (undrawn id (λ d. f (drawn_on b (step b e now landed).book (steps_keep_place b e now landed) id d))) f;
     } in
-    let w : WorldGood count u = world_good count u small reached in
-    let known : IsUp (base_of n) (w.choices n) x.journal b = subst (IsKnown (base_of n) (w.choices n) x.journal) up (w.nodes n x found) in
+    let w : WorldGood hosts u = world_good hosts u small reached in
+    let known : IsUp (hosts.base_of n) (w.choices n) x.journal b = subst (IsKnown (hosts.base_of n) (w.choices n) x.journal) up (w.nodes n x found) in
     let book : FitsBook (g.sort n) b = subst (FitsIfUp (g.sort n)) up fits.book in
-    let low : n < 2 ^ 64 = number_small count n u.nodes x small w.world.bases found in (
+    let low : n < 2 ^ 64 = number_small hosts n u.nodes x small w.world.bases found in (
       record {
         sort = new;
         accepted = all_join (FitsAccepted new) u.accepted (accepted_in n u.nodes b (step b e now landed).book.transactions)
             (all_more (FitsAccepted g.sort) (FitsAccepted new) u.accepted (λ acc k. accepted_on g.sort new (put_keeps g.sort n r.after r.keeps) acc k) g.accepted)
             (all_more (NewSeat b e n u.nodes) (FitsAccepted new) (accepted_in n u.nodes b (step b e now landed).book.transactions)
-            (λ acc k. accepted_on g.sort new (put_keeps g.sort n r.after r.keeps) acc (seat_fits count g.sort n b e u.nodes acc small w.world.bases book (came_from u n x e g heard) k))
-            (step_accepts b e now landed n u.nodes known.says.order ((step_gives (base_of n) (w.choices n) b e now landed known.says).accepted n u.nodes)));
+            (λ acc k. accepted_on g.sort new (put_keeps g.sort n r.after r.keeps) acc (seat_fits hosts g.sort n b e u.nodes acc small w.world.bases book (came_from u n x e g heard) k))
+            (step_accepts b e now landed n u.nodes known.says.order ((step_gives (hosts.base_of n) (w.choices n) b e now landed known.says).accepted n u.nodes)));
         posted = posted_on g.sort new (put_keeps g.sort n r.after r.keeps) u.posted g.posted;
         nodes = each_put (λ k y. FitsNode (new k) y) u.nodes n x z found (subst (λ s. FitsNode s z) (sym (put_here g.sort n r.after)) here)
             (λ m y i f. subst (λ s. FitsNode s y) (sym (put_there g.sort n m r.after i)) (g.nodes m y f));
@@ -383,9 +383,9 @@ steps_sorted count u n x b e now landed small reached found up heard g =
             (all_more (FitsHappened g.sort) (FitsHappened new) u.happened (λ h k. effect_on (g.sort h.node) (new h.node) (put_keeps g.sort n r.after r.keeps h.node) h.what k) g.happened)
             (happened_fit new n (step b e now landed).effects (subst (λ s. AllByRecursion (FitsEffect s) (step b e now landed).effects) (sym (put_here g.sort n r.after)) r.effects));
       },
-      outs_on (Fitting r.after n) (Fitting (new n) n) (base_of n) (step b e now landed).outs (λ own id k. (subst (λ s. FitsTarget s own) (sym (put_here g.sort n r.after)) k.0, k.1))
+      outs_on (Fitting r.after n) (Fitting (new n) n) (hosts.base_of n) (step b e now landed).outs (λ own id k. (subst (λ s. FitsTarget s own) (sym (put_here g.sort n r.after)) k.0, k.1))
           (subst (λ base. OutsWhose (Fitting r.after n) base (step b e now landed).outs) known.says.base_is
-          (step_says (Fitting r.after n) b e now landed (fits_known (g.sort n) r.after n b low (knows (base_of n) (w.choices n) b known.says) r.keeps book)
+          (step_says (Fitting r.after n) b e now landed (fits_known (g.sort n) r.after n b low (knows (hosts.base_of n) (w.choices n) b known.says) r.keeps book)
           (fits_drawn r.after n b now (plan b e now) landed low (λ id next. next_small b id known.says.least known.says.most next) r.book))),
     )
   where
@@ -420,12 +420,12 @@ lost_fit sorts n b h =
         (all_more (λ t. sorts n t.id ≡ sort_under t.superior) (λ t. FitsHappened sorts (transaction_lost n t)) b.transactions
         (λ t k. ending_fits (sorts n) t.id t.superior endings.Lost k) h.transactions))
 
-falls_sorted : (count : ℕ) (u : World) (n : ℕ) (x : Node) (b : Book) → Reached count u → nth n u.nodes ≡ Some x → x.book ≡ Some b → AreSorted u → AreSorted (goes_down n b u)
-falls_sorted count u n x b reached found up g =
+falls_sorted : (hosts : Hosts) (u : World) (n : ℕ) (x : Node) (b : Book) → Reached hosts u → nth n u.nodes ≡ Some x → x.book ≡ Some b → AreSorted u → AreSorted (goes_down n b u)
+falls_sorted hosts u n x b reached found up g =
     let fits : FitsNode (g.sort n) x = g.nodes n x found in
     let is : goes_down n b u ≡ put_book n None (record u { happened = u.happened ++ lost_in n b }) (Some x) = ap (put_book n None (record u { happened = u.happened ++ lost_in n b })) found in
     put_sorted u (goes_down n b u) n x (record x { book = None }) g found (ap (λ (w : World). w.nodes) is)
-    (record { journal = fits.journal; book = tt; undrawn = λ id f. fits.undrawn id (λ d. f (drawn_down x.journal x.book (of_records count u reached n x found) id d)) })
+    (record { journal = fits.journal; book = tt; undrawn = λ id f. fits.undrawn id (λ d. f (drawn_down x.journal x.book (of_records hosts u reached n x found) id d)) })
     (subst (λ (w : World). AllByRecursion (FitsHappened g.sort) w.happened) (sym is)
     (all_join (FitsHappened g.sort) u.happened (lost_in n b) g.happened (lost_fit g.sort n b (subst (FitsIfUp (g.sort n)) up fits.book)))) (ap (λ (w : World). w.posted) is) (ap (λ (w : World). w.accepted) is)
 
@@ -445,30 +445,30 @@ rises_sorted u n x stop found down g =
     by_stop true h = tt
     by_stop false h = recovered_fits (g.sort n) x.base (restarted x.journal) h
 
-opening_sorted : (count : ℕ) → AreSorted (opening count)
-opening_sorted count = record { sort = λ n id. Unmade; nodes = λ n x f. down n x (opening_node count n x f); happened = tt; posted = tt; accepted = tt }
+opening_sorted : (hosts : Hosts) → AreSorted (opening hosts)
+opening_sorted hosts = record { sort = λ n id. Unmade; nodes = λ n x f. down n x (opening_node hosts n x f); happened = tt; posted = tt; accepted = tt }
   where
     down : (n : ℕ) (x : Node) → x ≡ new_node n → FitsNode (λ id. Unmade) x
     down n x e = subst (FitsNode (λ id. Unmade)) (sym e) (record { journal = tt; book = tt; undrawn = λ id f. refl })
 
-sorting : (count : ℕ) → count < 2 ^ 64 → Law count
-sorting count small = record {
+sorting : (hosts : Hosts) → HaveOwnAddresses hosts → Law hosts
+sorting hosts small = record {
   Good = AreSorted;
-  Fine = λ w g n p. IsWhose (Fitting (g.sort n) n) (base_of n) p;
-  opens = opening_sorted count;
-  steps = λ u n x b e now landed reached found up heard g. steps_sorted count u n x b e now landed small reached found up heard g;
+  Fine = λ w g n p. IsWhose (Fitting (g.sort n) n) (hosts.base_of n) p;
+  opens = opening_sorted hosts;
+  steps = λ u n x b e now landed reached found up heard g. steps_sorted hosts u n x b e now landed small reached found up heard g;
   posts = λ w g n p f. record { sort = g.sort; nodes = g.nodes; happened = g.happened; accepted = g.accepted; posted = all_join (FitsPosted g.sort) w.posted _ g.posted (f, tt) };
   still_fine = λ w g n p q f h. h;
-  falls = λ u n x b reached found up g. falls_sorted count u n x b reached found up g;
+  falls = λ u n x b reached found up g. falls_sorted hosts u n x b reached found up g;
   rises = λ u n x stop reached found down little g. rises_sorted u n x stop found down g;
   waits = λ u n x clock reached found g.
       put_sorted u (record u { nodes = put_nth n (record x { clock = clock }) u.nodes }) n x (record x { clock = clock }) g found refl
       (record { journal = (g.nodes n x found).journal; book = (g.nodes n x found).book; undrawn = (g.nodes n x found).undrawn }) g.happened refl refl;
 }
 
-pub world_sorted : (count : ℕ) (w : World) → count < 2 ^ 64 → Reached count w → AreSorted w
+pub world_sorted : (hosts : Hosts) (w : World) → HaveOwnAddresses hosts → Reached hosts w → AreSorted w
 unfolding sorting
-world_sorted count w small reached = holds count (sorting count small) w reached
+world_sorted hosts w small reached = holds hosts (sorting hosts small) w reached
 
 pub sorts_agree : SortsAgree
-sorts_agree count es small = world_sorted count (run_of count es) small (run_reached count es)
+sorts_agree hosts es small = world_sorted hosts (run_of hosts es) small (run_reached hosts es)

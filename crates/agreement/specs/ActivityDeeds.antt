@@ -32,7 +32,7 @@ use Rattle.at_model.specs.Activities.{activity_target, completion_register, is_b
 use Rattle.at_model.specs.Due.{has_come}
 use Rattle.at_model.specs.Recover.{recover}
 use Rattle.at_model.specs.Step.{activity_at, activity_plan, at_time, moment_of, put_activity, refuses, step}
-use Rattle.at_model.specs.World.{Node, WorldEvent, nth, run_of}
+use Rattle.at_model.specs.World.{Node, WorldEvent, nth, run_of, Hosts}
 use Rattle.model_laws.specs.Shapes.{MovesActivity}
 use Rattle.agreement.specs.Branches.{Became, InBranches, IsNoNotice}
 
@@ -57,7 +57,7 @@ ActivitiesStand b = AllByRecursion ActivityStands b.activities
 pub record ActivityStates : Type 0 where
   pub book : (b : Book) (e : Event) (now : ℕ) (landed : Bool) → ActivitiesStand b → ActivitiesStand (step b e now landed).book
   pub recovered : (base : List ℕ) (rs : List Record) → ActivitiesStand (recover base rs)
-  pub books : (count : ℕ) (es : List WorldEvent) (n : ℕ) (x : Node) (b : Book) → nth n (run_of count es).nodes ≡ Some x → x.book ≡ Some b → ActivitiesStand b
+  pub books : (hosts : Hosts) (es : List WorldEvent) (n : ℕ) (x : Node) (b : Book) → nth n (run_of hosts es).nodes ≡ Some x → x.book ≡ Some b → ActivitiesStand b
 
 -- a message that came to the activity
 pub record CameToActivity (e : Event) (a : Activity) (what : Message) : Type 0 where

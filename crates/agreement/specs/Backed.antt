@@ -11,7 +11,7 @@ use Rattle.at_tables.specs.declared.cells.State.{State}
 use Rattle.at_tables.specs.declared.cells.State.TheVariants as states
 use Rattle.at_model.specs.Book.{Book, Leaf}
 use Rattle.at_model.specs.Recover.{is_promise, live}
-use Rattle.at_model.specs.World.{Node, WorldEvent, nth, run_of}
+use Rattle.at_model.specs.World.{Node, WorldEvent, nth, run_of, Hosts}
 use Rattle.model_laws.specs.Agreement.{IsIn}
 
 -- A durable leaf that has voted Prepared has its record live, with the coordinator that it knows; of every other leaf nothing
@@ -36,7 +36,7 @@ pub record Waiting (b : Book) (id : Numbers) (to : Epr) (name value : List ℕ) 
 
 -- So it is in every run (WS-AtomicTransaction 1.2, section 3.3.2): what a durable leaf votes survives a crash.
 pub record LeavesAreBacked : Type 0 where
-  pub backed : (count : ℕ) (es : List WorldEvent) (n : ℕ) (x : Node) (b : Book) → nth n (run_of count es).nodes ≡ Some x → x.book ≡ Some b → AllByRecursion (LeafBacked x.journal) b.leaves
+  pub backed : (hosts : Hosts) (es : List WorldEvent) (n : ℕ) (x : Node) (b : Book) → nth n (run_of hosts es).nodes ≡ Some x → x.book ≡ Some b → AllByRecursion (LeafBacked x.journal) b.leaves
   -- and each such record has its leaf
-  pub waiting : (count : ℕ) (es : List WorldEvent) (n : ℕ) (x : Node) (b : Book) → nth n (run_of count es).nodes ≡ Some x → x.book ≡ Some b
+  pub waiting : (hosts : Hosts) (es : List WorldEvent) (n : ℕ) (x : Node) (b : Book) → nth n (run_of hosts es).nodes ≡ Some x → x.book ≡ Some b
       → (id : Numbers) (to : Epr) (key value : List ℕ) → IsIn (records.LeafPrepared id to key value) (live x.journal) → Waiting b id to key value

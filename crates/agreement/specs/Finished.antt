@@ -13,7 +13,7 @@ use Rattle.at_model.specs.Due.{may_expire}
 use Rattle.at_model.specs.Recover.{recover}
 use Rattle.at_model.specs.Seats.{answered}
 use Rattle.at_model.specs.Step.{plan, step}
-use Rattle.at_model.specs.World.{Node, WorldEvent, nth, run_of}
+use Rattle.at_model.specs.World.{Node, WorldEvent, nth, run_of, Hosts}
 use Rattle.model_laws.specs.Behind.{IsInPhase}
 use Rattle.model_laws.specs.Sound.{AreNumbered, SeatsRise}
 
@@ -40,5 +40,5 @@ pub record FinishesAll : Type 0 where
   pub book : (b : Book) (e : Event) (now : ℕ) (landed : Bool) → IsInPhase b → AreFinished b → AreFinished (step b e now landed).book
   pub entry : (b : Book) (e : Event) (now : ℕ) (r : Record) → AreFinished b → (plan b e now).entry ≡ Some r → NamesRising r
   pub recovered : (base : List ℕ) (rs : List Record) → AllByRecursion NamesRising rs → AreFinished (recover base rs)
-  pub journals : (count : ℕ) (es : List WorldEvent) (n : ℕ) (x : Node) → nth n (run_of count es).nodes ≡ Some x → AllByRecursion NamesRising x.journal
-  pub books : (count : ℕ) (es : List WorldEvent) (n : ℕ) (x : Node) (b : Book) → nth n (run_of count es).nodes ≡ Some x → x.book ≡ Some b → AreFinished b
+  pub journals : (hosts : Hosts) (es : List WorldEvent) (n : ℕ) (x : Node) → nth n (run_of hosts es).nodes ≡ Some x → AllByRecursion NamesRising x.journal
+  pub books : (hosts : Hosts) (es : List WorldEvent) (n : ℕ) (x : Node) (b : Book) → nth n (run_of hosts es).nodes ≡ Some x → x.book ≡ Some b → AreFinished b

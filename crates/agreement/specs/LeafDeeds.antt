@@ -28,7 +28,7 @@ use Rattle.at_model.specs.Leaves.{answers_leaf, leaf_ended, leaf_register, leaf_
 use Rattle.at_model.specs.Due.{has_come}
 use Rattle.at_model.specs.Recover.{recover}
 use Rattle.at_model.specs.Step.{at_time, leaf_plan, moment_of, put_leaf, step}
-use Rattle.at_model.specs.World.{Node, WorldEvent, nth, run_of}
+use Rattle.at_model.specs.World.{Node, WorldEvent, nth, run_of, Hosts}
 use Rattle.model_laws.specs.Shapes.{MovesLeaf}
 use Rattle.agreement.specs.Branches.{Became, InBranches, IsNoNotice}
 
@@ -45,7 +45,7 @@ LeavesStand b = AllByRecursion LeafStands b.leaves
 pub record LeafStates : Type 0 where
   pub book : (b : Book) (e : Event) (now : ℕ) (landed : Bool) → LeavesStand b → LeavesStand (step b e now landed).book
   pub recovered : (base : List ℕ) (rs : List Record) → LeavesStand (recover base rs)
-  pub books : (count : ℕ) (es : List WorldEvent) (n : ℕ) (x : Node) (b : Book) → nth n (run_of count es).nodes ≡ Some x → x.book ≡ Some b → LeavesStand b
+  pub books : (hosts : Hosts) (es : List WorldEvent) (n : ℕ) (x : Node) (b : Book) → nth n (run_of hosts es).nodes ≡ Some x → x.book ≡ Some b → LeavesStand b
 
 -- a message that came to the leaf
 pub record CameTo (e : Event) (l : Leaf) (what : Message) : Type 0 where

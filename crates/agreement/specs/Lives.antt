@@ -16,7 +16,7 @@ use Rattle.at_model.specs.Due.{may_expire}
 use Rattle.at_model.specs.Recover.{is_promise, live, recover}
 use Rattle.at_model.specs.Seats.{ending}
 use Rattle.at_model.specs.Step.{leaf_at, transaction_at}
-use Rattle.at_model.specs.World.{Happened, Node, WorldEvent, nth, run_of}
+use Rattle.at_model.specs.World.{Happened, Node, WorldEvent, nth, run_of, Hosts}
 use Rattle.model_laws.specs.Agreement.{HasAborted, HasCommitted, IsIn, ends_as}
 
 -- what happened at a node
@@ -71,11 +71,11 @@ book_of x = standing x.base x.journal x.book
 
 -- So it is in every run, of each node and each id.
 pub record LivesAgree : Type 0 where
-  pub lives : (count : ℕ) (es : List WorldEvent) (n : ℕ) (x : Node) → nth n (run_of count es).nodes ≡ Some x → (id : Numbers)
-      → Life x.journal (happened_on n (run_of count es).happened) id (transaction_at (book_of x) id) (leaf_at (book_of x) id)
+  pub lives : (hosts : Hosts) (es : List WorldEvent) (n : ℕ) (x : Node) → nth n (run_of hosts es).nodes ≡ Some x → (id : Numbers)
+      → Life x.journal (happened_on n (run_of hosts es).happened) id (transaction_at (book_of x) id) (leaf_at (book_of x) id)
   -- an item that has committed never aborts, and isn't lost
-  pub one : (count : ℕ) (es : List WorldEvent) (n : ℕ) (x : Node) → nth n (run_of count es).nodes ≡ Some x → (id : Numbers)
-      → HasCommitted (run_of count es) (record { node = n; id = id }) → HasAborted (run_of count es) (record { node = n; id = id }) → ⊥
+  pub one : (hosts : Hosts) (es : List WorldEvent) (n : ℕ) (x : Node) → nth n (run_of hosts es).nodes ≡ Some x → (id : Numbers)
+      → HasCommitted (run_of hosts es) (record { node = n; id = id }) → HasAborted (run_of hosts es) (record { node = n; id = id }) → ⊥
   -- and each ends once at most
-  pub once : (count : ℕ) (es : List WorldEvent) (n : ℕ) (x : Node) → nth n (run_of count es).nodes ≡ Some x → (id : Numbers)
-      → length (ends id (happened_on n (run_of count es).happened)) ≤ 1
+  pub once : (hosts : Hosts) (es : List WorldEvent) (n : ℕ) (x : Node) → nth n (run_of hosts es).nodes ≡ Some x → (id : Numbers)
+      → length (ends id (happened_on n (run_of hosts es).happened)) ≤ 1

@@ -15,7 +15,7 @@ use Rattle.at_model.specs.Book.{Book}
 use Rattle.at_model.specs.Addresses.{endpoint_of, protocol_of, completion_protocol}
 use Rattle.at_model.specs.Posts.{register_post}
 use Rattle.at_model.specs.Recover.{last_incarnation}
-use Rattle.at_model.specs.World.{Node, Posted, World, WorldEvent, nth, base_of, run_of}
+use Rattle.at_model.specs.World.{Node, Posted, World, WorldEvent, nth, run_of, Hosts, HaveOwnAddresses}
 use Rattle.model_laws.specs.Agreement.{IsIn}
 use Rattle.model_laws.specs.Laws.{IsDrawn}
 
@@ -62,5 +62,5 @@ IsOwnId w n own id = IsId id × WasDrawn w n id
 -- In every run each Register that was posted is one of an item of its sender, and names that item.
 abbrev pub RegistersNameTheirSender : Type 0
 RegistersNameTheirSender =
-    (count : ℕ) (es : List WorldEvent) → count < 2 ^ 64 → (p : Posted) (r : Register) → IsIn p (run_of count es).posted → p.content.message ≡ messages.Register r
-    → IsOwnRegister (IsOwnId (run_of count es) p.sender) (base_of p.sender) p.content r
+    (hosts : Hosts) (es : List WorldEvent) → HaveOwnAddresses hosts → (p : Posted) (r : Register) → IsIn p (run_of hosts es).posted → p.content.message ≡ messages.Register r
+    → IsOwnRegister (IsOwnId (run_of hosts es) p.sender) (hosts.base_of p.sender) p.content r

@@ -9,7 +9,7 @@ use Rattle.at_base.specs.declared.record.Seated.{Seated}
 use Rattle.at_base.specs.declared.target.Seat.{Seat}
 use Rattle.at_model.specs.Book.{Book, Transaction}
 use Rattle.at_model.specs.Due.{may_expire}
-use Rattle.at_model.specs.World.{Accepted, Node, World, WorldEvent, accepted_seat, nth, run_of, who_of}
+use Rattle.at_model.specs.World.{Accepted, Node, World, WorldEvent, accepted_seat, nth, run_of, who_of, Hosts, HaveOwnAddresses}
 use Rattle.model_laws.specs.Agreement.{IsIn}
 use Rattle.model_laws.specs.Enlisted.{IsEnlisted}
 use Rattle.model_laws.specs.Reached.{Reached}
@@ -48,5 +48,5 @@ pub record IsSeated (w : World) : Type 0 where
 
 -- So it is in every world that is reached, and in every run.
 pub record SeatsAreRegistered : Type 0 where
-  pub reached : (count : ℕ) (w : World) → count < 2 ^ 64 → Reached count w → IsSeated w
-  pub runs : (count : ℕ) (es : List WorldEvent) → count < 2 ^ 64 → IsSeated (run_of count es)
+  pub reached : (hosts : Hosts) (w : World) → HaveOwnAddresses hosts → Reached hosts w → IsSeated w
+  pub runs : (hosts : Hosts) (es : List WorldEvent) → HaveOwnAddresses hosts → IsSeated (run_of hosts es)

@@ -8,4 +8,4 @@ run_more w [] e = refl
 run_more w (f ∷ es) e = run_more (world_step w f) es e
 
 pub runs_grow : RunsGrow
-runs_grow count es e = run_more (opening count) es e
+runs_grow hosts es e = run_more (opening hosts) es e

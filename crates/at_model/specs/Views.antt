@@ -13,7 +13,7 @@ use Rattle.at_base.specs.declared.event.Local.TheVariants as locals
 use Rattle.at_base.specs.declared.outs.Effect.{Effect}
 use Rattle.at_model.specs.Addresses.{slash}
 use Rattle.at_model.specs.Activities.{service}
-use Rattle.at_model.specs.World.{Posted, Happened, World, base_of, WorldEvent, Deliver, Tick, Turn, Ask, Up}
+use Rattle.at_model.specs.World.{Posted, Happened, World, example_base, WorldEvent, Deliver, Tick, Turn, Ask, Up}
 
 -- A message as a report shows it: sender, receiver (0 where it has none), the body's name (of a fault its own), and the
 -- path of its address.
@@ -86,14 +86,14 @@ abbrev pub request : ℕ → Local → WorldEvent
 request n l = Ask n l [] None
 
 abbrev pub begin_at : ℕ → ℕ → ℕ → WorldEvent
-begin_at n coordinator ms = request n (locals.Begin (base_of coordinator) ms)
+begin_at n coordinator ms = request n (locals.Begin (example_base coordinator) ms)
 
 abbrev pub work_at : ℕ → Numbers → ℕ → Kind → Vote → WorldEvent
 work_at n activity service kind vote =
-    request n (locals.Work activity (base_of service) kind vote (codes "k") (codes "v"))
+    request n (locals.Work activity (example_base service) kind vote (codes "k") (codes "v"))
 
 abbrev pub interpose_at : ℕ → Numbers → ℕ → WorldEvent
-interpose_at n activity coordinator = request n (locals.Interpose activity (base_of coordinator))
+interpose_at n activity coordinator = request n (locals.Interpose activity (example_base coordinator))
 
 abbrev pub commit_at : ℕ → Numbers → WorldEvent
 commit_at n activity = request n (locals.Commit activity)

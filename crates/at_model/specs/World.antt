@@ -1,5 +1,5 @@
 -- Worlds: several nodes, the messages between them, and what happens to them.
-use Rattle.std.specs.Prelude.{ℕ, List, [], ◌∷◌, ◌++◌, Option, Some, None, Bool, true, false, nat_eq, nat_lt, ◌&&◌, ◌||◌, ◌+◌, ◌-◌, if◌then◌else◌, length, map, filter, option_map, option_and_then, is_some, is_none, codes, drop, zero, suc, decimal}
+use Rattle.std.specs.Prelude.{ℕ, List, [], ◌∷◌, ◌++◌, Option, Some, None, Bool, true, false, nat_eq, nat_lt, ◌&&◌, ◌||◌, ◌+◌, ◌-◌, if◌then◌else◌, length, map, filter, option_map, option_and_then, is_some, is_none, codes, drop, zero, suc, decimal, ◌≡◌, ◌≤◌}
 use Rattle.at_base.specs.Numbers.{Numbers}
 use Rattle.at_base.specs.declared.epr.Epr.{Epr}
 use Rattle.at_base.specs.declared.epr.Reply.{Reply}
@@ -66,21 +66,38 @@ pub record World : Type 0 where
   pub accepted : List Accepted
   pub happened : List Happened
 
--- The base of a node.
-abbrev pub base_of : ℕ → List ℕ
-base_of n = codes "http://n" ++ (decimal n ++ codes ".example")
+-- The nodes of a world, numbered from 1: how many there are, and the base of each.
+pub record Hosts : Type 0 where
+  pub count : ℕ
+  pub base_of : ℕ → List ℕ
 
-abbrev pub new_node : ℕ → Node
-new_node n = record { base = base_of n; book = None; journal = []; clock = 0 }
+abbrev pub IsNumber : Hosts → ℕ → Type 0
+IsNumber hosts n = (1 ≤ n) × (n ≤ hosts.count)
+
+-- No address of an item of one node is that of an item of another.
+abbrev pub HaveOwnAddresses : Hosts → Type 0
+HaveOwnAddresses hosts =
+    (m n : ℕ) (rest path : List ℕ) (S T : Target) → IsNumber hosts m → IsNumber hosts n → target_of rest ≡ Some S → target_of path ≡ Some T
+    → hosts.base_of m ++ rest ≡ hosts.base_of n ++ path → m ≡ n
+
+-- The bases of the nodes of a replay, and of worked examples.
+abbrev pub example_base : ℕ → List ℕ
+example_base n = codes "http://n" ++ (decimal n ++ codes ".example")
+
+abbrev pub example_hosts : ℕ → Hosts
+example_hosts count = record { count = count; base_of = example_base }
+
+abbrev pub new_node : List ℕ → Node
+new_node base = record { base = base; book = None; journal = []; clock = 0 }
 
 -- nodes numbered from this one on
-abbrev pub new_nodes : ℕ → ℕ → List Node
-new_nodes zero n = []
-new_nodes (suc k) n = new_node n ∷ new_nodes k (n + 1)
+abbrev pub new_nodes : (ℕ → List ℕ) → ℕ → ℕ → List Node
+new_nodes base_of zero n = []
+new_nodes base_of (suc k) n = new_node (base_of n) ∷ new_nodes base_of k (n + 1)
 
 -- The opening world: every node is down, with no record.
-abbrev pub opening : ℕ → World
-opening count = record { nodes = new_nodes count 1; posted = []; accepted = []; happened = [] }
+abbrev pub opening : Hosts → World
+opening hosts = record { nodes = new_nodes hosts.base_of hosts.count 1; posted = []; accepted = []; happened = [] }
 
 -- the node of this number, from a list that begins with the node 1; numbers from 1 also elsewhere
 abbrev pub nth : {A : Type 0} → ℕ → List A → Option A
@@ -431,5 +448,5 @@ abbrev pub run_on : World → List WorldEvent → World
 run_on w [] = w
 run_on w (e ∷ es) = run_on (world_step w e) es
 
-abbrev pub run_of : ℕ → List WorldEvent → World
-run_of count es = run_on (opening count) es
+abbrev pub run_of : Hosts → List WorldEvent → World
+run_of hosts es = run_on (opening hosts) es

@@ -16,7 +16,7 @@ use Rattle.at_model.specs.Book.{Book, Transaction, find_by, transaction_id}
 use Rattle.at_model.specs.Register.{Registration}
 use Rattle.at_model.specs.Seats.{seat_target}
 use Rattle.at_model.specs.Step.{Outcome, moment_of, plan, step}
-use Rattle.at_model.specs.World.{Node, Posted, World, base_of}
+use Rattle.at_model.specs.World.{Node, Posted, World, Hosts, HaveOwnAddresses}
 use Rattle.model_laws.specs.Agreement.{IsIn}
 use Rattle.model_laws.specs.Drawn.{with_entry}
 use Rattle.model_laws.specs.Grows.{Grows}
@@ -43,11 +43,11 @@ keeps_id m a r t g (has_completion c protocol there who is) = ap (λ x. x.transa
 keeps_id m a r t g (refuses name is) = ap (λ x. x.transaction.id) is
 
 -- the transaction that took it, in the book behind the step
-pub held_after : (count : ℕ) (u : World) (n : ℕ) (x : Node) (b : Book) (e : Event) (now : ℕ) (landed : Bool) → Stepping count u n x b e now landed
-    → (d : Registered b e now (standing landed (plan b e now).entry) (step b e now landed)) → Held count (counts u n x b e now landed) n d.gives.transaction
-held_after count u n x b e now landed s d = record {
+pub held_after : (hosts : Hosts) (u : World) (n : ℕ) (x : Node) (b : Book) (e : Event) (now : ℕ) (landed : Bool) → Stepping hosts u n x b e now landed
+    → (d : Registered b e now (standing landed (plan b e now).entry) (step b e now landed)) → Held hosts (counts u n x b e now landed) n d.gives.transaction
+held_after hosts u n x b e now landed s d = record {
   small = s.small;
-  reached = then_reached count u n x b e now landed s;
+  reached = then_reached hosts u n x b e now landed s;
   x = record x { book = Some (step b e now landed).book; journal = with_entry (plan b e now).entry landed x.journal };
   b = (step b e now landed).book;
   found = put_this u.nodes n x (record x { book = Some (step b e now landed).book; journal = with_entry (plan b e now).entry landed x.journal }) s.found;
@@ -64,64 +64,64 @@ same_reply a c e = cc
 same_some : (a c : Epr) → Some a ≡ Some c → a ≡ c
 same_some a c e = cc
 
-replied_to : (count : ℕ) (a : Arrived) (r : Register) (c to : Epr) (p : Post) (m : ℕ) (T : Target) → IsRegisterOf count a r → IsReply a c p → p.to ≡ Some to → LeadsTo count to m T
-    → LeadsTo count r.participant m T
-replied_to count a r c to p m T h k goes leads =
+replied_to : (hosts : Hosts) (a : Arrived) (r : Register) (c to : Epr) (p : Post) (m : ℕ) (T : Target) → IsRegisterOf hosts a r → IsReply a c p → p.to ≡ Some to → LeadsTo hosts to m T
+    → LeadsTo hosts r.participant m T
+replied_to hosts a r c to p m T h k goes leads =
     let same : to ≡ r.participant = same_some to k.to (sym goes ∙ ap (λ (q : Post). q.to) k.is) ∙ same_reply k.to r.participant (sym k.asked ∙ h.reply) in
-    subst (λ y. LeadsTo count y m T) same leads
+    subst (λ y. LeadsTo hosts y m T) same leads
 
-response_names : (count : ℕ) (u : World) (n : ℕ) (x : Node) (b : Book) (e : Event) (now : ℕ) (landed : Bool) → Stepping count u n x b e now landed → (p : Post) (to c : Epr) (m : ℕ)
-    (T : Target) → p.to ≡ Some to → LeadsTo count to m T → Responds b e now (standing landed (plan b e now).entry) (step b e now landed) c p
-    → NamesSeatOf count (counts u n x b e now landed) c m T
-response_names count u n x b e now landed s p to c m T goes leads (names_seat d kind q protocol sits k who is reply) =
+response_names : (hosts : Hosts) (u : World) (n : ℕ) (x : Node) (b : Book) (e : Event) (now : ℕ) (landed : Bool) → Stepping hosts u n x b e now landed → (p : Post) (to c : Epr) (m : ℕ)
+    (T : Target) → p.to ≡ Some to → LeadsTo hosts to m T → Responds b e now (standing landed (plan b e now).entry) (step b e now landed) c p
+    → NamesSeatOf hosts (counts u n x b e now landed) c m T
+response_names hosts u n x b e now landed s p to c m T goes leads (names_seat d kind q protocol sits k who is reply) =
     let w : World = counts u n x b e now landed in
-    let r : IsRegisterOf count d.arrived d.request = register_of count u n x b e now landed d.arrived d.request s d.came d.says in
-    let l : LeadsTo count d.request.participant m T = replied_to count d.arrived d.request c to p m T r reply goes leads in
+    let r : IsRegisterOf hosts d.arrived d.request = register_of hosts u n x b e now landed d.arrived d.request s d.came d.says in
+    let l : LeadsTo hosts d.request.participant m T = replied_to hosts d.arrived d.request c to p m T r reply goes leads in
     let (i, own) = for_kind r.own r.id d.request.protocol kind r.registers protocol in
     let at : T ≡ targets.Participant i kind = (r.leads m T l).1 ∙ own in
-    let there : LeadsTo count q.participant m (targets.Participant i kind) = subst (λ y. LeadsTo count y m (targets.Participant i kind)) (sym who) (l ∙ (λ j. Some (m, at j))) in
-    let written : endpoint_of (base_of n) (seat_target d.gives.transaction.id q) ≡ c =
-    (λ j. endpoint_of (sym (up_known count u s.small s.reached n x b s.found s.up).says.base_is j)
+    let there : LeadsTo hosts q.participant m (targets.Participant i kind) = subst (λ y. LeadsTo hosts y m (targets.Participant i kind)) (sym who) (l ∙ (λ j. Some (m, at j))) in
+    let written : endpoint_of (hosts.base_of n) (seat_target d.gives.transaction.id q) ≡ c =
+    (λ j. endpoint_of (sym (up_known hosts u s.small s.reached n x b s.found s.up).says.base_is j)
     (seat_target (keeps_id (moment_of b now) d.arrived d.request d.old d.gives d.enrolls j) q)) ∙ sym is in
-    subst (NamesSeatOf count w c m) (sym at)
-    (subst (λ y. Enlists count w y (record { node = m; id = i }) kind) written
-    (seat_enlists count w n d.gives.transaction q m i kind (held_after count u n x b e now landed s d) sits there))
-response_names count u n x b e now landed s p to c m T goes leads (names_completion d y protocol there who is reply) =
+    subst (NamesSeatOf hosts w c m) (sym at)
+    (subst (λ y. Enlists hosts w y (record { node = m; id = i }) kind) written
+    (seat_enlists hosts w n d.gives.transaction q m i kind (held_after hosts u n x b e now landed s d) sits there))
+response_names hosts u n x b e now landed s p to c m T goes leads (names_completion d y protocol there who is reply) =
     let w : World = counts u n x b e now landed in
-    let r : IsRegisterOf count d.arrived d.request = register_of count u n x b e now landed d.arrived d.request s d.came d.says in
-    let l : LeadsTo count d.request.participant m T = replied_to count d.arrived d.request c to p m T r reply goes leads in
+    let r : IsRegisterOf hosts d.arrived d.request = register_of hosts u n x b e now landed d.arrived d.request s d.came d.says in
+    let l : LeadsTo hosts d.request.participant m T = replied_to hosts d.arrived d.request c to p m T r reply goes leads in
     let (i, own) = for_completion r.own r.id d.request.protocol r.registers protocol in
     let at : T ≡ targets.Initiator i = (r.leads m T l).1 ∙ own in
-    let led : LeadsTo count y.initiator m (targets.Initiator i) = subst (λ z. LeadsTo count z m (targets.Initiator i)) (sym who) (l ∙ (λ j. Some (m, at j))) in
-    let written : endpoint_of (base_of n) (targets.Completion d.gives.transaction.id) ≡ c =
-    (λ j. endpoint_of (sym (up_known count u s.small s.reached n x b s.found s.up).says.base_is j)
+    let led : LeadsTo hosts y.initiator m (targets.Initiator i) = subst (λ z. LeadsTo hosts z m (targets.Initiator i)) (sym who) (l ∙ (λ j. Some (m, at j))) in
+    let written : endpoint_of (hosts.base_of n) (targets.Completion d.gives.transaction.id) ≡ c =
+    (λ j. endpoint_of (sym (up_known hosts u s.small s.reached n x b s.found s.up).says.base_is j)
     (targets.Completion (keeps_id (moment_of b now) d.arrived d.request d.old d.gives d.enrolls j))) ∙ sym is in
-    subst (NamesSeatOf count w c m) (sym at)
-    (subst (λ z. Completes count w z (record { node = m; id = i })) written
-    (completion_completes count w n d.gives.transaction y m i (held_after count u n x b e now landed s d) there led))
+    subst (NamesSeatOf hosts w c m) (sym at)
+    (subst (λ z. Completes hosts w z (record { node = m; id = i })) written
+    (completion_completes hosts w n d.gives.transaction y m i (held_after hosts u n x b e now landed s d) there led))
 
 -- it names it for good
-pub names_on : (count : ℕ) (u w : World) → Grows u w → (c : Epr) (m : ℕ) (T : Target) → NamesSeatOf count u c m T → NamesSeatOf count w c m T
-names_on count u w g c m (targets.Participant i kind) h = enlists_on count u w g c (record { node = m; id = i }) kind h
-names_on count u w g c m (targets.Initiator i) h = completes_on count u w g c (record { node = m; id = i }) h
-names_on count u w g c m targets.Activation h = tt
-names_on count u w g c m targets.Work h = tt
-names_on count u w g c m (targets.Registration id) h = tt
-names_on count u w g c m (targets.Completion id) h = tt
-names_on count u w g c m (targets.Coordinator id s) h = tt
+pub names_on : (hosts : Hosts) (u w : World) → Grows u w → (c : Epr) (m : ℕ) (T : Target) → NamesSeatOf hosts u c m T → NamesSeatOf hosts w c m T
+names_on hosts u w g c m (targets.Participant i kind) h = enlists_on hosts u w g c (record { node = m; id = i }) kind h
+names_on hosts u w g c m (targets.Initiator i) h = completes_on hosts u w g c (record { node = m; id = i }) h
+names_on hosts u w g c m targets.Activation h = tt
+names_on hosts u w g c m targets.Work h = tt
+names_on hosts u w g c m (targets.Registration id) h = tt
+names_on hosts u w g c m (targets.Completion id) h = tt
+names_on hosts u w g c m (targets.Coordinator id s) h = tt
 
-answering : (count : ℕ) → PostLaw count
-answering count = record {
-  Of = AnswersName count;
-  on = λ u w g p h to c m T goes says leads. names_on count u w g c m T (h to c m T goes says leads);
+answering : (hosts : Hosts) → PostLaw hosts
+answering hosts = record {
+  Of = AnswersName hosts;
+  on = λ u w g p h to c m T goes says leads. names_on hosts u w g c m T (h to c m T goes says leads);
   new = λ u n x b e now landed s h p i r to c m T goes says leads.
-      response_names count u n x b e now landed s p to c m T goes leads (steps_tell.responds b e now landed (step_ready count u n x b e now landed s) p c i says);
+      response_names hosts u n x b e now landed s p to c m T goes leads (steps_tell.responds b e now landed (step_ready hosts u n x b e now landed s) p c i says);
 }
 
-pub answers_name : (count : ℕ) (w : World) → count < 2 ^ 64 → Reached count w → AllByRecursion (AnswersName count w) w.posted
+pub answers_name : (hosts : Hosts) (w : World) → HaveOwnAddresses hosts → Reached hosts w → AllByRecursion (AnswersName hosts w) w.posted
 unfolding answering
-answers_name count w small reached = posts_have count small (answering count) w reached
+answers_name hosts w small reached = posts_have hosts small (answering hosts) w reached
 
-pub answer_names : (count : ℕ) (w : World) → count < 2 ^ 64 → Reached count w → (p : Posted) → IsIn p w.posted → AnswersName count w p
+pub answer_names : (hosts : Hosts) (w : World) → HaveOwnAddresses hosts → Reached hosts w → (p : Posted) → IsIn p w.posted → AnswersName hosts w p
 unfolding answering
-answer_names count w small reached p i = one_has count small (answering count) w reached p i
+answer_names hosts w small reached p i = one_has hosts small (answering hosts) w reached p i

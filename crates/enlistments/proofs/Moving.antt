@@ -19,7 +19,7 @@ use Rattle.at_model.specs.Posts.{accepted}
 use Rattle.at_model.specs.Register.{on_register}
 use Rattle.at_model.specs.Seats.{seat_target}
 use Rattle.at_model.specs.Step.{Outcome, Plan, activity_at, at_time, branch, leaf_at, local_plan, make_activity, make_leaf, make_transaction, moment_of, plain, plan, plan_of, put_activity, put_leaf, put_transaction, refuses, registration_outcome, still, step, transaction_at}
-use Rattle.at_model.specs.World.{Node, World, nth}
+use Rattle.at_model.specs.World.{Node, World, nth, Hosts}
 use Rattle.model_laws.specs.Drawn.{restarted}
 use Rattle.model_laws.specs.Reached.{Reached}
 use Rattle.model_laws.specs.Shapes.{IsAnswer, MovesTransaction, Shape, activity_made as shape_activity, activity_moves, at_completion, at_link, at_seat, leaf_made as shape_leaf, leaf_moves, nothing_moves, time_moves, time_passes, transaction_made as shape_transaction, transaction_moves, transaction_registers, when_due}
@@ -256,11 +256,11 @@ items_law = record {
   rises = λ base rs small h. record { leaves = leaf_states.recovered base (restarted rs); activities = activity_states.recovered base (restarted rs) };
 }
 
-pub book_ready : (count : ℕ) (w : World) → Reached count w → (n : ℕ) (x : Node) (b : Book) → nth n w.nodes ≡ Some x → x.book ≡ Some b → IsReady b
+pub book_ready : (hosts : Hosts) (w : World) → Reached hosts w → (n : ℕ) (x : Node) (b : Book) → nth n w.nodes ≡ Some x → x.book ≡ Some b → IsReady b
 unfolding items_law
-book_ready count w reached n x b found up =
-    let sound : IsSoundBook x.journal b = book_sound count w reached n x b found up in
-    let stand : ItemsStand b = subst (IfThere ItemsStand) up (nodes_hold items_law count w reached n x found) in
+book_ready hosts w reached n x b found up =
+    let sound : IsSoundBook x.journal b = book_sound hosts w reached n x b found up in
+    let stand : ItemsStand b = subst (IfThere ItemsStand) up (nodes_hold items_law hosts w reached n x found) in
     record { order = sound.order; phases = sound.phases; finished = sound.finished; leaves = stand.leaves; activities = stand.activities }
 
 pub steps_move : StepsMove

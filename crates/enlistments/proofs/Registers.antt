@@ -17,7 +17,7 @@ use Rattle.at_base.specs.declared.target.Target.TheVariants as targets
 use Rattle.at_model.specs.Addresses.{protocol_of}
 use Rattle.at_model.specs.Book.{Book}
 use Rattle.at_model.specs.Register.{protocol_named}
-use Rattle.at_model.specs.World.{Node, Posted, World, base_of, new_nodes, place_of, reply_of}
+use Rattle.at_model.specs.World.{Node, Posted, World, new_nodes, place_of, reply_of, Hosts}
 use Rattle.agreement.specs.Places.{HasPath}
 use Rattle.agreement.specs.Registers.{IsOwnRegister, IsWhose, RegistersFor, Whose}
 use Rattle.agreement.specs.Sorts.{AreSorted, FitsTarget}
@@ -27,14 +27,14 @@ use Rattle.agreement.proofs.Sorted.{world_sorted}
 use Rattle.enlistments.specs.Leads.{LeadsTo}
 use Rattle.enlistments.proofs.Arriving.{HasCome, Stepping, has_come}
 
-pub record IsRegisterOf (count : ℕ) (a : Arrived) (r : Register) : Type 0 where
+pub record IsRegisterOf (hosts : Hosts) (a : Arrived) (r : Register) : Type 0 where
   pub sender : ℕ
   pub own : Target
   pub id : Numbers
   pub registers : RegistersFor own id r.protocol
   pub reply : a.reply ≡ replies.At r.participant
   -- its endpoint leads to it alone
-  pub leads : (m : ℕ) (T : Target) → LeadsTo count r.participant m T → (m ≡ sender) × (T ≡ own)
+  pub leads : (m : ℕ) (T : Target) → LeadsTo hosts r.participant m T → (m ≡ sender) × (T ≡ own)
 
 has_path : (own : Target) (id : Numbers) (protocol : List ℕ) → RegistersFor own id protocol → IsId id → HasPath own
 has_path (targets.Participant i kind) id protocol h k = subst IsId (sym h.0) k
@@ -45,15 +45,15 @@ has_path (targets.Registration i) id protocol h k = absurd h
 has_path (targets.Completion i) id protocol h k = absurd h
 has_path (targets.Coordinator i s) id protocol h k = absurd h
 
-pub register_of : (count : ℕ) (u : World) (n : ℕ) (x : Node) (b : Book) (e : Event) (now : ℕ) (landed : Bool) (a : Arrived) (r : Register) → Stepping count u n x b e now landed
-    → e ≡ events.Arrived a → a.message ≡ messages.Register r → IsRegisterOf count a r
-register_of count u n x b e now landed a r s came says =
-    let h : HasCome count u n a = has_come count u n x b e now landed a s came in
+pub register_of : (hosts : Hosts) (u : World) (n : ℕ) (x : Node) (b : Book) (e : Event) (now : ℕ) (landed : Bool) (a : Arrived) (r : Register) → Stepping hosts u n x b e now landed
+    → e ≡ events.Arrived a → a.message ≡ messages.Register r → IsRegisterOf hosts a r
+register_of hosts u n x b e now landed a r s came says =
+    let h : HasCome hosts u n a = has_come hosts u n x b e now landed a s came in
     let p : Posted = h.posted in
-    let sorted : AreSorted u = world_sorted count u s.small s.reached in
-    let g : IsOwnRegister (λ own id. FitsTarget (sorted.sort p.sender) own × (IsId id × (p.sender < 2 ^ 64))) (base_of p.sender) p.content r =
-    subst (Whose (λ own id. FitsTarget (sorted.sort p.sender) own × (IsId id × (p.sender < 2 ^ 64))) (base_of p.sender) p.content) (h.message ∙ says)
-    (one_of (λ q. IsWhose (λ own id. FitsTarget (sorted.sort q.sender) own × (IsId id × (q.sender < 2 ^ 64))) (base_of q.sender) q.content) u.posted p sorted.posted h.stands) in
+    let sorted : AreSorted u = world_sorted hosts u s.small s.reached in
+    let g : IsOwnRegister (λ own id. FitsTarget (sorted.sort p.sender) own × (IsId id × (p.sender < 2 ^ 64))) (hosts.base_of p.sender) p.content r =
+    subst (Whose (λ own id. FitsTarget (sorted.sort p.sender) own × (IsId id × (p.sender < 2 ^ 64))) (hosts.base_of p.sender) p.content) (h.message ∙ says)
+    (one_of (λ q. IsWhose (λ own id. FitsTarget (sorted.sort q.sender) own × (IsId id × (q.sender < 2 ^ 64))) (hosts.base_of q.sender) q.content) u.posted p sorted.posted h.stands) in
     record {
       sender = p.sender;
       own = g.own;
@@ -61,8 +61,8 @@ register_of count u n x b e now landed a r s came says =
       registers = g.registers;
       reply = h.reply ∙ ap reply_of g.reply;
       leads = λ m T l.
-          addresses_lead_home count p.sender m g.own T s.small g.known.1.1 (has_path g.own g.id r.protocol g.registers g.known.1.0)
-          (sym (ap (λ (y : Epr). place_of 1 (new_nodes count 1) y.address) g.participant) ∙ l);
+          addresses_lead_home hosts p.sender m g.own T s.small g.known.1.1 (has_path g.own g.id r.protocol g.registers g.known.1.0)
+          (sym (ap (λ (y : Epr). place_of 1 (new_nodes hosts.base_of hosts.count 1) y.address) g.participant) ∙ l);
     }
 
 -- the protocol that it names is that of its sort

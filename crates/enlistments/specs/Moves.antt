@@ -28,7 +28,7 @@ use Rattle.at_model.specs.Moves.{Change}
 use Rattle.at_model.specs.Posts.{from_on}
 use Rattle.at_model.specs.Register.{Registration, on_register}
 use Rattle.at_model.specs.Step.{Outcome, activity_at, at_time, leaf_at, make_activity, make_leaf, make_transaction, moment_of, plan, put_activities, registration_outcome, step, still, transaction_at}
-use Rattle.at_model.specs.World.{Node, World, nth}
+use Rattle.at_model.specs.World.{Node, World, nth, Hosts}
 use Rattle.model_laws.specs.Behind.{IsInPhase}
 use Rattle.model_laws.specs.Order.{IsInOrder}
 use Rattle.model_laws.specs.Reached.{Reached}
@@ -220,4 +220,4 @@ pub data Moved (b : Book) (e : Event) (now : ℕ) (entry : Option Record) (o : O
 -- Each step of such a book is one of these; and such is each book of a world that is reached.
 pub record StepsMove : Type 0 where
   pub moved : (b : Book) (e : Event) (now : ℕ) (landed : Bool) → IsReady b → Moved b e now (standing landed (plan b e now).entry) (step b e now landed)
-  pub ready : (count : ℕ) (w : World) → Reached count w → (n : ℕ) (x : Node) (b : Book) → nth n w.nodes ≡ Some x → x.book ≡ Some b → IsReady b
+  pub ready : (hosts : Hosts) (w : World) → Reached hosts w → (n : ℕ) (x : Node) (b : Book) → nth n w.nodes ≡ Some x → x.book ≡ Some b → IsReady b

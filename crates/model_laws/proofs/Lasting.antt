@@ -11,7 +11,7 @@ use Rattle.at_base.specs.declared.outs.Post.{Post}
 use Rattle.at_model.specs.Book.{Book}
 use Rattle.at_model.specs.Recover.{last_incarnation}
 use Rattle.at_model.specs.Step.{plan, step}
-use Rattle.at_model.specs.World.{Node, Who, Happened, World, WorldEvent, nth, put_nth, opening, with_post, accepted_in, happened_at, put_book, goes_down, lost_in, started, up_after, world_step, run_on, run_of}
+use Rattle.at_model.specs.World.{Node, Who, Happened, World, WorldEvent, nth, put_nth, opening, with_post, accepted_in, happened_at, put_book, goes_down, lost_in, started, up_after, world_step, run_on, run_of, Hosts}
 use Rattle.model_laws.specs.Agreement.{IsIn, HasEnded, Stands}
 use Rattle.model_laws.specs.Drawn.{with_entry}
 use Rattle.model_laws.specs.Grows.{HasGrown, Grows, TakesNothingBack}
@@ -141,14 +141,14 @@ pub grows_waits : (u : World) (n : ℕ) (x : Node) (clock : ℕ) → nth n u.nod
 grows_waits u n x clock found = put_grows u n x (record x { clock = clock }) [] found refl (sym (append-nil x.journal))
 
 -- the worlds that a reached one goes on to
-record Follows (count : ℕ) (start w : World) : Type 0 where
-  reached : Reached count w
+record Follows (hosts : Hosts) (start w : World) : Type 0 where
+  reached : Reached hosts w
   grows : Grows start w
 
-abbrev following : ℕ → World → Closed
-following count start = record {
-  count = count;
-  Holds = Follows count start;
+abbrev following : Hosts → World → Closed
+following hosts start = record {
+  hosts = hosts;
+  Holds = Follows hosts start;
   reached = λ w h. h.reached;
   steps = λ u n x b e now landed ps h found up heard those. record {
     reached = stepped u n x b e now landed ps h.reached found up heard those refl;
@@ -174,11 +174,11 @@ run_further : (es more : List WorldEvent) (w : World) → run_on w (es ++ more) 
 run_further [] more w = refl
 run_further (e ∷ es) more w = run_further es more (world_step w e)
 
-run_grows : (count : ℕ) (es more : List WorldEvent) → Grows (run_of count es) (run_of count (es ++ more))
-run_grows count es more =
-    let there : Follows count (run_of count es) (run_on (run_of count es) more) =
-    all_reached (following count (run_of count es)) more (run_of count es) (record { reached = run_reached count es; grows = grows_same (run_of count es) }) in
-    subst (Grows (run_of count es)) (sym (run_further es more (opening count))) there.grows
+run_grows : (hosts : Hosts) (es more : List WorldEvent) → Grows (run_of hosts es) (run_of hosts (es ++ more))
+run_grows hosts es more =
+    let there : Follows hosts (run_of hosts es) (run_on (run_of hosts es) more) =
+    all_reached (following hosts (run_of hosts es)) more (run_of hosts es) (record { reached = run_reached hosts es; grows = grows_same (run_of hosts es) }) in
+    subst (Grows (run_of hosts es)) (sym (run_further es more (opening hosts))) there.grows
 
 -- what stands for good
 in_longer : {A : Type 0} (x : A) (xs ys more : List A) → ys ≡ xs ++ more → IsIn x xs → IsIn x ys

@@ -17,7 +17,8 @@ use Rattle.at_base.specs.declared.notice.Kind.TheVariants as kinds
 use Rattle.at_base.specs.declared.target.Target.{Target}
 use Rattle.at_base.specs.declared.target.Target.TheVariants as targets
 use Rattle.at_model.specs.Addresses.{path_of, endpoint_of, after_prefix, slash, split_at, digits_value, number_of, id_of, seat_of, or_else, target_of}
-use Rattle.at_model.specs.World.{Node, base_of, new_nodes, target_at, place_or, place_of}
+use Rattle.at_model.specs.World.{Node, new_nodes, target_at, place_or, place_of, Hosts, HaveOwnAddresses, IsNumber, example_base}
+use Rattle.model_laws.specs.Reached.{ExamplesAreApart}
 
 -- no byte of the list is this one
 abbrev Lacks : ℕ → List ℕ → Type 0
@@ -127,35 +128,38 @@ target_back (targets.Coordinator id seat) (h, least, most) = by_kind seat.kind r
     by_kind kinds.Durable e = ap (λ o. or_else o None) (at kinds.Durable)
     by_kind kinds.Volatile e = ap (λ o. or_else o None) (at kinds.Volatile)
 
--- bases
-base_parts : (m n : ℕ) (rest path : List ℕ) → m < 2 ^ 64 → n < 2 ^ 64 → base_of m ++ rest ≡ base_of n ++ path → m ≡ n
+-- the bases of examples
+base_parts : (m n : ℕ) (rest path : List ℕ) → m < 2 ^ 64 → n < 2 ^ 64 → example_base m ++ rest ≡ example_base n ++ path → m ≡ n
 base_parts m n rest path h k e =
     let cut : decimal m ++ (codes ".example" ++ rest) ≡ decimal n ++ (codes ".example" ++ path) =
     sym (append_assoc (decimal m) (codes ".example") rest) ∙ ap (drop 8) e ∙ append_assoc (decimal n) (codes ".example") path in
     same_decimal m n h k (split_same 46 (decimal m) (decimal n) (codes "example" ++ rest) (codes "example" ++ path)
     (lacks_decimal 46 m (omega arith) h) (lacks_decimal 46 n (omega arith) k) cut)
 
+pub examples_apart : ExamplesAreApart
+examples_apart count small m n rest path S T (least, most) (low, high) there here = base_parts m n rest path (omega (arith, most, small)) (omega (arith, high, small))
+
 -- addresses on the nodes of a world
-pub record IsPlace (first count : ℕ) (address : List ℕ) (p : ℕ × Target) : Type 0 where
+pub record IsPlace (base_of : ℕ → List ℕ) (first count : ℕ) (address : List ℕ) (p : ℕ × Target) : Type 0 where
   pub least : first ≤ p.0
   pub most : p.0 < first + count
   pub target : target_at (base_of p.0) address ≡ Some p.1
 
-place_at : (first count : ℕ) (address : List ℕ) (t : Option Target) (rest : Option (ℕ × Target)) (p : ℕ × Target) → target_at (base_of first) address ≡ t
-    → (rest ≡ Some p → IsPlace (first + 1) count address p) → place_or first t rest ≡ Some p → IsPlace first (suc count) address p
-place_at first count address None rest p e f g =
-    let h : IsPlace (first + 1) count address p = f g in
+place_at : (base_of : ℕ → List ℕ) (first count : ℕ) (address : List ℕ) (t : Option Target) (rest : Option (ℕ × Target)) (p : ℕ × Target) → target_at (base_of first) address ≡ t
+    → (rest ≡ Some p → IsPlace base_of (first + 1) count address p) → place_or first t rest ≡ Some p → IsPlace base_of first (suc count) address p
+place_at base_of first count address None rest p e f g =
+    let h : IsPlace base_of (first + 1) count address p = f g in
     record { least = omega (arith, h.least); most = omega (arith, h.most); target = h.target }
-place_at first count address (Some T) rest p e f g =
+place_at base_of first count address (Some T) rest p e f g =
     let q : ℕ × Target = (first, T) in
     let same : q ≡ p = cc in
-    subst (IsPlace first (suc count) address) same (record { least = omega arith; most = omega arith; target = e })
+    subst (IsPlace base_of first (suc count) address) same (record { least = omega arith; most = omega arith; target = e })
 
-pub place_is : (count first : ℕ) (address : List ℕ) (p : ℕ × Target) → place_of first (new_nodes count first) address ≡ Some p → IsPlace first count address p
-place_is zero first address p e = absurd cc
-place_is (suc count) first address p e =
-    place_at first count address (target_at (base_of first) address) (place_of (first + 1) (new_nodes count (first + 1)) address) p refl
-    (place_is count (first + 1) address p) e
+pub place_is : (base_of : ℕ → List ℕ) (count first : ℕ) (address : List ℕ) (p : ℕ × Target) → place_of first (new_nodes base_of count first) address ≡ Some p → IsPlace base_of first count address p
+place_is base_of zero first address p e = absurd cc
+place_is base_of (suc count) first address p e =
+    place_at base_of first count address (target_at (base_of first) address) (place_of (first + 1) (new_nodes base_of count (first + 1)) address) p refl
+    (place_is base_of count (first + 1) address p) e
 
 -- behind a prefix
 behind_prefix : (prefix bytes rest : List ℕ) → after_prefix prefix bytes ≡ Some rest → bytes ≡ prefix ++ rest
@@ -170,7 +174,7 @@ behind_prefix prefix bytes rest e = by_case (bytes_eq (take (length prefix) byte
         sym (take-append-drop (length prefix) bytes) ∙ joined ((bytes_eq-Decides (take (length prefix) bytes) prefix).0 f) same
     by_case false f e = absurd cc
 
-prefix_back : (prefix rest : List ℕ) → after_prefix prefix (prefix ++ rest) ≡ Some rest
+pub prefix_back : (prefix rest : List ℕ) → after_prefix prefix (prefix ++ rest) ≡ Some rest
 prefix_back prefix rest =
     ap (λ b. cond b (Some (drop (length prefix) (prefix ++ rest))) None) ((bytes_eq-Decides (take (length prefix) (prefix ++ rest)) prefix).1 (take-append_seam prefix rest))
     ∙ ap Some (behind_all prefix rest)
@@ -179,36 +183,44 @@ prefix_back prefix rest =
     behind_all [] ys = refl
     behind_all (x ∷ xs) ys = behind_all xs ys
 
-other_base : (m n : ℕ) (path : List ℕ) → m < 2 ^ 64 → n < 2 ^ 64 → (m ≡ n → ⊥) → target_at (base_of m) (base_of n ++ path) ≡ None
-other_base m n path h k differ = by_prefix (after_prefix (base_of m) (base_of n ++ path)) refl
+pub other_base : (hosts : Hosts) (m n : ℕ) (T : Target) → HaveOwnAddresses hosts → IsNumber hosts m → IsNumber hosts n → (m ≡ n → ⊥) → IsWritten T
+    → target_at (hosts.base_of m) (hosts.base_of n ++ path_of T) ≡ None
+other_base hosts m n T apart h k differ written = by_prefix (after_prefix (hosts.base_of m) (hosts.base_of n ++ path_of T)) refl
   where
-    by_prefix : (o : Option (List ℕ)) → after_prefix (base_of m) (base_of n ++ path) ≡ o → option_and_then target_of o ≡ None
+    by_target : (rest : List ℕ) (o : Option Target) → target_of rest ≡ o → hosts.base_of m ++ rest ≡ hosts.base_of n ++ path_of T → o ≡ None
+    by_target rest None e f = refl
+    by_target rest (Some S) e f = absurd (differ (apart m n rest (path_of T) S T h k e (target_back T written) f))
+
+    by_prefix : (o : Option (List ℕ)) → after_prefix (hosts.base_of m) (hosts.base_of n ++ path_of T) ≡ o → option_and_then target_of o ≡ None
     by_prefix None e = refl
-    by_prefix (Some rest) e = absurd (differ (base_parts m n rest path h k (sym (behind_prefix (base_of m) (base_of n ++ path) rest e))))
+    by_prefix (Some rest) e = by_target rest (target_of rest) refl (sym (behind_prefix (hosts.base_of m) (hosts.base_of n ++ path_of T) rest e))
 
-place_back : (count first n : ℕ) (T : Target) → first ≤ n → n < first + count → n < 2 ^ 64 → IsWritten T → place_of first (new_nodes count first) (base_of n ++ path_of T) ≡ Some (n, T)
-place_back zero first n T least most small h = absurd (omega (arith, least, most))
-place_back (suc count) first n T least most small h = by_number (λ i. place_back count (first + 1) n T i (omega (arith, most)) small h) (nat_eq first n) refl
+place_back : (hosts : Hosts) (k first n : ℕ) (T : Target) → HaveOwnAddresses hosts → 1 ≤ first → first + k ≤ hosts.count + 1 → first ≤ n → n < first + k → IsWritten T
+    → place_of first (new_nodes hosts.base_of k first) (hosts.base_of n ++ path_of T) ≡ Some (n, T)
+place_back hosts zero first n T apart one within least most h = absurd (omega (arith, least, most))
+place_back hosts (suc k) first n T apart one within least most h =
+    by_number (λ i. place_back hosts k (first + 1) n T apart (omega (arith, one)) (omega (arith, within)) i (omega (arith, most)) h) (nat_eq first n) refl
   where
-    here : target_at (base_of n) (base_of n ++ path_of T) ≡ Some T
-    here = ap (option_and_then target_of) (prefix_back (base_of n) (path_of T)) ∙ target_back T h
+    here : target_at (hosts.base_of n) (hosts.base_of n ++ path_of T) ≡ Some T
+    here = ap (option_and_then target_of) (prefix_back (hosts.base_of n) (path_of T)) ∙ target_back T h
 
-    by_number : (first + 1 ≤ n → place_of (first + 1) (new_nodes count (first + 1)) (base_of n ++ path_of T) ≡ Some (n, T)) → (c : Bool) → nat_eq first n ≡ c
-        → place_or first (target_at (base_of first) (base_of n ++ path_of T)) (place_of (first + 1) (new_nodes count (first + 1)) (base_of n ++ path_of T)) ≡ Some (n, T)
+    later : Option (ℕ × Target)
+    later = place_of (first + 1) (new_nodes hosts.base_of k (first + 1)) (hosts.base_of n ++ path_of T)
+
+    by_number : (first + 1 ≤ n → later ≡ Some (n, T)) → (c : Bool) → nat_eq first n ≡ c → place_or first (target_at (hosts.base_of first) (hosts.base_of n ++ path_of T)) later ≡ Some (n, T)
     by_number rest true c =
         let same : first ≡ n = eqb-true first n c in
-        subst (λ k. place_or k (target_at (base_of k) (base_of n ++ path_of T)) (place_of (first + 1) (new_nodes count (first + 1)) (base_of n ++ path_of T)) ≡ Some (n, T)) (sym same)
-        (ap (λ o. place_or n o (place_of (first + 1) (new_nodes count (first + 1)) (base_of n ++ path_of T))) here)
+        subst (λ m. place_or m (target_at (hosts.base_of m) (hosts.base_of n ++ path_of T)) later ≡ Some (n, T)) (sym same) (ap (λ o. place_or n o later) here)
     by_number rest false c =
         let other : first ≡ n → ⊥ = eqb-false first n c in
-        ap (λ o. place_or first o (place_of (first + 1) (new_nodes count (first + 1)) (base_of n ++ path_of T)))
-        (other_base first n (path_of T) (omega (arith, least, small)) small other)
+        ap (λ o. place_or first o later)
+        (other_base hosts first n T apart (one, omega (arith, within)) (omega (arith, one, least), omega (arith, most, within)) other h)
         ∙ rest (omega (arith, least, other))
 
 -- An endpoint that a node wrote leads to that node and that target.
-pub leads_home : (count n : ℕ) (T : Target) → count < 2 ^ 64 → 1 ≤ n → n ≤ count → IsWritten T
-    → place_of 1 (new_nodes count 1) (endpoint_of (base_of n) T).address ≡ Some (n, T)
-leads_home count n T small least most h = place_back count 1 n T least (omega (arith, most)) (omega (arith, most, small)) h
+pub leads_home : (hosts : Hosts) (n : ℕ) (T : Target) → HaveOwnAddresses hosts → 1 ≤ n → n ≤ hosts.count → IsWritten T
+    → place_of 1 (new_nodes hosts.base_of hosts.count 1) (endpoint_of (hosts.base_of n) T).address ≡ Some (n, T)
+leads_home hosts n T apart least most h = place_back hosts hosts.count 1 n T apart (omega arith) (omega arith) least (omega (arith, most)) h
 
 -- where an address leads depends on the bases of the nodes alone
 abbrev pub HaveBases : List Node → List Node → Type 0

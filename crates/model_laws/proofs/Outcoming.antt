@@ -77,5 +77,5 @@ kept_law = record {
 
 pub keeps_outcomes : KeepsOutcomes
 unfolding kept_law
-keeps_outcomes count es n x b found up =
-    subst (IfThere (λ (b : Book). b.outcomes ≡ outcomes_after [] x.journal)) up (nodes_hold kept_law count (run_of count es) (run_reached count es) n x found)
+keeps_outcomes hosts es n x b found up =
+    subst (IfThere (λ (b : Book). b.outcomes ≡ outcomes_after [] x.journal)) up (nodes_hold kept_law hosts (run_of hosts es) (run_reached hosts es) n x found)

@@ -16,7 +16,7 @@ use Rattle.at_base.specs.declared.outs.Out.TheVariants as outs
 use Rattle.at_model.specs.Book.{Book, last_counter}
 use Rattle.at_model.specs.Recover.{recover, last_incarnation}
 use Rattle.at_model.specs.Step.{Outcome, Plan, still, items_of, plan, is_due, step}
-use Rattle.at_model.specs.World.{Node, Posted, World, WorldEvent, Turn, Ask, Crash, Up, Input, Deliver, Tick, Raw, Turning, nth, put_nth, opening, with_post, decoded, is_stopped, fate, fates_left, one_nearer, after_fate, sent, send_all, accepted_in, happened_at, counted, with_record, landed_step, absent_step, step_by, take_step, due_step, due_steps, put_book, goes_down, lost_in, turned, turn_from, take_turn, ticked, later, answer_plan, arrival_plan, is_receiver, deliver, turn, ask, started, up_after, start, on_book, down_only, at_node, at_some_node, node_of, world_step, run_on}
+use Rattle.at_model.specs.World.{Node, Posted, World, WorldEvent, Turn, Ask, Crash, Up, Input, Deliver, Tick, Raw, Turning, nth, put_nth, opening, with_post, decoded, is_stopped, fate, fates_left, one_nearer, after_fate, sent, send_all, accepted_in, happened_at, counted, with_record, landed_step, absent_step, step_by, take_step, due_step, due_steps, put_book, goes_down, lost_in, turned, turn_from, take_turn, ticked, later, answer_plan, arrival_plan, is_receiver, deliver, turn, ask, started, up_after, start, on_book, down_only, at_node, at_some_node, node_of, world_step, run_on, Hosts}
 use Rattle.model_laws.specs.Agreement.{IsIn}
 use Rattle.model_laws.specs.Behind.{IsInPhase}
 use Rattle.model_laws.specs.Drawn.{restarted, with_entry}
@@ -41,21 +41,21 @@ pub record NodeLaw : Type 1 where
   pub falls : (rs : List Record) (b : Book) → Good rs (Some b) → Good rs None
   pub rises : (base : List ℕ) (rs : List Record) → last_incarnation rs < last_counter → Good rs None → Good (restarted rs) (Some (recover base (restarted rs)))
 
-pub nodes_hold : (l : NodeLaw) (count : ℕ) (w : World) → Reached count w → (n : ℕ) (x : Node) → nth n w.nodes ≡ Some x → l.Good x.journal x.book
-nodes_hold l count w (opened is) n x found =
-    subst (λ (y : Node). l.Good y.journal y.book) (sym (opening_node count n x (ap (λ (v : World). nth n v.nodes) (sym is) ∙ found))) l.opens
-nodes_hold l count w (stepped u n x b e now landed ps reached found up heard posts is) m y f =
+pub nodes_hold : (l : NodeLaw) (hosts : Hosts) (w : World) → Reached hosts w → (n : ℕ) (x : Node) → nth n w.nodes ≡ Some x → l.Good x.journal x.book
+nodes_hold l hosts w (opened is) n x found =
+    subst (λ (y : Node). l.Good y.journal y.book) (sym (opening_node hosts n x (ap (λ (v : World). nth n v.nodes) (sym is) ∙ found))) l.opens
+nodes_hold l hosts w (stepped u n x b e now landed ps reached found up heard posts is) m y f =
     each_put (λ k z. l.Good z.journal z.book) u.nodes n x
     (record x { book = Some (step b e now landed).book; journal = with_entry (plan b e now).entry landed x.journal }) found
-    (l.steps x.journal b e now landed (subst (l.Good x.journal) up (nodes_hold l count u reached n x found))) (λ k z i r. nodes_hold l count u reached k z r) m y
+    (l.steps x.journal b e now landed (subst (l.Good x.journal) up (nodes_hold l hosts u reached n x found))) (λ k z i r. nodes_hold l hosts u reached k z r) m y
     (sym (ap (nth m) (ap (λ (v : World). v.nodes) is ∙ posted_nodes n ps (counts u n x b e now landed))) ∙ f)
-nodes_hold l count w (fell u n x b reached found up is) m y f =
+nodes_hold l hosts w (fell u n x b reached found up is) m y f =
     each_put (λ k z. l.Good z.journal z.book) u.nodes n x (record x { book = None }) found
-    (l.falls x.journal b (subst (l.Good x.journal) up (nodes_hold l count u reached n x found))) (λ k z i r. nodes_hold l count u reached k z r) m y
+    (l.falls x.journal b (subst (l.Good x.journal) up (nodes_hold l hosts u reached n x found))) (λ k z i r. nodes_hold l hosts u reached k z r) m y
     (sym (ap (λ (v : World). nth m v.nodes) (is ∙ ap (put_book n None (record u { happened = u.happened ++ lost_in n b })) found)) ∙ f)
-nodes_hold l count w (rose u n x stop reached found down small is) m y f =
+nodes_hold l hosts w (rose u n x stop reached found down small is) m y f =
     each_put (λ k z. l.Good z.journal z.book) u.nodes n x (up_after (started (last_incarnation x.journal + 1) x) stop) found
-    (by_stop stop (risen x.book refl down (nodes_hold l count u reached n x found))) (λ k z i r. nodes_hold l count u reached k z r) m y
+    (by_stop stop (risen x.book refl down (nodes_hold l hosts u reached n x found))) (λ k z i r. nodes_hold l hosts u reached k z r) m y
     (sym (ap (λ (v : World). nth m v.nodes) is) ∙ f)
   where
     risen : (o : Option Book) → x.book ≡ o → o ≡ None → l.Good x.journal o → l.Good (restarted x.journal) (Some (recover x.base (restarted x.journal)))
@@ -64,9 +64,9 @@ nodes_hold l count w (rose u n x stop reached found down small is) m y f =
     by_stop : (s : Bool) → l.Good (restarted x.journal) (Some (recover x.base (restarted x.journal))) → l.Good (restarted x.journal) (up_after (started (last_incarnation x.journal + 1) x) s).book
     by_stop true h = l.falls (restarted x.journal) (recover x.base (restarted x.journal)) h
     by_stop false h = h
-nodes_hold l count w (waited u n x clock reached found is) m y f =
-    each_put (λ k z. l.Good z.journal z.book) u.nodes n x (record x { clock = clock }) found (nodes_hold l count u reached n x found)
-    (λ k z i r. nodes_hold l count u reached k z r) m y
+nodes_hold l hosts w (waited u n x clock reached found is) m y f =
+    each_put (λ k z. l.Good z.journal z.book) u.nodes n x (record x { clock = clock }) found (nodes_hold l hosts u reached n x found)
+    (λ k z i r. nodes_hold l hosts u reached k z r) m y
     (sym (ap (λ (v : World). nth m v.nodes) is) ∙ f)
 
 -- what a start gives and each step keeps holds of each book
@@ -81,21 +81,21 @@ book_law P starts stays = record {
 }
 
 -- the lists of each book are in order
-pub in_order : (count : ℕ) (w : World) → Reached count w → (n : ℕ) (x : Node) → nth n w.nodes ≡ Some x → IfThere IsInOrder x.book
+pub in_order : (hosts : Hosts) (w : World) → Reached hosts w → (n : ℕ) (x : Node) → nth n w.nodes ≡ Some x → IfThere IsInOrder x.book
 unfolding book_law
-in_order count w reached n x found = nodes_hold (book_law IsInOrder ids_rise.started ids_rise.stays) count w reached n x found
+in_order hosts w reached n x found = nodes_hold (book_law IsInOrder ids_rise.started ids_rise.stays) hosts w reached n x found
 
 -- each book stands behind the answers of its phases
-pub in_phase : (count : ℕ) (w : World) → Reached count w → (n : ℕ) (x : Node) → nth n w.nodes ≡ Some x → IfThere IsInPhase x.book
+pub in_phase : (hosts : Hosts) (w : World) → Reached hosts w → (n : ℕ) (x : Node) → nth n w.nodes ≡ Some x → IfThere IsInPhase x.book
 unfolding book_law
-in_phase count w reached n x found =
-    nodes_hold (book_law IsInPhase (λ base rs. decides_behind_every_answer.recovered base (restarted rs)) decides_behind_every_answer.book) count w reached n x found
+in_phase hosts w reached n x found =
+    nodes_hold (book_law IsInPhase (λ base rs. decides_behind_every_answer.recovered base (restarted rs)) decides_behind_every_answer.book) hosts w reached n x found
 
 -- what holds of reached worlds and is kept by each way in which they go on
 pub record Closed : Type 1 where
-  pub count : ℕ
+  pub hosts : Hosts
   pub Holds : World → Type 0
-  pub reached : (w : World) → Holds w → Reached count w
+  pub reached : (w : World) → Holds w → Reached hosts w
   pub steps : (u : World) (n : ℕ) (x : Node) (b : Book) (e : Event) (now : ℕ) (landed : Bool) (ps : List Post) → Holds u → nth n u.nodes ≡ Some x → x.book ≡ Some b → Heard u n x e
       → AllByRecursion (λ p. IsIn (outs.Post p) (step b e now landed).outs) ps → Holds (post_all n ps (counts u n x b e now landed))
   pub falls : (u : World) (n : ℕ) (x : Node) (b : Book) → Holds u → nth n u.nodes ≡ Some x → x.book ≡ Some b → Holds (goes_down n b u)
@@ -282,7 +282,7 @@ answer_reached : (c : Closed) (n : ℕ) (r : Turning) (status : ℕ) → TurnRea
 answer_reached c n r status h = by_stop (is_stopped r)
   where
     order : IsInOrder r.book
-    order = in_order c.count (newest n h.node r) (c.reached (newest n h.node r) h.reached) n (record h.node { book = Some r.book }) (put_this r.world.nodes n h.node (record h.node { book = Some r.book }) h.found)
+    order = in_order c.hosts (newest n h.node r) (c.reached (newest n h.node r) h.reached) n (record h.node { book = Some r.book }) (put_this r.world.nodes n h.node (record h.node { book = Some r.book }) h.found)
 
     same : record r.world {
       accepted = r.world.accepted ++ accepted_in n r.world.nodes r.book r.book.transactions;
@@ -460,10 +460,10 @@ all_reached c [] w h = h
 all_reached c (e ∷ es) w h = all_reached c es (world_step w e) (step_reached c w e h)
 
 -- the worlds that are reached themselves
-abbrev reached_worlds : ℕ → Closed
-reached_worlds count = record {
-  count = count;
-  Holds = Reached count;
+abbrev reached_worlds : Hosts → Closed
+reached_worlds hosts = record {
+  hosts = hosts;
+  Holds = Reached hosts;
   reached = λ w h. h;
   steps = λ u n x b e now landed ps h found up heard those. stepped u n x b e now landed ps h found up heard those refl;
   falls = λ u n x b h found up. fell u n x b h found up refl;
@@ -472,4 +472,4 @@ reached_worlds count = record {
 }
 
 pub run_reached : RunsAreReached
-run_reached count es = all_reached (reached_worlds count) es (opening count) (opened refl)
+run_reached hosts es = all_reached (reached_worlds hosts) es (opening hosts) (opened refl)

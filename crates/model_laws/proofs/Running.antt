@@ -16,7 +16,7 @@ use Rattle.at_model.specs.Recover.{recover, last_incarnation}
 use Rattle.model_laws.specs.Drawn.{Life, LifeEvent, Stepped, Stopped, Started, live_through, life_of, with_entry, made_in, made_through, new_ids, AreApart, restarted}
 use Rattle.model_laws.specs.Order.{IsInOrderWhileUp}
 use Rattle.at_model.specs.Step.{Outcome, Plan, still, items_of, plan, step, is_due}
-use Rattle.at_model.specs.World.{Node, Posted, World, WorldEvent, Turn, Ask, Crash, Up, Input, Deliver, Tick, Raw, Turning, nth, put_nth, base_of, new_node, new_nodes, opening, is_stopped, fate, after_fate, sent, send_all, counted, with_record, landed_step, absent_step, step_by, take_step, due_step, due_steps, put_book, goes_down, lost_in, turned, turn_from, take_turn, ticked, later, answer_plan, arrival_plan, is_receiver, deliver, decoded, turn, ask, started, up_after, start, on_book, down_only, at_node, at_some_node, node_of, world_step, run_on, run_of}
+use Rattle.at_model.specs.World.{Node, Posted, World, WorldEvent, Turn, Ask, Crash, Up, Input, Deliver, Tick, Raw, Turning, nth, put_nth, new_node, new_nodes, opening, is_stopped, fate, after_fate, sent, send_all, counted, with_record, landed_step, absent_step, step_by, take_step, due_step, due_steps, put_book, goes_down, lost_in, turned, turn_from, take_turn, ticked, later, answer_plan, arrival_plan, is_receiver, deliver, decoded, turn, ask, started, up_after, start, on_book, down_only, at_node, at_some_node, node_of, world_step, run_on, run_of, Hosts}
 use Rattle.model_laws.specs.Made.{made_by, made_by_due, made_by_turn, made_by_delivery, made_by_input, made_while_up, made_by_event, made_on, HasLived, MakesNoIdTwice}
 use Rattle.model_laws.proofs.Once.{held_all, all_none, no_id_made_twice}
 use Rattle.model_laws.proofs.Ordering.{ids_rise}
@@ -477,28 +477,28 @@ two_of n h i = omega (arith, h, i)
 same_place : (n m : ℕ) → 1 ≤ n → n - 1 + (m + 1) - 1 ≡ n + m - 1
 same_place n m h = omega (arith, h)
 
-opened : (k m n : ℕ) (x : Node) → 1 ≤ n → nth n (new_nodes k m) ≡ Some x → x ≡ new_node (n + m - 1)
-opened zero m n x h e = absurd cc
-opened (suc k) m n x h e = by_number (λ i f. opened k (m + 1) (n - 1) x i f) (nat_eq n 1) refl e
+opened : (base_of : ℕ → List ℕ) (k m n : ℕ) (x : Node) → 1 ≤ n → nth n (new_nodes base_of k m) ≡ Some x → x ≡ new_node (base_of (n + m - 1))
+opened base_of zero m n x h e = absurd cc
+opened base_of (suc k) m n x h e = by_number (λ i f. opened base_of k (m + 1) (n - 1) x i f) (nat_eq n 1) refl e
   where
     first : (y z : Node) → Some y ≡ Some z → z ≡ y
     first y z e = cc
 
-    by_number : (1 ≤ n - 1 → nth (n - 1) (new_nodes k (m + 1)) ≡ Some x → x ≡ new_node (n - 1 + (m + 1) - 1)) → (c : Bool) → nat_eq n 1 ≡ c
-        → (if c then Some (new_node m) else nth (n - 1) (new_nodes k (m + 1))) ≡ Some x → x ≡ new_node (n + m - 1)
-    by_number rest true c e = first (new_node m) x e ∙ ap new_node (omega (arith, eqb-true n 1 c))
-    by_number rest false c e = rest (two_of n h (eqb-false n 1 c)) e ∙ ap new_node (same_place n m h)
+    by_number : (1 ≤ n - 1 → nth (n - 1) (new_nodes base_of k (m + 1)) ≡ Some x → x ≡ new_node (base_of (n - 1 + (m + 1) - 1))) → (c : Bool) → nat_eq n 1 ≡ c
+        → (if c then Some (new_node (base_of m)) else nth (n - 1) (new_nodes base_of k (m + 1))) ≡ Some x → x ≡ new_node (base_of (n + m - 1))
+    by_number rest true c e = first (new_node (base_of m)) x e ∙ ap (λ i. new_node (base_of i)) (omega (arith, eqb-true n 1 c))
+    by_number rest false c e = rest (two_of n h (eqb-false n 1 c)) e ∙ ap (λ i. new_node (base_of i)) (same_place n m h)
 
-pub opening_node : (count n : ℕ) (x : Node) → nth n (opening count).nodes ≡ Some x → x ≡ new_node n
-opening_node count zero x e = absurd (none_found (nth 0 (new_nodes count 1)) x (none_at_zero (new_nodes count 1)) e)
+pub opening_node : (hosts : Hosts) (n : ℕ) (x : Node) → nth n (opening hosts).nodes ≡ Some x → x ≡ new_node (hosts.base_of n)
+opening_node hosts zero x e = absurd (none_found (nth 0 (new_nodes hosts.base_of hosts.count 1)) x (none_at_zero (new_nodes hosts.base_of hosts.count 1)) e)
   where
     none_found : (o : Option Node) (x : Node) → o ≡ None → o ≡ Some x → ⊥
     none_found o x e f = cc
-opening_node count (suc n) x e = opened count 1 (suc n) x (omega arith) e ∙ ap new_node (omega arith)
+opening_node hosts (suc n) x e = opened hosts.base_of hosts.count 1 (suc n) x (omega arith) e ∙ ap (λ i. new_node (hosts.base_of i)) (omega arith)
 
-run_from : (count n : ℕ) (es : List WorldEvent) (x : Node) → nth n (opening count).nodes ≡ Some x → Ran n (base_of n) (new_node n) (run_of count es) (made_on n (opening count) es)
-run_from count n es x h =
-    runs n (base_of n) es (new_node n) (opening count) (subst (λ y. nth n (opening count).nodes ≡ Some y) (opening_node count n x h) h) refl
+run_from : (hosts : Hosts) (n : ℕ) (es : List WorldEvent) (x : Node) → nth n (opening hosts).nodes ≡ Some x → Ran n (hosts.base_of n) (new_node (hosts.base_of n)) (run_of hosts es) (made_on n (opening hosts) es)
+run_from hosts n es x h =
+    runs n (hosts.base_of n) es (new_node (hosts.base_of n)) (opening hosts) (subst (λ y. nth n (opening hosts).nodes ≡ Some y) (opening_node hosts n x h) h) refl
 
 same_node : (o : Option Node) (x y : Node) → o ≡ Some x → o ≡ Some y → x ≡ y
 same_node o x y e f = cc
@@ -506,14 +506,14 @@ same_node o x y e f = cc
 not_there : (o : Option Node) (x : Node) → o ≡ None → o ≡ Some x → ⊥
 not_there o x e f = cc
 
-lived : (count n : ℕ) (es : List WorldEvent) (x : Node) → nth n (run_of count es).nodes ≡ Some x → HasLived (base_of n) x (made_on n (opening count) es)
-lived count n es x h = by_node (nth n (opening count).nodes) refl
+lived : (hosts : Hosts) (n : ℕ) (es : List WorldEvent) (x : Node) → nth n (run_of hosts es).nodes ≡ Some x → HasLived (hosts.base_of n) x (made_on n (opening hosts) es)
+lived hosts n es x h = by_node (nth n (opening hosts).nodes) refl
   where
-    by_node : (o : Option Node) → nth n (opening count).nodes ≡ o → HasLived (base_of n) x (made_on n (opening count) es)
-    by_node None e = absurd (not_there (nth n (run_of count es).nodes) x (nowhere n es (opening count) e).0 h)
+    by_node : (o : Option Node) → nth n (opening hosts).nodes ≡ o → HasLived (hosts.base_of n) x (made_on n (opening hosts) es)
+    by_node None e = absurd (not_there (nth n (run_of hosts es).nodes) x (nowhere n es (opening hosts) e).0 h)
     by_node (Some y) e =
-        let r : Ran n (base_of n) (new_node n) (run_of count es) (made_on n (opening count) es) = run_from count n es y e in
-        let same : r.node ≡ x = same_node (nth n (run_of count es).nodes) r.node x r.found h in
+        let r : Ran n (hosts.base_of n) (new_node (hosts.base_of n)) (run_of hosts es) (made_on n (opening hosts) es) = run_from hosts n es y e in
+        let same : r.node ≡ x = same_node (nth n (run_of hosts es).nodes) r.node x r.found h in
         record {
           events = r.lives.events;
           journal = ap (λ (l : Life). l.journal) r.lives.life ∙ ap (λ (z : Node). z.journal) same;
@@ -521,20 +521,20 @@ lived count n es x h = by_node (nth n (opening count).nodes) refl
           made = r.lives.makes;
         }
 
-apart : (count n : ℕ) (es : List WorldEvent) → AreApart (made_on n (opening count) es)
-apart count n es = by_node (nth n (opening count).nodes) refl
+apart : (hosts : Hosts) (n : ℕ) (es : List WorldEvent) → AreApart (made_on n (opening hosts) es)
+apart hosts n es = by_node (nth n (opening hosts).nodes) refl
   where
-    by_node : (o : Option Node) → nth n (opening count).nodes ≡ o → AreApart (made_on n (opening count) es)
-    by_node None e = subst AreApart (sym (nowhere n es (opening count) e).1) tt
+    by_node : (o : Option Node) → nth n (opening hosts).nodes ≡ o → AreApart (made_on n (opening hosts) es)
+    by_node None e = subst AreApart (sym (nowhere n es (opening hosts) e).1) tt
     by_node (Some y) e =
-        let r : Ran n (base_of n) (new_node n) (run_of count es) (made_on n (opening count) es) = run_from count n es y e in
-        subst AreApart r.lives.makes (no_id_made_twice.life (base_of n) r.lives.events)
+        let r : Ran n (hosts.base_of n) (new_node (hosts.base_of n)) (run_of hosts es) (made_on n (opening hosts) es) = run_from hosts n es y e in
+        subst AreApart r.lives.makes (no_id_made_twice.life (hosts.base_of n) r.lives.events)
 
 pub makes_no_id_twice : MakesNoIdTwice
 makes_no_id_twice = record {
   apart = apart;
   lived = lived;
-  order = λ count n es x h.
-      let l : HasLived (base_of n) x (made_on n (opening count) es) = lived count n es x h in
-      subst IsInOrderWhileUp l.book (ids_rise.life (base_of n) l.events);
+  order = λ hosts n es x h.
+      let l : HasLived (hosts.base_of n) x (made_on n (opening hosts) es) = lived hosts n es x h in
+      subst IsInOrderWhileUp l.book (ids_rise.life (hosts.base_of n) l.events);
 }

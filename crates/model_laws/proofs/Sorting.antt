@@ -12,7 +12,7 @@ use Rattle.at_base.specs.declared.event.Event.{Event}
 use Rattle.at_model.specs.Book.{Book, is_id, transaction_id, leaf_id, activity_id, next_id}
 use Rattle.at_model.specs.Recover.{recover, last_incarnation, live, is_before, is_sub_committed, recovered_voted, transactions_of, leaves_of}
 use Rattle.at_model.specs.Step.{Outcome, at_time, make_transaction, make_leaf, make_activity, plan, step}
-use Rattle.at_model.specs.World.{Node, World, nth, run_of}
+use Rattle.at_model.specs.World.{Node, World, nth, run_of, Hosts}
 use Rattle.model_laws.specs.Agreement.{IsIn}
 use Rattle.model_laws.specs.Drawn.{AreApart, ids_of, restarted, with_entry}
 use Rattle.model_laws.specs.Laws.{IsDrawn, KeepsPlace}
@@ -280,9 +280,9 @@ sorted_law = record {
   rises = λ base rs small h. rises_up base rs h;
 }
 
-node_sorted : (count : ℕ) (w : World) → Reached count w → (n : ℕ) (x : Node) → nth n w.nodes ≡ Some x → IsKnown x.journal x.book
+node_sorted : (hosts : Hosts) (w : World) → Reached hosts w → (n : ℕ) (x : Node) → nth n w.nodes ≡ Some x → IsKnown x.journal x.book
 unfolding sorted_law
-node_sorted count w reached n x found = nodes_hold sorted_law count w reached n x found
+node_sorted hosts w reached n x found = nodes_hold sorted_law hosts w reached n x found
 
 -- ids that differ
 behind_none : (id : Numbers) (rest : List Numbers) → AllByRecursion (λ i. is_before id i ≡ true) rest → IsIn id rest → ⊥
@@ -332,6 +332,6 @@ book_apart s b h o =
     transaction_activity S e f = cc
 
 pub holds_no_id_twice : HoldsNoIdTwice
-holds_no_id_twice count n es x b found up =
-    let h : IsUp x.journal b = subst (IsKnown x.journal) up (node_sorted count (run_of count es) (run_reached count es) n x found) in
-    book_apart h.sorts b h.book (subst (IfThere IsInOrder) up (in_order count (run_of count es) (run_reached count es) n x found))
+holds_no_id_twice hosts n es x b found up =
+    let h : IsUp x.journal b = subst (IsKnown x.journal) up (node_sorted hosts (run_of hosts es) (run_reached hosts es) n x found) in
+    book_apart h.sorts b h.book (subst (IfThere IsInOrder) up (in_order hosts (run_of hosts es) (run_reached hosts es) n x found))

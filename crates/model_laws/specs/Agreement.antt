@@ -18,7 +18,7 @@ use Rattle.at_base.specs.declared.outs.Told.TheVariants as tellings
 use Rattle.at_base.specs.declared.outs.Effect.{Effect}
 use Rattle.at_base.specs.declared.outs.Effect.TheVariants as effects
 use Rattle.at_model.specs.Book.{is_id}
-use Rattle.at_model.specs.World.{Node, Who, Posted, Happened, World, WorldEvent, nth, happened_at, run_of}
+use Rattle.at_model.specs.World.{Node, Who, Posted, Happened, World, WorldEvent, nth, happened_at, run_of, Hosts, HaveOwnAddresses}
 
 abbrev pub IsIn : {A : Type 0} → A → List A → Type 0
 IsIn x [] = ⊥
@@ -114,6 +114,6 @@ HasOneSuperior w =
 -- Agreement, stated of every run of fewer than 2^64 nodes, whatever is delivered, lost, repeated, reordered, stopped or
 -- crashed.
 pub record Agrees : Type 0 where
-  pub agreed : (count : ℕ) (es : List WorldEvent) → count < 2 ^ 64 → IsAgreed (run_of count es)
-  pub behind : (count : ℕ) (es : List WorldEvent) → count < 2 ^ 64 → IsBehindAnswers (run_of count es)
-  pub told : (count : ℕ) (es : List WorldEvent) → count < 2 ^ 64 → IsToldTruly (run_of count es)
+  pub agreed : (hosts : Hosts) (es : List WorldEvent) → HaveOwnAddresses hosts → IsAgreed (run_of hosts es)
+  pub behind : (hosts : Hosts) (es : List WorldEvent) → HaveOwnAddresses hosts → IsBehindAnswers (run_of hosts es)
+  pub told : (hosts : Hosts) (es : List WorldEvent) → HaveOwnAddresses hosts → IsToldTruly (run_of hosts es)

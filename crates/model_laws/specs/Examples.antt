@@ -12,7 +12,7 @@ use Rattle.at_base.specs.declared.outs.Ending.TheVariants as endings
 use Rattle.at_base.specs.declared.outs.Told.TheVariants as tellings
 use Rattle.at_base.specs.declared.outs.Effect.TheVariants as effects
 use Rattle.at_model.specs.Addresses.{endpoint_of}
-use Rattle.at_model.specs.World.{Node, World, base_of, nth, WorldEvent, run_on, run_of, Deliver, Turn, Crash}
+use Rattle.at_model.specs.World.{Node, World, nth, WorldEvent, run_on, run_of, Deliver, Turn, Crash, example_base, example_hosts}
 use Rattle.model_laws.specs.Settle.{settle, is_settled, settle_rounds, most_deliveries, waiting, all_up}
 use Rattle.at_model.specs.Views.{line, lines_from, at, id_at, up, deliver_to, tick_at, begin_at, work_at, interpose_at, commit_at}
 
@@ -42,7 +42,7 @@ plain_path =
 
 abbrev pub PlainPathMessages : Type 0
 PlainPathMessages =
-    lines_from 1 (run_of 3 plain_path)
+    lines_from 1 (run_of (example_hosts 3) plain_path)
     ≡ line 1 2 (codes "CreateCoordinationContext") (codes "/activation")
     ∷ line 2 1 (codes "CreateCoordinationContextResponse") (codes "/i/1-1")
     ∷ line 1 2 (codes "Register") (codes "/registration/1-1") ∷ line 2 1 (codes "RegisterResponse") (codes "/i/1-1")
@@ -54,7 +54,7 @@ PlainPathMessages =
 
 abbrev pub PlainPathEffects : Type 0
 PlainPathEffects =
-    (run_of 3 plain_path).happened
+    (run_of (example_hosts 3) plain_path).happened
     ≡ at 2 (effects.Root first endings.Committed) ∷ at 3 (effects.Leaf first kinds.Durable endings.Committed)
     ∷ at 1 (effects.Told first tellings.Committed) ∷ []
 
@@ -66,12 +66,12 @@ no_participant =
 
 abbrev pub NoParticipantMessages : Type 0
 NoParticipantMessages =
-    lines_from 6 (run_of 2 no_participant)
+    lines_from 6 (run_of (example_hosts 2) no_participant)
     ≡ line 2 1 (codes "Committed") (codes "/i/1-1") ∷ []
 
 abbrev pub NoParticipantEffects : Type 0
 NoParticipantEffects =
-    (run_of 2 no_participant).happened
+    (run_of (example_hosts 2) no_participant).happened
     ≡ at 2 (effects.Root first endings.Committed) ∷ at 1 (effects.Told first tellings.Committed) ∷ []
 
 -- A volatile participant is asked before the durable one.
@@ -84,7 +84,7 @@ volatile_first =
 
 abbrev pub VolatileFirstMessages : Type 0
 VolatileFirstMessages =
-    lines_from 14 (run_of 3 volatile_first)
+    lines_from 14 (run_of (example_hosts 3) volatile_first)
     ≡ line 2 3 (codes "Prepare") (codes "/p/v/1-2") ∷ line 3 2 (codes "Prepared") (codes "/c/v/1-1/2")
     ∷ line 2 3 (codes "Prepare") (codes "/p/d/1-1") ∷ line 3 2 (codes "Prepared") (codes "/c/d/1-1/1")
     ∷ line 2 3 (codes "Commit") (codes "/p/d/1-1") ∷ line 2 3 (codes "Commit") (codes "/p/v/1-2")
@@ -93,7 +93,7 @@ VolatileFirstMessages =
 
 abbrev pub VolatileFirstEffects : Type 0
 VolatileFirstEffects =
-    (run_of 3 volatile_first).happened
+    (run_of (example_hosts 3) volatile_first).happened
     ≡ at 2 (effects.Root first endings.Committed) ∷ at 3 (effects.Leaf first kinds.Durable endings.Committed)
     ∷ at 3 (effects.Leaf (id_at 1 2) kinds.Volatile endings.Committed) ∷ at 1 (effects.Told first tellings.Committed)
     ∷ []
@@ -106,12 +106,12 @@ read_only =
 
 abbrev pub ReadOnlyMessages : Type 0
 ReadOnlyMessages =
-    lines_from 11 (run_of 3 read_only)
+    lines_from 11 (run_of (example_hosts 3) read_only)
     ≡ line 3 2 (codes "ReadOnly") (codes "/c/d/1-1/1") ∷ line 2 1 (codes "Committed") (codes "/i/1-1") ∷ []
 
 abbrev pub ReadOnlyEffects : Type 0
 ReadOnlyEffects =
-    (run_of 3 read_only).happened
+    (run_of (example_hosts 3) read_only).happened
     ≡ at 2 (effects.Root first endings.Committed) ∷ at 1 (effects.Told first tellings.Committed) ∷ []
 
 -- One of two participants votes Aborted: the other is rolled back.
@@ -124,14 +124,14 @@ one_aborts =
 
 abbrev pub OneAbortsMessages : Type 0
 OneAbortsMessages =
-    lines_from 16 (run_of 3 one_aborts)
+    lines_from 16 (run_of (example_hosts 3) one_aborts)
     ≡ line 3 2 (codes "Prepared") (codes "/c/d/1-1/1") ∷ line 3 2 (codes "Aborted") (codes "/c/d/1-1/2")
     ∷ line 2 3 (codes "Rollback") (codes "/p/d/1-1") ∷ line 2 1 (codes "Aborted") (codes "/i/1-1")
     ∷ line 3 2 (codes "Aborted") (codes "/c/d/1-1/1") ∷ []
 
 abbrev pub OneAbortsEffects : Type 0
 OneAbortsEffects =
-    (run_of 3 one_aborts).happened
+    (run_of (example_hosts 3) one_aborts).happened
     ≡ at 3 (effects.Leaf (id_at 1 2) kinds.Durable endings.Aborted) ∷ at 2 (effects.Root first endings.Aborted)
     ∷ at 3 (effects.Leaf first kinds.Durable endings.Aborted) ∷ at 1 (effects.Told first tellings.Aborted) ∷ []
 
@@ -144,14 +144,14 @@ late_register =
 
 abbrev pub LateRegisterMessages : Type 0
 LateRegisterMessages =
-    lines_from 11 (run_of 3 late_register)
+    lines_from 11 (run_of (example_hosts 3) late_register)
     ≡ line 2 3 (codes "Prepare") (codes "/p/d/1-1") ∷ line 3 2 (codes "Register") (codes "/registration/1-1")
     ∷ line 2 3 (codes "CannotRegisterParticipant") (codes "/p/d/1-2")
     ∷ line 3 1 (codes "WorkRefused") (codes "/i/1-1") ∷ []
 
 abbrev pub LateRegisterEffects : Type 0
 LateRegisterEffects =
-    (run_of 3 late_register).happened
+    (run_of (example_hosts 3) late_register).happened
     ≡ at 3 (effects.Leaf (id_at 1 2) kinds.Durable endings.Aborted) ∷ []
 
 -- A Register that arrives twice is answered alike, and makes one seat.
@@ -162,13 +162,13 @@ register_twice =
 
 abbrev pub RegisterTwiceMessages : Type 0
 RegisterTwiceMessages =
-    lines_from 7 (run_of 3 register_twice)
+    lines_from 7 (run_of (example_hosts 3) register_twice)
     ≡ line 2 3 (codes "RegisterResponse") (codes "/p/d/1-1") ∷ line 2 3 (codes "RegisterResponse") (codes "/p/d/1-1")
     ∷ []
 
 abbrev pub RegisterTwiceEffects : Type 0
 RegisterTwiceEffects =
-    (run_of 3 register_twice).happened
+    (run_of (example_hosts 3) register_twice).happened
     ≡ []
 
 -- A participant that crashed before its vote comes up in a new incarnation, and answers Aborted for its old one.
@@ -182,7 +182,7 @@ new_incarnation =
 
 abbrev pub NewIncarnationMessages : Type 0
 NewIncarnationMessages =
-    lines_from 14 (run_of 3 new_incarnation)
+    lines_from 14 (run_of (example_hosts 3) new_incarnation)
     ≡ line 2 3 (codes "Prepare") (codes "/p/d/1-1") ∷ line 2 3 (codes "Prepare") (codes "/p/d/2-1")
     ∷ line 3 2 (codes "Aborted") (codes "/c/d/1-1/1") ∷ line 3 2 (codes "Prepared") (codes "/c/d/1-1/2")
     ∷ line 2 3 (codes "Rollback") (codes "/p/d/2-1") ∷ line 2 1 (codes "Aborted") (codes "/i/1-1")
@@ -191,7 +191,7 @@ NewIncarnationMessages =
 
 abbrev pub NewIncarnationEffects : Type 0
 NewIncarnationEffects =
-    (run_of 3 new_incarnation).happened
+    (run_of (example_hosts 3) new_incarnation).happened
     ≡ at 3 (effects.Leaf first kinds.Durable endings.Lost) ∷ at 2 (effects.Root first endings.Aborted)
     ∷ at 3 (effects.Leaf (id_at 2 1) kinds.Durable endings.Aborted) ∷ at 1 (effects.Told first tellings.Aborted) ∷ []
 
@@ -204,13 +204,13 @@ prepare_again =
 
 abbrev pub PrepareAgainMessages : Type 0
 PrepareAgainMessages =
-    lines_from 15 (run_of 3 prepare_again)
+    lines_from 15 (run_of (example_hosts 3) prepare_again)
     ≡ line 3 2 (codes "Aborted") (codes "/c/d/1-1/1") ∷ line 2 3 (codes "InvalidState") (codes "/p/d/1-1")
     ∷ line 2 3 (codes "Commit") (codes "/p/d/1-1") ∷ line 3 2 (codes "Committed") (codes "/c/d/1-1/1") ∷ []
 
 abbrev pub PrepareAgainEffects : Type 0
 PrepareAgainEffects =
-    (run_of 3 prepare_again).happened
+    (run_of (example_hosts 3) prepare_again).happened
     ≡ at 2 (effects.Root first endings.Committed) ∷ at 3 (effects.Leaf first kinds.Durable endings.Committed) ∷ []
 
 -- A stop before the vote stands: the participant is lost, and abort is presumed.
@@ -222,13 +222,13 @@ stop_before_vote =
 
 abbrev pub StopBeforeVoteMessages : Type 0
 StopBeforeVoteMessages =
-    lines_from 11 (run_of 3 stop_before_vote)
+    lines_from 11 (run_of (example_hosts 3) stop_before_vote)
     ≡ line 2 3 (codes "Prepare") (codes "/p/d/1-1") ∷ line 3 2 (codes "Aborted") (codes "/c/d/1-1/1")
     ∷ line 2 1 (codes "Aborted") (codes "/i/1-1") ∷ []
 
 abbrev pub StopBeforeVoteEffects : Type 0
 StopBeforeVoteEffects =
-    (run_of 3 stop_before_vote).happened
+    (run_of (example_hosts 3) stop_before_vote).happened
     ≡ at 3 (effects.Leaf first kinds.Durable endings.Lost) ∷ at 2 (effects.Root first endings.Aborted)
     ∷ at 1 (effects.Told first tellings.Aborted) ∷ []
 
@@ -241,13 +241,13 @@ stop_behind_vote =
 
 abbrev pub StopBehindVoteMessages : Type 0
 StopBehindVoteMessages =
-    lines_from 11 (run_of 3 stop_behind_vote)
+    lines_from 11 (run_of (example_hosts 3) stop_behind_vote)
     ≡ line 3 2 (codes "Prepared") (codes "/c/d/1-1/1") ∷ line 2 3 (codes "Commit") (codes "/p/d/1-1")
     ∷ line 2 1 (codes "Committed") (codes "/i/1-1") ∷ line 3 2 (codes "Committed") (codes "/c/d/1-1/1") ∷ []
 
 abbrev pub StopBehindVoteEffects : Type 0
 StopBehindVoteEffects =
-    (run_of 3 stop_behind_vote).happened
+    (run_of (example_hosts 3) stop_behind_vote).happened
     ≡ at 2 (effects.Root first endings.Committed) ∷ at 3 (effects.Leaf first kinds.Durable endings.Committed)
     ∷ at 1 (effects.Told first tellings.Committed) ∷ []
 
@@ -260,13 +260,13 @@ decision_refused =
 
 abbrev pub DecisionRefusedMessages : Type 0
 DecisionRefusedMessages =
-    lines_from 12 (run_of 3 decision_refused)
+    lines_from 12 (run_of (example_hosts 3) decision_refused)
     ≡ line 2 3 (codes "Rollback") (codes "/p/d/1-1") ∷ line 2 1 (codes "Aborted") (codes "/i/1-1")
     ∷ line 3 2 (codes "Aborted") (codes "/c/d/1-1/1") ∷ []
 
 abbrev pub DecisionRefusedEffects : Type 0
 DecisionRefusedEffects =
-    (run_of 3 decision_refused).happened
+    (run_of (example_hosts 3) decision_refused).happened
     ≡ at 2 (effects.Root first endings.Aborted) ∷ at 3 (effects.Leaf first kinds.Durable endings.Aborted)
     ∷ at 1 (effects.Told first tellings.Aborted) ∷ []
 
@@ -279,14 +279,14 @@ halt_behind_decision =
 
 abbrev pub HaltBehindDecisionMessages : Type 0
 HaltBehindDecisionMessages =
-    lines_from 12 (run_of 3 halt_behind_decision)
+    lines_from 12 (run_of (example_hosts 3) halt_behind_decision)
     ≡ line 2 3 (codes "Commit") (codes "/p/d/1-1") ∷ line 3 2 (codes "Committed") (codes "/c/d/1-1/1")
     ∷ line 1 2 (codes "Commit") (codes "/completion/1-1") ∷ line 2 1 (codes "Committed") (codes "/i/1-1")
     ∷ []
 
 abbrev pub HaltBehindDecisionEffects : Type 0
 HaltBehindDecisionEffects =
-    (run_of 3 halt_behind_decision).happened
+    (run_of (example_hosts 3) halt_behind_decision).happened
     ≡ at 2 (effects.Root first endings.Committed) ∷ at 3 (effects.Leaf first kinds.Durable endings.Committed)
     ∷ at 1 (effects.Told first tellings.Committed) ∷ []
 
@@ -298,12 +298,12 @@ expiry =
 
 abbrev pub ExpiryMessages : Type 0
 ExpiryMessages =
-    lines_from 11 (run_of 3 expiry)
+    lines_from 11 (run_of (example_hosts 3) expiry)
     ≡ line 2 3 (codes "Rollback") (codes "/p/d/1-1") ∷ line 2 1 (codes "Aborted") (codes "/i/1-1") ∷ []
 
 abbrev pub ExpiryEffects : Type 0
 ExpiryEffects =
-    (run_of 3 expiry).happened
+    (run_of (example_hosts 3) expiry).happened
     ≡ at 2 (effects.Root first endings.Aborted) ∷ []
 
 -- A root that has decided does not expire: it sends Commit again.
@@ -314,12 +314,12 @@ no_expiry_behind_decision =
 
 abbrev pub NoExpiryBehindDecisionMessages : Type 0
 NoExpiryBehindDecisionMessages =
-    lines_from 14 (run_of 3 no_expiry_behind_decision)
+    lines_from 14 (run_of (example_hosts 3) no_expiry_behind_decision)
     ≡ line 2 3 (codes "Commit") (codes "/p/d/1-1") ∷ []
 
 abbrev pub NoExpiryBehindDecisionEffects : Type 0
 NoExpiryBehindDecisionEffects =
-    (run_of 3 no_expiry_behind_decision).happened
+    (run_of (example_hosts 3) no_expiry_behind_decision).happened
     ≡ at 2 (effects.Root first endings.Committed) ∷ []
 
 -- A root that ended and crashed comes up with nothing to do.
@@ -330,12 +330,12 @@ end_stands =
 
 abbrev pub EndStandsMessages : Type 0
 EndStandsMessages =
-    lines_from 15 (run_of 3 end_stands)
+    lines_from 15 (run_of (example_hosts 3) end_stands)
     ≡ []
 
 abbrev pub EndStandsEffects : Type 0
 EndStandsEffects =
-    (run_of 3 end_stands).happened
+    (run_of (example_hosts 3) end_stands).happened
     ≡ at 2 (effects.Root first endings.Committed) ∷ at 3 (effects.Leaf first kinds.Durable endings.Committed)
     ∷ at 1 (effects.Told first tellings.Committed) ∷ []
 
@@ -347,14 +347,14 @@ rollback_on_volatile_link =
 
 abbrev pub RollbackOnVolatileLinkMessages : Type 0
 RollbackOnVolatileLinkMessages =
-    lines_from 16 (run_of 4 rollback_on_volatile_link)
+    lines_from 16 (run_of (example_hosts 4) rollback_on_volatile_link)
     ≡ line 2 3 (codes "Rollback") (codes "/p/v/1-1") ∷ line 2 3 (codes "Rollback") (codes "/p/d/1-1")
     ∷ line 2 1 (codes "Aborted") (codes "/i/1-1") ∷ line 3 2 (codes "Aborted") (codes "/c/v/1-1/1")
     ∷ line 3 2 (codes "Aborted") (codes "/c/d/1-1/2") ∷ line 3 4 (codes "Rollback") (codes "/p/d/1-1") ∷ []
 
 abbrev pub RollbackOnVolatileLinkEffects : Type 0
 RollbackOnVolatileLinkEffects =
-    (run_of 4 rollback_on_volatile_link).happened
+    (run_of (example_hosts 4) rollback_on_volatile_link).happened
     ≡ at 2 (effects.Root first endings.Aborted) ∷ at 3 (effects.Sub first endings.Aborted) ∷ []
 
 -- A subordinate stands between: its participant is asked, told and answered for through it.
@@ -366,7 +366,7 @@ interposition =
 
 abbrev pub InterpositionMessages : Type 0
 InterpositionMessages =
-    lines_from 16 (run_of 4 interposition)
+    lines_from 16 (run_of (example_hosts 4) interposition)
     ≡ line 2 3 (codes "Prepare") (codes "/p/v/1-1") ∷ line 3 2 (codes "ReadOnly") (codes "/c/v/1-1/1")
     ∷ line 2 3 (codes "Prepare") (codes "/p/d/1-1") ∷ line 3 4 (codes "Prepare") (codes "/p/d/1-1")
     ∷ line 4 3 (codes "Prepared") (codes "/c/d/1-1/1") ∷ line 3 2 (codes "Prepared") (codes "/c/d/1-1/2")
@@ -376,7 +376,7 @@ InterpositionMessages =
 
 abbrev pub InterpositionEffects : Type 0
 InterpositionEffects =
-    (run_of 4 interposition).happened
+    (run_of (example_hosts 4) interposition).happened
     ≡ at 2 (effects.Root first endings.Committed) ∷ at 3 (effects.Sub first endings.Committed)
     ∷ at 1 (effects.Told first tellings.Committed) ∷ at 4 (effects.Leaf first kinds.Durable endings.Committed) ∷ []
 
@@ -390,7 +390,7 @@ subordinate_crashes =
 
 abbrev pub SubordinateCrashesMessages : Type 0
 SubordinateCrashesMessages =
-    lines_from 16 (run_of 4 subordinate_crashes)
+    lines_from 16 (run_of (example_hosts 4) subordinate_crashes)
     ≡ line 2 3 (codes "Prepare") (codes "/p/v/1-1") ∷ line 3 2 (codes "ReadOnly") (codes "/c/v/1-1/1")
     ∷ line 2 3 (codes "Prepare") (codes "/p/d/1-1") ∷ line 3 4 (codes "Prepare") (codes "/p/d/1-1")
     ∷ line 4 3 (codes "Prepared") (codes "/c/d/1-1/1") ∷ line 3 2 (codes "Prepared") (codes "/c/d/1-1/2")
@@ -400,14 +400,14 @@ SubordinateCrashesMessages =
 
 abbrev pub SubordinateCrashesEffects : Type 0
 SubordinateCrashesEffects =
-    (run_of 4 subordinate_crashes).happened
+    (run_of (example_hosts 4) subordinate_crashes).happened
     ≡ at 2 (effects.Root first endings.Committed) ∷ at 3 (effects.Sub first endings.Committed)
     ∷ at 1 (effects.Told first tellings.Committed) ∷ at 4 (effects.Leaf first kinds.Durable endings.Committed) ∷ []
 
 -- One seat stands for a Register that came twice.
 abbrev pub RegisterTwiceSeats : Type 0
 RegisterTwiceSeats =
-    (run_of 3 register_twice).accepted
+    (run_of (example_hosts 3) register_twice).accepted
     ≡ record { transaction = record { node = 2; id = first }; seat = None; participant = Some (record { node = 1; id = first }) }
     ∷ record {
       transaction = record { node = 2; id = first };
@@ -424,28 +424,28 @@ abbrev pub journal_at : ℕ → World → List Record
 journal_at n w = journal_of (nth n w.nodes)
 
 abbrev pub seated_first : Seated
-seated_first = record { number = 1; endpoint = endpoint_of (base_of 3) (targets.Participant first kinds.Durable) }
+seated_first = record { number = 1; endpoint = endpoint_of (example_base 3) (targets.Participant first kinds.Durable) }
 
 -- The decision and its end stand in the coordinator's journal, the vote and the outcome in the participant's.
 abbrev pub PlainPathJournals : Type 0
 PlainPathJournals =
-    journal_at 2 (run_of 3 plain_path) ++ journal_at 3 (run_of 3 plain_path)
+    journal_at 2 (run_of (example_hosts 3) plain_path) ++ journal_at 3 (run_of (example_hosts 3) plain_path)
     ≡ records.Start 1 ∷ records.Decided first (seated_first ∷ []) ∷ records.Ended first
     ∷ records.Start 1
     ∷ records.LeafPrepared first
-    (endpoint_of (base_of 2) (targets.Coordinator first (record { number = 1; kind = kinds.Durable }))) (codes "k") (codes "v")
+    (endpoint_of (example_base 2) (targets.Coordinator first (record { number = 1; kind = kinds.Durable }))) (codes "k") (codes "v")
     ∷ records.LeafCommitted first ∷ []
 
 -- Without a prepared durable participant the decision is recorded with no seats.
 abbrev pub DecidesWithoutSeats : Type 0
 DecidesWithoutSeats =
-    journal_at 2 (run_of 2 no_participant) ++ journal_at 2 (run_of 3 read_only)
+    journal_at 2 (run_of (example_hosts 2) no_participant) ++ journal_at 2 (run_of (example_hosts 3) read_only)
     ≡ records.Start 1 ∷ records.Decided first [] ∷ records.Start 1 ∷ records.Decided first [] ∷ []
 
 -- The initiator's Commit comes once more, when the transaction is over: it hears of the commit again.
 abbrev pub CommitsAgain : Type 0
 CommitsAgain =
-    lines_from 15 (run_of 3 (plain_path ++ deliver_to 2 9 ∷ [])) ≡ line 2 1 (codes "Committed") (codes "/i/1-1") ∷ []
+    lines_from 15 (run_of (example_hosts 3) (plain_path ++ deliver_to 2 9 ∷ [])) ≡ line 2 1 (codes "Committed") (codes "/i/1-1") ∷ []
 
 -- A world in which every node is down behind a decision comes to rest.
 abbrev pub half_told : List WorldEvent
@@ -455,7 +455,7 @@ half_told =
 
 abbrev pub HalfToldSettles : Type 0
 HalfToldSettles =
-    is_settled (run_on (run_of 3 half_told) (settle (run_of 3 half_told))) && not (is_settled (run_of 3 half_told)) ≡ true
+    is_settled (run_on (run_of (example_hosts 3) half_told) (settle (run_of (example_hosts 3) half_told))) && not (is_settled (run_of (example_hosts 3) half_told)) ≡ true
 
 -- A leaf that is still Registering ignores the first Prepare: doubt stands after one round, and ends with the second.
 abbrev pub still_registering : List WorldEvent
@@ -468,7 +468,7 @@ is_settled_behind n w = is_settled (settle_rounds n (most_deliveries (waiting w)
 
 abbrev pub StillRegisteringSettles : Type 0
 StillRegisteringSettles =
-    (is_settled_behind 1 (run_of 3 still_registering) ≡ false) × (is_settled_behind 2 (run_of 3 still_registering) ≡ true)
+    (is_settled_behind 1 (run_of (example_hosts 3) still_registering) ≡ false) × (is_settled_behind 2 (run_of (example_hosts 3) still_registering) ≡ true)
 
 -- A root waits for every durable participant: the one that hasn't answered is told again.
 abbrev pub waits_for_all : List WorldEvent
@@ -480,7 +480,7 @@ waits_for_all =
 
 abbrev pub WaitsForAllMessages : Type 0
 WaitsForAllMessages =
-    lines_from 18 (run_of 3 waits_for_all)
+    lines_from 18 (run_of (example_hosts 3) waits_for_all)
     ≡ line 2 3 (codes "Commit") (codes "/p/d/1-1")
     ∷ line 2 3 (codes "Commit") (codes "/p/d/1-2")
     ∷ line 2 1 (codes "Committed") (codes "/i/1-1")

@@ -5,7 +5,7 @@ use Rattle.at_base.specs.declared.notice.Notice.{Notice}
 use Rattle.at_base.specs.declared.target.Seat.{Seat}
 use Rattle.at_base.specs.declared.record.Record.{Record}
 use Rattle.at_base.specs.declared.outs.Ending.{Ending}
-use Rattle.at_model.specs.World.{Node, Who, Posted, Accepted, Happened, World, WorldEvent, nth, run_of}
+use Rattle.at_model.specs.World.{Node, Who, Posted, Accepted, Happened, World, WorldEvent, nth, run_of, Hosts}
 use Rattle.model_laws.specs.Agreement.{HasEnded, IsAccepted, HasPosted, Stands}
 
 -- A node's journal has records behind those that it had.
@@ -29,7 +29,7 @@ pub record Grows (u w : World) : Type 0 where
 -- In every run nothing is taken back; so what holds of an item for good once it holds, holds: that it ended so, that its
 -- registration was accepted, that it posted this notification, that this record stands.
 pub record TakesNothingBack : Type 0 where
-  pub grows : (count : ℕ) (es more : List WorldEvent) → Grows (run_of count es) (run_of count (es ++ more))
+  pub grows : (hosts : Hosts) (es more : List WorldEvent) → Grows (run_of hosts es) (run_of hosts (es ++ more))
   pub ended : (u w : World) → Grows u w → (x : Who) (what : Ending) → HasEnded u x what → HasEnded w x what
   pub accepted : (u w : World) → Grows u w → (t : Who) (seat : Option Seat) (x : Who) → IsAccepted u t seat x → IsAccepted w t seat x
   pub posted : (u w : World) → Grows u w → (x : Who) (kind : Kind) (n : Notice) → HasPosted u x kind n → HasPosted w x kind n

@@ -10,7 +10,7 @@ use Rattle.at_model.specs.Activities.{on_begin}
 use Rattle.model_laws.specs.Drawn.{LifeEvent, newborn, life_of, made_through, new_ids, AreApart, ids_of}
 use Rattle.model_laws.specs.Order.{IsInOrderWhileUp}
 use Rattle.at_model.specs.Step.{Plan, items_of, plan, request_plan}
-use Rattle.at_model.specs.World.{Node, Posted, World, WorldEvent, Turn, Ask, Crash, Up, Input, Deliver, Tick, Raw, Turning, nth, base_of, opening, take_step, due_step, turn_from, ticked, later, answer_plan, arrival_plan, is_receiver, decoded, node_of, world_step, run_of}
+use Rattle.at_model.specs.World.{Node, Posted, World, WorldEvent, Turn, Ask, Crash, Up, Input, Deliver, Tick, Raw, Turning, nth, opening, take_step, due_step, turn_from, ticked, later, answer_plan, arrival_plan, is_receiver, decoded, node_of, world_step, run_of, Hosts, example_hosts}
 use Rattle.sha1.specs.Sha1.{sha1, first_words, schedule, rounds, compress, hash_after, digest_bytes}
 use Rattle.uuid.specs.Text.{by_index}
 
@@ -71,13 +71,13 @@ pub record HasLived (base : List ℕ) (x : Node) (ids : List Numbers) : Type 0 w
 -- In every run of a world each node lives a life, in which its book is always in order, and the items that the events
 -- make on one node have different ids, however often it stops and starts.
 pub record MakesNoIdTwice : Type 0 where
-  pub apart : (count n : ℕ) (es : List WorldEvent) → AreApart (made_on n (opening count) es)
-  pub lived : (count n : ℕ) (es : List WorldEvent) (x : Node) → nth n (run_of count es).nodes ≡ Some x → HasLived (base_of n) x (made_on n (opening count) es)
-  pub order : (count n : ℕ) (es : List WorldEvent) (x : Node) → nth n (run_of count es).nodes ≡ Some x → IsInOrderWhileUp x.book
+  pub apart : (hosts : Hosts) (n : ℕ) (es : List WorldEvent) → AreApart (made_on n (opening hosts) es)
+  pub lived : (hosts : Hosts) (n : ℕ) (es : List WorldEvent) (x : Node) → nth n (run_of hosts es).nodes ≡ Some x → HasLived (hosts.base_of n) x (made_on n (opening hosts) es)
+  pub order : (hosts : Hosts) (n : ℕ) (es : List WorldEvent) (x : Node) → nth n (run_of hosts es).nodes ≡ Some x → IsInOrderWhileUp x.book
 
 -- In every run the ids of one book differ, over all three of its lists.
 abbrev pub HoldsNoIdTwice : Type 0
-HoldsNoIdTwice = (count n : ℕ) (es : List WorldEvent) (x : Node) (b : Book) → nth n (run_of count es).nodes ≡ Some x → x.book ≡ Some b → AreApart (ids_of b)
+HoldsNoIdTwice = (hosts : Hosts) (n : ℕ) (es : List WorldEvent) (x : Node) (b : Book) → nth n (run_of hosts es).nodes ≡ Some x → x.book ≡ Some b → AreApart (ids_of b)
 
 -- A begun activity on each side of a crash: two ids.
 abbrev pub begins_twice : List WorldEvent
@@ -88,6 +88,6 @@ begins_twice =
     ∷ Up 1 true false
     ∷ Ask 1 (locals.Begin (codes "http://n2.example") 0) [] None ∷ []
 
-pub makes_two : made_on 1 (opening 2) begins_twice ≡ record { incarnation = 1; counter = 1 } ∷ record { incarnation = 2; counter = 1 } ∷ []
+pub makes_two : made_on 1 (opening (example_hosts 2)) begins_twice ≡ record { incarnation = 1; counter = 1 } ∷ record { incarnation = 2; counter = 1 } ∷ []
 unfolding request_plan on_begin world_step sha1 first_words schedule rounds compress hash_after digest_bytes by_index digits
 makes_two = refl

@@ -1,6 +1,6 @@
 -- The worlds that a run comes through, step by step: each step of a turn is one, its record landed or absent, and any of
 -- its posts are sent. A node always holds its newest book.
-use Rattle.std.specs.Prelude.{ℕ, List, [], ◌∷◌, ◌++◌, Some, None, Bool, ◌+◌, map, ◌≡◌, ◌<◌}
+use Rattle.std.specs.Prelude.{ℕ, List, [], ◌∷◌, ◌++◌, Some, None, Bool, ◌+◌, map, ◌≡◌, ◌<◌, ◌^◌}
 use Rattle.std.specs.List.{AllByRecursion}
 use Rattle.at_base.specs.declared.event.Event.{Event}
 use Rattle.at_base.specs.declared.event.Event.TheVariants as events
@@ -9,7 +9,7 @@ use Rattle.at_base.specs.declared.outs.Out.TheVariants as outs
 use Rattle.at_model.specs.Book.{Book, last_counter}
 use Rattle.at_model.specs.Recover.{last_incarnation}
 use Rattle.at_model.specs.Step.{plan, step}
-use Rattle.at_model.specs.World.{Node, Posted, World, WorldEvent, nth, put_nth, opening, decoded, with_post, accepted_in, happened_at, goes_down, started, up_after, run_of}
+use Rattle.at_model.specs.World.{Node, Posted, World, WorldEvent, nth, put_nth, opening, decoded, with_post, accepted_in, happened_at, goes_down, started, up_after, run_of, Hosts, HaveOwnAddresses, example_hosts}
 use Rattle.model_laws.specs.Agreement.{IsIn}
 use Rattle.model_laws.specs.Drawn.{with_entry}
 
@@ -33,20 +33,24 @@ counts u n x b e now landed = record u {
   happened = u.happened ++ map (happened_at n) (step b e now landed).effects;
 }
 
-pub data Reached (count : ℕ) : World → Type 0 where
+pub data Reached (hosts : Hosts) : World → Type 0 where
   -- the opening world
-  opened : {w : World} → w ≡ opening count → Reached count w
+  opened : {w : World} → w ≡ opening hosts → Reached hosts w
   -- a step of a node that is up, and any of its posts
-  stepped : {w : World} (u : World) (n : ℕ) (x : Node) (b : Book) (e : Event) (now : ℕ) (landed : Bool) (ps : List Post) → Reached count u → nth n u.nodes ≡ Some x → x.book ≡ Some b
-      → Heard u n x e → AllByRecursion (λ p. IsIn (outs.Post p) (step b e now landed).outs) ps → w ≡ post_all n ps (counts u n x b e now landed) → Reached count w
+  stepped : {w : World} (u : World) (n : ℕ) (x : Node) (b : Book) (e : Event) (now : ℕ) (landed : Bool) (ps : List Post) → Reached hosts u → nth n u.nodes ≡ Some x → x.book ≡ Some b
+      → Heard u n x e → AllByRecursion (λ p. IsIn (outs.Post p) (step b e now landed).outs) ps → w ≡ post_all n ps (counts u n x b e now landed) → Reached hosts w
   -- a node goes down
-  fell : {w : World} (u : World) (n : ℕ) (x : Node) (b : Book) → Reached count u → nth n u.nodes ≡ Some x → x.book ≡ Some b → w ≡ goes_down n b u → Reached count w
+  fell : {w : World} (u : World) (n : ℕ) (x : Node) (b : Book) → Reached hosts u → nth n u.nodes ≡ Some x → x.book ≡ Some b → w ≡ goes_down n b u → Reached hosts w
   -- a node that is down writes its next Start, and is up with what its records stand for, or stops at once
-  rose : {w : World} (u : World) (n : ℕ) (x : Node) (stop : Bool) → Reached count u → nth n u.nodes ≡ Some x → x.book ≡ None → last_incarnation x.journal < last_counter
-      → w ≡ record u { nodes = put_nth n (up_after (started (last_incarnation x.journal + 1) x) stop) u.nodes } → Reached count w
+  rose : {w : World} (u : World) (n : ℕ) (x : Node) (stop : Bool) → Reached hosts u → nth n u.nodes ≡ Some x → x.book ≡ None → last_incarnation x.journal < last_counter
+      → w ≡ record u { nodes = put_nth n (up_after (started (last_incarnation x.journal + 1) x) stop) u.nodes } → Reached hosts w
   -- time passes at a node
-  waited : {w : World} (u : World) (n : ℕ) (x : Node) (clock : ℕ) → Reached count u → nth n u.nodes ≡ Some x → w ≡ record u { nodes = put_nth n (record x { clock = clock }) u.nodes } → Reached count w
+  waited : {w : World} (u : World) (n : ℕ) (x : Node) (clock : ℕ) → Reached hosts u → nth n u.nodes ≡ Some x → w ≡ record u { nodes = put_nth n (record x { clock = clock }) u.nodes } → Reached hosts w
 
 -- Every run leads to a world that is reached so, whatever is delivered, lost, repeated, stopped or crashed.
 abbrev pub RunsAreReached : Type 0
-RunsAreReached = (count : ℕ) (es : List WorldEvent) → Reached count (run_of count es)
+RunsAreReached = (hosts : Hosts) (es : List WorldEvent) → Reached hosts (run_of hosts es)
+
+-- The bases of examples are apart.
+abbrev pub ExamplesAreApart : Type 0
+ExamplesAreApart = (count : ℕ) → count < 2 ^ 64 → HaveOwnAddresses (example_hosts count)

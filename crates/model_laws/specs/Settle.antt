@@ -7,7 +7,7 @@ use Rattle.at_tables.specs.Names.{is_kind, is_state}
 use Rattle.at_model.specs.Book.{Book, Transaction, Leaf, Completion, Superior, Phase, last_counter}
 use Rattle.at_model.specs.Due.{resend_after}
 use Rattle.at_model.specs.Recover.{last_incarnation}
-use Rattle.at_model.specs.World.{Node, Posted, World, WorldEvent, world_step, Deliver, Tick, Turn, Up, run_on, run_of}
+use Rattle.at_model.specs.World.{Node, Posted, World, WorldEvent, world_step, Deliver, Tick, Turn, Up, run_on, run_of, Hosts, HaveOwnAddresses}
 
 -- A world on its way to rest, and the events that brought it there.
 pub record Settling : Type 0 where
@@ -150,4 +150,4 @@ pub record IsSettling (w : World) : Type 0 where
   pub few : length (settle w) ≤ settle_bound w
 
 abbrev pub Settles : Type 0
-Settles = (count : ℕ) (es : List WorldEvent) → count < 2 ^ 64 → AllByRecursion MayStart (run_of count es).nodes → IsSettling (run_of count es)
+Settles = (hosts : Hosts) (es : List WorldEvent) → HaveOwnAddresses hosts → AllByRecursion MayStart (run_of hosts es).nodes → IsSettling (run_of hosts es)

@@ -22,7 +22,7 @@ use Rattle.at_model.specs.Book.{Book, Enlistment, Phase}
 use Rattle.at_model.specs.Addresses.{endpoint_of}
 use Rattle.at_model.specs.Step.{step}
 use Rattle.at_model.specs.Recover.{recover}
-use Rattle.at_model.specs.World.{base_of}
+use Rattle.at_model.specs.World.{example_base}
 use Rattle.at_model.specs.Views.{message_name, path_in, id_at}
 use Rattle.model_laws.specs.Examples.{first}
 
@@ -58,24 +58,24 @@ pub record OnlyPosts (b : Book) (e : Event) (posts : List (List ℕ × List ℕ)
   pub quiet : (step b e 0 true).effects ≡ []
 
 abbrev pub sub_seats : List Seated
-sub_seats = record { number = 1; endpoint = endpoint_of (base_of 4) (targets.Participant first kinds.Durable) } ∷ []
+sub_seats = record { number = 1; endpoint = endpoint_of (example_base 4) (targets.Participant first kinds.Durable) } ∷ []
 
 abbrev pub superior_seat : Epr
-superior_seat = endpoint_of (base_of 2) (targets.Coordinator first (record { number = 2; kind = kinds.Durable }))
+superior_seat = endpoint_of (example_base 2) (targets.Coordinator first (record { number = 2; kind = kinds.Durable }))
 
 -- A subordinate that has voted, and one that was told to commit.
 abbrev pub voted_book : Book
-voted_book = recover (base_of 3) (records.Start 1 ∷ records.Voted first superior_seat sub_seats ∷ [])
+voted_book = recover (example_base 3) (records.Start 1 ∷ records.Voted first superior_seat sub_seats ∷ [])
 
 abbrev pub committing_book : Book
 committing_book =
-    recover (base_of 3) (records.Start 1 ∷ records.Voted first superior_seat sub_seats ∷ records.SubCommitted first ∷ [])
+    recover (example_base 3) (records.Start 1 ∷ records.Voted first superior_seat sub_seats ∷ records.SubCommitted first ∷ [])
 
 abbrev pub volatile_seat : Option Epr
-volatile_seat = Some (endpoint_of (base_of 2) (targets.Coordinator first (record { number = 1; kind = kinds.Volatile })))
+volatile_seat = Some (endpoint_of (example_base 2) (targets.Coordinator first (record { number = 1; kind = kinds.Volatile })))
 
 abbrev pub durable_seat : Option Epr
-durable_seat = Some (endpoint_of (base_of 2) (targets.Coordinator first (record { number = 2; kind = kinds.Durable })))
+durable_seat = Some (endpoint_of (example_base 2) (targets.Coordinator first (record { number = 2; kind = kinds.Durable })))
 
 -- A Rollback on the volatile link of a subordinate that has voted, or was told to commit, only answers Aborted.
 abbrev pub VolatileRollbackAnswers : Type 0
@@ -90,13 +90,13 @@ abbrev pub seat_at : ℕ → State → Enlistment
 seat_at number state = record {
   number = number;
   kind = kinds.Durable;
-  participant = endpoint_of (base_of 3) (targets.Participant (id_at 1 number) kinds.Durable);
+  participant = endpoint_of (example_base 3) (targets.Participant (id_at 1 number) kinds.Durable);
   state = state;
 }
 
 abbrev pub half_prepared : Book
 half_prepared = record {
-  base = base_of 2;
+  base = example_base 2;
   incarnation = 1;
   counter = 1;
   seen = 0;
@@ -126,7 +126,7 @@ AbortedAtPrepared =
 -- A leaf that waits for the answer to its Register.
 abbrev pub registering_book : Book
 registering_book = record {
-  base = base_of 3;
+  base = example_base 3;
   incarnation = 1;
   counter = 1;
   seen = 0;
@@ -152,22 +152,22 @@ abbrev pub RelatesToIsCompared : Type 0
 RelatesToIsCompared =
     OnlyPosts registering_book
     (one_way (targets.Participant first kinds.Durable) None (Some (codes "urn:uuid:other"))
-    (messages.RegisterResponse (endpoint_of (base_of 2) (targets.Completion first)))) []
+    (messages.RegisterResponse (endpoint_of (example_base 2) (targets.Completion first)))) []
     × (OnlyPosts registering_book
     (one_way (targets.Participant first kinds.Durable) None None
-    (messages.RegisterResponse (endpoint_of (base_of 2) (targets.Completion first)))) []
+    (messages.RegisterResponse (endpoint_of (example_base 2) (targets.Completion first)))) []
     × OnlyPosts registering_book
     (one_way (targets.Participant first kinds.Durable) None (Some (codes "urn:uuid:other")) (messages.Fault (codes "InvalidState"))) [])
 
 -- A root that committed and is over, and a node that knows of none.
 abbrev pub decided_book : Book
-decided_book = recover (base_of 2) (records.Start 1 ∷ records.Decided first [] ∷ [])
+decided_book = recover (example_base 2) (records.Start 1 ∷ records.Decided first [] ∷ [])
 
 abbrev pub started_book : Book
-started_book = recover (base_of 2) (records.Start 1 ∷ [])
+started_book = recover (example_base 2) (records.Start 1 ∷ [])
 
 abbrev pub initiator_endpoint : Option Epr
-initiator_endpoint = Some (endpoint_of (base_of 1) (targets.Initiator first))
+initiator_endpoint = Some (endpoint_of (example_base 1) (targets.Initiator first))
 
 -- An initiator that asks again hears of the commit, and can't roll back what committed; without an outcome the
 -- transaction is unknown.

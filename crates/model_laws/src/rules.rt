@@ -11,7 +11,7 @@ ghost use Rattle.model_laws.specs.Links.{LinksFollowPhases};
 ghost use Rattle.model_laws.specs.Order.{IdsRise};
 ghost use Rattle.model_laws.specs.Made.{HoldsNoIdTwice, MakesNoIdTwice};
 ghost use Rattle.model_laws.specs.Sound.{RecordsAreWellFormed};
-ghost use Rattle.model_laws.specs.Reached.{RunsAreReached};
+ghost use Rattle.model_laws.specs.Reached.{ExamplesAreApart, RunsAreReached};
 ghost use Rattle.model_laws.specs.Rules.{DecidesBehindAnswers, EndsAreUndone, VotesAreRecorded};
 ghost use Rattle.model_laws.specs.Shapes.{StepsTouchOne};
 
@@ -152,4 +152,10 @@ pub fn takes_nothing_back()
 #[tactic(auto, using(crate::proofs::Outcoming::keeps_outcomes))]
 pub fn keeps_outcomes()
     ensures { KeepsOutcomes }
+{}
+
+/// The bases of examples are apart: no address of one node is one of another.
+#[tactic(auto, using(crate::proofs::Naming::examples_apart))]
+pub fn examples_are_apart()
+    ensures { ExamplesAreApart }
 {}

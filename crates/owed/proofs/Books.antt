@@ -17,7 +17,7 @@ use Rattle.at_model.specs.Arrivals.{with_answer}
 use Rattle.at_model.specs.Register.{on_register}
 use Rattle.at_model.specs.Step.{Outcome, Plan, still, at_time, moment_of, put_transaction, put_leaf, put_activity, make_transaction, make_leaf, make_activity, registration_outcome, plan, step}
 use Rattle.at_model.specs.Recover.{ends_transaction, is_sub_committed, kept, live, no_seats, recover, recovered_decided, recovered_seat, recovered_voted, transactions_of, with_commit}
-use Rattle.at_model.specs.World.{Node, World, nth, run_of}
+use Rattle.at_model.specs.World.{Node, World, nth, run_of, Hosts}
 use Rattle.model_laws.specs.Behind.{IsInPhase}
 use Rattle.model_laws.specs.Drawn.{restarted, with_entry}
 use Rattle.model_laws.specs.Laws.{HasLeafId}
@@ -209,15 +209,15 @@ shape_law = record {
   };
 }
 
-node_good : (count : ℕ) (w : World) → Reached count w → (n : ℕ) (x : Node) → nth n w.nodes ≡ Some x → IsGoodNode x.journal x.book
+node_good : (hosts : Hosts) (w : World) → Reached hosts w → (n : ℕ) (x : Node) → nth n w.nodes ≡ Some x → IsGoodNode x.journal x.book
 unfolding shape_law
-node_good count w reached n x found = nodes_hold shape_law count w reached n x found
+node_good hosts w reached n x found = nodes_hold shape_law hosts w reached n x found
 
 book_good : (o : Option Book) (b : Book) → o ≡ Some b → IfThere IsGood o → IsGood b
 book_good o b up h = subst (IfThere IsGood) up h
 
-pub reached_shaped : (count : ℕ) (w : World) → Reached count w → (n : ℕ) (x : Node) (b : Book) → nth n w.nodes ≡ Some x → x.book ≡ Some b → AreShaped b
-reached_shaped count w reached n x b found up = (book_good x.book b up (node_good count w reached n x found).book).shaped
+pub reached_shaped : (hosts : Hosts) (w : World) → Reached hosts w → (n : ℕ) (x : Node) (b : Book) → nth n w.nodes ≡ Some x → x.book ≡ Some b → AreShaped b
+reached_shaped hosts w reached n x b found up = (book_good x.book b up (node_good hosts w reached n x found).book).shaped
 
 pub books_are_shaped : BooksAreShaped
 books_are_shaped = record {
@@ -225,5 +225,5 @@ books_are_shaped = record {
   entry = step_names;
   recovered = recovered_shaped;
   reached = reached_shaped;
-  runs = λ count es n x b found up. reached_shaped count (run_of count es) (run_reached count es) n x b found up;
+  runs = λ hosts es n x b found up. reached_shaped hosts (run_of hosts es) (run_reached hosts es) n x b found up;
 }

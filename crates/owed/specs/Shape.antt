@@ -15,7 +15,7 @@ use Rattle.at_model.specs.Book.{Book, Completion, Enlistment, Phase, Request, Su
 use Rattle.at_model.specs.Seats.{in_state, is_of, is_prepared_durable}
 use Rattle.at_model.specs.Recover.{no_seats, recover}
 use Rattle.at_model.specs.Step.{plan, step}
-use Rattle.at_model.specs.World.{Node, World, WorldEvent, nth, run_of}
+use Rattle.at_model.specs.World.{Node, World, WorldEvent, nth, run_of, Hosts}
 use Rattle.model_laws.specs.Behind.{IsInPhase}
 use Rattle.model_laws.specs.Reached.{Reached}
 use Rattle.agreement.specs.Finished.{AreFinished}
@@ -100,5 +100,5 @@ pub record BooksAreShaped : Type 0 where
   pub book : (b : Book) (e : Event) (now : ℕ) (landed : Bool) → IsInPhase b → AreFinished b → AreShaped b → AreShaped (step b e now landed).book
   pub entry : (b : Book) (e : Event) (now : ℕ) (r : Record) → IsInPhase b → AreFinished b → AreShaped b → (plan b e now).entry ≡ Some r → NamesSomebody r
   pub recovered : (base : List ℕ) (rs : List Record) → AllByRecursion NamesSomebody rs → AreShaped (recover base rs)
-  pub reached : (count : ℕ) (w : World) → Reached count w → (n : ℕ) (x : Node) (b : Book) → nth n w.nodes ≡ Some x → x.book ≡ Some b → AreShaped b
-  pub runs : (count : ℕ) (es : List WorldEvent) → (n : ℕ) (x : Node) (b : Book) → nth n (run_of count es).nodes ≡ Some x → x.book ≡ Some b → AreShaped b
+  pub reached : (hosts : Hosts) (w : World) → Reached hosts w → (n : ℕ) (x : Node) (b : Book) → nth n w.nodes ≡ Some x → x.book ≡ Some b → AreShaped b
+  pub runs : (hosts : Hosts) (es : List WorldEvent) → (n : ℕ) (x : Node) (b : Book) → nth n (run_of hosts es).nodes ≡ Some x → x.book ≡ Some b → AreShaped b

@@ -31,7 +31,7 @@ use Rattle.at_model.specs.Recover.{recovered_seat, recovered_voted}
 use Rattle.at_model.specs.Register.{new_seat, protocol_named}
 use Rattle.at_model.specs.Seats.{is_prepared_durable, prepared, seated}
 use Rattle.at_model.specs.Step.{moment_of, plan, step}
-use Rattle.at_model.specs.World.{Node, Posted, World, base_of, new_nodes, nth}
+use Rattle.at_model.specs.World.{Node, Posted, World, new_nodes, nth, Hosts, HaveOwnAddresses}
 use Rattle.model_laws.specs.Agreement.{IsIn}
 use Rattle.model_laws.specs.Behind.{Accepted as Seating, accepted_as}
 use Rattle.model_laws.specs.Reached.{Reached, counts}
@@ -82,10 +82,10 @@ new_length : (k m : ℕ) → length (new_nodes k m) ≡ k
 new_length zero m = refl
 new_length (suc k) m = omega (arith, new_length k (m + 1))
 
-pub node_range : (count : ℕ) (w : World) → count < 2 ^ 64 → Reached count w → (n : ℕ) (x : Node) → nth n w.nodes ≡ Some x → (1 ≤ n) × (n ≤ count)
-node_range count w small reached n x found = (
+pub node_range : (hosts : Hosts) (w : World) → HaveOwnAddresses hosts → Reached hosts w → (n : ℕ) (x : Node) → nth n w.nodes ≡ Some x → (1 ≤ n) × (n ≤ hosts.count)
+node_range hosts w small reached n x found = (
   by_number (nat_eq n 0) refl,
-  omega (arith, in_range n w.nodes x found, as_long w.nodes (new_nodes count 1) (world_bases count w small reached), new_length count 1),
+  omega (arith, in_range n w.nodes x found, as_long w.nodes (new_nodes hosts.base_of hosts.count 1) (world_bases hosts w small reached), new_length hosts 1),
 )
   where
     by_number : (c : Bool) → nat_eq n 0 ≡ c → 1 ≤ n
@@ -94,32 +94,32 @@ node_range count w small reached n x found = (
 
 -- seats
 
-abbrev SeatHome : ℕ → Seating → Type 0
-SeatHome count a = IsParticipant count a.kind a.participant
+abbrev SeatHome : Hosts → Seating → Type 0
+SeatHome hosts a = IsParticipant hosts a.kind a.participant
 
-abbrev pub SeatsHome : ℕ → List Enlistment → Type 0
-SeatsHome count seats = AllByRecursion (λ s. SeatHome count (accepted_as s)) seats
+abbrev pub SeatsHome : Hosts → List Enlistment → Type 0
+SeatsHome hosts seats = AllByRecursion (λ s. SeatHome hosts (accepted_as s)) seats
 
-abbrev NamesHome : ℕ → List Seated → Type 0
-NamesHome count seats = AllByRecursion (λ s. SeatHome count (named_as s)) seats
+abbrev NamesHome : Hosts → List Seated → Type 0
+NamesHome hosts seats = AllByRecursion (λ s. SeatHome hosts (named_as s)) seats
 
-abbrev pub TransactionHome : ℕ → Transaction → Type 0
-TransactionHome count t = SeatsHome count t.seats × ((kind : Kind) → IsSeatIfKnown count kind (coordinator_at kind t.superior))
+abbrev pub TransactionHome : Hosts → Transaction → Type 0
+TransactionHome hosts t = SeatsHome hosts t.seats × ((kind : Kind) → IsSeatIfKnown hosts kind (coordinator_at kind t.superior))
 
-abbrev pub LeafHome : ℕ → Leaf → Type 0
-LeafHome count l = IsSeatIfKnown count l.kind l.coordinator
+abbrev pub LeafHome : Hosts → Leaf → Type 0
+LeafHome hosts l = IsSeatIfKnown hosts l.kind l.coordinator
 
-abbrev RecordHome : ℕ → Record → Type 0
-RecordHome count (records.LeafPrepared id coordinator key value) = IsSeat count kinds.Durable coordinator
-RecordHome count (records.Voted id superior seats) = IsSeat count kinds.Durable superior × NamesHome count seats
-RecordHome count (records.Decided id seats) = NamesHome count seats
-RecordHome count other = Unit {0}
+abbrev RecordHome : Hosts → Record → Type 0
+RecordHome hosts (records.LeafPrepared id coordinator key value) = IsSeat hosts kinds.Durable coordinator
+RecordHome hosts (records.Voted id superior seats) = IsSeat hosts kinds.Durable superior × NamesHome hosts seats
+RecordHome hosts (records.Decided id seats) = NamesHome hosts seats
+RecordHome hosts other = Unit {0}
 
 -- a RegisterResponse that goes to a participant names a seat
-abbrev AnswersHome : ℕ → Posted → Type 0
-AnswersHome count p =
-    (to c : Epr) (m : ℕ) (i : Numbers) (kind : Kind) → p.content.to ≡ Some to → p.content.message ≡ messages.RegisterResponse c → LeadsTo count to m (targets.Participant i kind)
-    → IsSeat count kind c
+abbrev AnswersHome : Hosts → Posted → Type 0
+AnswersHome hosts p =
+    (to c : Epr) (m : ℕ) (i : Numbers) (kind : Kind) → p.content.to ≡ Some to → p.content.message ≡ messages.RegisterResponse c → LeadsTo hosts to m (targets.Participant i kind)
+    → IsSeat hosts kind c
 
 same_kind : (k d : Kind) (i j : Numbers) → targets.Participant i k ≡ targets.Participant j d → k ≡ d
 same_kind k d i j e = cc
@@ -133,172 +133,172 @@ same_reply a c e = cc
 same_some : (a c : Epr) → Some a ≡ Some c → a ≡ c
 same_some a c e = cc
 
-replied_to : (count : ℕ) (a : Arrived) (r : Register) (c to : Epr) (p : Post) (m : ℕ) (T : Target) → IsRegisterOf count a r → IsReply a c p → p.to ≡ Some to → LeadsTo count to m T
-    → LeadsTo count r.participant m T
-replied_to count a r c to p m T h k goes leads =
+replied_to : (hosts : Hosts) (a : Arrived) (r : Register) (c to : Epr) (p : Post) (m : ℕ) (T : Target) → IsRegisterOf hosts a r → IsReply a c p → p.to ≡ Some to → LeadsTo hosts to m T
+    → LeadsTo hosts r.participant m T
+replied_to hosts a r c to p m T h k goes leads =
     let same : to ≡ r.participant = same_some to k.to (sym goes ∙ ap (λ (q : Post). q.to) k.is) ∙ same_reply k.to r.participant (sym k.asked ∙ h.reply) in
-    subst (λ y. LeadsTo count y m T) same leads
+    subst (λ y. LeadsTo hosts y m T) same leads
 
-response_home : (count : ℕ) (u : World) (n : ℕ) (x : Node) (b : Book) (e : Event) (now : ℕ) (landed : Bool) → Stepping count u n x b e now landed → (p : Post) (to c : Epr) (m : ℕ)
-    (i : Numbers) (kind : Kind) → p.to ≡ Some to → LeadsTo count to m (targets.Participant i kind)
-    → Responds b e now (standing landed (plan b e now).entry) (step b e now landed) c p → IsSeat count kind c
-response_home count u n x b e now landed s p to c m i kind goes leads (names_seat d k q protocol sits is who written reply) =
-    let r : IsRegisterOf count d.arrived d.request = register_of count u n x b e now landed d.arrived d.request s d.came d.says in
-    let l : LeadsTo count d.request.participant m (targets.Participant i kind) = replied_to count d.arrived d.request c to p m (targets.Participant i kind) r reply goes leads in
+response_home : (hosts : Hosts) (u : World) (n : ℕ) (x : Node) (b : Book) (e : Event) (now : ℕ) (landed : Bool) → Stepping hosts u n x b e now landed → (p : Post) (to c : Epr) (m : ℕ)
+    (i : Numbers) (kind : Kind) → p.to ≡ Some to → LeadsTo hosts to m (targets.Participant i kind)
+    → Responds b e now (standing landed (plan b e now).entry) (step b e now landed) c p → IsSeat hosts kind c
+response_home hosts u n x b e now landed s p to c m i kind goes leads (names_seat d k q protocol sits is who written reply) =
+    let r : IsRegisterOf hosts d.arrived d.request = register_of hosts u n x b e now landed d.arrived d.request s d.came d.says in
+    let l : LeadsTo hosts d.request.participant m (targets.Participant i kind) = replied_to hosts d.arrived d.request c to p m (targets.Participant i kind) r reply goes leads in
     let (j, own) = for_kind r.own r.id d.request.protocol k r.registers protocol in
     let same : kind ≡ k = same_kind kind k i j ((r.leads m (targets.Participant i kind) l).1 ∙ own) in
-    let h : Held count (counts u n x b e now landed) n d.gives.transaction = held_after count u n x b e now landed s d in
-    let place : IsPlaced count (accepted_as q) = seat_placed count (counts u n x b e now landed) n d.gives.transaction q h sits in
+    let h : Held hosts (counts u n x b e now landed) n d.gives.transaction = held_after hosts u n x b e now landed s d in
+    let place : IsPlaced hosts (accepted_as q) = seat_placed hosts (counts u n x b e now landed) n d.gives.transaction q h sits in
     let id_is : d.gives.transaction.id ≡ d.old.id = keeps_id (moment_of b now) d.arrived d.request d.old d.gives d.enrolls in
-    let (least, most) = node_range count u s.small s.reached n x s.found in
+    let (least, most) = node_range hosts u s.small s.reached n x s.found in
     record {
       transaction = record { node = n; id = d.old.id };
       number = q.number;
-      place = record { least = least; most = most; id = subst IsId id_is (placed count (counts u n x b e now landed) n d.gives.transaction h).0 };
+      place = record { least = least; most = most; id = subst IsId id_is (placed hosts (counts u n x b e now landed) n d.gives.transaction h).0 };
       least = place.least;
       most = place.most;
       is = written
-          ∙ (λ r'. endpoint_of ((up_known count u s.small s.reached n x b s.found s.up).says.base_is r')
+          ∙ (λ r'. endpoint_of ((up_known hosts u s.small s.reached n x b s.found s.up).says.base_is r')
           (targets.Coordinator d.old.id (record { number = q.number; kind = (is ∙ sym same) r' })));
     }
-response_home count u n x b e now landed s p to c m i kind goes leads (names_completion d y protocol there who is reply) =
-    let r : IsRegisterOf count d.arrived d.request = register_of count u n x b e now landed d.arrived d.request s d.came d.says in
-    let l : LeadsTo count d.request.participant m (targets.Participant i kind) = replied_to count d.arrived d.request c to p m (targets.Participant i kind) r reply goes leads in
+response_home hosts u n x b e now landed s p to c m i kind goes leads (names_completion d y protocol there who is reply) =
+    let r : IsRegisterOf hosts d.arrived d.request = register_of hosts u n x b e now landed d.arrived d.request s d.came d.says in
+    let l : LeadsTo hosts d.request.participant m (targets.Participant i kind) = replied_to hosts d.arrived d.request c to p m (targets.Participant i kind) r reply goes leads in
     let (j, own) = for_completion r.own r.id d.request.protocol r.registers protocol in
     absurd (no_initiator i j kind ((r.leads m (targets.Participant i kind) l).1 ∙ own))
 
-answers_home : (count : ℕ) → PostLaw count
-answers_home count = record {
-  Of = λ w p. AnswersHome count p;
+answers_home : (hosts : Hosts) → PostLaw hosts
+answers_home hosts = record {
+  Of = λ w p. AnswersHome hosts p;
   on = λ u w g p h. h;
   new = λ u n x b e now landed s h p i r to c m j kind goes says leads.
-      response_home count u n x b e now landed s p to c m j kind goes leads (steps_tell.responds b e now landed (step_ready count u n x b e now landed s) p c i says);
+      response_home hosts u n x b e now landed s p to c m j kind goes leads (steps_tell.responds b e now landed (step_ready hosts u n x b e now landed s) p c i says);
 }
 
-answer_home : (count : ℕ) (w : World) → count < 2 ^ 64 → Reached count w → (p : Posted) → IsIn p w.posted → AnswersHome count p
+answer_home : (hosts : Hosts) (w : World) → HaveOwnAddresses hosts → Reached hosts w → (p : Posted) → IsIn p w.posted → AnswersHome hosts p
 unfolding answers_home
-answer_home count w small reached p i = one_has count small (answers_home count) w reached p i
+answer_home hosts w small reached p i = one_has hosts small (answers_home hosts) w reached p i
 
 -- a RegisterResponse that came to a participant names a seat
-abbrev Answered : ℕ → Event → Type 0
-Answered count e = (a : Arrived) (c : Epr) (i : Numbers) (kind : Kind) → e ≡ events.Arrived a → a.message ≡ messages.RegisterResponse c → a.target ≡ targets.Participant i kind → IsSeat count kind c
+abbrev Answered : Hosts → Event → Type 0
+Answered hosts e = (a : Arrived) (c : Epr) (i : Numbers) (kind : Kind) → e ≡ events.Arrived a → a.message ≡ messages.RegisterResponse c → a.target ≡ targets.Participant i kind → IsSeat hosts kind c
 
-answered : (count : ℕ) (u : World) (n : ℕ) (x : Node) (b : Book) (e : Event) (now : ℕ) (landed : Bool) → Stepping count u n x b e now landed → Answered count e
-answered count u n x b e now landed s a c i kind came says target =
-    let h : HasCome count u n a = has_come count u n x b e now landed a s came in
-    answer_home count u s.small s.reached h.posted h.stands h.to c n i kind h.sent (h.message ∙ says) (h.leads ∙ (λ j. Some (n, target j)))
+answered : (hosts : Hosts) (u : World) (n : ℕ) (x : Node) (b : Book) (e : Event) (now : ℕ) (landed : Bool) → Stepping hosts u n x b e now landed → Answered hosts e
+answered hosts u n x b e now landed s a c i kind came says target =
+    let h : HasCome hosts u n a = has_come hosts u n x b e now landed a s came in
+    answer_home hosts u s.small s.reached h.posted h.stands h.to c n i kind h.sent (h.message ∙ says) (h.leads ∙ (λ j. Some (n, target j)))
 
 -- transactions
-after_home : (count : ℕ) (e : Event) (t : Transaction) (how : How) (olds news : List Enlistment) → AreSeatsAfter e t how olds news → SeatsHome count olds → SeatsHome count news
-after_home count e t how [] [] h k = tt
-after_home count e t how [] (n ∷ ns) h k = absurd h
-after_home count e t how (o ∷ os) [] h k = absurd h
-after_home count e t how (o ∷ os) (n ∷ ns) (h, i) (k, j) = (subst (SeatHome count) (sym h.seat) k, after_home count e t how os ns i j)
+after_home : (hosts : Hosts) (e : Event) (t : Transaction) (how : How) (olds news : List Enlistment) → AreSeatsAfter e t how olds news → SeatsHome hosts olds → SeatsHome hosts news
+after_home hosts e t how [] [] h k = tt
+after_home hosts e t how [] (n ∷ ns) h k = absurd h
+after_home hosts e t how (o ∷ os) [] h k = absurd h
+after_home hosts e t how (o ∷ os) (n ∷ ns) (h, i) (k, j) = (subst (SeatHome hosts) (sym h.seat) k, after_home hosts e t how os ns i j)
 
-counted_home : (count : ℕ) (e : Event) (t : Transaction) (olds news : List Enlistment) → AreCounted e t olds news → SeatsHome count olds → SeatsHome count news
-counted_home count e t [] [] h k = tt
-counted_home count e t [] (n ∷ ns) h k = absurd h
-counted_home count e t (o ∷ os) [] h k = absurd h
-counted_home count e t (o ∷ os) (n ∷ ns) (h, i) (k, j) = (subst (SeatHome count) (sym h.seat) k, counted_home count e t os ns i j)
+counted_home : (hosts : Hosts) (e : Event) (t : Transaction) (olds news : List Enlistment) → AreCounted e t olds news → SeatsHome hosts olds → SeatsHome hosts news
+counted_home hosts e t [] [] h k = tt
+counted_home hosts e t [] (n ∷ ns) h k = absurd h
+counted_home hosts e t (o ∷ os) [] h k = absurd h
+counted_home hosts e t (o ∷ os) (n ∷ ns) (h, i) (k, j) = (subst (SeatHome hosts) (sym h.seat) k, counted_home hosts e t os ns i j)
 
-link_home : (count : ℕ) (e : Event) (old new : Transaction) (kind : Kind) → Answered count e → KeepsLink e old new kind → TransactionHome count old
-    → IsSeatIfKnown count kind (coordinator_at kind new.superior)
-link_home count e old new kind a (inl same) h = subst (IsSeatIfKnown count kind) (sym same) (h.1 kind)
-link_home count e old new kind a (inr j) h = subst (IsSeatIfKnown count kind) (sym j.known) (a j.message j.coordinator old.id kind j.came j.says j.target)
+link_home : (hosts : Hosts) (e : Event) (old new : Transaction) (kind : Kind) → Answered hosts e → KeepsLink e old new kind → TransactionHome hosts old
+    → IsSeatIfKnown hosts kind (coordinator_at kind new.superior)
+link_home hosts e old new kind a (inl same) h = subst (IsSeatIfKnown hosts kind) (sym same) (h.1 kind)
+link_home hosts e old new kind a (inr j) h = subst (IsSeatIfKnown hosts kind) (sym j.known) (a j.message j.coordinator old.id kind j.came j.says j.target)
 
-left_home : (count : ℕ) (e : Event) (t : Transaction) (how : How) (item : Option Transaction) → Answered count e → KeepsLinksIfLeft e t item → AreSeatsIfLeft e t how item
-    → TransactionHome count t → IfThere (TransactionHome count) item
-left_home count e t how None a l h k = tt
-left_home count e t how (Some new) a l h k = (after_home count e t how t.seats new.seats h k.0, λ kind. link_home count e t new kind a (l kind) k)
+left_home : (hosts : Hosts) (e : Event) (t : Transaction) (how : How) (item : Option Transaction) → Answered hosts e → KeepsLinksIfLeft e t item → AreSeatsIfLeft e t how item
+    → TransactionHome hosts t → IfThere (TransactionHome hosts) item
+left_home hosts e t how None a l h k = tt
+left_home hosts e t how (Some new) a l h k = (after_home hosts e t how t.seats new.seats h k.0, λ kind. link_home hosts e t new kind a (l kind) k)
 
 durable_kind : (kind : Kind) (b : Bool) → (is_kind kind kinds.Durable && b) ≡ true → kind ≡ kinds.Durable
 durable_kind kinds.Durable b e = refl
 durable_kind kinds.Volatile b e = absurd cc
 
-prepared_home : (count : ℕ) (seats : List Enlistment) → SeatsHome count seats → NamesHome count (prepared seats)
-prepared_home count [] h = tt
-prepared_home count (s ∷ seats) (h, k) = by_test (prepared_home count seats k) (is_prepared_durable s) refl
+prepared_home : (hosts : Hosts) (seats : List Enlistment) → SeatsHome hosts seats → NamesHome hosts (prepared seats)
+prepared_home hosts [] h = tt
+prepared_home hosts (s ∷ seats) (h, k) = by_test (prepared_home hosts seats k) (is_prepared_durable s) refl
   where
-    by_test : NamesHome count (prepared seats) → (b : Bool) → is_prepared_durable s ≡ b
-        → NamesHome count (map seated (if b then s ∷ filter is_prepared_durable seats else filter is_prepared_durable seats))
-    by_test rest true e = (subst (λ kind. IsParticipant count kind s.participant) (durable_kind s.kind (is_state s.state states.Prepared) e) h, rest)
+    by_test : NamesHome hosts (prepared seats) → (b : Bool) → is_prepared_durable s ≡ b
+        → NamesHome hosts (map seated (if b then s ∷ filter is_prepared_durable seats else filter is_prepared_durable seats))
+    by_test rest true e = (subst (λ kind. IsParticipant hosts kind s.participant) (durable_kind s.kind (is_state s.state states.Prepared) e) h, rest)
     by_test rest false e = rest
 
-vote_home : (count : ℕ) (id : Numbers) (superior : Option Epr) (at : List Enlistment) → IsSeatIfKnown count kinds.Durable superior → SeatsHome count at
-    → IfThere (RecordHome count) (option_map (λ to. records.Voted id to (prepared at)) superior)
-vote_home count id None at h k = tt
-vote_home count id (Some to) at h k = (h, prepared_home count at k)
+vote_home : (hosts : Hosts) (id : Numbers) (superior : Option Epr) (at : List Enlistment) → IsSeatIfKnown hosts kinds.Durable superior → SeatsHome hosts at
+    → IfThere (RecordHome hosts) (option_map (λ to. records.Voted id to (prepared at)) superior)
+vote_home hosts id None at h k = tt
+vote_home hosts id (Some to) at h k = (h, prepared_home hosts at k)
 
-recorded_home : (count : ℕ) (how : How) (t : Transaction) (at : List Enlistment) → TransactionHome count t → SeatsHome count at → IfThere (RecordHome count) (recorded how t at)
-recorded_home count How.Votes t at h k = vote_home count t.id (superior_at t.superior) at (h.1 kinds.Durable) k
-recorded_home count How.Decides t at h k = prepared_home count at k
-recorded_home count How.DecidesAlone t at h k = prepared_home count at k
-recorded_home count How.Commits t at h k = tt
-recorded_home count How.RollsBack t at h k = tt
-recorded_home count How.Ends t at h k = tt
-recorded_home count How.Idles t at h k = tt
-recorded_home count How.Aborts t at h k = tt
-recorded_home count How.Leaves t at h k = tt
-recorded_home count How.Forgets t at h k = tt
+recorded_home : (hosts : Hosts) (how : How) (t : Transaction) (at : List Enlistment) → TransactionHome hosts t → SeatsHome hosts at → IfThere (RecordHome hosts) (recorded how t at)
+recorded_home hosts How.Votes t at h k = vote_home hosts t.id (superior_at t.superior) at (h.1 kinds.Durable) k
+recorded_home hosts How.Decides t at h k = prepared_home hosts at k
+recorded_home hosts How.DecidesAlone t at h k = prepared_home hosts at k
+recorded_home hosts How.Commits t at h k = tt
+recorded_home hosts How.RollsBack t at h k = tt
+recorded_home hosts How.Ends t at h k = tt
+recorded_home hosts How.Idles t at h k = tt
+recorded_home hosts How.Aborts t at h k = tt
+recorded_home hosts How.Leaves t at h k = tt
+recorded_home hosts How.Forgets t at h k = tt
 
-deed_home : (count : ℕ) (e : Event) (t : Transaction) (entry : Option Record) (c : Change Transaction) → Answered count e → Deed e t entry c → TransactionHome count t
-    → IfThere (TransactionHome count) c.item × IfThere (RecordHome count) entry
-deed_home count e t entry c a d h = (
-  left_home count e t d.how c.item a d.links (deeds_move_seats.seats e t entry c d) h,
-  subst (IfThere (RecordHome count)) (sym d.records) (recorded_home count d.how t d.at h (counted_home count e t t.seats d.at d.counted h.0)),
+deed_home : (hosts : Hosts) (e : Event) (t : Transaction) (entry : Option Record) (c : Change Transaction) → Answered hosts e → Deed e t entry c → TransactionHome hosts t
+    → IfThere (TransactionHome hosts) c.item × IfThere (RecordHome hosts) entry
+deed_home hosts e t entry c a d h = (
+  left_home hosts e t d.how c.item a d.links (deeds_move_seats.seats e t entry c d) h,
+  subst (IfThere (RecordHome hosts)) (sym d.records) (recorded_home hosts d.how t d.at h (counted_home hosts e t t.seats d.at d.counted h.0)),
 )
 
 -- leaves
-idle_home : (count : ℕ) (m : Moment) (e : Event) (l left : Leaf) (ps : List Post) → Answered count e → LeafIdles m e l left ps → LeafHome count l → LeafHome count left
-idle_home count m e l left ps a (rests is sent) h = subst (LeafHome count) (sym is) h
-idle_home count m e l left ps a (registered c r came answers state request is sent) h =
-    subst (LeafHome count) (sym is) (a came.arrived c l.id l.kind came.event came.message came.target)
-idle_home count m e l left ps a (registers_again r due state request is sent) h = subst (LeafHome count) (sym is) h
-idle_home count m e l left ps a (votes_again to why state knows is sent) h = subst (LeafHome count) (sym is) h
+idle_home : (hosts : Hosts) (m : Moment) (e : Event) (l left : Leaf) (ps : List Post) → Answered hosts e → LeafIdles m e l left ps → LeafHome hosts l → LeafHome hosts left
+idle_home hosts m e l left ps a (rests is sent) h = subst (LeafHome hosts) (sym is) h
+idle_home hosts m e l left ps a (registered c r came answers state request is sent) h =
+    subst (LeafHome hosts) (sym is) (a came.arrived c l.id l.kind came.event came.message came.target)
+idle_home hosts m e l left ps a (registers_again r due state request is sent) h = subst (LeafHome hosts) (sym is) h
+idle_home hosts m e l left ps a (votes_again to why state knows is sent) h = subst (LeafHome hosts) (sym is) h
 
-none_home : (count : ℕ) (o : Option Leaf) → o ≡ None → IfThere (LeafHome count) o
-none_home count o e = subst (IfThere (LeafHome count)) (sym e) tt
+none_home : (hosts : Hosts) (o : Option Leaf) → o ≡ None → IfThere (LeafHome hosts) o
+none_home hosts o e = subst (IfThere (LeafHome hosts)) (sym e) tt
 
-unrecorded : (count : ℕ) (entry : Option Record) → entry ≡ None → IfThere (RecordHome count) entry
-unrecorded count entry e = subst (IfThere (RecordHome count)) (sym e) tt
+unrecorded : (hosts : Hosts) (entry : Option Record) → entry ≡ None → IfThere (RecordHome hosts) entry
+unrecorded hosts entry e = subst (IfThere (RecordHome hosts)) (sym e) tt
 
-ended_home : (count : ℕ) (kind : Kind) (r : Record) (entry : Option Record) → entry ≡ for_durable kind r → RecordHome count r → IfThere (RecordHome count) entry
-ended_home count kinds.Durable r entry e h = subst (IfThere (RecordHome count)) (sym e) h
-ended_home count kinds.Volatile r entry e h = subst (IfThere (RecordHome count)) (sym e) tt
+ended_home : (hosts : Hosts) (kind : Kind) (r : Record) (entry : Option Record) → entry ≡ for_durable kind r → RecordHome hosts r → IfThere (RecordHome hosts) entry
+ended_home hosts kinds.Durable r entry e h = subst (IfThere (RecordHome hosts)) (sym e) h
+ended_home hosts kinds.Volatile r entry e h = subst (IfThere (RecordHome hosts)) (sym e) tt
 
-vote_of_leaf : (count : ℕ) (id : Numbers) (kind : Kind) (to : Epr) (key value : List ℕ) (entry : Option Record) → entry ≡ for_durable kind (records.LeafPrepared id to key value)
-    → IsSeat count kind to → IfThere (RecordHome count) entry
-vote_of_leaf count id kinds.Durable to key value entry e h = subst (IfThere (RecordHome count)) (sym e) h
-vote_of_leaf count id kinds.Volatile to key value entry e h = subst (IfThere (RecordHome count)) (sym e) tt
+vote_of_leaf : (hosts : Hosts) (id : Numbers) (kind : Kind) (to : Epr) (key value : List ℕ) (entry : Option Record) → entry ≡ for_durable kind (records.LeafPrepared id to key value)
+    → IsSeat hosts kind to → IfThere (RecordHome hosts) entry
+vote_of_leaf hosts id kinds.Durable to key value entry e h = subst (IfThere (RecordHome hosts)) (sym e) h
+vote_of_leaf hosts id kinds.Volatile to key value entry e h = subst (IfThere (RecordHome hosts)) (sym e) tt
 
-leaf_deed_home : (count : ℕ) (m : Moment) (e : Event) (l : Leaf) (entry : Option Record) (c : Change Leaf) → Answered count e → LeafDeed m e l entry c → LeafHome count l
-    → IfThere (LeafHome count) c.item × IfThere (RecordHome count) entry
-leaf_deed_home count m e l entry c a (idles left why none item effects) h =
-    (subst (IfThere (LeafHome count)) (sym item) (idle_home count m e l left c.posts a why h), unrecorded count entry none)
-leaf_deed_home count m e l entry c a (aborts state why none item effects) h = (none_home count c.item item, unrecorded count entry none)
-leaf_deed_home count m e l entry c a (prepares to came state vote knows is item effects sent) h =
-    (subst (IfThere (LeafHome count)) (sym item) h, vote_of_leaf count l.id l.kind to l.key l.value entry is (subst (IsSeatIfKnown count l.kind) knows h))
-leaf_deed_home count m e l entry c a (leaves to came state vote knows none item effects sent) h = (none_home count c.item item, unrecorded count entry none)
-leaf_deed_home count m e l entry c a (dropped came kind none item effects sent) h = (none_home count c.item item, unrecorded count entry none)
-leaf_deed_home count m e l entry c a (commits to came state knows is item effects sent) h =
-    (none_home count c.item item, ended_home count l.kind (records.LeafCommitted l.id) entry is tt)
-leaf_deed_home count m e l entry c a (rolls_back to came state knows is item effects sent) h =
-    (none_home count c.item item, ended_home count l.kind (records.LeafAborted l.id) entry is tt)
+leaf_deed_home : (hosts : Hosts) (m : Moment) (e : Event) (l : Leaf) (entry : Option Record) (c : Change Leaf) → Answered hosts e → LeafDeed m e l entry c → LeafHome hosts l
+    → IfThere (LeafHome hosts) c.item × IfThere (RecordHome hosts) entry
+leaf_deed_home hosts m e l entry c a (idles left why none item effects) h =
+    (subst (IfThere (LeafHome hosts)) (sym item) (idle_home hosts m e l left c.posts a why h), unrecorded hosts entry none)
+leaf_deed_home hosts m e l entry c a (aborts state why none item effects) h = (none_home hosts c.item item, unrecorded hosts entry none)
+leaf_deed_home hosts m e l entry c a (prepares to came state vote knows is item effects sent) h =
+    (subst (IfThere (LeafHome hosts)) (sym item) h, vote_of_leaf hosts l.id l.kind to l.key l.value entry is (subst (IsSeatIfKnown hosts l.kind) knows h))
+leaf_deed_home hosts m e l entry c a (leaves to came state vote knows none item effects sent) h = (none_home hosts c.item item, unrecorded hosts entry none)
+leaf_deed_home hosts m e l entry c a (dropped came kind none item effects sent) h = (none_home hosts c.item item, unrecorded hosts entry none)
+leaf_deed_home hosts m e l entry c a (commits to came state knows is item effects sent) h =
+    (none_home hosts c.item item, ended_home hosts l.kind (records.LeafCommitted l.id) entry is tt)
+leaf_deed_home hosts m e l entry c a (rolls_back to came state knows is item effects sent) h =
+    (none_home hosts c.item item, ended_home hosts l.kind (records.LeafAborted l.id) entry is tt)
 
 -- a registration
-pub register_home : (count : ℕ) (u : World) (n : ℕ) (x : Node) (b : Book) (e : Event) (now : ℕ) (landed : Bool) (a : Arrived) (r : Register) (kind : Kind) → Stepping count u n x b e now landed
-    → e ≡ events.Arrived a → a.message ≡ messages.Register r → protocol_named r.protocol ≡ Some (Some kind) → IsParticipant count kind r.participant
-register_home count u n x b e now landed a r kind s came says protocol =
-    let h : HasCome count u n a = has_come count u n x b e now landed a s came in
+pub register_home : (hosts : Hosts) (u : World) (n : ℕ) (x : Node) (b : Book) (e : Event) (now : ℕ) (landed : Bool) (a : Arrived) (r : Register) (kind : Kind) → Stepping hosts u n x b e now landed
+    → e ≡ events.Arrived a → a.message ≡ messages.Register r → protocol_named r.protocol ≡ Some (Some kind) → IsParticipant hosts kind r.participant
+register_home hosts u n x b e now landed a r kind s came says protocol =
+    let h : HasCome hosts u n a = has_come hosts u n x b e now landed a s came in
     let p : Posted = h.posted in
-    let own = registers_named count u s.small s.reached p r h.stands (h.message ∙ says) in
+    let own = registers_named hosts u s.small s.reached p r h.stands (h.message ∙ says) in
     let (i, is) = for_kind own.own own.id r.protocol kind own.registers protocol in
     let (y, there, drawn) = own.known.1 in
-    let (least, most) = node_range count u s.small s.reached p.sender y there in
+    let (least, most) = node_range hosts u s.small s.reached p.sender y there in
     record {
       who = record { node = p.sender; id = i };
       place = record { least = least; most = most; id = subst IsId (id_of own.own own.id r.protocol kind i own.registers is) own.known.0 };
-      is = own.participant ∙ ap (endpoint_of (base_of p.sender)) is;
+      is = own.participant ∙ ap (endpoint_of (hosts.base_of p.sender)) is;
     }
   where
     id_of : (T : Target) (id : Numbers) (protocol : List ℕ) (k : Kind) (i : Numbers) → RegistersFor T id protocol → T ≡ targets.Participant i k → id ≡ i
@@ -310,61 +310,61 @@ register_home count u n x b e now landed a r kind s came says protocol =
     id_of (targets.Completion j) id protocol d i h e = absurd h
     id_of (targets.Coordinator j q) id protocol d i h e = absurd h
 
-enrolled_home : (count : ℕ) (u : World) (n : ℕ) (x : Node) (b : Book) (e : Event) (now : ℕ) (landed : Bool) → Stepping count u n x b e now landed
+enrolled_home : (hosts : Hosts) (u : World) (n : ℕ) (x : Node) (b : Book) (e : Event) (now : ℕ) (landed : Bool) → Stepping hosts u n x b e now landed
     → (d : Registered b e now (standing landed (plan b e now).entry) (step b e now landed)) → Enrolls (moment_of b now) d.arrived d.request d.old d.gives
-    → TransactionHome count d.old → TransactionHome count d.gives.transaction
-enrolled_home count u n x b e now landed s d (takes_seat kind protocol may is) (h, k) =
-    subst (λ g. TransactionHome count g.transaction) (sym is) (
-      all_join (λ q. SeatHome count (accepted_as q)) d.old.seats (new_seat d.old d.request.participant kind ∷ []) h
-          (register_home count u n x b e now landed d.arrived d.request kind s d.came d.says protocol, tt),
+    → TransactionHome hosts d.old → TransactionHome hosts d.gives.transaction
+enrolled_home hosts u n x b e now landed s d (takes_seat kind protocol may is) (h, k) =
+    subst (λ g. TransactionHome hosts g.transaction) (sym is) (
+      all_join (λ q. SeatHome hosts (accepted_as q)) d.old.seats (new_seat d.old d.request.participant kind ∷ []) h
+          (register_home hosts u n x b e now landed d.arrived d.request kind s d.came d.says protocol, tt),
       k,
     )
-enrolled_home count u n x b e now landed s d (takes_completion protocol may is) h = subst (λ g. TransactionHome count g.transaction) (sym is) h
-enrolled_home count u n x b e now landed s d (has_seat kind q protocol there k who is) h = subst (λ g. TransactionHome count g.transaction) (sym is) h
-enrolled_home count u n x b e now landed s d (has_completion c protocol there who is) h = subst (λ g. TransactionHome count g.transaction) (sym is) h
-enrolled_home count u n x b e now landed s d (refuses name is) h = subst (λ g. TransactionHome count g.transaction) (sym is) h
+enrolled_home hosts u n x b e now landed s d (takes_completion protocol may is) h = subst (λ g. TransactionHome hosts g.transaction) (sym is) h
+enrolled_home hosts u n x b e now landed s d (has_seat kind q protocol there k who is) h = subst (λ g. TransactionHome hosts g.transaction) (sym is) h
+enrolled_home hosts u n x b e now landed s d (has_completion c protocol there who is) h = subst (λ g. TransactionHome hosts g.transaction) (sym is) h
+enrolled_home hosts u n x b e now landed s d (refuses name is) h = subst (λ g. TransactionHome hosts g.transaction) (sym is) h
 
 -- recovery
-seats_recovered : (count : ℕ) (state : State) (seats : List Seated) → NamesHome count seats → SeatsHome count (map (recovered_seat state) seats)
-seats_recovered count state [] h = tt
-seats_recovered count state (s ∷ seats) (h, k) = (h, seats_recovered count state seats k)
+seats_recovered : (hosts : Hosts) (state : State) (seats : List Seated) → NamesHome hosts seats → SeatsHome hosts (map (recovered_seat state) seats)
+seats_recovered hosts state [] h = tt
+seats_recovered hosts state (s ∷ seats) (h, k) = (h, seats_recovered hosts state seats k)
 
-voted_home : (count : ℕ) (id : Numbers) (superior : Epr) (seats : List Seated) (committed : Bool) → IsSeat count kinds.Durable superior × NamesHome count seats
-    → TransactionHome count (recovered_voted id superior seats committed)
-voted_home count id superior seats true (h, k) = (seats_recovered count states.Committing seats k, λ kind. by_kind kind)
+voted_home : (hosts : Hosts) (id : Numbers) (superior : Epr) (seats : List Seated) (committed : Bool) → IsSeat hosts kinds.Durable superior × NamesHome hosts seats
+    → TransactionHome hosts (recovered_voted id superior seats committed)
+voted_home hosts id superior seats true (h, k) = (seats_recovered hosts states.Committing seats k, λ kind. by_kind kind)
   where
-    by_kind : (kind : Kind) → IsSeatIfKnown count kind (coordinator_at kind (recovered_voted id superior seats true).superior)
+    by_kind : (kind : Kind) → IsSeatIfKnown hosts kind (coordinator_at kind (recovered_voted id superior seats true).superior)
     by_kind kinds.Durable = h
     by_kind kinds.Volatile = tt
-voted_home count id superior seats false (h, k) = (seats_recovered count states.Prepared seats k, λ kind. by_kind kind)
+voted_home hosts id superior seats false (h, k) = (seats_recovered hosts states.Prepared seats k, λ kind. by_kind kind)
   where
-    by_kind : (kind : Kind) → IsSeatIfKnown count kind (coordinator_at kind (recovered_voted id superior seats false).superior)
+    by_kind : (kind : Kind) → IsSeatIfKnown hosts kind (coordinator_at kind (recovered_voted id superior seats false).superior)
     by_kind kinds.Durable = h
     by_kind kinds.Volatile = tt
 
-homes : (count : ℕ) → NodesLaw count
-homes count = record {
-  OfTransaction = λ w n t. TransactionHome count t;
-  OfLeaf = λ w n l. LeafHome count l;
+homes : (hosts : Hosts) → NodesLaw hosts
+homes hosts = record {
+  OfTransaction = λ w n t. TransactionHome hosts t;
+  OfLeaf = λ w n l. LeafHome hosts l;
   OfActivity = λ w n a. Unit {0};
-  OfRecord = λ w n r. RecordHome count r;
+  OfRecord = λ w n r. RecordHome hosts r;
   transaction_on = λ u w g n t h. h;
   leaf_on = λ u w g n l h. h;
   activity_on = λ u w g n a h. h;
   record_on = λ u w g n r h. h;
-  did = λ u n x b e now landed s d h. deed_home count e d.old _ d.change (answered count u n x b e now landed s) d.deed h;
-  leaf_does = λ u n x b e now landed s d h. leaf_deed_home count (moment_of b now) e d.old _ d.change (answered count u n x b e now landed s) d.deed h;
+  did = λ u n x b e now landed s d h. deed_home hosts e d.old _ d.change (answered hosts u n x b e now landed s) d.deed h;
+  leaf_does = λ u n x b e now landed s d h. leaf_deed_home hosts (moment_of b now) e d.old _ d.change (answered hosts u n x b e now landed s) d.deed h;
   activity_does = λ u n x b e now landed s d h. any_unit d.change.item;
-  enrolls = λ u n x b e now landed s d h. enrolled_home count u n x b e now landed s d d.enrolls h;
+  enrolls = λ u n x b e now landed s d h. enrolled_home hosts u n x b e now landed s d d.enrolls h;
   makes = λ u n x b e now landed s d.
       let f : IsFresh d.id d.new = made_fresh b e now _ _ d in
-      (subst (SeatsHome count) (sym f.seats) tt, λ kind. subst (IsSeatIfKnown count kind) (sym (f.knows kind)) tt);
-  makes_leaf = λ u n x b e now landed s d. subst (IsSeatIfKnown count d.new.kind) (sym (leaf_fresh b e now _ _ d).1) tt;
+      (subst (SeatsHome hosts) (sym f.seats) tt, λ kind. subst (IsSeatIfKnown hosts kind) (sym (f.knows kind)) tt);
+  makes_leaf = λ u n x b e now landed s d. subst (IsSeatIfKnown hosts d.new.kind) (sym (leaf_fresh b e now _ _ d).1) tt;
   makes_activity = λ u n x b e now landed s d. tt;
   starts = λ w n i. tt;
   commits = λ w n id superior seats h. tt;
-  voted = λ w n id superior seats committed h. voted_home count id superior seats committed h;
-  decided = λ w n base id seats h. (seats_recovered count states.Committing seats h, λ kind. tt);
+  voted = λ w n id superior seats committed h. voted_home hosts id superior seats committed h;
+  decided = λ w n base id seats h. (seats_recovered hosts states.Committing seats h, λ kind. tt);
   prepared = λ w n id coordinator key value h. h;
 }
   where
@@ -373,12 +373,12 @@ homes count = record {
     any_unit (Some a) = tt
 
 -- each transaction, and each leaf, of a world that is reached
-pub transactions_home : (count : ℕ) (w : World) → count < 2 ^ 64 → Reached count w → (n : ℕ) (x : Node) (b : Book) → nth n w.nodes ≡ Some x → x.book ≡ Some b
-    → AllByRecursion (TransactionHome count) b.transactions
+pub transactions_home : (hosts : Hosts) (w : World) → HaveOwnAddresses hosts → Reached hosts w → (n : ℕ) (x : Node) (b : Book) → nth n w.nodes ≡ Some x → x.book ≡ Some b
+    → AllByRecursion (TransactionHome hosts) b.transactions
 unfolding homes
-transactions_home count w small reached n x b found up = (books_have count small (homes count) w reached n x b found up).transactions
+transactions_home hosts w small reached n x b found up = (books_have hosts small (homes hosts) w reached n x b found up).transactions
 
-pub leaves_home : (count : ℕ) (w : World) → count < 2 ^ 64 → Reached count w → (n : ℕ) (x : Node) (b : Book) → nth n w.nodes ≡ Some x → x.book ≡ Some b
-    → AllByRecursion (LeafHome count) b.leaves
+pub leaves_home : (hosts : Hosts) (w : World) → HaveOwnAddresses hosts → Reached hosts w → (n : ℕ) (x : Node) (b : Book) → nth n w.nodes ≡ Some x → x.book ≡ Some b
+    → AllByRecursion (LeafHome hosts) b.leaves
 unfolding homes
-leaves_home count w small reached n x b found up = (books_have count small (homes count) w reached n x b found up).leaves
+leaves_home hosts w small reached n x b found up = (books_have hosts small (homes hosts) w reached n x b found up).leaves

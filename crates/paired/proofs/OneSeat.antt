@@ -19,7 +19,7 @@ use Rattle.at_model.specs.Book.{Book, Enlistment, Phase, Transaction, is_epr, tr
 use Rattle.at_model.specs.Due.{may_expire}
 use Rattle.at_model.specs.Register.{Registration, accepts, held_seat, may_complete, new_seat, on_register, protocol_named, register_again, seat_endpoint, with_seat}
 use Rattle.at_model.specs.Step.{moment_of, plan, step, transaction_at}
-use Rattle.at_model.specs.World.{Accepted, Node, Who, World, who_at, accepted_by, accepted_in, lost_in, new_nodes, nth, put_book}
+use Rattle.at_model.specs.World.{Accepted, Node, Who, World, who_at, accepted_by, accepted_in, lost_in, new_nodes, nth, put_book, Hosts, HaveOwnAddresses}
 use Rattle.model_laws.specs.Agreement.{IsIn}
 use Rattle.model_laws.specs.Reached.{Reached, counts}
 use Rattle.model_laws.proofs.Deciding.{IfThere, all_more, found_id}
@@ -50,14 +50,14 @@ abbrev pub HasOneSeat : World → Type 0
 HasOneSeat w = (t x : Who) (kind : Kind) (k j : ℕ) → HasSeat w t k kind x → HasSeat w t j kind x → k ≡ j
 
 -- whom a participant's endpoint leads to
-pub home_is : (count : ℕ) (kind : Kind) (e : Epr) (x : Who) → count < 2 ^ 64 → IsParticipant count kind e → who_named count e ≡ Some x → e ≡ participant_of x kind
-home_is count kind e x small h named =
+pub home_is : (hosts : Hosts) (kind : Kind) (e : Epr) (x : Who) → HaveOwnAddresses hosts → IsParticipant hosts kind e → who_named hosts e ≡ Some x → e ≡ participant_of x kind
+home_is hosts kind e x small h named =
     h.is ∙ ap (λ y. participant_of y kind) (same h.who x (sym leads ∙ named))
   where
-    leads : who_named count e ≡ Some h.who
+    leads : who_named hosts e ≡ Some h.who
     leads =
-        ap (who_named count) h.is
-        ∙ (λ i. who_at (leads_home count h.who.node (targets.Participant h.who.id kind) small h.place.least h.place.most h.place.id i))
+        ap (who_named hosts) h.is
+        ∙ (λ i. who_at (leads_home hosts h.who.node (targets.Participant h.who.id kind) small h.place.least h.place.most h.place.id i))
 
     same : (y z : Who) → Some y ≡ Some z → y ≡ z
     same y z f = cc
@@ -110,19 +110,19 @@ same_or_apart m a r t kind e =
     (again_or_apart m a r t kind (find (λ s. is_kind s.kind kind && is_epr s.participant r.participant) t.seats) refl)
 
 -- what a transaction has beyond that which stood in the book
-record IsEnrolled (count : ℕ) (old t : Transaction) : Type 0 where
+record IsEnrolled (hosts : Hosts) (old t : Transaction) : Type 0 where
   kind : Kind
   participant : Epr
-  home : IsParticipant count kind participant
+  home : IsParticipant hosts kind participant
   seats : t.seats ≡ old.seats ++ new_seat old participant kind ∷ []
   apart : AreApart kind participant old.seats
   undecided : may_expire old.phase ≡ true
 
-abbrev IsFurther : ℕ → Transaction → Transaction → Type 0
-IsFurther count old t = (drop (length old.seats) t.seats ≡ []) ⊎ IsEnrolled count old t
+abbrev IsFurther : Hosts → Transaction → Transaction → Type 0
+IsFurther hosts old t = (drop (length old.seats) t.seats ≡ []) ⊎ IsEnrolled hosts old t
 
-abbrev Further : ℕ → Book → Transaction → Type 0
-Further count b t = (old : Transaction) → transaction_at b t.id ≡ Some old → IsFurther count old t
+abbrev Further : Hosts → Book → Transaction → Type 0
+Further hosts b t = (old : Transaction) → transaction_at b t.id ≡ Some old → IsFurther hosts old t
 
 none_behind : (xs ys : List Enlistment) → length xs ≡ length ys → drop (length ys) xs ≡ []
 none_behind [] [] e = refl
@@ -143,14 +143,14 @@ as_many e t how [] (n ∷ ns) h = absurd h
 as_many e t how (o ∷ os) [] h = absurd h
 as_many e t how (o ∷ os) (n ∷ ns) (h, k) = omega (arith, as_many e t how os ns k)
 
-stood_further : (count : ℕ) (b : Book) (t : Transaction) → transaction_at b t.id ≡ Some t → Further count b t
-stood_further count b t here old found =
+stood_further : (hosts : Hosts) (b : Book) (t : Transaction) → transaction_at b t.id ≡ Some t → Further hosts b t
+stood_further hosts b t here old found =
     inl (none_behind t.seats old.seats (ap (λ (y : Transaction). length y.seats) (same_found (transaction_at b t.id) t old here found)))
 
-left_further : (count : ℕ) (b : Book) (e : Event) (t : Transaction) (how : How) (item : Option Transaction) → transaction_at b t.id ≡ Some t → ((new : Transaction) → item ≡ Some new → new.id ≡ t.id)
-    → AreSeatsIfLeft e t how item → IfThere (Further count b) item
-left_further count b e t how None here ids h = tt
-left_further count b e t how (Some new) here ids h =
+left_further : (hosts : Hosts) (b : Book) (e : Event) (t : Transaction) (how : How) (item : Option Transaction) → transaction_at b t.id ≡ Some t → ((new : Transaction) → item ≡ Some new → new.id ≡ t.id)
+    → AreSeatsIfLeft e t how item → IfThere (Further hosts b) item
+left_further hosts b e t how None here ids h = tt
+left_further hosts b e t how (Some new) here ids h =
     λ old found.
     let same : t ≡ old = same_found (transaction_at b t.id) t old here (ap (transaction_at b) (sym (ids new refl)) ∙ found) in
     inl (none_behind new.seats old.seats (as_many e t how t.seats new.seats h ∙ ap (λ (y : Transaction). length y.seats) same))
@@ -169,29 +169,29 @@ too_many m t s e =
     let more : length (t.seats ++ s ∷ []) ≡ length t.seats = ap (λ (y : Transaction). length y.seats) e in
     omega (arith, more, length-append t.seats (s ∷ []))
 
-enrolled_further : (count : ℕ) (u : World) (n : ℕ) (x : Node) (b : Book) (e : Event) (now : ℕ) (landed : Bool) → Stepping count u n x b e now landed
-    → (d : Registered b e now (standing landed (plan b e now).entry) (step b e now landed)) → Enrolls (moment_of b now) d.arrived d.request d.old d.gives → IsFurther count d.old d.gives.transaction
-enrolled_further count u n x b e now landed s d (takes_seat kind protocol may is) = by_case (same_or_apart (moment_of b now) d.arrived d.request d.old kind protocol)
+enrolled_further : (hosts : Hosts) (u : World) (n : ℕ) (x : Node) (b : Book) (e : Event) (now : ℕ) (landed : Bool) → Stepping hosts u n x b e now landed
+    → (d : Registered b e now (standing landed (plan b e now).entry) (step b e now landed)) → Enrolls (moment_of b now) d.arrived d.request d.old d.gives → IsFurther hosts d.old d.gives.transaction
+enrolled_further hosts u n x b e now landed s d (takes_seat kind protocol may is) = by_case (same_or_apart (moment_of b now) d.arrived d.request d.old kind protocol)
   where
-    by_case : ((on_register (moment_of b now) d.arrived d.request d.old).transaction ≡ d.old) ⊎ AreApart kind d.request.participant d.old.seats → IsFurther count d.old d.gives.transaction
+    by_case : ((on_register (moment_of b now) d.arrived d.request d.old).transaction ≡ d.old) ⊎ AreApart kind d.request.participant d.old.seats → IsFurther hosts d.old d.gives.transaction
     by_case (inl same) =
         absurd (too_many (moment_of b now) d.old (new_seat d.old d.request.participant kind)
         (sym (ap (λ (g : Registration). g.transaction) is) ∙ ap (λ (g : Registration). g.transaction) d.given ∙ same))
     by_case (inr apart) = inr (record {
       kind = kind;
       participant = d.request.participant;
-      home = register_home count u n x b e now landed d.arrived d.request kind s d.came d.says protocol;
+      home = register_home hosts u n x b e now landed d.arrived d.request kind s d.came d.says protocol;
       seats = ap (λ (g : Registration). g.transaction.seats) is;
       apart = apart;
       undecided = opens d.old.phase (both_true (accepts d.old.phase) (nat_lt (length d.old.seats) MOST_SEATS) (both_true (accepts d.old.phase && nat_lt (length d.old.seats) MOST_SEATS) (may_complete d.old (Some kind)) may).0).0;
     })
-enrolled_further count u n x b e now landed s d (takes_completion protocol may is) =
+enrolled_further hosts u n x b e now landed s d (takes_completion protocol may is) =
     inl (none_behind d.gives.transaction.seats d.old.seats (ap (λ (g : Registration). length g.transaction.seats) is))
-enrolled_further count u n x b e now landed s d (has_seat kind q protocol there k who is) =
+enrolled_further hosts u n x b e now landed s d (has_seat kind q protocol there k who is) =
     inl (none_behind d.gives.transaction.seats d.old.seats (ap (λ (g : Registration). length g.transaction.seats) is))
-enrolled_further count u n x b e now landed s d (has_completion c protocol there who is) =
+enrolled_further hosts u n x b e now landed s d (has_completion c protocol there who is) =
     inl (none_behind d.gives.transaction.seats d.old.seats (ap (λ (g : Registration). length g.transaction.seats) is))
-enrolled_further count u n x b e now landed s d (refuses name is) =
+enrolled_further hosts u n x b e now landed s d (refuses name is) =
     inl (none_behind d.gives.transaction.seats d.old.seats (ap (λ (g : Registration). length g.transaction.seats) is))
 
 keeps_id : (m : Moment) (a : Arrived) (r : Register) (t : Transaction) (g : Registration) → Enrolls m a r t g → g.transaction.id ≡ t.id
@@ -201,19 +201,19 @@ keeps_id m a r t g (has_seat kind s protocol there k who is) = ap (λ (x : Regis
 keeps_id m a r t g (has_completion c protocol there who is) = ap (λ (x : Registration). x.transaction.id) is
 keeps_id m a r t g (refuses name is) = ap (λ (x : Registration). x.transaction.id) is
 
-all_further : (count : ℕ) (u : World) (n : ℕ) (x : Node) (b : Book) (e : Event) (now : ℕ) (landed : Bool) → Stepping count u n x b e now landed
-    → AllByRecursion (Further count b) (step b e now landed).book.transactions
-all_further count u n x b e now landed s =
-    let ready : IsReady b = step_ready count u n x b e now landed s in
-    transactions_after (Further count b) b e now (standing landed (plan b e now).entry) (step b e now landed) (step_moves b e now landed ready)
-    (all_more (λ t. transaction_at b t.id ≡ Some t) (Further count b) b.transactions (λ t here. stood_further count b t here)
+all_further : (hosts : Hosts) (u : World) (n : ℕ) (x : Node) (b : Book) (e : Event) (now : ℕ) (landed : Bool) → Stepping hosts u n x b e now landed
+    → AllByRecursion (Further hosts b) (step b e now landed).book.transactions
+all_further hosts u n x b e now landed s =
+    let ready : IsReady b = step_ready hosts u n x b e now landed s in
+    transactions_after (Further hosts b) b e now (standing landed (plan b e now).entry) (step b e now landed) (step_moves b e now landed ready)
+    (all_more (λ t. transaction_at b t.id ≡ Some t) (Further hosts b) b.transactions (λ t here. stood_further hosts b t here)
     (finds_each transaction_id b.transactions ready.order.rising.transactions))
-    (λ d. left_further count b e d.old d.deed.how d.change.item d.found (λ new is. same_id d.old d.change.item new d.deed.same is)
+    (λ d. left_further hosts b e d.old d.deed.how d.change.item d.found (λ new is. same_id d.old d.change.item new d.deed.same is)
     (deeds_move_seats.seats e d.old _ d.change d.deed))
     (λ d old found.
     let id : d.gives.transaction.id ≡ d.old.id = keeps_id (moment_of b now) d.arrived d.request d.old d.gives d.enrolls in
-    subst (λ (o : Transaction). IsFurther count o d.gives.transaction) (same_found (transaction_at b d.old.id) d.old old d.found (ap (transaction_at b) (sym id) ∙ found))
-    (enrolled_further count u n x b e now landed s d d.enrolls))
+    subst (λ (o : Transaction). IsFurther hosts o d.gives.transaction) (same_found (transaction_at b d.old.id) d.old old d.found (ap (transaction_at b) (sym id) ∙ found))
+    (enrolled_further hosts u n x b e now landed s d d.enrolls))
     (λ d old found. inl (ap (drop (length old.seats)) (made_fresh b e now _ _ d).seats ∙ none_in (length old.seats)))
   where
     none_in : (k : ℕ) → drop {A = Enlistment} k [] ≡ []
@@ -225,7 +225,7 @@ all_further count u n x b e now landed s =
     same_id old (Some y) new h e = let same : y ≡ new = cc in subst (λ (z : Transaction). z.id ≡ old.id) same h.id
 
 -- a registration that a step accepts
-record IsTaken (count n : ℕ) (b : Book) (t : Who) (number : ℕ) (kind : Kind) (x : Who) : Type 0 where
+record IsTaken (hosts : Hosts) (n : ℕ) (b : Book) (t : Who) (number : ℕ) (kind : Kind) (x : Who) : Type 0 where
   old : Transaction
   found : transaction_at b t.id ≡ Some old
   node : t.node ≡ n
@@ -236,20 +236,20 @@ record IsTaken (count n : ℕ) (b : Book) (t : Who) (number : ℕ) (kind : Kind)
 same_seat : (p q : Seat) → Some p ≡ Some q → p ≡ q
 same_seat p q e = cc
 
-taken_by : (count n : ℕ) (b : Book) (old by : Transaction) (t x : Who) (number : ℕ) (kind : Kind) → count < 2 ^ 64 → transaction_at b by.id ≡ Some old → t ≡ record { node = n; id = by.id }
-    → IsFurther count old by → IsIn (registration t number kind x) (entries count n by.id (drop (length old.seats) by.seats)) → IsTaken count n b t number kind x
-taken_by count n b old by t x number kind small found who (inl none) i = absurd (subst (λ (ss : List Enlistment). IsIn (registration t number kind x) (entries count n by.id ss)) none i)
-taken_by count n b old by t x number kind small found who (inr h) i =
-    by_one (subst (λ (ss : List Enlistment). IsIn (registration t number kind x) (entries count n by.id ss)) (ap (drop (length old.seats)) h.seats ∙ behind_all old.seats (new_seat old h.participant h.kind ∷ [])) i)
+taken_by : (hosts : Hosts) (n : ℕ) (b : Book) (old by : Transaction) (t x : Who) (number : ℕ) (kind : Kind) → HaveOwnAddresses hosts → transaction_at b by.id ≡ Some old → t ≡ record { node = n; id = by.id }
+    → IsFurther hosts old by → IsIn (registration t number kind x) (entries hosts n by.id (drop (length old.seats) by.seats)) → IsTaken hosts n b t number kind x
+taken_by hosts n b old by t x number kind small found who (inl none) i = absurd (subst (λ (ss : List Enlistment). IsIn (registration t number kind x) (entries hosts n by.id ss)) none i)
+taken_by hosts n b old by t x number kind small found who (inr h) i =
+    by_one (subst (λ (ss : List Enlistment). IsIn (registration t number kind x) (entries hosts n by.id ss)) (ap (drop (length old.seats)) h.seats ∙ behind_all old.seats (new_seat old h.participant h.kind ∷ [])) i)
   where
-    by_one : IsIn (registration t number kind x) (entries count n by.id (new_seat old h.participant h.kind ∷ [])) → IsTaken count n b t number kind x
+    by_one : IsIn (registration t number kind x) (entries hosts n by.id (new_seat old h.participant h.kind ∷ [])) → IsTaken hosts n b t number kind x
     by_one (inr none) = absurd none
     by_one (inl e) =
         let seat : record { number = number; kind = kind } ≡ record { number = length old.seats + 1; kind = h.kind } =
         same_seat (record { number = number; kind = kind }) (record { number = length old.seats + 1; kind = h.kind }) (ap (λ (a : Accepted). a.seat) e) in
         let k : h.kind ≡ kind = sym (ap (λ (z : Seat). z.kind) seat) in
         let is : h.participant ≡ participant_of x kind =
-        home_is count kind h.participant x small (subst (λ d. IsParticipant count d h.participant) k h.home) (sym (ap (λ (a : Accepted). a.participant) e)) in
+        home_is hosts kind h.participant x small (subst (λ d. IsParticipant hosts d h.participant) k h.home) (sym (ap (λ (a : Accepted). a.participant) e)) in
         record {
           old = old;
           found = ap (λ (y : Who). transaction_at b y.id) who ∙ found;
@@ -259,35 +259,35 @@ taken_by count n b old by t x number kind small found who (inr h) i =
           apart = subst (λ d. AreApart d (participant_of x kind) old.seats) k (subst (λ p. AreApart h.kind p old.seats) is h.apart);
         }
 
-is_taken : (count : ℕ) (u : World) (n : ℕ) (y : Node) (b : Book) (e : Event) (now : ℕ) (landed : Bool) (t x : Who) (number : ℕ) (kind : Kind) → Stepping count u n y b e now landed
-    → IsIn (registration t number kind x) (accepted_in n u.nodes b (step b e now landed).book.transactions) → IsTaken count n b t number kind x
-is_taken count u n y b e now landed t x number kind s i = by_old (transaction_at b k.by.id) refl k.there
+is_taken : (hosts : Hosts) (u : World) (n : ℕ) (y : Node) (b : Book) (e : Event) (now : ℕ) (landed : Bool) (t x : Who) (number : ℕ) (kind : Kind) → Stepping hosts u n y b e now landed
+    → IsIn (registration t number kind x) (accepted_in n u.nodes b (step b e now landed).book.transactions) → IsTaken hosts n b t number kind x
+is_taken hosts u n y b e now landed t x number kind s i = by_old (transaction_at b k.by.id) refl k.there
   where
     news : List Transaction
     news = (step b e now landed).book.transactions
 
-    k : IsNew n (new_nodes count 1) b news (registration t number kind x)
+    k : IsNew n (new_nodes hosts.base_of hosts.count 1) b news (registration t number kind x)
     k =
-        is_new n (new_nodes count 1) b news (registration t number kind x)
-        (subst (IsIn (registration t number kind x)) (accepted_same n u.nodes (new_nodes count 1) b news (world_bases count u s.small s.reached)) i)
+        is_new n (new_nodes hosts.base_of hosts.count 1) b news (registration t number kind x)
+        (subst (IsIn (registration t number kind x)) (accepted_same n u.nodes (new_nodes hosts.base_of hosts.count 1) b news (world_bases hosts u s.small s.reached)) i)
 
-    by_old : (o : Option Transaction) → transaction_at b k.by.id ≡ o → IsIn (registration t number kind x) (accepted_by n (new_nodes count 1) o k.by) → IsTaken count n b t number kind x
+    by_old : (o : Option Transaction) → transaction_at b k.by.id ≡ o → IsIn (registration t number kind x) (accepted_by n (new_nodes hosts.base_of hosts.count 1) o k.by) → IsTaken hosts n b t number kind x
     by_old None f j = absurd j
     by_old (Some old) f j =
-        taken_by count n b old k.by t x number kind s.small f (of_transaction n (new_nodes count 1) (Some old) k.by (registration t number kind x) j)
-        (one_of (Further count b) news k.by (all_further count u n y b e now landed s) k.among old f)
-        (at_further_seat count n old k.by (registration t number kind x) (record { number = number; kind = kind }) j refl)
+        taken_by hosts n b old k.by t x number kind s.small f (of_transaction n (new_nodes hosts.base_of hosts.count 1) (Some old) k.by (registration t number kind x) j)
+        (one_of (Further hosts b) news k.by (all_further hosts u n y b e now landed s) k.among old f)
+        (at_further_seat hosts n old k.by (registration t number kind x) (record { number = number; kind = kind }) j refl)
 
 -- the participant had no registration with this transaction
-none_before : (count : ℕ) (u : World) (n : ℕ) (y : Node) (b : Book) (t x : Who) (number other : ℕ) (kind : Kind) → count < 2 ^ 64 → Reached count u → nth n u.nodes ≡ Some y → y.book ≡ Some b
-    → IsTaken count n b t number kind x → HasSeat u t other kind x → ⊥
-none_before count u n y b t x number other kind small reached found up k i =
+none_before : (hosts : Hosts) (u : World) (n : ℕ) (y : Node) (b : Book) (t x : Who) (number other : ℕ) (kind : Kind) → HaveOwnAddresses hosts → Reached hosts u → nth n u.nodes ≡ Some y → y.book ≡ Some b
+    → IsTaken hosts n b t number kind x → HasSeat u t other kind x → ⊥
+none_before hosts u n y b t x number other kind small reached found up k i =
     one_of (λ (s : Enlistment). s.kind ≡ kind → s.participant ≡ participant_of x kind → ⊥) k.old.seats r.seat k.apart r.among r.kind_is
-    (home_is count kind r.seat.participant x small
-    (subst (λ d. IsParticipant count d r.seat.participant) r.kind_is
-    (one_of (λ (s : Enlistment). IsParticipant count s.kind s.participant) k.old.seats r.seat
-    (one_of (λ (z : Transaction). AllByRecursion (λ s. IsParticipant count s.kind s.participant) z.seats) b.transactions k.old
-    (all_more _ _ b.transactions (λ z h. h.0) (transactions_home count u small reached n y b found up)) among) r.among))
+    (home_is hosts kind r.seat.participant x small
+    (subst (λ d. IsParticipant hosts d r.seat.participant) r.kind_is
+    (one_of (λ (s : Enlistment). IsParticipant hosts s.kind s.participant) k.old.seats r.seat
+    (one_of (λ (z : Transaction). AllByRecursion (λ s. IsParticipant hosts s.kind s.participant) z.seats) b.transactions k.old
+    (all_more _ _ b.transactions (λ z h. h.0) (transactions_home hosts u small reached n y b found up)) among) r.among))
     r.named)
   where
     among : IsIn k.old b.transactions
@@ -299,16 +299,16 @@ none_before count u n y b t x number other kind small reached found up k i =
     who : t ≡ record { node = n; id = k.old.id }
     who = λ j. record { node = k.node j; id = id_is j }
 
-    r : SeatOf count k.old.seats other kind x
+    r : SeatOf hosts k.old.seats other kind x
     r =
-        seat_of count n k.old.id k.old.seats other kind x
-        (subst (IsIn (registration (record { node = n; id = k.old.id }) other kind x)) (seats_same n u.nodes (new_nodes count 1) k.old.id k.old.seats (world_bases count u small reached))
-        ((world_seated count u small reached).complete n y b k.old found up among k.undecided (registration (record { node = n; id = k.old.id }) other kind x) (record { number = other; kind = kind })
+        seat_of hosts n k.old.id k.old.seats other kind x
+        (subst (IsIn (registration (record { node = n; id = k.old.id }) other kind x)) (seats_same n u.nodes (new_nodes hosts.base_of hosts.count 1) k.old.id k.old.seats (world_bases hosts u small reached))
+        ((world_seated hosts u small reached).complete n y b k.old found up among k.undecided (registration (record { node = n; id = k.old.id }) other kind x) (record { number = other; kind = kind })
         (subst (λ z. HasSeat u z other kind x) who i) refl refl))
 
-step_one_seat : (count : ℕ) (u : World) (n : ℕ) (y : Node) (b : Book) (e : Event) (now : ℕ) (landed : Bool) → Stepping count u n y b e now landed → HasOneSeat u
+step_one_seat : (hosts : Hosts) (u : World) (n : ℕ) (y : Node) (b : Book) (e : Event) (now : ℕ) (landed : Bool) → Stepping hosts u n y b e now landed → HasOneSeat u
     → HasOneSeat (counts u n y b e now landed)
-step_one_seat count u n y b e now landed s h t x kind k j i l =
+step_one_seat hosts u n y b e now landed s h t x kind k j i l =
     by_both (in_either (registration t k kind x) u.accepted news i) (in_either (registration t j kind x) u.accepted news l)
   where
     news : List Accepted
@@ -316,20 +316,20 @@ step_one_seat count u n y b e now landed s h t x kind k j i l =
 
     by_both : IsIn (registration t k kind x) u.accepted ⊎ IsIn (registration t k kind x) news → IsIn (registration t j kind x) u.accepted ⊎ IsIn (registration t j kind x) news → k ≡ j
     by_both (inl p) (inl q) = h t x kind k j p q
-    by_both (inl p) (inr q) = absurd (none_before count u n y b t x j k kind s.small s.reached s.found s.up (is_taken count u n y b e now landed t x j kind s q) p)
-    by_both (inr p) (inl q) = absurd (none_before count u n y b t x k j kind s.small s.reached s.found s.up (is_taken count u n y b e now landed t x k kind s p) q)
+    by_both (inl p) (inr q) = absurd (none_before hosts u n y b t x j k kind s.small s.reached s.found s.up (is_taken hosts u n y b e now landed t x j kind s q) p)
+    by_both (inr p) (inl q) = absurd (none_before hosts u n y b t x k j kind s.small s.reached s.found s.up (is_taken hosts u n y b e now landed t x k kind s p) q)
     by_both (inr p) (inr q) =
-        let one : IsTaken count n b t k kind x = is_taken count u n y b e now landed t x k kind s p in
-        let other : IsTaken count n b t j kind x = is_taken count u n y b e now landed t x j kind s q in
+        let one : IsTaken hosts n b t k kind x = is_taken hosts u n y b e now landed t x k kind s p in
+        let other : IsTaken hosts n b t j kind x = is_taken hosts u n y b e now landed t x j kind s q in
         one.least ∙ ap (λ (z : Transaction). length z.seats + 1) (same_found (transaction_at b t.id) one.old other.old one.found other.found) ∙ sym other.least
 
-seated_once : (count : ℕ) → count < 2 ^ 64 → Law count
-seated_once count small = record {
+seated_once : (hosts : Hosts) → HaveOwnAddresses hosts → Law hosts
+seated_once hosts small = record {
   Good = HasOneSeat;
   Fine = λ w g n p. Unit {0};
   opens = λ t x kind k j i. absurd i;
   steps = λ u n x b e now landed reached found up heard h. (
-    step_one_seat count u n x b e now landed (record { small = small; reached = reached; found = found; up = up; heard = heard }) h,
+    step_one_seat hosts u n x b e now landed (record { small = small; reached = reached; found = found; up = up; heard = heard }) h,
     out_unit (step b e now landed).outs,
   );
   posts = λ w h n p f. h;
@@ -339,6 +339,6 @@ seated_once count small = record {
   waits = λ u n x clock reached found h. h;
 }
 
-pub one_seat : (count : ℕ) (w : World) → count < 2 ^ 64 → Reached count w → HasOneSeat w
+pub one_seat : (hosts : Hosts) (w : World) → HaveOwnAddresses hosts → Reached hosts w → HasOneSeat w
 unfolding seated_once
-one_seat count w small reached = holds count (seated_once count small) w reached
+one_seat hosts w small reached = holds hosts (seated_once hosts small) w reached

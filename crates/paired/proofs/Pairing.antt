@@ -11,7 +11,7 @@ use Rattle.at_tables.specs.declared.cells.State.TheVariants as states
 use Rattle.at_model.specs.Book.{Book, Enlistment, Leaf, Transaction}
 use Rattle.at_model.specs.Due.{may_expire}
 use Rattle.at_model.specs.Step.{leaf_at, transaction_at}
-use Rattle.at_model.specs.World.{Accepted, Node, Who, World, accepted_seat, new_nodes, nth, who_at, who_of}
+use Rattle.at_model.specs.World.{Accepted, Node, Who, World, accepted_seat, new_nodes, nth, who_at, who_of, Hosts, HaveOwnAddresses}
 use Rattle.model_laws.specs.Agreement.{IsIn}
 use Rattle.model_laws.specs.Enlisted.{IsEnlisted}
 use Rattle.model_laws.specs.Reached.{Reached}
@@ -33,34 +33,34 @@ use Rattle.paired.proofs.Homes.{LeafHome, TransactionHome, leaves_home, transact
 use Rattle.paired.proofs.OneSeat.{home_is, one_seat}
 
 -- what is accepted at a seat
-seat_accepted : (count : ℕ) (w : World) → count < 2 ^ 64 → Reached count w → (n : ℕ) (x : Node) (b : Book) (t : Transaction) (s : Enlistment) → nth n w.nodes ≡ Some x → x.book ≡ Some b
+seat_accepted : (hosts : Hosts) (w : World) → HaveOwnAddresses hosts → Reached hosts w → (n : ℕ) (x : Node) (b : Book) (t : Transaction) (s : Enlistment) → nth n w.nodes ≡ Some x → x.book ≡ Some b
     → IsIn t b.transactions → IsIn s t.seats → IsIn (accepted_seat n w.nodes t.id s) w.accepted
-seat_accepted count w small reached n x b t s found up i j =
+seat_accepted hosts w small reached n x b t s found up i j =
     one_of (λ (q : Enlistment). IsIn (accepted_seat n w.nodes t.id q) w.accepted) t.seats s
-    (one_of (IsEnlisted w n) b.transactions t ((world_laws count w small reached).seated.enlisted n x b found up) i).0 j
+    (one_of (IsEnlisted w n) b.transactions t ((world_laws hosts w small reached).seated.enlisted n x b found up) i).0 j
 
-seat_home : (count : ℕ) (w : World) → count < 2 ^ 64 → Reached count w → (n : ℕ) (x : Node) (b : Book) (t : Transaction) (s : Enlistment) → nth n w.nodes ≡ Some x → x.book ≡ Some b
-    → IsIn t b.transactions → IsIn s t.seats → IsParticipant count s.kind s.participant
-seat_home count w small reached n x b t s found up i j =
-    one_of (λ (q : Enlistment). IsParticipant count q.kind q.participant) t.seats s (one_of (TransactionHome count) b.transactions t (transactions_home count w small reached n x b found up) i).0 j
+seat_home : (hosts : Hosts) (w : World) → HaveOwnAddresses hosts → Reached hosts w → (n : ℕ) (x : Node) (b : Book) (t : Transaction) (s : Enlistment) → nth n w.nodes ≡ Some x → x.book ≡ Some b
+    → IsIn t b.transactions → IsIn s t.seats → IsParticipant hosts s.kind s.participant
+seat_home hosts w small reached n x b t s found up i j =
+    one_of (λ (q : Enlistment). IsParticipant hosts q.kind q.participant) t.seats s (one_of (TransactionHome hosts) b.transactions t (transactions_home hosts w small reached n x b found up) i).0 j
 
-seat_is : (count : ℕ) (w : World) → count < 2 ^ 64 → Reached count w → (n : ℕ) (x : Node) (b : Book) (t : Transaction) (s : Enlistment) (y : Who) → nth n w.nodes ≡ Some x → x.book ≡ Some b
+seat_is : (hosts : Hosts) (w : World) → HaveOwnAddresses hosts → Reached hosts w → (n : ℕ) (x : Node) (b : Book) (t : Transaction) (s : Enlistment) (y : Who) → nth n w.nodes ≡ Some x → x.book ≡ Some b
     → IsIn t b.transactions → IsIn s t.seats → HasSeat w (record { node = n; id = t.id }) s.number s.kind y → s.participant ≡ participant_of y s.kind
-seat_is count w small reached n x b t s y found up i j h =
+seat_is hosts w small reached n x b t s y found up i j h =
     let same : accepted_seat n w.nodes t.id s ≡ registration (record { node = n; id = t.id }) s.number s.kind y =
-    (world_laws count w small reached).seated.one_each (accepted_seat n w.nodes t.id s) (registration (record { node = n; id = t.id }) s.number s.kind y) (record { number = s.number; kind = s.kind })
-    (record { number = s.number; kind = s.kind }) (seat_accepted count w small reached n x b t s found up i j) h refl refl refl refl in
-    home_is count s.kind s.participant y small (seat_home count w small reached n x b t s found up i j)
-    (sym (who_same w.nodes (new_nodes count 1) s.participant (world_bases count w small reached)) ∙ ap (λ (a : Accepted). a.participant) same)
+    (world_laws hosts w small reached).seated.one_each (accepted_seat n w.nodes t.id s) (registration (record { node = n; id = t.id }) s.number s.kind y) (record { number = s.number; kind = s.kind })
+    (record { number = s.number; kind = s.kind }) (seat_accepted hosts w small reached n x b t s found up i j) h refl refl refl refl in
+    home_is hosts s.kind s.participant y small (seat_home hosts w small reached n x b t s found up i j)
+    (sym (who_same w.nodes (new_nodes hosts.base_of hosts.count 1) s.participant (world_bases hosts w small reached)) ∙ ap (λ (a : Accepted). a.participant) same)
 
-seat_has : (count : ℕ) (w : World) → count < 2 ^ 64 → Reached count w → (n : ℕ) (x : Node) (b : Book) (t : Transaction) (s : Enlistment) (y : Who) → nth n w.nodes ≡ Some x → x.book ≡ Some b
-    → IsIn t b.transactions → IsIn s t.seats → IsPlace count y → s.participant ≡ participant_of y s.kind → HasSeat w (record { node = n; id = t.id }) s.number s.kind y
-seat_has count w small reached n x b t s y found up i j place is =
+seat_has : (hosts : Hosts) (w : World) → HaveOwnAddresses hosts → Reached hosts w → (n : ℕ) (x : Node) (b : Book) (t : Transaction) (s : Enlistment) (y : Who) → nth n w.nodes ≡ Some x → x.book ≡ Some b
+    → IsIn t b.transactions → IsIn s t.seats → IsPlace hosts y → s.participant ≡ participant_of y s.kind → HasSeat w (record { node = n; id = t.id }) s.number s.kind y
+seat_has hosts w small reached n x b t s y found up i j place is =
     let named : who_of w.nodes s.participant ≡ Some y =
-    who_same w.nodes (new_nodes count 1) s.participant (world_bases count w small reached) ∙ ap (who_named count) is
-    ∙ (λ r. who_at (leads_home count y.node (targets.Participant y.id s.kind) small place.least place.most place.id r)) in
+    who_same w.nodes (new_nodes hosts.base_of hosts.count 1) s.participant (world_bases hosts w small reached) ∙ ap (who_named hosts) is
+    ∙ (λ r. who_at (leads_home hosts y.node (targets.Participant y.id s.kind) small place.least place.most place.id r)) in
     subst (λ o. IsIn (record { transaction = record { node = n; id = t.id }; seat = Some (record { number = s.number; kind = s.kind }); participant = o }) w.accepted) named
-    (seat_accepted count w small reached n x b t s found up i j)
+    (seat_accepted hosts w small reached n x b t s found up i j)
 
 -- a coordinator that is known
 same_numbers : (id j : Numbers) (number k : ℕ) (kind : Kind)
@@ -69,65 +69,65 @@ same_numbers id j number k kind e =
     let seats : ◌≡◌ {A = Seat} (record { number = number; kind = kind }) (record { number = k; kind = kind }) = cc in
     (cc, ap (λ (s : Seat). s.number) seats)
 
-known_has : (count : ℕ) (w : World) → count < 2 ^ 64 → (c : Epr) (x : Who) (kind : Kind) (h : IsSeat count kind c) → Enlists count w c x kind → HasSeat w h.transaction h.number kind x
-known_has count w small c x kind h k =
+known_has : (hosts : Hosts) (w : World) → HaveOwnAddresses hosts → (c : Epr) (x : Who) (kind : Kind) (h : IsSeat hosts kind c) → Enlists hosts w c x kind → HasSeat w h.transaction h.number kind x
+known_has hosts w small c x kind h k =
     let T = targets.Coordinator h.transaction.id (record { number = h.number; kind = kind }) in
-    let leads : LeadsTo count c h.transaction.node T =
-    subst (λ y. LeadsTo count y h.transaction.node T) (sym h.is) (leads_home count h.transaction.node T small h.place.least h.place.most (h.place.id, h.least, h.most)) in
+    let leads : LeadsTo hosts c h.transaction.node T =
+    subst (λ y. LeadsTo hosts y h.transaction.node T) (sym h.is) (leads_home hosts h.transaction.node T small h.place.least h.place.most (h.place.id, h.least, h.most)) in
     let (id, number, is, accepted) = k h.transaction.node T leads in
     let (same, at) = same_numbers h.transaction.id id h.number number kind is in
     subst (λ i. HasSeat w (record { node = h.transaction.node; id = i }) h.number kind x) (sym same)
     (subst (λ m. HasSeat w (record { node = h.transaction.node; id = id }) m kind x) (sym at) accepted)
 
-known_is : (count : ℕ) (w : World) → count < 2 ^ 64 → Reached count w → (c : Epr) (t x : Who) (number : ℕ) (kind : Kind) → IsSeat count kind c → Enlists count w c x kind → HasSeat w t number kind x
+known_is : (hosts : Hosts) (w : World) → HaveOwnAddresses hosts → Reached hosts w → (c : Epr) (t x : Who) (number : ℕ) (kind : Kind) → IsSeat hosts kind c → Enlists hosts w c x kind → HasSeat w t number kind x
     → c ≡ seat_of t number kind
-known_is count w small reached c t x number kind h k i =
-    let j : HasSeat w h.transaction h.number kind x = known_has count w small c x kind h k in
-    let who : h.transaction ≡ t = (world_laws count w small reached).one x h.transaction t _ _ j i in
+known_is hosts w small reached c t x number kind h k i =
+    let j : HasSeat w h.transaction h.number kind x = known_has hosts w small c x kind h k in
+    let who : h.transaction ≡ t = (world_laws hosts w small reached).one x h.transaction t _ _ j i in
     h.is
     ∙ (λ r. seat_of (who r) h.number kind)
-    ∙ ap (λ m. seat_of t m kind) (one_seat count w small reached t x kind h.number number (subst (λ y. HasSeat w y h.number kind x) who j) i)
+    ∙ ap (λ m. seat_of t m kind) (one_seat hosts w small reached t x kind h.number number (subst (λ y. HasSeat w y h.number kind x) who j) i)
 
-pub paired : (count : ℕ) (w : World) → count < 2 ^ 64 → Reached count w → IsPaired count w
-paired count w small reached = record {
-  one_seat = one_seat count w small reached;
-  seats = λ n x b t found up i. (one_of (TransactionHome count) b.transactions t (transactions_home count w small reached n x b found up) i).0;
-  links = λ n x b t kind found up i. (one_of (TransactionHome count) b.transactions t (transactions_home count w small reached n x b found up) i).1 kind;
-  leaves = λ n x b l found up i. one_of (LeafHome count) b.leaves l (leaves_home count w small reached n x b found up) i;
-  seat_is = seat_is count w small reached;
-  seat_has = seat_has count w small reached;
-  known_has = known_has count w small;
-  known_is = known_is count w small reached;
+pub paired : (hosts : Hosts) (w : World) → HaveOwnAddresses hosts → Reached hosts w → IsPaired hosts w
+paired hosts w small reached = record {
+  one_seat = one_seat hosts w small reached;
+  seats = λ n x b t found up i. (one_of (TransactionHome hosts) b.transactions t (transactions_home hosts w small reached n x b found up) i).0;
+  links = λ n x b t kind found up i. (one_of (TransactionHome hosts) b.transactions t (transactions_home hosts w small reached n x b found up) i).1 kind;
+  leaves = λ n x b l found up i. one_of (LeafHome hosts) b.leaves l (leaves_home hosts w small reached n x b found up) i;
+  seat_is = seat_is hosts w small reached;
+  seat_has = seat_has hosts w small reached;
+  known_has = known_has hosts w small;
+  known_is = known_is hosts w small reached;
 }
 
 -- votes and outcomes
-life_at : (count : ℕ) (w : World) → count < 2 ^ 64 → Reached count w → (n : ℕ) (x : Node) (b : Book) → nth n w.nodes ≡ Some x → x.book ≡ Some b → (id : Numbers)
+life_at : (hosts : Hosts) (w : World) → HaveOwnAddresses hosts → Reached hosts w → (n : ℕ) (x : Node) (b : Book) → nth n w.nodes ≡ Some x → x.book ≡ Some b → (id : Numbers)
     → Life x.journal (happened_on n w.happened) id (transaction_at b id) (leaf_at b id)
-life_at count w small reached n x b found up id =
-    subst (λ c. Life x.journal (happened_on n w.happened) id (transaction_at c id) (leaf_at c id)) (ap (standing x.base x.journal) up) ((world_laws count w small reached).lives n x found id)
+life_at hosts w small reached n x b found up id =
+    subst (λ c. Life x.journal (happened_on n w.happened) id (transaction_at c id) (leaf_at c id)) (ap (standing x.base x.journal) up) ((world_laws hosts w small reached).lives n x found id)
 
-open_at : (count : ℕ) (w : World) → count < 2 ^ 64 → Reached count w → (n : ℕ) (x : Node) (b : Book) → nth n w.nodes ≡ Some x → x.book ≡ Some b → (t : Transaction) → transaction_at b t.id ≡ Some t
+open_at : (hosts : Hosts) (w : World) → HaveOwnAddresses hosts → Reached hosts w → (n : ℕ) (x : Node) (b : Book) → nth n w.nodes ≡ Some x → x.book ≡ Some b → (t : Transaction) → transaction_at b t.id ≡ Some t
     → may_expire t.phase ≡ true → IsOpen x.journal (happened_on n w.happened) t.id
-open_at count w small reached n x b found up t here undecided =
+open_at hosts w small reached n x b found up t here undecided =
     is_open x.journal (happened_on n w.happened) t.id t
-    (life_of x.journal (happened_on n w.happened) t.id (transaction_at b t.id) (leaf_at b t.id) t (life_at count w small reached n x b found up t.id) here) undecided
+    (life_of x.journal (happened_on n w.happened) t.id (transaction_at b t.id) (leaf_at b t.id) t (life_at hosts w small reached n x b found up t.id) here) undecided
 
 promised : (w : World) (n : ℕ) (x : Node) (id : Numbers) → nth n w.nodes ≡ Some x → PromisesNothing id x.journal → HasVoted w (record { node = n; id = id }) → ⊥
 promised w n x id found nothing (r, (y, there, i), vote) =
     nothing r (subst (λ (z : Node). IsIn r z.journal) (same_node y x (nth n w.nodes) there found) i) (is_promised id r vote)
 
-leaf_stands : (count : ℕ) (w : World) → count < 2 ^ 64 → Reached count w → (n : ℕ) (x : Node) (b : Book) → nth n w.nodes ≡ Some x → x.book ≡ Some b → (l : Leaf) → leaf_at b l.id ≡ Some l
+leaf_stands : (hosts : Hosts) (w : World) → HaveOwnAddresses hosts → Reached hosts w → (n : ℕ) (x : Node) (b : Book) → nth n w.nodes ≡ Some x → x.book ≡ Some b → (l : Leaf) → leaf_at b l.id ≡ Some l
     → LeafAlone x.journal (happened_on n w.happened) l.id (transaction_at b l.id) l
-leaf_stands count w small reached n x b found up l here =
+leaf_stands hosts w small reached n x b found up l here =
     leaf_alone x.journal (happened_on n w.happened) l.id (transaction_at b l.id) l
-    (subst (λ o. Life x.journal (happened_on n w.happened) l.id (transaction_at b l.id) o) here (life_at count w small reached n x b found up l.id))
+    (subst (λ o. Life x.journal (happened_on n w.happened) l.id (transaction_at b l.id) o) here (life_at hosts w small reached n x b found up l.id))
 
-pub have_votes : (count : ℕ) (w : World) → count < 2 ^ 64 → Reached count w → (n : ℕ) (x : Node) (b : Book) → nth n w.nodes ≡ Some x → x.book ≡ Some b → HaveVotes w n b
-have_votes count w small reached n x b found up = record {
-  alone = λ l here. (leaf_stands count w small reached n x b found up l here).transaction;
-  undecided = λ t here u. not_ended w n t.id (open_at count w small reached n x b found up t here u).unended endings.Committed;
-  unvoted = λ t here u. promised w n x t.id found (open_at count w small reached n x b found up t here u).nothing;
-  prepared = λ l here v. by_life l v (leaf_stands count w small reached n x b found up l here).life;
+pub have_votes : (hosts : Hosts) (w : World) → HaveOwnAddresses hosts → Reached hosts w → (n : ℕ) (x : Node) (b : Book) → nth n w.nodes ≡ Some x → x.book ≡ Some b → HaveVotes w n b
+have_votes hosts w small reached n x b found up = record {
+  alone = λ l here. (leaf_stands hosts w small reached n x b found up l here).transaction;
+  undecided = λ t here u. not_ended w n t.id (open_at hosts w small reached n x b found up t here u).unended endings.Committed;
+  unvoted = λ t here u. promised w n x t.id found (open_at hosts w small reached n x b found up t here u).nothing;
+  prepared = λ l here v. by_life l v (leaf_stands hosts w small reached n x b found up l here).life;
 }
   where
     by_life : (l : Leaf) → HasVoted w (record { node = n; id = l.id }) → LeafLife x.journal (happened_on n w.happened) l.id l → l.state ≡ states.PreparedSuccess

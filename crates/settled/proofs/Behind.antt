@@ -21,7 +21,7 @@ use Rattle.at_model.specs.Book.{Book, Enlistment, Phase, Transaction, transactio
 use Rattle.at_model.specs.Recover.{last_incarnation, live, recover, recovered_decided, recovered_voted}
 use Rattle.at_model.specs.Register.{is_late, new_seat}
 use Rattle.at_model.specs.Step.{moment_of, plan, step, transaction_at}
-use Rattle.at_model.specs.World.{Node, Posted, Who, World, goes_down, lost_in, nth, put_book, put_nth, started, up_after, with_post}
+use Rattle.at_model.specs.World.{Node, Posted, Who, World, goes_down, lost_in, nth, put_book, put_nth, started, up_after, with_post, Hosts, HaveOwnAddresses}
 use Rattle.model_laws.specs.Agreement.{IsIn}
 use Rattle.model_laws.specs.Drawn.{restarted, with_entry}
 use Rattle.model_laws.specs.Laws.{IsDrawn}
@@ -71,9 +71,9 @@ record IsOfSeat (w : World) (n : ℕ) (p : Post) (x : Who) : Type 0 where
   seat : HasSeat w (record { node = n; id = id }) number kinds.Durable x
   asks : IsDurablePrepare id p
 
-abbrev GoesFromSeat : ℕ → World → Posted → Type 0
-GoesFromSeat count w p =
-    (to : Epr) (m : ℕ) (i : Numbers) → p.content.to ≡ Some to → LeadsTo count to m (targets.Participant i kinds.Durable) → p.content.message ≡ messages.Notice notices.Prepare
+abbrev GoesFromSeat : Hosts → World → Posted → Type 0
+GoesFromSeat hosts w p =
+    (to : Epr) (m : ℕ) (i : Numbers) → p.content.to ≡ Some to → LeadsTo hosts to m (targets.Participant i kinds.Durable) → p.content.message ≡ messages.Notice notices.Prepare
     → IsOfSeat w p.sender p.content (record { node = m; id = i })
 
 -- a participant that a Prepare goes to
@@ -81,8 +81,8 @@ record IsThis (x : Who) (kind : Kind) (m : ℕ) (i : Numbers) : Type 0 where
   kind_is : kind ≡ kinds.Durable
   who_is : x ≡ record { node = m; id = i }
 
-is_this : (count : ℕ) (kind : Kind) (e : Epr) (m : ℕ) (i : Numbers) → count < 2 ^ 64 → (h : IsParticipant count kind e) → LeadsTo count e m (targets.Participant i kinds.Durable) → IsThis h.who kind m i
-is_this count kind e m i small h leads = same h.who.node m h.who.id i kind (sym (leads_participant count h.who kind e small h.place h.is) ∙ leads)
+is_this : (hosts : Hosts) (kind : Kind) (e : Epr) (m : ℕ) (i : Numbers) → HaveOwnAddresses hosts → (h : IsParticipant hosts kind e) → LeadsTo hosts e m (targets.Participant i kinds.Durable) → IsThis h.who kind m i
+is_this hosts kind e m i small h leads = same h.who.node m h.who.id i kind (sym (leads_participant hosts h.who kind e small h.place h.is) ∙ leads)
   where
     same : (a b : ℕ) (j k : Numbers) (d : Kind) → ◌≡◌ {A = Option (ℕ × Target)} (Some (a, targets.Participant j d)) (Some (b, targets.Participant k kinds.Durable)) → IsThis (record { node = a; id = j }) d b k
     same a b j k d f =
@@ -112,17 +112,17 @@ not_late Phase.Voted kinds.Durable f g = cc
 not_late Phase.Committing kinds.Durable f g = cc
 not_late Phase.Aborting kinds.Durable f g = cc
 
-from_seat : (count : ℕ) (u : World) (n : ℕ) (x : Node) (b : Book) (e : Event) (now : ℕ) (landed : Bool) → Stepping count u n x b e now landed → (p : Post) → (to : Epr) (m : ℕ) (i : Numbers)
-    → p.to ≡ Some to → LeadsTo count to m (targets.Participant i kinds.Durable) → p.message ≡ messages.Notice notices.Prepare
+from_seat : (hosts : Hosts) (u : World) (n : ℕ) (x : Node) (b : Book) (e : Event) (now : ℕ) (landed : Bool) → Stepping hosts u n x b e now landed → (p : Post) → (to : Epr) (m : ℕ) (i : Numbers)
+    → p.to ≡ Some to → LeadsTo hosts to m (targets.Participant i kinds.Durable) → p.message ≡ messages.Notice notices.Prepare
     → Asks b e now (standing landed (plan b e now).entry) (step b e now landed) notices.Prepare p → IsOfSeat (counts u n x b e now landed) n p (record { node = m; id = i })
-from_seat count u n x b e now landed s p to m i goes leads says (asks_seat d q sits why from) =
-    let h : IsParticipant count q.kind q.participant =
-    one_of (λ (r : Enlistment). IsParticipant count r.kind r.participant) d.old.seats q
-    ((partners_are_paired.paired count u s.small s.reached).seats n x b d.old s.found s.up (found_stands transaction_id d.old.id d.old b.transactions d.found)) sits in
+from_seat hosts u n x b e now landed s p to m i goes leads says (asks_seat d q sits why from) =
+    let h : IsParticipant hosts q.kind q.participant =
+    one_of (λ (r : Enlistment). IsParticipant hosts r.kind r.participant) d.old.seats q
+    ((partners_are_paired.paired hosts u s.small s.reached).seats n x b d.old s.found s.up (found_stands transaction_id d.old.id d.old b.transactions d.found)) sits in
     let same : q.participant ≡ to = same_end p.to q.participant to from.sent goes in
-    let k : IsThis h.who q.kind m i = is_this count q.kind q.participant m i s.small h (subst (λ y. LeadsTo count y m (targets.Participant i kinds.Durable)) (sym same) leads) in
+    let k : IsThis h.who q.kind m i = is_this hosts q.kind q.participant m i s.small h (subst (λ y. LeadsTo hosts y m (targets.Participant i kinds.Durable)) (sym same) leads) in
     let seat : HasSeat u (record { node = n; id = d.old.id }) q.number q.kind h.who =
-    (partners_are_paired.paired count u s.small s.reached).seat_has n x b d.old q h.who s.found s.up (found_stands transaction_id d.old.id d.old b.transactions d.found) sits h.place h.is in
+    (partners_are_paired.paired hosts u s.small s.reached).seat_has n x b d.old q h.who s.found s.up (found_stands transaction_id d.old.id d.old b.transactions d.found) sits h.place h.is in
     record {
       id = d.old.id;
       number = q.number;
@@ -131,33 +131,33 @@ from_seat count u n x b e now landed s p to m i goes leads says (asks_seat d q s
           (subst (λ c. HasSeat u (record { node = n; id = d.old.id }) q.number c h.who) k.kind_is seat));
       asks = record { number = q.number; owned = from.owned ∙ ap (λ c. Some (targets.Coordinator d.old.id (record { number = q.number; kind = c }))) k.kind_is; says = says };
     }
-from_seat count u n x b e now landed s p to m i goes leads says (asks_left_seat d q sits durable left said is from) = absurd cc
-from_seat count u n x b e now landed s p to m i goes leads says (asks_late_seat d kind late is there sent) =
-    let h : Held count (counts u n x b e now landed) n d.gives.transaction = held_after count u n x b e now landed s d in
-    let k : IsParticipant count kind d.request.participant =
-    one_of (λ (r : Enlistment). IsParticipant count r.kind r.participant) d.gives.transaction.seats (new_seat d.old d.request.participant kind)
-    ((partners_are_paired.paired count (counts u n x b e now landed) h.small h.reached).seats n h.x h.b d.gives.transaction h.found h.up h.stands) there in
+from_seat hosts u n x b e now landed s p to m i goes leads says (asks_left_seat d q sits durable left said is from) = absurd cc
+from_seat hosts u n x b e now landed s p to m i goes leads says (asks_late_seat d kind late is there sent) =
+    let h : Held hosts (counts u n x b e now landed) n d.gives.transaction = held_after hosts u n x b e now landed s d in
+    let k : IsParticipant hosts kind d.request.participant =
+    one_of (λ (r : Enlistment). IsParticipant hosts r.kind r.participant) d.gives.transaction.seats (new_seat d.old d.request.participant kind)
+    ((partners_are_paired.paired hosts (counts u n x b e now landed) h.small h.reached).seats n h.x h.b d.gives.transaction h.found h.up h.stands) there in
     let same : d.request.participant ≡ to = same_end p.to d.request.participant to (ap (λ (y : Post). y.to) sent) goes in
     absurd (not_late d.old.phase kind
-    (is_this count kind d.request.participant m i s.small k (subst (λ y. LeadsTo count y m (targets.Participant i kinds.Durable)) (sym same) leads)).kind_is late)
-from_seat count u n x b e now landed s p to m i goes leads says (asks_no_seat d id q from at durable none asked who is sent) = absurd cc
-from_seat count u n x b e now landed s p to m i goes leads says (asks_completion d from (inl is) knows sent) = absurd cc
-from_seat count u n x b e now landed s p to m i goes leads says (asks_completion d from (inr is) knows sent) = absurd cc
+    (is_this hosts kind d.request.participant m i s.small k (subst (λ y. LeadsTo hosts y m (targets.Participant i kinds.Durable)) (sym same) leads)).kind_is late)
+from_seat hosts u n x b e now landed s p to m i goes leads says (asks_no_seat d id q from at durable none asked who is sent) = absurd cc
+from_seat hosts u n x b e now landed s p to m i goes leads says (asks_completion d from (inl is) knows sent) = absurd cc
+from_seat hosts u n x b e now landed s p to m i goes leads says (asks_completion d from (inr is) knows sent) = absurd cc
 
-from_seats : (count : ℕ) → PostLaw count
-from_seats count = record {
-  Of = GoesFromSeat count;
+from_seats : (hosts : Hosts) → PostLaw hosts
+from_seats hosts = record {
+  Of = GoesFromSeat hosts;
   on = λ u w g p h to m i goes leads says.
       let k : IsOfSeat u p.sender p.content (record { node = m; id = i }) = h to m i goes leads says in
       record { id = k.id; number = k.number; seat = takes_nothing_back.accepted u w g _ _ (record { node = m; id = i }) k.seat; asks = k.asks };
   new = λ u n x b e now landed s h p j r to m i goes leads says.
-      from_seat count u n x b e now landed s p to m i goes leads says
-      (steps_sense.asks b e now landed (step_ready count u n x b e now landed s) p notices.Prepare j says refl);
+      from_seat hosts u n x b e now landed s p to m i goes leads says
+      (steps_sense.asks b e now landed (step_ready hosts u n x b e now landed s) p notices.Prepare j says refl);
 }
 
-goes_from_seat : (count : ℕ) (w : World) → count < 2 ^ 64 → Reached count w → (p : Posted) → IsIn p w.posted → GoesFromSeat count w p
+goes_from_seat : (hosts : Hosts) (w : World) → HaveOwnAddresses hosts → Reached hosts w → (p : Posted) → IsIn p w.posted → GoesFromSeat hosts w p
 unfolding from_seats
-goes_from_seat count w small reached p i = one_has count small (from_seats count) w reached p i
+goes_from_seat hosts w small reached p i = one_has hosts small (from_seats hosts) w reached p i
 
 -- Who posted one has asked, or is gone.
 record IsLate (w : World) (n : ℕ) (id : Numbers) : Type 0 where
@@ -235,13 +235,13 @@ all_late u v same f h = subst (AllByRecursion (PostedLate v)) (sym same) (all_mo
 same_book : (o : Option Book) (b c : Book) → o ≡ Some b → o ≡ Some c → b ≡ c
 same_book o b c e f = cc
 
-step_late : (count : ℕ) (u : World) (n : ℕ) (x : Node) (b : Book) (e : Event) (now : ℕ) (landed : Bool) → Reached count u → nth n u.nodes ≡ Some x → x.book ≡ Some b → AreLate u
+step_late : (hosts : Hosts) (u : World) (n : ℕ) (x : Node) (b : Book) (e : Event) (now : ℕ) (landed : Bool) → Reached hosts u → nth n u.nodes ≡ Some x → x.book ≡ Some b → AreLate u
     → AreLate (counts u n x b e now landed)
-step_late count u n x b e now landed reached found up h =
+step_late hosts u n x b e now landed reached found up h =
     all_late u (counts u n x b e now landed) refl
     (late_put u (counts u n x b e now landed) n x z found refl (λ id d. draws id (subst (λ o. HasDrawn x.journal o id) up d))
     (λ id d asked c is. subst (λ k. HasAskedIfLeft (transaction_at k id)) (same_book z.book (step b e now landed).book c refl is)
-    (still_late b e now landed id (book_ready count u reached n x b found up) (reached_shaped count u reached n x b found up) (subst (λ o. HasDrawn x.journal o id) up d) (asked b up)))) h
+    (still_late b e now landed id (book_ready hosts u reached n x b found up) (reached_shaped hosts u reached n x b found up) (subst (λ o. HasDrawn x.journal o id) up d) (asked b up)))) h
   where
     z : Node
     z = record x { book = Some (step b e now landed).book; journal = with_entry (plan b e now).entry landed x.journal }
@@ -278,9 +278,9 @@ own_drawn b e now landed p id ready i k =
     by_why (asks_completion d from (inl is) knows sent) = absurd cc
     by_why (asks_completion d from (inr is) knows sent) = absurd cc
 
-new_late : (count : ℕ) (u : World) (n : ℕ) (x : Node) (b : Book) (e : Event) (now : ℕ) (landed : Bool) → Reached count u → nth n u.nodes ≡ Some x → x.book ≡ Some b → (p : Post)
+new_late : (hosts : Hosts) (u : World) (n : ℕ) (x : Node) (b : Book) (e : Event) (now : ℕ) (landed : Bool) → Reached hosts u → nth n u.nodes ≡ Some x → x.book ≡ Some b → (p : Post)
     → IsIn (outs.Post p) (step b e now landed).outs → FineLate (counts u n x b e now landed) n p
-new_late count u n x b e now landed reached found up p i id k = record {
+new_late hosts u n x b e now landed reached found up p i id k = record {
   drawn = (
     z,
     put_this u.nodes n x z found,
@@ -289,14 +289,14 @@ new_late count u n x b e now landed reached found up p i id k = record {
   asked = λ y c there is.
       let same : z ≡ y = same_node (nth n (put_nth n z u.nodes)) z y (put_this u.nodes n x z found) there in
       subst (λ d. HasAskedIfLeft (transaction_at d id)) (same_book y.book (step b e now landed).book c (sym (ap (λ (w : Node). w.book) same)) is)
-      (step_asks b e now landed ready (reached_shaped count u reached n x b found up) p i id k);
+      (step_asks b e now landed ready (reached_shaped hosts u reached n x b found up) p i id k);
 }
   where
     z : Node
     z = record x { book = Some (step b e now landed).book; journal = with_entry (plan b e now).entry landed x.journal }
 
     ready : IsReady b
-    ready = book_ready count u reached n x b found up
+    ready = book_ready hosts u reached n x b found up
 
     same_node : (o : Option Node) (a c : Node) → o ≡ Some a → o ≡ Some c → a ≡ c
     same_node o a c e f = cc
@@ -349,47 +349,47 @@ rise_late u n x stop found down h =
         subst (λ c. HasAskedIfLeft (transaction_at c id)) (same_book (Some (recover x.base (restarted x.journal))) (recover x.base (restarted x.journal)) b refl is)
         (recovered_late x.base (restarted x.journal) id)
 
-fall_late : (count : ℕ) (u : World) (n : ℕ) (x : Node) (b : Book) → Reached count u → nth n u.nodes ≡ Some x → AreLate u → AreLate (goes_down n b u)
-fall_late count u n x b reached found h =
+fall_late : (hosts : Hosts) (u : World) (n : ℕ) (x : Node) (b : Book) → Reached hosts u → nth n u.nodes ≡ Some x → AreLate u → AreLate (goes_down n b u)
+fall_late hosts u n x b reached found h =
     let v : World = record u { nodes = put_nth n (record x { book = None }) u.nodes; happened = u.happened ++ lost_in n b } in
     subst AreLate (sym (ap (put_book n None (record u { happened = u.happened ++ lost_in n b })) found))
     (all_late u v refl
-    (late_put u v n x (record x { book = None }) found refl (drawn_down x.journal x.book (of_records count u reached n x found)) (λ id d asked c is. absurd (no_book c is))) h)
+    (late_put u v n x (record x { book = None }) found refl (drawn_down x.journal x.book (of_records hosts u reached n x found)) (λ id d asked c is. absurd (no_book c is))) h)
   where
     no_book : (c : Book) → None ≡ Some c → ⊥
     no_book c e = cc
 
-late_law : (count : ℕ) → Law count
-late_law count = record {
+late_law : (hosts : Hosts) → Law hosts
+late_law hosts = record {
   Good = AreLate;
   Fine = λ w g n p. FineLate w n p;
   opens = tt;
   steps = λ u n x b e now landed reached found up heard h. (
-    step_late count u n x b e now landed reached found up h,
-    outs_late (step b e now landed).outs (FineLate (counts u n x b e now landed) n) (λ p i. new_late count u n x b e now landed reached found up p i),
+    step_late hosts u n x b e now landed reached found up h,
+    outs_late (step b e now landed).outs (FineLate (counts u n x b e now landed) n) (λ p i. new_late hosts u n x b e now landed reached found up p i),
   );
   posts = λ w h n p f.
       all_join (PostedLate (with_post n p w)) w.posted _
       (all_more (PostedLate w) (PostedLate (with_post n p w)) w.posted (λ q k id d. let l : IsLate w q.sender id = k id d in record { drawn = l.drawn; asked = l.asked }) h)
       (λ id d. let l : IsLate w n id = f id d in record { drawn = l.drawn; asked = l.asked }, tt);
   still_fine = λ w h n p q f k id d. let l : IsLate w n id = k id d in record { drawn = l.drawn; asked = l.asked };
-  falls = λ u n x b reached found up h. fall_late count u n x b reached found h;
+  falls = λ u n x b reached found up h. fall_late hosts u n x b reached found h;
   rises = λ u n x stop reached found down little h. rise_late u n x stop found down h;
   waits = λ u n x clock reached found h.
       all_late u (record u { nodes = put_nth n (record x { clock = clock }) u.nodes }) refl
       (late_put u (record u { nodes = put_nth n (record x { clock = clock }) u.nodes }) n x (record x { clock = clock }) found refl (λ id d. d) (λ id d asked b is. asked b is)) h;
 }
 
-posted_late : (count : ℕ) (w : World) → Reached count w → (p : Posted) → IsIn p w.posted → PostedLate w p
+posted_late : (hosts : Hosts) (w : World) → Reached hosts w → (p : Posted) → IsIn p w.posted → PostedLate w p
 unfolding late_law
-posted_late count w reached p i = one_of (PostedLate w) w.posted p (holds count (late_law count) w reached) i
+posted_late hosts w reached p i = one_of (PostedLate w) w.posted p (holds hosts (late_law hosts) w reached) i
 
-pub prepares_are_behind : (count : ℕ) (w : World) → count < 2 ^ 64 → Reached count w → PreparesAreBehind count w
-prepares_are_behind count w small reached p to m i among goes leads says =
-    let h : IsOfSeat w p.sender p.content (record { node = m; id = i }) = goes_from_seat count w small reached p among to m i goes leads says in
+pub prepares_are_behind : (hosts : Hosts) (w : World) → HaveOwnAddresses hosts → Reached hosts w → PreparesAreBehind hosts w
+prepares_are_behind hosts w small reached p to m i among goes leads says =
+    let h : IsOfSeat w p.sender p.content (record { node = m; id = i }) = goes_from_seat hosts w small reached p among to m i goes leads says in
     record {
       transaction = record { node = p.sender; id = h.id };
       number = h.number;
       seat = h.seat;
-      asked = λ b o holds found. subst HasAskedIfLeft found ((posted_late count w reached p among h.id h.asks).asked holds.node b holds.found holds.up);
+      asked = λ b o holds found. subst HasAskedIfLeft found ((posted_late hosts w reached p among h.id h.asks).asked holds.node b holds.found holds.up);
     }

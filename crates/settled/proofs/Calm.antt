@@ -17,7 +17,7 @@ use Rattle.std.proofs.lemmas.Bool.{eq-eqb}
 use Rattle.at_model.specs.Book.{Book}
 use Rattle.at_model.specs.Due.{resend_after}
 use Rattle.at_model.specs.Step.{Outcome, Plan, is_due, items_of, plan}
-use Rattle.at_model.specs.World.{Deliver, Node, Posted, Tick, Turn, Turning, World, accepted_in, answer_plan, arrival_of, arrival_plan, decoded_at, new_nodes, takes, target_at, at_some_node, base_of, counted, decoded, deliver, due_step, due_steps, happened_at, is_receiver, later, nth, on_book, put_book, put_nth, send_all, step_by, take_step, take_turn, ticked, turned, with_post, with_record, world_step}
+use Rattle.at_model.specs.World.{Deliver, Node, Posted, Tick, Turn, Turning, World, accepted_in, answer_plan, arrival_of, arrival_plan, decoded_at, new_nodes, takes, target_at, at_some_node, counted, decoded, deliver, due_step, due_steps, happened_at, is_receiver, later, nth, on_book, put_book, put_nth, send_all, step_by, take_step, take_turn, ticked, turned, with_post, with_record, world_step, Hosts, HaveOwnAddresses}
 use Rattle.model_laws.specs.Agreement.{IsIn}
 use Rattle.model_laws.specs.Drawn.{with_entry}
 use Rattle.model_laws.specs.Reached.{Heard, Reached, counts, post_all, stepped, waited}
@@ -154,19 +154,19 @@ base_at (z ∷ xs) (y ∷ ys) n x (h, k) e = by_number (λ f. base_at xs ys (n -
     by_number rest true f = let same : z ≡ x = cc in (y, refl, ap (λ (v : Node). v.base) (sym same) ∙ h)
     by_number rest false f = rest f
 
-node_base : (count : ℕ) (w : World) → count < 2 ^ 64 → Reached count w → (n : ℕ) (x : Node) → nth n w.nodes ≡ Some x → x.base ≡ base_of n
-node_base count w small reached n x found =
-    let (y, there, same) = base_at w.nodes (new_nodes count 1) n x (world_bases count w small reached) found in
-    same ∙ ap (λ (v : Node). v.base) (opening_node count n y there)
+node_base : (hosts : Hosts) (w : World) → HaveOwnAddresses hosts → Reached hosts w → (n : ℕ) (x : Node) → nth n w.nodes ≡ Some x → x.base ≡ hosts.base_of n
+node_base hosts w small reached n x found =
+    let (y, there, same) = base_at w.nodes (new_nodes hosts.base_of hosts.count 1) n x (world_bases hosts w small reached) found in
+    same ∙ ap (λ (v : Node). v.base) (opening_node hosts n y there)
 
 -- A turn on its way.
-record Standing (count : ℕ) (inv : Invariant count) (n k : ℕ) (r : Turning) : Type 0 where
+record Standing (hosts : Hosts) (inv : Invariant hosts) (n k : ℕ) (r : Turning) : Type 0 where
   world : World
   book : Book
   is : r ≡ calm world book
   node : Node
   found : nth n world.nodes ≡ Some node
-  reached : Reached count (newest n node world book)
+  reached : Reached hosts (newest n node world book)
   passed : k ≤ length world.posted
   holds : inv.Of (newest n node world book) (drop k world.posted)
 
@@ -186,17 +186,17 @@ all_own (outs.Answer status reply ∷ os) = more os (posts_of os) (all_own os)
     more rest [] h = tt
     more rest (q ∷ qs) (h, k) = (inr h, more rest qs k)
 
-counted_stands : (count : ℕ) (inv : Invariant count) (n k : ℕ) (u : World) (x : Node) (b : Book) (e : Event) (now : ℕ) (entry : Option Record) (before : List Posted) → count < 2 ^ 64
-    → nth n u.nodes ≡ Some x → (plan b e now).entry ≡ entry → Reached count (newest n x u b) → k ≤ length u.posted → Heard (newest n x u b) n x e → MakesNone e
+counted_stands : (hosts : Hosts) (inv : Invariant hosts) (n k : ℕ) (u : World) (x : Node) (b : Book) (e : Event) (now : ℕ) (entry : Option Record) (before : List Posted) → HaveOwnAddresses hosts
+    → nth n u.nodes ≡ Some x → (plan b e now).entry ≡ entry → Reached hosts (newest n x u b) → k ≤ length u.posted → Heard (newest n x u b) n x e → MakesNone e
     → Stays n e before (drop k u.posted) → inv.Of (newest n x u b) before
-    → Standing count inv n k (counted n (plan b e now).landed (calm (record u { nodes = put_nth n (record x { journal = with_entry entry true x.journal }) u.nodes }) b))
-counted_stands count inv n k u x b e now entry before small found entry_is reached passed heard makes stays h = record {
+    → Standing hosts inv n k (counted n (plan b e now).landed (calm (record u { nodes = put_nth n (record x { journal = with_entry entry true x.journal }) u.nodes }) b))
+counted_stands hosts inv n k u x b e now entry before small found entry_is reached passed heard makes stays h = record {
   world = post_all n ps begun;
   book = o.book;
   is = send_calm n o.outs begun o.book;
   node = y;
   found = ap (nth n) (posts_nodes n ps begun) ∙ there;
-  reached = subst (Reached count) (sym same) (stepped (newest n x u b) n (record x { book = Some b }) b e now true ps reached standing refl heard (all_own o.outs) refl);
+  reached = subst (Reached hosts) (sym same) (stepped (newest n x u b) n (record x { book = Some b }) b e now true ps reached standing refl heard (all_own o.outs) refl);
   passed = subst (λ (zs : List Posted). k ≤ length zs) (sym (posts_posted n ps begun)) more;
   holds = subst (λ (w : World). inv.Of w (drop k w.posted)) (sym same) (inv.on (newest n x u b) v before (drop k v.posted) goes h);
 }
@@ -247,7 +247,7 @@ counted_stands count inv n k u x b e now entry before small found entry_is reach
     posted : v.posted ≡ u.posted ++ map (posted_as n (newest n x u b).nodes) ps
     posted = posts_posted n ps (counts (newest n x u b) n (record x { book = Some b }) b e now true) ∙ ap (λ zs. u.posted ++ zs) (as_posted ps)
 
-    goes : Goes count (newest n x u b) v before (drop k v.posted)
+    goes : Goes hosts (newest n x u b) v before (drop k v.posted)
     goes = record {
       small = small;
       reached = reached;
@@ -269,79 +269,79 @@ counted_stands count inv n k u x b e now entry before small found entry_is reach
         by_place q (inl j) = inl (subst (λ zs. IsIn q (drop k zs)) (sym posted) (front_in k q u.posted (map (posted_as n (newest n x u b).nodes) ps) j))
         by_place q (inr arrived) = inr arrived
 
-take_stands : (count : ℕ) (inv : Invariant count) (n k : ℕ) (u : World) (x : Node) (b : Book) (e : Event) (now : ℕ) (before : List Posted) → count < 2 ^ 64 → nth n u.nodes ≡ Some x
-    → Reached count (newest n x u b) → k ≤ length u.posted → Heard (newest n x u b) n x e → MakesNone e → Stays n e before (drop k u.posted) → inv.Of (newest n x u b) before
-    → Standing count inv n k (take_step n (plan b e now) (calm u b))
+take_stands : (hosts : Hosts) (inv : Invariant hosts) (n k : ℕ) (u : World) (x : Node) (b : Book) (e : Event) (now : ℕ) (before : List Posted) → HaveOwnAddresses hosts → nth n u.nodes ≡ Some x
+    → Reached hosts (newest n x u b) → k ≤ length u.posted → Heard (newest n x u b) n x e → MakesNone e → Stays n e before (drop k u.posted) → inv.Of (newest n x u b) before
+    → Standing hosts inv n k (take_step n (plan b e now) (calm u b))
 unfolding counted_stands
-take_stands count inv n k u x b e now before small found reached passed heard makes stays h = by_entry (plan b e now).entry refl
+take_stands hosts inv n k u x b e now before small found reached passed heard makes stays h = by_entry (plan b e now).entry refl
   where
-    by_entry : (entry : Option Record) → (plan b e now).entry ≡ entry → Standing count inv n k (step_by n entry (plan b e now) (calm u b))
+    by_entry : (entry : Option Record) → (plan b e now).entry ≡ entry → Standing hosts inv n k (step_by n entry (plan b e now) (calm u b))
     by_entry None f =
-        subst (λ xs. Standing count inv n k (counted n (plan b e now).landed (calm (record u { nodes = xs }) b))) (put_same n x u.nodes found)
-        (counted_stands count inv n k u x b e now None before small found f reached passed heard makes stays h)
+        subst (λ xs. Standing hosts inv n k (counted n (plan b e now).landed (calm (record u { nodes = xs }) b))) (put_same n x u.nodes found)
+        (counted_stands hosts inv n k u x b e now None before small found f reached passed heard makes stays h)
     by_entry (Some entry) f =
-        subst (λ w. Standing count inv n k (counted n (plan b e now).landed (calm w b))) (sym (ap (with_record n entry u) found))
-        (counted_stands count inv n k u x b e now (Some entry) before small found f reached passed heard makes stays h)
+        subst (λ w. Standing hosts inv n k (counted n (plan b e now).landed (calm w b))) (sym (ap (with_record n entry u) found))
+        (counted_stands hosts inv n k u x b e now (Some entry) before small found f reached passed heard makes stays h)
 
 -- the due steps
-due_stands : (count : ℕ) (inv : Invariant count) (n k now : ℕ) (item : Item) (r : Turning) → count < 2 ^ 64 → Standing count inv n k r → Standing count inv n k (due_step n now item r)
-due_stands count inv n k now item r small s =
-    subst (λ t. Standing count inv n k (due_step n now item t)) (sym s.is) (by_due (is_due s.book now item))
+due_stands : (hosts : Hosts) (inv : Invariant hosts) (n k now : ℕ) (item : Item) (r : Turning) → HaveOwnAddresses hosts → Standing hosts inv n k r → Standing hosts inv n k (due_step n now item r)
+due_stands hosts inv n k now item r small s =
+    subst (λ t. Standing hosts inv n k (due_step n now item t)) (sym s.is) (by_due (is_due s.book now item))
   where
-    by_due : (c : Bool) → Standing count inv n k (if c then take_step n (plan s.book (events.Due item) now) (calm s.world s.book) else calm s.world s.book)
+    by_due : (c : Bool) → Standing hosts inv n k (if c then take_step n (plan s.book (events.Due item) now) (calm s.world s.book) else calm s.world s.book)
     by_due true =
-        take_stands count inv n k s.world s.node s.book (events.Due item) now (drop k s.world.posted) small s.found s.reached s.passed tt tt (λ q i. inl i) s.holds
+        take_stands hosts inv n k s.world s.node s.book (events.Due item) now (drop k s.world.posted) small s.found s.reached s.passed tt tt (λ q i. inl i) s.holds
     by_due false = record { world = s.world; book = s.book; is = refl; node = s.node; found = s.found; reached = s.reached; passed = s.passed; holds = s.holds }
 
-dues_stand : (count : ℕ) (inv : Invariant count) (n k now : ℕ) (items : List Item) (r : Turning) → count < 2 ^ 64 → Standing count inv n k r → Standing count inv n k (due_steps n now items r)
-dues_stand count inv n k now [] r small s = s
-dues_stand count inv n k now (item ∷ rest) r small s = dues_stand count inv n k now rest (due_step n now item r) small (due_stands count inv n k now item r small s)
+dues_stand : (hosts : Hosts) (inv : Invariant hosts) (n k now : ℕ) (items : List Item) (r : Turning) → HaveOwnAddresses hosts → Standing hosts inv n k r → Standing hosts inv n k (due_steps n now items r)
+dues_stand hosts inv n k now [] r small s = s
+dues_stand hosts inv n k now (item ∷ rest) r small s = dues_stand hosts inv n k now rest (due_step n now item r) small (due_stands hosts inv n k now item r small s)
 
 -- A world behind a turn.
-pub record After (count : ℕ) (inv : Invariant count) (k : ℕ) (w : World) : Type 0 where
-  pub reached : Reached count w
+pub record After (hosts : Hosts) (inv : Invariant hosts) (k : ℕ) (w : World) : Type 0 where
+  pub reached : Reached hosts w
   pub passed : k ≤ length w.posted
   pub holds : inv.Of w (drop k w.posted)
 
-turn_after : (count : ℕ) (inv : Invariant count) (n k : ℕ) (r : Turning) → Standing count inv n k r → After count inv k (turned n r)
-turn_after count inv n k r s =
-    subst (λ t. After count inv k (turned n t)) (sym s.is)
-    (subst (λ o. After count inv k (put_book n (Some s.book) s.world o)) (sym s.found) (record { reached = s.reached; passed = s.passed; holds = s.holds }))
+turn_after : (hosts : Hosts) (inv : Invariant hosts) (n k : ℕ) (r : Turning) → Standing hosts inv n k r → After hosts inv k (turned n r)
+turn_after hosts inv n k r s =
+    subst (λ t. After hosts inv k (turned n t)) (sym s.is)
+    (subst (λ o. After hosts inv k (put_book n (Some s.book) s.world o)) (sym s.found) (record { reached = s.reached; passed = s.passed; holds = s.holds }))
 
-taken_after : (count : ℕ) (inv : Invariant count) (n k now : ℕ) (p : Plan) (r : Turning) → count < 2 ^ 64 → Standing count inv n k (take_step n p r) → After count inv k (take_turn n now p r)
-taken_after count inv n k now p r small s =
-    turn_after count inv n k (due_steps n now (items_of (take_step n p r).book) (take_step n p r))
-    (dues_stand count inv n k now (items_of (take_step n p r).book) (take_step n p r) small s)
+taken_after : (hosts : Hosts) (inv : Invariant hosts) (n k now : ℕ) (p : Plan) (r : Turning) → HaveOwnAddresses hosts → Standing hosts inv n k (take_step n p r) → After hosts inv k (take_turn n now p r)
+taken_after hosts inv n k now p r small s =
+    turn_after hosts inv n k (due_steps n now (items_of (take_step n p r).book) (take_step n p r))
+    (dues_stand hosts inv n k now (items_of (take_step n p r).book) (take_step n p r) small s)
 
 -- a turn begins with the world as it is
 begins : (w : World) (n : ℕ) (x : Node) (b : Book) → nth n w.nodes ≡ Some x → x.book ≡ Some b → w ≡ newest n x w b
 begins w n x b found up = λ i. record w { nodes = (sym (put_same n x w.nodes found) ∙ ap (λ o. put_nth n (record x { book = o }) w.nodes) up) i }
 
 -- a tick
-tick_plan_stands : (count : ℕ) (inv : Invariant count) (n k : ℕ) (w : World) (x : Node) (b : Book) (now : ℕ) → count < 2 ^ 64 → nth n w.nodes ≡ Some x → x.book ≡ Some b → After count inv k w
-    → Standing count inv n k (take_step n (plan b events.Tick now) (calm w b))
-tick_plan_stands count inv n k w x b now small found up a =
-    take_stands count inv n k w x b events.Tick now (drop k w.posted) small found (subst (Reached count) (begins w n x b found up) a.reached) a.passed tt tt (λ q i. inl i)
+tick_plan_stands : (hosts : Hosts) (inv : Invariant hosts) (n k : ℕ) (w : World) (x : Node) (b : Book) (now : ℕ) → HaveOwnAddresses hosts → nth n w.nodes ≡ Some x → x.book ≡ Some b → After hosts inv k w
+    → Standing hosts inv n k (take_step n (plan b events.Tick now) (calm w b))
+tick_plan_stands hosts inv n k w x b now small found up a =
+    take_stands hosts inv n k w x b events.Tick now (drop k w.posted) small found (subst (Reached hosts) (begins w n x b found up) a.reached) a.passed tt tt (λ q i. inl i)
     (subst (λ (z : World). inv.Of z (drop k w.posted)) (begins w n x b found up) a.holds)
 
-pub tick_after : (count : ℕ) (inv : Invariant count) (n k : ℕ) (w : World) → count < 2 ^ 64 → After count inv k w → After count inv k (world_step w (Turn n (Tick resend_after) [] None))
+pub tick_after : (hosts : Hosts) (inv : Invariant hosts) (n k : ℕ) (w : World) → HaveOwnAddresses hosts → After hosts inv k w → After hosts inv k (world_step w (Turn n (Tick resend_after) [] None))
 unfolding world_step
-tick_after count inv n k w small a = by_node (nth n w.nodes) refl
+tick_after hosts inv n k w small a = by_node (nth n w.nodes) refl
   where
     by_book : (x : Node) (o : Option Book) → nth n w.nodes ≡ Some x → x.book ≡ o
-        → After count inv k (on_book o (λ b. take_turn n (x.clock + resend_after) (plan b events.Tick (x.clock + resend_after)) (calm (ticked n (later resend_after x) w) b)) w)
+        → After hosts inv k (on_book o (λ b. take_turn n (x.clock + resend_after) (plan b events.Tick (x.clock + resend_after)) (calm (ticked n (later resend_after x) w) b)) w)
     by_book x None found up = a
     by_book x (Some b) found up =
         let v : World = ticked n (later resend_after x) w in
-        taken_after count inv n k (x.clock + resend_after) (plan b events.Tick (x.clock + resend_after)) (calm v b) small
-        (tick_plan_stands count inv n k v (later resend_after x) b (x.clock + resend_after) small (put_this w.nodes n x (later resend_after x) found) up
+        taken_after hosts inv n k (x.clock + resend_after) (plan b events.Tick (x.clock + resend_after)) (calm v b) small
+        (tick_plan_stands hosts inv n k v (later resend_after x) b (x.clock + resend_after) small (put_this w.nodes n x (later resend_after x) found) up
         (record {
           reached = waited w n x (x.clock + resend_after) a.reached found refl;
           passed = a.passed;
           holds = inv.waits w n x (x.clock + resend_after) (drop k w.posted) found a.holds;
         }))
 
-    by_node : (o : Option Node) → nth n w.nodes ≡ o → After count inv k (at_some_node (Turn n (Tick resend_after) [] None) o w)
+    by_node : (o : Option Node) → nth n w.nodes ≡ o → After hosts inv k (at_some_node (Turn n (Tick resend_after) [] None) o w)
     by_node None found = a
     by_node (Some x) found = by_book x x.book found refl
 
@@ -395,28 +395,28 @@ first_at i (p ∷ ps) k n e = by_receiver p.receiver refl e (λ f. first_at (i +
             second z (Some q) = q.1
 
 -- a delivery
-arrival_after : (count : ℕ) (inv : Invariant count) (n k : ℕ) (w : World) (x : Node) (b : Book) (p : Posted) → count < 2 ^ 64 → nth n w.nodes ≡ Some x → x.book ≡ Some b → Reached count w
+arrival_after : (hosts : Hosts) (inv : Invariant hosts) (n k : ℕ) (w : World) (x : Node) (b : Book) (p : Posted) → HaveOwnAddresses hosts → nth n w.nodes ≡ Some x → x.book ≡ Some b → Reached hosts w
     → k ≤ length w.posted → IsIn p w.posted → p.receiver ≡ Some n → MakesNothing p.content.message → inv.Of w (p ∷ drop k w.posted)
-    → After count inv k (take_turn n x.clock (arrival_plan b x.clock (decoded x.base p.content)) (calm w b))
-arrival_after count inv n k w x b p small found up reached passed among to plain h = by_decoded (decoded x.base p.content) refl
+    → After hosts inv k (take_turn n x.clock (arrival_plan b x.clock (decoded x.base p.content)) (calm w b))
+arrival_after hosts inv n k w x b p small found up reached passed among to plain h = by_decoded (decoded x.base p.content) refl
   where
-    base : x.base ≡ base_of n
-    base = node_base count w small reached n x found
+    base : x.base ≡ hosts.base_of n
+    base = node_base hosts w small reached n x found
 
-    now_reached : Reached count (newest n x w b)
-    now_reached = subst (Reached count) (begins w n x b found up) reached
+    now_reached : Reached hosts (newest n x w b)
+    now_reached = subst (Reached hosts) (begins w n x b found up) reached
 
     now_holds : inv.Of (newest n x w b) (p ∷ drop k w.posted)
     now_holds = subst (λ (z : World). inv.Of z (p ∷ drop k w.posted)) (begins w n x b found up) h
 
-    no_answer : decoded x.base p.content ≡ None → Standing count inv n k (take_step n (answer_plan b 500) (calm w b))
+    no_answer : decoded x.base p.content ≡ None → Standing hosts inv n k (take_step n (answer_plan b 500) (calm w b))
     no_answer e = record {
       world = v;
       book = b;
       is = refl;
       node = x;
       found = found;
-      reached = subst (λ (z : World). Reached count (newest n x z b)) (sym same) now_reached;
+      reached = subst (λ (z : World). Reached hosts (newest n x z b)) (sym same) now_reached;
       passed = passed;
       holds = subst (λ (z : World). inv.Of (newest n x z b) (drop k w.posted)) (sym same) (inv.drops (newest n x w b) (p ∷ drop k w.posted) (drop k w.posted) dropped now_holds);
     }
@@ -426,7 +426,7 @@ arrival_after count inv n k w x b p small found up reached passed among to plain
 
         same : v ≡ w
         same = λ i. record w {
-          accepted = (ap (λ xs. w.accepted ++ xs) (none_new w.nodes b (book_ready count w reached n x b found up).order n) ∙ append-nil w.accepted) i;
+          accepted = (ap (λ xs. w.accepted ++ xs) (none_new w.nodes b (book_ready hosts w reached n x b found up).order n) ∙ append-nil w.accepted) i;
           happened = append-nil w.happened i;
         }
 
@@ -439,12 +439,12 @@ arrival_after count inv n k w x b p small found up reached passed among to plain
         dropped : (q : Posted) → IsIn q (p ∷ drop k w.posted) → IsIn q (drop k w.posted) ⊎ IsLost q
         dropped q (inl is) =
             inr (λ m a r d. none_there (decoded x.base p.content) a e
-            (ap (λ bs. decoded bs p.content) (base ∙ ap base_of (same_number n m (sym to ∙ ap (λ (y : Posted). y.receiver) (sym is) ∙ r))) ∙ ap (λ (y : Posted). decoded (base_of m) y.content) (sym is) ∙ d))
+            (ap (λ bs. decoded bs p.content) (base ∙ ap hosts.base_of (same_number n m (sym to ∙ ap (λ (y : Posted). y.receiver) (sym is) ∙ r))) ∙ ap (λ (y : Posted). decoded (hosts.base_of m) y.content) (sym is) ∙ d))
         dropped q (inr i) = inl i
 
-    arrived : (a : Arrived) → decoded x.base p.content ≡ Some a → a.message ≡ p.content.message → Standing count inv n k (take_step n (plan b (events.Arrived a) x.clock) (calm w b))
+    arrived : (a : Arrived) → decoded x.base p.content ≡ Some a → a.message ≡ p.content.message → Standing hosts inv n k (take_step n (plan b (events.Arrived a) x.clock) (calm w b))
     arrived a e says =
-        take_stands count inv n k w x b (events.Arrived a) x.clock (p ∷ drop k w.posted) small found now_reached passed (p, among, to, e) (subst MakesNothing (sym says) plain) stays now_holds
+        take_stands hosts inv n k w x b (events.Arrived a) x.clock (p ∷ drop k w.posted) small found now_reached passed (p, among, to, e) (subst MakesNothing (sym says) plain) stays now_holds
       where
         same_event : (o : Option Arrived) (c d : Arrived) → o ≡ Some c → o ≡ Some d → events.Arrived c ≡ events.Arrived d
         same_event o c d f g = cc
@@ -453,24 +453,24 @@ arrival_after count inv n k w x b p small found up reached passed among to plain
         stays q (inl is) =
             inr (
               ap (λ (y : Posted). y.receiver) is ∙ to,
-              λ c d. same_event (decoded x.base p.content) a c e (ap (λ bs. decoded bs p.content) base ∙ ap (λ (y : Posted). decoded (base_of n) y.content) (sym is) ∙ d),
+              λ c d. same_event (decoded x.base p.content) a c e (ap (λ bs. decoded bs p.content) base ∙ ap (λ (y : Posted). decoded (hosts.base_of n) y.content) (sym is) ∙ d),
             )
         stays q (inr i) = inl i
 
-    by_decoded : (o : Option Arrived) → decoded x.base p.content ≡ o → After count inv k (take_turn n x.clock (arrival_plan b x.clock o) (calm w b))
-    by_decoded None e = taken_after count inv n k x.clock (answer_plan b 500) (calm w b) small (no_answer e)
-    by_decoded (Some a) e = taken_after count inv n k x.clock (plan b (events.Arrived a) x.clock) (calm w b) small (arrived a e (decoded_message x.base p.content a e))
+    by_decoded : (o : Option Arrived) → decoded x.base p.content ≡ o → After hosts inv k (take_turn n x.clock (arrival_plan b x.clock o) (calm w b))
+    by_decoded None e = taken_after hosts inv n k x.clock (answer_plan b 500) (calm w b) small (no_answer e)
+    by_decoded (Some a) e = taken_after hosts inv n k x.clock (plan b (events.Arrived a) x.clock) (calm w b) small (arrived a e (decoded_message x.base p.content a e))
 
-pub delivery_after : (count : ℕ) (inv : Invariant count) (j k n : ℕ) (w : World) (x : Node) (b : Book) (p : Posted) → count < 2 ^ 64 → nth n w.nodes ≡ Some x → x.book ≡ Some b
-    → (f : FirstAt (j + 1) (drop j w.posted) k n) → MakesNothing f.post.content.message → After count inv j w → After count inv k (world_step w (Turn n (Deliver k) [] None))
+pub delivery_after : (hosts : Hosts) (inv : Invariant hosts) (j k n : ℕ) (w : World) (x : Node) (b : Book) (p : Posted) → HaveOwnAddresses hosts → nth n w.nodes ≡ Some x → x.book ≡ Some b
+    → (f : FirstAt (j + 1) (drop j w.posted) k n) → MakesNothing f.post.content.message → After hosts inv j w → After hosts inv k (world_step w (Turn n (Deliver k) [] None))
 unfolding world_step
-delivery_after count inv j k n w x b p small found up f plain a =
-    subst (λ o. After count inv k (at_some_node (Turn n (Deliver k) [] None) o w)) (sym found)
-    (subst (λ o. After count inv k (on_book o (λ c. deliver n x c [] None (nth k w.posted) w) w)) (sym up)
-    (subst (λ o. After count inv k (deliver n x b [] None o w)) (sym at)
-    (subst (λ o. After count inv k (if is_receiver n o then take_turn n x.clock (arrival_plan b x.clock (decoded x.base f.post.content)) (calm w b) else w)) (sym f.receiver)
-    (subst (λ c. After count inv k (if c then take_turn n x.clock (arrival_plan b x.clock (decoded x.base f.post.content)) (calm w b) else w)) (sym (own_number n))
-    (arrival_after count inv n k w x b f.post small found up a.reached (nth_within k w.posted f.post at) (is_in_list k f.post w.posted at) f.receiver plain
+delivery_after hosts inv j k n w x b p small found up f plain a =
+    subst (λ o. After hosts inv k (at_some_node (Turn n (Deliver k) [] None) o w)) (sym found)
+    (subst (λ o. After hosts inv k (on_book o (λ c. deliver n x c [] None (nth k w.posted) w) w)) (sym up)
+    (subst (λ o. After hosts inv k (deliver n x b [] None o w)) (sym at)
+    (subst (λ o. After hosts inv k (if is_receiver n o then take_turn n x.clock (arrival_plan b x.clock (decoded x.base f.post.content)) (calm w b) else w)) (sym f.receiver)
+    (subst (λ c. After hosts inv k (if c then take_turn n x.clock (arrival_plan b x.clock (decoded x.base f.post.content)) (calm w b) else w)) (sym (own_number n))
+    (arrival_after hosts inv n k w x b f.post small found up a.reached (nth_within k w.posted f.post at) (is_in_list k f.post w.posted at) f.receiver plain
     (inv.drops w (drop j w.posted) (f.post ∷ drop k w.posted) skipped a.holds))))))
   where
     number : j + (f.behind + 1) ≡ k

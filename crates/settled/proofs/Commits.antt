@@ -15,7 +15,7 @@ use Rattle.at_tables.specs.Names.{is_kind}
 use Rattle.at_model.specs.Book.{Book, Enlistment, Leaf, Phase, Superior, Transaction, leaf_id, transaction_id}
 use Rattle.at_model.specs.Due.{may_expire}
 use Rattle.at_model.specs.Step.{leaf_at, step, transaction_at}
-use Rattle.at_model.specs.World.{Posted, Who, World}
+use Rattle.at_model.specs.World.{Posted, Who, World, Hosts}
 use Rattle.model_laws.specs.Agreement.{HasPosted, IsIn}
 use Rattle.model_laws.specs.Behind.{Accepted as Seating}
 use Rattle.model_laws.specs.Links.{AreIn, AreLinked}
@@ -42,13 +42,13 @@ use Rattle.settled.proofs.Meeting.{found_own, known_is, leaf_knows, leaf_own, le
 use Rattle.settled.proofs.VotesKept.{Partner, StoodBefore, stood}
 
 -- a durable participant to whom a Commit comes has voted
-pub comes_voted : (count : ℕ) (u v : World) (before after : List Posted) → (g : Goes count u v before after) → (x : Who) (a : Arrived) → x.node ≡ g.number → g.event ≡ events.Arrived a
+pub comes_voted : (hosts : Hosts) (u v : World) (before after : List Posted) → (g : Goes hosts u v before after) → (x : Who) (a : Arrived) → x.node ≡ g.number → g.event ≡ events.Arrived a
     → a.target ≡ targets.Participant x.id kinds.Durable → a.message ≡ messages.Notice notices.Commit → HasVoted u x
-comes_voted count u v before after g x a here came target says =
-    let h : HasCome count u g.number a = has_come count u g.number g.node g.book g.event g.now true a (stepping count u v before after g) came in
-    votes_are_kept.prepared count u g.small g.reached x
+comes_voted hosts u v before after g x a here came target says =
+    let h : HasCome hosts u g.number a = has_come hosts u g.number g.node g.book g.event g.now true a (stepping hosts u v before after g) came in
+    votes_are_kept.prepared hosts u g.small g.reached x
     (subst (λ n. HasPosted u (record { node = n; id = x.id }) kinds.Durable notices.Prepared) (sym here)
-    ((one_of (λ (p : Posted). CommitIsBacked count u p.content) u.posted h.posted (outcomes_are_backed.reached count u g.small g.reached).commits h.stands h.to g.number x.id kinds.Durable
+    ((one_of (λ (p : Posted). CommitIsBacked hosts u p.content) u.posted h.posted (outcomes_are_backed.reached hosts u g.small g.reached).commits h.stands h.to g.number x.id kinds.Durable
     (h.message ∙ says) h.sent (h.leads ∙ (λ i. Some (g.number, target i)))).0))
 
 early_undecided : (p : Phase) (volatile durable : State) → AreIn p volatile durable → IsEarly durable → may_expire p ≡ true
@@ -60,26 +60,26 @@ early_undecided Phase.Voted volatile durable (h, k) e = absurd (subst IsEarly k 
 early_undecided Phase.Committing volatile durable (h, k) e = absurd (subst IsEarly k e)
 early_undecided Phase.Aborting volatile durable (h, k) e = absurd (subst IsEarly k e)
 
-pub linked_at : (count : ℕ) (u v : World) (before after : List Posted) → (g : Goes count u v before after) → (id : Numbers) (t : Transaction) (s : Superior) → transaction_at g.book id ≡ Some t
+pub linked_at : (hosts : Hosts) (u v : World) (before after : List Posted) → (g : Goes hosts u v before after) → (id : Numbers) (t : Transaction) (s : Superior) → transaction_at g.book id ≡ Some t
     → t.superior ≡ Some s → AreIn t.phase s.volatile.state s.durable.state
-linked_at count u v before after g id t s found under =
+linked_at hosts u v before after g id t s found under =
     (subst (λ o. AreLinked t.phase o t.completion) under
-    (all_find (λ (y : Transaction). AreLinked y.phase y.superior y.completion) transaction_id id g.book.transactions t (ready count u v before after g).phases.links found)).0
+    (all_find (λ (y : Transaction). AreLinked y.phase y.superior y.completion) transaction_id id g.book.transactions t (ready hosts u v before after g).phases.links found)).0
 
 -- a Commit that arrives is answered, or the participant commits
-commit_arrives : (count : ℕ) (u v : World) (before after : List Posted) → (g : Goes count u v before after) → (x z : Who) (number : ℕ) (a : Arrived) → x.node ≡ g.number
+commit_arrives : (hosts : Hosts) (u v : World) (before after : List Posted) → (g : Goes hosts u v before after) → (x z : Who) (number : ℕ) (a : Arrived) → x.node ≡ g.number
     → g.event ≡ events.Arrived a → IsNoticeFrom (targets.Participant x.id kinds.Durable) notices.Commit (seat_of z number kinds.Durable) a → HasSeat u z number kinds.Durable x
     → CommitsAt v x ⊎ Tells (Some (seat_of z number kinds.Durable)) notices.Committed (posted_in g)
-commit_arrives count u v before after g x z number a here came ((target, says), from) seat = by_transaction (transaction_at g.book x.id) refl
+commit_arrives hosts u v before after g x z number a here came ((target, says), from) seat = by_transaction (transaction_at g.book x.id) refl
   where
     e : Epr
     e = seat_of z number kinds.Durable
 
     holds : Holds u x.node g.book
-    holds = subst (λ m. Holds u m g.book) (sym here) (holds_before count u v before after g)
+    holds = subst (λ m. Holds u m g.book) (sym here) (holds_before hosts u v before after g)
 
     voted : HasVoted u x
-    voted = comes_voted count u v before after g x a here came target says
+    voted = comes_voted hosts u v before after g x a here came target says
 
     stranger : NoParticipant kinds.Durable (transaction_at g.book x.id) (leaf_at g.book x.id) → CommitsAt v x ⊎ Tells (Some e) notices.Committed (posted_in g)
     stranger unknown =
@@ -91,19 +91,19 @@ commit_arrives count u v before after g x z number a here came ((target, says), 
     by_superior t found (Some s) under =
         let id_is : t.id ≡ x.id = found_id transaction_id x.id g.book.transactions t found in
         let l : LinksOwed g.book.base g.event t s (posted_in g) (superior_left (transaction_at (book_after g) t.id)) =
-        steps_owe_links.links g.book g.event g.now (ready count u v before after g) (shaped count u v before after g) t s (found_own g.book x.id t found) under in
+        steps_owe_links.links g.book g.event g.now (ready hosts u v before after g) (shaped hosts u v before after g) t s (found_own g.book x.id t found) under in
         by_answer id_is
         (l.1.0 (record { message = a; came = came; target = target ∙ ap (λ i. targets.Participant i kinds.Durable) (sym id_is); says = says }) e
-        (λ early. (partners_are_paired.votes count u g.small g.reached x.node holds.node g.book holds.found holds.up).unvoted t (found_own g.book x.id t found)
-        (early_undecided t.phase s.volatile.state s.durable.state (linked_at count u v before after g x.id t s found under) early)
+        (λ early. (partners_are_paired.votes hosts u g.small g.reached x.node holds.node g.book holds.found holds.up).unvoted t (found_own g.book x.id t found)
+        (early_undecided t.phase s.volatile.state s.durable.state (linked_at hosts u v before after g x.id t s found under) early)
         (subst (λ i. HasVoted u (record { node = x.node; id = i })) (sym id_is) voted))
         (stored_is s.durable.coordinator a.from e from
-        (λ c knows. link_knows count u g.small g.reached x.node g.book holds x.id t kinds.Durable c z number found seat (ap (coordinator_at kinds.Durable) under ∙ knows))))
+        (λ c knows. link_knows hosts u g.small g.reached x.node g.book holds x.id t kinds.Durable c z number found seat (ap (coordinator_at kinds.Durable) under ∙ knows))))
       where
         by_answer : t.id ≡ x.id → CommitsIn (superior_left (transaction_at (book_after g) t.id)) ⊎ Tells (Some e) notices.Committed (posted_in g)
             → CommitsAt v x ⊎ Tells (Some e) notices.Committed (posted_in g)
         by_answer same (inl commits) =
-            inl (left_committing count u v before after g x here (transaction_at (book_after g) x.id) refl
+            inl (left_committing hosts u v before after g x here (transaction_at (book_after g) x.id) refl
             (subst (λ i. CommitsIn (superior_left (transaction_at (book_after g) i))) same commits))
         by_answer same (inr tells) = inr tells
 
@@ -112,12 +112,12 @@ commit_arrives count u v before after g x z number a here came ((target, says), 
     by_kind l none found true same =
         let id_is : l.id ≡ x.id = found_id leaf_id x.id g.book.leaves l found in
         let k : l.kind ≡ kinds.Durable = same_kind l.kind kinds.Durable same in
-        inr ((steps_owe_leaves.leaves g.book g.event g.now (ready count u v before after g) l (leaf_own g.book x.id l found) (ap (transaction_at g.book) id_is ∙ none)).1.0
+        inr ((steps_owe_leaves.leaves g.book g.event g.now (ready hosts u v before after g) l (leaf_own g.book x.id l found) (ap (transaction_at g.book) id_is ∙ none)).1.0
         (record { arrived = a; event = came; target = target ∙ (λ i. targets.Participant (sym id_is i) (sym k i)); message = says }) e
-        ((partners_are_paired.votes count u g.small g.reached x.node holds.node g.book holds.found holds.up).prepared l (leaf_own g.book x.id l found)
+        ((partners_are_paired.votes hosts u g.small g.reached x.node holds.node g.book holds.found holds.up).prepared l (leaf_own g.book x.id l found)
         (subst (λ i. HasVoted u (record { node = x.node; id = i })) (sym id_is) voted))
         (stored_is l.coordinator a.from e from
-        (λ c knows. leaf_knows count u g.small g.reached x.node g.book holds x.id l c z number found (subst (λ d. HasSeat u z number d x) (sym k) seat) knows ∙ ap (seat_of z number) k)))
+        (λ c knows. leaf_knows hosts u g.small g.reached x.node g.book holds x.id l c z number found (subst (λ d. HasSeat u z number d x) (sym k) seat) knows ∙ ap (seat_of z number) k)))
     by_kind l none found false other =
         stranger (subst (λ o. NoParticipant kinds.Durable o (leaf_at g.book x.id)) (sym none)
         (subst (λ o. IfFound (λ (y : Leaf). is_kind y.kind kinds.Durable ≡ false) o) (sym found) other))
@@ -132,9 +132,9 @@ commit_arrives count u v before after g x z number a here came ((target, says), 
     by_transaction (Some t) f = by_superior t f t.superior refl
 
 -- a link that commits goes on, or says Committed
-committing_on : (count : ℕ) (u v : World) (before after : List Posted) → (g : Goes count u v before after) → (x z : Who) (number : ℕ) → HasSeat u z number kinds.Durable x → CommitsAt u x
+committing_on : (hosts : Hosts) (u v : World) (before after : List Posted) → (g : Goes hosts u v before after) → (x z : Who) (number : ℕ) → HasSeat u z number kinds.Durable x → CommitsAt u x
     → CommitsAt v x ⊎ Tells (Some (seat_of z number kinds.Durable)) notices.Committed (posted_in g)
-committing_on count u v before after g x z number seat k = by_place (or_elsewhere x.node g.number)
+committing_on hosts u v before after g x z number seat k = by_place (or_elsewhere x.node g.number)
   where
     e : Epr
     e = seat_of z number kinds.Durable
@@ -143,48 +143,48 @@ committing_on count u v before after g x z number seat k = by_place (or_elsewher
         → CommitsAt v x ⊎ Tells (Some e) notices.Committed (posted_in g)
     here_commits here o there None under commits = absurd commits
     here_commits here o there (Some s) under commits =
-        let holds : Holds u x.node g.book = subst (λ m. Holds u m g.book) (sym here) (holds_before count u v before after g) in
+        let holds : Holds u x.node g.book = subst (λ m. Holds u m g.book) (sym here) (holds_before hosts u v before after g) in
         let id_is : o.id ≡ x.id = found_id transaction_id x.id g.book.transactions o there in
         let l : LinksOwed g.book.base g.event o s (posted_in g) (superior_left (transaction_at (book_after g) o.id)) =
-        steps_owe_links.links g.book g.event g.now (ready count u v before after g) (shaped count u v before after g) o s (found_own g.book x.id o there) under in
+        steps_owe_links.links g.book g.event g.now (ready hosts u v before after g) (shaped hosts u v before after g) o s (found_own g.book x.id o there) under in
         let knows : s.durable.coordinator ≡ Some e =
         known_is s.durable.coordinator e
-        (subst (λ d. LinkKnows s.request d s.durable.coordinator) commits (subst (λ y. StandsUnder o.phase y o.completion) under (shape_at count u g.reached x.node g.book holds x.id o there).1.1).1)
-        (λ c is. link_knows count u g.small g.reached x.node g.book holds x.id o kinds.Durable c z number there seat (ap (coordinator_at kinds.Durable) under ∙ is)) in
-        still_committing count u v before after g x e here
+        (subst (λ d. LinkKnows s.request d s.durable.coordinator) commits (subst (λ y. StandsUnder o.phase y o.completion) under (shape_at hosts u g.reached x.node g.book holds x.id o there).1.1).1)
+        (λ c is. link_knows hosts u g.small g.reached x.node g.book holds x.id o kinds.Durable c z number there seat (ap (coordinator_at kinds.Durable) under ∙ is)) in
+        still_committing hosts u v before after g x e here
         (subst (λ i. StaysCommitting e (posted_in g) (superior_left (transaction_at (book_after g) i))) id_is (l.1.1.1.0 e commits knows))
 
     by_place : (x.node ≡ g.number) ⊎ (x.node ≡ g.number → ⊥) → CommitsAt v x ⊎ Tells (Some e) notices.Committed (posted_in g)
     by_place (inl here) =
-        let same : k.book ≡ g.book = same_book u x.node k.book g.book k.holds (subst (λ m. Holds u m g.book) (sym here) (holds_before count u v before after g)) in
+        let same : k.book ≡ g.book = same_book u x.node k.book g.book k.holds (subst (λ m. Holds u m g.book) (sym here) (holds_before hosts u v before after g)) in
         here_commits here k.transaction (subst (λ c. transaction_at c x.id ≡ Some k.transaction) same k.found) k.transaction.superior refl k.commits
     by_place (inr other) =
-        inl (record { book = k.book; holds = holds_elsewhere count u v before after g x.node k.book other k.holds; transaction = k.transaction; found = k.found; commits = k.commits })
+        inl (record { book = k.book; holds = holds_elsewhere hosts u v before after g x.node k.book other k.holds; transaction = k.transaction; found = k.found; commits = k.commits })
 
-commit_on : (count : ℕ) (u v : World) (before after : List Posted) → (g : Goes count u v before after) → (n : ℕ) (b : Book) (t : Transaction) (s : Enlistment) (x : Who)
-    → Holds u n b → transaction_at b t.id ≡ Some t → IsIn s t.seats → s.kind ≡ kinds.Durable → IsPlace count x → s.participant ≡ participant_of x s.kind
+commit_on : (hosts : Hosts) (u v : World) (before after : List Posted) → (g : Goes hosts u v before after) → (n : ℕ) (b : Book) (t : Transaction) (s : Enlistment) (x : Who)
+    → Holds u n b → transaction_at b t.id ≡ Some t → IsIn s t.seats → s.kind ≡ kinds.Durable → IsPlace hosts x → s.participant ≡ participant_of x s.kind
     → (n ≡ g.number → ParticipantSaid notices.Committed g.event t s → ⊥) → OwesCommitted u before (record { node = n; id = t.id }) s.number x
     → OwesCommitted v after (record { node = n; id = t.id }) s.number x
-commit_on count u v before after g n b t s x h found i durable place is unanswered owed = by_owed owed
+commit_on hosts u v before after g n b t s x h found i durable place is unanswered owed = by_owed owed
   where
     z : Who
     z = record { node = n; id = t.id }
 
     seat : HasSeat u z s.number kinds.Durable x
-    seat = subst (λ d. HasSeat u z s.number d x) durable (seat_has count u g.small g.reached n b h t s x found i place is)
+    seat = subst (λ d. HasSeat u z s.number d x) durable (seat_has hosts u g.small g.reached n b h t s x found i place is)
 
-    there : IsSeatPlace count z s.number
-    there = seat_place count u g.small g.reached n b h t s found i
+    there : IsSeatPlace hosts z s.number
+    there = seat_place hosts u g.small g.reached n b h t s found i
 
     answered : CommitsAt v x ⊎ Tells (Some (seat_of z s.number kinds.Durable)) notices.Committed (posted_in g) → OwesCommitted v after z s.number x
     answered (inl commits) = inr (inr commits)
-    answered (inr tells) = inr (inl (seat_told count u v before after g z s.number kinds.Durable notices.Committed tt there tells))
+    answered (inr tells) = inr (inl (seat_told hosts u v before after g z s.number kinds.Durable notices.Committed tt there tells))
 
     by_asked : (c : Comes before x.node (IsNoticeFrom (targets.Participant x.id kinds.Durable) notices.Commit (seat_of z s.number kinds.Durable)))
         → Comes after x.node (IsNoticeFrom (targets.Participant x.id kinds.Durable) notices.Commit (seat_of z s.number kinds.Durable)) ⊎ ((x.node ≡ g.number) × (g.event ≡ events.Arrived c.arrived))
         → OwesCommitted v after z s.number x
     by_asked c (inl stays) = inl stays
-    by_asked c (inr (here, came)) = answered (commit_arrives count u v before after g x z s.number c.arrived here came c.says seat)
+    by_asked c (inr (here, came)) = answered (commit_arrives hosts u v before after g x z s.number c.arrived here came c.says seat)
 
     by_heard : (c : Comes before n (IsNotice (seat_target_of z s.number kinds.Durable) notices.Committed))
         → Comes after n (IsNotice (seat_target_of z s.number kinds.Durable) notices.Committed) ⊎ ((n ≡ g.number) × (g.event ≡ events.Arrived c.arrived)) → OwesCommitted v after z s.number x
@@ -198,20 +198,20 @@ commit_on count u v before after g n b t s x h found i durable place is unanswer
         }))
 
     by_owed : OwesCommitted u before z s.number x → OwesCommitted v after z s.number x
-    by_owed (inl c) = by_asked c (or_arrives count u v before after g x.node _ c)
-    by_owed (inr (inl c)) = by_heard c (or_arrives count u v before after g n _ c)
-    by_owed (inr (inr commits)) = answered (committing_on count u v before after g x z s.number seat commits)
+    by_owed (inl c) = by_asked c (or_arrives hosts u v before after g x.node _ c)
+    by_owed (inr (inl c)) = by_heard c (or_arrives hosts u v before after g n _ c)
+    by_owed (inr (inr commits)) = answered (committing_on hosts u v before after g x z s.number seat commits)
 
-commits_here : (count : ℕ) (Asked : ℕ → Type 0) (u v : World) (before after : List Posted) → (g : Goes count u v before after) → CommitsAreOwed count Asked u before → (t : Transaction)
+commits_here : (hosts : Hosts) (Asked : ℕ → Type 0) (u v : World) (before after : List Posted) → (g : Goes hosts u v before after) → CommitsAreOwed hosts Asked u before → (t : Transaction)
     (s : Enlistment) (x : Who) → Asked g.number → transaction_at (book_after g) t.id ≡ Some t → IsIn s t.seats → s.kind ≡ kinds.Durable → s.state ≡ states.Committing
-    → IsPlace count x → s.participant ≡ participant_of x s.kind → OwesCommitted v after (record { node = g.number; id = t.id }) s.number x
-commits_here count Asked u v before after g h t s x asked found i durable state place is = by_seat b.seats
+    → IsPlace hosts x → s.participant ≡ participant_of x s.kind → OwesCommitted v after (record { node = g.number; id = t.id }) s.number x
+commits_here hosts Asked u v before after g h t s x asked found i durable state place is = by_seat b.seats
   where
-    b : StoodBefore count u v before after g t s
-    b = stood count u v before after g t s found i
+    b : StoodBefore hosts u v before after g t s
+    b = stood hosts u v before after g t s found i
 
     held : Holds u g.number g.book
-    held = holds_before count u v before after g
+    held = holds_before hosts u v before after g
 
     by_asked : (p : Partner (IsOwed g.book.base g.event b.old (posted_in g)) b.old.seats s)
         → ((p.old.state ≡ states.Committing) × (ParticipantSaid notices.Committed g.event b.old p.old → ⊥)) ⊎ IsIn (seat_post g.book.base b.old.id p.old notices.Commit) (posted_in g)
@@ -219,13 +219,13 @@ commits_here count Asked u v before after g h t s x asked found i durable state 
     by_asked p (inl (was, unanswered)) =
         let same : p.old.participant ≡ participant_of x p.old.kind = subst (λ (a : Seating). a.participant ≡ participant_of x a.kind) p.pair.0.0 is in
         let k : p.old.kind ≡ kinds.Durable = subst (λ (a : Seating). a.kind ≡ kinds.Durable) p.pair.0.0 durable in
-        commit_on count u v before after g g.number g.book b.old p.old x held b.found p.among k place same (λ here. unanswered)
+        commit_on hosts u v before after g g.number g.book b.old p.old x held b.found p.among k place same (λ here. unanswered)
         (h.seats g.number g.book b.old p.old x asked held b.found p.among k was place same)
     by_asked p (inr sent) =
         let same : p.old.participant ≡ participant_of x p.old.kind = subst (λ (a : Seating). a.participant ≡ participant_of x a.kind) p.pair.0.0 is in
         let k : p.old.kind ≡ kinds.Durable = subst (λ (a : Seating). a.kind ≡ kinds.Durable) p.pair.0.0 durable in
         inl (subst (λ d. Comes after x.node (IsNoticeFrom (targets.Participant x.id d) notices.Commit (seat_of (record { node = g.number; id = b.old.id }) p.old.number d))) k
-        (seat_asks count u v before after g b.old.id p.old x notices.Commit tt place same sent))
+        (seat_asks hosts u v before after g b.old.id p.old x notices.Commit tt place same sent))
 
     by_seat : Partner (IsOwed g.book.base g.event b.old (posted_in g)) b.old.seats s ⊎ IsNew g.book.base b.old (posted_in g) s
         → OwesCommitted v after (record { node = g.number; id = t.id }) s.number x
@@ -234,18 +234,18 @@ commits_here count Asked u v before after g h t s x asked found i durable state 
         (subst (λ (a : Seating). OwesCommitted v after (record { node = g.number; id = b.old.id }) a.number x) (sym p.pair.0.0) (by_asked p (p.pair.1.1 state)))
     by_seat (inr new) = absurd (new.1.0 state)
 
-pub commits_kept : (count : ℕ) (Asked : ℕ → Type 0) (u v : World) (before after : List Posted) → (g : Goes count u v before after) → CommitsAreOwed count Asked u before → CommitsAreOwed count Asked v after
-commits_kept count Asked u v before after g h = record {
+pub commits_kept : (hosts : Hosts) (Asked : ℕ → Type 0) (u v : World) (before after : List Posted) → (g : Goes hosts u v before after) → CommitsAreOwed hosts Asked u before → CommitsAreOwed hosts Asked v after
+commits_kept hosts Asked u v before after g h = record {
   seats = λ n b t s x asked holds found i durable state place is. by_place n b t s x asked holds found i durable state place is (or_elsewhere n g.number);
 }
   where
     by_place : (n : ℕ) (b : Book) (t : Transaction) (s : Enlistment) (x : Who) → Asked n → Holds v n b → transaction_at b t.id ≡ Some t → IsIn s t.seats → s.kind ≡ kinds.Durable
-        → s.state ≡ states.Committing → IsPlace count x → s.participant ≡ participant_of x s.kind → (n ≡ g.number) ⊎ (n ≡ g.number → ⊥)
+        → s.state ≡ states.Committing → IsPlace hosts x → s.participant ≡ participant_of x s.kind → (n ≡ g.number) ⊎ (n ≡ g.number → ⊥)
         → OwesCommitted v after (record { node = n; id = t.id }) s.number x
     by_place n b t s x asked holds found i durable state place is (inl here) =
-        let same : b ≡ book_after g = same_book v g.number b (book_after g) (subst (λ m. Holds v m b) here holds) (holds_after count u v before after g) in
+        let same : b ≡ book_after g = same_book v g.number b (book_after g) (subst (λ m. Holds v m b) here holds) (holds_after hosts u v before after g) in
         subst (λ m. OwesCommitted v after (record { node = m; id = t.id }) s.number x) (sym here)
-        (commits_here count Asked u v before after g h t s x (subst Asked here asked) (subst (λ c. transaction_at c t.id ≡ Some t) same found) i durable state place is)
+        (commits_here hosts Asked u v before after g h t s x (subst Asked here asked) (subst (λ c. transaction_at c t.id ≡ Some t) same found) i durable state place is)
     by_place n b t s x asked holds found i durable state place is (inr other) =
-        let held : Holds u n b = held_elsewhere count u v before after g n b other holds in
-        commit_on count u v before after g n b t s x held found i durable place is (λ here. absurd (other here)) (h.seats n b t s x asked held found i durable state place is)
+        let held : Holds u n b = held_elsewhere hosts u v before after g n b other holds in
+        commit_on hosts u v before after g n b t s x held found i durable place is (λ here. absurd (other here)) (h.seats n b t s x asked held found i durable state place is)

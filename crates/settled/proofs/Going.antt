@@ -17,7 +17,7 @@ use Rattle.at_model.specs.Addresses.{endpoint_of}
 use Rattle.at_model.specs.Book.{Book, Enlistment}
 use Rattle.at_model.specs.Seats.{seat_target}
 use Rattle.at_model.specs.Step.{plan, step}
-use Rattle.at_model.specs.World.{Node, Posted, Who, World, arrival_of, base_of, decoded, decoded_at, new_nodes, nth, put_nth, receiver_of, takes, target_at}
+use Rattle.at_model.specs.World.{Node, Posted, Who, World, arrival_of, decoded, decoded_at, new_nodes, nth, put_nth, receiver_of, takes, target_at, Hosts, HaveOwnAddresses}
 use Rattle.model_laws.specs.Agreement.{IsIn}
 use Rattle.model_laws.specs.Drawn.{with_entry}
 use Rattle.model_laws.specs.Reached.{counts, post_all}
@@ -34,23 +34,23 @@ use Rattle.paired.specs.Paired.{IsPlace, participant_of, seat_of}
 use Rattle.settled.specs.Goes.{Goes, HasArrived, posted_as}
 use Rattle.settled.specs.Owed.{Comes, Holds, IsNotice, IsNoticeFrom, IsSeatPlace, seat_target_of}
 
-pub stepping : (count : ℕ) (u v : World) (before after : List Posted) → (g : Goes count u v before after) → Stepping count u g.number g.node g.book g.event g.now true
-stepping count u v before after g = record { small = g.small; reached = g.reached; found = g.found; up = g.up; heard = g.heard }
+pub stepping : (hosts : Hosts) (u v : World) (before after : List Posted) → (g : Goes hosts u v before after) → Stepping hosts u g.number g.node g.book g.event g.now true
+stepping hosts u v before after g = record { small = g.small; reached = g.reached; found = g.found; up = g.up; heard = g.heard }
 
-pub ready : (count : ℕ) (u v : World) (before after : List Posted) → (g : Goes count u v before after) → IsReady g.book
-ready count u v before after g = step_ready count u g.number g.node g.book g.event g.now true (stepping count u v before after g)
+pub ready : (hosts : Hosts) (u v : World) (before after : List Posted) → (g : Goes hosts u v before after) → IsReady g.book
+ready hosts u v before after g = step_ready hosts u g.number g.node g.book g.event g.now true (stepping hosts u v before after g)
 
-pub shaped : (count : ℕ) (u v : World) (before after : List Posted) → (g : Goes count u v before after) → AreShaped g.book
-shaped count u v before after g = reached_shaped count u g.reached g.number g.node g.book g.found g.up
+pub shaped : (hosts : Hosts) (u v : World) (before after : List Posted) → (g : Goes hosts u v before after) → AreShaped g.book
+shaped hosts u v before after g = reached_shaped hosts u g.reached g.number g.node g.book g.found g.up
 
-pub base_is : (count : ℕ) (u v : World) (before after : List Posted) → (g : Goes count u v before after) → g.book.base ≡ base_of g.number
-base_is count u v before after g = (up_known count u g.small g.reached g.number g.node g.book g.found g.up).says.base_is
+pub base_is : (hosts : Hosts) (u v : World) (before after : List Posted) → (g : Goes hosts u v before after) → g.book.base ≡ hosts.base_of g.number
+base_is hosts u v before after g = (up_known hosts u g.small g.reached g.number g.node g.book g.found g.up).says.base_is
 
 -- what is posted
-abbrev pub posted_in : {count : ℕ} {u v : World} {before after : List Posted} → Goes count u v before after → List Post
+abbrev pub posted_in : {hosts : Hosts} {u v : World} {before after : List Posted} → Goes hosts u v before after → List Post
 posted_in g = posts_of (step g.book g.event g.now true).outs
 
-abbrev pub book_after : {count : ℕ} {u v : World} {before after : List Posted} → Goes count u v before after → Book
+abbrev pub book_after : {hosts : Hosts} {u v : World} {before after : List Posted} → Goes hosts u v before after → Book
 book_after g = (step g.book g.event g.now true).book
 
 -- books
@@ -65,37 +65,37 @@ same_book w n b c h k =
     same_one : (x y : Book) → Some x ≡ Some y → x ≡ y
     same_one x y e = cc
 
-pub holds_before : (count : ℕ) (u v : World) (before after : List Posted) → (g : Goes count u v before after) → Holds u g.number g.book
-holds_before count u v before after g = record { node = g.node; found = g.found; up = g.up }
+pub holds_before : (hosts : Hosts) (u v : World) (before after : List Posted) → (g : Goes hosts u v before after) → Holds u g.number g.book
+holds_before hosts u v before after g = record { node = g.node; found = g.found; up = g.up }
 
 posts_nodes : (n : ℕ) (ps : List Post) (w : World) → (post_all n ps w).nodes ≡ w.nodes
 posts_nodes n [] w = refl
 posts_nodes n (p ∷ ps) w = posts_nodes n ps _
 
-abbrev pub node_after : {count : ℕ} {u v : World} {before after : List Posted} → Goes count u v before after → Node
+abbrev pub node_after : {hosts : Hosts} {u v : World} {before after : List Posted} → Goes hosts u v before after → Node
 node_after g = record g.node { book = Some (step g.book g.event g.now true).book; journal = with_entry (plan g.book g.event g.now).entry true g.node.journal }
 
-pub nodes_after : (count : ℕ) (u v : World) (before after : List Posted) → (g : Goes count u v before after) → v.nodes ≡ put_nth g.number (node_after g) u.nodes
-nodes_after count u v before after g = ap (λ (w : World). w.nodes) g.is ∙ posts_nodes g.number (posted_in g) (counts u g.number g.node g.book g.event g.now true)
+pub nodes_after : (hosts : Hosts) (u v : World) (before after : List Posted) → (g : Goes hosts u v before after) → v.nodes ≡ put_nth g.number (node_after g) u.nodes
+nodes_after hosts u v before after g = ap (λ (w : World). w.nodes) g.is ∙ posts_nodes g.number (posted_in g) (counts u g.number g.node g.book g.event g.now true)
 
-pub holds_after : (count : ℕ) (u v : World) (before after : List Posted) → (g : Goes count u v before after) → Holds v g.number (book_after g)
-holds_after count u v before after g = record {
+pub holds_after : (hosts : Hosts) (u v : World) (before after : List Posted) → (g : Goes hosts u v before after) → Holds v g.number (book_after g)
+holds_after hosts u v before after g = record {
   node = node_after g;
-  found = ap (nth g.number) (nodes_after count u v before after g) ∙ put_this u.nodes g.number g.node (node_after g) g.found;
+  found = ap (nth g.number) (nodes_after hosts u v before after g) ∙ put_this u.nodes g.number g.node (node_after g) g.found;
   up = refl;
 }
 
-pub holds_elsewhere : (count : ℕ) (u v : World) (before after : List Posted) → (g : Goes count u v before after) → (n : ℕ) (b : Book) → (n ≡ g.number → ⊥) → Holds u n b → Holds v n b
-holds_elsewhere count u v before after g n b other h = record {
+pub holds_elsewhere : (hosts : Hosts) (u v : World) (before after : List Posted) → (g : Goes hosts u v before after) → (n : ℕ) (b : Book) → (n ≡ g.number → ⊥) → Holds u n b → Holds v n b
+holds_elsewhere hosts u v before after g n b other h = record {
   node = h.node;
-  found = ap (nth n) (nodes_after count u v before after g) ∙ put_other u.nodes n g.number (node_after g) other ∙ h.found;
+  found = ap (nth n) (nodes_after hosts u v before after g) ∙ put_other u.nodes n g.number (node_after g) other ∙ h.found;
   up = h.up;
 }
 
-pub held_elsewhere : (count : ℕ) (u v : World) (before after : List Posted) → (g : Goes count u v before after) → (n : ℕ) (b : Book) → (n ≡ g.number → ⊥) → Holds v n b → Holds u n b
-held_elsewhere count u v before after g n b other h = record {
+pub held_elsewhere : (hosts : Hosts) (u v : World) (before after : List Posted) → (g : Goes hosts u v before after) → (n : ℕ) (b : Book) → (n ≡ g.number → ⊥) → Holds v n b → Holds u n b
+held_elsewhere hosts u v before after g n b other h = record {
   node = h.node;
-  found = sym (ap (nth n) (nodes_after count u v before after g) ∙ put_other u.nodes n g.number (node_after g) other) ∙ h.found;
+  found = sym (ap (nth n) (nodes_after hosts u v before after g) ∙ put_other u.nodes n g.number (node_after g) other) ∙ h.found;
   up = h.up;
 }
 
@@ -108,9 +108,9 @@ or_elsewhere n m = by_number (nat_eq n m) refl
     by_number false c = inr (eqb-false n m c)
 
 -- what is on its way
-pub or_arrives : (count : ℕ) (u v : World) (before after : List Posted) → (g : Goes count u v before after) → (n : ℕ) (P : Arrived → Type 0) → (c : Comes before n P)
+pub or_arrives : (hosts : Hosts) (u v : World) (before after : List Posted) → (g : Goes hosts u v before after) → (n : ℕ) (P : Arrived → Type 0) → (c : Comes before n P)
     → Comes after n P ⊎ ((n ≡ g.number) × (g.event ≡ events.Arrived c.arrived))
-or_arrives count u v before after g n P c = by_place (g.stays c.posted c.waits)
+or_arrives hosts u v before after g n P c = by_place (g.stays c.posted c.waits)
   where
     same_number : (i j : ℕ) → Some i ≡ Some j → i ≡ j
     same_number i j e = cc
@@ -119,7 +119,7 @@ or_arrives count u v before after g n P c = by_place (g.stays c.posted c.waits)
     by_place (inl i) = inl (record { posted = c.posted; waits = i; receiver = c.receiver; arrived = c.arrived; decodes = c.decodes; says = c.says })
     by_place (inr (to, arrives)) =
         let here : n ≡ g.number = same_number n g.number (sym c.receiver ∙ to) in
-        inr (here, arrives c.arrived (ap (λ m. decoded (base_of m) c.posted.content) (sym here) ∙ c.decodes))
+        inr (here, arrives c.arrived (ap (λ m. decoded (hosts.base_of m) c.posted.content) (sym here) ∙ c.decodes))
 
 pub comes_as : {P Q : Arrived → Type 0} (queue : List Posted) (n : ℕ) → ((a : Arrived) → P a → Q a) → Comes queue n P → Comes queue n Q
 comes_as queue n f c = record { posted = c.posted; waits = c.waits; receiver = c.receiver; arrived = c.arrived; decodes = c.decodes; says = f c.arrived c.says }
@@ -130,30 +130,30 @@ mapped_in f x [] i = absurd i
 mapped_in f x (y ∷ xs) (inl e) = inl (ap f e)
 mapped_in f x (y ∷ xs) (inr i) = inr (mapped_in f x xs i)
 
-pub decodes_there : (count n : ℕ) (p : Post) (to : Epr) (T : Target) → p.to ≡ Some to → LeadsTo count to n T → takes T p.message ≡ true → decoded (base_of n) p ≡ Some (arrival_of T p)
-decodes_there count n p to T goes leads taken =
-    ap (option_and_then (λ (e : Epr). decoded_at (target_at (base_of n) e.address) p)) goes
-    ∙ ap (λ o. decoded_at o p) (place_is count 1 to.address (n, T) leads).target
+pub decodes_there : (hosts : Hosts) (n : ℕ) (p : Post) (to : Epr) (T : Target) → p.to ≡ Some to → LeadsTo hosts to n T → takes T p.message ≡ true → decoded (hosts.base_of n) p ≡ Some (arrival_of T p)
+decodes_there hosts n p to T goes leads taken =
+    ap (option_and_then (λ (e : Epr). decoded_at (target_at (hosts.base_of n) e.address) p)) goes
+    ∙ ap (λ o. decoded_at o p) (place_is hosts 1 to.address (n, T) leads).target
     ∙ ap (λ b. if b then Some (arrival_of T p) else None) taken
 
-pub new_comes : (count : ℕ) (u v : World) (before after : List Posted) → (g : Goes count u v before after) → (n : ℕ) (p : Post) (to : Epr) (T : Target) → IsIn p (posted_in g) → p.to ≡ Some to
-    → LeadsTo count to n T → takes T p.message ≡ true → Comes after n (λ a. a ≡ arrival_of T p)
-new_comes count u v before after g n p to T i goes leads taken = record {
+pub new_comes : (hosts : Hosts) (u v : World) (before after : List Posted) → (g : Goes hosts u v before after) → (n : ℕ) (p : Post) (to : Epr) (T : Target) → IsIn p (posted_in g) → p.to ≡ Some to
+    → LeadsTo hosts to n T → takes T p.message ≡ true → Comes after n (λ a. a ≡ arrival_of T p)
+new_comes hosts u v before after g n p to T i goes leads taken = record {
   posted = posted_as g.number u.nodes p;
   waits = g.adds (posted_as g.number u.nodes p) (mapped_in (posted_as g.number u.nodes) p (posted_in g) i);
-  receiver = ap (receiver_of u.nodes) goes ∙ receiver_same u.nodes (new_nodes count 1) (Some to) (world_bases count u g.small g.reached) ∙ ap (option_map (λ q. q.0)) leads;
+  receiver = ap (receiver_of u.nodes) goes ∙ receiver_same u.nodes (new_nodes hosts.base_of hosts.count 1) (Some to) (world_bases hosts u g.small g.reached) ∙ ap (option_map (λ q. q.0)) leads;
   arrived = arrival_of T p;
-  decodes = decodes_there count n p to T goes leads taken;
+  decodes = decodes_there hosts n p to T goes leads taken;
   says = refl;
 }
 
 -- endpoints
-pub leads_participant : (count : ℕ) (x : Who) (kind : Kind) (e : Epr) → count < 2 ^ 64 → IsPlace count x → e ≡ participant_of x kind → LeadsTo count e x.node (targets.Participant x.id kind)
-leads_participant count x kind e small h is =
-    subst (λ y. LeadsTo count y x.node (targets.Participant x.id kind)) (sym is) (leads_home count x.node (targets.Participant x.id kind) small h.least h.most h.id)
+pub leads_participant : (hosts : Hosts) (x : Who) (kind : Kind) (e : Epr) → HaveOwnAddresses hosts → IsPlace hosts x → e ≡ participant_of x kind → LeadsTo hosts e x.node (targets.Participant x.id kind)
+leads_participant hosts x kind e small h is =
+    subst (λ y. LeadsTo hosts y x.node (targets.Participant x.id kind)) (sym is) (leads_home hosts x.node (targets.Participant x.id kind) small h.least h.most h.id)
 
-pub leads_seat : (count : ℕ) (t : Who) (number : ℕ) (kind : Kind) → count < 2 ^ 64 → IsSeatPlace count t number → LeadsTo count (seat_of t number kind) t.node (seat_target_of t number kind)
-leads_seat count t number kind small h = leads_home count t.node (seat_target_of t number kind) small h.place.least h.place.most (h.place.id, h.least, h.most)
+pub leads_seat : (hosts : Hosts) (t : Who) (number : ℕ) (kind : Kind) → HaveOwnAddresses hosts → IsSeatPlace hosts t number → LeadsTo hosts (seat_of t number kind) t.node (seat_target_of t number kind)
+leads_seat hosts t number kind small h = leads_home hosts t.node (seat_target_of t number kind) small h.place.least h.place.most (h.place.id, h.least, h.most)
 
 -- what participants and seats are told
 abbrev pub AsksParticipant : Notice → Type 0
@@ -175,18 +175,18 @@ takes_answer notices.Aborted t number kind h = refl
 takes_answer notices.Committed t number kind h = refl
 takes_answer other t number kind h = absurd h
 
-pub participant_told : (count : ℕ) (u v : World) (before after : List Posted) → (g : Goes count u v before after) → (x : Who) (kind : Kind) (n : Notice) (to : Epr) → AsksParticipant n → IsPlace count x
+pub participant_told : (hosts : Hosts) (u v : World) (before after : List Posted) → (g : Goes hosts u v before after) → (x : Who) (kind : Kind) (n : Notice) (to : Epr) → AsksParticipant n → IsPlace hosts x
     → to ≡ participant_of x kind → Tells (Some to) n (posted_in g) → Comes after x.node (IsNotice (targets.Participant x.id kind) n)
-participant_told count u v before after g x kind n to asks place is (p, i, goes, says) =
+participant_told hosts u v before after g x kind n to asks place is (p, i, goes, says) =
     comes_as after x.node (λ a e. (ap (λ (y : Arrived). y.target) e, ap (λ (y : Arrived). y.message) e ∙ says))
-    (new_comes count u v before after g x.node p to (targets.Participant x.id kind) i goes (leads_participant count x kind to g.small place is)
+    (new_comes hosts u v before after g x.node p to (targets.Participant x.id kind) i goes (leads_participant hosts x kind to g.small place is)
     (ap (takes (targets.Participant x.id kind)) says ∙ takes_asked n x.id kind asks))
 
-pub seat_told : (count : ℕ) (u v : World) (before after : List Posted) → (g : Goes count u v before after) → (t : Who) (number : ℕ) (kind : Kind) (n : Notice) → AnswersSeat n
-    → IsSeatPlace count t number → Tells (Some (seat_of t number kind)) n (posted_in g) → Comes after t.node (IsNotice (seat_target_of t number kind) n)
-seat_told count u v before after g t number kind n answers place (p, i, goes, says) =
+pub seat_told : (hosts : Hosts) (u v : World) (before after : List Posted) → (g : Goes hosts u v before after) → (t : Who) (number : ℕ) (kind : Kind) (n : Notice) → AnswersSeat n
+    → IsSeatPlace hosts t number → Tells (Some (seat_of t number kind)) n (posted_in g) → Comes after t.node (IsNotice (seat_target_of t number kind) n)
+seat_told hosts u v before after g t number kind n answers place (p, i, goes, says) =
     comes_as after t.node (λ a e. (ap (λ (y : Arrived). y.target) e, ap (λ (y : Arrived). y.message) e ∙ says))
-    (new_comes count u v before after g t.node p (seat_of t number kind) (seat_target_of t number kind) i goes (leads_seat count t number kind g.small place)
+    (new_comes hosts u v before after g t.node p (seat_of t number kind) (seat_target_of t number kind) i goes (leads_seat hosts t number kind g.small place)
     (ap (takes (seat_target_of t number kind)) says ∙ takes_answer n t number kind answers))
 
 -- a seat's own message to its participant
@@ -195,23 +195,23 @@ SaysWhose notices.Prepare = Unit {0}
 SaysWhose notices.Commit = Unit {0}
 SaysWhose other = ⊥
 
-pub seat_asks : (count : ℕ) (u v : World) (before after : List Posted) → (g : Goes count u v before after) → (id : Numbers) (s : Enlistment) (x : Who) (n : Notice) → SaysWhose n → IsPlace count x
+pub seat_asks : (hosts : Hosts) (u v : World) (before after : List Posted) → (g : Goes hosts u v before after) → (id : Numbers) (s : Enlistment) (x : Who) (n : Notice) → SaysWhose n → IsPlace hosts x
     → s.participant ≡ participant_of x s.kind → IsIn (seat_post g.book.base id s n) (posted_in g)
     → Comes after x.node (IsNoticeFrom (targets.Participant x.id s.kind) n (seat_of (record { node = g.number; id = id }) s.number s.kind))
-seat_asks count u v before after g id s x notices.Prepare h place is i =
+seat_asks hosts u v before after g id s x notices.Prepare h place is i =
     comes_as after x.node
     (λ a e. (
       (ap (λ (y : Arrived). y.target) e, ap (λ (y : Arrived). y.message) e),
-      ap (λ (y : Arrived). y.from) e ∙ ap (λ base. Some (endpoint_of base (seat_target id s))) (base_is count u v before after g),
+      ap (λ (y : Arrived). y.from) e ∙ ap (λ base. Some (endpoint_of base (seat_target id s))) (base_is hosts u v before after g),
     ))
-    (new_comes count u v before after g x.node (seat_post g.book.base id s notices.Prepare) s.participant (targets.Participant x.id s.kind) i refl
-    (leads_participant count x s.kind s.participant g.small place is) refl)
-seat_asks count u v before after g id s x notices.Commit h place is i =
+    (new_comes hosts u v before after g x.node (seat_post g.book.base id s notices.Prepare) s.participant (targets.Participant x.id s.kind) i refl
+    (leads_participant hosts x s.kind s.participant g.small place is) refl)
+seat_asks hosts u v before after g id s x notices.Commit h place is i =
     comes_as after x.node
     (λ a e. (
       (ap (λ (y : Arrived). y.target) e, ap (λ (y : Arrived). y.message) e),
-      ap (λ (y : Arrived). y.from) e ∙ ap (λ base. Some (endpoint_of base (seat_target id s))) (base_is count u v before after g),
+      ap (λ (y : Arrived). y.from) e ∙ ap (λ base. Some (endpoint_of base (seat_target id s))) (base_is hosts u v before after g),
     ))
-    (new_comes count u v before after g x.node (seat_post g.book.base id s notices.Commit) s.participant (targets.Participant x.id s.kind) i refl
-    (leads_participant count x s.kind s.participant g.small place is) refl)
-seat_asks count u v before after g id s x other h place is i = absurd h
+    (new_comes hosts u v before after g x.node (seat_post g.book.base id s notices.Commit) s.participant (targets.Participant x.id s.kind) i refl
+    (leads_participant hosts x s.kind s.participant g.small place is) refl)
+seat_asks hosts u v before after g id s x other h place is i = absurd h

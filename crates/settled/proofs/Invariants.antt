@@ -7,7 +7,7 @@ use Rattle.at_base.specs.Numbers.{Numbers}
 use Rattle.at_base.specs.declared.event.Arrived.{Arrived}
 use Rattle.at_base.specs.declared.notice.Kind.{Kind}
 use Rattle.at_model.specs.Book.{Book}
-use Rattle.at_model.specs.World.{Node, Posted, Who, World, nth, put_nth}
+use Rattle.at_model.specs.World.{Node, Posted, Who, World, nth, put_nth, Hosts}
 use Rattle.model_laws.specs.Agreement.{IsIn}
 use Rattle.model_laws.specs.Reached.{Reached}
 use Rattle.model_laws.proofs.Running.{put_other, put_this}
@@ -29,15 +29,15 @@ AreUp w = (n : ℕ) (x : Node) → nth n w.nodes ≡ Some x → is_none x.book �
 same_node : (o : Option Node) (x y : Node) → o ≡ Some x → o ≡ Some y → x ≡ y
 same_node o x y e f = cc
 
-pub up_on : (count : ℕ) (u v : World) (before after : List Posted) → Goes count u v before after → AreUp u → AreUp v
-up_on count u v before after g h n x found = by_place (or_elsewhere n g.number)
+pub up_on : (hosts : Hosts) (u v : World) (before after : List Posted) → Goes hosts u v before after → AreUp u → AreUp v
+up_on hosts u v before after g h n x found = by_place (or_elsewhere n g.number)
   where
     by_place : (n ≡ g.number) ⊎ (n ≡ g.number → ⊥) → is_none x.book ≡ false
     by_place (inl here) =
-        let k : Holds v g.number _ = holds_after count u v before after g in
+        let k : Holds v g.number _ = holds_after hosts u v before after g in
         let same : x ≡ k.node = same_node (nth g.number v.nodes) x k.node (subst (λ m. nth m v.nodes ≡ Some x) here found) k.found in
         ap (λ (y : Node). is_none y.book) same ∙ ap is_none k.up
-    by_place (inr other) = h n x (sym (ap (nth n) (nodes_after count u v before after g) ∙ put_other u.nodes n g.number (node_after g) other) ∙ found)
+    by_place (inr other) = h n x (sym (ap (nth n) (nodes_after hosts u v before after g) ∙ put_other u.nodes n g.number (node_after g) other) ∙ found)
 
 pub up_waits : (u : World) (n : ℕ) (x : Node) (clock : ℕ) → nth n u.nodes ≡ Some x → AreUp u → AreUp (record u { nodes = put_nth n (record x { clock = clock }) u.nodes })
 up_waits u n x clock found h m y f = by_place (or_elsewhere m n)
@@ -124,118 +124,118 @@ registered_moves : (before after : List Posted) (x : Who) (kind : Kind) (m : ℕ
 registered_moves before after x kind m id k (inl c) = inl (comes_on before after m _ k c)
 registered_moves before after x kind m id k (inr c) = inr (comes_on before after x.node _ k c)
 
-pub votes_move : (count : ℕ) (Asked : ℕ → Type 0) (u v : World) (before after : List Posted) → SameBooks u v → Stay before after → VotesAreOwed count Asked u before → VotesAreOwed count Asked v after
-votes_move count Asked u v before after s k h = record {
+pub votes_move : (hosts : Hosts) (Asked : ℕ → Type 0) (u v : World) (before after : List Posted) → SameBooks u v → Stay before after → VotesAreOwed hosts Asked u before → VotesAreOwed hosts Asked v after
+votes_move hosts Asked u v before after s k h = record {
   seats = λ n b t q x asked holds found i state place is.
       vote_moves u v before after (record { node = n; id = t.id }) q.number q.kind x s k (h.seats n b t q x asked (s.back n b holds) found i state place is);
 }
 
-pub commits_move : (count : ℕ) (Asked : ℕ → Type 0) (u v : World) (before after : List Posted) → SameBooks u v → Stay before after → CommitsAreOwed count Asked u before → CommitsAreOwed count Asked v after
-commits_move count Asked u v before after s k h = record {
+pub commits_move : (hosts : Hosts) (Asked : ℕ → Type 0) (u v : World) (before after : List Posted) → SameBooks u v → Stay before after → CommitsAreOwed hosts Asked u before → CommitsAreOwed hosts Asked v after
+commits_move hosts Asked u v before after s k h = record {
   seats = λ n b t q x asked holds found i durable state place is.
       committed_moves u v before after (record { node = n; id = t.id }) q.number x s k (h.seats n b t q x asked (s.back n b holds) found i durable state place is);
 }
 
-pub outcomes_move : (count : ℕ) (Asked : ℕ → Type 0) (u v : World) (before after : List Posted) → SameBooks u v → Stay before after → OutcomesAreOwed count Asked u before → OutcomesAreOwed count Asked v after
-outcomes_move count Asked u v before after s k h = record {
+pub outcomes_move : (hosts : Hosts) (Asked : ℕ → Type 0) (u v : World) (before after : List Posted) → SameBooks u v → Stay before after → OutcomesAreOwed hosts Asked u before → OutcomesAreOwed hosts Asked v after
+outcomes_move hosts Asked u v before after s k h = record {
   links = λ n b t q z number asked holds found under state place knows.
       outcome_moves u v before after (record { node = n; id = t.id }) z number s k (h.links n b t q z number asked (s.back n b holds) found under state place knows);
   leaves = λ n b l z number asked holds found durable state place knows.
       outcome_moves u v before after (record { node = n; id = l.id }) z number s k (h.leaves n b l z number asked (s.back n b holds) found durable state place knows);
 }
 
-pub registrations_move : (count : ℕ) (Asked : ℕ → Type 0) (u v : World) (before after : List Posted) → SameBooks u v → Stay before after → RegistrationsAreOwed count Asked u before
-    → RegistrationsAreOwed count Asked v after
-registrations_move count Asked u v before after s k h = record {
+pub registrations_move : (hosts : Hosts) (Asked : ℕ → Type 0) (u v : World) (before after : List Posted) → SameBooks u v → Stay before after → RegistrationsAreOwed hosts Asked u before
+    → RegistrationsAreOwed hosts Asked v after
+registrations_move hosts Asked u v before after s k h = record {
   links = λ n b t q kind r m id asked holds found under state request leads.
       registered_moves before after (record { node = n; id = t.id }) kind m id k (h.links n b t q kind r m id asked (s.back n b holds) found under state request leads);
   leaves = λ n b l r m id asked holds found state request leads.
       registered_moves before after (record { node = n; id = l.id }) l.kind m id k (h.leaves n b l r m id asked (s.back n b holds) found state request leads);
 }
 
-pub none_routed_moves : (count : ℕ) (u v : World) → SameBooks u v → NoneRouted count u → NoneRouted count v
-none_routed_moves count u v s h = record {
+pub none_routed_moves : (hosts : Hosts) (u v : World) → SameBooks u v → NoneRouted hosts u → NoneRouted hosts v
+none_routed_moves hosts u v s h = record {
   links = λ n b t q kind r m id holds. h.links n b t q kind r m id (s.back n b holds);
   leaves = λ n b l r m id holds. h.leaves n b l r m id (s.back n b holds);
 }
 
 -- The first round: who registers is owed an answer.
-unfoldable pub registering : (count : ℕ) (Asked : ℕ → Type 0) → Invariant count
-registering count Asked = record {
-  Of = λ w queue. AreUp w × RegistrationsAreOwed count Asked w queue;
-  on = λ u v before after g (up, h). (up_on count u v before after g up, registrations_kept count Asked u v before after g h);
-  drops = λ w before after k (up, h). (up, registrations_move count Asked w w before after (same_books w) k h);
+unfoldable pub registering : (hosts : Hosts) (Asked : ℕ → Type 0) → Invariant hosts
+registering hosts Asked = record {
+  Of = λ w queue. AreUp w × RegistrationsAreOwed hosts Asked w queue;
+  on = λ u v before after g (up, h). (up_on hosts u v before after g up, registrations_kept hosts Asked u v before after g h);
+  drops = λ w before after k (up, h). (up, registrations_move hosts Asked w w before after (same_books w) k h);
   waits = λ u n x clock queue found (up, h). (
     up_waits u n x clock found up,
-    registrations_move count Asked u (record u { nodes = put_nth n (record x { clock = clock }) u.nodes }) queue queue (waits_same u n x clock found) (λ q i. inl i) h,
+    registrations_move hosts Asked u (record u { nodes = put_nth n (record x { clock = clock }) u.nodes }) queue queue (waits_same u n x clock found) (λ q i. inl i) h,
   );
 }
 
 -- what is known of every world
-pub record Known (count : ℕ) : Type 0 where
-  pub behind : (w : World) → Reached count w → PreparesAreBehind count w
-  pub registered : (w : World) → Reached count w → NoneRouted count w → NoneRegisters w
+pub record Known (hosts : Hosts) : Type 0 where
+  pub behind : (w : World) → Reached hosts w → PreparesAreBehind hosts w
+  pub registered : (w : World) → Reached hosts w → NoneRouted hosts w → NoneRegisters w
 
 -- Each later round: nobody registers any more, and votes, commits and outcomes are owed.
-pub record IsOwed (count : ℕ) (Asked : ℕ → Type 0) (w : World) (queue : List Posted) : Type 0 where
+pub record IsOwed (hosts : Hosts) (Asked : ℕ → Type 0) (w : World) (queue : List Posted) : Type 0 where
   pub up : AreUp w
-  pub routed : NoneRouted count w
-  pub votes : VotesAreOwed count Asked w queue
-  pub commits : CommitsAreOwed count Asked w queue
-  pub outcomes : OutcomesAreOwed count Asked w queue
+  pub routed : NoneRouted hosts w
+  pub votes : VotesAreOwed hosts Asked w queue
+  pub commits : CommitsAreOwed hosts Asked w queue
+  pub outcomes : OutcomesAreOwed hosts Asked w queue
 
-unfoldable pub owing : (count : ℕ) (Asked : ℕ → Type 0) → Known count → Invariant count
-owing count Asked k = record {
-  Of = IsOwed count Asked;
+unfoldable pub owing : (hosts : Hosts) (Asked : ℕ → Type 0) → Known hosts → Invariant hosts
+owing hosts Asked k = record {
+  Of = IsOwed hosts Asked;
   on = λ u v before after g h. record {
-    up = up_on count u v before after g h.up;
-    routed = none_routed_kept count u v before after g h.routed;
-    votes = votes_kept count Asked u v before after g (k.behind u g.reached) (k.registered u g.reached h.routed) h.votes;
-    commits = commits_kept count Asked u v before after g h.commits;
-    outcomes = outcomes_kept count Asked u v before after g h.outcomes;
+    up = up_on hosts u v before after g h.up;
+    routed = none_routed_kept hosts u v before after g h.routed;
+    votes = votes_kept hosts Asked u v before after g (k.behind u g.reached) (k.registered u g.reached h.routed) h.votes;
+    commits = commits_kept hosts Asked u v before after g h.commits;
+    outcomes = outcomes_kept hosts Asked u v before after g h.outcomes;
   };
   drops = λ w before after stays h. record {
     up = h.up;
     routed = h.routed;
-    votes = votes_move count Asked w w before after (same_books w) stays h.votes;
-    commits = commits_move count Asked w w before after (same_books w) stays h.commits;
-    outcomes = outcomes_move count Asked w w before after (same_books w) stays h.outcomes;
+    votes = votes_move hosts Asked w w before after (same_books w) stays h.votes;
+    commits = commits_move hosts Asked w w before after (same_books w) stays h.commits;
+    outcomes = outcomes_move hosts Asked w w before after (same_books w) stays h.outcomes;
   };
   waits = λ u n x clock queue found h.
       let v : World = record u { nodes = put_nth n (record x { clock = clock }) u.nodes } in
       let s : SameBooks u v = waits_same u n x clock found in
       record {
         up = up_waits u n x clock found h.up;
-        routed = none_routed_moves count u v s h.routed;
-        votes = votes_move count Asked u v queue queue s (λ q i. inl i) h.votes;
-        commits = commits_move count Asked u v queue queue s (λ q i. inl i) h.commits;
-        outcomes = outcomes_move count Asked u v queue queue s (λ q i. inl i) h.outcomes;
+        routed = none_routed_moves hosts u v s h.routed;
+        votes = votes_move hosts Asked u v queue queue s (λ q i. inl i) h.votes;
+        commits = commits_move hosts Asked u v queue queue s (λ q i. inl i) h.commits;
+        outcomes = outcomes_move hosts Asked u v queue queue s (λ q i. inl i) h.outcomes;
       };
 }
 
 -- nodes by which something is owed
-pub votes_of : (count : ℕ) (A B : ℕ → Type 0) (w : World) (queue : List Posted) → ((n : ℕ) (b : Book) → Holds w n b → B n → A n) → VotesAreOwed count A w queue → VotesAreOwed count B w queue
-votes_of count A B w queue f h = record { seats = λ n b t s x asked holds. h.seats n b t s x (f n b holds asked) holds }
+pub votes_of : (hosts : Hosts) (A B : ℕ → Type 0) (w : World) (queue : List Posted) → ((n : ℕ) (b : Book) → Holds w n b → B n → A n) → VotesAreOwed hosts A w queue → VotesAreOwed hosts B w queue
+votes_of hosts A B w queue f h = record { seats = λ n b t s x asked holds. h.seats n b t s x (f n b holds asked) holds }
 
-pub commits_of : (count : ℕ) (A B : ℕ → Type 0) (w : World) (queue : List Posted) → ((n : ℕ) (b : Book) → Holds w n b → B n → A n) → CommitsAreOwed count A w queue → CommitsAreOwed count B w queue
-commits_of count A B w queue f h = record { seats = λ n b t s x asked holds. h.seats n b t s x (f n b holds asked) holds }
+pub commits_of : (hosts : Hosts) (A B : ℕ → Type 0) (w : World) (queue : List Posted) → ((n : ℕ) (b : Book) → Holds w n b → B n → A n) → CommitsAreOwed hosts A w queue → CommitsAreOwed hosts B w queue
+commits_of hosts A B w queue f h = record { seats = λ n b t s x asked holds. h.seats n b t s x (f n b holds asked) holds }
 
-pub outcomes_of : (count : ℕ) (A B : ℕ → Type 0) (w : World) (queue : List Posted) → ((n : ℕ) (b : Book) → Holds w n b → B n → A n) → OutcomesAreOwed count A w queue → OutcomesAreOwed count B w queue
-outcomes_of count A B w queue f h = record {
+pub outcomes_of : (hosts : Hosts) (A B : ℕ → Type 0) (w : World) (queue : List Posted) → ((n : ℕ) (b : Book) → Holds w n b → B n → A n) → OutcomesAreOwed hosts A w queue → OutcomesAreOwed hosts B w queue
+outcomes_of hosts A B w queue f h = record {
   links = λ n b t s z number asked holds. h.links n b t s z number (f n b holds asked) holds;
   leaves = λ n b l z number asked holds. h.leaves n b l z number (f n b holds asked) holds;
 }
 
-pub registrations_of : (count : ℕ) (A B : ℕ → Type 0) (w : World) (queue : List Posted) → ((n : ℕ) (b : Book) → Holds w n b → B n → A n) → RegistrationsAreOwed count A w queue
-    → RegistrationsAreOwed count B w queue
-registrations_of count A B w queue f h = record {
+pub registrations_of : (hosts : Hosts) (A B : ℕ → Type 0) (w : World) (queue : List Posted) → ((n : ℕ) (b : Book) → Holds w n b → B n → A n) → RegistrationsAreOwed hosts A w queue
+    → RegistrationsAreOwed hosts B w queue
+registrations_of hosts A B w queue f h = record {
   links = λ n b t s kind r m id asked holds. h.links n b t s kind r m id (f n b holds asked) holds;
   leaves = λ n b l r m id asked holds. h.leaves n b l r m id (f n b holds asked) holds;
 }
 
-pub votes_both : (count : ℕ) (A B C : ℕ → Type 0) (w : World) (queue : List Posted) → ((n : ℕ) → C n → A n ⊎ B n) → VotesAreOwed count A w queue → VotesAreOwed count B w queue
-    → VotesAreOwed count C w queue
-votes_both count A B C w queue f h k = record {
+pub votes_both : (hosts : Hosts) (A B C : ℕ → Type 0) (w : World) (queue : List Posted) → ((n : ℕ) → C n → A n ⊎ B n) → VotesAreOwed hosts A w queue → VotesAreOwed hosts B w queue
+    → VotesAreOwed hosts C w queue
+votes_both hosts A B C w queue f h k = record {
   seats = λ n b t s x asked holds found i state place is.
       by_side (f n asked) (λ a. h.seats n b t s x a holds found i state place is) (λ a. k.seats n b t s x a holds found i state place is);
 }
@@ -244,9 +244,9 @@ votes_both count A B C w queue f h k = record {
     by_side (inl a) g j = g a
     by_side (inr a) g j = j a
 
-pub commits_both : (count : ℕ) (A B C : ℕ → Type 0) (w : World) (queue : List Posted) → ((n : ℕ) → C n → A n ⊎ B n) → CommitsAreOwed count A w queue → CommitsAreOwed count B w queue
-    → CommitsAreOwed count C w queue
-commits_both count A B C w queue f h k = record {
+pub commits_both : (hosts : Hosts) (A B C : ℕ → Type 0) (w : World) (queue : List Posted) → ((n : ℕ) → C n → A n ⊎ B n) → CommitsAreOwed hosts A w queue → CommitsAreOwed hosts B w queue
+    → CommitsAreOwed hosts C w queue
+commits_both hosts A B C w queue f h k = record {
   seats = λ n b t s x asked holds found i durable state place is.
       by_side (f n asked) (λ a. h.seats n b t s x a holds found i durable state place is) (λ a. k.seats n b t s x a holds found i durable state place is);
 }
@@ -255,9 +255,9 @@ commits_both count A B C w queue f h k = record {
     by_side (inl a) g j = g a
     by_side (inr a) g j = j a
 
-pub outcomes_both : (count : ℕ) (A B C : ℕ → Type 0) (w : World) (queue : List Posted) → ((n : ℕ) → C n → A n ⊎ B n) → OutcomesAreOwed count A w queue → OutcomesAreOwed count B w queue
-    → OutcomesAreOwed count C w queue
-outcomes_both count A B C w queue f h k = record {
+pub outcomes_both : (hosts : Hosts) (A B C : ℕ → Type 0) (w : World) (queue : List Posted) → ((n : ℕ) → C n → A n ⊎ B n) → OutcomesAreOwed hosts A w queue → OutcomesAreOwed hosts B w queue
+    → OutcomesAreOwed hosts C w queue
+outcomes_both hosts A B C w queue f h k = record {
   links = λ n b t s z number asked holds found under state place knows.
       by_side (f n asked) (λ a. h.links n b t s z number a holds found under state place knows) (λ a. k.links n b t s z number a holds found under state place knows);
   leaves = λ n b l z number asked holds found durable state place knows.
@@ -268,9 +268,9 @@ outcomes_both count A B C w queue f h k = record {
     by_side (inl a) g j = g a
     by_side (inr a) g j = j a
 
-pub registrations_both : (count : ℕ) (A B C : ℕ → Type 0) (w : World) (queue : List Posted) → ((n : ℕ) → C n → A n ⊎ B n) → RegistrationsAreOwed count A w queue
-    → RegistrationsAreOwed count B w queue → RegistrationsAreOwed count C w queue
-registrations_both count A B C w queue f h k = record {
+pub registrations_both : (hosts : Hosts) (A B C : ℕ → Type 0) (w : World) (queue : List Posted) → ((n : ℕ) → C n → A n ⊎ B n) → RegistrationsAreOwed hosts A w queue
+    → RegistrationsAreOwed hosts B w queue → RegistrationsAreOwed hosts C w queue
+registrations_both hosts A B C w queue f h k = record {
   links = λ n b t s kind r m id asked holds found under state request leads.
       by_side (f n asked) (λ a. h.links n b t s kind r m id a holds found under state request leads) (λ a. k.links n b t s kind r m id a holds found under state request leads);
   leaves = λ n b l r m id asked holds found state request leads.

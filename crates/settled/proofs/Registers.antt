@@ -16,7 +16,7 @@ use Rattle.at_model.specs.Book.{Book, Leaf, Request, Superior, Transaction, Work
 use Rattle.at_model.specs.Leaves.{leaf_target}
 use Rattle.at_model.specs.Seats.{link_of}
 use Rattle.at_model.specs.Step.{leaf_at, step, transaction_at}
-use Rattle.at_model.specs.World.{Posted, Who, World, base_of, takes}
+use Rattle.at_model.specs.World.{Posted, Who, World, takes, Hosts}
 use Rattle.model_laws.proofs.Deciding.{found_id}
 use Rattle.enlistments.specs.Leads.{LeadsTo}
 use Rattle.owed.specs.Joining.{IsAnsweredOn, JoinsStill}
@@ -45,28 +45,28 @@ relates_itself : (o : Option (List ℕ)) (id : List ℕ) → o ≡ Some id → r
 relates_itself o id e = ap (λ y. relates_to y id) e ∙ (bytes_eq-Decides id id).1 refl
 
 -- the Register is answered where it arrives
-answer_comes : (count : ℕ) (u v : World) (before after : List Posted) → (g : Goes count u v before after) → (x : Who) (kind : Kind) (m : ℕ) (id : Numbers) (a : Arrived) → IsPlace count x
+answer_comes : (hosts : Hosts) (u v : World) (before after : List Posted) → (g : Goes hosts u v before after) → (x : Who) (kind : Kind) (m : ℕ) (id : Numbers) (a : Arrived) → IsPlace hosts x
     → g.event ≡ events.Arrived a → IsRegisterOf x kind id a → Comes after x.node (IsRegisteredBy x kind)
-answer_comes count u v before after g x kind m id a place came r =
+answer_comes hosts u v before after g x kind m id a place came r =
     let (p, i, goes, relates, answers) =
     subst (λ d. TellsRegistered (participant_of x kind) a.id (posts_of (step g.book d g.now true).outs)) (sym came)
     (registers_are_answered.answered g.book a g.now id r.register (participant_of x kind) r.target r.says r.reply r.fault) in
     comes_as after x.node
     (λ b e. record {
       target = ap (λ (y : Arrived). y.target) e;
-      relates = relates_itself b.relates (register_id (base_of x.node) (targets.Participant x.id kind)) (ap (λ (y : Arrived). y.relates) e ∙ relates ∙ r.named);
+      relates = relates_itself b.relates (register_id (hosts.base_of x.node) (targets.Participant x.id kind)) (ap (λ (y : Arrived). y.relates) e ∙ relates ∙ r.named);
       answers = subst AnswersRegister (sym (ap (λ (y : Arrived). y.message) e)) answers;
     })
-    (new_comes count u v before after g x.node p (participant_of x kind) (targets.Participant x.id kind) i goes (leads_participant count x kind (participant_of x kind) g.small place refl)
+    (new_comes hosts u v before after g x.node p (participant_of x kind) (targets.Participant x.id kind) i goes (leads_participant hosts x kind (participant_of x kind) g.small place refl)
     (takes_registered p.message x.id kind answers))
 
-registered_on : (count : ℕ) (u v : World) (before after : List Posted) → (g : Goes count u v before after) → (x : Who) (kind : Kind) (m : ℕ) (id : Numbers) → IsPlace count x
+registered_on : (hosts : Hosts) (u v : World) (before after : List Posted) → (g : Goes hosts u v before after) → (x : Who) (kind : Kind) (m : ℕ) (id : Numbers) → IsPlace hosts x
     → (x.node ≡ g.number → (a : Arrived) → g.event ≡ events.Arrived a → IsRegisteredBy x kind a → ⊥) → OwesRegistered before x kind m id → OwesRegistered after x kind m id
-registered_on count u v before after g x kind m id place unanswered owed = by_owed owed
+registered_on hosts u v before after g x kind m id place unanswered owed = by_owed owed
   where
     by_register : (c : Comes before m (IsRegisterOf x kind id)) → Comes after m (IsRegisterOf x kind id) ⊎ ((m ≡ g.number) × (g.event ≡ events.Arrived c.arrived)) → OwesRegistered after x kind m id
     by_register c (inl stays) = inl stays
-    by_register c (inr (here, came)) = inr (answer_comes count u v before after g x kind m id c.arrived place came c.says)
+    by_register c (inr (here, came)) = inr (answer_comes hosts u v before after g x kind m id c.arrived place came c.says)
 
     by_answer : (c : Comes before x.node (IsRegisteredBy x kind)) → Comes after x.node (IsRegisteredBy x kind) ⊎ ((x.node ≡ g.number) × (g.event ≡ events.Arrived c.arrived))
         → OwesRegistered after x kind m id
@@ -74,11 +74,11 @@ registered_on count u v before after g x kind m id place unanswered owed = by_ow
     by_answer c (inr (here, came)) = absurd (unanswered here c.arrived came c.says)
 
     by_owed : OwesRegistered before x kind m id → OwesRegistered after x kind m id
-    by_owed (inl c) = by_register c (or_arrives count u v before after g m _ c)
-    by_owed (inr c) = by_answer c (or_arrives count u v before after g x.node _ c)
+    by_owed (inl c) = by_register c (or_arrives hosts u v before after g m _ c)
+    by_owed (inr c) = by_answer c (or_arrives hosts u v before after g x.node _ c)
 
 -- A link that registers behind the step registered before, under the same request, and isn't answered.
-pub record LinkJoined (count : ℕ) (u v : World) (before after : List Posted) (g : Goes count u v before after) (t : Transaction) (s : Superior) (kind : Kind) : Type 0 where
+pub record LinkJoined (hosts : Hosts) (u v : World) (before after : List Posted) (g : Goes hosts u v before after) (t : Transaction) (s : Superior) (kind : Kind) : Type 0 where
   pub old : Transaction
   pub superior : Superior
   pub found : transaction_at g.book old.id ≡ Some old
@@ -88,12 +88,12 @@ pub record LinkJoined (count : ℕ) (u v : World) (before after : List Posted) (
   pub request : s.request ≡ superior.request
   pub unanswered : IsAnsweredOn g.book.base g.event old kind → ⊥
 
-pub link_joined : (count : ℕ) (u v : World) (before after : List Posted) → (g : Goes count u v before after) → (t : Transaction) (s : Superior) (kind : Kind)
-    → transaction_at (book_after g) t.id ≡ Some t → t.superior ≡ Some s → (link_of kind s).state ≡ states.Registering → LinkJoined count u v before after g t s kind
-link_joined count u v before after g t s kind found under state = by_superior o.old.superior refl
+pub link_joined : (hosts : Hosts) (u v : World) (before after : List Posted) → (g : Goes hosts u v before after) → (t : Transaction) (s : Superior) (kind : Kind)
+    → transaction_at (book_after g) t.id ≡ Some t → t.superior ≡ Some s → (link_of kind s).state ≡ states.Registering → LinkJoined hosts u v before after g t s kind
+link_joined hosts u v before after g t s kind found under state = by_superior o.old.superior refl
   where
     o : TransactionStood g.book t
-    o = transaction_stood count u v before after g t found
+    o = transaction_stood hosts u v before after g t found
 
     id_is : o.old.id ≡ t.id
     id_is = found_id transaction_id t.id g.book.transactions o.old o.found
@@ -104,15 +104,15 @@ link_joined count u v before after g t s kind found under state = by_superior o.
     never : t.superior ≡ Some s → o.old.superior ≡ None → ⊥
     never e f = let k : false ≡ true = sym (ap is_none e) ∙ o.root ∙ ap is_none f in cc
 
-    by_superior : (y : Option Superior) → o.old.superior ≡ y → LinkJoined count u v before after g t s kind
+    by_superior : (y : Option Superior) → o.old.superior ≡ y → LinkJoined hosts u v before after g t s kind
     by_superior None root = absurd (never under root)
     by_superior (Some y) was =
         let (same, unanswered) =
         subst (λ q. JoinsStill g.book.base g.event o.old y q) (ap superior_left (ap (transaction_at (book_after g)) id_is ∙ found) ∙ under)
-        (links_join.joins g.book g.event g.now (ready count u v before after g) (shaped count u v before after g) o.old y own was) kind state in
+        (links_join.joins g.book g.event g.now (ready hosts u v before after g) (shaped hosts u v before after g) o.old y own was) kind state in
         record { old = o.old; superior = y; found = own; id_is = id_is; under = was; state = same.0; request = same.1; unanswered = unanswered }
 
-pub record LeafJoined (count : ℕ) (u v : World) (before after : List Posted) (g : Goes count u v before after) (l : Leaf) : Type 0 where
+pub record LeafJoined (hosts : Hosts) (u v : World) (before after : List Posted) (g : Goes hosts u v before after) (l : Leaf) : Type 0 where
   pub old : Leaf
   pub found : leaf_at g.book old.id ≡ Some old
   pub id_is : old.id ≡ l.id
@@ -121,92 +121,92 @@ pub record LeafJoined (count : ℕ) (u v : World) (before after : List Posted) (
   pub request : l.request ≡ old.request
   pub unanswered : IsRegistered g.book.base g.event old → ⊥
 
-pub leaf_joined : (count : ℕ) (u v : World) (before after : List Posted) → (g : Goes count u v before after) → (l : Leaf) → leaf_at (book_after g) l.id ≡ Some l → l.state ≡ states.Registering
-    → LeafJoined count u v before after g l
-leaf_joined count u v before after g l found state =
-    let o : LeafStood g.book l = leaf_stood count u v before after g l found in
-    let held : Holds u g.number g.book = holds_before count u v before after g in
+pub leaf_joined : (hosts : Hosts) (u v : World) (before after : List Posted) → (g : Goes hosts u v before after) → (l : Leaf) → leaf_at (book_after g) l.id ≡ Some l → l.state ≡ states.Registering
+    → LeafJoined hosts u v before after g l
+leaf_joined hosts u v before after g l found state =
+    let o : LeafStood g.book l = leaf_stood hosts u v before after g l found in
+    let held : Holds u g.number g.book = holds_before hosts u v before after g in
     let id_is : o.old.id ≡ l.id = found_id leaf_id l.id g.book.leaves o.old o.found in
     let own : leaf_at g.book o.old.id ≡ Some o.old = leaf_own g.book l.id o.old o.found in
     let (same, unanswered) =
     subst (λ q. RegistersStill g.book.base g.event o.old q) (ap (leaf_at (book_after g)) id_is ∙ found)
-    (steps_owe_leaves.leaves g.book g.event g.now (ready count u v before after g) o.old own
-    ((partners_are_paired.votes count u g.small g.reached g.number held.node g.book held.found held.up).alone o.old own)).1.1.1 state in
+    (steps_owe_leaves.leaves g.book g.event g.now (ready hosts u v before after g) o.old own
+    ((partners_are_paired.votes hosts u g.small g.reached g.number held.node g.book held.found held.up).alone o.old own)).1.1.1 state in
     record { old = o.old; found = own; id_is = id_is; kind_is = o.kind; state = same.0; request = same.1; unanswered = unanswered }
 
-pub registrations_kept : (count : ℕ) (Asked : ℕ → Type 0) (u v : World) (before after : List Posted) → (g : Goes count u v before after) → RegistrationsAreOwed count Asked u before
-    → RegistrationsAreOwed count Asked v after
-registrations_kept count Asked u v before after g h = record {
+pub registrations_kept : (hosts : Hosts) (Asked : ℕ → Type 0) (u v : World) (before after : List Posted) → (g : Goes hosts u v before after) → RegistrationsAreOwed hosts Asked u before
+    → RegistrationsAreOwed hosts Asked v after
+registrations_kept hosts Asked u v before after g h = record {
   links = λ n b t s kind r m id asked holds found under state request leads. links_at n b t s kind r m id asked holds found under state request leads (or_elsewhere n g.number);
   leaves = λ n b l r m id asked holds found state request leads. leaves_at n b l r m id asked holds found state request leads (or_elsewhere n g.number);
 }
   where
     links_at : (n : ℕ) (b : Book) (t : Transaction) (s : Superior) (kind : Kind) (r : Request) (m : ℕ) (id : Numbers) → Asked n → Holds v n b → transaction_at b t.id ≡ Some t
-        → t.superior ≡ Some s → (link_of kind s).state ≡ states.Registering → s.request ≡ Some r → LeadsTo count r.registration m (targets.Registration id)
+        → t.superior ≡ Some s → (link_of kind s).state ≡ states.Registering → s.request ≡ Some r → LeadsTo hosts r.registration m (targets.Registration id)
         → (n ≡ g.number) ⊎ (n ≡ g.number → ⊥) → OwesRegistered after (record { node = n; id = t.id }) kind m id
     links_at n b t s kind r m id asked holds found under state request leads (inl here) =
-        let same : b ≡ book_after g = same_book v g.number b (book_after g) (subst (λ i. Holds v i b) here holds) (holds_after count u v before after g) in
-        let held : Holds u g.number g.book = holds_before count u v before after g in
-        let j : LinkJoined count u v before after g t s kind = link_joined count u v before after g t s kind (subst (λ c. transaction_at c t.id ≡ Some t) same found) under state in
+        let same : b ≡ book_after g = same_book v g.number b (book_after g) (subst (λ i. Holds v i b) here holds) (holds_after hosts u v before after g) in
+        let held : Holds u g.number g.book = holds_before hosts u v before after g in
+        let j : LinkJoined hosts u v before after g t s kind = link_joined hosts u v before after g t s kind (subst (λ c. transaction_at c t.id ≡ Some t) same found) under state in
         subst (λ i. OwesRegistered after (record { node = i; id = t.id }) kind m id) (sym here)
         (subst (λ i. OwesRegistered after (record { node = g.number; id = i }) kind m id) j.id_is
-        (registered_on count u v before after g (record { node = g.number; id = j.old.id }) kind m id (transaction_placed count u g.small g.reached g.number g.book held j.old.id j.old j.found)
+        (registered_on hosts u v before after g (record { node = g.number; id = j.old.id }) kind m id (transaction_placed hosts u g.small g.reached g.number g.book held j.old.id j.old j.found)
         (λ at a came k. j.unanswered (record {
           message = a;
           came = came;
           target = k.target;
-          relates = subst (λ base. relates_to a.relates (register_id base (targets.Participant j.old.id kind)) ≡ true) (sym (base_is count u v before after g)) k.relates;
+          relates = subst (λ base. relates_to a.relates (register_id base (targets.Participant j.old.id kind)) ≡ true) (sym (base_is hosts u v before after g)) k.relates;
           answers = k.answers;
         }))
         (h.links g.number g.book j.old j.superior kind r m id (subst Asked here asked) held j.found j.under j.state (sym j.request ∙ request) leads)))
     links_at n b t s kind r m id asked holds found under state request leads (inr other) =
-        let held : Holds u n b = held_elsewhere count u v before after g n b other holds in
-        registered_on count u v before after g (record { node = n; id = t.id }) kind m id (transaction_placed count u g.small g.reached n b held t.id t found)
+        let held : Holds u n b = held_elsewhere hosts u v before after g n b other holds in
+        registered_on hosts u v before after g (record { node = n; id = t.id }) kind m id (transaction_placed hosts u g.small g.reached n b held t.id t found)
         (λ at a came k. absurd (other at)) (h.links n b t s kind r m id asked held found under state request leads)
 
     leaves_at : (n : ℕ) (b : Book) (l : Leaf) (r : WorkRequest) (m : ℕ) (id : Numbers) → Asked n → Holds v n b → leaf_at b l.id ≡ Some l → l.state ≡ states.Registering → l.request ≡ Some r
-        → LeadsTo count r.registration m (targets.Registration id) → (n ≡ g.number) ⊎ (n ≡ g.number → ⊥) → OwesRegistered after (record { node = n; id = l.id }) l.kind m id
+        → LeadsTo hosts r.registration m (targets.Registration id) → (n ≡ g.number) ⊎ (n ≡ g.number → ⊥) → OwesRegistered after (record { node = n; id = l.id }) l.kind m id
     leaves_at n b l r m id asked holds found state request leads (inl here) =
-        let same : b ≡ book_after g = same_book v g.number b (book_after g) (subst (λ i. Holds v i b) here holds) (holds_after count u v before after g) in
-        let held : Holds u g.number g.book = holds_before count u v before after g in
-        let j : LeafJoined count u v before after g l = leaf_joined count u v before after g l (subst (λ c. leaf_at c l.id ≡ Some l) same found) state in
+        let same : b ≡ book_after g = same_book v g.number b (book_after g) (subst (λ i. Holds v i b) here holds) (holds_after hosts u v before after g) in
+        let held : Holds u g.number g.book = holds_before hosts u v before after g in
+        let j : LeafJoined hosts u v before after g l = leaf_joined hosts u v before after g l (subst (λ c. leaf_at c l.id ≡ Some l) same found) state in
         subst (λ i. OwesRegistered after (record { node = i; id = l.id }) l.kind m id) (sym here)
         (subst (λ k. OwesRegistered after (record { node = g.number; id = l.id }) k m id) (sym j.kind_is)
         (subst (λ i. OwesRegistered after (record { node = g.number; id = i }) j.old.kind m id) j.id_is
-        (registered_on count u v before after g (record { node = g.number; id = j.old.id }) j.old.kind m id (leaf_placed count u g.small g.reached g.number g.book held j.old.id j.old j.found)
+        (registered_on hosts u v before after g (record { node = g.number; id = j.old.id }) j.old.kind m id (leaf_placed hosts u g.small g.reached g.number g.book held j.old.id j.old j.found)
         (λ at a came k. j.unanswered (record {
           message = a;
           came = came;
           target = k.target;
-          relates = subst (λ base. relates_to a.relates (register_id base (leaf_target j.old)) ≡ true) (sym (base_is count u v before after g)) k.relates;
+          relates = subst (λ base. relates_to a.relates (register_id base (leaf_target j.old)) ≡ true) (sym (base_is hosts u v before after g)) k.relates;
           answers = k.answers;
         }))
         (h.leaves g.number g.book j.old r m id (subst Asked here asked) held j.found j.state (sym j.request ∙ request) leads))))
     leaves_at n b l r m id asked holds found state request leads (inr other) =
-        let held : Holds u n b = held_elsewhere count u v before after g n b other holds in
-        registered_on count u v before after g (record { node = n; id = l.id }) l.kind m id (leaf_placed count u g.small g.reached n b held l.id l found)
+        let held : Holds u n b = held_elsewhere hosts u v before after g n b other holds in
+        registered_on hosts u v before after g (record { node = n; id = l.id }) l.kind m id (leaf_placed hosts u g.small g.reached n b held l.id l found)
         (λ at a came k. absurd (other at)) (h.leaves n b l r m id asked held found state request leads)
 
 -- nobody begins to register
-pub none_routed_kept : (count : ℕ) (u v : World) (before after : List Posted) → (g : Goes count u v before after) → NoneRouted count u → NoneRouted count v
-none_routed_kept count u v before after g h = record {
+pub none_routed_kept : (hosts : Hosts) (u v : World) (before after : List Posted) → (g : Goes hosts u v before after) → NoneRouted hosts u → NoneRouted hosts v
+none_routed_kept hosts u v before after g h = record {
   links = λ n b t s kind r m id holds found under state request leads. links_at n b t s kind r m id holds found under state request leads (or_elsewhere n g.number);
   leaves = λ n b l r m id holds found state request leads. leaves_at n b l r m id holds found state request leads (or_elsewhere n g.number);
 }
   where
     links_at : (n : ℕ) (b : Book) (t : Transaction) (s : Superior) (kind : Kind) (r : Request) (m : ℕ) (id : Numbers) → Holds v n b → transaction_at b t.id ≡ Some t → t.superior ≡ Some s
-        → (link_of kind s).state ≡ states.Registering → s.request ≡ Some r → LeadsTo count r.registration m (targets.Registration id) → (n ≡ g.number) ⊎ (n ≡ g.number → ⊥) → ⊥
+        → (link_of kind s).state ≡ states.Registering → s.request ≡ Some r → LeadsTo hosts r.registration m (targets.Registration id) → (n ≡ g.number) ⊎ (n ≡ g.number → ⊥) → ⊥
     links_at n b t s kind r m id holds found under state request leads (inl here) =
-        let same : b ≡ book_after g = same_book v g.number b (book_after g) (subst (λ i. Holds v i b) here holds) (holds_after count u v before after g) in
-        let j : LinkJoined count u v before after g t s kind = link_joined count u v before after g t s kind (subst (λ c. transaction_at c t.id ≡ Some t) same found) under state in
-        h.links g.number g.book j.old j.superior kind r m id (holds_before count u v before after g) j.found j.under j.state (sym j.request ∙ request) leads
+        let same : b ≡ book_after g = same_book v g.number b (book_after g) (subst (λ i. Holds v i b) here holds) (holds_after hosts u v before after g) in
+        let j : LinkJoined hosts u v before after g t s kind = link_joined hosts u v before after g t s kind (subst (λ c. transaction_at c t.id ≡ Some t) same found) under state in
+        h.links g.number g.book j.old j.superior kind r m id (holds_before hosts u v before after g) j.found j.under j.state (sym j.request ∙ request) leads
     links_at n b t s kind r m id holds found under state request leads (inr other) =
-        h.links n b t s kind r m id (held_elsewhere count u v before after g n b other holds) found under state request leads
+        h.links n b t s kind r m id (held_elsewhere hosts u v before after g n b other holds) found under state request leads
 
     leaves_at : (n : ℕ) (b : Book) (l : Leaf) (r : WorkRequest) (m : ℕ) (id : Numbers) → Holds v n b → leaf_at b l.id ≡ Some l → l.state ≡ states.Registering → l.request ≡ Some r
-        → LeadsTo count r.registration m (targets.Registration id) → (n ≡ g.number) ⊎ (n ≡ g.number → ⊥) → ⊥
+        → LeadsTo hosts r.registration m (targets.Registration id) → (n ≡ g.number) ⊎ (n ≡ g.number → ⊥) → ⊥
     leaves_at n b l r m id holds found state request leads (inl here) =
-        let same : b ≡ book_after g = same_book v g.number b (book_after g) (subst (λ i. Holds v i b) here holds) (holds_after count u v before after g) in
-        let j : LeafJoined count u v before after g l = leaf_joined count u v before after g l (subst (λ c. leaf_at c l.id ≡ Some l) same found) state in
-        h.leaves g.number g.book j.old r m id (holds_before count u v before after g) j.found j.state (sym j.request ∙ request) leads
-    leaves_at n b l r m id holds found state request leads (inr other) = h.leaves n b l r m id (held_elsewhere count u v before after g n b other holds) found state request leads
+        let same : b ≡ book_after g = same_book v g.number b (book_after g) (subst (λ i. Holds v i b) here holds) (holds_after hosts u v before after g) in
+        let j : LeafJoined hosts u v before after g l = leaf_joined hosts u v before after g l (subst (λ c. leaf_at c l.id ≡ Some l) same found) state in
+        h.leaves g.number g.book j.old r m id (holds_before hosts u v before after g) j.found j.state (sym j.request ∙ request) leads
+    leaves_at n b l r m id holds found state request leads (inr other) = h.leaves n b l r m id (held_elsewhere hosts u v before after g n b other holds) found state request leads

@@ -14,7 +14,7 @@ use Rattle.at_base.specs.declared.message.Message.TheVariants as messages
 use Rattle.at_base.specs.declared.target.Target.{Target}
 use Rattle.at_model.specs.Book.{Book}
 use Rattle.at_model.specs.Due.{resend_after}
-use Rattle.at_model.specs.World.{Deliver, Node, Posted, Tick, Turn, Who, World, WorldEvent, new_nodes, nth, place_of, receiver_of, run_of, run_on, world_step}
+use Rattle.at_model.specs.World.{Deliver, Node, Posted, Tick, Turn, Who, World, WorldEvent, new_nodes, nth, place_of, receiver_of, run_of, run_on, world_step, Hosts, HaveOwnAddresses}
 use Rattle.model_laws.specs.Agreement.{IsIn}
 use Rattle.model_laws.specs.Reached.{Reached}
 use Rattle.model_laws.specs.Settle.{MayStart, Settles, Settling, all_also, all_up, also, deliver_next, deliveries_from, first_received, is_settled, received_or, settle, settle_from, settle_round, settle_rounds, settled, ticks, ups}
@@ -43,27 +43,27 @@ use Rattle.settled.proofs.Routed.{routed}
 use Rattle.settled.proofs.Ticks.{commits_asked, outcomes_asked, registrations_asked, votes_asked}
 
 -- the ticks
-record Family (count : ℕ) : Type 1 where
-  inv : ℕ → Invariant count
-  join : (es : List WorldEvent) (u j : ℕ) → j ≤ length (run_of count es).posted → (inv u).Of (ticked_at (u + 1) (run_of count es)) (drop j (ticked_at (u + 1) (run_of count es)).posted)
-      → (inv (u + 1)).Of (ticked_at (u + 1) (run_of count es)) (drop j (ticked_at (u + 1) (run_of count es)).posted)
+record Family (hosts : Hosts) : Type 1 where
+  inv : ℕ → Invariant hosts
+  join : (es : List WorldEvent) (u j : ℕ) → j ≤ length (run_of hosts es).posted → (inv u).Of (ticked_at (u + 1) (run_of hosts es)) (drop j (ticked_at (u + 1) (run_of hosts es)).posted)
+      → (inv (u + 1)).Of (ticked_at (u + 1) (run_of hosts es)) (drop j (ticked_at (u + 1) (run_of hosts es)).posted)
 
-tick_walk : (count : ℕ) (f : Family count) (u j : ℕ) (w : World) → count < 2 ^ 64 → IsOfRun count w → After count (f.inv u) j w
-    → After count (f.inv (u + 1)) j (world_step w (Turn (u + 1) (Tick resend_after) [] None))
-tick_walk count f u j w small r a =
-    subst (λ z. After count (f.inv u) j z → After count (f.inv (u + 1)) j (world_step z (Turn (u + 1) (Tick resend_after) [] None))) (sym r.is) of_run a
+tick_walk : (hosts : Hosts) (f : Family hosts) (u j : ℕ) (w : World) → HaveOwnAddresses hosts → IsOfRun hosts w → After hosts (f.inv u) j w
+    → After hosts (f.inv (u + 1)) j (world_step w (Turn (u + 1) (Tick resend_after) [] None))
+tick_walk hosts f u j w small r a =
+    subst (λ z. After hosts (f.inv u) j z → After hosts (f.inv (u + 1)) j (world_step z (Turn (u + 1) (Tick resend_after) [] None))) (sym r.is) of_run a
   where
-    of_run : After count (f.inv u) j (run_of count r.events) → After count (f.inv (u + 1)) j (ticked_at (u + 1) (run_of count r.events))
+    of_run : After hosts (f.inv u) j (run_of hosts r.events) → After hosts (f.inv (u + 1)) j (ticked_at (u + 1) (run_of hosts r.events))
     of_run b =
-        let k : After count (f.inv u) j (ticked_at (u + 1) (run_of count r.events)) = tick_after count (f.inv u) (u + 1) j (run_of count r.events) small b in
+        let k : After hosts (f.inv u) j (ticked_at (u + 1) (run_of hosts r.events)) = tick_after hosts (f.inv u) (u + 1) j (run_of hosts r.events) small b in
         record { reached = k.reached; passed = k.passed; holds = f.join r.events u j b.passed k.holds }
 
-ticks_walk : (count : ℕ) (f : Family count) (j u m : ℕ) (xs : List Node) (s : Settling) → count < 2 ^ 64 → IsOfRun count s.world → u + length xs ≡ m → After count (f.inv u) j s.world
-    → After count (f.inv m) j (all_also (ticks (u + 1) xs) s).world
-ticks_walk count f j u m [] s small r e a = let same : u ≡ m = omega (arith, e) in subst (λ k. After count (f.inv k) j s.world) same a
-ticks_walk count f j u m (x ∷ xs) s small r e a =
+ticks_walk : (hosts : Hosts) (f : Family hosts) (j u m : ℕ) (xs : List Node) (s : Settling) → HaveOwnAddresses hosts → IsOfRun hosts s.world → u + length xs ≡ m → After hosts (f.inv u) j s.world
+    → After hosts (f.inv m) j (all_also (ticks (u + 1) xs) s).world
+ticks_walk hosts f j u m [] s small r e a = let same : u ≡ m = omega (arith, e) in subst (λ k. After hosts (f.inv k) j s.world) same a
+ticks_walk hosts f j u m (x ∷ xs) s small r e a =
     let tick : WorldEvent = Turn (u + 1) (Tick resend_after) [] None in
-    ticks_walk count f j (u + 1) m xs (also tick s) small (further_run count s.world tick r) (omega (arith, e)) (tick_walk count f u j s.world small r a)
+    ticks_walk hosts f j (u + 1) m xs (also tick s) small (further_run hosts s.world tick r) (omega (arith, e)) (tick_walk hosts f u j s.world small r a)
 
 -- the deliveries
 in_queue : (P : Prices) (q : Posted) (ps : List Posted) → IsIn q ps → posted_weight P q ≤ queued P ps
@@ -104,23 +104,23 @@ node_there n (y ∷ ys) h k = by_number (λ i j. node_there (n - 1) ys i j) (nat
     by_number rest true e = (y, refl)
     by_number rest false e = let other : n ≡ 1 → ⊥ = eqb-false n 1 e in rest (omega (arith, h, other)) (omega (arith, k))
 
-receiver_there : (count : ℕ) (w : World) → count < 2 ^ 64 → Reached count w → (q : Posted) (n : ℕ) → IsIn q w.posted → q.receiver ≡ Some n → (x : Node) × (nth n w.nodes ≡ Some x)
-receiver_there count w small reached q n i to = by_to q.content.to refl (sym (routed count w reached q i) ∙ to)
+receiver_there : (hosts : Hosts) (w : World) → HaveOwnAddresses hosts → Reached hosts w → (q : Posted) (n : ℕ) → IsIn q w.posted → q.receiver ≡ Some n → (x : Node) × (nth n w.nodes ≡ Some x)
+receiver_there hosts w small reached q n i to = by_to q.content.to refl (sym (routed hosts w reached q i) ∙ to)
   where
-    by_place : (address : List ℕ) (o : Option (ℕ × Target)) → place_of 1 (new_nodes count 1) address ≡ o → option_map (λ p. p.0) o ≡ Some n → (x : Node) × (nth n w.nodes ≡ Some x)
+    by_place : (address : List ℕ) (o : Option (ℕ × Target)) → place_of 1 (new_nodes hosts.base_of hosts.count 1) address ≡ o → option_map (λ p. p.0) o ≡ Some n → (x : Node) × (nth n w.nodes ≡ Some x)
     by_place address None e f = absurd cc
     by_place address (Some p) e f =
         let same : p.0 ≡ n = cc in
-        let place = place_is count 1 address p e in
-        node_there n w.nodes (omega (arith, same, place.least)) (omega (arith, same, place.most, reached_length count w reached))
+        let place = place_is hosts 1 address p e in
+        node_there n w.nodes (omega (arith, same, place.least)) (omega (arith, same, place.most, reached_length hosts w reached))
 
-    by_to : (o : Option Epr) → q.content.to ≡ o → receiver_of (new_nodes count 1) o ≡ Some n → (x : Node) × (nth n w.nodes ≡ Some x)
+    by_to : (o : Option Epr) → q.content.to ≡ o → receiver_of (new_nodes hosts.base_of hosts.count 1) o ≡ Some n → (x : Node) × (nth n w.nodes ≡ Some x)
     by_to None e f = absurd cc
-    by_to (Some to) e f = by_place to.address (place_of 1 (new_nodes count 1) to.address) refl f
+    by_to (Some to) e f = by_place to.address (place_of 1 (new_nodes hosts.base_of hosts.count 1) to.address) refl f
 
-record Drained (count : ℕ) (inv : Invariant count) (w : World) : Type 0 where
+record Drained (hosts : Hosts) (inv : Invariant hosts) (w : World) : Type 0 where
   place : ℕ
-  after : After count inv place w
+  after : After hosts inv place w
   none : NoneLeft (drop place w.posted)
 
 if_up : (o : Option Book) → is_none o ≡ false → (b : Book) × (o ≡ Some b)
@@ -133,53 +133,53 @@ dropped_in zero q (p ∷ ps) i = i
 dropped_in (suc j) q [] i = absurd i
 dropped_in (suc j) q (p ∷ ps) i = inr (dropped_in j q ps i)
 
-deliveries_walk : (count : ℕ) (inv : Invariant count) (P : Prices) (limit : ℕ) (last : Settling) (j : ℕ) (s : Settling) → count < 2 ^ 64 → ((w : World) (queue : List Posted) → inv.Of w queue → AreUp w)
-    → limit < P.making → Delivers last j s → After count inv j s.world → Good P limit j s.world → Drained count inv last.world
-deliveries_walk count inv P limit last j s small up most (none_left e is) a g =
-    subst (λ (t : Settling). Drained count inv t.world) (sym is) (record { place = j; after = a; none = none_received (j + 1) (drop j s.world.posted) e })
-deliveries_walk count inv P limit last j s small up most (one_more k n e rest) a g =
+deliveries_walk : (hosts : Hosts) (inv : Invariant hosts) (P : Prices) (limit : ℕ) (last : Settling) (j : ℕ) (s : Settling) → HaveOwnAddresses hosts → ((w : World) (queue : List Posted) → inv.Of w queue → AreUp w)
+    → limit < P.making → Delivers last j s → After hosts inv j s.world → Good P limit j s.world → Drained hosts inv last.world
+deliveries_walk hosts inv P limit last j s small up most (none_left e is) a g =
+    subst (λ (t : Settling). Drained hosts inv t.world) (sym is) (record { place = j; after = a; none = none_received (j + 1) (drop j s.world.posted) e })
+deliveries_walk hosts inv P limit last j s small up most (one_more k n e rest) a g =
     let f : FirstAt (j + 1) (drop j s.world.posted) k n = first_at (j + 1) (drop j s.world.posted) k n e in
     let among : IsIn f.post (drop j s.world.posted) = first_in (f.behind + 1) f.post (drop j s.world.posted) f.at in
-    let (x, found) = receiver_there count s.world small a.reached f.post n (dropped_in j f.post s.world.posted among) f.receiver in
+    let (x, found) = receiver_there hosts s.world small a.reached f.post n (dropped_in j f.post s.world.posted among) f.receiver in
     let (b, held) = if_up x.book (up s.world (drop j s.world.posted) a.holds n x found) in
     let light : weight P f.post.content.message < P.making = omega (arith, in_queue P f.post (drop j s.world.posted) among, g.paid, most) in
     let l : Lowers P k (burden P j s.world) (world_step s.world (Turn n (Deliver k) [] None)) = next_lowers P j k n s.world e g.steady (omega (arith, g.paid, most)) in
-    deliveries_walk count inv P limit last k (also (Turn n (Deliver k) [] None) s) small up most rest
-    (delivery_after count inv j k n s.world x b f.post small found held f (makes_nothing P f.post.content.message light) a)
+    deliveries_walk hosts inv P limit last k (also (Turn n (Deliver k) [] None) s) small up most rest
+    (delivery_after hosts inv j k n s.world x b f.post small found held f (makes_nothing P f.post.content.message light) a)
     (record { passed = l.passed; paid = omega (arith, l.paid, g.paid); steady = l.steady })
 
 -- a round
 dear : ℕ → Prices
 dear making = record { seat = 0; other = 0; making = making }
 
-round_walk : (count most : ℕ) (f : Family count) (s : Settling) → count < 2 ^ 64 → ((u : ℕ) (w : World) (queue : List Posted) → (f.inv u).Of w queue → AreUp w) → IsOfRun count s.world
-    → IsDrained most s → (f.inv 0).Of s.world [] → Drained count (f.inv count) (settle_round most s).world
+round_walk : (hosts : Hosts) (most : ℕ) (f : Family hosts) (s : Settling) → HaveOwnAddresses hosts → ((u : ℕ) (w : World) (queue : List Posted) → (f.inv u).Of w queue → AreUp w) → IsOfRun hosts s.world
+    → IsDrained most s → (f.inv 0).Of s.world [] → Drained hosts (f.inv hosts) (settle_round most s).world
 unfolding dear
-round_walk count most f s small up r d h =
+round_walk hosts most f s small up r d h =
     let j : ℕ = length s.world.posted in
     let limit : ℕ = seat_most (dear 0) * seats_of s.world + other_most (dear 0) * others_of s.world in
     let P : Prices = dear (limit + 1) in
-    deliveries_walk count (f.inv count) P limit (settle_round most s) j (all_also (ticks 1 s.world.nodes) s) small (up count) (omega arith) d
-    (ticks_walk count f j 0 count s.world.nodes s small r (omega (arith, run_length count s.world r))
-    (record { reached = run_is count s.world r; passed = omega arith; holds = subst ((f.inv 0).Of s.world) (sym (drop_all j s.world.posted (omega arith))) h }))
-    (begun_good P count s r)
+    deliveries_walk hosts (f.inv hosts) P limit (settle_round most s) j (all_also (ticks 1 s.world.nodes) s) small (up hosts) (omega arith) d
+    (ticks_walk hosts f j 0 hosts s.world.nodes s small r (omega (arith, run_length hosts s.world r))
+    (record { reached = run_is hosts s.world r; passed = omega arith; holds = subst ((f.inv 0).Of s.world) (sym (drop_all j s.world.posted (omega arith))) h }))
+    (begun_good P hosts s r)
 
 -- nobody is asked by no tick
-none_yet : (count : ℕ) (w : World) → count < 2 ^ 64 → Reached count w → (n : ℕ) (b : Book) → Holds w n b → n ≤ 0 → ⊥
-none_yet count w small reached n b h k = omega (arith, k, (node_range count w small reached n h.node h.found).0)
+none_yet : (hosts : Hosts) (w : World) → HaveOwnAddresses hosts → Reached hosts w → (n : ℕ) (b : Book) → Holds w n b → n ≤ 0 → ⊥
+none_yet hosts w small reached n b h k = omega (arith, k, (node_range hosts w small reached n h.node h.found).0)
 
-all_asked : (count : ℕ) (w : World) → count < 2 ^ 64 → Reached count w → (n : ℕ) (b : Book) → Holds w n b → Unit {0} → n ≤ count
-all_asked count w small reached n b h k = (node_range count w small reached n h.node h.found).1
+all_asked : (hosts : Hosts) (w : World) → HaveOwnAddresses hosts → Reached hosts w → (n : ℕ) (b : Book) → Holds w n b → Unit {0} → n ≤ hosts.count
+all_asked hosts w small reached n b h k = (node_range hosts w small reached n h.node h.found).1
 
 -- The first round.
-first_round : (count : ℕ) → count < 2 ^ 64 → Family count
+first_round : (hosts : Hosts) → HaveOwnAddresses hosts → Family hosts
 unfolding registering
-first_round count small = record {
-  inv = λ u. registering count (λ n. n ≤ u);
+first_round hosts small = record {
+  inv = λ u. registering hosts (λ n. n ≤ u);
   join = λ es u j passed (up, h). (
     up,
-    registrations_both count (λ n. n ≤ u) (λ n. n ≡ u + 1) (λ n. n ≤ u + 1) (ticked_at (u + 1) (run_of count es)) (drop j (ticked_at (u + 1) (run_of count es)).posted) (λ n k. up_to u n k) h
-        (registrations_asked count es (u + 1) j small passed),
+    registrations_both hosts (λ n. n ≤ u) (λ n. n ≡ u + 1) (λ n. n ≤ u + 1) (ticked_at (u + 1) (run_of hosts es)) (drop j (ticked_at (u + 1) (run_of hosts es)).posted) (λ n k. up_to u n k) h
+        (registrations_asked hosts es (u + 1) j small passed),
   );
 }
 
@@ -189,8 +189,8 @@ none_comes queue n P h c = differ c.posted.receiver (h c.posted c.waits) c.recei
     differ : (o : Option ℕ) → o ≡ None → o ≡ Some n → ⊥
     differ o e f = cc
 
-none_registers : (count : ℕ) (w : World) (queue : List Posted) → NoneLeft queue → RegistrationsAreOwed count (λ n. Unit {0}) w queue → NoneRouted count w
-none_registers count w queue none h = record {
+none_registers : (hosts : Hosts) (w : World) (queue : List Posted) → NoneLeft queue → RegistrationsAreOwed hosts (λ n. Unit {0}) w queue → NoneRouted hosts w
+none_registers hosts w queue none h = record {
   links = λ n b t s kind r m id holds found under state request leads.
       nobody (record { node = n; id = t.id }) kind m id (h.links n b t s kind r m id tt holds found under state request leads);
   leaves = λ n b l r m id holds found state request leads. nobody (record { node = n; id = l.id }) l.kind m id (h.leaves n b l r m id tt holds found state request leads);
@@ -200,74 +200,74 @@ none_registers count w queue none h = record {
     nobody x kind m id (inl c) = none_comes queue m _ none c
     nobody x kind m id (inr c) = none_comes queue x.node _ none c
 
-round_registers : (count most : ℕ) (s : Settling) → count < 2 ^ 64 → IsOfRun count s.world → AreUp s.world → IsDrained most s → NoneRouted count (settle_round most s).world
+round_registers : (hosts : Hosts) (most : ℕ) (s : Settling) → HaveOwnAddresses hosts → IsOfRun hosts s.world → AreUp s.world → IsDrained most s → NoneRouted hosts (settle_round most s).world
 unfolding registering first_round
-round_registers count most s small r up d =
-    let k : Drained count (registering count (λ n. n ≤ count)) (settle_round most s).world =
-    round_walk count most (first_round count small) s small (λ u w queue h. h.0) r d (
+round_registers hosts most s small r up d =
+    let k : Drained hosts (registering hosts (λ n. n ≤ hosts.count)) (settle_round most s).world =
+    round_walk hosts most (first_round hosts small) s small (λ u w queue h. h.0) r d (
       up,
       record {
-        links = λ n b t q kind a m id asked holds found. absurd (none_yet count s.world small (run_is count s.world r) n b holds asked);
-        leaves = λ n b l a m id asked holds found. absurd (none_yet count s.world small (run_is count s.world r) n b holds asked);
+        links = λ n b t q kind a m id asked holds found. absurd (none_yet hosts s.world small (run_is hosts s.world r) n b holds asked);
+        leaves = λ n b l a m id asked holds found. absurd (none_yet hosts s.world small (run_is hosts s.world r) n b holds asked);
       },
     ) in
-    none_registers count (settle_round most s).world (drop k.place (settle_round most s).world.posted) k.none
-    (registrations_of count (λ n. n ≤ count) (λ n. Unit {0}) (settle_round most s).world (drop k.place (settle_round most s).world.posted)
-    (all_asked count (settle_round most s).world small k.after.reached) k.after.holds.1)
+    none_registers hosts (settle_round most s).world (drop k.place (settle_round most s).world.posted) k.none
+    (registrations_of hosts (λ n. n ≤ hosts.count) (λ n. Unit {0}) (settle_round most s).world (drop k.place (settle_round most s).world.posted)
+    (all_asked hosts (settle_round most s).world small k.after.reached) k.after.holds.1)
 
 -- Each later one.
-later_round : (count : ℕ) → count < 2 ^ 64 → Known count → Family count
+later_round : (hosts : Hosts) → HaveOwnAddresses hosts → Known hosts → Family hosts
 unfolding owing
-later_round count small known = record {
-  inv = λ u. owing count (λ n. n ≤ u) known;
+later_round hosts small known = record {
+  inv = λ u. owing hosts (λ n. n ≤ u) known;
   join = λ es u j passed h.
-      let v : World = ticked_at (u + 1) (run_of count es) in
+      let v : World = ticked_at (u + 1) (run_of hosts es) in
       let queue : List Posted = drop j v.posted in
       record {
         up = h.up;
         routed = h.routed;
-        votes = votes_both count (λ n. n ≤ u) (λ n. n ≡ u + 1) (λ n. n ≤ u + 1) v queue (λ n k. up_to u n k) h.votes (votes_asked count es (u + 1) j small passed);
-        commits = commits_both count (λ n. n ≤ u) (λ n. n ≡ u + 1) (λ n. n ≤ u + 1) v queue (λ n k. up_to u n k) h.commits (commits_asked count es (u + 1) j small passed);
-        outcomes = outcomes_both count (λ n. n ≤ u) (λ n. n ≡ u + 1) (λ n. n ≤ u + 1) v queue (λ n k. up_to u n k) h.outcomes (outcomes_asked count es (u + 1) j small passed);
+        votes = votes_both hosts (λ n. n ≤ u) (λ n. n ≡ u + 1) (λ n. n ≤ u + 1) v queue (λ n k. up_to u n k) h.votes (votes_asked hosts es (u + 1) j small passed);
+        commits = commits_both hosts (λ n. n ≤ u) (λ n. n ≡ u + 1) (λ n. n ≤ u + 1) v queue (λ n k. up_to u n k) h.commits (commits_asked hosts es (u + 1) j small passed);
+        outcomes = outcomes_both hosts (λ n. n ≤ u) (λ n. n ≡ u + 1) (λ n. n ≤ u + 1) v queue (λ n k. up_to u n k) h.outcomes (outcomes_asked hosts es (u + 1) j small passed);
       };
 }
 
 -- the world behind it
-record IsResting (count : ℕ) (w : World) : Type 0 where
-  routed : NoneRouted count w
+record IsResting (hosts : Hosts) (w : World) : Type 0 where
+  routed : NoneRouted hosts w
   settled : is_settled w ≡ true
 
-round_rests : (count most : ℕ) (s : Settling) → count < 2 ^ 64 → Known count → IsOfRun count s.world → AreUp s.world → NoneRouted count s.world → IsDrained most s
-    → IsResting count (settle_round most s).world
+round_rests : (hosts : Hosts) (most : ℕ) (s : Settling) → HaveOwnAddresses hosts → Known hosts → IsOfRun hosts s.world → AreUp s.world → NoneRouted hosts s.world → IsDrained most s
+    → IsResting hosts (settle_round most s).world
 unfolding owing later_round
-round_rests count most s small known r up routes d =
-    let reached : Reached count s.world = run_is count s.world r in
-    let k : Drained count (owing count (λ n. n ≤ count) known) (settle_round most s).world =
-    round_walk count most (later_round count small known) s small (λ u w queue h. h.up) r d (record {
+round_rests hosts most s small known r up routes d =
+    let reached : Reached hosts s.world = run_is hosts s.world r in
+    let k : Drained hosts (owing hosts (λ n. n ≤ hosts.count) known) (settle_round most s).world =
+    round_walk hosts most (later_round hosts small known) s small (λ u w queue h. h.up) r d (record {
       up = up;
       routed = routes;
-      votes = record { seats = λ n b t q x asked holds. absurd (none_yet count s.world small reached n b holds asked) };
-      commits = record { seats = λ n b t q x asked holds. absurd (none_yet count s.world small reached n b holds asked) };
+      votes = record { seats = λ n b t q x asked holds. absurd (none_yet hosts s.world small reached n b holds asked) };
+      commits = record { seats = λ n b t q x asked holds. absurd (none_yet hosts s.world small reached n b holds asked) };
       outcomes = record {
-        links = λ n b t q z number asked holds. absurd (none_yet count s.world small reached n b holds asked);
-        leaves = λ n b l z number asked holds. absurd (none_yet count s.world small reached n b holds asked);
+        links = λ n b t q z number asked holds. absurd (none_yet hosts s.world small reached n b holds asked);
+        leaves = λ n b l z number asked holds. absurd (none_yet hosts s.world small reached n b holds asked);
       };
     }) in
     let w : World = (settle_round most s).world in
     let queue : List Posted = drop k.place w.posted in
-    let all : (n : ℕ) (b : Book) → Holds w n b → Unit {0} → n ≤ count = all_asked count w small k.after.reached in
+    let all : (n : ℕ) (b : Book) → Holds w n b → Unit {0} → n ≤ hosts.count = all_asked hosts w small k.after.reached in
     record {
       routed = k.after.holds.routed;
-      settled = at_rest w queue (round_run count most s r) k.after.holds.up k.none (votes_of count (λ n. n ≤ count) (λ n. Unit {0}) w queue all k.after.holds.votes)
-          (commits_of count (λ n. n ≤ count) (λ n. Unit {0}) w queue all k.after.holds.commits)
-          (outcomes_of count (λ n. n ≤ count) (λ n. Unit {0}) w queue all k.after.holds.outcomes);
+      settled = at_rest w queue (round_run hosts most s r) k.after.holds.up k.none (votes_of hosts (λ n. n ≤ hosts.count) (λ n. Unit {0}) w queue all k.after.holds.votes)
+          (commits_of hosts (λ n. n ≤ hosts.count) (λ n. Unit {0}) w queue all k.after.holds.commits)
+          (outcomes_of hosts (λ n. n ≤ hosts.count) (λ n. Unit {0}) w queue all k.after.holds.outcomes);
     }
   where
-    at_rest : (w : World) (queue : List Posted) → IsOfRun count w → AreUp w → NoneLeft queue → VotesAreOwed count (λ n. Unit {0}) w queue → CommitsAreOwed count (λ n. Unit {0}) w queue
-        → OutcomesAreOwed count (λ n. Unit {0}) w queue → is_settled w ≡ true
+    at_rest : (w : World) (queue : List Posted) → IsOfRun hosts w → AreUp w → NoneLeft queue → VotesAreOwed hosts (λ n. Unit {0}) w queue → CommitsAreOwed hosts (λ n. Unit {0}) w queue
+        → OutcomesAreOwed hosts (λ n. Unit {0}) w queue → is_settled w ≡ true
     at_rest w queue h =
-        subst (λ z. AreUp z → NoneLeft queue → VotesAreOwed count (λ n. Unit {0}) z queue → CommitsAreOwed count (λ n. Unit {0}) z queue → OutcomesAreOwed count (λ n. Unit {0}) z queue
-        → is_settled z ≡ true) (sym h.is) (rests count h.events queue small)
+        subst (λ z. AreUp z → NoneLeft queue → VotesAreOwed hosts (λ n. Unit {0}) z queue → CommitsAreOwed hosts (λ n. Unit {0}) z queue → OutcomesAreOwed hosts (λ n. Unit {0}) z queue
+        → is_settled z ≡ true) (sym h.is) (rests hosts h.events queue small)
 
 -- Eight rounds.
 one_further : (n most : ℕ) (s : Settling) → settle_rounds (suc n) most s ≡ settle_round most (settle_rounds n most s)
@@ -275,34 +275,34 @@ unfolding settle_rounds
 one_further zero most s = refl
 one_further (suc n) most s = one_further n most (settle_round most s)
 
-rounds_run : (count n most : ℕ) (s : Settling) → IsOfRun count s.world → IsOfRun count (settle_rounds n most s).world
+rounds_run : (hosts : Hosts) (n most : ℕ) (s : Settling) → IsOfRun hosts s.world → IsOfRun hosts (settle_rounds n most s).world
 unfolding settle_rounds
-rounds_run count zero most s r = r
-rounds_run count (suc n) most s r = rounds_run count n most (settle_round most s) (round_run count most s r)
+rounds_run hosts zero most s r = r
+rounds_run hosts (suc n) most s r = rounds_run hosts n most (settle_round most s) (round_run hosts most s r)
 
 up_at : (w : World) → AllUp w → AreUp w
 up_at w h n x found = all_nth IsUp n x w.nodes h found
 
-nobody_registers : (count : ℕ) (es : List WorldEvent) (n : ℕ) → count < 2 ^ 64 → Known count → AllByRecursion MayStart (run_of count es).nodes → n < 8
-    → NoneRouted count (settle_rounds (suc n) (granted (risen count es)) (risen count es)).world
+nobody_registers : (hosts : Hosts) (es : List WorldEvent) (n : ℕ) → HaveOwnAddresses hosts → Known hosts → AllByRecursion MayStart (run_of hosts es).nodes → n < 8
+    → NoneRouted hosts (settle_rounds (suc n) (granted (risen hosts es)) (risen hosts es)).world
 unfolding settle_rounds
-nobody_registers count es zero small known may h =
-    let most : ℕ = granted (risen count es) in
-    round_registers count most (risen count es) small (risen_run count es) (up_at (risen count es).world (nodes_rise.rounds count es 0 most may)) (drains.rounds count es 0 h)
-nobody_registers count es (suc n) small known may h =
-    let most : ℕ = granted (risen count es) in
-    subst (λ (s : Settling). NoneRouted count s.world) (sym (one_further (suc n) most (risen count es)))
-    (round_rests count most (settle_rounds (suc n) most (risen count es)) small known (rounds_run count (suc n) most (risen count es) (risen_run count es))
-    (up_at (settle_rounds (suc n) most (risen count es)).world (nodes_rise.rounds count es (suc n) most may)) (nobody_registers count es n small known may (omega (arith, h)))
-    (drains.rounds count es (suc n) h)).routed
+nobody_registers hosts es zero small known may h =
+    let most : ℕ = granted (risen hosts es) in
+    round_registers hosts most (risen hosts es) small (risen_run hosts es) (up_at (risen hosts es).world (nodes_rise.rounds hosts es 0 most may)) (drains.rounds hosts es 0 h)
+nobody_registers hosts es (suc n) small known may h =
+    let most : ℕ = granted (risen hosts es) in
+    subst (λ (s : Settling). NoneRouted hosts s.world) (sym (one_further (suc n) most (risen hosts es)))
+    (round_rests hosts most (settle_rounds (suc n) most (risen hosts es)) small known (rounds_run hosts (suc n) most (risen hosts es) (risen_run hosts es))
+    (up_at (settle_rounds (suc n) most (risen hosts es)).world (nodes_rise.rounds hosts es (suc n) most may)) (nobody_registers hosts es n small known may (omega (arith, h)))
+    (drains.rounds hosts es (suc n) h)).routed
 
-rounds_rest : (count : ℕ) (es : List WorldEvent) → count < 2 ^ 64 → Known count → AllByRecursion MayStart (run_of count es).nodes
-    → is_settled (settle_rounds 8 (granted (risen count es)) (risen count es)).world ≡ true
-rounds_rest count es small known may =
-    let most : ℕ = granted (risen count es) in
-    subst (λ (s : Settling). is_settled s.world ≡ true) (sym (one_further 7 most (risen count es)))
-    (round_rests count most (settle_rounds 7 most (risen count es)) small known (rounds_run count 7 most (risen count es) (risen_run count es))
-    (up_at (settle_rounds 7 most (risen count es)).world (nodes_rise.rounds count es 7 most may)) (nobody_registers count es 6 small known may (omega arith)) (drains.rounds count es 7 (omega arith))).settled
+rounds_rest : (hosts : Hosts) (es : List WorldEvent) → HaveOwnAddresses hosts → Known hosts → AllByRecursion MayStart (run_of hosts es).nodes
+    → is_settled (settle_rounds 8 (granted (risen hosts es)) (risen hosts es)).world ≡ true
+rounds_rest hosts es small known may =
+    let most : ℕ = granted (risen hosts es) in
+    subst (λ (s : Settling). is_settled s.world ≡ true) (sym (one_further 7 most (risen hosts es)))
+    (round_rests hosts most (settle_rounds 7 most (risen hosts es)) small known (rounds_run hosts 7 most (risen hosts es) (risen_run hosts es))
+    (up_at (settle_rounds 7 most (risen hosts es)).world (nodes_rise.rounds hosts es 7 most may)) (nobody_registers hosts es 6 small known may (omega arith)) (drains.rounds hosts es 7 (omega arith))).settled
 
 -- The events lead to that world.
 abbrev LedBy : World → Settling → Type 0
@@ -341,13 +341,13 @@ settled_led : (w : World) → LedBy w (settled w)
 unfolding settled settle_from
 settled_led w = rounds_led w 8 (granted (all_up w)) (all_up w) (all_led w (ups 1 w.nodes) (record { world = w; events = [] }) refl)
 
-settled_rests : (count : ℕ) (es : List WorldEvent) → count < 2 ^ 64 → Known count → AllByRecursion MayStart (run_of count es).nodes → is_settled (settled (run_of count es)).world ≡ true
+settled_rests : (hosts : Hosts) (es : List WorldEvent) → HaveOwnAddresses hosts → Known hosts → AllByRecursion MayStart (run_of hosts es).nodes → is_settled (settled (run_of hosts es)).world ≡ true
 unfolding settled settle_from
-settled_rests count es small known may = rounds_rest count es small known may
+settled_rests hosts es small known may = rounds_rest hosts es small known may
 
-pub settles_if : ((count : ℕ) → count < 2 ^ 64 → Known count) → Settles
+pub settles_if : ((hosts : Hosts) → HaveOwnAddresses hosts → Known hosts) → Settles
 unfolding settle
-settles_if known count es small may = record {
-  rests = ap is_settled (sym (settled_led (run_of count es))) ∙ settled_rests count es small (known count small) may;
-  few = drains.few count es;
+settles_if known hosts es small may = record {
+  rests = ap is_settled (sym (settled_led (run_of hosts es))) ∙ settled_rests hosts es small (known hosts small) may;
+  few = drains.few hosts es;
 }

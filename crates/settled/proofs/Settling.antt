@@ -17,11 +17,11 @@ ticks_ask_for_all = record { votes = votes_asked; commits = commits_asked; outco
 
 pub owed_is_kept : OwedIsKept
 owed_is_kept = record {
-  votes = λ count most u v before after g routes.
-      votes_kept count (λ n. n ≤ most) u v before after g (prepares_are_behind count u g.small g.reached) (none_registers count u g.small g.reached routes);
-  commits = λ count most. commits_kept count (λ n. n ≤ most);
-  outcomes = λ count most. outcomes_kept count (λ n. n ≤ most);
-  registrations = λ count most. registrations_kept count (λ n. n ≤ most);
+  votes = λ hosts most u v before after g routes.
+      votes_kept hosts (λ n. n ≤ most) u v before after g (prepares_are_behind hosts u g.small g.reached) (none_registers hosts u g.small g.reached routes);
+  commits = λ hosts most. commits_kept hosts (λ n. n ≤ most);
+  outcomes = λ hosts most. outcomes_kept hosts (λ n. n ≤ most);
+  registrations = λ hosts most. registrations_kept hosts (λ n. n ≤ most);
   routed = none_routed_kept;
 }
 
@@ -30,7 +30,7 @@ quiet_worlds_rest = record { rests = rests }
 
 pub settles : Settles
 settles =
-    settles_if (λ count small. record {
-      behind = λ w reached. prepares_are_behind count w small reached;
-      registered = λ w reached routes. none_registers count w small reached routes;
+    settles_if (λ hosts small. record {
+      behind = λ w reached. prepares_are_behind hosts w small reached;
+      registered = λ w reached routes. none_registers hosts w small reached routes;
     })

@@ -15,7 +15,7 @@ use Rattle.at_model.specs.Book.{Book, Leaf, Transaction, leaf_id, transaction_id
 use Rattle.at_model.specs.Moves.{Change}
 use Rattle.at_model.specs.Register.{Registration}
 use Rattle.at_model.specs.Step.{leaf_at, moment_of, plan, step, transaction_at}
-use Rattle.at_model.specs.World.{Posted, World}
+use Rattle.at_model.specs.World.{Posted, World, Hosts}
 use Rattle.model_laws.proofs.Deciding.{IfThere, all_find, all_more}
 use Rattle.agreement.specs.Deeds.{IsSameIfLeft}
 use Rattle.agreement.specs.Done.{standing}
@@ -54,9 +54,9 @@ enrolled_root m a r t g (has_seat kind s p i k f is) = ap (λ (x : Registration)
 enrolled_root m a r t g (has_completion c p there f is) = ap (λ (x : Registration). is_none x.transaction.superior) is
 enrolled_root m a r t g (refuses name is) = ap (λ (x : Registration). is_none x.transaction.superior) is
 
-transactions_stood : (count : ℕ) (u v : World) (before after : List Posted) → (g : Goes count u v before after) → AllByRecursion (TransactionStood g.book) (book_after g).transactions
-transactions_stood count u v before after g =
-    let r : IsReady g.book = ready count u v before after g in
+transactions_stood : (hosts : Hosts) (u v : World) (before after : List Posted) → (g : Goes hosts u v before after) → AllByRecursion (TransactionStood g.book) (book_after g).transactions
+transactions_stood hosts u v before after g =
+    let r : IsReady g.book = ready hosts u v before after g in
     transactions_after (TransactionStood g.book) g.book g.event g.now (standing true (plan g.book g.event g.now).entry) (step g.book g.event g.now true) (step_moves g.book g.event g.now true r)
     (all_more (λ t. transaction_at g.book t.id ≡ Some t) (TransactionStood g.book) g.book.transactions (λ t here. record { old = t; found = here; root = refl })
     (finds_each transaction_id g.book.transactions r.order.rising.transactions))
@@ -68,10 +68,10 @@ transactions_stood count u v before after g =
     })
     (λ d. absurd (not_made g.event d.arrived (messages.Create d.request) g.makes d.came d.says))
 
-pub transaction_stood : (count : ℕ) (u v : World) (before after : List Posted) → (g : Goes count u v before after) → (t : Transaction) → transaction_at (book_after g) t.id ≡ Some t
+pub transaction_stood : (hosts : Hosts) (u v : World) (before after : List Posted) → (g : Goes hosts u v before after) → (t : Transaction) → transaction_at (book_after g) t.id ≡ Some t
     → TransactionStood g.book t
-transaction_stood count u v before after g t found =
-    all_find (TransactionStood g.book) transaction_id t.id (book_after g).transactions t (transactions_stood count u v before after g) found
+transaction_stood hosts u v before after g t found =
+    all_find (TransactionStood g.book) transaction_id t.id (book_after g).transactions t (transactions_stood hosts u v before after g) found
 
 idle_like : (m : Moment) (e : Event) (l left : Leaf) (ps : List Post) → LeafIdles m e l left ps → (left.id ≡ l.id) × (left.kind ≡ l.kind)
 idle_like m e l left ps (rests is sent) = (ap (λ (x : Leaf). x.id) is, ap (λ (x : Leaf). x.kind) is)
@@ -93,14 +93,14 @@ deed_stood b m e l entry c found (dropped came kind none item effects sent) = go
 deed_stood b m e l entry c found (commits to came state knows is item effects sent) = gone b c.item item
 deed_stood b m e l entry c found (rolls_back to came state knows is item effects sent) = gone b c.item item
 
-leaves_stood : (count : ℕ) (u v : World) (before after : List Posted) → (g : Goes count u v before after) → AllByRecursion (LeafStood g.book) (book_after g).leaves
-leaves_stood count u v before after g =
-    let r : IsReady g.book = ready count u v before after g in
+leaves_stood : (hosts : Hosts) (u v : World) (before after : List Posted) → (g : Goes hosts u v before after) → AllByRecursion (LeafStood g.book) (book_after g).leaves
+leaves_stood hosts u v before after g =
+    let r : IsReady g.book = ready hosts u v before after g in
     leaves_after (LeafStood g.book) g.book g.event g.now (standing true (plan g.book g.event g.now).entry) (step g.book g.event g.now true) (step_moves g.book g.event g.now true r)
     (all_more (λ l. leaf_at g.book l.id ≡ Some l) (LeafStood g.book) g.book.leaves (λ l here. record { old = l; found = here; kind = refl })
     (finds_each leaf_id g.book.leaves r.order.rising.leaves))
     (λ d. deed_stood g.book (moment_of g.book g.now) g.event d.old _ d.change d.found d.deed)
     (λ d. absurd (not_made g.event d.arrived (messages.Work d.request) g.makes d.came d.says))
 
-pub leaf_stood : (count : ℕ) (u v : World) (before after : List Posted) → (g : Goes count u v before after) → (l : Leaf) → leaf_at (book_after g) l.id ≡ Some l → LeafStood g.book l
-leaf_stood count u v before after g l found = all_find (LeafStood g.book) leaf_id l.id (book_after g).leaves l (leaves_stood count u v before after g) found
+pub leaf_stood : (hosts : Hosts) (u v : World) (before after : List Posted) → (g : Goes hosts u v before after) → (l : Leaf) → leaf_at (book_after g) l.id ≡ Some l → LeafStood g.book l
+leaf_stood hosts u v before after g l found = all_find (LeafStood g.book) leaf_id l.id (book_after g).leaves l (leaves_stood hosts u v before after g) found

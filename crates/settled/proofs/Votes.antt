@@ -17,7 +17,7 @@ use Rattle.at_model.specs.Book.{Book, Enlistment, Leaf, Phase, Superior, Transac
 use Rattle.at_model.specs.Due.{may_expire}
 use Rattle.at_model.specs.Seats.{link_of}
 use Rattle.at_model.specs.Step.{leaf_at, step, transaction_at}
-use Rattle.at_model.specs.World.{Posted, Who, World}
+use Rattle.at_model.specs.World.{Posted, Who, World, Hosts}
 use Rattle.model_laws.specs.Agreement.{HasCommitted, IsIn}
 use Rattle.model_laws.specs.Shapes.{IfFound, NoParticipant}
 use Rattle.model_laws.specs.Reached.{Reached}
@@ -63,50 +63,50 @@ volatile_early Phase.Voted e f = cc
 volatile_early Phase.Committing e f = cc
 volatile_early Phase.Aborting e f = cc
 
-pub suits_at : (count : ℕ) (w : World) → Reached count w → (n : ℕ) (b : Book) → Holds w n b → (t : Transaction) (s : Enlistment) → transaction_at b t.id ≡ Some t → IsIn s t.seats
+pub suits_at : (hosts : Hosts) (w : World) → Reached hosts w → (n : ℕ) (b : Book) → Holds w n b → (t : Transaction) (s : Enlistment) → transaction_at b t.id ≡ Some t → IsIn s t.seats
     → suits t.phase s.kind s.state ≡ true
-suits_at count w reached n b h t s found i = one_of (λ (q : Enlistment). suits t.phase q.kind q.state ≡ true) t.seats s (shape_at count w reached n b h t.id t found).0 i
+suits_at hosts w reached n b h t s found i = one_of (λ (q : Enlistment). suits t.phase q.kind q.state ≡ true) t.seats s (shape_at hosts w reached n b h t.id t found).0 i
 
 -- a Commit that comes to a participant comes of a transaction that has committed
-pub comes_committed : (count : ℕ) (u v : World) (before after : List Posted) → (g : Goes count u v before after) → (x : Who) (kind : Kind) (a : Arrived) → x.node ≡ g.number
+pub comes_committed : (hosts : Hosts) (u v : World) (before after : List Posted) → (g : Goes hosts u v before after) → (x : Who) (kind : Kind) (a : Arrived) → x.node ≡ g.number
     → g.event ≡ events.Arrived a → a.target ≡ targets.Participant x.id kind → a.message ≡ messages.Notice notices.Commit → IsUnderCommitted u x kind
-comes_committed count u v before after g x kind a here came target says =
-    let h : HasCome count u g.number a = has_come count u g.number g.node g.book g.event g.now true a (stepping count u v before after g) came in
+comes_committed hosts u v before after g x kind a here came target says =
+    let h : HasCome hosts u g.number a = has_come hosts u g.number g.node g.book g.event g.now true a (stepping hosts u v before after g) came in
     subst (λ n. IsUnderCommitted u (record { node = n; id = x.id }) kind) (sym here)
-    ((one_of (λ (p : Posted). CommitIsBacked count u p.content) u.posted h.posted (outcomes_are_backed.reached count u g.small g.reached).commits h.stands h.to g.number x.id kind
+    ((one_of (λ (p : Posted). CommitIsBacked hosts u p.content) u.posted h.posted (outcomes_are_backed.reached hosts u g.small g.reached).commits h.stands h.to g.number x.id kind
     (h.message ∙ says) h.sent (h.leads ∙ (λ i. Some (g.number, target i)))).1)
 
 -- but not where its seat is still asked
-pub not_committed : (count : ℕ) (u v : World) (before after : List Posted) → (g : Goes count u v before after) → (x : Who) (kind : Kind) (n : ℕ) (b : Book) (t : Transaction) (number : ℕ)
+pub not_committed : (hosts : Hosts) (u v : World) (before after : List Posted) → (g : Goes hosts u v before after) → (x : Who) (kind : Kind) (n : ℕ) (b : Book) (t : Transaction) (number : ℕ)
     → Holds u n b → transaction_at b t.id ≡ Some t → may_expire t.phase ≡ true → HasSeat u (record { node = n; id = t.id }) number kind x → IsUnderCommitted u x kind → ⊥
-not_committed count u v before after g x kind n b t number h found undecided seat c =
-    (partners_are_paired.votes count u g.small g.reached n h.node b h.found h.up).undecided t found undecided
-    (subst (λ (z : Who). HasCommitted u z) (one_superior count u g.small g.reached x c.transaction (record { node = n; id = t.id }) _ _ c.seat seat) c.committed)
+not_committed hosts u v before after g x kind n b t number h found undecided seat c =
+    (partners_are_paired.votes hosts u g.small g.reached n h.node b h.found h.up).undecided t found undecided
+    (subst (λ (z : Who). HasCommitted u z) (one_superior hosts u g.small g.reached x c.transaction (record { node = n; id = t.id }) _ _ c.seat seat) c.committed)
 
 -- nor does a durable Prepare come while a volatile seat of the same transaction is asked
-not_asked : (count : ℕ) (u v : World) (before after : List Posted) → (g : Goes count u v before after) → PreparesAreBehind count u → (x : Who) (a : Arrived) (n : ℕ) (b : Book) (t : Transaction)
+not_asked : (hosts : Hosts) (u v : World) (before after : List Posted) → (g : Goes hosts u v before after) → PreparesAreBehind hosts u → (x : Who) (a : Arrived) (n : ℕ) (b : Book) (t : Transaction)
     (number : ℕ) → x.node ≡ g.number → g.event ≡ events.Arrived a → a.target ≡ targets.Participant x.id kinds.Durable → a.message ≡ messages.Notice notices.Prepare → Holds u n b
     → transaction_at b t.id ≡ Some t → suits t.phase kinds.Volatile states.Preparing ≡ true → HasSeat u (record { node = n; id = t.id }) number kinds.Volatile x → ⊥
-not_asked count u v before after g behind x a n b t number here came target says h found early seat =
-    let c : HasCome count u g.number a = has_come count u g.number g.node g.book g.event g.now true a (stepping count u v before after g) came in
+not_asked hosts u v before after g behind x a n b t number here came target says h found early seat =
+    let c : HasCome hosts u g.number a = has_come hosts u g.number g.node g.book g.event g.now true a (stepping hosts u v before after g) came in
     let k : IsAskedBy u (record { node = g.number; id = x.id }) = behind c.posted c.to g.number x.id c.stands c.sent (c.leads ∙ (λ i. Some (g.number, target i))) (c.message ∙ says) in
     let same : k.transaction ≡ record { node = n; id = t.id } =
-    one_superior count u g.small g.reached (record { node = g.number; id = x.id }) k.transaction (record { node = n; id = t.id }) _ _ k.seat
+    one_superior hosts u g.small g.reached (record { node = g.number; id = x.id }) k.transaction (record { node = n; id = t.id }) _ _ k.seat
     (subst (λ m. HasSeat u (record { node = n; id = t.id }) number kinds.Volatile (record { node = m; id = x.id })) here seat) in
     volatile_early t.phase early
     (k.asked b t (subst (λ (z : Who). Holds u z.node b) (sym same) h) (ap (λ (z : Who). transaction_at b z.id) same ∙ found))
 
 -- a Prepare that arrives is answered, or the participant is busy with it
-prepare_arrives : (count : ℕ) (u v : World) (before after : List Posted) → (g : Goes count u v before after) → (x : Who) (kind : Kind) (z : Who) (number : ℕ) (a : Arrived) → x.node ≡ g.number
+prepare_arrives : (hosts : Hosts) (u v : World) (before after : List Posted) → (g : Goes hosts u v before after) → (x : Who) (kind : Kind) (z : Who) (number : ℕ) (a : Arrived) → x.node ≡ g.number
     → g.event ≡ events.Arrived a → IsNoticeFrom (targets.Participant x.id kind) notices.Prepare (seat_of z number kind) a → HasSeat u z number kind x → HasRegistered u x kind
     → IsBusyAt v x kind ⊎ TellsAnswer (seat_of z number kind) (posted_in g)
-prepare_arrives count u v before after g x kind z number a here came ((target, says), from) seat registered = by_transaction (transaction_at g.book x.id) refl
+prepare_arrives hosts u v before after g x kind z number a here came ((target, says), from) seat registered = by_transaction (transaction_at g.book x.id) refl
   where
     e : Epr
     e = seat_of z number kind
 
     holds : Holds u x.node g.book
-    holds = subst (λ m. Holds u m g.book) (sym here) (holds_before count u v before after g)
+    holds = subst (λ m. Holds u m g.book) (sym here) (holds_before hosts u v before after g)
 
     stranger : NoParticipant kind (transaction_at g.book x.id) (leaf_at g.book x.id) → IsBusyAt v x kind ⊎ TellsAnswer e (posted_in g)
     stranger unknown =
@@ -122,15 +122,15 @@ prepare_arrives count u v before after g x kind z number a here came ((target, s
     by_superior t found (Some s) under =
         let id_is : t.id ≡ x.id = found_id transaction_id x.id g.book.transactions t found in
         let l : LinksOwed g.book.base g.event t s (posted_in g) (superior_left (transaction_at (book_after g) t.id)) =
-        steps_owe_links.links g.book g.event g.now (ready count u v before after g) (shaped count u v before after g) t s (found_own g.book x.id t found) under in
+        steps_owe_links.links g.book g.event g.now (ready hosts u v before after g) (shaped hosts u v before after g) t s (found_own g.book x.id t found) under in
         by_answer id_is
         (l.0 kind (record { message = a; came = came; target = target ∙ ap (λ i. targets.Participant i kind) (sym id_is); says = says }) e (registered.link g.book t s holds found under)
         (stored_is (link_of kind s).coordinator a.from e from
-        (λ c knows. link_knows count u g.small g.reached x.node g.book holds x.id t kind c z number found seat (ap (coordinator_at kind) under ∙ knows))))
+        (λ c knows. link_knows hosts u g.small g.reached x.node g.book holds x.id t kind c z number found seat (ap (coordinator_at kind) under ∙ knows))))
       where
         by_answer : t.id ≡ x.id → LinkIsBusy kind (superior_left (transaction_at (book_after g) t.id)) ⊎ TellsAnswer e (posted_in g) → IsBusyAt v x kind ⊎ TellsAnswer e (posted_in g)
         by_answer same (inl busy) =
-            inl (left_busy count u v before after g x kind here (transaction_at (book_after g) x.id) refl
+            inl (left_busy hosts u v before after g x kind here (transaction_at (book_after g) x.id) refl
             (subst (λ i. LinkIsBusy kind (superior_left (transaction_at (book_after g) i))) same busy))
         by_answer same (inr tells) = inr tells
 
@@ -138,10 +138,10 @@ prepare_arrives count u v before after g x kind z number a here came ((target, s
     by_kind l none found true same =
         let id_is : l.id ≡ x.id = found_id leaf_id x.id g.book.leaves l found in
         let k : l.kind ≡ kind = same_kind l.kind kind same in
-        inr ((steps_owe_leaves.leaves g.book g.event g.now (ready count u v before after g) l (leaf_own g.book x.id l found) (ap (transaction_at g.book) id_is ∙ none)).0
+        inr ((steps_owe_leaves.leaves g.book g.event g.now (ready hosts u v before after g) l (leaf_own g.book x.id l found) (ap (transaction_at g.book) id_is ∙ none)).0
         (record { arrived = a; event = came; target = target ∙ (λ i. targets.Participant (sym id_is i) (sym k i)); message = says }) e (registered.leaf g.book l holds found)
         (stored_is l.coordinator a.from e from
-        (λ c knows. leaf_knows count u g.small g.reached x.node g.book holds x.id l c z number found (subst (λ d. HasSeat u z number d x) (sym k) seat) knows ∙ ap (seat_of z number) k)))
+        (λ c knows. leaf_knows hosts u g.small g.reached x.node g.book holds x.id l c z number found (subst (λ d. HasSeat u z number d x) (sym k) seat) knows ∙ ap (seat_of z number) k)))
     by_kind l none found false other =
         stranger (subst (λ o. NoParticipant kind o (leaf_at g.book x.id)) (sym none) (subst (λ o. IfFound (λ (y : Leaf). is_kind y.kind kind ≡ false) o) (sym found) other))
 
@@ -164,10 +164,10 @@ link_known : (kind : Kind) (s : Superior) → LinkKnows s.request s.volatile.sta
 link_known kinds.Volatile s h = h.0
 link_known kinds.Durable s h = h.1
 
-busy_on : (count : ℕ) (u v : World) (before after : List Posted) → (g : Goes count u v before after) → PreparesAreBehind count u → (x : Who) (kind : Kind) (n : ℕ) (b : Book) (t : Transaction)
+busy_on : (hosts : Hosts) (u v : World) (before after : List Posted) → (g : Goes hosts u v before after) → PreparesAreBehind hosts u → (x : Who) (kind : Kind) (n : ℕ) (b : Book) (t : Transaction)
     (number : ℕ) → Holds u n b → transaction_at b t.id ≡ Some t → suits t.phase kind states.Preparing ≡ true → HasSeat u (record { node = n; id = t.id }) number kind x → IsBusyAt u x kind
     → IsBusyAt v x kind ⊎ TellsAnswer (seat_of (record { node = n; id = t.id }) number kind) (posted_in g)
-busy_on count u v before after g behind x kind n b t number h found early seat k = by_place (or_elsewhere x.node g.number)
+busy_on hosts u v before after g behind x kind n b t number h found early seat k = by_place (or_elsewhere x.node g.number)
   where
     z : Who
     z = record { node = n; id = t.id }
@@ -178,60 +178,60 @@ busy_on count u v before after g behind x kind n b t number h found early seat k
     here_busy : x.node ≡ g.number → (o : Transaction) → transaction_at g.book x.id ≡ Some o → (s : Option Superior) → o.superior ≡ s → LinkIsBusy kind s → IsBusyAt v x kind ⊎ TellsAnswer e (posted_in g)
     here_busy here o there None under busy = absurd busy
     here_busy here o there (Some s) under busy =
-        let holds : Holds u x.node g.book = subst (λ m. Holds u m g.book) (sym here) (holds_before count u v before after g) in
+        let holds : Holds u x.node g.book = subst (λ m. Holds u m g.book) (sym here) (holds_before hosts u v before after g) in
         let id_is : o.id ≡ x.id = found_id transaction_id x.id g.book.transactions o there in
         let l : LinksOwed g.book.base g.event o s (posted_in g) (superior_left (transaction_at (book_after g) o.id)) =
-        steps_owe_links.links g.book g.event g.now (ready count u v before after g) (shaped count u v before after g) o s (found_own g.book x.id o there) under in
+        steps_owe_links.links g.book g.event g.now (ready hosts u v before after g) (shaped hosts u v before after g) o s (found_own g.book x.id o there) under in
         let knows : (link_of kind s).coordinator ≡ Some e =
         known_is (link_of kind s).coordinator e
         (busy_state kind s (link_of kind s).state refl busy
-        (link_known kind s (subst (λ y. StandsUnder o.phase y o.completion) under (shape_at count u g.reached x.node g.book holds x.id o there).1.1)))
-        (λ c knows. link_knows count u g.small g.reached x.node g.book holds x.id o kind c z number there seat (ap (coordinator_at kind) under ∙ knows)) in
-        still_busy count u v before after g x kind e here
+        (link_known kind s (subst (λ y. StandsUnder o.phase y o.completion) under (shape_at hosts u g.reached x.node g.book holds x.id o there).1.1)))
+        (λ c knows. link_knows hosts u g.small g.reached x.node g.book holds x.id o kind c z number there seat (ap (coordinator_at kind) under ∙ knows)) in
+        still_busy hosts u v before after g x kind e here
         (subst (λ i. StaysBusy kind e (posted_in g) (superior_left (transaction_at (book_after g) i))) id_is (l.1.1.0 kind e (excused id_is) busy knows))
       where
         excused : o.id ≡ x.id → IsExcused g.event o kind s → ⊥
         excused id_is (inl (preparing, said)) =
-            not_committed count u v before after g x kind n b t number h found (preparing_undecided t.phase kind early) seat
-            (comes_committed count u v before after g x kind said.message here said.came (said.target ∙ ap (λ i. targets.Participant i kind) id_is) said.says)
+            not_committed hosts u v before after g x kind n b t number h found (preparing_undecided t.phase kind early) seat
+            (comes_committed hosts u v before after g x kind said.message here said.came (said.target ∙ ap (λ i. targets.Participant i kind) id_is) said.says)
         excused id_is (inr (volatile, said)) =
-            not_asked count u v before after g behind x said.message n b t number here said.came (said.target ∙ ap (λ i. targets.Participant i kinds.Durable) id_is) said.says h found
+            not_asked hosts u v before after g behind x said.message n b t number here said.came (said.target ∙ ap (λ i. targets.Participant i kinds.Durable) id_is) said.says h found
             (subst (λ d. suits t.phase d states.Preparing ≡ true) volatile early) (subst (λ d. HasSeat u z number d x) volatile seat)
 
     by_place : (x.node ≡ g.number) ⊎ (x.node ≡ g.number → ⊥) → IsBusyAt v x kind ⊎ TellsAnswer e (posted_in g)
     by_place (inl here) =
-        let same : k.book ≡ g.book = same_book u x.node k.book g.book k.holds (subst (λ m. Holds u m g.book) (sym here) (holds_before count u v before after g)) in
+        let same : k.book ≡ g.book = same_book u x.node k.book g.book k.holds (subst (λ m. Holds u m g.book) (sym here) (holds_before hosts u v before after g)) in
         here_busy here k.transaction (subst (λ c. transaction_at c x.id ≡ Some k.transaction) same k.found) k.transaction.superior refl k.busy
     by_place (inr other) =
-        inl (record { book = k.book; holds = holds_elsewhere count u v before after g x.node k.book other k.holds; transaction = k.transaction; found = k.found; busy = k.busy })
+        inl (record { book = k.book; holds = holds_elsewhere hosts u v before after g x.node k.book other k.holds; transaction = k.transaction; found = k.found; busy = k.busy })
 
 -- so what a seat waits for stays owed, where no answer came to it
-pub vote_on : (count : ℕ) (u v : World) (before after : List Posted) → (g : Goes count u v before after) → PreparesAreBehind count u → (n : ℕ) (b : Book) (t : Transaction) (s : Enlistment) (x : Who)
-    → Holds u n b → transaction_at b t.id ≡ Some t → IsIn s t.seats → s.state ≡ states.Preparing → IsPlace count x → s.participant ≡ participant_of x s.kind → HasRegistered u x s.kind
+pub vote_on : (hosts : Hosts) (u v : World) (before after : List Posted) → (g : Goes hosts u v before after) → PreparesAreBehind hosts u → (n : ℕ) (b : Book) (t : Transaction) (s : Enlistment) (x : Who)
+    → Holds u n b → transaction_at b t.id ≡ Some t → IsIn s t.seats → s.state ≡ states.Preparing → IsPlace hosts x → s.participant ≡ participant_of x s.kind → HasRegistered u x s.kind
     → (n ≡ g.number → HasAnswered g.event t s → ⊥) → OwesVote u before (record { node = n; id = t.id }) s.number s.kind x → OwesVote v after (record { node = n; id = t.id }) s.number s.kind x
-vote_on count u v before after g behind n b t s x h found i state place is registered unanswered owed = by_owed owed
+vote_on hosts u v before after g behind n b t s x h found i state place is registered unanswered owed = by_owed owed
   where
     z : Who
     z = record { node = n; id = t.id }
 
     seat : HasSeat u z s.number s.kind x
-    seat = seat_has count u g.small g.reached n b h t s x found i place is
+    seat = seat_has hosts u g.small g.reached n b h t s x found i place is
 
-    there : IsSeatPlace count z s.number
-    there = seat_place count u g.small g.reached n b h t s found i
+    there : IsSeatPlace hosts z s.number
+    there = seat_place hosts u g.small g.reached n b h t s found i
 
     early : suits t.phase s.kind states.Preparing ≡ true
-    early = subst (λ d. suits t.phase s.kind d ≡ true) state (suits_at count u g.reached n b h t s found i)
+    early = subst (λ d. suits t.phase s.kind d ≡ true) state (suits_at hosts u g.reached n b h t s found i)
 
     answered : IsBusyAt v x s.kind ⊎ TellsAnswer (seat_of z s.number s.kind) (posted_in g) → OwesVote v after z s.number s.kind x
     answered (inl busy) = inr (inr busy)
-    answered (inr (m, answers, tells)) = inr (inl (m, answers, seat_told count u v before after g z s.number s.kind m answers there tells))
+    answered (inr (m, answers, tells)) = inr (inl (m, answers, seat_told hosts u v before after g z s.number s.kind m answers there tells))
 
     by_asked : (c : Comes before x.node (IsNoticeFrom (targets.Participant x.id s.kind) notices.Prepare (seat_of z s.number s.kind)))
         → Comes after x.node (IsNoticeFrom (targets.Participant x.id s.kind) notices.Prepare (seat_of z s.number s.kind)) ⊎ ((x.node ≡ g.number) × (g.event ≡ events.Arrived c.arrived))
         → OwesVote v after z s.number s.kind x
     by_asked c (inl stays) = inl stays
-    by_asked c (inr (here, came)) = answered (prepare_arrives count u v before after g x s.kind z s.number c.arrived here came c.says seat registered)
+    by_asked c (inr (here, came)) = answered (prepare_arrives hosts u v before after g x s.kind z s.number c.arrived here came c.says seat registered)
 
     by_heard : (m : Notice) → AnswersSeat m → (c : Comes before n (IsNotice (seat_target_of z s.number s.kind) m))
         → Comes after n (IsNotice (seat_target_of z s.number s.kind) m) ⊎ ((n ≡ g.number) × (g.event ≡ events.Arrived c.arrived)) → OwesVote v after z s.number s.kind x
@@ -240,6 +240,6 @@ vote_on count u v before after g behind n b t s x h found i state place is regis
         absurd (unanswered here (m, answers, record { message = c.arrived; came = came; target = c.says.0; says = c.says.1 }))
 
     by_owed : OwesVote u before z s.number s.kind x → OwesVote v after z s.number s.kind x
-    by_owed (inl c) = by_asked c (or_arrives count u v before after g x.node _ c)
-    by_owed (inr (inl (m, answers, c))) = by_heard m answers c (or_arrives count u v before after g n _ c)
-    by_owed (inr (inr busy)) = answered (busy_on count u v before after g behind x s.kind n b t s.number h found early seat busy)
+    by_owed (inl c) = by_asked c (or_arrives hosts u v before after g x.node _ c)
+    by_owed (inr (inl (m, answers, c))) = by_heard m answers c (or_arrives hosts u v before after g n _ c)
+    by_owed (inr (inr busy)) = answered (busy_on hosts u v before after g behind x s.kind n b t s.number h found early seat busy)

@@ -8,7 +8,7 @@ use Rattle.at_base.specs.declared.message.Message.TheVariants as messages
 use Rattle.at_base.specs.declared.target.Target.TheVariants as targets
 use Rattle.at_model.specs.Book.{Book, Transaction}
 use Rattle.at_model.specs.Step.{transaction_at}
-use Rattle.at_model.specs.World.{Posted, Who, World}
+use Rattle.at_model.specs.World.{Posted, Who, World, Hosts}
 use Rattle.model_laws.specs.Agreement.{IsIn}
 use Rattle.enlistments.specs.Leads.{LeadsTo}
 use Rattle.owed.specs.Asking.{has_asked}
@@ -24,7 +24,7 @@ pub record IsAskedBy (w : World) (x : Who) : Type 0 where
   pub seat : HasSeat w transaction number kinds.Durable x
   pub asked : HasAskedAt w transaction
 
-abbrev pub PreparesAreBehind : ℕ → World → Type 0
-PreparesAreBehind count w =
-    (p : Posted) (to : Epr) (m : ℕ) (i : Numbers) → IsIn p w.posted → p.content.to ≡ Some to → LeadsTo count to m (targets.Participant i kinds.Durable)
+abbrev pub PreparesAreBehind : Hosts → World → Type 0
+PreparesAreBehind hosts w =
+    (p : Posted) (to : Epr) (m : ℕ) (i : Numbers) → IsIn p w.posted → p.content.to ≡ Some to → LeadsTo hosts to m (targets.Participant i kinds.Durable)
     → p.content.message ≡ messages.Notice notices.Prepare → IsAskedBy w (record { node = m; id = i })

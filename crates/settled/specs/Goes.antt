@@ -7,7 +7,7 @@ use Rattle.at_base.specs.declared.event.Event.TheVariants as events
 use Rattle.at_base.specs.declared.outs.Post.{Post}
 use Rattle.at_model.specs.Book.{Book}
 use Rattle.at_model.specs.Step.{step}
-use Rattle.at_model.specs.World.{Node, Posted, World, base_of, decoded, nth, receiver_of}
+use Rattle.at_model.specs.World.{Node, Posted, World, decoded, nth, receiver_of, Hosts, HaveOwnAddresses}
 use Rattle.model_laws.specs.Agreement.{IsIn}
 use Rattle.model_laws.specs.Reached.{Heard, Reached, counts, post_all}
 use Rattle.owed.specs.Seats.{posts_of}
@@ -19,7 +19,7 @@ posted_as n nodes p = record { sender = n; receiver = receiver_of nodes p.to; co
 
 -- this message has arrived
 abbrev pub HasArrived : ℕ → Event → Posted → Type 0
-HasArrived n e q = (q.receiver ≡ Some n) × ((a : Arrived) → decoded (base_of n) q.content ≡ Some a → e ≡ events.Arrived a)
+HasArrived n e q = (q.receiver ≡ Some n) × ((a : Arrived) → decoded (hosts.base_of n) q.content ≡ Some a → e ≡ events.Arrived a)
 
 -- an event that makes nothing
 abbrev pub MakesNone : Event → Type 0
@@ -27,9 +27,9 @@ MakesNone (events.Arrived a) = MakesNothing a.message
 MakesNone (events.Local l) = ⊥
 MakesNone other = Unit {0}
 
-pub record Goes (count : ℕ) (u v : World) (before after : List Posted) : Type 0 where
-  pub small : count < 2 ^ 64
-  pub reached : Reached count u
+pub record Goes (hosts : Hosts) (u v : World) (before after : List Posted) : Type 0 where
+  pub small : HaveOwnAddresses hosts
+  pub reached : Reached hosts u
   pub number : ℕ
   pub node : Node
   pub book : Book

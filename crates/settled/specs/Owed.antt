@@ -18,7 +18,7 @@ use Rattle.at_model.specs.Arrivals.{relates_to}
 use Rattle.at_model.specs.Book.{Book, Enlistment, Leaf, Request, Superior, Transaction, WorkRequest}
 use Rattle.at_model.specs.Seats.{link_of}
 use Rattle.at_model.specs.Step.{leaf_at, transaction_at}
-use Rattle.at_model.specs.World.{Node, Posted, Who, World, base_of, decoded, nth}
+use Rattle.at_model.specs.World.{Node, Posted, Who, World, decoded, nth, Hosts}
 use Rattle.model_laws.specs.Agreement.{IsIn}
 use Rattle.enlistments.specs.Leads.{LeadsTo}
 use Rattle.owed.specs.Leaves.{AnswersRegister}
@@ -38,7 +38,7 @@ pub record Comes (queue : List Posted) (n : ℕ) (P : Arrived → Type 0) : Type
   pub waits : IsIn posted queue
   pub receiver : posted.receiver ≡ Some n
   pub arrived : Arrived
-  pub decodes : decoded (base_of n) posted.content ≡ Some arrived
+  pub decodes : decoded (hosts.base_of n) posted.content ≡ Some arrived
   pub says : P arrived
 
 -- a notification to this target, and from this endpoint
@@ -49,8 +49,8 @@ abbrev pub IsNoticeFrom : Target → Notice → Epr → Arrived → Type 0
 IsNoticeFrom T n e a = IsNotice T n a × (a.from ≡ Some e)
 
 -- a seat that a path can name
-pub record IsSeatPlace (count : ℕ) (t : Who) (number : ℕ) : Type 0 where
-  pub place : IsPlace count t
+pub record IsSeatPlace (hosts : Hosts) (t : Who) (number : ℕ) : Type 0 where
+  pub place : IsPlace hosts t
   pub least : 1 ≤ number
   pub most : number < 2 ^ 16
 
@@ -114,37 +114,37 @@ pub record IsRegisterOf (x : Who) (kind : Kind) (id : Numbers) (a : Arrived) : T
   pub says : a.message ≡ messages.Register register
   pub reply : a.reply ≡ replies.At (participant_of x kind)
   pub fault : a.fault ≡ replies.At (participant_of x kind)
-  pub named : a.id ≡ Some (register_id (base_of x.node) (targets.Participant x.id kind))
+  pub named : a.id ≡ Some (register_id (hosts.base_of x.node) (targets.Participant x.id kind))
 
 pub record IsRegisteredBy (x : Who) (kind : Kind) (a : Arrived) : Type 0 where
   pub target : a.target ≡ targets.Participant x.id kind
-  pub relates : relates_to a.relates (register_id (base_of x.node) (targets.Participant x.id kind)) ≡ true
+  pub relates : relates_to a.relates (register_id (hosts.base_of x.node) (targets.Participant x.id kind)) ≡ true
   pub answers : AnswersRegister a.message
 
 abbrev pub OwesRegistered : List Posted → Who → Kind → ℕ → Numbers → Type 0
 OwesRegistered queue x kind n id = Comes queue n (IsRegisterOf x kind id) ⊎ Comes queue x.node (IsRegisteredBy x kind)
 
 -- All that is owed to the seats and participants of these nodes.
-pub record VotesAreOwed (count : ℕ) (Asked : ℕ → Type 0) (w : World) (queue : List Posted) : Type 0 where
-  pub seats : (n : ℕ) (b : Book) (t : Transaction) (s : Enlistment) (x : Who) → Asked n → Holds w n b → transaction_at b t.id ≡ Some t → IsIn s t.seats → s.state ≡ states.Preparing → IsPlace count x
+pub record VotesAreOwed (hosts : Hosts) (Asked : ℕ → Type 0) (w : World) (queue : List Posted) : Type 0 where
+  pub seats : (n : ℕ) (b : Book) (t : Transaction) (s : Enlistment) (x : Who) → Asked n → Holds w n b → transaction_at b t.id ≡ Some t → IsIn s t.seats → s.state ≡ states.Preparing → IsPlace hosts x
       → s.participant ≡ participant_of x s.kind → OwesVote w queue (record { node = n; id = t.id }) s.number s.kind x
 
-pub record CommitsAreOwed (count : ℕ) (Asked : ℕ → Type 0) (w : World) (queue : List Posted) : Type 0 where
+pub record CommitsAreOwed (hosts : Hosts) (Asked : ℕ → Type 0) (w : World) (queue : List Posted) : Type 0 where
   pub seats : (n : ℕ) (b : Book) (t : Transaction) (s : Enlistment) (x : Who) → Asked n → Holds w n b → transaction_at b t.id ≡ Some t → IsIn s t.seats → s.kind ≡ kinds.Durable
-      → s.state ≡ states.Committing → IsPlace count x → s.participant ≡ participant_of x s.kind → OwesCommitted w queue (record { node = n; id = t.id }) s.number x
+      → s.state ≡ states.Committing → IsPlace hosts x → s.participant ≡ participant_of x s.kind → OwesCommitted w queue (record { node = n; id = t.id }) s.number x
 
-pub record OutcomesAreOwed (count : ℕ) (Asked : ℕ → Type 0) (w : World) (queue : List Posted) : Type 0 where
+pub record OutcomesAreOwed (hosts : Hosts) (Asked : ℕ → Type 0) (w : World) (queue : List Posted) : Type 0 where
   pub links : (n : ℕ) (b : Book) (t : Transaction) (s : Superior) (z : Who) (number : ℕ) → Asked n → Holds w n b → transaction_at b t.id ≡ Some t → t.superior ≡ Some s
-      → s.durable.state ≡ states.PreparedSuccess → IsSeatPlace count z number → s.durable.coordinator ≡ Some (seat_of z number kinds.Durable) → OwesOutcome w queue (record { node = n; id = t.id }) z number
-  pub leaves : (n : ℕ) (b : Book) (l : Leaf) (z : Who) (number : ℕ) → Asked n → Holds w n b → leaf_at b l.id ≡ Some l → l.kind ≡ kinds.Durable → l.state ≡ states.PreparedSuccess → IsSeatPlace count z number
+      → s.durable.state ≡ states.PreparedSuccess → IsSeatPlace hosts z number → s.durable.coordinator ≡ Some (seat_of z number kinds.Durable) → OwesOutcome w queue (record { node = n; id = t.id }) z number
+  pub leaves : (n : ℕ) (b : Book) (l : Leaf) (z : Who) (number : ℕ) → Asked n → Holds w n b → leaf_at b l.id ≡ Some l → l.kind ≡ kinds.Durable → l.state ≡ states.PreparedSuccess → IsSeatPlace hosts z number
       → l.coordinator ≡ Some (seat_of z number kinds.Durable) → OwesOutcome w queue (record { node = n; id = l.id }) z number
 
-pub record RegistrationsAreOwed (count : ℕ) (Asked : ℕ → Type 0) (w : World) (queue : List Posted) : Type 0 where
+pub record RegistrationsAreOwed (hosts : Hosts) (Asked : ℕ → Type 0) (w : World) (queue : List Posted) : Type 0 where
   pub links : (n : ℕ) (b : Book) (t : Transaction) (s : Superior) (kind : Kind) (r : Request) (m : ℕ) (id : Numbers) → Asked n → Holds w n b → transaction_at b t.id ≡ Some t → t.superior ≡ Some s
-      → (link_of kind s).state ≡ states.Registering → s.request ≡ Some r → LeadsTo count r.registration m (targets.Registration id)
+      → (link_of kind s).state ≡ states.Registering → s.request ≡ Some r → LeadsTo hosts r.registration m (targets.Registration id)
       → OwesRegistered queue (record { node = n; id = t.id }) kind m id
   pub leaves : (n : ℕ) (b : Book) (l : Leaf) (r : WorkRequest) (m : ℕ) (id : Numbers) → Asked n → Holds w n b → leaf_at b l.id ≡ Some l → l.state ≡ states.Registering → l.request ≡ Some r
-      → LeadsTo count r.registration m (targets.Registration id) → OwesRegistered queue (record { node = n; id = l.id }) l.kind m id
+      → LeadsTo hosts r.registration m (targets.Registration id) → OwesRegistered queue (record { node = n; id = l.id }) l.kind m id
 
 -- nobody that has a seat registers
 pub record HasRegistered (w : World) (x : Who) (kind : Kind) : Type 0 where

@@ -15,7 +15,7 @@ use Rattle.at_model.specs.Posts.{accepted}
 use Rattle.at_model.specs.Recover.{last_incarnation}
 use Rattle.at_model.specs.Register.{on_register}
 use Rattle.at_model.specs.Step.{Outcome, Plan, at_time, is_due, items_of, make_activity, make_leaf, make_transaction, moment_of, plan, put_activity, put_leaf, put_transaction, registration_outcome, still, time_of}
-use Rattle.at_model.specs.World.{Ask, Crash, Deliver, Input, Node, Posted, Raw, Tick, Turn, Turning, Up, World, WorldEvent, absent_step, accepted_in, after_fate, answer_plan, arrival_plan, ask, at_node, at_some_node, counted, decoded, deliver, down_only, due_step, due_steps, fate, goes_down, happened_at, is_receiver, is_stopped, landed_step, later, lost_in, new_nodes, node_of, nth, on_book, opening, put_book, put_nth, run_of, run_on, send_all, sent, start, started, step_by, take_step, take_turn, ticked, turn, turn_from, turned, up_after, with_record, world_step}
+use Rattle.at_model.specs.World.{Ask, Crash, Deliver, Input, Node, Posted, Raw, Tick, Turn, Turning, Up, World, WorldEvent, absent_step, accepted_in, after_fate, answer_plan, arrival_plan, ask, at_node, at_some_node, counted, decoded, deliver, down_only, due_step, due_steps, fate, goes_down, happened_at, is_receiver, is_stopped, landed_step, later, lost_in, new_nodes, node_of, nth, on_book, opening, put_book, put_nth, run_of, run_on, send_all, sent, start, started, step_by, take_step, take_turn, ticked, turn, turn_from, turned, up_after, with_record, world_step, Hosts}
 use Rattle.model_laws.specs.Shapes.{Shape, activity_made, activity_moves, leaf_made, leaf_moves, nothing_moves, time_moves, time_passes, transaction_made, transaction_moves, transaction_registers}
 use Rattle.model_laws.proofs.Deciding.{Both, IfThere, decision_both, plain_both}
 use Rattle.model_laws.proofs.Running.{put_this}
@@ -256,5 +256,5 @@ new_timed : (k n : ℕ) → AllByRecursion IsTimed (new_nodes k n)
 new_timed zero n = tt
 new_timed (suc k) n = (tt, new_timed k (n + 1))
 
-pub run_timed : (count : ℕ) (es : List WorldEvent) → AreTimed (run_of count es)
-run_timed count es = all_timed es (opening count) (new_timed count 1)
+pub run_timed : (hosts : Hosts) (es : List WorldEvent) → AreTimed (run_of hosts es)
+run_timed hosts es = all_timed es (opening hosts) (new_timed hosts 1)

@@ -15,7 +15,7 @@ use Rattle.at_model.specs.Posts.{accepted}
 use Rattle.at_model.specs.Recover.{live, recover, transactions_of}
 use Rattle.at_model.specs.Register.{Registration, on_register}
 use Rattle.at_model.specs.Step.{Outcome, Plan, at_time, make_activity, make_leaf, make_transaction, moment_of, plan, put_activity, put_leaf, put_transaction, registration_outcome, step, still}
-use Rattle.at_model.specs.World.{Node, Posted, World, nth}
+use Rattle.at_model.specs.World.{Node, Posted, World, nth, Hosts}
 use Rattle.model_laws.specs.Behind.{IsInPhase}
 use Rattle.model_laws.specs.Drawn.{restarted}
 use Rattle.model_laws.specs.Reached.{Reached}
@@ -99,19 +99,19 @@ joined_law = record {
   rises = λ base rs small h. record { phases = decides_behind_every_answer.recovered base (restarted rs); joined = recovered_joined base (restarted rs) };
 }
 
-pub books_joined : (count : ℕ) (w : World) → Reached count w → (n : ℕ) (x : Node) (b : Book) → nth n w.nodes ≡ Some x → x.book ≡ Some b → AreJoined b
+pub books_joined : (hosts : Hosts) (w : World) → Reached hosts w → (n : ℕ) (x : Node) (b : Book) → nth n w.nodes ≡ Some x → x.book ≡ Some b → AreJoined b
 unfolding joined_law
-books_joined count w reached n x b found up = (subst (IfThere JoinsWell) up (nodes_hold joined_law count w reached n x found)).joined
+books_joined hosts w reached n x b found up = (subst (IfThere JoinsWell) up (nodes_hold joined_law hosts w reached n x found)).joined
 
 -- an endpoint leads somewhere
-pub record Leads (count : ℕ) (c : Epr) : Type 0 where
+pub record Leads (hosts : Hosts) (c : Epr) : Type 0 where
   pub node : ℕ
   pub target : Target
-  pub leads : LeadsTo count c node target
+  pub leads : LeadsTo hosts c node target
 
-abbrev pub LeadsIfKnown : ℕ → Option Epr → Type 0
-LeadsIfKnown count None = Unit {0}
-LeadsIfKnown count (Some c) = Leads count c
+abbrev pub LeadsIfKnown : Hosts → Option Epr → Type 0
+LeadsIfKnown hosts None = Unit {0}
+LeadsIfKnown hosts (Some c) = Leads hosts c
 
-abbrev pub AnswerLeads : ℕ → Posted → Type 0
-AnswerLeads count p = (c : Epr) → p.content.message ≡ messages.RegisterResponse c → Leads count c
+abbrev pub AnswerLeads : Hosts → Posted → Type 0
+AnswerLeads hosts p = (c : Epr) → p.content.message ≡ messages.RegisterResponse c → Leads hosts c

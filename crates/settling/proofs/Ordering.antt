@@ -21,7 +21,7 @@ use Rattle.at_model.specs.Recover.{recovered_seat, recovered_voted}
 use Rattle.at_model.specs.Register.{accepts}
 use Rattle.at_model.specs.Seats.{is_prepared_durable, prepared, seated}
 use Rattle.at_model.specs.Step.{moment_of, plan, step, transaction_at}
-use Rattle.at_model.specs.World.{Accepted, Node, Who, World, accepted_seat, nth, run_of}
+use Rattle.at_model.specs.World.{Accepted, Node, Who, World, accepted_seat, nth, run_of, Hosts, HaveOwnAddresses}
 use Rattle.model_laws.specs.Agreement.{IsIn}
 use Rattle.model_laws.specs.Grows.{Grows}
 use Rattle.model_laws.specs.Reached.{Reached, counts}
@@ -160,43 +160,43 @@ coordinated t (Some s) e u a h = by_link (some_known s.volatile.coordinator s.du
     by_link (inl (c, k)) = record { kind = kinds.Volatile; coordinator = c; known = ap (coordinator_at kinds.Volatile) e ∙ k }
     by_link (inr (c, k)) = record { kind = kinds.Durable; coordinator = c; known = ap (coordinator_at kinds.Durable) e ∙ k }
 
-first_participant : (count : ℕ) (u : World) (n : ℕ) (x : Node) (b : Book) (t : Transaction) → count < 2 ^ 64 → Reached count u → nth n u.nodes ≡ Some x → x.book ≡ Some b
+first_participant : (hosts : Hosts) (u : World) (n : ℕ) (x : Node) (b : Book) (t : Transaction) → HaveOwnAddresses hosts → Reached hosts u → nth n u.nodes ≡ Some x → x.book ≡ Some b
     → transaction_at b t.id ≡ Some t → accepts t.phase ≡ true → is_none t.superior ≡ false → t.seats ≡ [] → RegistersFirst u (record { node = n; id = t.id })
-first_participant count u n x b t small reached found up there takes under none =
+first_participant hosts u n x b t small reached found up there takes under none =
     let me : Who = record { node = n; id = t.id } in
     let c : Coordinated t =
-    coordinated t t.superior refl under takes (all_find (λ y. JoinsFirst y.phase y.superior) transaction_id t.id b.transactions t (books_joined count u reached n x b found up) there) in
-    let l : Leads count c.coordinator =
-    subst (LeadsIfKnown count) c.known (all_find (CoordinatorsLead count) transaction_id t.id b.transactions t (coordinators_lead count u small reached n x b found up) there c.kind) in
-    let knows : TransactionKnows count u n t = all_find (TransactionKnows count u n) transaction_id t.id b.transactions t (books_know count u small reached n x b found up).transactions there in
-    let enlists : Enlists count u c.coordinator me c.kind = subst (λ o. EnlistsIfKnown count u o me c.kind) c.known (knows c.kind) in
+    coordinated t t.superior refl under takes (all_find (λ y. JoinsFirst y.phase y.superior) transaction_id t.id b.transactions t (books_joined hosts u reached n x b found up) there) in
+    let l : Leads hosts c.coordinator =
+    subst (LeadsIfKnown hosts) c.known (all_find (CoordinatorsLead hosts) transaction_id t.id b.transactions t (coordinators_lead hosts u small reached n x b found up) there c.kind) in
+    let knows : TransactionKnows hosts u n t = all_find (TransactionKnows hosts u n) transaction_id t.id b.transactions t (books_know hosts u small reached n x b found up).transactions there in
+    let enlists : Enlists hosts u c.coordinator me c.kind = subst (λ o. EnlistsIfKnown hosts u o me c.kind) c.known (knows c.kind) in
     let (id, number, at, registered) = enlists l.node l.target l.leads in
-    let each : SeatsEach u n t = (seats_are_registered.reached count u small reached).complete n x b t found up (found_in transaction_id t.id b.transactions t there) (undecided t.phase takes) in
+    let each : SeatsEach u n t = (seats_are_registered.reached hosts u small reached).complete n x b t found up (found_in transaction_id t.id b.transactions t there) (undecided t.phase takes) in
     let nobody : (a : Accepted) → IsIn a u.accepted → IsSeatOf me a → ⊥ = λ a i of. subst (λ seats. IsIn a (map (accepted_seat n u.nodes t.id) seats)) none (each a of.0 i of.2 of.1) in
     let seat : Seat = record { number = number; kind = c.kind } in
     let r : Accepted = record { transaction = record { node = l.node; id = id }; seat = Some seat; participant = Some me } in
     let (front, back, is, all) = in_split (λ a. IsSeatOf me a → ⊥) r u.accepted registered (all_from_in (λ a. IsSeatOf me a → ⊥) u.accepted nobody) in
     record { front = front; registration = r; back = back; stands = is; own = refl; seat = seat; taken = refl; none_before = all; none_here = nobody r registered }
 
-enrolled_order : (count : ℕ) (u : World) (n : ℕ) (x : Node) (b : Book) (e : Event) (now : ℕ) (landed : Bool) → Stepping count u n x b e now landed
+enrolled_order : (hosts : Hosts) (u : World) (n : ℕ) (x : Node) (b : Book) (e : Event) (now : ℕ) (landed : Bool) → Stepping hosts u n x b e now landed
     → (d : Registered b e now (standing landed (plan b e now).entry) (step b e now landed)) → Enrolls (moment_of b now) d.arrived d.request d.old d.gives → OrderOf u n d.old
     → OrderOf (counts u n x b e now landed) n d.gives.transaction
-enrolled_order count u n x b e now landed s d (takes_seat kind protocol may is) h =
+enrolled_order hosts u n x b e now landed s d (takes_seat kind protocol may is) h =
     subst (λ g. OrderOf (counts u n x b e now landed) n g.transaction) (sym is)
     (λ under seats. first_on u (counts u n x b e now landed) (grows_counts u n x b e now landed s.found) (record { node = n; id = d.old.id }) (by_seats under d.old.seats refl))
   where
     by_seats : is_none d.old.superior ≡ false → (seats : List Enlistment) → d.old.seats ≡ seats → RegistersFirst u (record { node = n; id = d.old.id })
     by_seats under [] none =
-        first_participant count u n x b d.old s.small s.reached s.found s.up d.found
+        first_participant hosts u n x b d.old s.small s.reached s.found s.up d.found
         (first_true (accepts d.old.phase) _ (first_true (accepts d.old.phase && nat_lt (length d.old.seats) MOST_SEATS) _ may)) under none
     by_seats under (y ∷ ys) some = h under (subst HasSome (sym some) tt)
-enrolled_order count u n x b e now landed s d (takes_completion protocol may is) h =
+enrolled_order hosts u n x b e now landed s d (takes_completion protocol may is) h =
     subst (λ g. OrderOf (counts u n x b e now landed) n g.transaction) (sym is) (λ under seats. first_on u (counts u n x b e now landed) (grows_counts u n x b e now landed s.found) (record { node = n; id = d.old.id }) (h under seats))
-enrolled_order count u n x b e now landed s d (has_seat kind q protocol there k who is) h =
+enrolled_order hosts u n x b e now landed s d (has_seat kind q protocol there k who is) h =
     subst (λ g. OrderOf (counts u n x b e now landed) n g.transaction) (sym is) (λ under seats. first_on u (counts u n x b e now landed) (grows_counts u n x b e now landed s.found) (record { node = n; id = d.old.id }) (h under seats))
-enrolled_order count u n x b e now landed s d (has_completion c protocol there who is) h =
+enrolled_order hosts u n x b e now landed s d (has_completion c protocol there who is) h =
     subst (λ g. OrderOf (counts u n x b e now landed) n g.transaction) (sym is) (λ under seats. first_on u (counts u n x b e now landed) (grows_counts u n x b e now landed s.found) (record { node = n; id = d.old.id }) (h under seats))
-enrolled_order count u n x b e now landed s d (refuses name is) h =
+enrolled_order hosts u n x b e now landed s d (refuses name is) h =
     subst (λ g. OrderOf (counts u n x b e now landed) n g.transaction) (sym is) (λ under seats. first_on u (counts u n x b e now landed) (grows_counts u n x b e now landed s.found) (record { node = n; id = d.old.id }) (h under seats))
 
 record_on : (u w : World) → Grows u w → (n : ℕ) (r : Record) → RecordOrder u n r → RecordOrder w n r
@@ -208,8 +208,8 @@ voted_order : (w : World) (n : ℕ) (id : Numbers) (superior : Epr) (seats : Lis
 voted_order w n id superior seats true h = λ under some. h (some_map (recovered_seat states.Committing) seats some)
 voted_order w n id superior seats false h = λ under some. h (some_map (recovered_seat states.Prepared) seats some)
 
-ordering : (count : ℕ) → NodesLaw count
-ordering count = record {
+ordering : (hosts : Hosts) → NodesLaw hosts
+ordering hosts = record {
   OfTransaction = OrderOf;
   OfLeaf = λ w n l. Unit {0};
   OfActivity = λ w n a. Unit {0};
@@ -226,7 +226,7 @@ ordering count = record {
       );
   leaf_does = λ u n x b e now landed s d h. (any_unit d.change.item, leaf_records (counts u n x b e now landed) n (moment_of b now) e d.old _ d.change d.deed);
   activity_does = λ u n x b e now landed s d h. any_unit d.change.item;
-  enrolls = λ u n x b e now landed s d h. enrolled_order count u n x b e now landed s d d.enrolls h;
+  enrolls = λ u n x b e now landed s d h. enrolled_order hosts u n x b e now landed s d d.enrolls h;
   makes = λ u n x b e now landed s d under some. absurd (subst HasSome (made_fresh b e now _ _ d).seats some);
   makes_leaf = λ u n x b e now landed s d. tt;
   makes_activity = λ u n x b e now landed s d. tt;
@@ -260,10 +260,10 @@ ordering count = record {
     leaf_records w n m e l entry c (commits to came state knows is item effects sent) = of_kind w n l.kind _ entry is tt
     leaf_records w n m e l entry c (rolls_back to came state knows is item effects sent) = of_kind w n l.kind _ entry is tt
 
-pub register_first : (count : ℕ) (w : World) → count < 2 ^ 64 → Reached count w → (n : ℕ) (x : Node) (b : Book) (t : Transaction) → nth n w.nodes ≡ Some x → x.book ≡ Some b
+pub register_first : (hosts : Hosts) (w : World) → HaveOwnAddresses hosts → Reached hosts w → (n : ℕ) (x : Node) (b : Book) (t : Transaction) → nth n w.nodes ≡ Some x → x.book ≡ Some b
     → IsIn t b.transactions → OrderOf w n t
 unfolding ordering
-register_first count w small reached n x b t found up i = one_of (OrderOf w n) b.transactions t (books_have count small (ordering count) w reached n x b found up).transactions i
+register_first hosts w small reached n x b t found up i = one_of (OrderOf w n) b.transactions t (books_have hosts small (ordering hosts) w reached n x b found up).transactions i
 
 -- the first of two places
 first_place : {A : Type 0} (P : A → Type 0) (f g : List A) (r s : A) (b d : List A) → f ++ r ∷ b ≡ g ++ s ∷ d → AllByRecursion (λ a. P a → ⊥) f → (P r → ⊥) → P s → length f < length g
@@ -279,18 +279,18 @@ in_middle : {A : Type 0} (front : List A) (x : A) (back : List A) → IsIn x (fr
 in_middle [] x back = inl refl
 in_middle (y ∷ front) x back = inr (in_middle front x back)
 
-later_place : (count : ℕ) (es : List WorldEvent) (t x : Who) (s : Seat) (first : RegistersFirst (run_of count es) t) (second : RegistersFirst (run_of count es) x) → count < 2 ^ 64
-    → IsAccepted (run_of count es) t (Some s) x → length first.front < length second.front
-later_place count es t x s first second small there =
+later_place : (hosts : Hosts) (es : List WorldEvent) (t x : Who) (s : Seat) (first : RegistersFirst (run_of hosts es) t) (second : RegistersFirst (run_of hosts es) x) → HaveOwnAddresses hosts
+    → IsAccepted (run_of hosts es) t (Some s) x → length first.front < length second.front
+later_place hosts es t x s first second small there =
     let r : Accepted = second.registration in
-    let in_all : IsIn r (run_of count es).accepted = subst (IsIn r) (sym second.stands) (in_middle second.front r second.back) in
+    let in_all : IsIn r (run_of hosts es).accepted = subst (IsIn r) (sym second.stands) (in_middle second.front r second.back) in
     let same : r ≡ record { transaction = r.transaction; seat = r.seat; participant = Some x } = λ i. record { transaction = r.transaction; seat = r.seat; participant = second.own i } in
-    let own : IsAccepted (run_of count es) r.transaction r.seat x = subst (λ a. IsIn a (run_of count es).accepted) same in_all in
-    let one : r.transaction ≡ t = enlists_under_one count es small x r.transaction t r.seat (Some s) own there in
+    let own : IsAccepted (run_of hosts es) r.transaction r.seat x = subst (λ a. IsIn a (run_of hosts es).accepted) same in_all in
+    let one : r.transaction ≡ t = enlists_under_one hosts es small x r.transaction t r.seat (Some s) own there in
     first_place (IsSeatOf t) first.front second.front first.registration r first.back second.back (sym first.stands ∙ second.stands) first.none_before first.none_here (second.seat, second.taken, one)
 
 pub subordinates_register_first : SubordinatesRegisterFirst
 subordinates_register_first = record {
-  runs = λ count es n x b t small found up i under some. register_first count (run_of count es) small (run_reached count es) n x b t found up i under some;
+  runs = λ hosts es n x b t small found up i under some. register_first hosts (run_of hosts es) small (run_reached hosts es) n x b t found up i under some;
   later = later_place;
 }

@@ -17,7 +17,7 @@ use Rattle.at_model.specs.Posts.{accepted}
 use Rattle.at_model.specs.Recover.{leaves_of, live, transactions_of}
 use Rattle.at_model.specs.Register.{Registration, is_late, on_register}
 use Rattle.at_model.specs.Step.{Outcome, Plan, at_time, make_activity, make_leaf, make_transaction, moment_of, plan, put_activity, put_leaf, put_transaction, registration_outcome, still, step, time_of}
-use Rattle.at_model.specs.World.{Node, World, nth}
+use Rattle.at_model.specs.World.{Node, World, nth, Hosts}
 use Rattle.model_laws.specs.Drawn.{restarted}
 use Rattle.model_laws.specs.Shapes.{MovesTransaction, Shape, activity_made, activity_moves, at_completion, at_link, at_seat, leaf_made, leaf_moves, nothing_moves, time_moves, time_passes, transaction_made, transaction_moves, transaction_registers, when_due}
 use Rattle.at_base.specs.declared.epr.Reply.{Reply}
@@ -227,8 +227,8 @@ timely_law = record {
   };
 }
 
-pub books_timely : (count : ℕ) (w : World) → Reached count w → (n : ℕ) (x : Node) (b : Book) → nth n w.nodes ≡ Some x → x.book ≡ Some b → SentBy b.seen b
+pub books_timely : (hosts : Hosts) (w : World) → Reached hosts w → (n : ℕ) (x : Node) (b : Book) → nth n w.nodes ≡ Some x → x.book ≡ Some b → SentBy b.seen b
 unfolding timely_law LeafIn
-books_timely count w reached n x b found up =
-    let h : IsTimely b = subst (IfThere IsTimely) up (nodes_hold timely_law count w reached n x found) in
+books_timely hosts w reached n x b found up =
+    let h : IsTimely b = subst (IfThere IsTimely) up (nodes_hold timely_law hosts w reached n x found) in
     record { transactions = h.transactions.sent; leaves = h.leaves.sent }

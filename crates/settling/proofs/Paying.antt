@@ -30,7 +30,7 @@ use Rattle.model_laws.proofs.Standing.{decides_behind_every_answer}
 use Rattle.model_laws.specs.Reached.{Reached}
 use Rattle.agreement.proofs.Finishing.{finishes_all}
 use Rattle.agreement.proofs.SeatedBooks.{IsSoundBook, book_sound}
-use Rattle.at_model.specs.World.{Node, World, nth, run_of}
+use Rattle.at_model.specs.World.{Node, World, nth, run_of, Hosts}
 use Rattle.agreement.specs.Finished.{IsFinished}
 use Rattle.settling.specs.Load.{Prices, activity_load, items_load, leaf_load, load, posts_in, transaction_load, weight, weights}
 use Rattle.settling.specs.Pays.{IsSteady, MakesNothing, Pays, after}
@@ -241,13 +241,13 @@ step_within P b e now landed g h = in_branch (Within P now (load P now b + allow
 pub stays_steady : (b : Book) (e : Event) (now : ℕ) (landed : Bool) → IsSteady b → IsSteady (step b e now landed).book
 stays_steady b e now landed g = record { order = ids_rise.stays b e now landed g.order; phases = decides_behind_every_answer.book b e now landed g.phases; finished = finishes_all.book b e now landed g.phases g.finished }
 
-pub steady_books : (count : ℕ) (w : World) → Reached count w → (n : ℕ) (x : Node) (b : Book) → nth n w.nodes ≡ Some x → x.book ≡ Some b → IsSteady b
-steady_books count w reached n x b found up = let sound : IsSoundBook x.journal b = book_sound count w reached n x b found up in record { order = sound.order; phases = sound.phases; finished = sound.finished }
+pub steady_books : (hosts : Hosts) (w : World) → Reached hosts w → (n : ℕ) (x : Node) (b : Book) → nth n w.nodes ≡ Some x → x.book ≡ Some b → IsSteady b
+steady_books hosts w reached n x b found up = let sound : IsSoundBook x.journal b = book_sound hosts w reached n x b found up in record { order = sound.order; phases = sound.phases; finished = sound.finished }
 
 pub pays : Pays
 pays = record {
   arrival = λ P b a now landed g h. omega (arith, (step_within P b (events.Arrived a) now landed g h).paid, allowance_less P a.message h);
   due = λ P b item now landed g. omega (arith, (step_within P b (events.Due item) now landed g tt).paid);
   stays = stays_steady;
-  books = λ count es n x b found up. steady_books count (run_of count es) (run_reached count es) n x b found up;
+  books = λ hosts es n x b found up. steady_books hosts (run_of hosts es) (run_reached hosts es) n x b found up;
 }

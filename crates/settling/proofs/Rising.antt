@@ -12,7 +12,7 @@ use Rattle.at_model.specs.Book.{Book, last_counter}
 use Rattle.at_model.specs.Due.{resend_after}
 use Rattle.at_model.specs.Recover.{incarnation_of, last_incarnation}
 use Rattle.at_model.specs.Step.{Plan, plan, step}
-use Rattle.at_model.specs.World.{Deliver, Node, Posted, Tick, Turn, Up, World, WorldEvent, answer_plan, arrival_plan, at_some_node, decoded, deliver, down_only, is_receiver, later, nth, on_book, put_nth, run_of, start, started, take_turn, ticked, turn, turn_from, up_after, world_step}
+use Rattle.at_model.specs.World.{Deliver, Node, Posted, Tick, Turn, Up, World, WorldEvent, answer_plan, arrival_plan, at_some_node, decoded, deliver, down_only, is_receiver, later, nth, on_book, put_nth, run_of, start, started, take_turn, ticked, turn, turn_from, up_after, world_step, Hosts}
 use Rattle.model_laws.specs.Drawn.{HoldsDrawn, IsDrawnRecord, restarted, with_entry}
 use Rattle.model_laws.specs.Laws.{IsDrawn}
 use Rattle.model_laws.specs.Settle.{MayStart, Settling, all_also, also, deliver_next, deliveries_from, settle_round, settle_rounds, ticks, up_if, ups}
@@ -88,9 +88,9 @@ counting_law = record {
     same : (n : ℕ) → n ≤ n
     same n = omega arith
 
-incarnations_counted : (count : ℕ) (w : World) → IsOfRun count w → (n : ℕ) (x : Node) → nth n w.nodes ≡ Some x → last_incarnation x.journal ≤ last_counter
+incarnations_counted : (hosts : Hosts) (w : World) → IsOfRun hosts w → (n : ℕ) (x : Node) → nth n w.nodes ≡ Some x → last_incarnation x.journal ≤ last_counter
 unfolding counting_law
-incarnations_counted count w r n x found = (nodes_hold counting_law count w (run_is count w r) n x found).most
+incarnations_counted hosts w r n x found = (nodes_hold counting_law hosts w (run_is hosts w r) n x found).most
 
 -- what a turn does to the nodes: nothing, or one of them is up
 data KeepsUp (w v : World) : Type 0 where
@@ -108,12 +108,12 @@ turn_keeps n now w x b p found clock steady stays =
     turn_ends no_prices n now more (load no_prices now b + more) w x b p found clock steady stays (omega arith) (omega arith) in
     one_up n t.node (ap (λ o. is_none o) t.up) t.nodes
 
-delivery_keeps : (count n k : ℕ) (w : World) → IsOfRun count w → KeepsUp w (world_step w (Turn n (Deliver k) [] None))
+delivery_keeps : (hosts : Hosts) (n k : ℕ) (w : World) → IsOfRun hosts w → KeepsUp w (world_step w (Turn n (Deliver k) [] None))
 unfolding world_step
-delivery_keeps count n k w r = by_node (nth n w.nodes) refl
+delivery_keeps hosts n k w r = by_node (nth n w.nodes) refl
   where
     good : (x : Node) (b : Book) → nth n w.nodes ≡ Some x → x.book ≡ Some b → IsSteady b
-    good x b found up = subst (IfThere IsSteady) up (all_nth IsSteadyNode n x w.nodes (run_steady count w r) found)
+    good x b found up = subst (IfThere IsSteady) up (all_nth IsSteadyNode n x w.nodes (run_steady hosts w r) found)
 
     by_decoded : (x : Node) (b : Book) (o : Option Arrived) → nth n w.nodes ≡ Some x → x.book ≡ Some b → KeepsUp w (take_turn n x.clock (arrival_plan b x.clock o) (turn_from w b [] None))
     by_decoded x b None found up = turn_keeps n x.clock w x b (answer_plan b 500) found refl (good x b found up) (good x b found up)
@@ -137,16 +137,16 @@ delivery_keeps count n k w r = by_node (nth n w.nodes) refl
     by_node None found = as_it_was refl
     by_node (Some x) found = by_book x x.book found refl
 
-tick_up : (count n ms : ℕ) (w : World) → IsOfRun count w → AllUp w → AllUp (world_step w (Turn n (Tick ms) [] None))
+tick_up : (hosts : Hosts) (n ms : ℕ) (w : World) → IsOfRun hosts w → AllUp w → AllUp (world_step w (Turn n (Tick ms) [] None))
 unfolding world_step
-tick_up count n ms w r h = by_node (nth n w.nodes) refl
+tick_up hosts n ms w r h = by_node (nth n w.nodes) refl
   where
     by_book : (x : Node) (o : Option Book) → nth n w.nodes ≡ Some x → x.book ≡ o → AllUp (on_book o (λ b. turn n (Tick ms) [] None x b w) w)
     by_book x None found up = h
     by_book x (Some b) found up =
         let y : Node = later ms x in
         let now : ℕ = x.clock + ms in
-        let good : IsSteady b = subst (IfThere IsSteady) up (all_nth IsSteadyNode n x w.nodes (run_steady count w r) found) in
+        let good : IsSteady b = subst (IfThere IsSteady) up (all_nth IsSteadyNode n x w.nodes (run_steady hosts w r) found) in
         kept_up (ticked n y w) (take_turn n now (plan b events.Tick now) (turn_from (ticked n y w) b [] None))
         (turn_keeps n now (ticked n y w) y b (plan b events.Tick now) (put_this w.nodes n x y found) refl good (stays_steady b events.Tick now true good))
         (all_put_nth IsUp n y w.nodes (ap (λ o. is_none o) up) h)
@@ -156,36 +156,36 @@ tick_up count n ms w r h = by_node (nth n w.nodes) refl
     by_node (Some x) found = by_book x x.book found refl
 
 -- rounds
-ticks_up : (count n : ℕ) (xs : List Node) (s : Settling) → IsOfRun count s.world → AllUp s.world → AllUp (all_also (ticks n xs) s).world
-ticks_up count n [] s r h = h
-ticks_up count n (x ∷ xs) s r h =
+ticks_up : (hosts : Hosts) (n : ℕ) (xs : List Node) (s : Settling) → IsOfRun hosts s.world → AllUp s.world → AllUp (all_also (ticks n xs) s).world
+ticks_up hosts n [] s r h = h
+ticks_up hosts n (x ∷ xs) s r h =
     let e : WorldEvent = Turn n (Tick resend_after) [] None in
-    ticks_up count (n + 1) xs (also e s) (further_run count s.world e r) (tick_up count n resend_after s.world r h)
+    ticks_up hosts (n + 1) xs (also e s) (further_run hosts s.world e r) (tick_up hosts n resend_after s.world r h)
 
-deliveries_up : (count most j : ℕ) (s : Settling) → IsOfRun count s.world → AllUp s.world → AllUp (deliveries_from most j s).world
+deliveries_up : (hosts : Hosts) (most j : ℕ) (s : Settling) → IsOfRun hosts s.world → AllUp s.world → AllUp (deliveries_from most j s).world
 unfolding deliveries_from
-deliveries_up count zero j s r h = h
-deliveries_up count (suc most) j s r h = by_next (next j s.world) (λ p t i k. deliveries_up count most p t i k)
+deliveries_up hosts zero j s r h = h
+deliveries_up hosts (suc most) j s r h = by_next (next j s.world) (λ p t i k. deliveries_up hosts most p t i k)
   where
-    by_next : (o : Option (ℕ × ℕ)) → ((p : ℕ) (t : Settling) → IsOfRun count t.world → AllUp t.world → AllUp (deliveries_from most p t).world) → AllUp (deliver_next o (deliveries_from most) s).world
+    by_next : (o : Option (ℕ × ℕ)) → ((p : ℕ) (t : Settling) → IsOfRun hosts t.world → AllUp t.world → AllUp (deliveries_from most p t).world) → AllUp (deliver_next o (deliveries_from most) s).world
     by_next None rest = h
     by_next (Some (k, n)) rest =
         let e : WorldEvent = Turn n (Deliver k) [] None in
-        rest k (also e s) (further_run count s.world e r) (kept_up s.world (world_step s.world e) (delivery_keeps count n k s.world r) h)
+        rest k (also e s) (further_run hosts s.world e r) (kept_up s.world (world_step s.world e) (delivery_keeps hosts n k s.world r) h)
 
-round_up : (count most : ℕ) (s : Settling) → IsOfRun count s.world → AllUp s.world → AllUp (settle_round most s).world
+round_up : (hosts : Hosts) (most : ℕ) (s : Settling) → IsOfRun hosts s.world → AllUp s.world → AllUp (settle_round most s).world
 unfolding settle_round
-round_up count most s r h =
-    deliveries_up count most (length s.world.posted) (all_also (ticks 1 s.world.nodes) s) (all_further count (ticks 1 s.world.nodes) s r) (ticks_up count 1 s.world.nodes s r h)
+round_up hosts most s r h =
+    deliveries_up hosts most (length s.world.posted) (all_also (ticks 1 s.world.nodes) s) (all_further hosts (ticks 1 s.world.nodes) s r) (ticks_up hosts 1 s.world.nodes s r h)
 
-rounds_up : (count most n : ℕ) (s : Settling) → IsOfRun count s.world → AllUp s.world → AllUp (settle_rounds n most s).world
+rounds_up : (hosts : Hosts) (most n : ℕ) (s : Settling) → IsOfRun hosts s.world → AllUp s.world → AllUp (settle_rounds n most s).world
 unfolding settle_rounds
-rounds_up count most zero s r h = h
-rounds_up count most (suc n) s r h = rounds_up count most n (settle_round most s) (round_run count most s r) (round_up count most s r h)
+rounds_up hosts most zero s r h = h
+rounds_up hosts most (suc n) s r h = rounds_up hosts most n (settle_round most s) (round_run hosts most s r) (round_up hosts most s r h)
 
 -- Up for each node that is down: the first nodes are up, and the others are as they were
-record Rising (count u : ℕ) (xs : List Node) (w : World) : Type 0 where
-  run : IsOfRun count w
+record Rising (hosts : Hosts) (u : ℕ) (xs : List Node) (w : World) : Type 0 where
+  run : IsOfRun hosts w
   size : u + length xs ≡ length w.nodes
   done : (i : ℕ) (x : Node) → i ≤ u → nth i w.nodes ≡ Some x → IsUp x
   rest : (i : ℕ) (x : Node) → nth i xs ≡ Some x → nth (u + i) w.nodes ≡ Some x
@@ -197,12 +197,12 @@ may_start n h k = by_test (nat_le last_counter n) refl
     by_test true e = let above : last_counter ≤ n = leb-true last_counter n e in let same : n ≡ last_counter = omega (arith, above, h) in absurd (k same)
     by_test false e = lt-ltb n last_counter (leb-false last_counter n e)
 
-starts_up : (count n : ℕ) (w : World) (x : Node) → IsOfRun count w → nth n w.nodes ≡ Some x → x.book ≡ None → MayStart x
+starts_up : (hosts : Hosts) (n : ℕ) (w : World) (x : Node) → IsOfRun hosts w → nth n w.nodes ≡ Some x → x.book ≡ None → MayStart x
     → (y : Node) × IsUp y × ((world_step w (Up n true false)).nodes ≡ put_nth n y w.nodes)
 unfolding world_step
-starts_up count n w x r found down may =
+starts_up hosts n w x r found down may =
     let y : Node = up_after (started (last_incarnation x.journal + 1) x) false in
-    let lands : nat_lt (last_incarnation x.journal) last_counter ≡ true = may_start (last_incarnation x.journal) (incarnations_counted count w r n x found) may in (
+    let lands : nat_lt (last_incarnation x.journal) last_counter ≡ true = may_start (last_incarnation x.journal) (incarnations_counted hosts w r n x found) may in (
       y,
       refl,
       ap (λ o. (at_some_node (Up n true false) o w).nodes) found ∙ ap (λ o. (down_only o (start n true false x w) w).nodes) down
@@ -227,10 +227,10 @@ one_of_two i u h = by_test (nat_le i u) refl
     by_test true e = inl (leb-true i u e)
     by_test false e = let over : u < i = leb-false i u e in inr (omega (arith, over, h))
 
-ups_rise : (count u : ℕ) (xs : List Node) (s : Settling) → Rising count u xs s.world → AllByRecursion MayStart xs → AllUp (all_also (ups (u + 1) xs) s).world
-ups_rise count u [] s h may = all_from_nth IsUp s.world.nodes (λ i x e. h.done i x (omega (arith, nth_within i s.world.nodes x e, h.size)) e)
-ups_rise count u (x ∷ xs) s h (start, may) =
-    subst (λ t. AllUp t.world) (sym (all_join_also (up_if (u + 1) x.book) (ups (u + 1 + 1) xs) s)) (by_book x.book refl (λ t k. ups_rise count (u + 1) xs t k may))
+ups_rise : (hosts : Hosts) (u : ℕ) (xs : List Node) (s : Settling) → Rising hosts u xs s.world → AllByRecursion MayStart xs → AllUp (all_also (ups (u + 1) xs) s).world
+ups_rise hosts u [] s h may = all_from_nth IsUp s.world.nodes (λ i x e. h.done i x (omega (arith, nth_within i s.world.nodes x e, h.size)) e)
+ups_rise hosts u (x ∷ xs) s h (start, may) =
+    subst (λ t. AllUp t.world) (sym (all_join_also (up_if (u + 1) x.book) (ups (u + 1 + 1) xs) s)) (by_book x.book refl (λ t k. ups_rise hosts (u + 1) xs t k may))
   where
     w : World
     w = s.world
@@ -238,7 +238,7 @@ ups_rise count u (x ∷ xs) s h (start, may) =
     here : nth (u + 1) w.nodes ≡ Some x
     here = h.rest 1 x refl
 
-    by_book : (o : Option Book) → x.book ≡ o → ((t : Settling) → Rising count (u + 1) xs t.world → AllUp (all_also (ups (u + 1 + 1) xs) t).world)
+    by_book : (o : Option Book) → x.book ≡ o → ((t : Settling) → Rising hosts (u + 1) xs t.world → AllUp (all_also (ups (u + 1 + 1) xs) t).world)
         → AllUp (all_also (ups (u + 1 + 1) xs) (all_also (up_if (u + 1) o) s)).world
     by_book (Some b) up rest = rest s (record {
       run = h.run;
@@ -254,9 +254,9 @@ ups_rise count u (x ∷ xs) s h (start, may) =
         same_up z f = let same : Some x ≡ Some z = sym here ∙ f in let one : x ≡ z = cc in subst IsUp one (ap (λ o. is_none o) up)
     by_book None down rest =
         let e : WorldEvent = Up (u + 1) true false in
-        let (y, up, nodes) = starts_up count (u + 1) w x h.run here down start in
+        let (y, up, nodes) = starts_up hosts (u + 1) w x h.run here down start in
         rest (also e s) (record {
-          run = further_run count w e h.run;
+          run = further_run hosts w e h.run;
           size = let same : length (world_step w e).nodes ≡ length w.nodes = ap length nodes ∙ length_put (u + 1) y w.nodes in omega (arith, same, h.size);
           done = λ i z k f. elim (one_of_two i u k) [
             | inl j ↦ h.done i z j (sym (put_other w.nodes i (u + 1) y (λ same. absurd (omega (arith, same, j)))) ∙ sym (ap (nth i) nodes) ∙ f)
@@ -268,10 +268,10 @@ ups_rise count u (x ∷ xs) s h (start, may) =
         new_up : (y : Node) → IsUp y → (z : Node) → Some y ≡ Some z → IsUp z
         new_up y up z f = let one : y ≡ z = cc in subst IsUp one up
 
-risen_up : (count : ℕ) (es : List WorldEvent) → AllByRecursion MayStart (run_of count es).nodes → AllUp (risen count es).world
-risen_up count es may =
-    let w : World = run_of count es in
-    ups_rise count 0 w.nodes (record { world = w; events = [] }) (record {
+risen_up : (hosts : Hosts) (es : List WorldEvent) → AllByRecursion MayStart (run_of hosts es).nodes → AllUp (risen hosts es).world
+risen_up hosts es may =
+    let w : World = run_of hosts es in
+    ups_rise hosts 0 w.nodes (record { world = w; events = [] }) (record {
       run = record { events = es; is = refl };
       size = omega arith;
       done = λ i x k f. absurd (omega (arith, k, nth_least i w.nodes x f));
@@ -280,6 +280,6 @@ risen_up count es may =
 
 pub nodes_rise : NodesRise
 nodes_rise = record {
-  counted = λ count es n x found. incarnations_counted count (run_of count es) (record { events = es; is = refl }) n x found;
-  rounds = λ count es n most may. rounds_up count most n (risen count es) (risen_run count es) (risen_up count es may);
+  counted = λ hosts es n x found. incarnations_counted hosts (run_of hosts es) (record { events = es; is = refl }) n x found;
+  rounds = λ hosts es n most may. rounds_up hosts most n (risen hosts es) (risen_run hosts es) (risen_up hosts es may);
 }

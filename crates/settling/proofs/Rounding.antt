@@ -6,7 +6,7 @@ use Rattle.std.proofs.lemmas.List.{drop_all}
 use Rattle.std.proofs.lemmas.List.Sums.{sum_by-cons}
 use Rattle.at_model.specs.Book.{Book}
 use Rattle.at_model.specs.Due.{resend_after}
-use Rattle.at_model.specs.World.{Deliver, Node, Tick, Turn, World, WorldEvent, world_step}
+use Rattle.at_model.specs.World.{Deliver, Node, Tick, Turn, World, WorldEvent, world_step, Hosts}
 use Rattle.model_laws.specs.Settle.{Settling, all_also, also, deliver_next, deliveries_from, first_received, others_in, seats_in, ticks}
 use Rattle.settling.specs.Drains.{Delivers, none_left, one_more}
 use Rattle.settling.specs.Load.{Prices}
@@ -68,15 +68,15 @@ drained P (suc most) j s g h = by_next (next j s.world) refl (λ p t i. drained 
         one_more k n e (rest k (also (Turn n (Deliver k) [] None) s) (record { passed = l.passed; paid = omega (arith, l.paid, g.paid); steady = l.steady }))
 
 -- the ticks of a round
-ticked_all : (P : Prices) (count j limit u : ℕ) (xs : List Node) (s : Settling) → IsOfRun count s.world → u + length xs ≡ count → Ticks P j u limit s.world
-    → Ticks P j count limit (all_also (ticks (u + 1) xs) s).world
-ticked_all P count j limit u [] s r e t = let same : u ≡ count = omega (arith, e) in subst (λ k. Ticks P j k limit s.world) same t
-ticked_all P count j limit u (x ∷ xs) s r e t =
+ticked_all : (P : Prices) (hosts : Hosts) (j limit u : ℕ) (xs : List Node) (s : Settling) → IsOfRun hosts s.world → u + length xs ≡ hosts → Ticks P j u limit s.world
+    → Ticks P j hosts limit (all_also (ticks (u + 1) xs) s).world
+ticked_all P hosts j limit u [] s r e t = let same : u ≡ hosts = omega (arith, e) in subst (λ k. Ticks P j k limit s.world) same t
+ticked_all P hosts j limit u (x ∷ xs) s r e t =
     let tick : WorldEvent = Turn (u + 1) (Tick resend_after) [] None in
-    let there : u + 1 ≤ length s.world.nodes = omega (arith, e, run_length count s.world r) in
+    let there : u + 1 ≤ length s.world.nodes = omega (arith, e, run_length hosts s.world r) in
     let more : suc u ≡ u + 1 = omega arith in
     let one : Ticks P j (u + 1) limit (world_step s.world tick) = subst (λ k. Ticks P j k limit (world_step s.world tick)) more (tick_on P j u limit s.world there t) in
-    ticked_all P count j limit (u + 1) xs (also tick s) (further_run count s.world tick r) (omega (arith, e)) one
+    ticked_all P hosts j limit (u + 1) xs (also tick s) (further_run hosts s.world tick r) (omega (arith, e)) one
 
 -- what there is to wait for
 abbrev pub seats_of : World → ℕ
@@ -116,15 +116,15 @@ nodes_least P (x ∷ xs) =
     node_least y = held_least y.clock y.book
 
 -- once all have ticked
-pub begun_good : (P : Prices) (count : ℕ) (s : Settling) → IsOfRun count s.world
+pub begun_good : (P : Prices) (hosts : Hosts) (s : Settling) → IsOfRun hosts s.world
     → Good P (seat_most P * seats_of s.world + other_most P * others_of s.world) (length s.world.posted) (all_also (ticks 1 s.world.nodes) s).world
-begun_good P count s r =
+begun_good P hosts s r =
     let j : ℕ = length s.world.posted in
     let limit : ℕ = seat_most P * seats_of s.world + other_most P * others_of s.world in
     let nothing : queued P (drop j s.world.posted) ≡ 0 = ap (queued P) (drop_all j s.world.posted (omega arith)) in
-    let size : length s.world.nodes ≡ count = run_length count s.world r in
-    let t : Ticks P j count limit (all_also (ticks 1 s.world.nodes) s).world =
-    ticked_all P count j limit 0 s.world.nodes s r (omega (arith, size)) (record { passed = omega arith; paid = omega (arith, nothing, nodes_most P s.world.nodes); steady = run_steady count s.world r }) in
+    let size : length s.world.nodes ≡ hosts = run_length hosts s.world r in
+    let t : Ticks P j hosts limit (all_also (ticks 1 s.world.nodes) s).world =
+    ticked_all P hosts j limit 0 s.world.nodes s r (omega (arith, size)) (record { passed = omega arith; paid = omega (arith, nothing, nodes_most P s.world.nodes); steady = run_steady hosts s.world r }) in
     let w : World = (all_also (ticks 1 s.world.nodes) s).world in
-    let all : mixed P count w.nodes ≡ sum_by (node_load P) w.nodes = mixed_all P w.nodes count (sym (run_length count w (all_further count (ticks 1 s.world.nodes) s r))) in
+    let all : mixed P hosts w.nodes ≡ sum_by (node_load P) w.nodes = mixed_all P w.nodes hosts (sym (run_length hosts w (all_further hosts (ticks 1 s.world.nodes) s r))) in
     record { passed = t.passed; paid = omega (arith, t.paid, all); steady = t.steady }

@@ -11,7 +11,7 @@ use Rattle.at_base.specs.declared.outs.Post.{Post}
 use Rattle.at_model.specs.Book.{Book, Leaf, Phase, Transaction, leaf_id, transaction_id}
 use Rattle.at_model.specs.Due.{is_quiet, leaf_again, resend_after, transaction_again}
 use Rattle.at_model.specs.Step.{activity_item, at_time, items_of, leaf_at, leaf_item, moment_of, plan, transaction_at, transaction_item}
-use Rattle.at_model.specs.World.{Node, Posted, Tick, Turn, Turning, World, WorldEvent, due_steps, nth, run_of, take_step}
+use Rattle.at_model.specs.World.{Node, Posted, Tick, Turn, Turning, World, WorldEvent, due_steps, nth, run_of, take_step, Hosts}
 use Rattle.model_laws.specs.Agreement.{IsIn}
 use Rattle.settling.specs.Again.{ArePosted, HasPosted, TicksAsk, ticked_at}
 use Rattle.settling.specs.Load.{load}
@@ -131,13 +131,13 @@ tick_asks n w x b found up g sent seen =
 none_there : {A : Type 0} (o : Option A) (x : A) → o ≡ None → o ≡ Some x → ⊥
 none_there o x e f = cc
 
-world_ticked : (count : ℕ) (es : List WorldEvent) (n : ℕ) (y : Node) (c : Book) → nth n (ticked_at n (run_of count es)).nodes ≡ Some y → y.book ≡ Some c
-    → HasTicked n (run_of count es) (ticked_at n (run_of count es))
+world_ticked : (hosts : Hosts) (es : List WorldEvent) (n : ℕ) (y : Node) (c : Book) → nth n (ticked_at n (run_of hosts es)).nodes ≡ Some y → y.book ≡ Some c
+    → HasTicked n (run_of hosts es) (ticked_at n (run_of hosts es))
 unfolding world_step
-world_ticked count es n y c = by_node (nth n w.nodes) refl
+world_ticked hosts es n y c = by_node (nth n w.nodes) refl
   where
     w : World
-    w = run_of count es
+    w = run_of hosts es
 
     by_book : (x : Node) (o : Option Book) → nth n w.nodes ≡ Some x → x.book ≡ o → nth n (on_book o (λ b. turn n (Tick resend_after) [] None x b w) w).nodes ≡ Some y → y.book ≡ Some c
         → HasTicked n w (on_book o (λ b. turn n (Tick resend_after) [] None x b w) w)
@@ -145,7 +145,7 @@ world_ticked count es n y c = by_node (nth n w.nodes) refl
         let one : x ≡ y = same_some x y (sym found ∙ there) in
         absurd (none_there y.book c (sym (ap (λ (z : Node). z.book) one) ∙ down) up)
     by_book x (Some b) found up there more =
-        tick_asks n w x b found up (steady_books count w (run_reached count es) n x b found up) (times_pass.sent count es n x b found up) (times_pass.seen count es n x b found up)
+        tick_asks n w x b found up (steady_books hosts w (run_reached hosts es) n x b found up) (times_pass.sent hosts es n x b found up) (times_pass.seen hosts es n x b found up)
 
     by_node : (o : Option Node) → nth n w.nodes ≡ o → nth n (at_some_node (Turn n (Tick resend_after) [] None) o w).nodes ≡ Some y → y.book ≡ Some c
         → HasTicked n w (at_some_node (Turn n (Tick resend_after) [] None) o w)
@@ -164,33 +164,33 @@ each_posted new (p ∷ ps) (i, h) = (posted_in new i, each_posted new ps h)
 
 pub ticks_ask : TicksAsk
 ticks_ask = record {
-  transactions = λ count es n x b id t found up e.
-      let h : HasTicked n (run_of count es) (ticked_at n (run_of count es)) = world_ticked count es n x b found up in
+  transactions = λ hosts es n x b id t found up e.
+      let h : HasTicked n (run_of hosts es) (ticked_at n (run_of hosts es)) = world_ticked hosts es n x b found up in
       let same : b ≡ h.book = h.up x b found up in
-      by_asked count es n b id t h same (h.asked.transactions id t (subst (λ c. transaction_at c id ≡ Some t) same e));
-  leaves = λ count es n x b id l found up e.
-      let h : HasTicked n (run_of count es) (ticked_at n (run_of count es)) = world_ticked count es n x b found up in
+      by_asked hosts es n b id t h same (h.asked.transactions id t (subst (λ c. transaction_at c id ≡ Some t) same e));
+  leaves = λ hosts es n x b id l found up e.
+      let h : HasTicked n (run_of hosts es) (ticked_at n (run_of hosts es)) = world_ticked hosts es n x b found up in
       let same : b ≡ h.book = h.up x b found up in
-      by_leaf count es n x b id l h same (h.asked.leaves id l (subst (λ c. leaf_at c id ≡ Some l) same e));
+      by_leaf hosts es n x b id l h same (h.asked.leaves id l (subst (λ c. leaf_at c id ≡ Some l) same e));
 }
   where
-    by_asked : (count : ℕ) (es : List WorldEvent) (n : ℕ) (b : Book) (id : Numbers) (t : Transaction) (h : HasTicked n (run_of count es) (ticked_at n (run_of count es))) → b ≡ h.book
+    by_asked : (hosts : Hosts) (es : List WorldEvent) (n : ℕ) (b : Book) (id : Numbers) (t : Transaction) (h : HasTicked n (run_of hosts es) (ticked_at n (run_of hosts es))) → b ≡ h.book
         → (IsIn (items.Transaction id) [] × (is_quiet h.now t.sent ≡ true)) ⊎ HasAsked h.book.base (contents h.new) t
-        → (t.phase ≡ Phase.Aborting) ⊎ ArePosted (run_of count es) (ticked_at n (run_of count es)) (transaction_again b.base t)
-    by_asked count es n b id t h same (inl (i, q)) = absurd i
-    by_asked count es n b id t h same (inr (inl e)) = inl e
-    by_asked count es n b id t h same (inr (inr k)) =
+        → (t.phase ≡ Phase.Aborting) ⊎ ArePosted (run_of hosts es) (ticked_at n (run_of hosts es)) (transaction_again b.base t)
+    by_asked hosts es n b id t h same (inl (i, q)) = absurd i
+    by_asked hosts es n b id t h same (inr (inl e)) = inl e
+    by_asked hosts es n b id t h same (inr (inr k)) =
         inr (record {
           new = h.new;
           posted = h.posted;
           each = each_posted h.new (transaction_again b.base t) (subst (λ (c : Book). AreAmong (contents h.new) (transaction_again c.base t)) (sym same) k);
         })
 
-    by_leaf : (count : ℕ) (es : List WorldEvent) (n : ℕ) (x : Node) (b : Book) (id : Numbers) (l : Leaf) (h : HasTicked n (run_of count es) (ticked_at n (run_of count es))) → b ≡ h.book
+    by_leaf : (hosts : Hosts) (es : List WorldEvent) (n : ℕ) (x : Node) (b : Book) (id : Numbers) (l : Leaf) (h : HasTicked n (run_of hosts es) (ticked_at n (run_of hosts es))) → b ≡ h.book
         → (IsIn (items.Leaf id) [] × (is_quiet h.now l.sent ≡ true)) ⊎ LeafAsked (plain_moment h.book.base) (contents h.new) l
-        → ArePosted (run_of count es) (ticked_at n (run_of count es)) (leaf_again (moment_of b x.clock) l)
-    by_leaf count es n x b id l h same (inl (i, q)) = absurd i
-    by_leaf count es n x b id l h same (inr k) = record {
+        → ArePosted (run_of hosts es) (ticked_at n (run_of hosts es)) (leaf_again (moment_of b x.clock) l)
+    by_leaf hosts es n x b id l h same (inl (i, q)) = absurd i
+    by_leaf hosts es n x b id l h same (inr k) = record {
       new = h.new;
       posted = h.posted;
       each = each_posted h.new (leaf_again (moment_of b x.clock) l) (from_plain (moment_of b x.clock) h.book.base (contents h.new) l (ap (λ (c : Book). c.base) same) k);

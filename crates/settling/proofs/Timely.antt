@@ -11,6 +11,6 @@ use Rattle.settling.proofs.Places.{all_nth}
 
 pub times_pass : TimesPass
 times_pass = record {
-  sent = λ count es n x b found up. books_timely count (run_of count es) (run_reached count es) n x b found up;
-  seen = λ count es n x b found up. subst (IfThere (λ c. c.seen ≤ x.clock)) up (all_nth IsTimed n x (run_of count es).nodes (run_timed count es) found);
+  sent = λ hosts es n x b found up. books_timely hosts (run_of hosts es) (run_reached hosts es) n x b found up;
+  seen = λ hosts es n x b found up. subst (IfThere (λ c. c.seen ≤ x.clock)) up (all_nth IsTimed n x (run_of hosts es).nodes (run_timed hosts es) found);
 }

@@ -6,7 +6,7 @@ use Rattle.at_base.specs.declared.outs.Post.{Post}
 use Rattle.at_model.specs.Book.{Book, Leaf, Phase, Transaction}
 use Rattle.at_model.specs.Due.{leaf_again, resend_after, transaction_again}
 use Rattle.at_model.specs.Step.{leaf_at, moment_of, transaction_at}
-use Rattle.at_model.specs.World.{Node, Posted, Tick, Turn, World, WorldEvent, nth, run_of, world_step}
+use Rattle.at_model.specs.World.{Node, Posted, Tick, Turn, World, WorldEvent, nth, run_of, world_step, Hosts}
 use Rattle.model_laws.specs.Agreement.{IsIn}
 
 -- it is among these messages
@@ -24,7 +24,7 @@ ticked_at n w = world_step w (Turn n (Tick resend_after) [] None)
 
 -- In every run; a transaction that aborts asks nobody for an answer.
 pub record TicksAsk : Type 0 where
-  pub transactions : (count : ℕ) (es : List WorldEvent) (n : ℕ) (x : Node) (b : Book) (id : Numbers) (t : Transaction) → nth n (ticked_at n (run_of count es)).nodes ≡ Some x → x.book ≡ Some b
-      → transaction_at b id ≡ Some t → (t.phase ≡ Phase.Aborting) ⊎ ArePosted (run_of count es) (ticked_at n (run_of count es)) (transaction_again b.base t)
-  pub leaves : (count : ℕ) (es : List WorldEvent) (n : ℕ) (x : Node) (b : Book) (id : Numbers) (l : Leaf) → nth n (ticked_at n (run_of count es)).nodes ≡ Some x → x.book ≡ Some b
-      → leaf_at b id ≡ Some l → ArePosted (run_of count es) (ticked_at n (run_of count es)) (leaf_again (moment_of b x.clock) l)
+  pub transactions : (hosts : Hosts) (es : List WorldEvent) (n : ℕ) (x : Node) (b : Book) (id : Numbers) (t : Transaction) → nth n (ticked_at n (run_of hosts es)).nodes ≡ Some x → x.book ≡ Some b
+      → transaction_at b id ≡ Some t → (t.phase ≡ Phase.Aborting) ⊎ ArePosted (run_of hosts es) (ticked_at n (run_of hosts es)) (transaction_again b.base t)
+  pub leaves : (hosts : Hosts) (es : List WorldEvent) (n : ℕ) (x : Node) (b : Book) (id : Numbers) (l : Leaf) → nth n (ticked_at n (run_of hosts es)).nodes ≡ Some x → x.book ≡ Some b
+      → leaf_at b id ≡ Some l → ArePosted (run_of hosts es) (ticked_at n (run_of hosts es)) (leaf_again (moment_of b x.clock) l)

@@ -1,11 +1,11 @@
 -- Every round of settling drains: it ends with no message left to deliver, before its deliveries are spent.
 use Rattle.std.specs.Prelude.{ℕ, List, [], Some, None, ◌+◌, ◌≡◌, ◌≤◌, ◌<◌, drop, length}
-use Rattle.at_model.specs.World.{Deliver, Turn, WorldEvent, run_of}
+use Rattle.at_model.specs.World.{Deliver, Turn, WorldEvent, run_of, Hosts}
 use Rattle.model_laws.specs.Settle.{Settling, all_also, all_up, also, first_received, most_deliveries, settle, settle_bound, settle_round, settle_rounds, ticks, waiting}
 
 -- the world with every node up, as the rounds begin
-abbrev pub risen : ℕ → List WorldEvent → Settling
-risen count es = all_up (run_of count es)
+abbrev pub risen : Hosts → List WorldEvent → Settling
+risen hosts es = all_up (run_of hosts es)
 
 -- how many deliveries a round may have
 abbrev pub granted : Settling → ℕ
@@ -24,5 +24,5 @@ IsDrained most s = Delivers (settle_round most s) (length s.world.posted) (all_a
 -- In each run, whatever was lost, repeated, delayed or crashed before, the events that settle its world are few, and each of
 -- the eight rounds drains.
 pub record Drains : Type 0 where
-  pub few : (count : ℕ) (es : List WorldEvent) → length (settle (run_of count es)) ≤ settle_bound (run_of count es)
-  pub rounds : (count : ℕ) (es : List WorldEvent) (n : ℕ) → n < 8 → IsDrained (granted (risen count es)) (settle_rounds n (granted (risen count es)) (risen count es))
+  pub few : (hosts : Hosts) (es : List WorldEvent) → length (settle (run_of hosts es)) ≤ settle_bound (run_of hosts es)
+  pub rounds : (hosts : Hosts) (es : List WorldEvent) (n : ℕ) → n < 8 → IsDrained (granted (risen hosts es)) (settle_rounds n (granted (risen hosts es)) (risen hosts es))

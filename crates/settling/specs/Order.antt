@@ -6,7 +6,7 @@ use Rattle.at_base.specs.declared.target.Seat.{Seat}
 use Rattle.at_tables.specs.declared.cells.State.{State}
 use Rattle.at_tables.specs.declared.cells.State.TheVariants as states
 use Rattle.at_model.specs.Book.{Book, Phase, Superior, Transaction}
-use Rattle.at_model.specs.World.{Accepted, Node, Who, World, WorldEvent, nth, run_of}
+use Rattle.at_model.specs.World.{Accepted, Node, Who, World, WorldEvent, nth, run_of, Hosts, HaveOwnAddresses}
 use Rattle.model_laws.specs.Agreement.{IsAccepted, IsIn}
 
 -- A link that is Active knows its coordinator from the answer to its Register (WS-Coordination 1.2, section 3.2).
@@ -53,7 +53,7 @@ HasSome (x ∷ xs) = Unit {0}
 -- In every run each subordinate that has participants has registered before the first of them; so where one has registered at
 -- another, it has done so later than that one.
 pub record SubordinatesRegisterFirst : Type 0 where
-  pub runs : (count : ℕ) (es : List WorldEvent) (n : ℕ) (x : Node) (b : Book) (t : Transaction) → count < 2 ^ 64 → nth n (run_of count es).nodes ≡ Some x → x.book ≡ Some b
-      → IsIn t b.transactions → is_none t.superior ≡ false → HasSome t.seats → RegistersFirst (run_of count es) (record { node = n; id = t.id })
-  pub later : (count : ℕ) (es : List WorldEvent) (t x : Who) (s : Seat) (first : RegistersFirst (run_of count es) t) (second : RegistersFirst (run_of count es) x) → count < 2 ^ 64
-      → IsAccepted (run_of count es) t (Some s) x → length first.front < length second.front
+  pub runs : (hosts : Hosts) (es : List WorldEvent) (n : ℕ) (x : Node) (b : Book) (t : Transaction) → HaveOwnAddresses hosts → nth n (run_of hosts es).nodes ≡ Some x → x.book ≡ Some b
+      → IsIn t b.transactions → is_none t.superior ≡ false → HasSome t.seats → RegistersFirst (run_of hosts es) (record { node = n; id = t.id })
+  pub later : (hosts : Hosts) (es : List WorldEvent) (t x : Who) (s : Seat) (first : RegistersFirst (run_of hosts es) t) (second : RegistersFirst (run_of hosts es) x) → HaveOwnAddresses hosts
+      → IsAccepted (run_of hosts es) t (Some s) x → length first.front < length second.front

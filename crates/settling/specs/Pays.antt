@@ -8,7 +8,7 @@ use Rattle.at_base.specs.declared.event.Event.TheVariants as events
 use Rattle.at_base.specs.declared.event.Item.{Item}
 use Rattle.at_model.specs.Book.{Book}
 use Rattle.at_model.specs.Step.{Outcome, step}
-use Rattle.at_model.specs.World.{Node, WorldEvent, nth, run_of}
+use Rattle.at_model.specs.World.{Node, WorldEvent, nth, run_of, Hosts}
 use Rattle.model_laws.specs.Behind.{IsInPhase}
 use Rattle.model_laws.specs.Order.{IsInOrder}
 use Rattle.agreement.specs.Finished.{AreFinished}
@@ -37,4 +37,4 @@ pub record Pays : Type 0 where
   pub due : (P : Prices) (b : Book) (item : Item) (now : ℕ) (landed : Bool) → IsSteady b → after P now (step b (events.Due item) now landed) ≤ load P now b
   -- each step leaves such a book behind, and such is each book of each run
   pub stays : (b : Book) (e : Event) (now : ℕ) (landed : Bool) → IsSteady b → IsSteady (step b e now landed).book
-  pub books : (count : ℕ) (es : List WorldEvent) (n : ℕ) (x : Node) (b : Book) → nth n (run_of count es).nodes ≡ Some x → x.book ≡ Some b → IsSteady b
+  pub books : (hosts : Hosts) (es : List WorldEvent) (n : ℕ) (x : Node) (b : Book) → nth n (run_of hosts es).nodes ≡ Some x → x.book ≡ Some b → IsSteady b

@@ -2,7 +2,7 @@
 use Rattle.std.specs.Prelude.{ℕ, List, Option, Some, None, ◌≡◌, ◌≤◌}
 use Rattle.std.specs.List.{AllByRecursion}
 use Rattle.at_model.specs.Book.{Book}
-use Rattle.at_model.specs.World.{Node, WorldEvent, nth, run_of}
+use Rattle.at_model.specs.World.{Node, WorldEvent, nth, run_of, Hosts}
 
 abbrev pub IsBy : ℕ → Option ℕ → Type 0
 IsBy now None = Unit {0}
@@ -15,5 +15,5 @@ pub record SentBy (now : ℕ) (b : Book) : Type 0 where
 
 -- So it is in every run.
 pub record TimesPass : Type 0 where
-  pub sent : (count : ℕ) (es : List WorldEvent) (n : ℕ) (x : Node) (b : Book) → nth n (run_of count es).nodes ≡ Some x → x.book ≡ Some b → SentBy b.seen b
-  pub seen : (count : ℕ) (es : List WorldEvent) (n : ℕ) (x : Node) (b : Book) → nth n (run_of count es).nodes ≡ Some x → x.book ≡ Some b → b.seen ≤ x.clock
+  pub sent : (hosts : Hosts) (es : List WorldEvent) (n : ℕ) (x : Node) (b : Book) → nth n (run_of hosts es).nodes ≡ Some x → x.book ≡ Some b → SentBy b.seen b
+  pub seen : (hosts : Hosts) (es : List WorldEvent) (n : ℕ) (x : Node) (b : Book) → nth n (run_of hosts es).nodes ≡ Some x → x.book ≡ Some b → b.seen ≤ x.clock

@@ -23,7 +23,7 @@ use Rattle.at_model.specs.Leaves.{leaf_ended}
 use Rattle.at_model.specs.Moves.{Change}
 use Rattle.at_model.specs.Seats.{ending, ending_of, prepared as prepared_seats}
 use Rattle.at_model.specs.Step.{leaf_at, transaction_at}
-use Rattle.at_model.specs.World.{Node, World, nth}
+use Rattle.at_model.specs.World.{Node, World, nth, Hosts}
 use Rattle.model_laws.specs.Agreement.{HasCommitted, IsIn}
 use Rattle.agreement.specs.Deeds.{How, IsHeard, StoodFor, SuperiorSaid, happens, recorded, superior_at}
 use Rattle.agreement.specs.LeafDeeds.{LeafDeed, aborts, commits, dropped, idles, leaves, prepares, rolls_back}
@@ -130,33 +130,33 @@ voted_unended rs fx id t (committed superior seats p r h i k) e = let f : Phase.
 voted_unended rs fx id t (aborted p dead k) e = let f : Phase.Aborting ≡ Phase.Voted = sym p ∙ e in absurd cc
 
 -- a Rollback that came to a durable participant that hasn't ended
-pub rolled_back_by : (count : ℕ) (u : World) (n : ℕ) (x : Node) (b : Book) (e : Event) → StepPremises count u n x b e → IsOutcome count u → (a : Arrived) → e ≡ events.Arrived a → (id : Numbers)
+pub rolled_back_by : (hosts : Hosts) (u : World) (n : ℕ) (x : Node) (b : Book) (e : Event) → StepPremises hosts u n x b e → IsOutcome hosts u → (a : Arrived) → e ≡ events.Arrived a → (id : Numbers)
     → a.target ≡ targets.Participant id kinds.Durable → a.message ≡ messages.Notice notices.Rollback → (HasCommitted u (record { node = n; id = id }) → ⊥) → IsUnderAborted u (record { node = n; id = id })
-rolled_back_by count u n x b e p j a came id target says never =
-    let w : HasCome count u n a = came_by count u n x b e p a came in
-    either (one_of (λ q. RollbackIsBacked count u q.content) u.posted w.posted j.rollbacks w.stands w.to n id (w.message ∙ says) w.sent (subst (LeadsTo count w.to n) target w.leads))
+rolled_back_by hosts u n x b e p j a came id target says never =
+    let w : HasCome hosts u n a = came_by hosts u n x b e p a came in
+    either (one_of (λ q. RollbackIsBacked hosts u q.content) u.posted w.posted j.rollbacks w.stands w.to n id (w.message ∙ says) w.sent (subst (LeadsTo hosts w.to n) target w.leads))
   where
     either : HasCommitted u (record { node = n; id = id }) ⊎ IsUnderAborted u (record { node = n; id = id }) → IsUnderAborted u (record { node = n; id = id })
     either (inl c) = absurd (never c)
     either (inr h) = h
 
 -- a transaction that aborts
-pub transaction_aborts : (count : ℕ) (u : World) (n : ℕ) (x : Node) (b : Book) (e : Event) → StepPremises count u n x b e → IsOutcome count u → (t : Transaction) (how : How)
+pub transaction_aborts : (hosts : Hosts) (u : World) (n : ℕ) (x : Node) (b : Book) (e : Event) → StepPremises hosts u n x b e → IsOutcome hosts u → (t : Transaction) (how : How)
     → transaction_at b t.id ≡ Some t → StoodFor how t → IsHeard how e t → (how ≡ How.Aborts) ⊎ (how ≡ How.RollsBack) → HasVoted u (record { node = n; id = t.id })
     → IsUnderAborted u (record { node = n; id = t.id })
-transaction_aborts count u n x b e p j t how found stood heard (inl is) votes =
+transaction_aborts hosts u n x b e p j t how found stood heard (inl is) votes =
     absurd (unpromised_vote u n x t.id p.found
-    (is_open x.journal (happened_on n u.happened) t.id t (stands_as count u n x b e p t found) (subst (λ h. StoodFor h t) is stood)).nothing votes)
-transaction_aborts count u n x b e p j t how found stood heard (inr is) votes =
+    (is_open x.journal (happened_on n u.happened) t.id t (stands_as hosts u n x b e p t found) (subst (λ h. StoodFor h t) is stood)).nothing votes)
+transaction_aborts hosts u n x b e p j t how found stood heard (inr is) votes =
     let said : SuperiorSaid kinds.Durable notices.Rollback e t = subst (λ h. IsHeard h e t) is heard in
-    rolled_back_by count u n x b e p j said.message said.came t.id said.target said.says
-    (never_committed u n t.id (voted_unended x.journal (happened_on n u.happened) t.id t (stands_as count u n x b e p t found) (subst (λ h. StoodFor h t) is stood).0))
+    rolled_back_by hosts u n x b e p j said.message said.came t.id said.target said.says
+    (never_committed u n t.id (voted_unended x.journal (happened_on n u.happened) t.id t (stands_as hosts u n x b e p t found) (subst (λ h. StoodFor h t) is stood).0))
 
 -- a leaf
-pub leaf_stands : (count : ℕ) (u : World) (n : ℕ) (x : Node) (b : Book) (e : Event) → StepPremises count u n x b e → (l : Leaf) → leaf_at b l.id ≡ Some l → LeafLife x.journal (happened_on n u.happened) l.id l
-leaf_stands count u n x b e p l found =
+pub leaf_stands : (hosts : Hosts) (u : World) (n : ℕ) (x : Node) (b : Book) (e : Event) → StepPremises hosts u n x b e → (l : Leaf) → leaf_at b l.id ≡ Some l → LeafLife x.journal (happened_on n u.happened) l.id l
+leaf_stands hosts u n x b e p l found =
     (leaf_alone x.journal (happened_on n u.happened) l.id (transaction_at b l.id) l
-    (subst (λ o. Life x.journal (happened_on n u.happened) l.id (transaction_at b l.id) o) found (life_at count u n x b e p l.id))).life
+    (subst (λ o. Life x.journal (happened_on n u.happened) l.id (transaction_at b l.id) o) found (life_at hosts u n x b e p l.id))).life
 
 pub leaf_unended : (rs : List Record) (fx : List Effect) (id : Numbers) (l : Leaf) → LeafLife rs fx id l → ends id fx ≡ []
 leaf_unended rs fx id l (unrecorded o nothing k) = k
@@ -170,21 +170,21 @@ leaf_unpromised rs fx id l (prepared coordinator key value d o h k) (inr e) = le
 pub none_in : (f : Effect) (es gs : List Effect) → es ≡ gs → gs ≡ [] → IsIn f es → ⊥
 none_in f es gs e g i = subst (IsIn f) (e ∙ g) i
 
-pub leaf_aborts : (count : ℕ) (u : World) (n : ℕ) (x : Node) (b : Book) (e : Event) → StepPremises count u n x b e → IsOutcome count u → (m : Moment) (l : Leaf) (entry : Option Record) (c : Change Leaf)
+pub leaf_aborts : (hosts : Hosts) (u : World) (n : ℕ) (x : Node) (b : Book) (e : Event) → StepPremises hosts u n x b e → IsOutcome hosts u → (m : Moment) (l : Leaf) (entry : Option Record) (c : Change Leaf)
     → leaf_at b l.id ≡ Some l → LeafDeed m e l entry c → (what : Ending) (f : Effect) (id : Numbers) → IsBad what → IsIn f c.effects → IsEnd id what f → HasVoted u (record { node = n; id = id })
     → IsUnderAborted u (record { node = n; id = id })
-leaf_aborts count u n x b e p j m l entry c found (idles left is none on none_happened) what f id bad i its votes = absurd (none_in f c.effects [] none_happened refl i)
-leaf_aborts count u n x b e p j m l entry c found (aborts state why none gone happened) what f id bad i its votes =
+leaf_aborts hosts u n x b e p j m l entry c found (idles left is none on none_happened) what f id bad i its votes = absurd (none_in f c.effects [] none_happened refl i)
+leaf_aborts hosts u n x b e p j m l entry c found (aborts state why none gone happened) what f id bad i its votes =
     let (same, own, durable) = leaf_end_is l id endings.Aborted what (subst (IsEnd id what) (only_one f (leaf_ended l endings.Aborted) (subst (IsIn f) happened i)) its) in
-    absurd (unpromised_vote u n x l.id p.found (leaf_unpromised x.journal (happened_on n u.happened) l.id l (leaf_stands count u n x b e p l found) state)
+    absurd (unpromised_vote u n x l.id p.found (leaf_unpromised x.journal (happened_on n u.happened) l.id l (leaf_stands hosts u n x b e p l found) state)
     (subst (λ k. HasVoted u (record { node = n; id = k })) (sym own) votes))
-leaf_aborts count u n x b e p j m l entry c found (prepares to came state vote known records on none_happened posted) what f id bad i its votes = absurd (none_in f c.effects [] none_happened refl i)
-leaf_aborts count u n x b e p j m l entry c found (leaves to came state vote known none gone none_happened posted) what f id bad i its votes = absurd (none_in f c.effects [] none_happened refl i)
-leaf_aborts count u n x b e p j m l entry c found (dropped came kind none gone none_happened posted) what f id bad i its votes = absurd (none_in f c.effects [] none_happened refl i)
-leaf_aborts count u n x b e p j m l entry c found (commits to came state known records gone happened posted) what f id bad i its votes =
+leaf_aborts hosts u n x b e p j m l entry c found (prepares to came state vote known records on none_happened posted) what f id bad i its votes = absurd (none_in f c.effects [] none_happened refl i)
+leaf_aborts hosts u n x b e p j m l entry c found (leaves to came state vote known none gone none_happened posted) what f id bad i its votes = absurd (none_in f c.effects [] none_happened refl i)
+leaf_aborts hosts u n x b e p j m l entry c found (dropped came kind none gone none_happened posted) what f id bad i its votes = absurd (none_in f c.effects [] none_happened refl i)
+leaf_aborts hosts u n x b e p j m l entry c found (commits to came state known records gone happened posted) what f id bad i its votes =
     absurd (no_good what bad (leaf_end_is l id endings.Committed what (subst (IsEnd id what) (only_one f (leaf_ended l endings.Committed) (subst (IsIn f) happened i)) its)).0)
-leaf_aborts count u n x b e p j m l entry c found (rolls_back to came state known records gone happened posted) what f id bad i its votes =
+leaf_aborts hosts u n x b e p j m l entry c found (rolls_back to came state known records gone happened posted) what f id bad i its votes =
     let (same, own, durable) = leaf_end_is l id endings.Aborted what (subst (IsEnd id what) (only_one f (leaf_ended l endings.Aborted) (subst (IsIn f) happened i)) its) in
     subst (λ k. IsUnderAborted u (record { node = n; id = k })) own
-    (rolled_back_by count u n x b e p j came.arrived came.event l.id (came.target ∙ ap (λ k. targets.Participant l.id k) durable) came.message
-    (never_committed u n l.id (leaf_unended x.journal (happened_on n u.happened) l.id l (leaf_stands count u n x b e p l found))))
+    (rolled_back_by hosts u n x b e p j came.arrived came.event l.id (came.target ∙ ap (λ k. targets.Participant l.id k) durable) came.message
+    (never_committed u n l.id (leaf_unended x.journal (happened_on n u.happened) l.id l (leaf_stands hosts u n x b e p l found))))

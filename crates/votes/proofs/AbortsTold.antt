@@ -14,7 +14,7 @@ use Rattle.at_model.specs.Due.{may_expire}
 use Rattle.at_model.specs.Leaves.{leaf_ended}
 use Rattle.at_model.specs.Seats.{ending}
 use Rattle.at_model.specs.Step.{leaf_at, plan, step, transaction_at}
-use Rattle.at_model.specs.World.{Node, Who, World, goes_down, happened_at, is_lost_leaf, is_lost_root, is_lost_subordinate, lost_in, nth, put_book, put_nth}
+use Rattle.at_model.specs.World.{Node, Who, World, goes_down, happened_at, is_lost_leaf, is_lost_root, is_lost_subordinate, lost_in, nth, put_book, put_nth, Hosts}
 use Rattle.model_laws.specs.Agreement.{HasAborted, HasEnded, IsIn, Stands}
 use Rattle.model_laws.specs.Reached.{counts}
 use Rattle.model_laws.proofs.Deciding.{second_true}
@@ -61,22 +61,22 @@ not_aborted u n id none (inl a) = not_ended u n id none endings.Aborted a
 not_aborted u n id none (inr a) = not_ended u n id none endings.Lost a
 
 -- a step
-pub aborts_step : StepKeeps (λ count w. AbortsWereTold w)
-aborts_step count u n x b e now landed p j y voted aborted =
+pub aborts_step : StepKeeps (λ hosts w. AbortsWereTold w)
+aborts_step hosts u n x b e now landed p j y voted aborted =
     by_case (new_vote u n x b e now landed p.found y voted) (new_abort u n (step b e now landed).effects (counts u n x b e now landed) refl y aborted)
   where
     told_before : IsUnderAborted u y → IsUnderAborted (counts u n x b e now landed) y
-    told_before h = under_aborted_on u (counts u n x b e now landed) (grown count u n x b e now landed p) y h
+    told_before h = under_aborted_on u (counts u n x b e now landed) (grown hosts u n x b e now landed p) y h
 
     told_now : HasVoted u y → AbortsNow n (step b e now landed).effects y → IsUnderAborted u y
     told_now v h =
         let same : ◌≡◌ {A = Who} (record { node = n; id = y.id }) y = at_here n y h.ends_now.here in
         subst (IsUnderAborted u) same
-        (abort_now count u n x b e now (standing landed (plan b e now).entry) (step b e now landed) p j (p.world.moves.moved b e now landed p.ready) y.id h.what h.ends_now.effect h.bad h.ends_now.among
+        (abort_now hosts u n x b e now (standing landed (plan b e now).entry) (step b e now landed) p j (p.world.moves.moved b e now landed p.ready) y.id h.what h.ends_now.effect h.bad h.ends_now.among
         h.ends_now.its (subst (HasVoted u) (sym same) v))
 
     unended : RecordsVote n (standing landed (plan b e now).entry) y → Unended u n (step b e now landed).effects y.id
-    unended v = vote_now count u n x b e now (standing landed (plan b e now).entry) (step b e now landed) p (p.world.moves.moved b e now landed p.ready) y.id v.vote v.entered v.its
+    unended v = vote_now hosts u n x b e now (standing landed (plan b e now).entry) (step b e now landed) p (p.world.moves.moved b e now landed p.ready) y.id v.vote v.entered v.its
 
     by_case : HasVoted u y ⊎ RecordsVote n (standing landed (plan b e now).entry) y → HasAborted u y ⊎ AbortsNow n (step b e now landed).effects y → IsUnderAborted (counts u n x b e now landed) y
     by_case (inl v) (inl a) = told_before (j.aborts y v a)
@@ -168,12 +168,12 @@ either_state states.Active e = inr refl
 either_state other e = absurd cc
 
 -- what is lost had promised nothing
-lost_unpromised : (count : ℕ) (u : World) (n : ℕ) (x : Node) (b : Book) → WorldPremises count u → nth n u.nodes ≡ Some x → x.book ≡ Some b → (id : Numbers) (what : Ending) (f : Effect)
+lost_unpromised : (hosts : Hosts) (u : World) (n : ℕ) (x : Node) (b : Book) → WorldPremises hosts u → nth n u.nodes ≡ Some x → x.book ≡ Some b → (id : Numbers) (what : Ending) (f : Effect)
     → IsIn f (lost b) → IsEnd id what f → PromisesNothing id x.journal
-lost_unpromised count u n x b w found up id what f i its = by_case (in_lost b f i)
+lost_unpromised hosts u n x b w found up id what f i its = by_case (in_lost b f i)
   where
     ready : IsReady b
-    ready = w.moves.ready count u w.laws.reached n x b found up
+    ready = w.moves.ready hosts u w.laws.reached n x b found up
 
     life : (k : Numbers) → Life x.journal (happened_on n u.happened) k (transaction_at b k) (leaf_at b k)
     life k = subst (λ c. Life x.journal (happened_on n u.happened) k (transaction_at c k) (leaf_at c k)) (here x b up) (w.laws.lives n x found k)
@@ -193,8 +193,8 @@ lost_unpromised count u n x b w found up id what f i its = by_case (in_lost b f 
         (leaf_alone x.journal (happened_on n u.happened) h.one.id (transaction_at b h.one.id) h.one
         (subst (λ o. Life x.journal (happened_on n u.happened) h.one.id (transaction_at b h.one.id) o) there (life h.one.id))).life (either_state h.one.state h.open_still))
 
-pub aborts_falls : FallKeeps (λ count w. AbortsWereTold w)
-aborts_falls count u n x b p found up j y voted aborted =
+pub aborts_falls : FallKeeps (λ hosts w. AbortsWereTold w)
+aborts_falls hosts u n x b p found up j y voted aborted =
     by_case (new_abort u n (lost b) (goes_down n b u) (ap (λ (w : World). w.happened) (fallen n b u x found) ∙ ap (λ hs. u.happened ++ hs) (lost_maps n b)) y aborted)
   where
     before : HasVoted u y
@@ -203,5 +203,5 @@ aborts_falls count u n x b p found up j y voted aborted =
     by_case : HasAborted u y ⊎ AbortsNow n (lost b) y → IsUnderAborted (goes_down n b u) y
     by_case (inl a) = under_aborted_on u (goes_down n b u) (grows_falls u n x b found) y (j.aborts y before a)
     by_case (inr h) =
-        absurd (unpromised_vote u n x y.id found (lost_unpromised count u n x b p found up y.id h.what h.ends_now.effect h.ends_now.among h.ends_now.its)
+        absurd (unpromised_vote u n x y.id found (lost_unpromised hosts u n x b p found up y.id h.what h.ends_now.effect h.ends_now.among h.ends_now.its)
         (subst (HasVoted u) (sym (at_here n y h.ends_now.here)) before))

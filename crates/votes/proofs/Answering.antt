@@ -18,7 +18,7 @@ use Rattle.at_model.specs.Due.{may_expire}
 use Rattle.at_model.specs.Recover.{is_promise}
 use Rattle.at_model.specs.Seats.{is_prepared_durable, prepared, seated}
 use Rattle.at_model.specs.Step.{leaf_at, plan, step, transaction_at}
-use Rattle.at_model.specs.World.{Node, Who, World, nth}
+use Rattle.at_model.specs.World.{Node, Who, World, nth, Hosts}
 use Rattle.model_laws.specs.Agreement.{HasPosted, IsIn}
 use Rattle.model_laws.specs.Drawn.{with_entry}
 use Rattle.model_laws.specs.Grows.{Grows}
@@ -53,14 +53,14 @@ is_prepared u w y s e h =
     subst (λ k. HasPosted u y k notices.Prepared) (same_kind s.kind kinds.Durable (first_true (is_kind s.kind kinds.Durable) (is_state s.state states.Prepared) e))
     (subst (SeatSays u w y s.kind) (only_prepared s.state (second_true (is_kind s.kind kinds.Durable) (is_state s.state states.Prepared) e)) h)
 
-prepared_named : (count : ℕ) (u : World) (w : Who) (seats : List Enlistment) → AllByRecursion (SeatTells count u w) seats
-    → AllByRecursion (λ s. (y : Who) → who_named count s.endpoint ≡ Some y → HasPosted u y kinds.Durable notices.Prepared) (prepared seats)
-prepared_named count u w [] h = tt
-prepared_named count u w (s ∷ seats) (h, k) = by_test (is_prepared_durable s) refl (prepared_named count u w seats k)
+prepared_named : (hosts : Hosts) (u : World) (w : Who) (seats : List Enlistment) → AllByRecursion (SeatTells hosts u w) seats
+    → AllByRecursion (λ s. (y : Who) → who_named hosts s.endpoint ≡ Some y → HasPosted u y kinds.Durable notices.Prepared) (prepared seats)
+prepared_named hosts u w [] h = tt
+prepared_named hosts u w (s ∷ seats) (h, k) = by_test (is_prepared_durable s) refl (prepared_named hosts u w seats k)
   where
     by_test : (c : Bool) → is_prepared_durable s ≡ c
-        → AllByRecursion (λ s. (y : Who) → who_named count s.endpoint ≡ Some y → HasPosted u y kinds.Durable notices.Prepared) (prepared seats)
-        → AllByRecursion (λ s. (y : Who) → who_named count s.endpoint ≡ Some y → HasPosted u y kinds.Durable notices.Prepared)
+        → AllByRecursion (λ s. (y : Who) → who_named hosts s.endpoint ≡ Some y → HasPosted u y kinds.Durable notices.Prepared) (prepared seats)
+        → AllByRecursion (λ s. (y : Who) → who_named hosts s.endpoint ≡ Some y → HasPosted u y kinds.Durable notices.Prepared)
         (map seated (if c then s ∷ filter is_prepared_durable seats else filter is_prepared_durable seats))
     by_test true e rest = ((λ y named. is_prepared u w y s e (h y named)), rest)
     by_test false e rest = rest
@@ -69,20 +69,20 @@ prepared_named count u w (s ∷ seats) (h, k) = by_test (is_prepared_durable s) 
 durable_test : (s : Enlistment) → s.kind ≡ kinds.Durable → s.state ≡ states.Prepared → is_prepared_durable s ≡ true
 durable_test s k e = λ i. is_kind (k i) kinds.Durable && is_state (e i) states.Prepared
 
-named_among : (count n : ℕ) (id : Numbers) (seats : List Enlistment) (number : ℕ) (y : Who) → (s : SeatOf count seats number kinds.Durable y) → s.seat.state ≡ states.Prepared
-    → IsIn (registration (record { node = n; id = id }) number kinds.Durable y) (map (accepted_named n (nodes_of count) id) (prepared seats))
-named_among count n id seats number y s e =
-    subst (λ a. IsIn a (map (accepted_named n (nodes_of count) id) (prepared seats)))
+named_among : (hosts : Hosts) (n : ℕ) (id : Numbers) (seats : List Enlistment) (number : ℕ) (y : Who) → (s : SeatOf hosts seats number kinds.Durable y) → s.seat.state ≡ states.Prepared
+    → IsIn (registration (record { node = n; id = id }) number kinds.Durable y) (map (accepted_named n (nodes_of hosts) id) (prepared seats))
+named_among hosts n id seats number y s e =
+    subst (λ a. IsIn a (map (accepted_named n (nodes_of hosts) id) (prepared seats)))
     (λ i. record { transaction = record { node = n; id = id }; seat = Some (record { number = s.number_is i; kind = kinds.Durable }); participant = s.named i })
-    (mapped_in (accepted_named n (nodes_of count) id) (seated s.seat) (prepared seats)
+    (mapped_in (accepted_named n (nodes_of hosts) id) (seated s.seat) (prepared seats)
     (mapped_in seated s.seat (filter is_prepared_durable seats) (passes is_prepared_durable s.seat seats s.among (durable_test s.seat s.kind_is e))))
 
 -- a vote or a decision, once all have answered
-behind_votes : (count : ℕ) (u : World) (n : ℕ) (x : Node) (b : Book) (e : Event) (now : ℕ) (landed : Bool) → StepPremises count u n x b e → IsOutcome count u → (t : Transaction)
+behind_votes : (hosts : Hosts) (u : World) (n : ℕ) (x : Node) (b : Book) (e : Event) (now : ℕ) (landed : Bool) → StepPremises hosts u n x b e → IsOutcome hosts u → (t : Transaction)
     → transaction_at b t.id ≡ Some t → may_expire t.phase ≡ true → (how : How) → (IsAbort how → ⊥) → (step b e now landed).effects ≡ happens how t → (at : List Enlistment)
-    → AreCounted e t t.seats at → AllAnswered at → IsBehindVotes count u (record { node = n; id = t.id }) (prepared at)
-behind_votes count u n x b e now landed p j t found undecided how stays is at c (volatile, durable) = record {
-  named = prepared_named count u w at tells;
+    → AreCounted e t t.seats at → AllAnswered at → IsBehindVotes hosts u (record { node = n; id = t.id }) (prepared at)
+behind_votes hosts u n x b e now landed p j t found undecided how stays is at c (volatile, durable) = record {
+  named = prepared_named hosts u w at tells;
   volatile = λ number y i. voted_volatile number y (seat number kinds.Volatile y i);
   durable = λ number y i. voted_durable number y (seat number kinds.Durable y i);
 }
@@ -90,34 +90,34 @@ behind_votes count u n x b e now landed p j t found undecided how stays is at c 
     w : Who
     w = record { node = n; id = t.id }
 
-    tells : AllByRecursion (SeatTells count u w) at
-    tells = seats_at count u n x b e now landed p j t found how stays is at c
+    tells : AllByRecursion (SeatTells hosts u w) at
+    tells = seats_at hosts u n x b e now landed p j t found how stays is at c
 
     here : IsOpen x.journal (happened_on n u.happened) t.id
-    here = open_there count u n x b e p t found undecided
+    here = open_there hosts u n x b e p t found undecided
 
-    seat : (number : ℕ) (kind : Kind) (y : Who) → HasSeat u w number kind y → SeatOf count at number kind y
+    seat : (number : ℕ) (kind : Kind) (y : Who) → HasSeat u w number kind y → SeatOf hosts at number kind y
     seat number kind y i =
-        seat_of count n t.id at number kind y (subst (IsIn (registration w number kind y)) (at_entries count n t.id e t at c) (has_entry count u n x b e p t found undecided number kind y i))
+        seat_of hosts n t.id at number kind y (subst (IsIn (registration w number kind y)) (at_entries hosts n t.id e t at c) (has_entry hosts u n x b e p t found undecided number kind y i))
 
-    says : (number : ℕ) (kind : Kind) (y : Who) → (s : SeatOf count at number kind y) → SeatSays u w y kind s.seat.state
-    says number kind y s = subst (λ k. SeatSays u w y k s.seat.state) s.kind_is (one_of (SeatTells count u w) at s.seat tells s.among y s.named)
+    says : (number : ℕ) (kind : Kind) (y : Who) → (s : SeatOf hosts at number kind y) → SeatSays u w y kind s.seat.state
+    says number kind y s = subst (λ k. SeatSays u w y k s.seat.state) s.kind_is (one_of (SeatTells hosts u w) at s.seat tells s.among y s.named)
 
-    voted_volatile : (number : ℕ) (y : Who) → SeatOf count at number kinds.Volatile y → HasPosted u y kinds.Volatile notices.Prepared ⊎ HasPosted u y kinds.Volatile notices.ReadOnly
+    voted_volatile : (number : ℕ) (y : Who) → SeatOf hosts at number kinds.Volatile y → HasPosted u y kinds.Volatile notices.Prepared ⊎ HasPosted u y kinds.Volatile notices.ReadOnly
     voted_volatile number y s =
         volatile_says u w y s.seat.state (not_committed_open u n x.journal t.id here) (not_aborted_open u n x.journal t.id here)
         (has_answered kinds.Volatile at s.seat volatile s.among s.kind_is) (says number kinds.Volatile y s)
 
-    either : (number : ℕ) (y : Who) → (s : SeatOf count at number kinds.Durable y)
+    either : (number : ℕ) (y : Who) → (s : SeatOf hosts at number kinds.Durable y)
         → HasPosted u y kinds.Durable notices.ReadOnly ⊎ ((s.seat.state ≡ states.Prepared) × HasPosted u y kinds.Durable notices.Prepared)
         → HasPosted u y kinds.Durable notices.ReadOnly
-        ⊎ (HasPosted u y kinds.Durable notices.Prepared × IsIn (registration w number kinds.Durable y) (map (accepted_named n (nodes_of count) t.id) (prepared at)))
+        ⊎ (HasPosted u y kinds.Durable notices.Prepared × IsIn (registration w number kinds.Durable y) (map (accepted_named n (nodes_of hosts) t.id) (prepared at)))
     either number y s (inl h) = inl h
-    either number y s (inr (f, h)) = inr (h, named_among count n t.id at number y s f)
+    either number y s (inr (f, h)) = inr (h, named_among hosts n t.id at number y s f)
 
-    voted_durable : (number : ℕ) (y : Who) → SeatOf count at number kinds.Durable y
+    voted_durable : (number : ℕ) (y : Who) → SeatOf hosts at number kinds.Durable y
         → HasPosted u y kinds.Durable notices.ReadOnly
-        ⊎ (HasPosted u y kinds.Durable notices.Prepared × IsIn (registration w number kinds.Durable y) (map (accepted_named n (nodes_of count) t.id) (prepared at)))
+        ⊎ (HasPosted u y kinds.Durable notices.Prepared × IsIn (registration w number kinds.Durable y) (map (accepted_named n (nodes_of hosts) t.id) (prepared at)))
     voted_durable number y s =
         either number y s
         (durable_says u w y s.seat.state (not_committed_open u n x.journal t.id here) (not_aborted_open u n x.journal t.id here)
@@ -132,23 +132,23 @@ vote_recorded : (P : Record → Type 0) (o : Option Epr) (f : Epr → Record) �
 vote_recorded P None f h = tt
 vote_recorded P (Some to) f h = h to
 
-deed_records : (count : ℕ) (v : World) (n : ℕ) (how : How) (t : Transaction) (at : List Enlistment)
-    → ((IsAbort how → ⊥) → may_expire t.phase ≡ true → AllAnswered at → IsBehindVotes count v (record { node = n; id = t.id }) (prepared at)) → StoodFor how t → StandsOn how at
-    → IfRecorded (RecordAnswers count v n) (recorded how t at)
-deed_records count v n How.Votes t at f stood stands =
-    vote_recorded (RecordAnswers count v n) (superior_at t.superior) (λ superior. records.Voted t.id superior (prepared at)) (λ to. f (λ a. a) stood.0 stands.0)
-deed_records count v n How.Decides t at f stood stands = f (λ a. a) stood.0 stands.0
-deed_records count v n How.DecidesAlone t at f stood stands = f (λ a. a) stood.0 stands.0
-deed_records count v n How.Commits t at f stood stands = tt
-deed_records count v n How.RollsBack t at f stood stands = tt
-deed_records count v n How.Ends t at f stood stands = tt
-deed_records count v n other t at f stood stands = tt
+deed_records : (hosts : Hosts) (v : World) (n : ℕ) (how : How) (t : Transaction) (at : List Enlistment)
+    → ((IsAbort how → ⊥) → may_expire t.phase ≡ true → AllAnswered at → IsBehindVotes hosts v (record { node = n; id = t.id }) (prepared at)) → StoodFor how t → StandsOn how at
+    → IfRecorded (RecordAnswers hosts v n) (recorded how t at)
+deed_records hosts v n How.Votes t at f stood stands =
+    vote_recorded (RecordAnswers hosts v n) (superior_at t.superior) (λ superior. records.Voted t.id superior (prepared at)) (λ to. f (λ a. a) stood.0 stands.0)
+deed_records hosts v n How.Decides t at f stood stands = f (λ a. a) stood.0 stands.0
+deed_records hosts v n How.DecidesAlone t at f stood stands = f (λ a. a) stood.0 stands.0
+deed_records hosts v n How.Commits t at f stood stands = tt
+deed_records hosts v n How.RollsBack t at f stood stands = tt
+deed_records hosts v n How.Ends t at f stood stands = tt
+deed_records hosts v n other t at f stood stands = tt
 
-of_none : (count : ℕ) (v : World) (n : ℕ) (entry : Option Record) → IsOfNoTransaction entry → IfRecorded (RecordAnswers count v n) entry
-of_none count v n None h = tt
-of_none count v n (Some (records.Voted id superior seats)) h = absurd h
-of_none count v n (Some (records.Decided id seats)) h = absurd h
-of_none count v n (Some other) h = tt
+of_none : (hosts : Hosts) (v : World) (n : ℕ) (entry : Option Record) → IsOfNoTransaction entry → IfRecorded (RecordAnswers hosts v n) entry
+of_none hosts v n None h = tt
+of_none hosts v n (Some (records.Voted id superior seats)) h = absurd h
+of_none hosts v n (Some (records.Decided id seats)) h = absurd h
+of_none hosts v n (Some other) h = tt
 
 -- the journal behind a step
 pub as_written : (entry : Option Record) (landed : Bool) (rs : List Record) → with_entry entry landed rs ≡ rs ++ written (standing landed entry)
@@ -162,8 +162,8 @@ all_written P None h = tt
 all_written P (Some r) h = (h, tt)
 
 pub records_answer_step : StepKeeps RecordsAnswer
-records_answer_step count u n x b e now landed p j m y found =
-    each_put (λ k z. AllByRecursion (RecordAnswers count w k) z.journal) u.nodes n x behind_node p.found this others m y found
+records_answer_step hosts u n x b e now landed p j m y found =
+    each_put (λ k z. AllByRecursion (RecordAnswers hosts w k) z.journal) u.nodes n x behind_node p.found this others m y found
   where
     w : World
     w = counts u n x b e now landed
@@ -174,11 +174,11 @@ records_answer_step count u n x b e now landed p j m y found =
     behind_node : Node
     behind_node = record x { book = Some (step b e now landed).book; journal = with_entry (plan b e now).entry landed x.journal }
 
-    others : (k : ℕ) (z : Node) → (k ≡ n → ⊥) → nth k u.nodes ≡ Some z → AllByRecursion (RecordAnswers count w k) z.journal
-    others k z differ r = all_more (RecordAnswers count u k) (RecordAnswers count w k) z.journal (λ s. record_on count u w g k s (λ id promise. none_there id)) (j.answers k z r)
+    others : (k : ℕ) (z : Node) → (k ≡ n → ⊥) → nth k u.nodes ≡ Some z → AllByRecursion (RecordAnswers hosts w k) z.journal
+    others k z differ r = all_more (RecordAnswers hosts u k) (RecordAnswers hosts w k) z.journal (λ s. record_on hosts u w g k s (λ id promise. none_there id)) (j.answers k z r)
       where
         none_there : (id : Numbers) → AcceptsNoMore u w (record { node = k; id = id })
-        none_there id number kind who i = either (seat_joins count u n x b e now landed p (record { node = k; id = id }) number kind who i)
+        none_there id number kind who i = either (seat_joins hosts u n x b e now landed p (record { node = k; id = id }) number kind who i)
           where
             either : HasSeat u (record { node = k; id = id }) number kind who ⊎ JoinsOpen n b (step b e now landed).book (record { node = k; id = id })
                 → HasSeat u (record { node = k; id = id }) number kind who
@@ -187,13 +187,13 @@ records_answer_step count u n x b e now landed p j m y found =
 
     -- who has promised accepts nobody
     no_more : (s : Record) → IsIn s behind_node.journal → (id : Numbers) → is_promise id s ≡ true → AcceptsNoMore u w (record { node = n; id = id })
-    no_more s there id promise number kind who i = either (seat_joins count u n x b e now landed p (record { node = n; id = id }) number kind who i)
+    no_more s there id promise number kind who i = either (seat_joins hosts u n x b e now landed p (record { node = n; id = id }) number kind who i)
       where
         closed : JoinsOpen n b (step b e now landed).book (record { node = n; id = id }) → ⊥
         closed h =
             (is_open behind_node.journal (happened_on n w.happened) id h.new
             (life_of behind_node.journal (happened_on n w.happened) id (transaction_at (book_of behind_node) id) (leaf_at (book_of behind_node) id) h.new
-            ((behind count u n x b e now landed p).lives n behind_node (put_this u.nodes n x behind_node p.found) id) h.stands) h.undecided).nothing s there promise
+            ((behind hosts u n x b e now landed p).lives n behind_node (put_this u.nodes n x behind_node p.found) id) h.stands) h.undecided).nothing s there promise
 
         either : HasSeat u (record { node = n; id = id }) number kind who ⊎ JoinsOpen n b (step b e now landed).book (record { node = n; id = id })
             → HasSeat u (record { node = n; id = id }) number kind who
@@ -207,24 +207,24 @@ records_answer_step count u n x b e now landed p j m y found =
     in_journal s (inl i) = subst (IsIn s) (sym (as_written (plan b e now).entry landed x.journal)) (in_front s x.journal (written entry) i)
     in_journal s (inr i) = subst (IsIn s) (sym (as_written (plan b e now).entry landed x.journal)) (in_back s x.journal (written entry) i)
 
-    old : AllByRecursion (RecordAnswers count w n) x.journal
-    old = all_of (RecordAnswers count w n) x.journal (λ s i. record_on count u w g n s (no_more s (in_journal s (inl i))) (one_of (RecordAnswers count u n) x.journal s (j.answers n x p.found) i))
+    old : AllByRecursion (RecordAnswers hosts w n) x.journal
+    old = all_of (RecordAnswers hosts w n) x.journal (λ s i. record_on hosts u w g n s (no_more s (in_journal s (inl i))) (one_of (RecordAnswers hosts u n) x.journal s (j.answers n x p.found) i))
 
-    in_u : Done b e now entry (step b e now landed) → IfRecorded (RecordAnswers count u n) entry
+    in_u : Done b e now entry (step b e now landed) → IfRecorded (RecordAnswers hosts u n) entry
     in_u (did t c answer found d a items outs effects) =
-        subst (IfRecorded (RecordAnswers count u n)) (sym d.records)
-        (deed_records count u n d.how t d.at
-        (λ stays undecided all. behind_votes count u n x b e now landed p j t found undecided d.how stays (effects ∙ d.happened) d.at d.counted all) d.stood d.behind)
-    in_u (undone answer a none is) = subst (IfRecorded (RecordAnswers count u n)) (sym none) tt
-    in_u (registered t a r found came at says none is) = subst (IfRecorded (RecordAnswers count u n)) (sym none) tt
-    in_u (made t a c id came at says next born none items outs effects) = subst (IfRecorded (RecordAnswers count u n)) (sym none) tt
-    in_u (elsewhere none items roots) = of_none count u n entry none
+        subst (IfRecorded (RecordAnswers hosts u n)) (sym d.records)
+        (deed_records hosts u n d.how t d.at
+        (λ stays undecided all. behind_votes hosts u n x b e now landed p j t found undecided d.how stays (effects ∙ d.happened) d.at d.counted all) d.stood d.behind)
+    in_u (undone answer a none is) = subst (IfRecorded (RecordAnswers hosts u n)) (sym none) tt
+    in_u (registered t a r found came at says none is) = subst (IfRecorded (RecordAnswers hosts u n)) (sym none) tt
+    in_u (made t a c id came at says next born none items outs effects) = subst (IfRecorded (RecordAnswers hosts u n)) (sym none) tt
+    in_u (elsewhere none items roots) = of_none hosts u n entry none
 
-    new : AllByRecursion (RecordAnswers count w n) (written entry)
+    new : AllByRecursion (RecordAnswers hosts w n) (written entry)
     new =
-        all_of (RecordAnswers count w n) (written entry)
-        (λ s i. record_on count u w g n s (no_more s (in_journal s (inr i)))
-        (one_of (RecordAnswers count u n) (written entry) s (all_written (RecordAnswers count u n) entry (in_u (steps_do.steps b e now landed p.ready.phases p.ready.finished))) i))
+        all_of (RecordAnswers hosts w n) (written entry)
+        (λ s i. record_on hosts u w g n s (no_more s (in_journal s (inr i)))
+        (one_of (RecordAnswers hosts u n) (written entry) s (all_written (RecordAnswers hosts u n) entry (in_u (steps_do.steps b e now landed p.ready.phases p.ready.finished))) i))
 
-    this : AllByRecursion (RecordAnswers count w n) behind_node.journal
-    this = subst (AllByRecursion (RecordAnswers count w n)) (sym (as_written (plan b e now).entry landed x.journal)) (all_join (RecordAnswers count w n) x.journal (written entry) old new)
+    this : AllByRecursion (RecordAnswers hosts w n) behind_node.journal
+    this = subst (AllByRecursion (RecordAnswers hosts w n)) (sym (as_written (plan b e now).entry landed x.journal)) (all_join (RecordAnswers hosts w n) x.journal (written entry) old new)

@@ -15,7 +15,7 @@ use Rattle.at_tables.specs.declared.cells.State.TheVariants as states
 use Rattle.at_model.specs.Book.{Book, Enlistment, Leaf, Transaction}
 use Rattle.at_model.specs.Moves.{Change}
 use Rattle.at_model.specs.Step.{moment_of, plan, step}
-use Rattle.at_model.specs.World.{Node, Who, World}
+use Rattle.at_model.specs.World.{Node, Who, World, Hosts}
 use Rattle.model_laws.specs.Agreement.{HasCommitted, HasPosted, IsIn}
 use Rattle.model_laws.specs.Grows.{Grows}
 use Rattle.model_laws.specs.Reached.{counts}
@@ -58,55 +58,55 @@ no_leaf_commit m e l c q (aborted to known is gone ended) says = let f : notices
 no_leaf_commit m e l c q (tells_nothing none) says = says_notice q.message notices.Commit none says
 
 -- a seat that is told to commit
-pub seat_commits : (count : ℕ) (u : World) (n : ℕ) (x : Node) (b : Book) (e : Event) (now : ℕ) (landed : Bool) → StepPremises count u n x b e → IsOutcome count u
-    → (d : TransactionDid b e now (standing landed (plan b e now).entry) (step b e now landed)) (s : Enlistment) (y : Who) → IsIn s d.old.seats → who_named count s.participant ≡ Some y
+pub seat_commits : (hosts : Hosts) (u : World) (n : ℕ) (x : Node) (b : Book) (e : Event) (now : ℕ) (landed : Bool) → StepPremises hosts u n x b e → IsOutcome hosts u
+    → (d : TransactionDid b e now (standing landed (plan b e now).entry) (step b e now landed)) (s : Enlistment) (y : Who) → IsIn s d.old.seats → who_named hosts s.participant ≡ Some y
     → (s.state ≡ states.Committing) ⊎ (IsCommit d.deed.how × IsWhy e d.old s states.Prepared)
     → HasPosted (counts u n x b e now landed) y s.kind notices.Prepared × HasCommitted (counts u n x b e now landed) (record { node = n; id = d.old.id })
-seat_commits count u n x b e now landed p j d s y i who (inl is) =
+seat_commits hosts u n x b e now landed p j d s y i who (inl is) =
     let h : HasPosted u y s.kind notices.Prepared × HasCommitted u (record { node = n; id = d.old.id }) =
-    subst (λ state. SeatSays u (record { node = n; id = d.old.id }) y s.kind state) is (seat_tells count u n x b e p j d.old s d.found i y who) in
-    let g : Grows u (counts u n x b e now landed) = grown count u n x b e now landed p in
+    subst (λ state. SeatSays u (record { node = n; id = d.old.id }) y s.kind state) is (seat_tells hosts u n x b e p j d.old s d.found i y who) in
+    let g : Grows u (counts u n x b e now landed) = grown hosts u n x b e now landed p in
     (posted_on u (counts u n x b e now landed) g y s.kind notices.Prepared h.0, committed_on u (counts u n x b e now landed) g (record { node = n; id = d.old.id }) h.1)
-seat_commits count u n x b e now landed p j d s y i who (inr (commits, why)) = (
-  posted_on u (counts u n x b e now landed) (grown count u n x b e now landed p) y s.kind notices.Prepared (why_prepared count u n x b e p j d.old s y d.found i who why),
+seat_commits hosts u n x b e now landed p j d s y i who (inr (commits, why)) = (
+  posted_on u (counts u n x b e now landed) (grown hosts u n x b e now landed p) y s.kind notices.Prepared (why_prepared hosts u n x b e p j d.old s y d.found i who why),
   commits_now u n x b e now landed (standing landed (plan b e now).entry) d commits,
 )
 
-commit_to : (count : ℕ) (u : World) (n : ℕ) (x : Node) (b : Book) (e : Event) (now : ℕ) (landed : Bool) → StepPremises count u n x b e → IsOutcome count u
+commit_to : (hosts : Hosts) (u : World) (n : ℕ) (x : Node) (b : Book) (e : Event) (now : ℕ) (landed : Bool) → StepPremises hosts u n x b e → IsOutcome hosts u
     → (d : TransactionDid b e now (standing landed (plan b e now).entry) (step b e now landed)) (s : Enlistment) (m : ℕ) (k : Numbers) → IsIn s d.old.seats
-    → (s.state ≡ states.Committing) ⊎ (IsCommit d.deed.how × IsWhy e d.old s states.Prepared) → LeadsTo count s.participant m (targets.Participant k s.kind)
+    → (s.state ≡ states.Committing) ⊎ (IsCommit d.deed.how × IsWhy e d.old s states.Prepared) → LeadsTo hosts s.participant m (targets.Participant k s.kind)
     → HasPosted (counts u n x b e now landed) (record { node = m; id = k }) s.kind notices.Prepared × IsUnderCommitted (counts u n x b e now landed) (record { node = m; id = k }) s.kind
-commit_to count u n x b e now landed p j d s m k i why leads =
-    let who : who_named count s.participant ≡ Some (record { node = m; id = k }) = leads_who count s.participant m (targets.Participant k s.kind) leads in
-    let (voted, ended) = seat_commits count u n x b e now landed p j d s (record { node = m; id = k }) i who why in (
+commit_to hosts u n x b e now landed p j d s m k i why leads =
+    let who : who_named hosts s.participant ≡ Some (record { node = m; id = k }) = leads_who hosts s.participant m (targets.Participant k s.kind) leads in
+    let (voted, ended) = seat_commits hosts u n x b e now landed p j d s (record { node = m; id = k }) i who why in (
       voted,
       record {
         transaction = record { node = n; id = d.old.id };
         number = s.number;
-        seat = seat_on u (counts u n x b e now landed) (grown count u n x b e now landed p) (record { node = n; id = d.old.id }) s.number s.kind (record { node = m; id = k })
-            (has_seat count u n x b e p d.old s (record { node = m; id = k }) d.found i who);
+        seat = seat_on u (counts u n x b e now landed) (grown hosts u n x b e now landed p) (record { node = n; id = d.old.id }) s.number s.kind (record { node = m; id = k })
+            (has_seat hosts u n x b e p d.old s (record { node = m; id = k }) d.found i who);
         committed = ended;
       },
     )
 
-pub commit_told : (count : ℕ) (u : World) (n : ℕ) (x : Node) (b : Book) (e : Event) (now : ℕ) (landed : Bool) → StepPremises count u n x b e → IsOutcome count u → SeatsAre count b → (q : Post)
-    → Tells b e now (standing landed (plan b e now).entry) (step b e now landed) notices.Commit q → CommitIsBacked count (counts u n x b e now landed) q
-commit_told count u n x b e now landed p j are q (to_seat d s i why is) to m k kind says sent leads =
-    let there : LeadsTo count s.participant m (targets.Participant k kind) = subst (λ f. LeadsTo count f m (targets.Participant k kind)) (same_end q.to to s.participant sent is.sent) leads in
+pub commit_told : (hosts : Hosts) (u : World) (n : ℕ) (x : Node) (b : Book) (e : Event) (now : ℕ) (landed : Bool) → StepPremises hosts u n x b e → IsOutcome hosts u → SeatsAre hosts b → (q : Post)
+    → Tells b e now (standing landed (plan b e now).entry) (step b e now landed) notices.Commit q → CommitIsBacked hosts (counts u n x b e now landed) q
+commit_told hosts u n x b e now landed p j are q (to_seat d s i why is) to m k kind says sent leads =
+    let there : LeadsTo hosts s.participant m (targets.Participant k kind) = subst (λ f. LeadsTo hosts f m (targets.Participant k kind)) (same_end q.to to s.participant sent is.sent) leads in
     let same : kind ≡ s.kind = (are d.old s d.found i).kind m k kind there in
     subst (λ c. HasPosted (counts u n x b e now landed) (record { node = m; id = k }) c notices.Prepared × IsUnderCommitted (counts u n x b e now landed) (record { node = m; id = k }) c) (sym same)
-    (commit_to count u n x b e now landed p j d s m k i why (subst (λ c. LeadsTo count s.participant m (targets.Participant k c)) same there))
-commit_told count u n x b e now landed p j are q (to_left_seat d s i durable left said is from) to m k kind says sent leads = absurd cc
-commit_told count u n x b e now landed p j are q (to_superior d c up known why is) to m k kind says sent leads = absurd (no_commit_up d.old d.deed.how d.deed.at c why)
-commit_told count u n x b e now landed p j are q (says_aborted d c up under aborts is known from) to m k kind says sent leads = absurd cc
-commit_told count u n x b e now landed p j are q (from_left_link d c s up under left said is known from) to m k kind says sent leads = absurd cc
-commit_told count u n x b e now landed p j are q (left_link_aborted d c up under is known from) to m k kind says sent leads = absurd cc
-commit_told count u n x b e now landed p j are q (to_initiator d up known why from) to m k kind says sent leads = absurd (no_commit_told d.deed.how why)
-commit_told count u n x b e now landed p j are q (to_asking d c up there done asked is from) to m k kind says sent leads = absurd cc
-commit_told count u n x b e now landed p j are q (leaf_says d h) to m k kind says sent leads = absurd (no_leaf_commit (moment_of b now) e d.old d.change q h says)
-commit_told count u n x b e now landed p j are q (activity_says d h) to m k kind says sent leads =
-    absurd (no_participant count u n x b e p (moment_of b now) d.old d.change q d.found h notices.Commit to m k kind says sent leads)
-commit_told count u n x b e now landed p j are q (to_late_seat d c late is i same) to m k kind says sent leads = absurd cc
-commit_told count u n x b e now landed p j are q (as_no_seat d id s up target durable unknown came from is same) to m k kind says sent leads = absurd cc
-commit_told count u n x b e now landed p j are q (as_no_participant d id c up asked target unknown came why from same) to m k kind says sent leads = absurd (no_commit_none asked why)
-commit_told count u n x b e now landed p j are q (as_committed d id up target kept came from is same) to m k kind says sent leads = absurd cc
+    (commit_to hosts u n x b e now landed p j d s m k i why (subst (λ c. LeadsTo hosts s.participant m (targets.Participant k c)) same there))
+commit_told hosts u n x b e now landed p j are q (to_left_seat d s i durable left said is from) to m k kind says sent leads = absurd cc
+commit_told hosts u n x b e now landed p j are q (to_superior d c up known why is) to m k kind says sent leads = absurd (no_commit_up d.old d.deed.how d.deed.at c why)
+commit_told hosts u n x b e now landed p j are q (says_aborted d c up under aborts is known from) to m k kind says sent leads = absurd cc
+commit_told hosts u n x b e now landed p j are q (from_left_link d c s up under left said is known from) to m k kind says sent leads = absurd cc
+commit_told hosts u n x b e now landed p j are q (left_link_aborted d c up under is known from) to m k kind says sent leads = absurd cc
+commit_told hosts u n x b e now landed p j are q (to_initiator d up known why from) to m k kind says sent leads = absurd (no_commit_told d.deed.how why)
+commit_told hosts u n x b e now landed p j are q (to_asking d c up there done asked is from) to m k kind says sent leads = absurd cc
+commit_told hosts u n x b e now landed p j are q (leaf_says d h) to m k kind says sent leads = absurd (no_leaf_commit (moment_of b now) e d.old d.change q h says)
+commit_told hosts u n x b e now landed p j are q (activity_says d h) to m k kind says sent leads =
+    absurd (no_participant hosts u n x b e p (moment_of b now) d.old d.change q d.found h notices.Commit to m k kind says sent leads)
+commit_told hosts u n x b e now landed p j are q (to_late_seat d c late is i same) to m k kind says sent leads = absurd cc
+commit_told hosts u n x b e now landed p j are q (as_no_seat d id s up target durable unknown came from is same) to m k kind says sent leads = absurd cc
+commit_told hosts u n x b e now landed p j are q (as_no_participant d id c up asked target unknown came why from same) to m k kind says sent leads = absurd (no_commit_none asked why)
+commit_told hosts u n x b e now landed p j are q (as_committed d id up target kept came from is same) to m k kind says sent leads = absurd cc

@@ -19,7 +19,7 @@ use Rattle.at_model.specs.Due.{may_expire}
 use Rattle.at_model.specs.Recover.{is_sub_committed, live, recover, recovered_decided, recovered_seat, recovered_voted}
 use Rattle.at_model.specs.Seats.{ending}
 use Rattle.at_model.specs.Step.{leaf_at, transaction_at}
-use Rattle.at_model.specs.World.{Happened, Node, Posted, Who, World, accepted_seat, goes_down, happened_at, is_lost_leaf, is_lost_root, is_lost_subordinate, leaf_lost, lost_in, nth, put_nth, transaction_lost}
+use Rattle.at_model.specs.World.{Happened, Node, Posted, Who, World, accepted_seat, goes_down, happened_at, is_lost_leaf, is_lost_root, is_lost_subordinate, leaf_lost, lost_in, nth, put_nth, transaction_lost, Hosts}
 use Rattle.model_laws.specs.Agreement.{HasAborted, HasCommitted, HasPosted, IsIn}
 use Rattle.model_laws.specs.Grows.{Grows}
 use Rattle.model_laws.specs.Reached.{fell}
@@ -49,12 +49,12 @@ use Rattle.votes.proofs.Premises.{FallKeeps, WorldLaws, WorldPremises}
 use Rattle.votes.proofs.SeatsAt.{among_book}
 
 -- seats as a record names them
-recovered_tells : (count : ℕ) (u v : World) → Grows u v → (w : Who) (seats : List Seated) (state : State) → (state ≡ states.Prepared) ⊎ ((state ≡ states.Committing) × HasCommitted v w)
-    → AllByRecursion (λ s. (y : Who) → who_named count s.endpoint ≡ Some y → HasPosted u y kinds.Durable notices.Prepared) seats
-    → AllByRecursion (SeatTells count v w) (map (recovered_seat state) seats)
-recovered_tells count u v g w seats state h named =
-    all_map (SeatTells count v w) (recovered_seat state) seats
-    (all_more (λ s. (y : Who) → who_named count s.endpoint ≡ Some y → HasPosted u y kinds.Durable notices.Prepared) (λ s. SeatTells count v w (recovered_seat state s)) seats
+recovered_tells : (hosts : Hosts) (u v : World) → Grows u v → (w : Who) (seats : List Seated) (state : State) → (state ≡ states.Prepared) ⊎ ((state ≡ states.Committing) × HasCommitted v w)
+    → AllByRecursion (λ s. (y : Who) → who_named hosts s.endpoint ≡ Some y → HasPosted u y kinds.Durable notices.Prepared) seats
+    → AllByRecursion (SeatTells hosts v w) (map (recovered_seat state) seats)
+recovered_tells hosts u v g w seats state h named =
+    all_map (SeatTells hosts v w) (recovered_seat state) seats
+    (all_more (λ s. (y : Who) → who_named hosts s.endpoint ≡ Some y → HasPosted u y kinds.Durable notices.Prepared) (λ s. SeatTells hosts v w (recovered_seat state s)) seats
     (λ s f y is. by_state h (posted_on u v g y kinds.Durable notices.Prepared (f y is))) named)
   where
     by_state : {y : Who} → (state ≡ states.Prepared) ⊎ ((state ≡ states.Committing) × HasCommitted v w) → HasPosted v y kinds.Durable notices.Prepared
@@ -62,46 +62,46 @@ recovered_tells count u v g w seats state h named =
     by_state {y = y} (inl e) k = subst (SeatSays v w y kinds.Durable) (sym e) k
     by_state {y = y} (inr (e, c)) k = subst (SeatSays v w y kinds.Durable) (sym e) (k, c)
 
-recovered_entries : (count n : ℕ) (id : Numbers) (state : State) (seats : List Seated)
-    → map (accepted_seat n (nodes_of count) id) (map (recovered_seat state) seats) ≡ map (accepted_named n (nodes_of count) id) seats
-recovered_entries count n id state [] = refl
-recovered_entries count n id state (s ∷ seats) = ap (λ zs. accepted_named n (nodes_of count) id s ∷ zs) (recovered_entries count n id state seats)
+recovered_entries : (hosts : Hosts) (n : ℕ) (id : Numbers) (state : State) (seats : List Seated)
+    → map (accepted_seat n (nodes_of hosts) id) (map (recovered_seat state) seats) ≡ map (accepted_named n (nodes_of hosts) id) seats
+recovered_entries hosts n id state [] = refl
+recovered_entries hosts n id state (s ∷ seats) = ap (λ zs. accepted_named n (nodes_of hosts) id s ∷ zs) (recovered_entries hosts n id state seats)
 
 -- a transaction that is recovered from a record that stood behind every answer
-record IsRecovered (count : ℕ) (v : World) (n : ℕ) (t : Transaction) : Type 0 where
-  tells : TransactionTells count v n t
-  keeps : KeepsItsDurable count v n t
+record IsRecovered (hosts : Hosts) (v : World) (n : ℕ) (t : Transaction) : Type 0 where
+  tells : TransactionTells hosts v n t
+  keeps : KeepsItsDurable hosts v n t
 
-recovered_so : (count : ℕ) (u v : World) → Grows u v → ((t y : Who) (number : ℕ) → HasSeat v t number kinds.Durable y → HasSeat u t number kinds.Durable y) → (n : ℕ) (id : Numbers) (seats : List Seated)
+recovered_so : (hosts : Hosts) (u v : World) → Grows u v → ((t y : Who) (number : ℕ) → HasSeat v t number kinds.Durable y → HasSeat u t number kinds.Durable y) → (n : ℕ) (id : Numbers) (seats : List Seated)
     (state : State) (t : Transaction) → t.id ≡ id → t.seats ≡ map (recovered_seat state) seats
-    → (state ≡ states.Prepared) ⊎ ((state ≡ states.Committing) × HasCommitted v (record { node = n; id = id })) → IsBehindVotes count u (record { node = n; id = id }) seats
-    → IsRecovered count v n t
-recovered_so count u v g same n id seats state t own sits h answers = record {
-  tells = subst (λ i. AllByRecursion (SeatTells count v (record { node = n; id = i })) t.seats) (sym own)
-      (subst (AllByRecursion (SeatTells count v (record { node = n; id = id }))) (sym sits) (recovered_tells count u v g (record { node = n; id = id }) seats state h answers.named));
+    → (state ≡ states.Prepared) ⊎ ((state ≡ states.Committing) × HasCommitted v (record { node = n; id = id })) → IsBehindVotes hosts u (record { node = n; id = id }) seats
+    → IsRecovered hosts v n t
+recovered_so hosts u v g same n id seats state t own sits h answers = record {
+  tells = subst (λ i. AllByRecursion (SeatTells hosts v (record { node = n; id = i })) t.seats) (sym own)
+      (subst (AllByRecursion (SeatTells hosts v (record { node = n; id = id }))) (sym sits) (recovered_tells hosts u v g (record { node = n; id = id }) seats state h answers.named));
   keeps = λ phase number y i.
-      subst (λ k. HasPosted v y kinds.Durable notices.ReadOnly ⊎ IsIn (registration (record { node = n; id = k }) number kinds.Durable y) (map (accepted_seat n (nodes_of count) k) t.seats)) (sym own)
+      subst (λ k. HasPosted v y kinds.Durable notices.ReadOnly ⊎ IsIn (registration (record { node = n; id = k }) number kinds.Durable y) (map (accepted_seat n (nodes_of hosts) k) t.seats)) (sym own)
       (either number y
       (answers.durable number y (same (record { node = n; id = id }) y number (subst (λ k. HasSeat v (record { node = n; id = k }) number kinds.Durable y) own i))));
 }
   where
     either : (number : ℕ) (y : Who) → HasPosted u y kinds.Durable notices.ReadOnly
-        ⊎ (HasPosted u y kinds.Durable notices.Prepared × IsIn (registration (record { node = n; id = id }) number kinds.Durable y) (map (accepted_named n (nodes_of count) id) seats))
-        → HasPosted v y kinds.Durable notices.ReadOnly ⊎ IsIn (registration (record { node = n; id = id }) number kinds.Durable y) (map (accepted_seat n (nodes_of count) id) t.seats)
+        ⊎ (HasPosted u y kinds.Durable notices.Prepared × IsIn (registration (record { node = n; id = id }) number kinds.Durable y) (map (accepted_named n (nodes_of hosts) id) seats))
+        → HasPosted v y kinds.Durable notices.ReadOnly ⊎ IsIn (registration (record { node = n; id = id }) number kinds.Durable y) (map (accepted_seat n (nodes_of hosts) id) t.seats)
     either number y (inl k) = inl (posted_on u v g y kinds.Durable notices.ReadOnly k)
     either number y (inr (k, i)) =
-        inr (subst (λ zs. IsIn (registration (record { node = n; id = id }) number kinds.Durable y) (map (accepted_seat n (nodes_of count) id) zs)) (sym sits)
-        (subst (IsIn (registration (record { node = n; id = id }) number kinds.Durable y)) (sym (recovered_entries count n id state seats)) i))
+        inr (subst (λ zs. IsIn (registration (record { node = n; id = id }) number kinds.Durable y) (map (accepted_seat n (nodes_of hosts) id) zs)) (sym sits)
+        (subst (IsIn (registration (record { node = n; id = id }) number kinds.Durable y)) (sym (recovered_entries hosts n id state seats)) i))
 
-recovered_one : (count : ℕ) (u v : World) → Grows u v → ((t y : Who) (number : ℕ) → HasSeat v t number kinds.Durable y → HasSeat u t number kinds.Durable y) → (n : ℕ) (base : List ℕ)
-    (rs : List Record) (t : Transaction) → TransactionLife rs (happened_on n v.happened) t.id t → (r : Record) → RecordAnswers count u n r → transaction_from base (live rs) r ≡ Some t
-    → IsRecovered count v n t
-recovered_one count u v g same n base rs t life (records.Voted id superior seats) answers is = by_commit (list_any (is_sub_committed id) (live rs)) is
+recovered_one : (hosts : Hosts) (u v : World) → Grows u v → ((t y : Who) (number : ℕ) → HasSeat v t number kinds.Durable y → HasSeat u t number kinds.Durable y) → (n : ℕ) (base : List ℕ)
+    (rs : List Record) (t : Transaction) → TransactionLife rs (happened_on n v.happened) t.id t → (r : Record) → RecordAnswers hosts u n r → transaction_from base (live rs) r ≡ Some t
+    → IsRecovered hosts v n t
+recovered_one hosts u v g same n base rs t life (records.Voted id superior seats) answers is = by_commit (list_any (is_sub_committed id) (live rs)) is
   where
-    by_commit : (c : Bool) → Some (recovered_voted id superior seats c) ≡ Some t → IsRecovered count v n t
+    by_commit : (c : Bool) → Some (recovered_voted id superior seats c) ≡ Some t → IsRecovered hosts v n t
     by_commit true e =
         let it : recovered_voted id superior seats true ≡ t = cc in
-        recovered_so count u v g same n id seats states.Committing t (ap (λ (z : Transaction). z.id) (sym it)) (ap (λ (z : Transaction). z.seats) (sym it))
+        recovered_so hosts u v g same n id seats states.Committing t (ap (λ (z : Transaction). z.id) (sym it)) (ap (λ (z : Transaction). z.seats) (sym it))
         (inr (
           refl,
           subst (λ i. HasCommitted v (record { node = n; id = i })) (ap (λ (z : Transaction). z.id) (sym it))
@@ -109,16 +109,16 @@ recovered_one count u v g same n base rs t life (records.Voted id superior seats
         )) answers
     by_commit false e =
         let it : recovered_voted id superior seats false ≡ t = cc in
-        recovered_so count u v g same n id seats states.Prepared t (ap (λ (z : Transaction). z.id) (sym it)) (ap (λ (z : Transaction). z.seats) (sym it)) (inl refl) answers
-recovered_one count u v g same n base rs t life (records.Decided id seats) answers is =
+        recovered_so hosts u v g same n id seats states.Prepared t (ap (λ (z : Transaction). z.id) (sym it)) (ap (λ (z : Transaction). z.seats) (sym it)) (inl refl) answers
+recovered_one hosts u v g same n base rs t life (records.Decided id seats) answers is =
     let it : recovered_decided base id seats ≡ t = cc in
-    recovered_so count u v g same n id seats states.Committing t (ap (λ (z : Transaction). z.id) (sym it)) (ap (λ (z : Transaction). z.seats) (sym it))
+    recovered_so hosts u v g same n id seats states.Committing t (ap (λ (z : Transaction). z.id) (sym it)) (ap (λ (z : Transaction). z.seats) (sym it))
     (inr (
       refl,
       subst (λ i. HasCommitted v (record { node = n; id = i })) (ap (λ (z : Transaction). z.id) (sym it))
           (commits_here v n rs t.id t life (ap (λ (z : Transaction). z.phase) (sym it))),
     )) answers
-recovered_one count u v g same n base rs t life other answers is = absurd cc
+recovered_one hosts u v g same n base rs t life other answers is = absurd cc
 
 -- what is lost
 lost_open : (n : ℕ) (b : Book) (s : Transaction) → IsIn s b.transactions → may_expire s.phase ≡ true → IsIn (happened_at n (ending s endings.Lost)) (lost_in n b)
@@ -159,25 +159,25 @@ one_same : {A : Type 0} (o : Option A) (x y : A) → o ≡ Some x → o ≡ Some
 one_same o x y e f = cc
 
 -- every clause
-falls_so : (count : ℕ) (u v : World) (n : ℕ) (x : Node) (b : Book) → WorldPremises count u → nth n u.nodes ≡ Some x → x.book ≡ Some b → IsOutcome count u → Grows u v → WorldLaws count v
-    → v ≡ record u { nodes = put_nth n (record x { book = None }) u.nodes; happened = u.happened ++ lost_in n b } → AbortsWereTold v → IsOutcome count v
-falls_so count u v n x b p found up j g laws is told = record {
-  says = λ m y f. each_put (λ k z. AllByRecursion (TransactionTells count v k) (book_of z).transactions) u.nodes n x down found
-      (all_of (TransactionTells count v n) (recover x.base x.journal).transactions (λ t i. (recovered t i).tells))
-      (λ k z differ r. all_more (TransactionTells count u k) (TransactionTells count v k) (book_of z).transactions (tells_on count u v g k) (j.says k z r)) m y (there m y f);
-  answers = λ m y f. each_put (λ k z. AllByRecursion (RecordAnswers count v k) z.journal) u.nodes n x down found
-      (all_more (RecordAnswers count u n) (RecordAnswers count v n) x.journal (same_record n) (j.answers n x found))
-      (λ k z differ r. all_more (RecordAnswers count u k) (RecordAnswers count v k) z.journal (same_record k) (j.answers k z r)) m y (there m y f);
-  keeps = λ m y f. each_put (λ k z. AllByRecursion (KeepsItsDurable count v k) (book_of z).transactions) u.nodes n x down found
-      (all_of (KeepsItsDurable count v n) (recover x.base x.journal).transactions (λ t i. (recovered t i).keeps))
-      (λ k z differ r. all_more (KeepsItsDurable count u k) (KeepsItsDurable count v k) (book_of z).transactions
-      (λ t h phase. durable_on count u v g k t (λ number kind who i. old (record { node = k; id = t.id }) number kind who i) (h phase)) (j.keeps k z r)) m y (there m y f);
-  commits = subst (λ (ps : List Posted). AllByRecursion (λ q. CommitIsBacked count v q.content) ps) (sym (ap (λ (z : World). z.posted) is))
-      (all_more (λ q. CommitIsBacked count u q.content) (λ q. CommitIsBacked count v q.content) u.posted (λ q. commit_on count u v g q.content) j.commits);
-  rollbacks = subst (λ (ps : List Posted). AllByRecursion (λ q. RollbackIsBacked count v q.content) ps) (sym (ap (λ (z : World). z.posted) is))
-      (all_more (λ q. RollbackIsBacked count u q.content) (λ q. RollbackIsBacked count v q.content) u.posted (λ q. rollback_on count u v g q.content) j.rollbacks);
-  committeds = subst (λ (ps : List Posted). AllByRecursion (λ q. CommittedIsBacked count v q.content) ps) (sym (ap (λ (z : World). z.posted) is))
-      (all_more (λ q. CommittedIsBacked count u q.content) (λ q. CommittedIsBacked count v q.content) u.posted (λ q. committed_backed_on count u v g q.content) j.committeds);
+falls_so : (hosts : Hosts) (u v : World) (n : ℕ) (x : Node) (b : Book) → WorldPremises hosts u → nth n u.nodes ≡ Some x → x.book ≡ Some b → IsOutcome hosts u → Grows u v → WorldLaws hosts v
+    → v ≡ record u { nodes = put_nth n (record x { book = None }) u.nodes; happened = u.happened ++ lost_in n b } → AbortsWereTold v → IsOutcome hosts v
+falls_so hosts u v n x b p found up j g laws is told = record {
+  says = λ m y f. each_put (λ k z. AllByRecursion (TransactionTells hosts v k) (book_of z).transactions) u.nodes n x down found
+      (all_of (TransactionTells hosts v n) (recover x.base x.journal).transactions (λ t i. (recovered t i).tells))
+      (λ k z differ r. all_more (TransactionTells hosts u k) (TransactionTells hosts v k) (book_of z).transactions (tells_on hosts u v g k) (j.says k z r)) m y (there m y f);
+  answers = λ m y f. each_put (λ k z. AllByRecursion (RecordAnswers hosts v k) z.journal) u.nodes n x down found
+      (all_more (RecordAnswers hosts u n) (RecordAnswers hosts v n) x.journal (same_record n) (j.answers n x found))
+      (λ k z differ r. all_more (RecordAnswers hosts u k) (RecordAnswers hosts v k) z.journal (same_record k) (j.answers k z r)) m y (there m y f);
+  keeps = λ m y f. each_put (λ k z. AllByRecursion (KeepsItsDurable hosts v k) (book_of z).transactions) u.nodes n x down found
+      (all_of (KeepsItsDurable hosts v n) (recover x.base x.journal).transactions (λ t i. (recovered t i).keeps))
+      (λ k z differ r. all_more (KeepsItsDurable hosts u k) (KeepsItsDurable hosts v k) (book_of z).transactions
+      (λ t h phase. durable_on hosts u v g k t (λ number kind who i. old (record { node = k; id = t.id }) number kind who i) (h phase)) (j.keeps k z r)) m y (there m y f);
+  commits = subst (λ (ps : List Posted). AllByRecursion (λ q. CommitIsBacked hosts v q.content) ps) (sym (ap (λ (z : World). z.posted) is))
+      (all_more (λ q. CommitIsBacked hosts u q.content) (λ q. CommitIsBacked hosts v q.content) u.posted (λ q. commit_on hosts u v g q.content) j.commits);
+  rollbacks = subst (λ (ps : List Posted). AllByRecursion (λ q. RollbackIsBacked hosts v q.content) ps) (sym (ap (λ (z : World). z.posted) is))
+      (all_more (λ q. RollbackIsBacked hosts u q.content) (λ q. RollbackIsBacked hosts v q.content) u.posted (λ q. rollback_on hosts u v g q.content) j.rollbacks);
+  committeds = subst (λ (ps : List Posted). AllByRecursion (λ q. CommittedIsBacked hosts v q.content) ps) (sym (ap (λ (z : World). z.posted) is))
+      (all_more (λ q. CommittedIsBacked hosts u q.content) (λ q. CommittedIsBacked hosts v q.content) u.posted (λ q. committed_backed_on hosts u v g q.content) j.committeds);
   aborts = told;
   gone = λ t y number h. gone_so t y (j.gone t y number (old t number kinds.Durable y h));
 }
@@ -191,19 +191,19 @@ falls_so count u v n x b p found up j g laws is told = record {
     old : (t : Who) (number : ℕ) (kind : Kind) (y : Who) → HasSeat v t number kind y → HasSeat u t number kind y
     old t number kind y i = subst (λ (z : World). HasSeat z t number kind y) is i
 
-    same_record : (k : ℕ) (r : Record) → RecordAnswers count u k r → RecordAnswers count v k r
-    same_record k r = record_on count u v g k r (λ id promise number kind y i. old (record { node = k; id = id }) number kind y i)
+    same_record : (k : ℕ) (r : Record) → RecordAnswers hosts u k r → RecordAnswers hosts v k r
+    same_record k r = record_on hosts u v g k r (λ id promise number kind y i. old (record { node = k; id = id }) number kind y i)
 
     is_down : nth n v.nodes ≡ Some down
     is_down = ap (λ (z : World). nth n z.nodes) is ∙ put_this u.nodes n x down found
 
-    recovered : (t : Transaction) → IsIn t (recover x.base x.journal).transactions → IsRecovered count v n t
+    recovered : (t : Transaction) → IsIn t (recover x.base x.journal).transactions → IsRecovered hosts v n t
     recovered t i =
         let s : StandsFor x.base (live x.journal) t = recovers_each.transactions x.base x.journal t i in
-        recovered_one count u v g (λ w y number h. old w number kinds.Durable y h) n x.base x.journal t
+        recovered_one hosts u v g (λ w y number h. old w number kinds.Durable y h) n x.base x.journal t
         (life_of x.journal (happened_on n v.happened) t.id (transaction_at (recover x.base x.journal) t.id) (leaf_at (recover x.base x.journal) t.id) t (laws.lives n down is_down t.id)
         (recovers_each.transaction x.base x.journal s.behind t s.live s.is)) s.behind
-        (one_of (RecordAnswers count u n) (live x.journal) s.behind (all_live (RecordAnswers count u n) x.journal (λ id superior seats h. tt) (j.answers n x found)) s.live) s.is
+        (one_of (RecordAnswers hosts u n) (live x.journal) s.behind (all_live (RecordAnswers hosts u n) x.journal (λ id superior seats h. tt) (j.answers n x found)) s.live) s.is
 
     -- a transaction of the book that falls
     held_down : (t : Who) → t.node ≡ n → (new : Transaction) → transaction_at (recover x.base x.journal) t.id ≡ Some new → IsHeld v t
@@ -260,7 +260,7 @@ falls_so count u v n x b p found up j g laws is told = record {
     gone_so t y (inl held) = held_so t y held
     gone_so t y (inr over) = inr (over_on u v g t y over)
 
-pub outcome_falls : FallKeeps (λ count w. AbortsWereTold w) → FallKeeps IsOutcome
-outcome_falls told count u n x b p found up j =
-    falls_so count u (goes_down n b u) n x b p found up j (grows_falls u n x b found)
-    (world_laws count (goes_down n b u) p.laws.few (fell u n x b p.laws.reached found up refl)) (gone_down n b u x found) (told count u n x b p found up j)
+pub outcome_falls : FallKeeps (λ hosts w. AbortsWereTold w) → FallKeeps IsOutcome
+outcome_falls told hosts u n x b p found up j =
+    falls_so hosts u (goes_down n b u) n x b p found up j (grows_falls u n x b found)
+    (world_laws hosts (goes_down n b u) p.laws.few (fell u n x b p.laws.reached found up refl)) (gone_down n b u x found) (told hosts u n x b p found up j)

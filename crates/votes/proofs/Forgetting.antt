@@ -17,7 +17,7 @@ use Rattle.at_model.specs.Moves.{Change}
 use Rattle.at_model.specs.Register.{on_register}
 use Rattle.at_model.specs.Seats.{all_left, in_state, is_durable, is_prepared_durable}
 use Rattle.at_model.specs.Step.{Outcome, moment_of, plan, step, transaction_at}
-use Rattle.at_model.specs.World.{Node, Who, World, accepted_seat, nth}
+use Rattle.at_model.specs.World.{Node, Who, World, accepted_seat, nth, Hosts}
 use Rattle.model_laws.specs.Agreement.{HasAborted, HasCommitted, HasPosted, IsIn}
 use Rattle.model_laws.specs.Behind.{IsUnanswered}
 use Rattle.model_laws.specs.Drawn.{with_entry}
@@ -85,69 +85,69 @@ no_one_prepared seats s none i k e =
     both : (c : Bool) → c ≡ true → c ≡ false → ⊥
     both c f h = cc
 
-says_at : (count : ℕ) (u : World) (w : Who) (at : List Enlistment) (number : ℕ) (y : Who) → AllByRecursion (SeatTells count u w) at → (s : SeatOf count at number kinds.Durable y)
+says_at : (hosts : Hosts) (u : World) (w : Who) (at : List Enlistment) (number : ℕ) (y : Who) → AllByRecursion (SeatTells hosts u w) at → (s : SeatOf hosts at number kinds.Durable y)
     → SeatSays u w y kinds.Durable s.seat.state
-says_at count u w at number y tells s = subst (λ k. SeatSays u w y k s.seat.state) s.kind_is (one_of (SeatTells count u w) at s.seat tells s.among y s.named)
+says_at hosts u w at number y tells s = subst (λ k. SeatSays u w y k s.seat.state) s.kind_is (one_of (SeatTells hosts u w) at s.seat tells s.among y s.named)
 
-left_over : (count : ℕ) (u : World) (n : ℕ) (x : Node) (b : Book) (e : Event) → StepPremises count u n x b e → (t : Transaction) → transaction_at b t.id ≡ Some t → may_expire t.phase ≡ true
-    → (at : List Enlistment) → AreCounted e t t.seats at → AllByRecursion (SeatTells count u (record { node = n; id = t.id })) at
+left_over : (hosts : Hosts) (u : World) (n : ℕ) (x : Node) (b : Book) (e : Event) → StepPremises hosts u n x b e → (t : Transaction) → transaction_at b t.id ≡ Some t → may_expire t.phase ≡ true
+    → (at : List Enlistment) → AreCounted e t t.seats at → AllByRecursion (SeatTells hosts u (record { node = n; id = t.id })) at
     → ((s : Enlistment) → IsIn s at → s.kind ≡ kinds.Durable → IsUnanswered s.state → ⊥) → list_any is_prepared_durable at ≡ false → (number : ℕ) (y : Who)
     → HasSeat u (record { node = n; id = t.id }) number kinds.Durable y → IsOver u (record { node = n; id = t.id }) y
-left_over count u n x b e p t found undecided at c tells all none number y i = either (durable_says u w y s.seat.state (not_committed_open u n x.journal t.id here)
-    (not_aborted_open u n x.journal t.id here) (all s.seat s.among s.kind_is) (says_at count u w at number y tells s))
+left_over hosts u n x b e p t found undecided at c tells all none number y i = either (durable_says u w y s.seat.state (not_committed_open u n x.journal t.id here)
+    (not_aborted_open u n x.journal t.id here) (all s.seat s.among s.kind_is) (says_at hosts u w at number y tells s))
   where
     w : Who
     w = record { node = n; id = t.id }
 
     here : IsOpen x.journal (happened_on n u.happened) t.id
-    here = open_there count u n x b e p t found undecided
+    here = open_there hosts u n x b e p t found undecided
 
-    s : SeatOf count at number kinds.Durable y
+    s : SeatOf hosts at number kinds.Durable y
     s =
-        seat_of count n t.id at number kinds.Durable y
-        (subst (IsIn (registration w number kinds.Durable y)) (at_entries count n t.id e t at c) (has_entry count u n x b e p t found undecided number kinds.Durable y i))
+        seat_of hosts n t.id at number kinds.Durable y
+        (subst (IsIn (registration w number kinds.Durable y)) (at_entries hosts n t.id e t at c) (has_entry hosts u n x b e p t found undecided number kinds.Durable y i))
 
     either : HasPosted u y kinds.Durable notices.ReadOnly ⊎ ((s.seat.state ≡ states.Prepared) × HasPosted u y kinds.Durable notices.Prepared) → IsOver u w y
     either (inl r) = inr (inl r)
     either (inr (f, h)) = absurd (no_one_prepared at s.seat none s.among s.kind_is f)
 
-ended_over : (count : ℕ) (u : World) (n : ℕ) (x : Node) (b : Book) (e : Event) → StepPremises count u n x b e → IsOutcome count u → (t : Transaction) → transaction_at b t.id ≡ Some t
-    → t.phase ≡ Phase.Committing → (at : List Enlistment) → AreCounted e t t.seats at → AllByRecursion (SeatTells count u (record { node = n; id = t.id })) at → all_left at ≡ true → (number : ℕ) (y : Who)
+ended_over : (hosts : Hosts) (u : World) (n : ℕ) (x : Node) (b : Book) (e : Event) → StepPremises hosts u n x b e → IsOutcome hosts u → (t : Transaction) → transaction_at b t.id ≡ Some t
+    → t.phase ≡ Phase.Committing → (at : List Enlistment) → AreCounted e t t.seats at → AllByRecursion (SeatTells hosts u (record { node = n; id = t.id })) at → all_left at ≡ true → (number : ℕ) (y : Who)
     → HasSeat u (record { node = n; id = t.id }) number kinds.Durable y → IsOver u (record { node = n; id = t.id }) y
-ended_over count u n x b e p j t found phase at c tells all number y i = either (kept (inr phase) number y i)
+ended_over hosts u n x b e p j t found phase at c tells all number y i = either (kept (inr phase) number y i)
   where
     w : Who
     w = record { node = n; id = t.id }
 
-    kept : KeepsItsDurable count u n t
-    kept = all_find (KeepsItsDurable count u n) transaction_id t.id b.transactions t (kept_before count u n x b e p j) found
+    kept : KeepsItsDurable hosts u n t
+    kept = all_find (KeepsItsDurable hosts u n) transaction_id t.id b.transactions t (kept_before hosts u n x b e p j) found
 
-    at_seat : SeatOf count at number kinds.Durable y → IsOver u w y
-    at_seat s = none_says u w y (subst (SeatSays u w y kinds.Durable) (left_none at s.seat all s.among s.kind_is) (says_at count u w at number y tells s))
+    at_seat : SeatOf hosts at number kinds.Durable y → IsOver u w y
+    at_seat s = none_says u w y (subst (SeatSays u w y kinds.Durable) (left_none at s.seat all s.among s.kind_is) (says_at hosts u w at number y tells s))
 
-    either : HasPosted u y kinds.Durable notices.ReadOnly ⊎ IsIn (registration w number kinds.Durable y) (map (accepted_seat n (nodes_of count) t.id) t.seats) → IsOver u w y
+    either : HasPosted u y kinds.Durable notices.ReadOnly ⊎ IsIn (registration w number kinds.Durable y) (map (accepted_seat n (nodes_of hosts) t.id) t.seats) → IsOver u w y
     either (inl r) = inr (inl r)
-    either (inr k) = at_seat (seat_of count n t.id at number kinds.Durable y (subst (IsIn (registration w number kinds.Durable y)) (at_entries count n t.id e t at c) k))
+    either (inr k) = at_seat (seat_of hosts n t.id at number kinds.Durable y (subst (IsIn (registration w number kinds.Durable y)) (at_entries hosts n t.id e t at c) k))
 
-forgotten_over : (count : ℕ) (u : World) (n : ℕ) (x : Node) (b : Book) (e : Event) (now : ℕ) (landed : Bool) → StepPremises count u n x b e → IsOutcome count u → (t : Transaction)
+forgotten_over : (hosts : Hosts) (u : World) (n : ℕ) (x : Node) (b : Book) (e : Event) (now : ℕ) (landed : Bool) → StepPremises hosts u n x b e → IsOutcome hosts u → (t : Transaction)
     → transaction_at b t.id ≡ Some t → (how : How) (at : List Enlistment) → AreCounted e t t.seats at → StoodFor how t → StandsOn how at → Becomes how t at None
     → (step b e now landed).effects ≡ happens how t → (number : ℕ) (y : Who) → HasSeat u (record { node = n; id = t.id }) number kinds.Durable y
     → IsOver (counts u n x b e now landed) (record { node = n; id = t.id }) y
-forgotten_over count u n x b e now landed p j t found How.Aborts at c stood stands becomes is number y i = inl (inl (did_abort u n x b e now landed t How.Aborts is tt))
-forgotten_over count u n x b e now landed p j t found How.RollsBack at c stood stands becomes is number y i = inl (inl (did_abort u n x b e now landed t How.RollsBack is tt))
-forgotten_over count u n x b e now landed p j t found How.Leaves at c stood stands becomes is number y i =
+forgotten_over hosts u n x b e now landed p j t found How.Aborts at c stood stands becomes is number y i = inl (inl (did_abort u n x b e now landed t How.Aborts is tt))
+forgotten_over hosts u n x b e now landed p j t found How.RollsBack at c stood stands becomes is number y i = inl (inl (did_abort u n x b e now landed t How.RollsBack is tt))
+forgotten_over hosts u n x b e now landed p j t found How.Leaves at c stood stands becomes is number y i =
     over_on u (counts u n x b e now landed) (grows_counts u n x b e now landed p.found) (record { node = n; id = t.id }) y
-    (left_over count u n x b e p t found stood.0 at c (seats_at count u n x b e now landed p j t found How.Leaves (λ a. a) is at c) (λ s k d. has_answered kinds.Durable at s stands.0.1 k d) stands.1 number y i)
-forgotten_over count u n x b e now landed p j t found How.DecidesAlone at c stood stands becomes is number y i =
+    (left_over hosts u n x b e p t found stood.0 at c (seats_at hosts u n x b e now landed p j t found How.Leaves (λ a. a) is at c) (λ s k d. has_answered kinds.Durable at s stands.0.1 k d) stands.1 number y i)
+forgotten_over hosts u n x b e now landed p j t found How.DecidesAlone at c stood stands becomes is number y i =
     over_on u (counts u n x b e now landed) (grows_counts u n x b e now landed p.found) (record { node = n; id = t.id }) y
-    (left_over count u n x b e p t found stood.0 at c (seats_at count u n x b e now landed p j t found How.DecidesAlone (λ a. a) is at c) (λ s k d. has_answered kinds.Durable at s stands.0.1 k d) stands.1 number y i)
-forgotten_over count u n x b e now landed p j t found How.Ends at c stood stands becomes is number y i =
+    (left_over hosts u n x b e p t found stood.0 at c (seats_at hosts u n x b e now landed p j t found How.DecidesAlone (λ a. a) is at c) (λ s k d. has_answered kinds.Durable at s stands.0.1 k d) stands.1 number y i)
+forgotten_over hosts u n x b e now landed p j t found How.Ends at c stood stands becomes is number y i =
     over_on u (counts u n x b e now landed) (grows_counts u n x b e now landed p.found) (record { node = n; id = t.id }) y
-    (ended_over count u n x b e p j t found stood at c (seats_at count u n x b e now landed p j t found How.Ends (λ a. a) is at c) stands number y i)
-forgotten_over count u n x b e now landed p j t found How.Forgets at c stood stands becomes is number y i =
+    (ended_over hosts u n x b e p j t found stood at c (seats_at hosts u n x b e now landed p j t found How.Ends (λ a. a) is at c) stands number y i)
+forgotten_over hosts u n x b e now landed p j t found How.Forgets at c stood stands becomes is number y i =
     inl (aborted_on u (counts u n x b e now landed) (grows_counts u n x b e now landed p.found) (record { node = n; id = t.id })
-    (aborts_here u n x.journal t.id t refl (stands_as count u n x b e p t found) stood))
-forgotten_over count u n x b e now landed p j t found other at c stood stands becomes is number y i = absurd becomes
+    (aborts_here u n x.journal t.id t refl (stands_as hosts u n x b e p t found) stood))
+forgotten_over hosts u n x b e now landed p j t found other at c stood stands becomes is number y i = absurd becomes
 
 -- what a step leaves in the book, and what it drops
 record Dropped (e : Event) (entry : Option Record) (o : Outcome) (s : Transaction) : Type 0 where
@@ -217,8 +217,8 @@ done_stays b e now entry o id s order found (made t a c next_one came at says ne
     inl (s, ap (find_by transaction_id id) items ∙ found_front transaction_id id b.transactions (t ∷ []) s found)
 done_stays b e now entry o id s order found (elsewhere none items roots) = inl (s, ap (find_by transaction_id id) items ∙ found)
 
-pub gone_is_over_step : StepKeeps (λ count w. GoneIsOver w)
-gone_is_over_step count u n x b e now landed p j t y number h = either (seat_joins count u n x b e now landed p t number kinds.Durable y h)
+pub gone_is_over_step : StepKeeps (λ hosts w. GoneIsOver w)
+gone_is_over_step hosts u n x b e now landed p j t y number h = either (seat_joins hosts u n x b e now landed p t number kinds.Durable y h)
   where
     w : World
     w = counts u n x b e now landed
@@ -249,7 +249,7 @@ gone_is_over_step count u n x b e now landed p j t y number h = either (seat_joi
         by_stay (inl (new, k)) = inl (held_here same new k)
         by_stay (inr d) =
             inr (subst (λ z. IsOver w z y) whole
-            (forgotten_over count u n x b e now landed p j s (ap (transaction_at b) own ∙ f) d.deed.how d.deed.at d.deed.counted d.deed.stood d.deed.behind
+            (forgotten_over hosts u n x b e now landed p j s (ap (transaction_at b) own ∙ f) d.deed.how d.deed.at d.deed.counted d.deed.stood d.deed.behind
             (subst (Becomes d.deed.how s d.deed.at) d.none d.deed.becomes) (d.effects ∙ d.deed.happened) number y (subst (λ z. HasSeat u z number kinds.Durable y) (sym whole) i)))
 
     there : HasSeat u t number kinds.Durable y → IsHeld u t → IsHeld w t ⊎ IsOver w t y

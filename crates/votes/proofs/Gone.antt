@@ -9,7 +9,7 @@ use Rattle.at_base.specs.declared.record.Record.{Record}
 use Rattle.at_model.specs.Book.{Leaf, Transaction}
 use Rattle.at_model.specs.Recover.{is_decided, is_leaf_prepared, is_promise, is_voted}
 use Rattle.at_model.specs.Step.{leaf_at, transaction_at}
-use Rattle.at_model.specs.World.{Node, Who, World, nth}
+use Rattle.at_model.specs.World.{Node, Who, World, nth, Hosts}
 use Rattle.model_laws.specs.Agreement.{HasPosted, IsIn}
 use Rattle.agreement.specs.Lives.{Life, book_of, ends, happened_on, has_aborted, has_committed, has_decided, has_voted, is_gone, is_undecided, waits, works}
 use Rattle.votes.specs.Voting.{HasVoted, LeftNoTrace, is_vote}
@@ -42,10 +42,10 @@ gone_ended rs fx id t l (waits x coordinator key value e f d s h k) none no_leaf
 pub same_node : (x y : Node) (o : Option Node) → o ≡ Some x → o ≡ Some y → x ≡ y
 same_node x y o e f = let g : Some x ≡ Some y = sym e ∙ f in cc
 
-pub traces : (count : ℕ) (u : World) → WorldPremises count u → (x : Who) → HasVoted u x → LeftNoTrace u x → ⊥
-traces count u w x (r, (y, found, i), vote) h =
+pub traces : (hosts : Hosts) (u : World) → WorldPremises hosts u → (x : Who) → HasVoted u x → LeftNoTrace u x → ⊥
+traces hosts u w x (r, (y, found, i), vote) h =
     gone_ended h.node.journal (happened_on x.node u.happened) x.id (transaction_at (book_of h.node) x.id) (leaf_at (book_of h.node) x.id) (w.laws.lives x.node h.node h.found x.id) h.transaction h.leaf r
     (subst (λ (z : Node). IsIn r z.journal) (same_node y h.node (nth x.node u.nodes) found h.found) i) (is_promised x.id r vote) h.ended
 
-pub not_both_votes : (count : ℕ) (u : World) → WorldPremises count u → (x : Who) → HasPosted u x kinds.Durable notices.Prepared → HasPosted u x kinds.Durable notices.ReadOnly → ⊥
-not_both_votes count u w x p r = traces count u w x (w.prepared x p) (w.read_only x r)
+pub not_both_votes : (hosts : Hosts) (u : World) → WorldPremises hosts u → (x : Who) → HasPosted u x kinds.Durable notices.Prepared → HasPosted u x kinds.Durable notices.ReadOnly → ⊥
+not_both_votes hosts u w x p r = traces hosts u w x (w.prepared x p) (w.read_only x r)

@@ -15,7 +15,7 @@ use Rattle.at_tables.specs.declared.cells.State.{State}
 use Rattle.at_tables.specs.declared.cells.State.TheVariants as states
 use Rattle.at_model.specs.Book.{Enlistment, Transaction}
 use Rattle.at_model.specs.Recover.{is_promise}
-use Rattle.at_model.specs.World.{Who, World}
+use Rattle.at_model.specs.World.{Who, World, Hosts}
 use Rattle.model_laws.specs.Agreement.{HasAborted, HasCommitted, HasPosted}
 use Rattle.model_laws.specs.Grows.{Grows}
 use Rattle.model_laws.proofs.Deciding.{all_more}
@@ -59,21 +59,21 @@ says_on u w g t x kind states.None (inr (inl h)) = inr (inl (posted_on u w g x k
 says_on u w g t x kind states.None (inr (inr h)) = inr (inr (left_on u w g t x kind h))
 says_on u w g t x kind other h = absurd h
 
-pub seat_tells_on : (count : ℕ) (u w : World) → Grows u w → (t : Who) (s : Enlistment) → SeatTells count u t s → SeatTells count w t s
-seat_tells_on count u w g t s h x named = says_on u w g t x s.kind s.state (h x named)
+pub seat_tells_on : (hosts : Hosts) (u w : World) → Grows u w → (t : Who) (s : Enlistment) → SeatTells hosts u t s → SeatTells hosts w t s
+seat_tells_on hosts u w g t s h x named = says_on u w g t x s.kind s.state (h x named)
 
-pub tells_on : (count : ℕ) (u w : World) → Grows u w → (n : ℕ) (t : Transaction) → TransactionTells count u n t → TransactionTells count w n t
-tells_on count u w g n t h =
-    all_more (SeatTells count u (record { node = n; id = t.id })) (SeatTells count w (record { node = n; id = t.id })) t.seats (seat_tells_on count u w g (record { node = n; id = t.id })) h
+pub tells_on : (hosts : Hosts) (u w : World) → Grows u w → (n : ℕ) (t : Transaction) → TransactionTells hosts u n t → TransactionTells hosts w n t
+tells_on hosts u w g n t h =
+    all_more (SeatTells hosts u (record { node = n; id = t.id })) (SeatTells hosts w (record { node = n; id = t.id })) t.seats (seat_tells_on hosts u w g (record { node = n; id = t.id })) h
 
 -- what a transaction has answered behind a record, where it accepts nobody more
 abbrev pub AcceptsNoMore : World → World → Who → Type 0
 AcceptsNoMore u w t = (number : ℕ) (kind : Kind) (x : Who) → HasSeat w t number kind x → HasSeat u t number kind x
 
-pub behind_on : (count : ℕ) (u w : World) → Grows u w → (t : Who) (seats : List Seated) → AcceptsNoMore u w t → IsBehindVotes count u t seats → IsBehindVotes count w t seats
-behind_on count u w g t seats no_more h = record {
-  named = all_more (λ s. (x : Who) → who_named count s.endpoint ≡ Some x → HasPosted u x kinds.Durable notices.Prepared)
-      (λ s. (x : Who) → who_named count s.endpoint ≡ Some x → HasPosted w x kinds.Durable notices.Prepared) seats (λ s f x e. posted_on u w g x kinds.Durable notices.Prepared (f x e)) h.named;
+pub behind_on : (hosts : Hosts) (u w : World) → Grows u w → (t : Who) (seats : List Seated) → AcceptsNoMore u w t → IsBehindVotes hosts u t seats → IsBehindVotes hosts w t seats
+behind_on hosts u w g t seats no_more h = record {
+  named = all_more (λ s. (x : Who) → who_named hosts s.endpoint ≡ Some x → HasPosted u x kinds.Durable notices.Prepared)
+      (λ s. (x : Who) → who_named hosts s.endpoint ≡ Some x → HasPosted w x kinds.Durable notices.Prepared) seats (λ s f x e. posted_on u w g x kinds.Durable notices.Prepared (f x e)) h.named;
   volatile = λ number x i. either_volatile number x (h.volatile number x (no_more number kinds.Volatile x i));
   durable = λ number x i. either_durable number x (h.durable number x (no_more number kinds.Durable x i));
 }
@@ -88,25 +88,25 @@ behind_on count u w g t seats no_more h = record {
     either_durable number x (inl k) = inl (posted_on u w g x kinds.Durable notices.ReadOnly k)
     either_durable number x (inr (k, i)) = inr (posted_on u w g x kinds.Durable notices.Prepared k, i)
 
-pub durable_on : (count : ℕ) (u w : World) → Grows u w → (n : ℕ) (t : Transaction) → AcceptsNoMore u w (record { node = n; id = t.id }) → HasItsDurable count u n t → HasItsDurable count w n t
-durable_on count u w g n t no_more h number x i = either x (h number x (no_more number kinds.Durable x i))
+pub durable_on : (hosts : Hosts) (u w : World) → Grows u w → (n : ℕ) (t : Transaction) → AcceptsNoMore u w (record { node = n; id = t.id }) → HasItsDurable hosts u n t → HasItsDurable hosts w n t
+durable_on hosts u w g n t no_more h number x i = either x (h number x (no_more number kinds.Durable x i))
   where
     either : {A : Type 0} (y : Who) → HasPosted u y kinds.Durable notices.ReadOnly ⊎ A → HasPosted w y kinds.Durable notices.ReadOnly ⊎ A
     either y (inl k) = inl (posted_on u w g y kinds.Durable notices.ReadOnly k)
     either y (inr k) = inr k
 
-pub record_on : (count : ℕ) (u w : World) → Grows u w → (n : ℕ) (r : Record) → ((id : Numbers) → is_promise id r ≡ true → AcceptsNoMore u w (record { node = n; id = id })) → RecordAnswers count u n r
-    → RecordAnswers count w n r
-record_on count u w g n (records.Voted id superior seats) no_more h =
-    behind_on count u w g (record { node = n; id = id }) seats (no_more id (ap (λ b. b || false) (self_id id))) h
-record_on count u w g n (records.Decided id seats) no_more h = behind_on count u w g (record { node = n; id = id }) seats (no_more id (self_id id)) h
-record_on count u w g n (records.Start incarnation) no_more h = tt
-record_on count u w g n (records.LeafPrepared id coordinator key value) no_more h = tt
-record_on count u w g n (records.LeafCommitted id) no_more h = tt
-record_on count u w g n (records.LeafAborted id) no_more h = tt
-record_on count u w g n (records.SubCommitted id) no_more h = tt
-record_on count u w g n (records.Ended id) no_more h = tt
-record_on count u w g n (records.Done id) no_more h = tt
+pub record_on : (hosts : Hosts) (u w : World) → Grows u w → (n : ℕ) (r : Record) → ((id : Numbers) → is_promise id r ≡ true → AcceptsNoMore u w (record { node = n; id = id })) → RecordAnswers hosts u n r
+    → RecordAnswers hosts w n r
+record_on hosts u w g n (records.Voted id superior seats) no_more h =
+    behind_on hosts u w g (record { node = n; id = id }) seats (no_more id (ap (λ b. b || false) (self_id id))) h
+record_on hosts u w g n (records.Decided id seats) no_more h = behind_on hosts u w g (record { node = n; id = id }) seats (no_more id (self_id id)) h
+record_on hosts u w g n (records.Start incarnation) no_more h = tt
+record_on hosts u w g n (records.LeafPrepared id coordinator key value) no_more h = tt
+record_on hosts u w g n (records.LeafCommitted id) no_more h = tt
+record_on hosts u w g n (records.LeafAborted id) no_more h = tt
+record_on hosts u w g n (records.SubCommitted id) no_more h = tt
+record_on hosts u w g n (records.Ended id) no_more h = tt
+record_on hosts u w g n (records.Done id) no_more h = tt
 
 -- what outcomes are backed by
 pub under_committed_on : (u w : World) → Grows u w → (x : Who) (kind : Kind) → IsUnderCommitted u x kind → IsUnderCommitted w x kind
@@ -117,21 +117,21 @@ pub under_aborted_on : (u w : World) → Grows u w → (x : Who) → IsUnderAbor
 under_aborted_on u w g x h =
     record { transaction = h.transaction; number = h.number; seat = seat_on u w g h.transaction h.number kinds.Durable x h.seat; aborted = aborted_on u w g h.transaction h.aborted }
 
-pub commit_on : (count : ℕ) (u w : World) → Grows u w → (p : Post) → CommitIsBacked count u p → CommitIsBacked count w p
-commit_on count u w g p h to m i kind says goes leads =
+pub commit_on : (hosts : Hosts) (u w : World) → Grows u w → (p : Post) → CommitIsBacked hosts u p → CommitIsBacked hosts w p
+commit_on hosts u w g p h to m i kind says goes leads =
     let (voted, under) = h to m i kind says goes leads in
     (posted_on u w g (record { node = m; id = i }) kind notices.Prepared voted, under_committed_on u w g (record { node = m; id = i }) kind under)
 
-pub rollback_on : (count : ℕ) (u w : World) → Grows u w → (p : Post) → RollbackIsBacked count u p → RollbackIsBacked count w p
-rollback_on count u w g p h to m i says goes leads = either (h to m i says goes leads)
+pub rollback_on : (hosts : Hosts) (u w : World) → Grows u w → (p : Post) → RollbackIsBacked hosts u p → RollbackIsBacked hosts w p
+rollback_on hosts u w g p h to m i says goes leads = either (h to m i says goes leads)
   where
     either : HasCommitted u (record { node = m; id = i }) ⊎ IsUnderAborted u (record { node = m; id = i })
         → HasCommitted w (record { node = m; id = i }) ⊎ IsUnderAborted w (record { node = m; id = i })
     either (inl k) = inl (committed_on u w g (record { node = m; id = i }) k)
     either (inr k) = inr (under_aborted_on u w g (record { node = m; id = i }) k)
 
-pub committed_backed_on : (count : ℕ) (u w : World) → Grows u w → (p : Post) → CommittedIsBacked count u p → CommittedIsBacked count w p
-committed_backed_on count u w g p h to n j number says goes leads =
+pub committed_backed_on : (hosts : Hosts) (u w : World) → Grows u w → (p : Post) → CommittedIsBacked hosts u p → CommittedIsBacked hosts w p
+committed_backed_on hosts u w g p h to n j number says goes leads =
     let k : HasCommittedAt u (record { node = n; id = j }) number = h to n j number says goes leads in
     record {
       participant = k.participant;

@@ -8,7 +8,7 @@ use Rattle.at_base.specs.declared.outs.Out.TheVariants as outs
 use Rattle.at_base.specs.declared.outs.Post.{Post}
 use Rattle.at_model.specs.Book.{Book}
 use Rattle.at_model.specs.Step.{step}
-use Rattle.at_model.specs.World.{Node, Who, World, nth, opening, run_of, with_post}
+use Rattle.at_model.specs.World.{Node, Who, World, nth, opening, run_of, with_post, Hosts, HaveOwnAddresses}
 use Rattle.model_laws.specs.Agreement.{IsIn}
 use Rattle.model_laws.specs.Grows.{Grows}
 use Rattle.model_laws.specs.Reached.{Heard, Reached, counts}
@@ -41,24 +41,24 @@ use Rattle.votes.proofs.Starting.{outcome_rises, outcome_waits}
 use Rattle.votes.proofs.Telling.{seats_say_step}
 
 -- what is known of each reached world
-world_premises : (count : ℕ) (u : World) → count < 2 ^ 64 → Reached count u → WorldPremises count u
-world_premises count u few reached = record {
-  laws = world_laws count u few reached;
+world_premises : (hosts : Hosts) (u : World) → HaveOwnAddresses hosts → Reached hosts u → WorldPremises hosts u
+world_premises hosts u few reached = record {
+  laws = world_laws hosts u few reached;
   moves = steps_move;
   tells = steps_tell;
-  knowing = coordinators_are_known.reached count u few reached;
-  prepared = prepared_recorded count u few reached;
-  read_only = read_only_gone count u few reached;
+  knowing = coordinators_are_known.reached hosts u few reached;
+  prepared = prepared_recorded hosts u few reached;
+  read_only = read_only_gone hosts u few reached;
 }
 
-step_premises : (count : ℕ) (u : World) (n : ℕ) (x : Node) (b : Book) (e : Event) → count < 2 ^ 64 → Reached count u → nth n u.nodes ≡ Some x → x.book ≡ Some b → Heard u n x e
-    → StepPremises count u n x b e
-step_premises count u n x b e few reached found up heard =
-    record { world = world_premises count u few reached; found = found; up = up; heard = heard; ready = steps_move.ready count u reached n x b found up }
+step_premises : (hosts : Hosts) (u : World) (n : ℕ) (x : Node) (b : Book) (e : Event) → HaveOwnAddresses hosts → Reached hosts u → nth n u.nodes ≡ Some x → x.book ≡ Some b → Heard u n x e
+    → StepPremises hosts u n x b e
+step_premises hosts u n x b e few reached found up heard =
+    record { world = world_premises hosts u few reached; found = found; up = up; heard = heard; ready = steps_move.ready hosts u reached n x b found up }
 
 -- a post
-abbrev IsBacked : ℕ → World → Post → Type 0
-IsBacked count w p = CommitIsBacked count w p × RollbackIsBacked count w p × CommittedIsBacked count w p
+abbrev IsBacked : Hosts → World → Post → Type 0
+IsBacked hosts w p = CommitIsBacked hosts w p × RollbackIsBacked hosts w p × CommittedIsBacked hosts w p
 
 all_three : (F G H : Post → Type 0) (os : List Out) → AllByRecursion (OutFine F) os → AllByRecursion (OutFine G) os → AllByRecursion (OutFine H) os
     → AllByRecursion (OutFine (λ p. F p × G p × H p)) os
@@ -66,23 +66,23 @@ all_three F G H [] f g h = tt
 all_three F G H (outs.Post p ∷ os) (f, fs) (g, gs) (h, hs) = ((f, g, h), all_three F G H os fs gs hs)
 all_three F G H (outs.Answer status reply ∷ os) (f, fs) (g, gs) (h, hs) = (tt, all_three F G H os fs gs hs)
 
-backed_on : (count : ℕ) (u w : World) → Grows u w → (p : Post) → IsBacked count u p → IsBacked count w p
-backed_on count u w g p (c, r, d) = (commit_on count u w g p c, rollback_on count u w g p r, committed_backed_on count u w g p d)
+backed_on : (hosts : Hosts) (u w : World) → Grows u w → (p : Post) → IsBacked hosts u p → IsBacked hosts w p
+backed_on hosts u w g p (c, r, d) = (commit_on hosts u w g p c, rollback_on hosts u w g p r, committed_backed_on hosts u w g p d)
 
-posted_outcome : (count : ℕ) (w : World) (n : ℕ) (p : Post) → IsOutcome count w → IsBacked count w p → IsOutcome count (with_post n p w)
-posted_outcome count w n p j (commit, rollback, committed) = record {
-  says = λ m y f. all_more (TransactionTells count w m) (TransactionTells count v m) (book_of y).transactions (tells_on count w v g m) (j.says m y f);
-  answers = λ m y f. all_more (RecordAnswers count w m) (RecordAnswers count v m) y.journal (λ r. record_on count w v g m r (λ id promise number kind x i. i)) (j.answers m y f);
-  keeps = λ m y f. all_more (KeepsItsDurable count w m) (KeepsItsDurable count v m) (book_of y).transactions
-      (λ t h phase. durable_on count w v g m t (λ number kind x i. i) (h phase)) (j.keeps m y f);
-  commits = all_join (λ q. CommitIsBacked count v q.content) w.posted _
-      (all_more (λ q. CommitIsBacked count w q.content) (λ q. CommitIsBacked count v q.content) w.posted (λ q. commit_on count w v g q.content) j.commits) (commit_on count w v g p commit, tt);
-  rollbacks = all_join (λ q. RollbackIsBacked count v q.content) w.posted _
-      (all_more (λ q. RollbackIsBacked count w q.content) (λ q. RollbackIsBacked count v q.content) w.posted (λ q. rollback_on count w v g q.content) j.rollbacks)
-      (rollback_on count w v g p rollback, tt);
-  committeds = all_join (λ q. CommittedIsBacked count v q.content) w.posted _
-      (all_more (λ q. CommittedIsBacked count w q.content) (λ q. CommittedIsBacked count v q.content) w.posted (λ q. committed_backed_on count w v g q.content) j.committeds)
-      (committed_backed_on count w v g p committed, tt);
+posted_outcome : (hosts : Hosts) (w : World) (n : ℕ) (p : Post) → IsOutcome hosts w → IsBacked hosts w p → IsOutcome hosts (with_post n p w)
+posted_outcome hosts w n p j (commit, rollback, committed) = record {
+  says = λ m y f. all_more (TransactionTells hosts w m) (TransactionTells hosts v m) (book_of y).transactions (tells_on hosts w v g m) (j.says m y f);
+  answers = λ m y f. all_more (RecordAnswers hosts w m) (RecordAnswers hosts v m) y.journal (λ r. record_on hosts w v g m r (λ id promise number kind x i. i)) (j.answers m y f);
+  keeps = λ m y f. all_more (KeepsItsDurable hosts w m) (KeepsItsDurable hosts v m) (book_of y).transactions
+      (λ t h phase. durable_on hosts w v g m t (λ number kind x i. i) (h phase)) (j.keeps m y f);
+  commits = all_join (λ q. CommitIsBacked hosts v q.content) w.posted _
+      (all_more (λ q. CommitIsBacked hosts w q.content) (λ q. CommitIsBacked hosts v q.content) w.posted (λ q. commit_on hosts w v g q.content) j.commits) (commit_on hosts w v g p commit, tt);
+  rollbacks = all_join (λ q. RollbackIsBacked hosts v q.content) w.posted _
+      (all_more (λ q. RollbackIsBacked hosts w q.content) (λ q. RollbackIsBacked hosts v q.content) w.posted (λ q. rollback_on hosts w v g q.content) j.rollbacks)
+      (rollback_on hosts w v g p rollback, tt);
+  committeds = all_join (λ q. CommittedIsBacked hosts v q.content) w.posted _
+      (all_more (λ q. CommittedIsBacked hosts w q.content) (λ q. CommittedIsBacked hosts v q.content) w.posted (λ q. committed_backed_on hosts w v g q.content) j.committeds)
+      (committed_backed_on hosts w v g p committed, tt);
   aborts = λ x h a. under_aborted_on w v g x (j.aborts x h a);
   gone = λ t x number i. gone_on t x (j.gone t x number i);
 }
@@ -98,11 +98,11 @@ posted_outcome count w n p j (commit, rollback, committed) = record {
     gone_on t x (inr over) = inr (over_on w v g t x over)
 
 -- the opening world
-nothing_yet : (count : ℕ) → IsOutcome count (opening count)
-nothing_yet count = record {
-  says = λ n y f. subst (λ z. AllByRecursion (TransactionTells count (opening count) n) (book_of z).transactions) (sym (opening_node count n y f)) tt;
-  answers = λ n y f. subst (λ z. AllByRecursion (RecordAnswers count (opening count) n) z.journal) (sym (opening_node count n y f)) tt;
-  keeps = λ n y f. subst (λ z. AllByRecursion (KeepsItsDurable count (opening count) n) (book_of z).transactions) (sym (opening_node count n y f)) tt;
+nothing_yet : (hosts : Hosts) → IsOutcome hosts (opening hosts)
+nothing_yet hosts = record {
+  says = λ n y f. subst (λ z. AllByRecursion (TransactionTells hosts (opening hosts) n) (book_of z).transactions) (sym (opening_node hosts n y f)) tt;
+  answers = λ n y f. subst (λ z. AllByRecursion (RecordAnswers hosts (opening hosts) n) z.journal) (sym (opening_node hosts n y f)) tt;
+  keeps = λ n y f. subst (λ z. AllByRecursion (KeepsItsDurable hosts (opening hosts) n) (book_of z).transactions) (sym (opening_node hosts n y f)) tt;
   commits = tt;
   rollbacks = tt;
   committeds = tt;
@@ -110,38 +110,38 @@ nothing_yet count = record {
   gone = λ t x number i. absurd i;
 }
   where
-    none_voted : (x : Who) → HasVoted (opening count) x → ⊥
-    none_voted x (r, (y, f, i), is) = subst (λ z. IsIn r z.journal) (opening_node count x.node y f) i
+    none_voted : (x : Who) → HasVoted (opening hosts) x → ⊥
+    none_voted x (r, (y, f, i), is) = subst (λ z. IsIn r z.journal) (opening_node hosts x.node y f) i
 
 -- the law
-outcome_law : (count : ℕ) → count < 2 ^ 64 → Law count
-outcome_law count few = record {
-  Good = IsOutcome count;
-  Fine = λ w g n p. IsBacked count w p;
-  opens = nothing_yet count;
-  steps = λ u n x b e now landed reached found up heard j. stepped_outcome u n x b e now landed j (step_premises count u n x b e few reached found up heard);
-  posts = λ w j n p f. posted_outcome count w n p j f;
-  still_fine = λ w j n p q f k. backed_on count w (with_post n p w) (grows_posts n (p ∷ []) w) q k;
-  falls = λ u n x b reached found up j. outcome_falls aborts_falls count u n x b (world_premises count u few reached) found up j;
-  rises = λ u n x stop reached found down little j. outcome_rises count u n x stop found down j;
-  waits = λ u n x clock reached found j. outcome_waits count u n x clock found j;
+outcome_law : (hosts : Hosts) → HaveOwnAddresses hosts → Law hosts
+outcome_law hosts few = record {
+  Good = IsOutcome hosts;
+  Fine = λ w g n p. IsBacked hosts w p;
+  opens = nothing_yet hosts;
+  steps = λ u n x b e now landed reached found up heard j. stepped_outcome u n x b e now landed j (step_premises hosts u n x b e few reached found up heard);
+  posts = λ w j n p f. posted_outcome hosts w n p j f;
+  still_fine = λ w j n p q f k. backed_on hosts w (with_post n p w) (grows_posts n (p ∷ []) w) q k;
+  falls = λ u n x b reached found up j. outcome_falls aborts_falls hosts u n x b (world_premises hosts u few reached) found up j;
+  rises = λ u n x stop reached found down little j. outcome_rises hosts u n x stop found down j;
+  waits = λ u n x clock reached found j. outcome_waits hosts u n x clock found j;
 }
   where
-    stepped_outcome : (u : World) (n : ℕ) (x : Node) (b : Book) (e : Event) (now : ℕ) (landed : Bool) → IsOutcome count u → StepPremises count u n x b e
-        → (g : IsOutcome count (counts u n x b e now landed)) × AllByRecursion (OutFine (IsBacked count (counts u n x b e now landed))) (step b e now landed).outs
+    stepped_outcome : (u : World) (n : ℕ) (x : Node) (b : Book) (e : Event) (now : ℕ) (landed : Bool) → IsOutcome hosts u → StepPremises hosts u n x b e
+        → (g : IsOutcome hosts (counts u n x b e now landed)) × AllByRecursion (OutFine (IsBacked hosts (counts u n x b e now landed))) (step b e now landed).outs
     stepped_outcome u n x b e now landed j p = (
       record {
-        says = seats_say_step count u n x b e now landed p j;
-        answers = records_answer_step count u n x b e now landed p j;
-        keeps = keeps_durable_step count u n x b e now landed p j;
-        commits = all_more (λ q. CommitIsBacked count u q.content) (λ q. CommitIsBacked count w q.content) u.posted (λ q. commit_on count u w g q.content) j.commits;
-        rollbacks = all_more (λ q. RollbackIsBacked count u q.content) (λ q. RollbackIsBacked count w q.content) u.posted (λ q. rollback_on count u w g q.content) j.rollbacks;
-        committeds = all_more (λ q. CommittedIsBacked count u q.content) (λ q. CommittedIsBacked count w q.content) u.posted (λ q. committed_backed_on count u w g q.content) j.committeds;
-        aborts = aborts_step count u n x b e now landed p j;
-        gone = gone_is_over_step count u n x b e now landed p j;
+        says = seats_say_step hosts u n x b e now landed p j;
+        answers = records_answer_step hosts u n x b e now landed p j;
+        keeps = keeps_durable_step hosts u n x b e now landed p j;
+        commits = all_more (λ q. CommitIsBacked hosts u q.content) (λ q. CommitIsBacked hosts w q.content) u.posted (λ q. commit_on hosts u w g q.content) j.commits;
+        rollbacks = all_more (λ q. RollbackIsBacked hosts u q.content) (λ q. RollbackIsBacked hosts w q.content) u.posted (λ q. rollback_on hosts u w g q.content) j.rollbacks;
+        committeds = all_more (λ q. CommittedIsBacked hosts u q.content) (λ q. CommittedIsBacked hosts w q.content) u.posted (λ q. committed_backed_on hosts u w g q.content) j.committeds;
+        aborts = aborts_step hosts u n x b e now landed p j;
+        gone = gone_is_over_step hosts u n x b e now landed p j;
       },
-      all_three (CommitIsBacked count w) (RollbackIsBacked count w) (CommittedIsBacked count w) (step b e now landed).outs (commits_send count u n x b e now landed p j)
-          (rollbacks_send count u n x b e now landed p j) (committeds_send count u n x b e now landed p j),
+      all_three (CommitIsBacked hosts w) (RollbackIsBacked hosts w) (CommittedIsBacked hosts w) (step b e now landed).outs (commits_send hosts u n x b e now landed p j)
+          (rollbacks_send hosts u n x b e now landed p j) (committeds_send hosts u n x b e now landed p j),
     )
       where
         w : World
@@ -150,17 +150,17 @@ outcome_law count few = record {
         g : Grows u w
         g = grows_counts u n x b e now landed p.found
 
-world_outcome : (count : ℕ) (w : World) → count < 2 ^ 64 → Reached count w → IsOutcome count w
+world_outcome : (hosts : Hosts) (w : World) → HaveOwnAddresses hosts → Reached hosts w → IsOutcome hosts w
 unfolding outcome_law
-world_outcome count w few reached = holds count (outcome_law count few) w reached
+world_outcome hosts w few reached = holds hosts (outcome_law hosts few) w reached
 
 pub votes_are_kept : VotesAreKept
 votes_are_kept = record {
   prepared = prepared_recorded;
   read_only = read_only_gone;
-  prepared_run = λ count es few. prepared_recorded count (run_of count es) few (run_reached count es);
-  read_only_run = λ count es few. read_only_gone count (run_of count es) few (run_reached count es);
+  prepared_run = λ hosts es few. prepared_recorded hosts (run_of hosts es) few (run_reached hosts es);
+  read_only_run = λ hosts es few. read_only_gone hosts (run_of hosts es) few (run_reached hosts es);
 }
 
 pub outcomes_are_backed : OutcomesAreBacked
-outcomes_are_backed = record { reached = world_outcome; runs = λ count es few. world_outcome count (run_of count es) few (run_reached count es) }
+outcomes_are_backed = record { reached = world_outcome; runs = λ hosts es few. world_outcome hosts (run_of hosts es) few (run_reached hosts es) }

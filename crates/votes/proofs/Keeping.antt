@@ -9,7 +9,7 @@ use Rattle.at_base.specs.declared.event.Event.{Event}
 use Rattle.at_model.specs.Book.{Book, Phase, Transaction, transaction_id}
 use Rattle.at_model.specs.Due.{may_expire}
 use Rattle.at_model.specs.Step.{leaf_at, plan, step, transaction_at}
-use Rattle.at_model.specs.World.{Node, Who, World, accepted_seat, base_of, nth}
+use Rattle.at_model.specs.World.{Node, Who, World, accepted_seat, nth, Hosts}
 use Rattle.model_laws.specs.Agreement.{HasAborted, HasPosted, IsIn}
 use Rattle.model_laws.specs.Drawn.{with_entry}
 use Rattle.model_laws.specs.Grows.{Grows}
@@ -37,32 +37,32 @@ use Rattle.votes.proofs.Premises.{StepKeeps, StepPremises}
 use Rattle.votes.proofs.SeatsAt.{has_entry}
 
 -- seats are added behind those that stand
-pub all_grown : (count : ℕ) (u : World) (n : ℕ) (x : Node) (b : Book) (e : Event) (now : ℕ) (landed : Bool) → StepPremises count u n x b e → AreGrown b (step b e now landed).book.transactions
-all_grown count u n x b e now landed p = (step_gives (base_of n) (good.choices n) b e now landed known.says).grown
+pub all_grown : (hosts : Hosts) (u : World) (n : ℕ) (x : Node) (b : Book) (e : Event) (now : ℕ) (landed : Bool) → StepPremises hosts u n x b e → AreGrown b (step b e now landed).book.transactions
+all_grown hosts u n x b e now landed p = (step_gives (hosts.base_of n) (good.choices n) b e now landed known.says).grown
   where
-    good : WorldGood count u
-    good = world_good count u p.world.laws.few p.world.laws.reached
+    good : WorldGood hosts u
+    good = world_good hosts u p.world.laws.few p.world.laws.reached
 
-    known : IsUp (base_of n) (good.choices n) x.journal b
-    known = subst (IsKnown (base_of n) (good.choices n) x.journal) p.up (good.nodes n x p.found)
+    known : IsUp (hosts.base_of n) (good.choices n) x.journal b
+    known = subst (IsKnown (hosts.base_of n) (good.choices n) x.journal) p.up (good.nodes n x p.found)
 
 -- what a transaction kept before
-pub kept_before : (count : ℕ) (u : World) (n : ℕ) (x : Node) (b : Book) (e : Event) → StepPremises count u n x b e → IsOutcome count u → AllByRecursion (KeepsItsDurable count u n) b.transactions
-kept_before count u n x b e p j =
-    subst (λ o. AllByRecursion (KeepsItsDurable count u n) (standing x.base x.journal o).transactions) p.up (j.keeps n x p.found)
+pub kept_before : (hosts : Hosts) (u : World) (n : ℕ) (x : Node) (b : Book) (e : Event) → StepPremises hosts u n x b e → IsOutcome hosts u → AllByRecursion (KeepsItsDurable hosts u n) b.transactions
+kept_before hosts u n x b e p j =
+    subst (λ o. AllByRecursion (KeepsItsDurable hosts u n) (standing x.base x.journal o).transactions) p.up (j.keeps n x p.found)
 
 -- what stood of it, in whatever phase, but where it has aborted
-stood_with : (count : ℕ) (u : World) (n : ℕ) (x : Node) (b : Book) (e : Event) → StepPremises count u n x b e → IsOutcome count u → (t : Transaction) → transaction_at b t.id ≡ Some t
-    → (HasAborted u (record { node = n; id = t.id }) → ⊥) → HasItsDurable count u n t
-stood_with count u n x b e p j t found stays number y i = by_life (stands_as count u n x b e p t found)
+stood_with : (hosts : Hosts) (u : World) (n : ℕ) (x : Node) (b : Book) (e : Event) → StepPremises hosts u n x b e → IsOutcome hosts u → (t : Transaction) → transaction_at b t.id ≡ Some t
+    → (HasAborted u (record { node = n; id = t.id }) → ⊥) → HasItsDurable hosts u n t
+stood_with hosts u n x b e p j t found stays number y i = by_life (stands_as hosts u n x b e p t found)
   where
-    kept : KeepsItsDurable count u n t
-    kept = all_find (KeepsItsDurable count u n) transaction_id t.id b.transactions t (kept_before count u n x b e p j) found
+    kept : KeepsItsDurable hosts u n t
+    kept = all_find (KeepsItsDurable hosts u n) transaction_id t.id b.transactions t (kept_before hosts u n x b e p j) found
 
     by_life : TransactionLife x.journal (happened_on n u.happened) t.id t
         → HasPosted u y kinds.Durable notices.ReadOnly
-        ⊎ IsIn (registration (record { node = n; id = t.id }) number kinds.Durable y) (map (accepted_seat n (nodes_of count) t.id) t.seats)
-    by_life (undecided o nothing k) = inr (has_entry count u n x b e p t found o number kinds.Durable y i)
+        ⊎ IsIn (registration (record { node = n; id = t.id }) number kinds.Durable y) (map (accepted_seat n (nodes_of hosts) t.id) t.seats)
+    by_life (undecided o nothing k) = inr (has_entry hosts u n x b e p t found o number kinds.Durable y i)
     by_life (voted superior seats f r h out k) = kept (inl f) number y i
     by_life (decided seats f r h k) = kept (inr f) number y i
     by_life (committed superior seats f r h c k) = kept (inr f) number y i
@@ -76,8 +76,8 @@ same_found : {A : Type 0} (o : Option A) (x y : A) → o ≡ Some x → o ≡ So
 same_found o x y e f = cc
 
 pub keeps_durable_step : StepKeeps KeepsDurable
-keeps_durable_step count u n x b e now landed p j m y found =
-    each_put (λ k z. AllByRecursion (KeepsItsDurable count w k) (book_of z).transactions) u.nodes n x behind_node p.found (all_of (KeepsItsDurable count w n) after.transactions keeps) others m y found
+keeps_durable_step hosts u n x b e now landed p j m y found =
+    each_put (λ k z. AllByRecursion (KeepsItsDurable hosts w k) (book_of z).transactions) u.nodes n x behind_node p.found (all_of (KeepsItsDurable hosts w n) after.transactions keeps) others m y found
   where
     w : World
     w = counts u n x b e now landed
@@ -91,12 +91,12 @@ keeps_durable_step count u n x b e now landed p j m y found =
     behind_node : Node
     behind_node = record x { book = Some (step b e now landed).book; journal = with_entry (plan b e now).entry landed x.journal }
 
-    others : (k : ℕ) (z : Node) → (k ≡ n → ⊥) → nth k u.nodes ≡ Some z → AllByRecursion (KeepsItsDurable count w k) (book_of z).transactions
+    others : (k : ℕ) (z : Node) → (k ≡ n → ⊥) → nth k u.nodes ≡ Some z → AllByRecursion (KeepsItsDurable hosts w k) (book_of z).transactions
     others k z differ r =
-        all_more (KeepsItsDurable count u k) (KeepsItsDurable count w k) (book_of z).transactions (λ t h phase. durable_on count u w g k t (none_there t.id) (h phase)) (j.keeps k z r)
+        all_more (KeepsItsDurable hosts u k) (KeepsItsDurable hosts w k) (book_of z).transactions (λ t h phase. durable_on hosts u w g k t (none_there t.id) (h phase)) (j.keeps k z r)
       where
         none_there : (id : Numbers) → AcceptsNoMore u w (record { node = k; id = id })
-        none_there id number kind who i = either (seat_joins count u n x b e now landed p (record { node = k; id = id }) number kind who i)
+        none_there id number kind who i = either (seat_joins hosts u n x b e now landed p (record { node = k; id = id }) number kind who i)
           where
             either : HasSeat u (record { node = k; id = id }) number kind who ⊎ JoinsOpen n b (step b e now landed).book (record { node = k; id = id })
                 → HasSeat u (record { node = k; id = id }) number kind who
@@ -106,7 +106,7 @@ keeps_durable_step count u n x b e now landed p j m y found =
     -- it accepted nobody in this step
     before : (t : Transaction) → IsIn t after.transactions → (t.phase ≡ Phase.Voted) ⊎ (t.phase ≡ Phase.Committing) → (number : ℕ) (who : Who)
         → HasSeat w (record { node = n; id = t.id }) number kinds.Durable who → HasSeat u (record { node = n; id = t.id }) number kinds.Durable who
-    before t i phase number who h = either (seat_joins count u n x b e now landed p (record { node = n; id = t.id }) number kinds.Durable who h)
+    before t i phase number who h = either (seat_joins hosts u n x b e now landed p (record { node = n; id = t.id }) number kinds.Durable who h)
       where
         closed : JoinsOpen n b after (record { node = n; id = t.id }) → ⊥
         closed k =
@@ -124,10 +124,10 @@ keeps_durable_step count u n x b e now landed p j m y found =
     stays t i phase a =
         keeps_promise w n behind_node.journal t.id t
         (life_of behind_node.journal (happened_on n w.happened) t.id (transaction_at after t.id) (leaf_at after t.id) t
-        ((behind count u n x b e now landed p).lives n behind_node (put_this u.nodes n x behind_node p.found) t.id) (finds after (ids_rise.stays b e now landed p.ready.order) t i)) phase
+        ((behind hosts u n x b e now landed p).lives n behind_node (put_this u.nodes n x behind_node p.found) t.id) (finds after (ids_rise.stays b e now landed p.ready.order) t i)) phase
         (aborted_on u w g (record { node = n; id = t.id }) a)
 
-    keeps : (t : Transaction) → IsIn t after.transactions → KeepsItsDurable count w n t
+    keeps : (t : Transaction) → IsIn t after.transactions → KeepsItsDurable hosts w n t
     keeps t i phase number who h = by_came (one_of (Came b) after.transactions t (step_came b e now landed p.ready.phases p.ready.finished p.ready.order) i)
       where
         ours : HasSeat u (record { node = n; id = t.id }) number kinds.Durable who
@@ -135,34 +135,34 @@ keeps_durable_step count u n x b e now landed p j m y found =
 
         there : (old : Transaction) → transaction_at b t.id ≡ Some old
             → HasPosted u who kinds.Durable notices.ReadOnly
-            ⊎ IsIn (registration (record { node = n; id = t.id }) number kinds.Durable who) (map (accepted_seat n (nodes_of count) t.id) old.seats)
+            ⊎ IsIn (registration (record { node = n; id = t.id }) number kinds.Durable who) (map (accepted_seat n (nodes_of hosts) t.id) old.seats)
         there old f =
             let same : old.id ≡ t.id = found_id transaction_id t.id b.transactions old f in
             subst (λ id. HasPosted u who kinds.Durable notices.ReadOnly
-            ⊎ IsIn (registration (record { node = n; id = id }) number kinds.Durable who) (map (accepted_seat n (nodes_of count) id) old.seats)) same
-            (stood_with count u n x b e p j old (ap (transaction_at b) same ∙ f) (subst (λ id. HasAborted u (record { node = n; id = id }) → ⊥) (sym same) (stays t i phase)) number who
+            ⊎ IsIn (registration (record { node = n; id = id }) number kinds.Durable who) (map (accepted_seat n (nodes_of hosts) id) old.seats)) same
+            (stood_with hosts u n x b e p j old (ap (transaction_at b) same ∙ f) (subst (λ id. HasAborted u (record { node = n; id = id }) → ⊥) (sym same) (stays t i phase)) number who
             (subst (λ id. HasSeat u (record { node = n; id = id }) number kinds.Durable who) (sym same) ours))
 
-        grown : (old : Transaction) → transaction_at b t.id ≡ Some old → map (accepted_seat n (nodes_of count) t.id) t.seats
-            ≡ entries count n t.id old.seats ++ entries count n t.id (drop (length old.seats) t.seats)
+        grown : (old : Transaction) → transaction_at b t.id ≡ Some old → map (accepted_seat n (nodes_of hosts) t.id) t.seats
+            ≡ entries hosts n t.id old.seats ++ entries hosts n t.id (drop (length old.seats) t.seats)
         grown old f =
-            are_entries count n t.id t.seats
-            ∙ grown_entries count n t.id old.seats t.seats
-            (subst (λ o. Grown o t) f (one_of (λ (z : Transaction). Grown (transaction_at b z.id) z) after.transactions t (all_grown count u n x b e now landed p) i)).0
+            are_entries hosts n t.id t.seats
+            ∙ grown_entries hosts n t.id old.seats t.seats
+            (subst (λ o. Grown o t) f (one_of (λ (z : Transaction). Grown (transaction_at b z.id) z) after.transactions t (all_grown hosts u n x b e now landed p) i)).0
 
         further : (old : Transaction) → transaction_at b t.id ≡ Some old
             → HasPosted u who kinds.Durable notices.ReadOnly
-            ⊎ IsIn (registration (record { node = n; id = t.id }) number kinds.Durable who) (map (accepted_seat n (nodes_of count) t.id) old.seats)
+            ⊎ IsIn (registration (record { node = n; id = t.id }) number kinds.Durable who) (map (accepted_seat n (nodes_of hosts) t.id) old.seats)
             → HasPosted w who kinds.Durable notices.ReadOnly
-            ⊎ IsIn (registration (record { node = n; id = t.id }) number kinds.Durable who) (map (accepted_seat n (nodes_of count) t.id) t.seats)
+            ⊎ IsIn (registration (record { node = n; id = t.id }) number kinds.Durable who) (map (accepted_seat n (nodes_of hosts) t.id) t.seats)
         further old f (inl k) = inl (posted_on u w g who kinds.Durable notices.ReadOnly k)
         further old f (inr k) =
             inr (subst (IsIn (registration (record { node = n; id = t.id }) number kinds.Durable who)) (sym (grown old f))
-            (in_front (registration (record { node = n; id = t.id }) number kinds.Durable who) (entries count n t.id old.seats) (entries count n t.id (drop (length old.seats) t.seats))
-            (subst (IsIn (registration (record { node = n; id = t.id }) number kinds.Durable who)) (are_entries count n t.id old.seats) k)))
+            (in_front (registration (record { node = n; id = t.id }) number kinds.Durable who) (entries hosts n t.id old.seats) (entries hosts n t.id (drop (length old.seats) t.seats))
+            (subst (IsIn (registration (record { node = n; id = t.id }) number kinds.Durable who)) (are_entries hosts n t.id old.seats) k)))
 
         by_came : Came b t → HasPosted w who kinds.Durable notices.ReadOnly
-            ⊎ IsIn (registration (record { node = n; id = t.id }) number kinds.Durable who) (map (accepted_seat n (nodes_of count) t.id) t.seats)
+            ⊎ IsIn (registration (record { node = n; id = t.id }) number kinds.Durable who) (map (accepted_seat n (nodes_of hosts) t.id) t.seats)
         by_came (stood old f was grew) = further old f (there old f)
         by_came (fresh never) =
             absurd (never (subst (λ o. HasDrawn x.journal o t.id) p.up (p.world.laws.seated.drawn (registration (record { node = n; id = t.id }) number kinds.Durable who) x ours p.found)))

@@ -15,7 +15,7 @@ use Rattle.at_base.specs.declared.target.Target.{Target}
 use Rattle.at_model.specs.Book.{Book, Enlistment, Phase, Transaction, transaction_id}
 use Rattle.at_model.specs.Seats.{ending}
 use Rattle.at_model.specs.Step.{leaf_at, step, transaction_at}
-use Rattle.at_model.specs.World.{Node, Who, World, accepted_seat, happened_at, new_nodes, who_at}
+use Rattle.at_model.specs.World.{Node, Who, World, accepted_seat, happened_at, new_nodes, who_at, Hosts}
 use Rattle.model_laws.specs.Agreement.{HasAborted, HasCommitted, HasEnded, IsIn}
 use Rattle.model_laws.specs.Enlisted.{IsEnlisted}
 use Rattle.model_laws.specs.Grows.{Grows}
@@ -47,37 +47,37 @@ mapped_in f x (y ∷ xs) (inr i) = inr (mapped_in f x xs i)
 pub here : (x : Node) (b : Book) → x.book ≡ Some b → book_of x ≡ b
 here x b up = ap (standing x.base x.journal) up
 
-pub grown : (count : ℕ) (u : World) (n : ℕ) (x : Node) (b : Book) (e : Event) (now : ℕ) (landed : Bool) → StepPremises count u n x b e → Grows u (counts u n x b e now landed)
-grown count u n x b e now landed s = grows_counts u n x b e now landed s.found
+pub grown : (hosts : Hosts) (u : World) (n : ℕ) (x : Node) (b : Book) (e : Event) (now : ℕ) (landed : Bool) → StepPremises hosts u n x b e → Grows u (counts u n x b e now landed)
+grown hosts u n x b e now landed s = grows_counts u n x b e now landed s.found
 
-pub life_at : (count : ℕ) (u : World) (n : ℕ) (x : Node) (b : Book) (e : Event) → StepPremises count u n x b e → (id : Numbers)
+pub life_at : (hosts : Hosts) (u : World) (n : ℕ) (x : Node) (b : Book) (e : Event) → StepPremises hosts u n x b e → (id : Numbers)
     → Life x.journal (happened_on n u.happened) id (transaction_at b id) (leaf_at b id)
-life_at count u n x b e s id = subst (λ c. Life x.journal (happened_on n u.happened) id (transaction_at c id) (leaf_at c id)) (here x b s.up) (s.world.laws.lives n x s.found id)
+life_at hosts u n x b e s id = subst (λ c. Life x.journal (happened_on n u.happened) id (transaction_at c id) (leaf_at c id)) (here x b s.up) (s.world.laws.lives n x s.found id)
 
 -- what comes to it was posted
-pub came_by : (count : ℕ) (u : World) (n : ℕ) (x : Node) (b : Book) (e : Event) → StepPremises count u n x b e → (a : Arrived) → e ≡ events.Arrived a → HasCome count u n a
-came_by count u n x b e p a came =
-    has_come count u n x b e 0 true a (record { small = p.world.laws.few; reached = p.world.laws.reached; found = p.found; up = p.up; heard = p.heard }) came
+pub came_by : (hosts : Hosts) (u : World) (n : ℕ) (x : Node) (b : Book) (e : Event) → StepPremises hosts u n x b e → (a : Arrived) → e ≡ events.Arrived a → HasCome hosts u n a
+came_by hosts u n x b e p a came =
+    has_come hosts u n x b e 0 true a (record { small = p.world.laws.few; reached = p.world.laws.reached; found = p.found; up = p.up; heard = p.heard }) came
 
 -- whom an endpoint leads to
-pub leads_who : (count : ℕ) (e : Epr) (m : ℕ) (T : Target) → LeadsTo count e m T → who_named count e ≡ who_at (Some (m, T))
-leads_who count e m T leads = ap who_at leads
+pub leads_who : (hosts : Hosts) (e : Epr) (m : ℕ) (T : Target) → LeadsTo hosts e m T → who_named hosts e ≡ who_at (Some (m, T))
+leads_who hosts e m T leads = ap who_at leads
 
 -- a seat is the registration of whom its endpoint leads to
-pub has_seat : (count : ℕ) (u : World) (n : ℕ) (x : Node) (b : Book) (e : Event) → StepPremises count u n x b e → (t : Transaction) (s : Enlistment) (y : Who) → transaction_at b t.id ≡ Some t
-    → IsIn s t.seats → who_named count s.participant ≡ Some y → HasSeat u (record { node = n; id = t.id }) s.number s.kind y
-has_seat count u n x b e p t s y found i who =
+pub has_seat : (hosts : Hosts) (u : World) (n : ℕ) (x : Node) (b : Book) (e : Event) → StepPremises hosts u n x b e → (t : Transaction) (s : Enlistment) (y : Who) → transaction_at b t.id ≡ Some t
+    → IsIn s t.seats → who_named hosts s.participant ≡ Some y → HasSeat u (record { node = n; id = t.id }) s.number s.kind y
+has_seat hosts u n x b e p t s y found i who =
     subst (λ o. IsIn (record { transaction = record { node = n; id = t.id }; seat = Some (record { number = s.number; kind = s.kind }); participant = o }) u.accepted)
-    (who_same u.nodes (new_nodes count 1) s.participant p.world.laws.bases ∙ who)
+    (who_same u.nodes (new_nodes hosts.base_of hosts.count 1) s.participant p.world.laws.bases ∙ who)
     (one_of (λ (r : Enlistment). IsIn (accepted_seat n u.nodes t.id r) u.accepted) t.seats s
     (all_find (IsEnlisted u n) transaction_id t.id b.transactions t (p.world.laws.seated.enlisted n x b p.found p.up) found).0 i)
 
 -- what a seat says
-pub seat_tells : (count : ℕ) (u : World) (n : ℕ) (x : Node) (b : Book) (e : Event) → StepPremises count u n x b e → IsOutcome count u → (t : Transaction) (s : Enlistment)
-    → transaction_at b t.id ≡ Some t → IsIn s t.seats → SeatTells count u (record { node = n; id = t.id }) s
-seat_tells count u n x b e p j t s found i =
-    one_of (SeatTells count u (record { node = n; id = t.id })) t.seats s
-    (all_find (TransactionTells count u n) transaction_id t.id b.transactions t (subst (λ (c : Book). AllByRecursion (TransactionTells count u n) c.transactions) (here x b p.up) (j.says n x p.found)) found) i
+pub seat_tells : (hosts : Hosts) (u : World) (n : ℕ) (x : Node) (b : Book) (e : Event) → StepPremises hosts u n x b e → IsOutcome hosts u → (t : Transaction) (s : Enlistment)
+    → transaction_at b t.id ≡ Some t → IsIn s t.seats → SeatTells hosts u (record { node = n; id = t.id }) s
+seat_tells hosts u n x b e p j t s found i =
+    one_of (SeatTells hosts u (record { node = n; id = t.id })) t.seats s
+    (all_find (TransactionTells hosts u n) transaction_id t.id b.transactions t (subst (λ (c : Book). AllByRecursion (TransactionTells hosts u n) c.transactions) (here x b p.up) (j.says n x p.found)) found) i
 
 -- what a step brings about
 pub effect_there : (u : World) (n : ℕ) (x : Node) (b : Book) (e : Event) (now : ℕ) (landed : Bool) (f : Effect) → IsIn f (step b e now landed).effects
@@ -118,14 +118,14 @@ pub aborts_now : (u : World) (n : ℕ) (x : Node) (b : Book) (e : Event) (now : 
 aborts_now u n x b e now landed entry d h = did_abort u n x b e now landed d.old d.deed.how (d.effects_are ∙ d.deed.happened) h
 
 -- what a transaction's phase says of how it ended
-pub stands_as : (count : ℕ) (u : World) (n : ℕ) (x : Node) (b : Book) (e : Event) → StepPremises count u n x b e → (t : Transaction) → transaction_at b t.id ≡ Some t
+pub stands_as : (hosts : Hosts) (u : World) (n : ℕ) (x : Node) (b : Book) (e : Event) → StepPremises hosts u n x b e → (t : Transaction) → transaction_at b t.id ≡ Some t
     → TransactionLife x.journal (happened_on n u.happened) t.id t
-stands_as count u n x b e p t found = life_of x.journal (happened_on n u.happened) t.id (transaction_at b t.id) (leaf_at b t.id) t (life_at count u n x b e p t.id) found
+stands_as hosts u n x b e p t found = life_of x.journal (happened_on n u.happened) t.id (transaction_at b t.id) (leaf_at b t.id) t (life_at hosts u n x b e p t.id) found
 
-pub committing : (count : ℕ) (u : World) (n : ℕ) (x : Node) (b : Book) (e : Event) → StepPremises count u n x b e → (t : Transaction) → transaction_at b t.id ≡ Some t → t.phase ≡ Phase.Committing
+pub committing : (hosts : Hosts) (u : World) (n : ℕ) (x : Node) (b : Book) (e : Event) → StepPremises hosts u n x b e → (t : Transaction) → transaction_at b t.id ≡ Some t → t.phase ≡ Phase.Committing
     → HasCommitted u (record { node = n; id = t.id })
-committing count u n x b e p t found is = commits_here u n x.journal t.id t (stands_as count u n x b e p t found) is
+committing hosts u n x b e p t found is = commits_here u n x.journal t.id t (stands_as hosts u n x b e p t found) is
 
-pub aborting : (count : ℕ) (u : World) (n : ℕ) (x : Node) (b : Book) (e : Event) → StepPremises count u n x b e → (t : Transaction) → transaction_at b t.id ≡ Some t → t.phase ≡ Phase.Aborting
+pub aborting : (hosts : Hosts) (u : World) (n : ℕ) (x : Node) (b : Book) (e : Event) → StepPremises hosts u n x b e → (t : Transaction) → transaction_at b t.id ≡ Some t → t.phase ≡ Phase.Aborting
     → HasAborted u (record { node = n; id = t.id })
-aborting count u n x b e p t found is = aborts_here u n x.journal t.id t refl (stands_as count u n x b e p t found) is
+aborting hosts u n x b e p t found is = aborts_here u n x.journal t.id t refl (stands_as hosts u n x b e p t found) is

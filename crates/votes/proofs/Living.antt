@@ -16,7 +16,7 @@ use Rattle.at_model.specs.Leaves.{leaf_ended}
 use Rattle.at_model.specs.Recover.{last_incarnation}
 use Rattle.at_model.specs.Seats.{ending}
 use Rattle.at_model.specs.Step.{leaf_at, plan, step, transaction_at}
-use Rattle.at_model.specs.World.{Happened, Node, World, goes_down, happened_at, is_lost_leaf, is_lost_root, is_lost_subordinate, lost_in, nth, put_book, put_nth, started, up_after}
+use Rattle.at_model.specs.World.{Happened, Node, World, goes_down, happened_at, is_lost_leaf, is_lost_root, is_lost_subordinate, lost_in, nth, put_book, put_nth, started, up_after, Hosts, HaveOwnAddresses}
 use Rattle.model_laws.specs.Drawn.{restarted, with_entry}
 use Rattle.model_laws.specs.Reached.{Reached, counts}
 use Rattle.model_laws.proofs.Deciding.{all_join}
@@ -143,11 +143,11 @@ nothing_asked [] = tt
 nothing_asked (outs.Post p ∷ os) = (tt, nothing_asked os)
 nothing_asked (outs.Answer status reply ∷ os) = (tt, nothing_asked os)
 
-lives_law : (count : ℕ) → Law count
-lives_law count = record {
+lives_law : (hosts : Hosts) → Law hosts
+lives_law hosts = record {
   Good = AreAsTheyAre;
   Fine = λ w g n p. Unit {0};
-  opens = λ n x found. subst (NodeIs [] n) (sym (opening_node count n x found)) new_down;
+  opens = λ n x found. subst (NodeIs [] n) (sym (opening_node hosts n x found)) new_down;
   steps = λ u n x b e now landed reached found up heard h. (step_lives u n x b e now landed found up h, nothing_asked (step b e now landed).outs);
   posts = λ w h n p f. h;
   still_fine = λ w g n p q f k. tt;
@@ -158,9 +158,9 @@ lives_law count = record {
   waits = λ u n x clock reached found h. put_lives u n x (record x { clock = clock }) found (h n x found) h;
 }
 
-as_they_are : (count : ℕ) (w : World) → Reached count w → AreAsTheyAre w
+as_they_are : (hosts : Hosts) (w : World) → Reached hosts w → AreAsTheyAre w
 unfolding lives_law
-as_they_are count w reached = holds count (lives_law count) w reached
+as_they_are hosts w reached = holds hosts (lives_law hosts) w reached
 
 stands : (base : List ℕ) (rs : List Record) (o : Option Book) (fx : List Effect) → AsItIs rs o fx → (id : Numbers)
     → Life rs fx id (transaction_at (standing base rs o) id) (leaf_at (standing base rs o) id)
@@ -168,13 +168,13 @@ stands base rs None fx h id = h.lives base id
 stands base rs (Some b) fx h id = h.good.lives id
 
 -- all that is known of a reached world
-pub world_laws : (count : ℕ) (w : World) → count < 2 ^ 64 → Reached count w → WorldLaws count w
-world_laws count w few reached = record {
+pub world_laws : (hosts : Hosts) (w : World) → HaveOwnAddresses hosts → Reached hosts w → WorldLaws hosts w
+world_laws hosts w few reached = record {
   few = few;
   reached = reached;
-  bases = (world_good count w few reached).world.bases;
-  lives = λ m y found id. stands y.base y.journal y.book (happened_on m w.happened) (as_they_are count w reached m y found) id;
-  sorted = world_sorted count w few reached;
-  seated = world_seated count w few reached;
-  one = one_superior count w few reached;
+  bases = (world_good hosts w few reached).world.bases;
+  lives = λ m y found id. stands y.base y.journal y.book (happened_on m w.happened) (as_they_are hosts w reached m y found) id;
+  sorted = world_sorted hosts w few reached;
+  seated = world_seated hosts w few reached;
+  one = one_superior hosts w few reached;
 }

@@ -15,7 +15,7 @@ use Rattle.at_base.specs.declared.target.Target.TheVariants as targets
 use Rattle.at_model.specs.Book.{Activity, Book, Enlistment, Transaction, activity_id}
 use Rattle.at_model.specs.Moves.{Change}
 use Rattle.at_model.specs.Step.{activity_at, transaction_at}
-use Rattle.at_model.specs.World.{Node, World}
+use Rattle.at_model.specs.World.{Node, World, Hosts}
 use Rattle.model_laws.specs.Agreement.{IsIn}
 use Rattle.model_laws.proofs.Deciding.{all_find}
 use Rattle.agreement.specs.ActivityDeeds.{ActivitySays, completing, tells_nothing as asks_nothing}
@@ -38,27 +38,27 @@ pub other_notice : (q : Post) (n : Notice) (r : Post) → q ≡ r → r.message 
 other_notice q n r e f = ap (λ (s : Post). s.message) e ∙ f
 
 -- an activity knows a completion seat alone
-pub activity_knows : (count : ℕ) (u : World) (n : ℕ) (x : Node) (b : Book) (e : Event) → StepPremises count u n x b e → (a : Activity) (to : Epr) → activity_at b a.id ≡ Some a → a.coordinator ≡ Some to
-    → (m : ℕ) (T : Target) → LeadsTo count to m T → (id : Numbers) × (T ≡ targets.Completion id)
-activity_knows count u n x b e p a to found known m T leads =
-    let h : ActivityKnows count u n a = all_find (ActivityKnows count u n) activity_id a.id b.activities a (p.world.knowing.books n x b p.found p.up).activities found in
-    let k : (id : Numbers) × (T ≡ targets.Completion id) × _ = subst (λ c. CompletesIfKnown count u c (record { node = n; id = a.id })) known h m T leads in
+pub activity_knows : (hosts : Hosts) (u : World) (n : ℕ) (x : Node) (b : Book) (e : Event) → StepPremises hosts u n x b e → (a : Activity) (to : Epr) → activity_at b a.id ≡ Some a → a.coordinator ≡ Some to
+    → (m : ℕ) (T : Target) → LeadsTo hosts to m T → (id : Numbers) × (T ≡ targets.Completion id)
+activity_knows hosts u n x b e p a to found known m T leads =
+    let h : ActivityKnows hosts u n a = all_find (ActivityKnows hosts u n) activity_id a.id b.activities a (p.world.knowing.books n x b p.found p.up).activities found in
+    let k : (id : Numbers) × (T ≡ targets.Completion id) × _ = subst (λ c. CompletesIfKnown hosts u c (record { node = n; id = a.id })) known h m T leads in
     (k.0, k.1)
 
 no_completion : (i id : Numbers) (kind : Kind) → targets.Participant i kind ≡ targets.Completion id → ⊥
 no_completion i id kind e = cc
 
-pub no_participant : (count : ℕ) (u : World) (n : ℕ) (x : Node) (b : Book) (e : Event) → StepPremises count u n x b e → (m : Moment) (a : Activity) (c : Change Activity) (q : Post) → activity_at b a.id ≡ Some a
-    → ActivitySays m a c q → (v : Notice) (to : Epr) (k : ℕ) (i : Numbers) (kind : Kind) → q.message ≡ messages.Notice v → q.to ≡ Some to → LeadsTo count to k (targets.Participant i kind) → ⊥
-no_participant count u n x b e p m a c q found (completing v to left asks known is goes on) w other k i kind says sent leads =
-    let (id, same) = activity_knows count u n x b e p a to found known k (targets.Participant i kind)
-    (subst (λ f. LeadsTo count f k (targets.Participant i kind)) (same_end q.to other to sent (ap (λ (r : Post). r.to) is)) leads) in
+pub no_participant : (hosts : Hosts) (u : World) (n : ℕ) (x : Node) (b : Book) (e : Event) → StepPremises hosts u n x b e → (m : Moment) (a : Activity) (c : Change Activity) (q : Post) → activity_at b a.id ≡ Some a
+    → ActivitySays m a c q → (v : Notice) (to : Epr) (k : ℕ) (i : Numbers) (kind : Kind) → q.message ≡ messages.Notice v → q.to ≡ Some to → LeadsTo hosts to k (targets.Participant i kind) → ⊥
+no_participant hosts u n x b e p m a c q found (completing v to left asks known is goes on) w other k i kind says sent leads =
+    let (id, same) = activity_knows hosts u n x b e p a to found known k (targets.Participant i kind)
+    (subst (λ f. LeadsTo hosts f k (targets.Participant i kind)) (same_end q.to other to sent (ap (λ (r : Post). r.to) is)) leads) in
     no_completion i id kind same
-no_participant count u n x b e p m a c q found (asks_nothing none) w other k i kind says sent leads = says_notice q.message w none says
+no_participant hosts u n x b e p m a c q found (asks_nothing none) w other k i kind says sent leads = says_notice q.message w none says
 
 -- a seat's endpoint names a participant of the seat's kind
-pub record SeatIs (count : ℕ) (s : Enlistment) : Type 0 where
-  pub kind : (m : ℕ) (i : Numbers) (kind : Kind) → LeadsTo count s.participant m (targets.Participant i kind) → kind ≡ s.kind
+pub record SeatIs (hosts : Hosts) (s : Enlistment) : Type 0 where
+  pub kind : (m : ℕ) (i : Numbers) (kind : Kind) → LeadsTo hosts s.participant m (targets.Participant i kind) → kind ≡ s.kind
 
-abbrev pub SeatsAre : ℕ → Book → Type 0
-SeatsAre count b = (t : Transaction) (s : Enlistment) → transaction_at b t.id ≡ Some t → IsIn s t.seats → SeatIs count s
+abbrev pub SeatsAre : Hosts → Book → Type 0
+SeatsAre hosts b = (t : Transaction) (s : Enlistment) → transaction_at b t.id ≡ Some t → IsIn s t.seats → SeatIs hosts s

@@ -6,7 +6,7 @@ use Rattle.at_base.specs.declared.event.Event.{Event}
 use Rattle.at_base.specs.declared.outs.Post.{Post}
 use Rattle.at_model.specs.Book.{Book}
 use Rattle.at_model.specs.Step.{leaf_at, step, transaction_at}
-use Rattle.at_model.specs.World.{Node, World, goes_down, new_nodes, nth}
+use Rattle.at_model.specs.World.{Node, World, goes_down, new_nodes, nth, Hosts, HaveOwnAddresses}
 use Rattle.model_laws.specs.Agreement.{HasOneSuperior}
 use Rattle.model_laws.specs.Reached.{Heard, Reached, counts}
 use Rattle.model_laws.proofs.Holding.{OutFine}
@@ -21,27 +21,27 @@ use Rattle.votes.specs.Joint.{IsOutcome}
 use Rattle.votes.specs.Voting.{PreparedIsRecorded, ReadOnlyIsGone}
 
 -- what is known of every reached world
-pub record WorldLaws (count : ℕ) (u : World) : Type 0 where
-  pub few : count < 2 ^ 64
-  pub reached : Reached count u
-  pub bases : HaveBases u.nodes (new_nodes count 1)
+pub record WorldLaws (hosts : Hosts) (u : World) : Type 0 where
+  pub few : HaveOwnAddresses hosts
+  pub reached : Reached hosts u
+  pub bases : HaveBases u.nodes (new_nodes hosts.base_of hosts.count 1)
   pub lives : (m : ℕ) (y : Node) → nth m u.nodes ≡ Some y → (id : Numbers) → Life y.journal (happened_on m u.happened) id (transaction_at (book_of y) id) (leaf_at (book_of y) id)
   pub sorted : AreSorted u
   pub seated : IsSeated u
   pub one : HasOneSuperior u
 
 -- and of a world whose votes are kept; what each step is, and why it posts what it posts
-pub record WorldPremises (count : ℕ) (u : World) : Type 0 where
-  pub laws : WorldLaws count u
+pub record WorldPremises (hosts : Hosts) (u : World) : Type 0 where
+  pub laws : WorldLaws hosts u
   pub moves : StepsMove
   pub tells : StepsTell
-  pub knowing : IsKnowing count u
+  pub knowing : IsKnowing hosts u
   pub prepared : PreparedIsRecorded u
   pub read_only : ReadOnlyIsGone u
 
 -- a node that is up, and what comes to it
-pub record StepPremises (count : ℕ) (u : World) (n : ℕ) (x : Node) (b : Book) (e : Event) : Type 0 where
-  pub world : WorldPremises count u
+pub record StepPremises (hosts : Hosts) (u : World) (n : ℕ) (x : Node) (b : Book) (e : Event) : Type 0 where
+  pub world : WorldPremises hosts u
   pub found : nth n u.nodes ≡ Some x
   pub up : x.book ≡ Some b
   pub heard : Heard u n x e
@@ -50,13 +50,13 @@ pub record StepPremises (count : ℕ) (u : World) (n : ℕ) (x : Node) (b : Book
 -- P holds behind each step and each fall
 abbrev pub StepKeeps : (ℕ → World → Type 0) → Type 0
 StepKeeps P =
-    (count : ℕ) (u : World) (n : ℕ) (x : Node) (b : Book) (e : Event) (now : ℕ) (landed : Bool) → StepPremises count u n x b e → IsOutcome count u → P count (counts u n x b e now landed)
+    (hosts : Hosts) (u : World) (n : ℕ) (x : Node) (b : Book) (e : Event) (now : ℕ) (landed : Bool) → StepPremises hosts u n x b e → IsOutcome hosts u → P hosts (counts u n x b e now landed)
 
 abbrev pub FallKeeps : (ℕ → World → Type 0) → Type 0
-FallKeeps P = (count : ℕ) (u : World) (n : ℕ) (x : Node) (b : Book) → WorldPremises count u → nth n u.nodes ≡ Some x → x.book ≡ Some b → IsOutcome count u → P count (goes_down n b u)
+FallKeeps P = (hosts : Hosts) (u : World) (n : ℕ) (x : Node) (b : Book) → WorldPremises hosts u → nth n u.nodes ≡ Some x → x.book ≡ Some b → IsOutcome hosts u → P hosts (goes_down n b u)
 
 -- what each post of a step satisfies, in the world behind it
 abbrev pub StepSends : (ℕ → World → Post → Type 0) → Type 0
 StepSends Fine =
-    (count : ℕ) (u : World) (n : ℕ) (x : Node) (b : Book) (e : Event) (now : ℕ) (landed : Bool) → StepPremises count u n x b e → IsOutcome count u
-    → AllByRecursion (OutFine (Fine count (counts u n x b e now landed))) (step b e now landed).outs
+    (hosts : Hosts) (u : World) (n : ℕ) (x : Node) (b : Book) (e : Event) (now : ℕ) (landed : Bool) → StepPremises hosts u n x b e → IsOutcome hosts u
+    → AllByRecursion (OutFine (Fine hosts (counts u n x b e now landed))) (step b e now landed).outs

@@ -25,7 +25,7 @@ use Rattle.at_model.specs.Moves.{Change}
 use Rattle.at_model.specs.Recover.{last_incarnation, live}
 use Rattle.at_model.specs.Seats.{prepared}
 use Rattle.at_model.specs.Step.{leaf_at, moment_of, plan, step, transaction_at}
-use Rattle.at_model.specs.World.{Node, Posted, World, goes_down, lost_in, nth, put_nth, receiver_of, started, up_after, with_post}
+use Rattle.at_model.specs.World.{Node, Posted, World, goes_down, lost_in, nth, put_nth, receiver_of, started, up_after, with_post, Hosts, HaveOwnAddresses}
 use Rattle.model_laws.specs.Agreement.{IsIn}
 use Rattle.model_laws.specs.Drawn.{with_entry}
 use Rattle.model_laws.specs.Grows.{Grows}
@@ -70,19 +70,19 @@ own_leaf_vote : (id : Numbers) (coordinator : Epr) (key value : List ℕ) → is
 own_leaf_vote id coordinator key value = ap (λ c. c || false) (self_id id)
 
 -- a node before and behind a step
-record Here (count : ℕ) (u : World) (n : ℕ) (x : Node) (b : Book) (e : Event) (now : ℕ) (landed : Bool) : Type 0 where
-  laws : WorldLaws count u
+record Here (hosts : Hosts) (u : World) (n : ℕ) (x : Node) (b : Book) (e : Event) (now : ℕ) (landed : Bool) : Type 0 where
+  laws : WorldLaws hosts u
   found : nth n u.nodes ≡ Some x
   up : x.book ≡ Some b
 
-stood_before : (count : ℕ) (u : World) (n : ℕ) (x : Node) (b : Book) (e : Event) (now : ℕ) (landed : Bool) → Here count u n x b e now landed → (id : Numbers) (r : Record) → IsIn r (live x.journal)
+stood_before : (hosts : Hosts) (u : World) (n : ℕ) (x : Node) (b : Book) (e : Event) (now : ℕ) (landed : Bool) → Here hosts u n x b e now landed → (id : Numbers) (r : Record) → IsIn r (live x.journal)
     → is_vote id r ≡ true → HasVoted (counts u n x b e now landed) (record { node = n; id = id })
-stood_before count u n x b e now landed h id r i e' =
+stood_before hosts u n x b e now landed h id r i e' =
     voted_on u (counts u n x b e now landed) (grows_counts u n x b e now landed h.found) (record { node = n; id = id }) (r, (x, h.found, live_vote x.journal id r i e'), e')
 
-stands_now : (count : ℕ) (u : World) (n : ℕ) (x : Node) (b : Book) (e : Event) (now : ℕ) (landed : Bool) → Here count u n x b e now landed → (id : Numbers) (r : Record)
+stands_now : (hosts : Hosts) (u : World) (n : ℕ) (x : Node) (b : Book) (e : Event) (now : ℕ) (landed : Bool) → Here hosts u n x b e now landed → (id : Numbers) (r : Record)
     → standing landed (plan b e now).entry ≡ Some r → is_vote id r ≡ true → HasVoted (counts u n x b e now landed) (record { node = n; id = id })
-stands_now count u n x b e now landed h id r is e' = (
+stands_now hosts u n x b e now landed h id r is e' = (
   r,
   (
     behind_node,
@@ -115,17 +115,17 @@ in_doubt rs fx id t o (decided seats p u h k) = let e : Phase.Committing ≡ Pha
 in_doubt rs fx id t o (committed superior seats p u h i k) = let e : Phase.Committing ≡ Phase.Voted = two_phases t.phase Phase.Committing Phase.Voted p o in absurd cc
 in_doubt rs fx id t o (aborted p dead k) = let e : Phase.Aborting ≡ Phase.Voted = two_phases t.phase Phase.Aborting Phase.Voted p o in absurd cc
 
-subordinate_voted : (count : ℕ) (u : World) (n : ℕ) (x : Node) (b : Book) (e : Event) (now : ℕ) (landed : Bool) → Here count u n x b e now landed
+subordinate_voted : (hosts : Hosts) (u : World) (n : ℕ) (x : Node) (b : Book) (e : Event) (now : ℕ) (landed : Bool) → Here hosts u n x b e now landed
     → (d : TransactionDid b e now (standing landed (plan b e now).entry) (step b e now landed)) → (d.deed.how ≡ How.Votes) ⊎ (d.old.phase ≡ Phase.Voted)
     → HasVoted (counts u n x b e now landed) (record { node = n; id = d.old.id })
-subordinate_voted count u n x b e now landed h d (inl votes) =
+subordinate_voted hosts u n x b e now landed h d (inl votes) =
     let (to, is) = votes_recorded d.deed.how d.old d.deed.at (standing landed (plan b e now).entry) votes d.deed.records d.deed.stood in
-    stands_now count u n x b e now landed h d.old.id (records.Voted d.old.id to (prepared d.deed.at)) is (own_vote d.old.id to (prepared d.deed.at))
-subordinate_voted count u n x b e now landed h d (inr phase) =
+    stands_now hosts u n x b e now landed h d.old.id (records.Voted d.old.id to (prepared d.deed.at)) is (own_vote d.old.id to (prepared d.deed.at))
+subordinate_voted hosts u n x b e now landed h d (inr phase) =
     let (r, i, k) = in_doubt x.journal (happened_on n u.happened) d.old.id d.old phase
     (life_of x.journal (happened_on n u.happened) d.old.id (transaction_at (book_of x) d.old.id) (leaf_at (book_of x) d.old.id) d.old (h.laws.lives n x h.found d.old.id)
     (ap (λ o. transaction_at (standing_book x.base x.journal o) d.old.id) h.up ∙ d.found)) in
-    stood_before count u n x b e now landed h d.old.id r i k
+    stood_before hosts u n x b e now landed h d.old.id r i k
 
 -- a leaf's
 other_state : (a b c : State) → a ≡ b → a ≡ c → b ≡ c
@@ -189,25 +189,25 @@ leaf_voted m e l entry c left d item s (dropped came kind none is effects says) 
 leaf_voted m e l entry c left d item s (commits to came state knows none is effects says) = absurd (gone_leaf left c.item item is)
 leaf_voted m e l entry c left d item s (rolls_back to came state knows none is effects says) = absurd (gone_leaf left c.item item is)
 
-leaf_recorded : (count : ℕ) (u : World) (n : ℕ) (x : Node) (b : Book) (e : Event) (now : ℕ) (landed : Bool) → Here count u n x b e now landed
+leaf_recorded : (hosts : Hosts) (u : World) (n : ℕ) (x : Node) (b : Book) (e : Event) (now : ℕ) (landed : Bool) → Here hosts u n x b e now landed
     → (d : LeafDid b e now (standing landed (plan b e now).entry) (step b e now landed)) → d.old.kind ≡ kinds.Durable → Votes d.old (standing landed (plan b e now).entry)
     → HasVoted (counts u n x b e now landed) (record { node = n; id = d.old.id })
-leaf_recorded count u n x b e now landed h d durable (inl state) =
+leaf_recorded hosts u n x b e now landed h d durable (inl state) =
     let (r, i, k) = waiting x.journal (happened_on n u.happened) d.old.id (transaction_at (book_of x) d.old.id) (leaf_at (book_of x) d.old.id) d.old
     (ap (λ o. leaf_at (standing_book x.base x.journal o) d.old.id) h.up ∙ d.found) durable state (h.laws.lives n x h.found d.old.id) in
-    stood_before count u n x b e now landed h d.old.id r i k
-leaf_recorded count u n x b e now landed h d durable (inr (to, is)) =
-    stands_now count u n x b e now landed h d.old.id (records.LeafPrepared d.old.id to d.old.key d.old.value) is (own_leaf_vote d.old.id to d.old.key d.old.value)
+    stood_before hosts u n x b e now landed h d.old.id r i k
+leaf_recorded hosts u n x b e now landed h d durable (inr (to, is)) =
+    stands_now hosts u n x b e now landed h d.old.id (records.LeafPrepared d.old.id to d.old.key d.old.value) is (own_leaf_vote d.old.id to d.old.key d.old.value)
 
 -- each vote of a step
-voter_recorded : (count : ℕ) (u : World) (n : ℕ) (x : Node) (b : Book) (e : Event) (now : ℕ) (landed : Bool) → Here count u n x b e now landed → (id : Numbers)
+voter_recorded : (hosts : Hosts) (u : World) (n : ℕ) (x : Node) (b : Book) (e : Event) (now : ℕ) (landed : Bool) → Here hosts u n x b e now landed → (id : Numbers)
     → IsVoter b e now (standing landed (plan b e now).entry) (step b e now landed) id notices.Prepared → HasVoted (counts u n x b e now landed) (record { node = n; id = id })
-voter_recorded count u n x b e now landed h id (subordinate d own why) =
-    subst (λ i. HasVoted (counts u n x b e now landed) (record { node = n; id = i })) own (subordinate_voted count u n x b e now landed h d why)
-voter_recorded count u n x b e now landed h id (leaf_prepared d left own durable is item state) =
+voter_recorded hosts u n x b e now landed h id (subordinate d own why) =
+    subst (λ i. HasVoted (counts u n x b e now landed) (record { node = n; id = i })) own (subordinate_voted hosts u n x b e now landed h d why)
+voter_recorded hosts u n x b e now landed h id (leaf_prepared d left own durable is item state) =
     subst (λ i. HasVoted (counts u n x b e now landed) (record { node = n; id = i })) own
-    (leaf_recorded count u n x b e now landed h d durable (leaf_voted (moment_of b now) e d.old (standing landed (plan b e now).entry) d.change left durable item state d.deed))
-voter_recorded count u n x b e now landed h id (leaf_left d own durable is state item effects) = absurd cc
+    (leaf_recorded hosts u n x b e now landed h d durable (leaf_voted (moment_of b now) e d.old (standing landed (plan b e now).entry) d.change left durable item state d.deed))
+voter_recorded hosts u n x b e now landed h id (leaf_left d own durable is state item effects) = absurd cc
 
 abbrev IsRecorded : World → ℕ → Post → Type 0
 IsRecorded w n p = (id : Numbers) → p.own ≡ Some (targets.Participant id kinds.Durable) → p.message ≡ messages.Notice notices.Prepared → HasVoted w (record { node = n; id = id })
@@ -240,17 +240,17 @@ fallen_recorded u n x b found h =
     (h y k))
 
 -- the law
-prepared_law : (count : ℕ) → count < 2 ^ 64 → Law count
-prepared_law count few = record {
+prepared_law : (hosts : Hosts) → HaveOwnAddresses hosts → Law hosts
+prepared_law hosts few = record {
   Good = PreparedIsRecorded;
   Fine = λ w g n p. IsRecorded w n p;
   opens = λ x (q, i, sender, own, says). absurd i;
   steps = λ u n x b e now landed reached found up heard h. (
     (λ y k. voted_on u (counts u n x b e now landed) (grows_counts u n x b e now landed found) y (h y k)),
     all_outs (IsRecorded (counts u n x b e now landed) n) (step b e now landed).outs
-        (λ p i id own says. voter_recorded count u n x b e now landed (record { laws = world_laws count u few reached; found = found; up = up }) id
+        (λ p i id own says. voter_recorded hosts u n x b e now landed (record { laws = world_laws hosts u few reached; found = found; up = up }) id
         (voters b e now (standing landed (plan b e now).entry) (step b e now landed) id notices.Prepared p (inl refl) own says
-        (steps_tell.told b e now landed (steps_move.ready count u reached n x b found up) p notices.Prepared i says))),
+        (steps_tell.told b e now landed (steps_move.ready hosts u reached n x b found up) p notices.Prepared i says))),
   );
   posts = λ w h n p f. posted_recorded w n p h f;
   still_fine = λ w g n p q f k id own says. voted_on w (with_post n p w) (grows_posts n (p ∷ []) w) (record { node = n; id = id }) (k id own says);
@@ -260,6 +260,6 @@ prepared_law count few = record {
   waits = λ u n x clock reached found h y k. voted_on u (record u { nodes = put_nth n (record x { clock = clock }) u.nodes }) (grows_waits u n x clock found) y (h y k);
 }
 
-pub prepared_recorded : (count : ℕ) (w : World) → count < 2 ^ 64 → Reached count w → PreparedIsRecorded w
+pub prepared_recorded : (hosts : Hosts) (w : World) → HaveOwnAddresses hosts → Reached hosts w → PreparedIsRecorded w
 unfolding prepared_law
-prepared_recorded count w few reached = holds count (prepared_law count few) w reached
+prepared_recorded hosts w few reached = holds hosts (prepared_law hosts few) w reached

@@ -16,7 +16,7 @@ use Rattle.at_model.specs.Book.{Book, Enlistment, Leaf, Transaction, find_by, le
 use Rattle.at_model.specs.Due.{may_expire}
 use Rattle.at_model.specs.Recover.{in_order, is_promise, last_incarnation, leaves_of, live, recover}
 use Rattle.at_model.specs.Step.{leaf_at, moment_of, plan, step, transaction_at}
-use Rattle.at_model.specs.World.{Happened, Node, Posted, Who, World, goes_down, lost_in, nth, put_nth, receiver_of, started, up_after, with_post}
+use Rattle.at_model.specs.World.{Happened, Node, Posted, Who, World, goes_down, lost_in, nth, put_nth, receiver_of, started, up_after, with_post, Hosts, HaveOwnAddresses}
 use Rattle.model_laws.specs.Agreement.{IsIn}
 use Rattle.model_laws.specs.Drawn.{restarted, with_entry}
 use Rattle.model_laws.specs.Laws.{IsDrawn}
@@ -139,10 +139,10 @@ no_leaf_recovered base rs id dead =
     (λ l e. let s : StandsForLeaf (live rs) l = recovers_each.leaves base rs l (found_among leaf_id id (recover base rs).leaves l e) in
     dead s.behind s.live (subst (λ i. is_promise i s.behind ≡ true) (found_id leaf_id id (recover base rs).leaves l e) (from_leaf_promise s.behind l s.is)))
 
-gone_down_so : (count : ℕ) (u : World) (n : ℕ) (x : Node) (b : Book) → WorldLaws count u → nth n u.nodes ≡ Some x → x.book ≡ Some b → IsInOrder b → (id : Numbers) → IsGoneAt u.happened n id x
+gone_down_so : (hosts : Hosts) (u : World) (n : ℕ) (x : Node) (b : Book) → WorldLaws hosts u → nth n u.nodes ≡ Some x → x.book ≡ Some b → IsInOrder b → (id : Numbers) → IsGoneAt u.happened n id x
     → IsGoneAt (u.happened ++ lost_in n b) n id (record x { book = None })
-gone_down_so count u n x b laws found up order id h = record {
-  drawn = drawn_down x.journal x.book (of_records count u laws.reached n x found) id h.drawn;
+gone_down_so hosts u n x b laws found up order id h = record {
+  drawn = drawn_down x.journal x.book (of_records hosts u laws.reached n x found) id h.drawn;
   transaction = none_recovered x.base x.journal id dead;
   leaf = no_leaf_recovered x.base x.journal id dead;
   ended = ap (ends id) (on_join n u.happened (lost_in n b) ∙ ap (λ zs. happened_on n u.happened ++ zs) (lost_here n b))
@@ -190,10 +190,10 @@ leaf_drawn_here : (b : Book) (i : Numbers) (l : Leaf) → IsInOrder b → leaf_a
 leaf_drawn_here b i l h e =
     subst (IsDrawn b) (found_id leaf_id i b.leaves l e) (all_find (λ (y : Leaf). IsDrawn b y.id) leaf_id i b.leaves l h.drawn.leaves e)
 
-subordinate_left : (count : ℕ) (u : World) (n : ℕ) (x : Node) (b : Book) (e : Event) (now : ℕ) (landed : Bool) → WorldLaws count u → nth n u.nodes ≡ Some x → x.book ≡ Some b → IsReady b
+subordinate_left : (hosts : Hosts) (u : World) (n : ℕ) (x : Node) (b : Book) (e : Event) (now : ℕ) (landed : Bool) → WorldLaws hosts u → nth n u.nodes ≡ Some x → x.book ≡ Some b → IsReady b
     → (d : TransactionDid b e now (standing_entry landed (plan b e now).entry) (step b e now landed)) → d.deed.how ≡ How.Leaves
     → IsGoneAt (counts u n x b e now landed).happened n d.old.id (record x { book = Some (step b e now landed).book; journal = with_entry (plan b e now).entry landed x.journal })
-subordinate_left count u n x b e now landed laws found up ready d leaves = by_leaving (leaves_so d.deed.how d.old d.deed.at d.change.item (step b e now landed).effects leaves d.deed.stood d.deed.becomes
+subordinate_left hosts u n x b e now landed laws found up ready d leaves = by_leaving (leaves_so d.deed.how d.old d.deed.at d.change.item (step b e now landed).effects leaves d.deed.stood d.deed.becomes
     (d.effects_are ∙ d.deed.happened))
   where
     lone : Alone x.journal (happened_on n u.happened) d.old.id d.old (leaf_at b d.old.id)
@@ -225,10 +225,10 @@ leaf_alone rs fx id t l x found (has_aborted y e f o dead k) = absurd (no_some l
 leaf_alone rs fx id t l x found (works y e f o nothing k) = (e, k)
 leaf_alone rs fx id t l x found (waits y coordinator key value e f d o h k) = (e, k)
 
-leaf_left_so : (count : ℕ) (u : World) (n : ℕ) (x : Node) (b : Book) (e : Event) (now : ℕ) (landed : Bool) → WorldLaws count u → nth n u.nodes ≡ Some x → x.book ≡ Some b → IsReady b
+leaf_left_so : (hosts : Hosts) (u : World) (n : ℕ) (x : Node) (b : Book) (e : Event) (now : ℕ) (landed : Bool) → WorldLaws hosts u → nth n u.nodes ≡ Some x → x.book ≡ Some b → IsReady b
     → (d : LeafDid b e now (standing_entry landed (plan b e now).entry) (step b e now landed)) → d.change.item ≡ None → d.change.effects ≡ []
     → IsGoneAt (counts u n x b e now landed).happened n d.old.id (record x { book = Some (step b e now landed).book; journal = with_entry (plan b e now).entry landed x.journal })
-leaf_left_so count u n x b e now landed laws found up ready d none quiet = record {
+leaf_left_so hosts u n x b e now landed laws found up ready d none quiet = record {
   drawn = ids_stay_drawn.stays b e now landed d.old.id (leaf_drawn_here b d.old.id d.old ready.order d.found);
   transaction = ap (find_by transaction_id d.old.id) d.items.transactions_are ∙ ap (λ o. transaction_at (standing x.base x.journal o) d.old.id) (sym up) ∙ lone.0;
   leaf = ap (find_by leaf_id d.old.id) d.items.leaves_are
@@ -243,9 +243,9 @@ leaf_left_so count u n x b e now landed laws found up ready d none quiet = recor
         leaf_alone x.journal (happened_on n u.happened) d.old.id (transaction_at (book_of x) d.old.id) (leaf_at (book_of x) d.old.id) d.old
         (ap (λ o. leaf_at (standing x.base x.journal o) d.old.id) up ∙ d.found) (laws.lives n x found d.old.id)
 
-voter_gone : (count : ℕ) (u : World) (n : ℕ) (x : Node) (b : Book) (e : Event) (now : ℕ) (landed : Bool) → WorldLaws count u → nth n u.nodes ≡ Some x → x.book ≡ Some b → IsReady b → (id : Numbers)
+voter_gone : (hosts : Hosts) (u : World) (n : ℕ) (x : Node) (b : Book) (e : Event) (now : ℕ) (landed : Bool) → WorldLaws hosts u → nth n u.nodes ≡ Some x → x.book ≡ Some b → IsReady b → (id : Numbers)
     → IsVoter b e now (standing_entry landed (plan b e now).entry) (step b e now landed) id notices.ReadOnly → LeftNoTrace (counts u n x b e now landed) (record { node = n; id = id })
-voter_gone count u n x b e now landed laws found up ready id voter =
+voter_gone hosts u n x b e now landed laws found up ready id voter =
     as_trace (counts u n x b e now landed) (record { node = n; id = id }) behind_node (put_this u.nodes n x behind_node found) (by_voter voter)
   where
     behind_node : Node
@@ -253,10 +253,10 @@ voter_gone count u n x b e now landed laws found up ready id voter =
 
     by_voter : IsVoter b e now (standing_entry landed (plan b e now).entry) (step b e now landed) id notices.ReadOnly → IsGoneAt (counts u n x b e now landed).happened n id behind_node
     by_voter (subordinate d own why) =
-        subst (λ i. IsGoneAt (counts u n x b e now landed).happened n i behind_node) own (subordinate_left count u n x b e now landed laws found up ready d why)
+        subst (λ i. IsGoneAt (counts u n x b e now landed).happened n i behind_node) own (subordinate_left hosts u n x b e now landed laws found up ready d why)
     by_voter (leaf_prepared d left own durable is item state) = absurd cc
     by_voter (leaf_left d own durable is state item effects) =
-        subst (λ i. IsGoneAt (counts u n x b e now landed).happened n i behind_node) own (leaf_left_so count u n x b e now landed laws found up ready d item effects)
+        subst (λ i. IsGoneAt (counts u n x b e now landed).happened n i behind_node) own (leaf_left_so hosts u n x b e now landed laws found up ready d item effects)
 
 -- the law
 abbrev GoesWithoutTrace : World → ℕ → Post → Type 0
@@ -279,34 +279,34 @@ posted_gone w n p h f x (q, i, sender, own, says) = either (in_either q w.posted
     either (inr (inl e)) = same_trace w n p x (new e)
     either (inr (inr k)) = absurd k
 
-step_gone : (count : ℕ) (u : World) (n : ℕ) (x : Node) (b : Book) (e : Event) (now : ℕ) (landed : Bool) → nth n u.nodes ≡ Some x → x.book ≡ Some b → IsReady b → ReadOnlyIsGone u
+step_gone : (hosts : Hosts) (u : World) (n : ℕ) (x : Node) (b : Book) (e : Event) (now : ℕ) (landed : Bool) → nth n u.nodes ≡ Some x → x.book ≡ Some b → IsReady b → ReadOnlyIsGone u
     → ReadOnlyIsGone (counts u n x b e now landed)
-step_gone count u n x b e now landed found up ready h y k =
+step_gone hosts u n x b e now landed found up ready h y k =
     put_trace u (counts u n x b e now landed) n x (record x { book = Some (step b e now landed).book; journal = with_entry (plan b e now).entry landed x.journal }) found refl
     (gone_on u n x b e now landed up ready) (λ m differ. step_there m n u.happened (step b e now landed).effects differ) y (h y k)
 
-fall_gone : (count : ℕ) (u : World) (n : ℕ) (x : Node) (b : Book) → WorldLaws count u → nth n u.nodes ≡ Some x → x.book ≡ Some b → IsInOrder b → ReadOnlyIsGone u → ReadOnlyIsGone (goes_down n b u)
-fall_gone count u n x b laws found up order h =
+fall_gone : (hosts : Hosts) (u : World) (n : ℕ) (x : Node) (b : Book) → WorldLaws hosts u → nth n u.nodes ≡ Some x → x.book ≡ Some b → IsInOrder b → ReadOnlyIsGone u → ReadOnlyIsGone (goes_down n b u)
+fall_gone hosts u n x b laws found up order h =
     subst ReadOnlyIsGone (sym (gone_down n b u x found))
     (λ y k. put_trace u (record u { nodes = put_nth n (record x { book = None }) u.nodes; happened = u.happened ++ lost_in n b }) n x (record x { book = None }) found refl
-    (gone_down_so count u n x b laws found up order)
+    (gone_down_so hosts u n x b laws found up order)
     (λ m differ. on_join m u.happened (lost_in n b) ∙ ap (λ zs. happened_on m u.happened ++ zs) (lost_there m n b differ) ∙ append-nil (happened_on m u.happened)) y (h y k))
 
-read_only_law : (count : ℕ) → count < 2 ^ 64 → Law count
-read_only_law count few = record {
+read_only_law : (hosts : Hosts) → HaveOwnAddresses hosts → Law hosts
+read_only_law hosts few = record {
   Good = ReadOnlyIsGone;
   Fine = λ w g n p. GoesWithoutTrace w n p;
   opens = λ x (q, i, sender, own, says). absurd i;
   steps = λ u n x b e now landed reached found up heard h. (
-    step_gone count u n x b e now landed found up (steps_move.ready count u reached n x b found up) h,
+    step_gone hosts u n x b e now landed found up (steps_move.ready hosts u reached n x b found up) h,
     all_outs (GoesWithoutTrace (counts u n x b e now landed) n) (step b e now landed).outs
-        (λ p i id own says. voter_gone count u n x b e now landed (world_laws count u few reached) found up (steps_move.ready count u reached n x b found up) id
+        (λ p i id own says. voter_gone hosts u n x b e now landed (world_laws hosts u few reached) found up (steps_move.ready hosts u reached n x b found up) id
         (voters b e now (standing_entry landed (plan b e now).entry) (step b e now landed) id notices.ReadOnly p (inr refl) own says
-        (steps_tell.told b e now landed (steps_move.ready count u reached n x b found up) p notices.ReadOnly i says))),
+        (steps_tell.told b e now landed (steps_move.ready hosts u reached n x b found up) p notices.ReadOnly i says))),
   );
   posts = λ w h n p f. posted_gone w n p h f;
   still_fine = λ w g n p q f k id own says. same_trace w n p (record { node = n; id = id }) (k id own says);
-  falls = λ u n x b reached found up h. fall_gone count u n x b (world_laws count u few reached) found up (steps_move.ready count u reached n x b found up).order h;
+  falls = λ u n x b reached found up h. fall_gone hosts u n x b (world_laws hosts u few reached) found up (steps_move.ready hosts u reached n x b found up).order h;
   rises = λ u n x stop reached found down little h y k.
       put_trace u (record u { nodes = put_nth n (up_after (started (last_incarnation x.journal + 1) x) stop) u.nodes }) n x (up_after (started (last_incarnation x.journal + 1) x) stop) found refl
       (λ id g. gone_up u.happened n x stop down id g) (λ m differ. refl) y (h y k);
@@ -315,6 +315,6 @@ read_only_law count few = record {
       (λ id g. record { drawn = g.drawn; transaction = g.transaction; leaf = g.leaf; ended = g.ended }) (λ m differ. refl) y (h y k);
 }
 
-pub read_only_gone : (count : ℕ) (w : World) → count < 2 ^ 64 → Reached count w → ReadOnlyIsGone w
+pub read_only_gone : (hosts : Hosts) (w : World) → HaveOwnAddresses hosts → Reached hosts w → ReadOnlyIsGone w
 unfolding read_only_law
-read_only_gone count w few reached = holds count (read_only_law count few) w reached
+read_only_gone hosts w few reached = holds hosts (read_only_law hosts few) w reached

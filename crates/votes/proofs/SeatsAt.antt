@@ -19,7 +19,7 @@ use Rattle.at_model.specs.Book.{Book, Enlistment, Transaction, transaction_id}
 use Rattle.at_model.specs.Due.{may_expire}
 use Rattle.at_model.specs.Seats.{answered, ending, is_of}
 use Rattle.at_model.specs.Step.{step, transaction_at}
-use Rattle.at_model.specs.World.{Accepted, Node, Who, World, accepted_seat}
+use Rattle.at_model.specs.World.{Accepted, Node, Who, World, accepted_seat, Hosts}
 use Rattle.model_laws.specs.Agreement.{HasAborted, HasCommitted, HasPosted, IsIn}
 use Rattle.model_laws.specs.Behind.{IsUnanswered, accepted_as}
 use Rattle.model_laws.proofs.Deciding.{all_find}
@@ -38,17 +38,17 @@ use Rattle.votes.proofs.Premises.{StepPremises}
 use Rattle.votes.proofs.Saying.{Hears, at_says}
 
 -- a seat of this participant's
-pub record SeatOf (count : ℕ) (seats : List Enlistment) (number : ℕ) (kind : Kind) (y : Who) : Type 0 where
+pub record SeatOf (hosts : Hosts) (seats : List Enlistment) (number : ℕ) (kind : Kind) (y : Who) : Type 0 where
   pub seat : Enlistment
   pub among : IsIn seat seats
   pub number_is : seat.number ≡ number
   pub kind_is : seat.kind ≡ kind
-  pub named : who_named count seat.participant ≡ Some y
+  pub named : who_named hosts seat.participant ≡ Some y
 
-pub seat_of : (count n : ℕ) (id : Numbers) (seats : List Enlistment) (number : ℕ) (kind : Kind) (y : Who)
-    → IsIn (registration (record { node = n; id = id }) number kind y) (map (accepted_seat n (nodes_of count) id) seats) → SeatOf count seats number kind y
-seat_of count n id [] number kind y i = absurd i
-seat_of count n id (s ∷ seats) number kind y (inl e) = record {
+pub seat_of : (hosts : Hosts) (n : ℕ) (id : Numbers) (seats : List Enlistment) (number : ℕ) (kind : Kind) (y : Who)
+    → IsIn (registration (record { node = n; id = id }) number kind y) (map (accepted_seat n (nodes_of hosts) id) seats) → SeatOf hosts seats number kind y
+seat_of hosts n id [] number kind y i = absurd i
+seat_of hosts n id (s ∷ seats) number kind y (inl e) = record {
   seat = s;
   among = inl refl;
   number_is = ap (λ (z : Seat). z.number) (inside (record { number = s.number; kind = s.kind }) (record { number = number; kind = kind }) (sym (ap (λ (a : Accepted). a.seat) e)));
@@ -58,8 +58,8 @@ seat_of count n id (s ∷ seats) number kind y (inl e) = record {
   where
     inside : (p q : Seat) → Some p ≡ Some q → p ≡ q
     inside p q f = cc
-seat_of count n id (s ∷ seats) number kind y (inr i) =
-    let r : SeatOf count seats number kind y = seat_of count n id seats number kind y i in
+seat_of hosts n id (s ∷ seats) number kind y (inr i) =
+    let r : SeatOf hosts seats number kind y = seat_of hosts n id seats number kind y i in
     record { seat = r.seat; among = inr r.among; number_is = r.number_is; kind_is = r.kind_is; named = r.named }
 
 -- the same participants sit at the seats once a message is counted
@@ -69,26 +69,26 @@ counted_same e t [] (a ∷ rest) c = absurd c
 counted_same e t (o ∷ os) [] c = absurd c
 counted_same e t (o ∷ os) (a ∷ rest) (c, cs) = λ i. c.seat i ∷ counted_same e t os rest cs i
 
-pub at_entries : (count n : ℕ) (id : Numbers) (e : Event) (t : Transaction) (at : List Enlistment) → AreCounted e t t.seats at
-    → map (accepted_seat n (nodes_of count) id) t.seats ≡ map (accepted_seat n (nodes_of count) id) at
-at_entries count n id e t at c = are_entries count n id t.seats ∙ ap (map (entry count n id)) (sym (counted_same e t t.seats at c)) ∙ sym (are_entries count n id at)
+pub at_entries : (hosts : Hosts) (n : ℕ) (id : Numbers) (e : Event) (t : Transaction) (at : List Enlistment) → AreCounted e t t.seats at
+    → map (accepted_seat n (nodes_of hosts) id) t.seats ≡ map (accepted_seat n (nodes_of hosts) id) at
+at_entries hosts n id e t at c = are_entries hosts n id t.seats ∙ ap (map (entry hosts n id)) (sym (counted_same e t t.seats at c)) ∙ sym (are_entries hosts n id at)
 
 -- an undecided transaction has a seat for each
 pub among_book : (b : Book) (t : Transaction) → transaction_at b t.id ≡ Some t → IsIn t b.transactions
 among_book b t found = all_find (λ y. IsIn y b.transactions) transaction_id t.id b.transactions t (each_is_in b.transactions) found
 
-pub has_entry : (count : ℕ) (u : World) (n : ℕ) (x : Node) (b : Book) (e : Event) → StepPremises count u n x b e → (t : Transaction) → transaction_at b t.id ≡ Some t → may_expire t.phase ≡ true
+pub has_entry : (hosts : Hosts) (u : World) (n : ℕ) (x : Node) (b : Book) (e : Event) → StepPremises hosts u n x b e → (t : Transaction) → transaction_at b t.id ≡ Some t → may_expire t.phase ≡ true
     → (number : ℕ) (kind : Kind) (y : Who) → HasSeat u (record { node = n; id = t.id }) number kind y
-    → IsIn (registration (record { node = n; id = t.id }) number kind y) (map (accepted_seat n (nodes_of count) t.id) t.seats)
-has_entry count u n x b e p t found undecided number kind y i =
-    subst (IsIn (registration (record { node = n; id = t.id }) number kind y)) (seats_same n u.nodes (nodes_of count) t.id t.seats p.world.laws.bases)
+    → IsIn (registration (record { node = n; id = t.id }) number kind y) (map (accepted_seat n (nodes_of hosts) t.id) t.seats)
+has_entry hosts u n x b e p t found undecided number kind y i =
+    subst (IsIn (registration (record { node = n; id = t.id }) number kind y)) (seats_same n u.nodes (nodes_of hosts) t.id t.seats p.world.laws.bases)
     (p.world.laws.seated.complete n x b t p.found p.up (among_book b t found) undecided (registration (record { node = n; id = t.id }) number kind y) (record { number = number; kind = kind }) i
     refl refl)
 
 -- an undecided transaction is open
-pub open_there : (count : ℕ) (u : World) (n : ℕ) (x : Node) (b : Book) (e : Event) → StepPremises count u n x b e → (t : Transaction) → transaction_at b t.id ≡ Some t → may_expire t.phase ≡ true
+pub open_there : (hosts : Hosts) (u : World) (n : ℕ) (x : Node) (b : Book) (e : Event) → StepPremises hosts u n x b e → (t : Transaction) → transaction_at b t.id ≡ Some t → may_expire t.phase ≡ true
     → IsOpen x.journal (happened_on n u.happened) t.id
-open_there count u n x b e p t found undecided = is_open x.journal (happened_on n u.happened) t.id t (stands_as count u n x b e p t found) undecided
+open_there hosts u n x b e p t found undecided = is_open x.journal (happened_on n u.happened) t.id t (stands_as hosts u n x b e p t found) undecided
 
 -- a deed that aborts nothing ends nothing as aborted
 abbrev head_as : List Effect → Option Ending
@@ -111,13 +111,13 @@ pub no_abort : (how : How) (t : Transaction) (es : List Effect) → (IsAbort how
 no_abort how t es f e k = not_ending how t f (subst EndsSo (sym (as_ending t.superior t.id endings.Aborted) ∙ ap head_as (sym k ∙ e)) tt)
 
 -- what the seats say as they stand then
-pub seats_at : (count : ℕ) (u : World) (n : ℕ) (x : Node) (b : Book) (e : Event) (now : ℕ) (landed : Bool) → StepPremises count u n x b e → IsOutcome count u → (t : Transaction)
+pub seats_at : (hosts : Hosts) (u : World) (n : ℕ) (x : Node) (b : Book) (e : Event) (now : ℕ) (landed : Bool) → StepPremises hosts u n x b e → IsOutcome hosts u → (t : Transaction)
     → transaction_at b t.id ≡ Some t → (how : How) → (IsAbort how → ⊥) → (step b e now landed).effects ≡ happens how t → (at : List Enlistment) → AreCounted e t t.seats at
-    → AllByRecursion (SeatTells count u (record { node = n; id = t.id })) at
-seats_at count u n x b e now landed p j t found how stays is at c = at_says count u (record { node = n; id = t.id }) e t hears t.seats at (λ s i. i) hears.tells c
+    → AllByRecursion (SeatTells hosts u (record { node = n; id = t.id })) at
+seats_at hosts u n x b e now landed p j t found how stays is at c = at_says hosts u (record { node = n; id = t.id }) e t hears t.seats at (λ s i. i) hears.tells c
   where
-    hears : Hears count u (record { node = n; id = t.id }) e t
-    hears = hears_before count u n x b e now landed p j t found (no_abort how t (step b e now landed).effects stays is)
+    hears : Hears hosts u (record { node = n; id = t.id }) e t
+    hears = hears_before hosts u n x b e now landed p j t found (no_abort how t (step b e now landed).effects stays is)
 
 -- who has answered
 pub own_kind : (k : Kind) → is_kind k k ≡ true

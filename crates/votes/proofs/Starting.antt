@@ -9,7 +9,7 @@ use Rattle.at_base.specs.declared.record.Record.{Record}
 use Rattle.at_base.specs.declared.record.Record.TheVariants as records
 use Rattle.at_model.specs.Book.{Transaction, find_by, transaction_id}
 use Rattle.at_model.specs.Recover.{last_incarnation, recover, transactions_of, in_order}
-use Rattle.at_model.specs.World.{Node, Who, World, nth, put_nth, started, up_after}
+use Rattle.at_model.specs.World.{Node, Who, World, nth, put_nth, started, up_after, Hosts}
 use Rattle.model_laws.specs.Agreement.{IsIn}
 use Rattle.model_laws.specs.Drawn.{restarted}
 use Rattle.model_laws.specs.Grows.{Grows}
@@ -33,9 +33,9 @@ abbrev IsStart : Record → Type 0
 IsStart (records.Start incarnation) = Unit {0}
 IsStart other = ⊥
 
-start_answers : (count : ℕ) (w : World) (n : ℕ) (r : Record) → IsStart r → RecordAnswers count w n r
-start_answers count w n (records.Start incarnation) h = tt
-start_answers count w n other h = absurd h
+start_answers : (hosts : Hosts) (w : World) (n : ℕ) (r : Record) → IsStart r → RecordAnswers hosts w n r
+start_answers hosts w n (records.Start incarnation) h = tt
+start_answers hosts w n other h = absurd h
 
 no_vote : (id : Numbers) (r : Record) → IsStart r → is_vote id r ≡ true → ⊥
 no_vote id (records.Start incarnation) h e = cc
@@ -92,24 +92,24 @@ held_like u n x z l t held = by_node (nat_eq t.node n) refl
         }
     by_node false c = record { node = held.node; found = put_other u.nodes t.node n z (eqb-false t.node n c) ∙ held.found; transaction = held.transaction; stands = held.stands }
 
-stays_like : (count : ℕ) (u : World) (n : ℕ) (x z : Node) → IsLike u n x z → IsOutcome count u → IsOutcome count (with_node n z u)
-stays_like count u n x z l j = record {
-  says = λ m y f. each_put (λ k v. AllByRecursion (TransactionTells count w k) (book_of v).transactions) u.nodes n x z l.found
-      (subst (AllByRecursion (TransactionTells count w n)) (sym l.transactions)
-      (all_more (TransactionTells count u n) (TransactionTells count w n) (book_of x).transactions (tells_on count u w l.grows n) (j.says n x l.found)))
-      (λ k v differ r. all_more (TransactionTells count u k) (TransactionTells count w k) (book_of v).transactions (tells_on count u w l.grows k) (j.says k v r)) m y f;
-  answers = λ m y f. each_put (λ k v. AllByRecursion (RecordAnswers count w k) v.journal) u.nodes n x z l.found
-      (subst (AllByRecursion (RecordAnswers count w n)) (sym l.journal)
-      (all_join (RecordAnswers count w n) x.journal l.more (all_more (RecordAnswers count u n) (RecordAnswers count w n) x.journal (same_record n) (j.answers n x l.found))
-      (all_more IsStart (RecordAnswers count w n) l.more (start_answers count w n) l.starts)))
-      (λ k v differ r. all_more (RecordAnswers count u k) (RecordAnswers count w k) v.journal (same_record k) (j.answers k v r)) m y f;
-  keeps = λ m y f. each_put (λ k v. AllByRecursion (KeepsItsDurable count w k) (book_of v).transactions) u.nodes n x z l.found
-      (subst (AllByRecursion (KeepsItsDurable count w n)) (sym l.transactions)
-      (all_more (KeepsItsDurable count u n) (KeepsItsDurable count w n) (book_of x).transactions (same_durable n) (j.keeps n x l.found)))
-      (λ k v differ r. all_more (KeepsItsDurable count u k) (KeepsItsDurable count w k) (book_of v).transactions (same_durable k) (j.keeps k v r)) m y f;
-  commits = all_more (λ p. CommitIsBacked count u p.content) (λ p. CommitIsBacked count w p.content) u.posted (λ p. commit_on count u w l.grows p.content) j.commits;
-  rollbacks = all_more (λ p. RollbackIsBacked count u p.content) (λ p. RollbackIsBacked count w p.content) u.posted (λ p. rollback_on count u w l.grows p.content) j.rollbacks;
-  committeds = all_more (λ p. CommittedIsBacked count u p.content) (λ p. CommittedIsBacked count w p.content) u.posted (λ p. committed_backed_on count u w l.grows p.content) j.committeds;
+stays_like : (hosts : Hosts) (u : World) (n : ℕ) (x z : Node) → IsLike u n x z → IsOutcome hosts u → IsOutcome hosts (with_node n z u)
+stays_like hosts u n x z l j = record {
+  says = λ m y f. each_put (λ k v. AllByRecursion (TransactionTells hosts w k) (book_of v).transactions) u.nodes n x z l.found
+      (subst (AllByRecursion (TransactionTells hosts w n)) (sym l.transactions)
+      (all_more (TransactionTells hosts u n) (TransactionTells hosts w n) (book_of x).transactions (tells_on hosts u w l.grows n) (j.says n x l.found)))
+      (λ k v differ r. all_more (TransactionTells hosts u k) (TransactionTells hosts w k) (book_of v).transactions (tells_on hosts u w l.grows k) (j.says k v r)) m y f;
+  answers = λ m y f. each_put (λ k v. AllByRecursion (RecordAnswers hosts w k) v.journal) u.nodes n x z l.found
+      (subst (AllByRecursion (RecordAnswers hosts w n)) (sym l.journal)
+      (all_join (RecordAnswers hosts w n) x.journal l.more (all_more (RecordAnswers hosts u n) (RecordAnswers hosts w n) x.journal (same_record n) (j.answers n x l.found))
+      (all_more IsStart (RecordAnswers hosts w n) l.more (start_answers hosts w n) l.starts)))
+      (λ k v differ r. all_more (RecordAnswers hosts u k) (RecordAnswers hosts w k) v.journal (same_record k) (j.answers k v r)) m y f;
+  keeps = λ m y f. each_put (λ k v. AllByRecursion (KeepsItsDurable hosts w k) (book_of v).transactions) u.nodes n x z l.found
+      (subst (AllByRecursion (KeepsItsDurable hosts w n)) (sym l.transactions)
+      (all_more (KeepsItsDurable hosts u n) (KeepsItsDurable hosts w n) (book_of x).transactions (same_durable n) (j.keeps n x l.found)))
+      (λ k v differ r. all_more (KeepsItsDurable hosts u k) (KeepsItsDurable hosts w k) (book_of v).transactions (same_durable k) (j.keeps k v r)) m y f;
+  commits = all_more (λ p. CommitIsBacked hosts u p.content) (λ p. CommitIsBacked hosts w p.content) u.posted (λ p. commit_on hosts u w l.grows p.content) j.commits;
+  rollbacks = all_more (λ p. RollbackIsBacked hosts u p.content) (λ p. RollbackIsBacked hosts w p.content) u.posted (λ p. rollback_on hosts u w l.grows p.content) j.rollbacks;
+  committeds = all_more (λ p. CommittedIsBacked hosts u p.content) (λ p. CommittedIsBacked hosts w p.content) u.posted (λ p. committed_backed_on hosts u w l.grows p.content) j.committeds;
   aborts = λ y h a. under_aborted_on u w l.grows y (j.aborts y (voted_before u n x z l y h) a);
   gone = λ t y number h. gone_like t y (j.gone t y number h);
 }
@@ -117,11 +117,11 @@ stays_like count u n x z l j = record {
     w : World
     w = with_node n z u
 
-    same_record : (k : ℕ) (r : Record) → RecordAnswers count u k r → RecordAnswers count w k r
-    same_record k r = record_on count u w l.grows k r (λ id promise number kind y i. i)
+    same_record : (k : ℕ) (r : Record) → RecordAnswers hosts u k r → RecordAnswers hosts w k r
+    same_record k r = record_on hosts u w l.grows k r (λ id promise number kind y i. i)
 
-    same_durable : (k : ℕ) (t : Transaction) → KeepsItsDurable count u k t → KeepsItsDurable count w k t
-    same_durable k t h phase = durable_on count u w l.grows k t (λ number kind y i. i) (h phase)
+    same_durable : (k : ℕ) (t : Transaction) → KeepsItsDurable hosts u k t → KeepsItsDurable hosts w k t
+    same_durable k t h phase = durable_on hosts u w l.grows k t (λ number kind y i. i) (h phase)
 
     gone_like : (t y : Who) → IsHeld u t ⊎ IsOver u t y → IsHeld w t ⊎ IsOver w t y
     gone_like t y (inl held) = inl (held_like u n x z l t held)
@@ -135,10 +135,10 @@ up_same : (x : Node) (stop : Bool) → x.book ≡ None → (book_of (up_after (s
 up_same x true down = recovered_same x.base x.journal ∙ ap (λ o. (standing x.base x.journal o).transactions) (sym down)
 up_same x false down = recovered_same x.base x.journal ∙ ap (λ o. (standing x.base x.journal o).transactions) (sym down)
 
-pub outcome_rises : (count : ℕ) (u : World) (n : ℕ) (x : Node) (stop : Bool) → nth n u.nodes ≡ Some x → x.book ≡ None → IsOutcome count u
-    → IsOutcome count (record u { nodes = put_nth n (up_after (started (last_incarnation x.journal + 1) x) stop) u.nodes })
-outcome_rises count u n x stop found down j =
-    stays_like count u n x (up_after (started (last_incarnation x.journal + 1) x) stop)
+pub outcome_rises : (hosts : Hosts) (u : World) (n : ℕ) (x : Node) (stop : Bool) → nth n u.nodes ≡ Some x → x.book ≡ None → IsOutcome hosts u
+    → IsOutcome hosts (record u { nodes = put_nth n (up_after (started (last_incarnation x.journal + 1) x) stop) u.nodes })
+outcome_rises hosts u n x stop found down j =
+    stays_like hosts u n x (up_after (started (last_incarnation x.journal + 1) x) stop)
     (record {
       found = found;
       grows = grows_rises u n x stop found;
@@ -148,8 +148,8 @@ outcome_rises count u n x stop found down j =
       transactions = up_same x stop down;
     }) j
 
-pub outcome_waits : (count : ℕ) (u : World) (n : ℕ) (x : Node) (clock : ℕ) → nth n u.nodes ≡ Some x → IsOutcome count u
-    → IsOutcome count (record u { nodes = put_nth n (record x { clock = clock }) u.nodes })
-outcome_waits count u n x clock found j =
-    stays_like count u n x (record x { clock = clock })
+pub outcome_waits : (hosts : Hosts) (u : World) (n : ℕ) (x : Node) (clock : ℕ) → nth n u.nodes ≡ Some x → IsOutcome hosts u
+    → IsOutcome hosts (record u { nodes = put_nth n (record x { clock = clock }) u.nodes })
+outcome_waits hosts u n x clock found j =
+    stays_like hosts u n x (record x { clock = clock })
     (record { found = found; grows = grows_waits u n x clock found; more = []; starts = tt; journal = sym (append-nil x.journal); transactions = refl }) j

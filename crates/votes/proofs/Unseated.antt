@@ -18,7 +18,7 @@ use Rattle.at_tables.specs.Names.{is_kind}
 use Rattle.at_model.specs.Book.{Book, Enlistment, Phase, Transaction, transaction_id}
 use Rattle.at_model.specs.Due.{may_expire}
 use Rattle.at_model.specs.Step.{find_seat, transaction_at}
-use Rattle.at_model.specs.World.{Accepted, Node, Who, World, accepted_seat, new_nodes, nth}
+use Rattle.at_model.specs.World.{Accepted, Node, Who, World, accepted_seat, new_nodes, nth, Hosts}
 use Rattle.model_laws.specs.Agreement.{HasAborted, HasCommitted, HasPosted, IsIn}
 use Rattle.model_laws.specs.Shapes.{IfFound}
 use Rattle.model_laws.proofs.Deciding.{all_find, found_id}
@@ -71,10 +71,10 @@ no_such_entry n nodes t s a none at i =
     no_such_seat s.number s.kind t.seats r none k (ap (λ (c : Seat). c.number) seat) (ap (λ (c : Seat). c.kind) seat)
 
 -- a registration at this seat, of a transaction that stands without it: it has aborted, or the participant has left
-stands_without : (count : ℕ) (u : World) (n : ℕ) (x : Node) (b : Book) (e : Event) → StepPremises count u n x b e → IsOutcome count u → (t : Transaction) (number : ℕ) (y : Who)
+stands_without : (hosts : Hosts) (u : World) (n : ℕ) (x : Node) (b : Book) (e : Event) → StepPremises hosts u n x b e → IsOutcome hosts u → (t : Transaction) (number : ℕ) (y : Who)
     → transaction_at b t.id ≡ Some t → find_seat number kinds.Durable t.seats ≡ None → HasSeat u (record { node = n; id = t.id }) number kinds.Durable y
     → HasAborted u (record { node = n; id = t.id }) ⊎ HasPosted u y kinds.Durable notices.ReadOnly
-stands_without count u n x b e p j t number y found none seat = by_phase t.phase refl
+stands_without hosts u n x b e p j t number y found none seat = by_phase t.phase refl
   where
     among : IsIn t b.transactions
     among = all_find (λ z. IsIn z b.transactions) transaction_id t.id b.transactions t (each_is_in b.transactions) found
@@ -86,14 +86,14 @@ stands_without count u n x b e p j t number y found none seat = by_phase t.phase
 
     kept : (t.phase ≡ Phase.Voted) ⊎ (t.phase ≡ Phase.Committing) → HasPosted u y kinds.Durable notices.ReadOnly
     kept is =
-        by_kept (all_find (KeepsItsDurable count u n) transaction_id t.id b.transactions t (subst (λ (c : Book). AllByRecursion (KeepsItsDurable count u n) c.transactions) (here x b p.up) (j.keeps n x p.found))
+        by_kept (all_find (KeepsItsDurable hosts u n) transaction_id t.id b.transactions t (subst (λ (c : Book). AllByRecursion (KeepsItsDurable hosts u n) c.transactions) (here x b p.up) (j.keeps n x p.found))
         found is number y seat)
       where
-        by_kept : HasPosted u y kinds.Durable notices.ReadOnly ⊎ IsIn (registration (record { node = n; id = t.id }) number kinds.Durable y) (map (accepted_seat n (new_nodes count 1) t.id) t.seats)
+        by_kept : HasPosted u y kinds.Durable notices.ReadOnly ⊎ IsIn (registration (record { node = n; id = t.id }) number kinds.Durable y) (map (accepted_seat n (new_nodes hosts.base_of hosts.count 1) t.id) t.seats)
             → HasPosted u y kinds.Durable notices.ReadOnly
         by_kept (inl r) = r
         by_kept (inr i) =
-            absurd (no_such_entry n (new_nodes count 1) t (record { number = number; kind = kinds.Durable }) (registration (record { node = n; id = t.id }) number kinds.Durable y) none refl i)
+            absurd (no_such_entry n (new_nodes hosts.base_of hosts.count 1) t (record { number = number; kind = kinds.Durable }) (registration (record { node = n; id = t.id }) number kinds.Durable y) none refl i)
 
     by_phase : (ph : Phase) → t.phase ≡ ph → HasAborted u (record { node = n; id = t.id }) ⊎ HasPosted u y kinds.Durable notices.ReadOnly
     by_phase Phase.Registering is = absurd (undecided (ap may_expire is))
@@ -102,13 +102,13 @@ stands_without count u n x b e p j t number y found none seat = by_phase t.phase
     by_phase Phase.Durable is = absurd (undecided (ap may_expire is))
     by_phase Phase.Voted is = inr (kept (inl is))
     by_phase Phase.Committing is = inr (kept (inr is))
-    by_phase Phase.Aborting is = inl (aborting count u n x b e p t found is)
+    by_phase Phase.Aborting is = inl (aborting hosts u n x b e p t found is)
 
 -- so wherever there is no such seat
-without_seat : (count : ℕ) (u : World) (n : ℕ) (x : Node) (b : Book) (e : Event) → StepPremises count u n x b e → IsOutcome count u → (id : Numbers) (number : ℕ) (y : Who)
+without_seat : (hosts : Hosts) (u : World) (n : ℕ) (x : Node) (b : Book) (e : Event) → StepPremises hosts u n x b e → IsOutcome hosts u → (id : Numbers) (number : ℕ) (y : Who)
     → IfFound (λ t. find_seat number kinds.Durable t.seats ≡ None) (transaction_at b id) → HasSeat u (record { node = n; id = id }) number kinds.Durable y
     → HasAborted u (record { node = n; id = id }) ⊎ (HasPosted u y kinds.Durable notices.ReadOnly ⊎ HasCommitted u y)
-without_seat count u n x b e p j id number y unknown seat = by_found (transaction_at b id) refl unknown
+without_seat hosts u n x b e p j id number y unknown seat = by_found (transaction_at b id) refl unknown
   where
     not_held : transaction_at b id ≡ None → IsHeld u (record { node = n; id = id }) → ⊥
     not_held none h =
@@ -131,24 +131,24 @@ without_seat count u n x b e p j id number y unknown seat = by_found (transactio
     by_found (Some t) f k =
         let own : t.id ≡ id = found_id transaction_id id b.transactions t f in
         subst (λ i. HasAborted u (record { node = n; id = i }) ⊎ (HasPosted u y kinds.Durable notices.ReadOnly ⊎ HasCommitted u y)) own
-        (further (stands_without count u n x b e p j t number y (ap (transaction_at b) own ∙ f) k
+        (further (stands_without hosts u n x b e p j t number y (ap (transaction_at b) own ∙ f) k
         (subst (λ i. HasSeat u (record { node = n; id = i }) number kinds.Durable y) (sym own) seat)))
 
 -- a Prepared there
-pub unseated : (count : ℕ) (u : World) (n : ℕ) (x : Node) (b : Book) (e : Event) → StepPremises count u n x b e → IsOutcome count u → (a : Arrived) → e ≡ events.Arrived a → (id : Numbers) (number : ℕ)
+pub unseated : (hosts : Hosts) (u : World) (n : ℕ) (x : Node) (b : Book) (e : Event) → StepPremises hosts u n x b e → IsOutcome hosts u → (a : Arrived) → e ≡ events.Arrived a → (id : Numbers) (number : ℕ)
     → a.target ≡ targets.Coordinator id (record { number = number; kind = kinds.Durable }) → IfFound (λ t. find_seat number kinds.Durable t.seats ≡ None) (transaction_at b id)
-    → a.message ≡ messages.Notice notices.Prepared → (up : Epr) → a.from ≡ Some up → (m : ℕ) (k : Numbers) → LeadsTo count up m (targets.Participant k kinds.Durable)
+    → a.message ≡ messages.Notice notices.Prepared → (up : Epr) → a.from ≡ Some up → (m : ℕ) (k : Numbers) → LeadsTo hosts up m (targets.Participant k kinds.Durable)
     → HasCommitted u (record { node = m; id = k }) ⊎ IsUnderAborted u (record { node = m; id = k })
-unseated count u n x b e p j a came id number target unknown says up from m k leads =
-    let w : HasCome count u n a = came_by count u n x b e p a came in
-    let v : IsVoteOf count u w.posted n id (record { number = number; kind = kinds.Durable }) =
-    one_of (VotesAtItsSeat count u) u.posted w.posted p.world.knowing.votes w.stands notices.Prepared w.to n id (record { number = number; kind = kinds.Durable }) (w.message ∙ says) (inl refl) w.sent
-    (subst (LeadsTo count w.to n) target w.leads) in
+unseated hosts u n x b e p j a came id number target unknown says up from m k leads =
+    let w : HasCome hosts u n a = came_by hosts u n x b e p a came in
+    let v : IsVoteOf hosts u w.posted n id (record { number = number; kind = kinds.Durable }) =
+    one_of (VotesAtItsSeat hosts u) u.posted w.posted p.world.knowing.votes w.stands notices.Prepared w.to n id (record { number = number; kind = kinds.Durable }) (w.message ∙ says) (inl refl) w.sent
+    (subst (LeadsTo hosts w.to n) target w.leads) in
     let home : (m ≡ w.posted.sender) × (targets.Participant k kinds.Durable ≡ targets.Participant v.item kinds.Durable) = v.from up m (targets.Participant k kinds.Durable) (sym w.from ∙ from) leads in
     let same : ◌≡◌ {A = Who} (record { node = w.posted.sender; id = v.item }) (record { node = m; id = k }) = same_who m w.posted.sender k v.item home.0 home.1 in
     subst (λ y. HasCommitted u y ⊎ IsUnderAborted u y) same
     (by_case (record { node = w.posted.sender; id = v.item }) v.accepted (w.posted, w.stands, refl, v.own, w.message ∙ says)
-    (without_seat count u n x b e p j id number (record { node = w.posted.sender; id = v.item }) unknown v.accepted))
+    (without_seat hosts u n x b e p j id number (record { node = w.posted.sender; id = v.item }) unknown v.accepted))
   where
     same_who : (m l : ℕ) (k i : Numbers) → m ≡ l → targets.Participant k kinds.Durable ≡ targets.Participant i kinds.Durable → ◌≡◌ {A = Who} (record { node = l; id = i }) (record { node = m; id = k })
     same_who m l k i e f = let g : k ≡ i = cc in λ q. record { node = sym e q; id = sym g q }
@@ -156,5 +156,5 @@ unseated count u n x b e p j a came id number target unknown says up from m k le
     by_case : (y : Who) → HasSeat u (record { node = n; id = id }) number kinds.Durable y → HasPosted u y kinds.Durable notices.Prepared
         → HasAborted u (record { node = n; id = id }) ⊎ (HasPosted u y kinds.Durable notices.ReadOnly ⊎ HasCommitted u y) → HasCommitted u y ⊎ IsUnderAborted u y
     by_case y seat voted (inl a) = inr (record { transaction = record { node = n; id = id }; number = number; seat = seat; aborted = a })
-    by_case y seat voted (inr (inl r)) = absurd (not_both_votes count u p.world y voted r)
+    by_case y seat voted (inr (inl r)) = absurd (not_both_votes hosts u p.world y voted r)
     by_case y seat voted (inr (inr c)) = inl c

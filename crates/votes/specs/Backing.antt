@@ -11,7 +11,7 @@ use Rattle.at_base.specs.declared.target.Target.TheVariants as targets
 use Rattle.at_base.specs.declared.outs.Post.{Post}
 use Rattle.at_model.specs.Book.{Transaction}
 use Rattle.at_model.specs.Step.{transaction_at}
-use Rattle.at_model.specs.World.{Node, Who, World, nth}
+use Rattle.at_model.specs.World.{Node, Who, World, nth, Hosts}
 use Rattle.model_laws.specs.Agreement.{HasAborted, HasCommitted, HasPosted}
 use Rattle.agreement.specs.Lives.{book_of}
 use Rattle.enlistments.specs.Leads.{LeadsTo}
@@ -34,22 +34,22 @@ pub record IsUnderAborted (w : World) (x : Who) : Type 0 where
 
 -- A Commit goes to a participant that has voted Prepared, and whose transaction has committed
 -- (WS-AtomicTransaction 1.2, section 3.3.3).
-abbrev pub CommitIsBacked : ℕ → World → Post → Type 0
-CommitIsBacked count w p =
-    (to : Epr) (m : ℕ) (i : Numbers) (kind : Kind) → p.message ≡ messages.Notice notices.Commit → p.to ≡ Some to → LeadsTo count to m (targets.Participant i kind)
+abbrev pub CommitIsBacked : Hosts → World → Post → Type 0
+CommitIsBacked hosts w p =
+    (to : Epr) (m : ℕ) (i : Numbers) (kind : Kind) → p.message ≡ messages.Notice notices.Commit → p.to ≡ Some to → LeadsTo hosts to m (targets.Participant i kind)
     → HasPosted w (record { node = m; id = i }) kind notices.Prepared × IsUnderCommitted w (record { node = m; id = i }) kind
 
-abbrev pub CommitsAreBacked : ℕ → World → Type 0
-CommitsAreBacked count w = AllByRecursion (λ p. CommitIsBacked count w p.content) w.posted
+abbrev pub CommitsAreBacked : Hosts → World → Type 0
+CommitsAreBacked hosts w = AllByRecursion (λ p. CommitIsBacked hosts w p.content) w.posted
 
 -- A Rollback goes to a durable participant whose transaction has aborted, or that has committed already.
-abbrev pub RollbackIsBacked : ℕ → World → Post → Type 0
-RollbackIsBacked count w p =
-    (to : Epr) (m : ℕ) (i : Numbers) → p.message ≡ messages.Notice notices.Rollback → p.to ≡ Some to → LeadsTo count to m (targets.Participant i kinds.Durable)
+abbrev pub RollbackIsBacked : Hosts → World → Post → Type 0
+RollbackIsBacked hosts w p =
+    (to : Epr) (m : ℕ) (i : Numbers) → p.message ≡ messages.Notice notices.Rollback → p.to ≡ Some to → LeadsTo hosts to m (targets.Participant i kinds.Durable)
     → HasCommitted w (record { node = m; id = i }) ⊎ IsUnderAborted w (record { node = m; id = i })
 
-abbrev pub RollbacksAreBacked : ℕ → World → Type 0
-RollbacksAreBacked count w = AllByRecursion (λ p. RollbackIsBacked count w p.content) w.posted
+abbrev pub RollbacksAreBacked : Hosts → World → Type 0
+RollbacksAreBacked hosts w = AllByRecursion (λ p. RollbackIsBacked hosts w p.content) w.posted
 
 -- a durable participant of this seat has committed
 pub record HasCommittedAt (w : World) (t : Who) (number : ℕ) : Type 0 where
@@ -58,13 +58,13 @@ pub record HasCommittedAt (w : World) (t : Who) (number : ℕ) : Type 0 where
   pub committed : HasCommitted w participant
 
 -- A Committed that goes to a durable seat comes when the seat's participant has committed.
-abbrev pub CommittedIsBacked : ℕ → World → Post → Type 0
-CommittedIsBacked count w p =
+abbrev pub CommittedIsBacked : Hosts → World → Post → Type 0
+CommittedIsBacked hosts w p =
     (to : Epr) (n : ℕ) (j : Numbers) (number : ℕ) → p.message ≡ messages.Notice notices.Committed → p.to ≡ Some to
-    → LeadsTo count to n (targets.Coordinator j (record { number = number; kind = kinds.Durable })) → HasCommittedAt w (record { node = n; id = j }) number
+    → LeadsTo hosts to n (targets.Coordinator j (record { number = number; kind = kinds.Durable })) → HasCommittedAt w (record { node = n; id = j }) number
 
-abbrev pub CommittedsAreBacked : ℕ → World → Type 0
-CommittedsAreBacked count w = AllByRecursion (λ p. CommittedIsBacked count w p.content) w.posted
+abbrev pub CommittedsAreBacked : Hosts → World → Type 0
+CommittedsAreBacked hosts w = AllByRecursion (λ p. CommittedIsBacked hosts w p.content) w.posted
 
 -- Behind its vote Prepared a participant aborts only under a transaction that has aborted.
 abbrev pub AbortsWereTold : World → Type 0

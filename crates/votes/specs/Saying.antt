@@ -8,13 +8,13 @@ use Rattle.at_base.specs.declared.notice.Notice.TheVariants as notices
 use Rattle.at_tables.specs.declared.cells.State.{State}
 use Rattle.at_tables.specs.declared.cells.State.TheVariants as states
 use Rattle.at_model.specs.Book.{Enlistment, Transaction}
-use Rattle.at_model.specs.World.{Node, Who, World, new_nodes, nth, who_of}
+use Rattle.at_model.specs.World.{Node, Who, World, new_nodes, nth, who_of, Hosts}
 use Rattle.model_laws.specs.Agreement.{HasAborted, HasCommitted, HasPosted}
 use Rattle.agreement.specs.Lives.{book_of}
 
 -- the item that an endpoint leads to, in a world of so many nodes
-abbrev pub who_named : ℕ → Epr → Option Who
-who_named count e = who_of (new_nodes count 1) e
+abbrev pub who_named : Hosts → Epr → Option Who
+who_named hosts e = who_of (new_nodes hosts.base_of hosts.count 1) e
 
 -- It was told to commit, and is done: a volatile one had voted Prepared, a durable one has committed.
 abbrev pub HasLeft : World → Who → Who → Kind → Type 0
@@ -34,11 +34,11 @@ SeatSays w t x kind states.None = HasAborted w t ⊎ (HasPosted w x kind notices
 SeatSays w t x kind other = ⊥
 
 -- so each seat, of whomever its endpoint leads to
-abbrev pub SeatTells : ℕ → World → Who → Enlistment → Type 0
-SeatTells count w t s = (x : Who) → who_named count s.participant ≡ Some x → SeatSays w t x s.kind s.state
+abbrev pub SeatTells : Hosts → World → Who → Enlistment → Type 0
+SeatTells hosts w t s = (x : Who) → who_named hosts s.participant ≡ Some x → SeatSays w t x s.kind s.state
 
-abbrev pub TransactionTells : ℕ → World → ℕ → Transaction → Type 0
-TransactionTells count w n t = AllByRecursion (SeatTells count w (record { node = n; id = t.id })) t.seats
+abbrev pub TransactionTells : Hosts → World → ℕ → Transaction → Type 0
+TransactionTells hosts w n t = AllByRecursion (SeatTells hosts w (record { node = n; id = t.id })) t.seats
 
-abbrev pub SeatsSay : ℕ → World → Type 0
-SeatsSay count w = (n : ℕ) (y : Node) → nth n w.nodes ≡ Some y → AllByRecursion (TransactionTells count w n) (book_of y).transactions
+abbrev pub SeatsSay : Hosts → World → Type 0
+SeatsSay hosts w = (n : ℕ) (y : Node) → nth n w.nodes ≡ Some y → AllByRecursion (TransactionTells hosts w n) (book_of y).transactions

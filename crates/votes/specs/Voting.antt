@@ -7,7 +7,7 @@ use Rattle.at_base.specs.declared.notice.Notice.TheVariants as notices
 use Rattle.at_base.specs.declared.record.Record.{Record}
 use Rattle.at_model.specs.Recover.{is_leaf_prepared, is_voted}
 use Rattle.at_model.specs.Step.{leaf_at, transaction_at}
-use Rattle.at_model.specs.World.{Node, Who, World, WorldEvent, nth, run_of}
+use Rattle.at_model.specs.World.{Node, Who, World, WorldEvent, nth, run_of, Hosts, HaveOwnAddresses}
 use Rattle.model_laws.specs.Agreement.{HasPosted, Stands}
 use Rattle.model_laws.specs.Reached.{Reached}
 use Rattle.agreement.specs.Lives.{book_of, ends, happened_on}
@@ -38,7 +38,7 @@ ReadOnlyIsGone w = (x : Who) → HasPosted w x kinds.Durable notices.ReadOnly �
 
 -- So it is in every world that is reached, and in every run.
 pub record VotesAreKept : Type 0 where
-  pub prepared : (count : ℕ) (w : World) → count < 2 ^ 64 → Reached count w → PreparedIsRecorded w
-  pub read_only : (count : ℕ) (w : World) → count < 2 ^ 64 → Reached count w → ReadOnlyIsGone w
-  pub prepared_run : (count : ℕ) (es : List WorldEvent) → count < 2 ^ 64 → PreparedIsRecorded (run_of count es)
-  pub read_only_run : (count : ℕ) (es : List WorldEvent) → count < 2 ^ 64 → ReadOnlyIsGone (run_of count es)
+  pub prepared : (hosts : Hosts) (w : World) → HaveOwnAddresses hosts → Reached hosts w → PreparedIsRecorded w
+  pub read_only : (hosts : Hosts) (w : World) → HaveOwnAddresses hosts → Reached hosts w → ReadOnlyIsGone w
+  pub prepared_run : (hosts : Hosts) (es : List WorldEvent) → HaveOwnAddresses hosts → PreparedIsRecorded (run_of hosts es)
+  pub read_only_run : (hosts : Hosts) (es : List WorldEvent) → HaveOwnAddresses hosts → ReadOnlyIsGone (run_of hosts es)
