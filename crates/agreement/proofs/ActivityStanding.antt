@@ -36,12 +36,12 @@ again a sent (runs context to o p x c) = runs context to o p x c
 again a sent (runs_under context o p x c) = runs_under context o p x c
 again a sent (completes n context to o w p x c) = completes n context to o w p x c
 
-worked : (a : Activity) (hosts : Hosts) → ActivityStands a → ActivityStands (record a { works = hosts })
-worked a hosts (creates p x c) = creates p x c
-worked a hosts (registers context o p x c) = registers context o p x c
-worked a hosts (runs context to o p x c) = runs context to o p x c
-worked a hosts (runs_under context o p x c) = runs_under context o p x c
-worked a hosts (completes n context to o w p x c) = completes n context to o w p x c
+worked : (a : Activity) (count : ℕ) → ActivityStands a → ActivityStands (record a { works = count })
+worked a count (creates p x c) = creates p x c
+worked a count (registers context o p x c) = registers context o p x c
+worked a count (runs context to o p x c) = runs context to o p x c
+worked a count (runs_under context o p x c) = runs_under context o p x c
+worked a count (completes n context to o w p x c) = completes n context to o w p x c
 
 no_coordinator : (a : Activity) → ActivityStands a → a.progress ≡ Progress.Creating → a.coordinator ≡ None
 no_coordinator a (creates p x c) e = c

@@ -339,15 +339,15 @@ drawn_up base rs true id h = omega (arith, h, (incarnations_rise rs).0)
 drawn_up base rs false id h = inl (omega (arith, h, (incarnations_rise rs).0))
 
 -- runs
-abbrev PostedWhose : World → Posted → Type 0
-PostedWhose w p = IsWhose (IsOwnId w p.sender) (hosts.base_of p.sender) p.content
+abbrev PostedWhose : Hosts → World → Posted → Type 0
+PostedWhose hosts w p = IsWhose (IsOwnId w p.sender) (hosts.base_of p.sender) p.content
 
-abbrev AllWhose : World → Type 0
-AllWhose w = AllByRecursion (PostedWhose w) w.posted
+abbrev AllWhose : Hosts → World → Type 0
+AllWhose hosts w = AllByRecursion (PostedWhose hosts w) w.posted
 
-whose_on : (u v : World) → ((m : ℕ) (id : Numbers) → WasDrawn u m id → WasDrawn v m id) → (ps : List Posted) → AllByRecursion (PostedWhose u) ps → AllByRecursion (PostedWhose v) ps
-whose_on u v f ps h =
-    all_more (PostedWhose u) (PostedWhose v) ps
+whose_on : (hosts : Hosts) (u v : World) → ((m : ℕ) (id : Numbers) → WasDrawn u m id → WasDrawn v m id) → (ps : List Posted) → AllByRecursion (PostedWhose hosts u) ps → AllByRecursion (PostedWhose hosts v) ps
+whose_on hosts u v f ps h =
+    all_more (PostedWhose hosts u) (PostedWhose hosts v) ps
     (λ p k. whose_more (IsOwnId u p.sender) (IsOwnId v p.sender) (hosts.base_of p.sender) p.content p.content.message (λ own id i. (i.0, f p.sender id i.1)) k) h
 
 pub outs_on : (P Q : Target → Numbers → Type 0) (base : List ℕ) (os : List Out) → ((own : Target) (id : Numbers) → P own id → Q own id) → OutsWhose P base os → AllByRecursion (OutFine (IsWhose Q base)) os
@@ -355,13 +355,13 @@ outs_on P Q base [] f h = tt
 outs_on P Q base (outs.Post p ∷ os) f (h, k) = (whose_more P Q base p p.message f h, outs_on P Q base os f k)
 outs_on P Q base (outs.Answer status reply ∷ os) f (h, k) = (tt, outs_on P Q base os f k)
 
-steps_whose : (hosts : Hosts) (u : World) (n : ℕ) (x : Node) (b : Book) (e : Event) (now : ℕ) (landed : Bool) → HaveOwnAddresses hosts → Reached hosts u → nth n u.nodes ≡ Some x → x.book ≡ Some b → AllWhose u
-    → AllWhose (counts u n x b e now landed) × AllByRecursion (OutFine (IsWhose (IsOwnId (counts u n x b e now landed) n) (hosts.base_of n))) (step b e now landed).outs
+steps_whose : (hosts : Hosts) (u : World) (n : ℕ) (x : Node) (b : Book) (e : Event) (now : ℕ) (landed : Bool) → HaveOwnAddresses hosts → Reached hosts u → nth n u.nodes ≡ Some x → x.book ≡ Some b → AllWhose hosts u
+    → AllWhose hosts (counts u n x b e now landed) × AllByRecursion (OutFine (IsWhose (IsOwnId (counts u n x b e now landed) n) (hosts.base_of n))) (step b e now landed).outs
 steps_whose hosts u n x b e now landed small reached found up h =
     let v : World = counts u n x b e now landed in
     let g : WorldGood hosts u = world_good hosts u small reached in
     let known : IsUp (hosts.base_of n) (g.choices n) x.journal b = subst (IsKnown (hosts.base_of n) (g.choices n) x.journal) up (g.nodes n x found) in (
-      whose_on u v (drawn_put u v n x z found refl (λ id k. drawn_step x b e now landed x.book refl up id k)) u.posted h,
+      whose_on hosts u v (drawn_put u v n x z found refl (λ id k. drawn_step x b e now landed x.book refl up id k)) u.posted h,
       outs_on (IsKept (step b e now landed).book) (IsOwnId v n) (hosts.base_of n) (step b e now landed).outs (λ own id k. (k.0, (z, put_this u.nodes n x z found, k.1)))
           (subst (λ base. OutsWhose (IsKept (step b e now landed).book) base (step b e now landed).outs) known.says.base_is
           (step_whose (hosts.base_of n) (g.choices n) b e now landed known.says)),
@@ -370,48 +370,48 @@ steps_whose hosts u n x b e now landed small reached found up h =
     z : Node
     z = record x { book = Some (step b e now landed).book; journal = with_entry (plan b e now).entry landed x.journal }
 
-falls_whose : (hosts : Hosts) (u : World) (n : ℕ) (x : Node) (b : Book) → Reached hosts u → nth n u.nodes ≡ Some x → AllWhose u → AllWhose (goes_down n b u)
+falls_whose : (hosts : Hosts) (u : World) (n : ℕ) (x : Node) (b : Book) → Reached hosts u → nth n u.nodes ≡ Some x → AllWhose hosts u → AllWhose hosts (goes_down n b u)
 falls_whose hosts u n x b reached found h =
     let is : goes_down n b u ≡ put_book n None (record u { happened = u.happened ++ lost_in n b }) (Some x) = ap (put_book n None (record u { happened = u.happened ++ lost_in n b })) found in
-    subst AllWhose (sym is)
-    (whose_on u (put_book n None (record u { happened = u.happened ++ lost_in n b }) (Some x))
+    subst (AllWhose hosts) (sym is)
+    (whose_on hosts u (put_book n None (record u { happened = u.happened ++ lost_in n b }) (Some x))
     (drawn_put u (put_book n None (record u { happened = u.happened ++ lost_in n b }) (Some x)) n x (record x { book = None }) found refl
     (drawn_down x.journal x.book (of_records hosts u reached n x found))) u.posted h)
 
-rises_whose : (u : World) (n : ℕ) (x : Node) (stop : Bool) → nth n u.nodes ≡ Some x → x.book ≡ None → AllWhose u
-    → AllWhose (record u { nodes = put_nth n (up_after (started (last_incarnation x.journal + 1) x) stop) u.nodes })
-rises_whose u n x stop found down h =
+rises_whose : (hosts : Hosts) (u : World) (n : ℕ) (x : Node) (stop : Bool) → nth n u.nodes ≡ Some x → x.book ≡ None → AllWhose hosts u
+    → AllWhose hosts (record u { nodes = put_nth n (up_after (started (last_incarnation x.journal + 1) x) stop) u.nodes })
+rises_whose hosts u n x stop found down h =
     let v : World = record u { nodes = put_nth n (up_after (started (last_incarnation x.journal + 1) x) stop) u.nodes } in
-    whose_on u v
+    whose_on hosts u v
     (drawn_put u v n x (up_after (started (last_incarnation x.journal + 1) x) stop) found refl
     (λ id k. drawn_up x.base x.journal stop id (subst (λ o. HasDrawn x.journal o id) down k))) u.posted h
 
 registering : (hosts : Hosts) → HaveOwnAddresses hosts → Law hosts
 registering hosts small = record {
-  Good = AllWhose;
+  Good = AllWhose hosts;
   Fine = λ w g n p. IsWhose (IsOwnId w n) (hosts.base_of n) p;
   opens = tt;
   steps = λ u n x b e now landed reached found up heard g. steps_whose hosts u n x b e now landed small reached found up g;
-  posts = λ w g n p f. all_join (PostedWhose (with_post n p w)) w.posted _ g (f, tt);
+  posts = λ w g n p f. all_join (PostedWhose hosts (with_post n p w)) w.posted _ g (f, tt);
   still_fine = λ w g n p q f h. h;
   falls = λ u n x b reached found up g. falls_whose hosts u n x b reached found g;
-  rises = λ u n x stop reached found down little g. rises_whose u n x stop found down g;
+  rises = λ u n x stop reached found down little g. rises_whose hosts u n x stop found down g;
   waits = λ u n x clock reached found g.
-      whose_on u (record u { nodes = put_nth n (record x { clock = clock }) u.nodes })
+      whose_on hosts u (record u { nodes = put_nth n (record x { clock = clock }) u.nodes })
       (drawn_put u (record u { nodes = put_nth n (record x { clock = clock }) u.nodes }) n x (record x { clock = clock }) found refl (λ id k. k)) u.posted g;
 }
 
-one_whose : (w : World) (ps : List Posted) (p : Posted) → AllByRecursion (PostedWhose w) ps → IsIn p ps → PostedWhose w p
-one_whose w [] p h i = absurd i
-one_whose w (q ∷ ps) p (h, k) (inl e) = subst (PostedWhose w) (sym e) h
-one_whose w (q ∷ ps) p (h, k) (inr i) = one_whose w ps p k i
+one_whose : (hosts : Hosts) (w : World) (ps : List Posted) (p : Posted) → AllByRecursion (PostedWhose hosts w) ps → IsIn p ps → PostedWhose hosts w p
+one_whose hosts w [] p h i = absurd i
+one_whose hosts w (q ∷ ps) p (h, k) (inl e) = subst (PostedWhose hosts w) (sym e) h
+one_whose hosts w (q ∷ ps) p (h, k) (inr i) = one_whose hosts w ps p k i
 
 -- each Register that was posted, in every world that is reached
 pub registers_named : (hosts : Hosts) (w : World) → HaveOwnAddresses hosts → Reached hosts w → (p : Posted) (r : Register) → IsIn p w.posted → p.content.message ≡ messages.Register r
     → IsOwnRegister (IsOwnId w p.sender) (hosts.base_of p.sender) p.content r
 unfolding registering
 registers_named hosts w small reached p r i e =
-    subst (Whose (IsOwnId w p.sender) (hosts.base_of p.sender) p.content) e (one_whose w w.posted p (holds hosts (registering hosts small) w reached) i)
+    subst (Whose (IsOwnId w p.sender) (hosts.base_of p.sender) p.content) e (one_whose hosts w w.posted p (holds hosts (registering hosts small) w reached) i)
 
 pub registers_name_their_sender : RegistersNameTheirSender
 registers_name_their_sender hosts es small p r i e = registers_named hosts (run_of hosts es) small (run_reached hosts es) p r i e

@@ -36,7 +36,7 @@ use Rattle.at_base.specs.declared.outs.Effect.TheVariants as effects
 use Rattle.at_model.specs.Book.{Book, Transaction, Superior, Request, transaction_id, leaf_id, activity_id, next_id}
 use Rattle.at_model.specs.Recover.{last_incarnation, live, is_sub_committed, recover, recovered_voted, transactions_of, leaves_of}
 use Rattle.at_model.specs.Step.{Plan, plain, still, at_time, make_transaction, make_leaf, branch, plan, step}
-use Rattle.at_model.specs.World.{Node, Happened, Posted, Accepted, Who, World, new_nodes, place_of, who_at, who_of, accepted_in, nth, put_nth, put_book, new_node, opening, happened_at, is_lost_root, is_lost_subordinate, is_lost_leaf, transaction_lost, leaf_lost, lost_in, goes_down, started, up_after, run_of, Hosts, HaveOwnAddresses}
+use Rattle.at_model.specs.World.{Node, Happened, Posted, Accepted, Who, World, new_nodes, place_of, who_at, who_of, accepted_in, nth, put_nth, put_book, new_node, opening, happened_at, is_lost_root, is_lost_subordinate, is_lost_leaf, transaction_lost, leaf_lost, lost_in, goes_down, started, up_after, run_of, Hosts, HaveOwnAddresses, IsNumber}
 use Rattle.model_laws.specs.Drawn.{restarted, with_entry}
 use Rattle.model_laws.specs.Laws.{IsDrawn}
 use Rattle.model_laws.specs.Reached.{Heard, counts, Reached}
@@ -188,11 +188,11 @@ own_on s t k (targets.Participant id kind) (inl h) = inl (k Subordinate tt id h)
 own_on s t k (targets.Participant id kind) (inr h) = inr (k (LeafOf kind) tt id h)
 own_on s t k (targets.Initiator id) h = k Begun tt id h
 
-abbrev Fitting : (Numbers → Sort) → ℕ → Target → Numbers → Type 0
-Fitting s n own id = FitsTarget s own × (IsId id × (n < 2 ^ 64))
+abbrev Fitting : Hosts → (Numbers → Sort) → ℕ → Target → Numbers → Type 0
+Fitting hosts s n own id = FitsTarget s own × (IsId id × IsNumber hosts n)
 
-abbrev FitsPosted : Sorts → Posted → Type 0
-FitsPosted sorts p = IsWhose (Fitting (sorts p.sender) p.sender) (hosts.base_of p.sender) p.content
+abbrev FitsPosted : Hosts → Sorts → Posted → Type 0
+FitsPosted hosts sorts p = IsWhose (Fitting hosts (sorts p.sender) p.sender) (hosts.base_of p.sender) p.content
 
 all_last : {A : Type 0} (P : A → Type 0) (xs : List A) (x : A) → AllByRecursion P (xs ++ x ∷ []) → P x
 all_last P [] x h = h.0
@@ -206,8 +206,8 @@ under_none : (o : Option Superior) → is_none o ≡ false → sort_under o ≡ 
 under_none None e = absurd cc
 under_none (Some x) e = refl
 
-fits_known : (s t : Numbers → Sort) (n : ℕ) (b : Book) → n < 2 ^ 64 → Knows (IsKept b) b → Keeps s t → FitsBook s b → Knows (Fitting t n) b
-fits_known s t n b small kept k h = record {
+fits_known : (hosts : Hosts) (s t : Numbers → Sort) (n : ℕ) (b : Book) → IsNumber hosts n → Knows (IsKept b) b → Keeps s t → FitsBook s b → Knows (Fitting hosts t n) b
+fits_known hosts s t n b small kept k h = record {
   transactions = λ id x r found asks kind. (
     inl (k Subordinate tt x.id (all_find (λ y. s y.id ≡ sort_under y.superior) transaction_id id b.transactions x h.transactions found ∙ asks_under x.superior r asks)),
     ((kept.transactions id x r found asks kind).0, small),
@@ -219,9 +219,9 @@ fits_known s t n b small kept k h = record {
   activities = λ id a found. (k Begun tt a.id (all_find (λ y. s y.id ≡ Begun) activity_id id b.activities a h.activities found), ((kept.activities id a found).0, small));
 }
 
-fits_drawn : (t : Numbers → Sort) (n : ℕ) (b : Book) (now : ℕ) (p : Plan) (landed : Bool) → n < 2 ^ 64 → ((id : Numbers) → next_id b ≡ Some id → IsId id) → FitsBook t (branch p landed).book
-    → Draws (Fitting t n) b now p
-fits_drawn t n b now p landed small named h = record {
+fits_drawn : (hosts : Hosts) (t : Numbers → Sort) (n : ℕ) (b : Book) (now : ℕ) (p : Plan) (landed : Bool) → IsNumber hosts n → ((id : Numbers) → next_id b ≡ Some id → IsId id) → FitsBook t (branch p landed).book
+    → Draws (Fitting hosts t n) b now p
+fits_drawn hosts t n b now p landed small named h = record {
   transaction = λ x os is next superior kind. (
     inl (all_last (λ y. t y.id ≡ sort_under y.superior) b.transactions x (behind (make_transaction (at_time now b) x) os is).transactions ∙ under_none x.superior superior),
     (named x.id next, small),
@@ -236,19 +236,19 @@ fits_drawn t n b now p landed small named h = record {
     behind : (c : Book) (os : List Out) → p ≡ plain (still c os) → FitsBook t c
     behind c os is = either c os landed (subst (λ (q : Plan). FitsBook t (branch q landed).book) is h)
 
-posted_on : (old new : Sorts) → ((m : ℕ) → Keeps (old m) (new m)) → (ps : List Posted) → AllByRecursion (FitsPosted old) ps → AllByRecursion (FitsPosted new) ps
-posted_on old new k ps h =
-    all_more (FitsPosted old) (FitsPosted new) ps
-    (λ p i. whose_more (Fitting (old p.sender) p.sender) (Fitting (new p.sender) p.sender) (hosts.base_of p.sender) p.content p.content.message (λ own id j. (own_on (old p.sender) (new p.sender) (k p.sender) own j.0, j.1)) i) h
+posted_on : (hosts : Hosts) (old new : Sorts) → ((m : ℕ) → Keeps (old m) (new m)) → (ps : List Posted) → AllByRecursion (FitsPosted hosts old) ps → AllByRecursion (FitsPosted hosts new) ps
+posted_on hosts old new k ps h =
+    all_more (FitsPosted hosts old) (FitsPosted hosts new) ps
+    (λ p i. whose_more (Fitting hosts (old p.sender) p.sender) (Fitting hosts (new p.sender) p.sender) (hosts.base_of p.sender) p.content p.content.message (λ own id j. (own_on (old p.sender) (new p.sender) (k p.sender) own j.0, j.1)) i) h
 
 -- numbers of nodes
-at_most : (n : ℕ) (xs : List Node) (x : Node) → nth n xs ≡ Some x → n ≤ length xs
+at_most : (n : ℕ) (xs : List Node) (x : Node) → nth n xs ≡ Some x → (1 ≤ n) × (n ≤ length xs)
 at_most n [] x e = absurd cc
 at_most n (y ∷ xs) x e = by_number (λ f. at_most (n - 1) xs x f) (nat_eq n 1) refl e
   where
-    by_number : (nth (n - 1) xs ≡ Some x → n - 1 ≤ length xs) → (c : Bool) → nat_eq n 1 ≡ c → (if c then Some y else nth (n - 1) xs) ≡ Some x → n ≤ length (y ∷ xs)
-    by_number rest true c e = omega (arith, eqb-true n 1 c)
-    by_number rest false c e = omega (arith, rest e)
+    by_number : (nth (n - 1) xs ≡ Some x → (1 ≤ n - 1) × (n - 1 ≤ length xs)) → (c : Bool) → nat_eq n 1 ≡ c → (if c then Some y else nth (n - 1) xs) ≡ Some x → (1 ≤ n) × (n ≤ length (y ∷ xs))
+    by_number rest true c e = let one : n ≡ 1 = eqb-true n 1 c in (omega (arith, one), omega (arith, one))
+    by_number rest false c e = let (least, most) = rest e in (omega (arith, least), omega (arith, least, most))
 
 as_long : (xs ys : List Node) → HaveBases xs ys → length xs ≡ length ys
 as_long [] [] h = refl
@@ -256,12 +256,13 @@ as_long [] (y ∷ ys) h = absurd h
 as_long (x ∷ xs) [] h = absurd h
 as_long (x ∷ xs) (y ∷ ys) (e, h) = ap suc (as_long xs ys h)
 
-new_length : (k m : ℕ) → length (new_nodes k m) ≡ k
-new_length zero m = refl
-new_length (suc k) m = ap suc (new_length k (m + 1))
+new_length : (base_of : ℕ → List ℕ) (k m : ℕ) → length (new_nodes base_of k m) ≡ k
+new_length base_of zero m = refl
+new_length base_of (suc k) m = ap suc (new_length base_of k (m + 1))
 
-number_small : (hosts : Hosts) (n : ℕ) (xs : List Node) (x : Node) → HaveOwnAddresses hosts → HaveBases xs (new_nodes hosts.base_of hosts.count 1) → nth n xs ≡ Some x → n < 2 ^ 64
-number_small hosts n xs x small bases found = omega (arith, small, at_most n xs x found, as_long xs (new_nodes hosts.base_of hosts.count 1) bases, new_length hosts 1)
+is_number : (hosts : Hosts) (n : ℕ) (xs : List Node) (x : Node) → HaveBases xs (new_nodes hosts.base_of hosts.count 1) → nth n xs ≡ Some x → IsNumber hosts n
+is_number hosts n xs x bases found =
+    let (least, most) = at_most n xs x found in (least, omega (arith, most, as_long xs (new_nodes hosts.base_of hosts.count 1) bases, new_length hosts.base_of hosts.count 1))
 
 -- registrations
 accepted_on : (old new : Sorts) → ((m : ℕ) → Keeps (old m) (new m)) → (acc : Accepted) → FitsAccepted old acc → FitsAccepted new acc
@@ -303,7 +304,7 @@ own_fits sorts m (targets.Registration i) id protocol seat h k f = absurd h
 own_fits sorts m (targets.Completion i) id protocol seat h k f = absurd h
 own_fits sorts m (targets.Coordinator i s) id protocol seat h k f = absurd h
 
-placed_fits : (hosts : Hosts) (sorts : Sorts) (m : ℕ) (p : Post) (r : Register) (seat : Option Seat) → HaveOwnAddresses hosts → IsOwnRegister (Fitting (sorts m) m) (hosts.base_of m) p r → SeatFor (protocol_named r.protocol) seat
+placed_fits : (hosts : Hosts) (sorts : Sorts) (m : ℕ) (p : Post) (r : Register) (seat : Option Seat) → HaveOwnAddresses hosts → IsOwnRegister (Fitting hosts (sorts m) m) (hosts.base_of m) p r → SeatFor (protocol_named r.protocol) seat
     → FitsParticipant sorts (who_of (new_nodes hosts.base_of hosts.count 1) r.participant) seat
 placed_fits hosts sorts m p r seat small o f =
     subst (λ (e : Epr). FitsParticipant sorts (who_of (new_nodes hosts.base_of hosts.count 1) e) seat) (sym o.participant)
@@ -317,26 +318,26 @@ placed_fits hosts sorts m p r seat small o f =
         (subst (λ T. FitsParticipant sorts (who_at (Some (m, T))) seat) (sym target) (own_fits sorts m o.own o.id r.protocol seat o.registers o.known.0 f))
 
 -- the Register that came was posted
-abbrev CameFrom : Sorts → Event → Type 0
-CameFrom sorts e =
-    (a : Arrived) (r : Register) → e ≡ events.Arrived a → a.message ≡ messages.Register r → (p : Posted) × IsOwnRegister (Fitting (sorts p.sender) p.sender) (hosts.base_of p.sender) p.content r
+abbrev CameFrom : Hosts → Sorts → Event → Type 0
+CameFrom hosts sorts e =
+    (a : Arrived) (r : Register) → e ≡ events.Arrived a → a.message ≡ messages.Register r → (p : Posted) × IsOwnRegister (Fitting hosts (sorts p.sender) p.sender) (hosts.base_of p.sender) p.content r
 
-one_posted : (sorts : Sorts) (ps : List Posted) (p : Posted) → AllByRecursion (FitsPosted sorts) ps → IsIn p ps → FitsPosted sorts p
-one_posted sorts [] p h i = absurd i
-one_posted sorts (q ∷ ps) p (h, k) (inl e) = subst (FitsPosted sorts) (sym e) h
-one_posted sorts (q ∷ ps) p (h, k) (inr i) = one_posted sorts ps p k i
+one_posted : (hosts : Hosts) (sorts : Sorts) (ps : List Posted) (p : Posted) → AllByRecursion (FitsPosted hosts sorts) ps → IsIn p ps → FitsPosted hosts sorts p
+one_posted hosts sorts [] p h i = absurd i
+one_posted hosts sorts (q ∷ ps) p (h, k) (inl e) = subst (FitsPosted hosts sorts) (sym e) h
+one_posted hosts sorts (q ∷ ps) p (h, k) (inr i) = one_posted hosts sorts ps p k i
 
-came_from : (u : World) (n : ℕ) (x : Node) (e : Event) (g : AreSorted u) → Heard u n x e → CameFrom g.sort e
-came_from u n x (events.Arrived a) g (p, posted, received, decodes) c r came says = (
+came_from : (hosts : Hosts) (u : World) (n : ℕ) (x : Node) (e : Event) (g : AreSorted hosts u) → Heard u n x e → CameFrom hosts g.sort e
+came_from hosts u n x (events.Arrived a) g (p, posted, received, decodes) c r came says = (
   p,
-  subst (Whose (Fitting (g.sort p.sender) p.sender) (hosts.base_of p.sender) p.content) (sym (decoded_says x.base p.content a decodes) ∙ ap (λ (y : Arrived). y.message) (same_arrival a c (events.Arrived a) refl came) ∙ says)
-      (one_posted g.sort u.posted p g.posted posted),
+  subst (Whose (Fitting hosts (g.sort p.sender) p.sender) (hosts.base_of p.sender) p.content) (sym (decoded_says x.base p.content a decodes) ∙ ap (λ (y : Arrived). y.message) (same_arrival a c (events.Arrived a) refl came) ∙ says)
+      (one_posted hosts g.sort u.posted p g.posted posted),
 )
-came_from u n x (events.Local l) g h c r came says = absurd (no_local (events.Local l) l c refl came)
-came_from u n x (events.Due i) g h c r came says = absurd (no_due (events.Due i) i c refl came)
-came_from u n x events.Tick g h c r came says = absurd cc
+came_from hosts u n x (events.Local l) g h c r came says = absurd (no_local (events.Local l) l c refl came)
+came_from hosts u n x (events.Due i) g h c r came says = absurd (no_due (events.Due i) i c refl came)
+came_from hosts u n x events.Tick g h c r came says = absurd cc
 
-seat_fits : (hosts : Hosts) (sorts : Sorts) (n : ℕ) (b : Book) (e : Event) (nodes : List Node) (acc : Accepted) → HaveOwnAddresses hosts → HaveBases nodes (new_nodes hosts.base_of hosts.count 1) → FitsBook (sorts n) b → CameFrom sorts e
+seat_fits : (hosts : Hosts) (sorts : Sorts) (n : ℕ) (b : Book) (e : Event) (nodes : List Node) (acc : Accepted) → HaveOwnAddresses hosts → HaveBases nodes (new_nodes hosts.base_of hosts.count 1) → FitsBook (sorts n) b → CameFrom hosts sorts e
     → NewSeat b e n nodes acc → FitsAccepted sorts acc
 seat_fits hosts sorts n b e nodes acc small bases book from new =
     let (p, o) = from new.arrived new.register new.came new.says in (
@@ -351,7 +352,7 @@ stands_now : (o : Option Book) (b : Book) → o ≡ Some b → IfThere Stands o 
 stands_now o b up h = subst (IfThere Stands) up h
 
 steps_sorted : (hosts : Hosts) (u : World) (n : ℕ) (x : Node) (b : Book) (e : Event) (now : ℕ) (landed : Bool) → HaveOwnAddresses hosts → Reached hosts u → nth n u.nodes ≡ Some x → x.book ≡ Some b
-    → Heard u n x e → AreSorted u → (v : AreSorted (counts u n x b e now landed)) × AllByRecursion (OutFine (IsWhose (Fitting (v.sort n) n) (hosts.base_of n))) (step b e now landed).outs
+    → Heard u n x e → AreSorted hosts u → (v : AreSorted hosts (counts u n x b e now landed)) × AllByRecursion (OutFine (IsWhose (Fitting hosts (v.sort n) n) (hosts.base_of n))) (step b e now landed).outs
 steps_sorted hosts u n x b e now landed small reached found up heard g =
     let fits : FitsNode (g.sort n) x = g.nodes n x found in
     let undrawn : (id : Numbers) → (IsDrawn b id → ⊥) → g.sort n id ≡ Unmade = (λ id f. fits.undrawn id (λ d. f (subst (λ o. HasDrawn x.journal o id) up d))) in
@@ -368,37 +369,37 @@ steps_sorted hosts u n x b e now landed small reached found up heard g =
     let w : WorldGood hosts u = world_good hosts u small reached in
     let known : IsUp (hosts.base_of n) (w.choices n) x.journal b = subst (IsKnown (hosts.base_of n) (w.choices n) x.journal) up (w.nodes n x found) in
     let book : FitsBook (g.sort n) b = subst (FitsIfUp (g.sort n)) up fits.book in
-    let low : n < 2 ^ 64 = number_small hosts n u.nodes x small w.world.bases found in (
+    let low : IsNumber hosts n = is_number hosts n u.nodes x w.world.bases found in (
       record {
         sort = new;
         accepted = all_join (FitsAccepted new) u.accepted (accepted_in n u.nodes b (step b e now landed).book.transactions)
             (all_more (FitsAccepted g.sort) (FitsAccepted new) u.accepted (λ acc k. accepted_on g.sort new (put_keeps g.sort n r.after r.keeps) acc k) g.accepted)
             (all_more (NewSeat b e n u.nodes) (FitsAccepted new) (accepted_in n u.nodes b (step b e now landed).book.transactions)
-            (λ acc k. accepted_on g.sort new (put_keeps g.sort n r.after r.keeps) acc (seat_fits hosts g.sort n b e u.nodes acc small w.world.bases book (came_from u n x e g heard) k))
+            (λ acc k. accepted_on g.sort new (put_keeps g.sort n r.after r.keeps) acc (seat_fits hosts g.sort n b e u.nodes acc small w.world.bases book (came_from hosts u n x e g heard) k))
             (step_accepts b e now landed n u.nodes known.says.order ((step_gives (hosts.base_of n) (w.choices n) b e now landed known.says).accepted n u.nodes)));
-        posted = posted_on g.sort new (put_keeps g.sort n r.after r.keeps) u.posted g.posted;
+        posted = posted_on hosts g.sort new (put_keeps g.sort n r.after r.keeps) u.posted g.posted;
         nodes = each_put (λ k y. FitsNode (new k) y) u.nodes n x z found (subst (λ s. FitsNode s z) (sym (put_here g.sort n r.after)) here)
             (λ m y i f. subst (λ s. FitsNode s y) (sym (put_there g.sort n m r.after i)) (g.nodes m y f));
         happened = all_join (FitsHappened new) u.happened (map (happened_at n) (step b e now landed).effects)
             (all_more (FitsHappened g.sort) (FitsHappened new) u.happened (λ h k. effect_on (g.sort h.node) (new h.node) (put_keeps g.sort n r.after r.keeps h.node) h.what k) g.happened)
             (happened_fit new n (step b e now landed).effects (subst (λ s. AllByRecursion (FitsEffect s) (step b e now landed).effects) (sym (put_here g.sort n r.after)) r.effects));
       },
-      outs_on (Fitting r.after n) (Fitting (new n) n) (hosts.base_of n) (step b e now landed).outs (λ own id k. (subst (λ s. FitsTarget s own) (sym (put_here g.sort n r.after)) k.0, k.1))
-          (subst (λ base. OutsWhose (Fitting r.after n) base (step b e now landed).outs) known.says.base_is
-          (step_says (Fitting r.after n) b e now landed (fits_known (g.sort n) r.after n b low (knows (hosts.base_of n) (w.choices n) b known.says) r.keeps book)
-          (fits_drawn r.after n b now (plan b e now) landed low (λ id next. next_small b id known.says.least known.says.most next) r.book))),
+      outs_on (Fitting hosts r.after n) (Fitting hosts (new n) n) (hosts.base_of n) (step b e now landed).outs (λ own id k. (subst (λ s. FitsTarget s own) (sym (put_here g.sort n r.after)) k.0, k.1))
+          (subst (λ base. OutsWhose (Fitting hosts r.after n) base (step b e now landed).outs) known.says.base_is
+          (step_says (Fitting hosts r.after n) b e now landed (fits_known hosts (g.sort n) r.after n b low (knows (hosts.base_of n) (w.choices n) b known.says) r.keeps book)
+          (fits_drawn hosts r.after n b now (plan b e now) landed low (λ id next. next_small b id known.says.least known.says.most next) r.book))),
     )
   where
     z : Node
     z = record x { book = Some (step b e now landed).book; journal = with_entry (plan b e now).entry landed x.journal }
 
 -- a node is put
-put_sorted : (u v : World) (n : ℕ) (x z : Node) → (g : AreSorted u) → nth n u.nodes ≡ Some x → v.nodes ≡ put_nth n z u.nodes → FitsNode (g.sort n) z
-    → AllByRecursion (FitsHappened g.sort) v.happened → v.posted ≡ u.posted → v.accepted ≡ u.accepted → AreSorted v
-put_sorted u v n x z g found is fits happened posted accepted = record {
+put_sorted : (hosts : Hosts) (u v : World) (n : ℕ) (x z : Node) → (g : AreSorted hosts u) → nth n u.nodes ≡ Some x → v.nodes ≡ put_nth n z u.nodes → FitsNode (g.sort n) z
+    → AllByRecursion (FitsHappened g.sort) v.happened → v.posted ≡ u.posted → v.accepted ≡ u.accepted → AreSorted hosts v
+put_sorted hosts u v n x z g found is fits happened posted accepted = record {
   sort = g.sort;
   accepted = subst (AllByRecursion (FitsAccepted g.sort)) (sym accepted) g.accepted;
-  posted = subst (AllByRecursion (FitsPosted g.sort)) (sym posted) g.posted;
+  posted = subst (AllByRecursion (FitsPosted hosts g.sort)) (sym posted) g.posted;
   nodes = λ m y f. each_put (λ k i. FitsNode (g.sort k) i) u.nodes n x z found fits (λ k i differ there. g.nodes k i there) m y (ap (nth m) (sym is) ∙ f);
   happened = happened;
 }
@@ -420,21 +421,21 @@ lost_fit sorts n b h =
         (all_more (λ t. sorts n t.id ≡ sort_under t.superior) (λ t. FitsHappened sorts (transaction_lost n t)) b.transactions
         (λ t k. ending_fits (sorts n) t.id t.superior endings.Lost k) h.transactions))
 
-falls_sorted : (hosts : Hosts) (u : World) (n : ℕ) (x : Node) (b : Book) → Reached hosts u → nth n u.nodes ≡ Some x → x.book ≡ Some b → AreSorted u → AreSorted (goes_down n b u)
+falls_sorted : (hosts : Hosts) (u : World) (n : ℕ) (x : Node) (b : Book) → Reached hosts u → nth n u.nodes ≡ Some x → x.book ≡ Some b → AreSorted hosts u → AreSorted hosts (goes_down n b u)
 falls_sorted hosts u n x b reached found up g =
     let fits : FitsNode (g.sort n) x = g.nodes n x found in
     let is : goes_down n b u ≡ put_book n None (record u { happened = u.happened ++ lost_in n b }) (Some x) = ap (put_book n None (record u { happened = u.happened ++ lost_in n b })) found in
-    put_sorted u (goes_down n b u) n x (record x { book = None }) g found (ap (λ (w : World). w.nodes) is)
+    put_sorted hosts u (goes_down n b u) n x (record x { book = None }) g found (ap (λ (w : World). w.nodes) is)
     (record { journal = fits.journal; book = tt; undrawn = λ id f. fits.undrawn id (λ d. f (drawn_down x.journal x.book (of_records hosts u reached n x found) id d)) })
     (subst (λ (w : World). AllByRecursion (FitsHappened g.sort) w.happened) (sym is)
     (all_join (FitsHappened g.sort) u.happened (lost_in n b) g.happened (lost_fit g.sort n b (subst (FitsIfUp (g.sort n)) up fits.book)))) (ap (λ (w : World). w.posted) is) (ap (λ (w : World). w.accepted) is)
 
-rises_sorted : (u : World) (n : ℕ) (x : Node) (stop : Bool) → nth n u.nodes ≡ Some x → x.book ≡ None → AreSorted u
-    → AreSorted (record u { nodes = put_nth n (up_after (started (last_incarnation x.journal + 1) x) stop) u.nodes })
-rises_sorted u n x stop found down g =
+rises_sorted : (hosts : Hosts) (u : World) (n : ℕ) (x : Node) (stop : Bool) → nth n u.nodes ≡ Some x → x.book ≡ None → AreSorted hosts u
+    → AreSorted hosts (record u { nodes = put_nth n (up_after (started (last_incarnation x.journal + 1) x) stop) u.nodes })
+rises_sorted hosts u n x stop found down g =
     let fits : FitsNode (g.sort n) x = g.nodes n x found in
     let journal : AllByRecursion (FitsRecord (g.sort n)) (restarted x.journal) = all_join (FitsRecord (g.sort n)) x.journal _ fits.journal (tt, tt) in
-    put_sorted u (record u { nodes = put_nth n (up_after (started (last_incarnation x.journal + 1) x) stop) u.nodes }) n x (up_after (started (last_incarnation x.journal + 1) x) stop) g found refl
+    put_sorted hosts u (record u { nodes = put_nth n (up_after (started (last_incarnation x.journal + 1) x) stop) u.nodes }) n x (up_after (started (last_incarnation x.journal + 1) x) stop) g found refl
     (record {
       journal = journal;
       book = by_stop stop journal;
@@ -445,28 +446,28 @@ rises_sorted u n x stop found down g =
     by_stop true h = tt
     by_stop false h = recovered_fits (g.sort n) x.base (restarted x.journal) h
 
-opening_sorted : (hosts : Hosts) → AreSorted (opening hosts)
+opening_sorted : (hosts : Hosts) → AreSorted hosts (opening hosts)
 opening_sorted hosts = record { sort = λ n id. Unmade; nodes = λ n x f. down n x (opening_node hosts n x f); happened = tt; posted = tt; accepted = tt }
   where
-    down : (n : ℕ) (x : Node) → x ≡ new_node n → FitsNode (λ id. Unmade) x
+    down : (n : ℕ) (x : Node) → x ≡ new_node (hosts.base_of n) → FitsNode (λ id. Unmade) x
     down n x e = subst (FitsNode (λ id. Unmade)) (sym e) (record { journal = tt; book = tt; undrawn = λ id f. refl })
 
 sorting : (hosts : Hosts) → HaveOwnAddresses hosts → Law hosts
 sorting hosts small = record {
-  Good = AreSorted;
-  Fine = λ w g n p. IsWhose (Fitting (g.sort n) n) (hosts.base_of n) p;
+  Good = AreSorted hosts;
+  Fine = λ w g n p. IsWhose (Fitting hosts (g.sort n) n) (hosts.base_of n) p;
   opens = opening_sorted hosts;
   steps = λ u n x b e now landed reached found up heard g. steps_sorted hosts u n x b e now landed small reached found up heard g;
-  posts = λ w g n p f. record { sort = g.sort; nodes = g.nodes; happened = g.happened; accepted = g.accepted; posted = all_join (FitsPosted g.sort) w.posted _ g.posted (f, tt) };
+  posts = λ w g n p f. record { sort = g.sort; nodes = g.nodes; happened = g.happened; accepted = g.accepted; posted = all_join (FitsPosted hosts g.sort) w.posted _ g.posted (f, tt) };
   still_fine = λ w g n p q f h. h;
   falls = λ u n x b reached found up g. falls_sorted hosts u n x b reached found up g;
-  rises = λ u n x stop reached found down little g. rises_sorted u n x stop found down g;
+  rises = λ u n x stop reached found down little g. rises_sorted hosts u n x stop found down g;
   waits = λ u n x clock reached found g.
-      put_sorted u (record u { nodes = put_nth n (record x { clock = clock }) u.nodes }) n x (record x { clock = clock }) g found refl
+      put_sorted hosts u (record u { nodes = put_nth n (record x { clock = clock }) u.nodes }) n x (record x { clock = clock }) g found refl
       (record { journal = (g.nodes n x found).journal; book = (g.nodes n x found).book; undrawn = (g.nodes n x found).undrawn }) g.happened refl refl;
 }
 
-pub world_sorted : (hosts : Hosts) (w : World) → HaveOwnAddresses hosts → Reached hosts w → AreSorted w
+pub world_sorted : (hosts : Hosts) (w : World) → HaveOwnAddresses hosts → Reached hosts w → AreSorted hosts w
 unfolding sorting
 world_sorted hosts w small reached = holds hosts (sorting hosts small) w reached
 

@@ -13,7 +13,7 @@ use Rattle.at_base.specs.declared.record.Record.TheVariants as records
 use Rattle.at_base.specs.declared.outs.Effect.{Effect}
 use Rattle.at_base.specs.declared.outs.Effect.TheVariants as effects
 use Rattle.at_model.specs.Book.{Book, Superior}
-use Rattle.at_model.specs.World.{Node, Who, Accepted, World, WorldEvent, nth, run_of, Hosts, HaveOwnAddresses}
+use Rattle.at_model.specs.World.{Node, Who, Accepted, World, WorldEvent, nth, run_of, Hosts, HaveOwnAddresses, IsNumber}
 use Rattle.agreement.specs.Registers.{HasDrawn, IsWhose}
 
 -- What an id names: nothing yet; a root transaction or a subordinate one; a participant of this kind that does work of its
@@ -90,14 +90,14 @@ pub record FitsNode (s : Numbers → Sort) (x : Node) : Type 0 where
 
 -- the sorts of the ids of each node, with which all agrees that is in the books and in the records, that happened,
 -- that registers, and that was accepted
-pub record AreSorted (w : World) : Type 0 where
+pub record AreSorted (hosts : Hosts) (w : World) : Type 0 where
   pub sort : ℕ → Numbers → Sort
   pub nodes : (n : ℕ) (x : Node) → nth n w.nodes ≡ Some x → FitsNode (sort n) x
   pub happened : AllByRecursion (λ h. FitsEffect (sort h.node) h.what) w.happened
-  pub posted : AllByRecursion (λ p. IsWhose (λ own id. FitsTarget (sort p.sender) own × (IsId id × (p.sender < 2 ^ 64))) (hosts.base_of p.sender) p.content) w.posted
+  pub posted : AllByRecursion (λ p. IsWhose (λ own id. FitsTarget (sort p.sender) own × (IsId id × IsNumber hosts p.sender)) (hosts.base_of p.sender) p.content) w.posted
   pub accepted : AllByRecursion (FitsAccepted sort) w.accepted
 
 -- In every run each id names an item of one sort, over every crash and start: a root is never a subordinate, and no
 -- transaction is a participant that does work of its own, or an activity.
 abbrev pub SortsAgree : Type 0
-SortsAgree = (hosts : Hosts) (es : List WorldEvent) → HaveOwnAddresses hosts → AreSorted (run_of hosts es)
+SortsAgree = (hosts : Hosts) (es : List WorldEvent) → HaveOwnAddresses hosts → AreSorted hosts (run_of hosts es)
