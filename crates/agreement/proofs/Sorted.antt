@@ -260,7 +260,7 @@ new_length : (base_of : ℕ → List ℕ) (k m : ℕ) → length (new_nodes base
 new_length base_of zero m = refl
 new_length base_of (suc k) m = ap suc (new_length base_of k (m + 1))
 
-is_number : (hosts : Hosts) (n : ℕ) (xs : List Node) (x : Node) → HaveBases xs (new_nodes hosts.base_of hosts.count 1) → nth n xs ≡ Some x → IsNumber hosts n
+pub is_number : (hosts : Hosts) (n : ℕ) (xs : List Node) (x : Node) → HaveBases xs (new_nodes hosts.base_of hosts.count 1) → nth n xs ≡ Some x → IsNumber hosts n
 is_number hosts n xs x bases found =
     let (least, most) = at_most n xs x found in (least, omega (arith, most, as_long xs (new_nodes hosts.base_of hosts.count 1) bases, new_length hosts.base_of hosts.count 1))
 

@@ -14,7 +14,7 @@ use Rattle.at_base.specs.declared.target.Target.{Target}
 use Rattle.at_model.specs.Book.{Book}
 use Rattle.at_model.specs.Recover.{last_incarnation}
 use Rattle.at_model.specs.Step.{plan, step}
-use Rattle.at_model.specs.World.{Node, Posted, World, arrival_of, decoded, decoded_at, lost_in, new_nodes, nth, place_of, put_book, put_nth, receiver_of, reply_of, started, takes, target_at, up_after, Hosts, HaveOwnAddresses}
+use Rattle.at_model.specs.World.{Node, Posted, World, arrival_of, decoded, decoded_at, lost_in, new_nodes, nth, place_of, put_book, put_nth, receiver_of, reply_of, started, takes, target_at, up_after, Hosts, HaveOwnAddresses, IsNumber}
 use Rattle.model_laws.specs.Agreement.{IsIn}
 use Rattle.model_laws.specs.Drawn.{with_entry}
 use Rattle.model_laws.specs.Reached.{Heard, Reached, counts, stepped}
@@ -24,6 +24,7 @@ use Rattle.model_laws.proofs.Holding.{Law, OutFine, holds}
 use Rattle.model_laws.proofs.Naming.{HaveBases, place_is}
 use Rattle.model_laws.proofs.Nodes.{bases_put, each_put, receiver_same, same_bases}
 use Rattle.model_laws.proofs.Running.{opening_node}
+use Rattle.agreement.proofs.Sorted.{is_number}
 use Rattle.agreement.specs.Places.{HasPath}
 use Rattle.agreement.proofs.SeatedEntries.{one_of}
 use Rattle.enlistments.specs.Leads.{LeadsTo}
@@ -56,27 +57,8 @@ up_known hosts w small reached n x b found up =
     subst (IsKnown (hosts.base_of n) ((world_good hosts w small reached).choices n) x.journal) up ((world_good hosts w small reached).nodes n x found)
 
 -- numbers of nodes
-at_most : (n : ℕ) (xs : List Node) (x : Node) → nth n xs ≡ Some x → n ≤ length xs
-at_most n [] x e = absurd cc
-at_most n (y ∷ xs) x e = by_number (λ f. at_most (n - 1) xs x f) (nat_eq n 1) refl e
-  where
-    by_number : (nth (n - 1) xs ≡ Some x → n - 1 ≤ length xs) → (c : Bool) → nat_eq n 1 ≡ c → (if c then Some y else nth (n - 1) xs) ≡ Some x → n ≤ length (y ∷ xs)
-    by_number rest true c e = omega (arith, eqb-true n 1 c)
-    by_number rest false c e = omega (arith, rest e)
-
-as_long : (xs ys : List Node) → HaveBases xs ys → length xs ≡ length ys
-as_long [] [] h = refl
-as_long [] (y ∷ ys) h = absurd h
-as_long (x ∷ xs) [] h = absurd h
-as_long (x ∷ xs) (y ∷ ys) (e, h) = ap suc (as_long xs ys h)
-
-new_length : (k m : ℕ) → length (new_nodes k m) ≡ k
-new_length zero m = refl
-new_length (suc k) m = ap suc (new_length k (m + 1))
-
-pub node_small : (hosts : Hosts) (n : ℕ) (w : World) (x : Node) → HaveOwnAddresses hosts → Reached hosts w → nth n w.nodes ≡ Some x → n < 2 ^ 64
-node_small hosts n w x small reached found =
-    omega (arith, small, at_most n w.nodes x found, as_long w.nodes (new_nodes hosts.base_of hosts.count 1) (world_bases hosts w small reached), new_length hosts 1)
+pub node_number : (hosts : Hosts) (n : ℕ) (w : World) (x : Node) → HaveOwnAddresses hosts → Reached hosts w → nth n w.nodes ≡ Some x → IsNumber hosts n
+node_number hosts n w x apart reached found = is_number hosts n w.nodes x (world_bases hosts w apart reached) found
 
 -- the receiver of what is posted
 record AreRouted (hosts : Hosts) (w : World) : Type 0 where
@@ -171,7 +153,7 @@ placed : (hosts : Hosts) (n : ℕ) (to : Epr) (o : Option (ℕ × Target)) (T : 
 placed hosts n to None T e f g = absurd cc
 placed hosts n to (Some p) T e f g =
     let same : p.0 ≡ n = cc in
-    let target : target_at (hosts.base_of n) to.address ≡ Some p.1 = subst (λ m. target_at (hosts.base_of m) to.address ≡ Some p.1) same (place_is hosts 1 to.address p e).target in
+    let target : target_at (hosts.base_of n) to.address ≡ Some p.1 = subst (λ m. target_at (hosts.base_of m) to.address ≡ Some p.1) same (place_is hosts.base_of hosts.count 1 to.address p e).target in
     λ i. Some (same i, that p.1 T (target_at (hosts.base_of n) to.address) target g i)
   where
     that : (S T : Target) (o : Option Target) → o ≡ Some S → o ≡ Some T → S ≡ T

@@ -22,7 +22,7 @@ use Rattle.agreement.proofs.Placing.{addresses_lead_home}
 use Rattle.agreement.proofs.Seated.{seats_are_registered}
 use Rattle.agreement.proofs.SeatedEntries.{one_of}
 use Rattle.enlistments.specs.Leads.{Completes, CompletesIfKnown, Enlists, EnlistsIfKnown, LeadsTo}
-use Rattle.enlistments.proofs.Arriving.{node_small, world_bases}
+use Rattle.enlistments.proofs.Arriving.{node_number, world_bases}
 use Rattle.enlistments.proofs.Places.{IsPlaced, TransactionPlaced, transactions_placed}
 
 pub enlists_on : (hosts : Hosts) (u w : World) → Grows u w → (c : Epr) (x : Who) (kind : Kind) → Enlists hosts u c x kind → Enlists hosts w c x kind
@@ -71,7 +71,7 @@ pub seat_enlists : (hosts : Hosts) (w : World) (n : ℕ) (t : Transaction) (s : 
     → LeadsTo hosts s.participant m (targets.Participant i kind) → Enlists hosts w (endpoint_of (hosts.base_of n) (seat_target t.id s)) (record { node = m; id = i }) kind
 seat_enlists hosts w n t s m i kind h sits l k T leads =
     let p : IsPlaced hosts (accepted_as s) = seat_placed hosts w n t s h sits in
-    let (here, is) = addresses_lead_home hosts n k (seat_target t.id s) T h.small (node_small hosts n w h.x h.small h.reached h.found) ((placed hosts w n t h).0, p.least, p.most) leads in
+    let (here, is) = addresses_lead_home hosts n k (seat_target t.id s) T h.small (node_number hosts n w h.x h.small h.reached h.found) ((placed hosts w n t h).0, p.least, p.most) leads in
     let (j, kind_is) = p.kind m (targets.Participant i kind) l in
     let same : s.kind ≡ kind = sym (same_kind kind s.kind i j kind_is) in
     let accepted : IsIn (accepted_seat n w.nodes t.id s) w.accepted = one_of (λ q. IsIn (accepted_seat n w.nodes t.id q) w.accepted) t.seats s (enlisted hosts w n t h).0 sits in (
@@ -92,7 +92,7 @@ seat_enlists hosts w n t s m i kind h sits l k T leads =
 pub completion_completes : (hosts : Hosts) (w : World) (n : ℕ) (t : Transaction) (c : Completion) (m : ℕ) (i : Numbers) → Held hosts w n t → t.completion ≡ Some c
     → LeadsTo hosts c.initiator m (targets.Initiator i) → Completes hosts w (endpoint_of (hosts.base_of n) (targets.Completion t.id)) (record { node = m; id = i })
 completion_completes hosts w n t c m i h there l k T leads =
-    let (here, is) = addresses_lead_home hosts n k (targets.Completion t.id) T h.small (node_small hosts n w h.x h.small h.reached h.found) (placed hosts w n t h).0 leads in
+    let (here, is) = addresses_lead_home hosts n k (targets.Completion t.id) T h.small (node_number hosts n w h.x h.small h.reached h.found) (placed hosts w n t h).0 leads in
     let accepted : AllByRecursion (λ a. IsIn a w.accepted) (accepted_completion n w.nodes t.id None (Some c)) =
     subst (λ o. AllByRecursion (λ a. IsIn a w.accepted) (accepted_completion n w.nodes t.id None o)) there (enlisted hosts w n t h).1 in (
       t.id,

@@ -17,7 +17,7 @@ use Rattle.at_base.specs.declared.target.Target.TheVariants as targets
 use Rattle.at_model.specs.Addresses.{protocol_of}
 use Rattle.at_model.specs.Book.{Book}
 use Rattle.at_model.specs.Register.{protocol_named}
-use Rattle.at_model.specs.World.{Node, Posted, World, new_nodes, place_of, reply_of, Hosts}
+use Rattle.at_model.specs.World.{Node, Posted, World, new_nodes, place_of, reply_of, Hosts, IsNumber}
 use Rattle.agreement.specs.Places.{HasPath}
 use Rattle.agreement.specs.Registers.{IsOwnRegister, IsWhose, RegistersFor, Whose}
 use Rattle.agreement.specs.Sorts.{AreSorted, FitsTarget}
@@ -50,10 +50,10 @@ pub register_of : (hosts : Hosts) (u : World) (n : ℕ) (x : Node) (b : Book) (e
 register_of hosts u n x b e now landed a r s came says =
     let h : HasCome hosts u n a = has_come hosts u n x b e now landed a s came in
     let p : Posted = h.posted in
-    let sorted : AreSorted u = world_sorted hosts u s.small s.reached in
-    let g : IsOwnRegister (λ own id. FitsTarget (sorted.sort p.sender) own × (IsId id × (p.sender < 2 ^ 64))) (hosts.base_of p.sender) p.content r =
-    subst (Whose (λ own id. FitsTarget (sorted.sort p.sender) own × (IsId id × (p.sender < 2 ^ 64))) (hosts.base_of p.sender) p.content) (h.message ∙ says)
-    (one_of (λ q. IsWhose (λ own id. FitsTarget (sorted.sort q.sender) own × (IsId id × (q.sender < 2 ^ 64))) (hosts.base_of q.sender) q.content) u.posted p sorted.posted h.stands) in
+    let sorted : AreSorted hosts u = world_sorted hosts u s.small s.reached in
+    let g : IsOwnRegister (λ own id. FitsTarget (sorted.sort p.sender) own × (IsId id × IsNumber hosts p.sender)) (hosts.base_of p.sender) p.content r =
+    subst (Whose (λ own id. FitsTarget (sorted.sort p.sender) own × (IsId id × IsNumber hosts p.sender)) (hosts.base_of p.sender) p.content) (h.message ∙ says)
+    (one_of (λ q. IsWhose (λ own id. FitsTarget (sorted.sort q.sender) own × (IsId id × IsNumber hosts q.sender)) (hosts.base_of q.sender) q.content) u.posted p sorted.posted h.stands) in
     record {
       sender = p.sender;
       own = g.own;

@@ -30,7 +30,7 @@ use Rattle.agreement.proofs.Placing.{addresses_lead_home}
 use Rattle.enlistments.specs.Knowing.{IsVoteOf, LeafKnows, TransactionKnows, VotesAtItsSeat}
 use Rattle.enlistments.specs.Leads.{Enlists, EnlistsIfKnown, LeadsTo}
 use Rattle.enlistments.specs.Senses.{Vote, Votes, sense, votes_alone, votes_under}
-use Rattle.enlistments.proofs.Arriving.{Stepping, node_small, step_ready, up_known}
+use Rattle.enlistments.proofs.Arriving.{Stepping, node_number, step_ready, up_known}
 use Rattle.enlistments.proofs.Books.{books_know}
 use Rattle.enlistments.proofs.Places.{TransactionPlaced, leaves_placed, transactions_placed}
 use Rattle.enlistments.proofs.Posts.{PostLaw, one_has, posts_have}
@@ -54,7 +54,7 @@ written_by hosts u n x b e now landed s v T from c f g =
 pub signed_home : (hosts : Hosts) (u : World) (n : ℕ) (x : Node) (b : Book) (e : Event) (now : ℕ) (landed : Bool) → Stepping hosts u n x b e now landed → (T S : Target) (c : Epr) (m : ℕ)
     → c ≡ endpoint_of (hosts.base_of n) T → HasPath T → LeadsTo hosts c m S → (m ≡ n) × (S ≡ T)
 signed_home hosts u n x b e now landed s T S c m f path leads =
-    addresses_lead_home hosts n m T S s.small (node_small hosts n u x s.small s.reached s.found) path
+    addresses_lead_home hosts n m T S s.small (node_number hosts n u x s.small s.reached s.found) path
     (subst (λ y. place_of 1 (new_nodes hosts.base_of hosts.count 1) y.address ≡ Some (m, S)) f leads)
 
 -- the vote of an item
