@@ -12,7 +12,7 @@ use Rattle.at_base.specs.declared.record.Record.TheVariants as records
 use Rattle.at_base.specs.declared.record.Seated.{Seated}
 use Rattle.at_model.specs.Book.{Transaction}
 use Rattle.at_model.specs.Step.{transaction_at}
-use Rattle.at_model.specs.World.{Happened, Node, Who, World, happened_at, run_of}
+use Rattle.at_model.specs.World.{Happened, Node, Who, World, happened_at, run_of, Hosts, HaveOwnAddresses}
 use Rattle.model_laws.specs.Agreement.{Agrees, HasAborted, HasCommitted, HasPosted, IsAnswered, IsIn, IsToldTruly, Stands}
 use Rattle.model_laws.specs.Reached.{Reached}
 use Rattle.model_laws.proofs.Reaching.{run_reached}
@@ -71,9 +71,9 @@ not_held w x h k =
     none : (o : Option Transaction) → o ≡ None → o ≡ Some k.transaction → ⊥
     none o e f = let g : None ≡ Some k.transaction = sym e ∙ f in cc
 
-left_below : (count : ℕ) (w : World) → WorldPremises count w → IsOutcome count w → (t x : Who) → HasPosted w t kinds.Durable notices.ReadOnly → IsUnder w t x
+left_below : (hosts : Hosts) (w : World) → WorldPremises hosts w → IsOutcome hosts w → (t x : Who) → HasPosted w t kinds.Durable notices.ReadOnly → IsUnder w t x
     → HasPosted w x kinds.Durable notices.ReadOnly ⊎ HasCommitted w x
-left_below count w p j t x r (number, seat) = by_case (j.gone t x number seat)
+left_below hosts w p j t x r (number, seat) = by_case (j.gone t x number seat)
   where
     gone : LeftNoTrace w t
     gone = p.read_only t r
@@ -84,46 +84,47 @@ left_below count w p j t x r (number, seat) = by_case (j.gone t x number seat)
     by_case (inr (inr h)) = h
 
 -- behind every answer
-behind_votes : (count : ℕ) (w : World) (t : Who) (seats : List Seated) → IsBehindVotes count w t seats → IsAnswered w t
-behind_votes count w t seats h number kinds.Volatile x i = h.volatile number x i
-behind_votes count w t seats h number kinds.Durable x i = by_vote (h.durable number x i)
+behind_votes : (hosts : Hosts) (w : World) (t : Who) (seats : List Seated) → IsBehindVotes hosts w t seats → IsAnswered w t
+behind_votes hosts w t seats h number kinds.Volatile x i = h.volatile number x i
+behind_votes hosts w t seats h number kinds.Durable x i = by_vote (h.durable number x i)
   where
     by_vote : {A : Type 0} → HasPosted w x kinds.Durable notices.ReadOnly ⊎ (HasPosted w x kinds.Durable notices.Prepared × A)
         → HasPosted w x kinds.Durable notices.Prepared ⊎ HasPosted w x kinds.Durable notices.ReadOnly
     by_vote (inl r) = inr r
     by_vote (inr (v, named)) = inl v
 
-record_answers : (count : ℕ) (w : World) → IsOutcome count w → (n : ℕ) (r : Record) → Stands w n r → RecordAnswers count w n r
-record_answers count w j n r (y, found, i) = one_of (RecordAnswers count w n) y.journal r (j.answers n y found) i
+record_answers : (hosts : Hosts) (w : World) → IsOutcome hosts w → (n : ℕ) (r : Record) → Stands w n r → RecordAnswers hosts w n r
+record_answers hosts w j n r (y, found, i) = one_of (RecordAnswers hosts w n) y.journal r (j.answers n y found) i
 
 under_aborted : (w : World) (x : Who) → IsUnderAborted w x → IsUnderOne w (HasAborted w) x
 under_aborted w x h = (h.transaction, (h.number, h.seat), h.aborted)
 
-pub bound : (count : ℕ) (w : World) → count < 2 ^ 64 → Reached count w → IsBound w
-bound count w few reached = record {
-  one = one_end count w premises.laws;
+pub bound : (hosts : Hosts) (w : World) → HaveOwnAddresses hosts → Reached hosts w → IsBound w
+bound hosts w few reached = record {
+  one = one_end hosts w premises.laws;
+  hosts = hosts;
   sorted = premises.laws.sorted;
   superior = premises.laws.one;
   told = told w all;
   rolled_back = λ x v a. under_aborted w x (joint.aborts x v a);
   recorded = premises.prepared;
   left = λ x r. gone_left w x (premises.read_only x r);
-  left_below = left_below count w premises joint;
-  voted = λ t superior seats s. behind_votes count w t seats (record_answers count w joint t.node (records.Voted t.id superior seats) s);
+  left_below = left_below hosts w premises joint;
+  voted = λ t superior seats s. behind_votes hosts w t seats (record_answers hosts w joint t.node (records.Voted t.id superior seats) s);
   answered = λ t i.
       let (seats, s) = founded w all t.node (effects.Root t.id endings.Committed) i in
-      behind_votes count w t seats (record_answers count w joint t.node (records.Decided t.id seats) s);
+      behind_votes hosts w t seats (record_answers hosts w joint t.node (records.Decided t.id seats) s);
   behind = λ t i. (founded w all t.node (effects.Sub t.id endings.Committed) i).0;
 }
   where
-    premises : WorldPremises count w
-    premises = world_premises layers count w few reached
+    premises : WorldPremises hosts w
+    premises = world_premises layers hosts w few reached
 
-    joint : IsOutcome count w
-    joint = outcomes_are_backed.reached count w few reached
+    joint : IsOutcome hosts w
+    joint = outcomes_are_backed.reached hosts w few reached
 
     all : AreFounded w
-    all = outcomes_are_founded.founded count w few reached
+    all = outcomes_are_founded.founded hosts w few reached
 
 told_truly : (w : World) → AreFounded w → IsToldTruly w
 told_truly w h = record {
@@ -133,7 +134,7 @@ told_truly w h = record {
 
 pub agrees : Agrees
 agrees = record {
-  agreed = λ count es few. record { whole = whole (run_of count es) (bound count (run_of count es) few (run_reached count es)); once = once count es };
-  behind = λ count es few. behind_answers (run_of count es) (bound count (run_of count es) few (run_reached count es));
-  told = λ count es few. told_truly (run_of count es) (outcomes_are_founded.founded count (run_of count es) few (run_reached count es));
+  agreed = λ hosts es few. record { whole = whole (run_of hosts es) (bound hosts (run_of hosts es) few (run_reached hosts es)); once = once hosts es };
+  behind = λ hosts es few. behind_answers (run_of hosts es) (bound hosts (run_of hosts es) few (run_reached hosts es));
+  told = λ hosts es few. told_truly (run_of hosts es) (outcomes_are_founded.founded hosts (run_of hosts es) few (run_reached hosts es));
 }

@@ -10,7 +10,7 @@ use Rattle.at_model.specs.Posts.{accepted}
 use Rattle.at_model.specs.Recover.{is_sub_committed, live, recover, recovered_voted, transactions_of}
 use Rattle.at_model.specs.Register.{on_register}
 use Rattle.at_model.specs.Step.{Outcome, Plan, at_time, make_activity, make_leaf, make_transaction, moment_of, plan, put_activity, put_leaf, put_transaction, registration_outcome, step, still}
-use Rattle.at_model.specs.World.{Node, nth}
+use Rattle.at_model.specs.World.{Node, nth, Hosts}
 use Rattle.model_laws.proofs.Deciding.{Both, IfThere, all_find, all_join, all_put, decided_both, decision_both, in_branch, plain_both}
 use Rattle.model_laws.proofs.Linking.{Linked}
 use Rattle.model_laws.proofs.Living.{all_in_order}
@@ -98,9 +98,9 @@ fitting = record {
   rises = λ base rs small h. record { phases = decides_behind_every_answer.recovered base (restarted rs); fits = recovered_fits base (restarted rs) };
 }
 
-book_fits : (count : ℕ) (w : World) → Reaches count w → (n : ℕ) (x : Node) (b : Book) → nth n w.nodes ≡ Some x → x.book ≡ Some b → AllByRecursion Fits b.transactions
+book_fits : (hosts : Hosts) (w : World) → Reaches hosts w → (n : ℕ) (x : Node) (b : Book) → nth n w.nodes ≡ Some x → x.book ≡ Some b → AllByRecursion Fits b.transactions
 unfolding fitting
-book_fits count w reached n x b found up = (subst (IfThere IsGood) up (nodes_hold fitting count w reached n x found)).fits
+book_fits hosts w reached n x b found up = (subst (IfThere IsGood) up (nodes_hold fitting hosts w reached n x found)).fits
 
 commits_if : (t : Transaction) (c : Completion) → Fits t → t.completion ≡ Some c → c.state ≡ states.Done → t.phase ≡ Phase.Committing
 commits_if t c (inl e) f d = e
@@ -108,5 +108,5 @@ commits_if t c (inr never) f d = absurd (never c f d)
 
 -- a completion seat in Done is that of a root that commits
 pub done_commits : AllDoneCommit
-done_commits count w reached n x b found up t c there has is_done =
-    commits_if t c (all_find Fits transaction_id t.id b.transactions t (book_fits count w reached n x b found up) there) has is_done
+done_commits hosts w reached n x b found up t c there has is_done =
+    commits_if t c (all_find Fits transaction_id t.id b.transactions t (book_fits hosts w reached n x b found up) there) has is_done

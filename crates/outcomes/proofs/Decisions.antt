@@ -17,7 +17,7 @@ use Rattle.at_model.specs.Moves.{Change}
 use Rattle.at_model.specs.Outcomes.{is_kept}
 use Rattle.at_model.specs.Seats.{ending, ending_of, prepared}
 use Rattle.at_model.specs.Step.{moment_of, plan, step}
-use Rattle.at_model.specs.World.{Node, World, happened_at, nth}
+use Rattle.at_model.specs.World.{Node, World, happened_at, nth, Hosts, HaveOwnAddresses}
 use Rattle.model_laws.specs.Agreement.{IsIn}
 use Rattle.model_laws.specs.Grows.{Grows}
 use Rattle.model_laws.specs.Reached.{Reached, counts}
@@ -97,8 +97,8 @@ anything : {A : Type 0} (o : Option A) → IfThere (λ (a : A). Unit {0}) o
 anything None = tt
 anything (Some a) = tt
 
-carrying : (count : ℕ) → NodesLaw count
-carrying count = record {
+carrying : (hosts : Hosts) → NodesLaw hosts
+carrying hosts = record {
   OfTransaction = λ w n t. Unit {0};
   OfLeaf = λ w n l. Unit {0};
   OfActivity = λ w n a. Unit {0};
@@ -125,9 +125,9 @@ carrying count = record {
   prepared = λ w n id coordinator key value h. tt;
 }
 
-pub carried_out : (count : ℕ) (w : World) → count < 2 ^ 64 → Reached count w → (n : ℕ) (x : Node) → nth n w.nodes ≡ Some x → (r : Record) → IsIn r x.journal → IsCarriedOut w n r
+pub carried_out : (hosts : Hosts) (w : World) → HaveOwnAddresses hosts → Reached hosts w → (n : ℕ) (x : Node) → nth n w.nodes ≡ Some x → (r : Record) → IsIn r x.journal → IsCarriedOut w n r
 unfolding carrying
-carried_out count w few reached n x found r i = one_of (IsCarriedOut w n) x.journal r (nodes_have count few (carrying count) w reached n x found).journal i
+carried_out hosts w few reached n x found r i = one_of (IsCarriedOut w n) x.journal r (nodes_have hosts few (carrying hosts) w reached n x found).journal i
 
 -- what a root is known to have done, as its initiator asks
 added_root : (w : World) (n : ℕ) (id : Numbers) (r : Record) → Adds r id → IsCarriedOut w n r → IsCommittedRoot w n id
@@ -135,8 +135,8 @@ added_root w n id (records.Decided i seats) e h = subst (IsCommittedRoot w n) e 
 added_root w n id (records.Done i) e h = subst (IsCommittedRoot w n) e h
 added_root w n id other e h = absurd e
 
-pub kept_root : (count : ℕ) (w : World) → count < 2 ^ 64 → Reached count w → (n : ℕ) (x : Node) (b : Book) → nth n w.nodes ≡ Some x → x.book ≡ Some b → (id : Numbers) → is_kept id b.outcomes ≡ true
+pub kept_root : (hosts : Hosts) (w : World) → HaveOwnAddresses hosts → Reached hosts w → (n : ℕ) (x : Node) (b : Book) → nth n w.nodes ≡ Some x → x.book ≡ Some b → (id : Numbers) → is_kept id b.outcomes ≡ true
     → IsCommittedRoot w n id
-kept_root count w few reached n x b found up id kept =
-    let a : IsAdded x.journal id = kept_added count w reached n x b found up id kept in
-    added_root w n id a.by a.adds (carried_out count w few reached n x found a.by a.stands)
+kept_root hosts w few reached n x b found up id kept =
+    let a : IsAdded x.journal id = kept_added hosts w reached n x b found up id kept in
+    added_root w n id a.by a.adds (carried_out hosts w few reached n x found a.by a.stands)

@@ -11,7 +11,7 @@ use Rattle.at_base.specs.declared.outs.Post.{Post}
 use Rattle.at_model.specs.Book.{Book, Leaf, Transaction}
 use Rattle.at_model.specs.Recover.{last_incarnation}
 use Rattle.at_model.specs.Step.{step}
-use Rattle.at_model.specs.World.{Happened, Node, World, goes_down, happened_at, is_lost_leaf, is_lost_root, is_lost_subordinate, leaf_lost, lost_in, nth, put_book, put_nth, started, transaction_lost, up_after}
+use Rattle.at_model.specs.World.{Happened, Node, World, goes_down, happened_at, is_lost_leaf, is_lost_root, is_lost_subordinate, leaf_lost, lost_in, nth, put_book, put_nth, started, transaction_lost, up_after, Hosts, HaveOwnAddresses}
 use Rattle.model_laws.specs.Grows.{Grows}
 use Rattle.model_laws.specs.Reached.{Reached, counts, fell, opened, post_all, rose, stepped, waited}
 use Rattle.model_laws.proofs.Deciding.{all_join, all_more}
@@ -25,26 +25,26 @@ use Rattle.outcomes.proofs.Telling.{DoneCommits, aborted_heard, committed_heard}
 
 -- a completion seat in Done is that of a root that commits
 abbrev pub AllDoneCommit : Type 0
-AllDoneCommit = (count : ℕ) (w : World) → Reached count w → (n : ℕ) (x : Node) (b : Book) → nth n w.nodes ≡ Some x → x.book ≡ Some b → DoneCommits b
+AllDoneCommit = (hosts : Hosts) (w : World) → Reached hosts w → (n : ℕ) (x : Node) (b : Book) → nth n w.nodes ≡ Some x → x.book ≡ Some b → DoneCommits b
 
 -- what initiators are told
-says_on : (count : ℕ) (u w : World) → Grows u w → (v : Notice) (what : Ending) (p : Post) → SaysOutcome count u v what p → SaysOutcome count w v what p
-says_on count u w g v what p h to m i says sent leads = outcome_on u w g (record { node = m; id = i }) what (h to m i says sent leads)
+says_on : (hosts : Hosts) (u w : World) → Grows u w → (v : Notice) (what : Ending) (p : Post) → SaysOutcome hosts u v what p → SaysOutcome hosts w v what p
+says_on hosts u w g v what p h to m i says sent leads = outcome_on u w g (record { node = m; id = i }) what (h to m i says sent leads)
 
-telling : (l : Layers) → AllDoneCommit → (count : ℕ) → PostLaw count
-telling l done count = record {
-  Of = λ w p. SaysWhatRootDid count w p.content;
-  on = λ u w g p h. (says_on count u w g notices.Committed endings.Committed p.content h.0, says_on count u w g notices.Aborted endings.Aborted p.content h.1);
+telling : (l : Layers) → AllDoneCommit → (hosts : Hosts) → PostLaw hosts
+telling l done hosts = record {
+  Of = λ w p. SaysWhatRootDid hosts w p.content;
+  on = λ u w g p h. (says_on hosts u w g notices.Committed endings.Committed p.content h.0, says_on hosts u w g notices.Aborted endings.Aborted p.content h.1);
   new = λ u n x b e now landed s before p i r.
-      let q : StepPremises count u n x b e = step_premises l count u n x b e s.small s.reached s.found s.up s.heard in (
-        (λ to m k says. committed_heard count u n x b e now landed q (done count u s.reached n x b s.found s.up) p (l.tells.told b e now landed q.ready p notices.Committed i says) to m k says),
-        (λ to m k says. aborted_heard count u n x b e now landed q p (l.tells.told b e now landed q.ready p notices.Aborted i says) to m k says),
+      let q : StepPremises hosts u n x b e = step_premises l hosts u n x b e s.small s.reached s.found s.up s.heard in (
+        (λ to m k says. committed_heard hosts u n x b e now landed q (done hosts u s.reached n x b s.found s.up) p (l.tells.told b e now landed q.ready p notices.Committed i says) to m k says),
+        (λ to m k says. aborted_heard hosts u n x b e now landed q p (l.tells.told b e now landed q.ready p notices.Aborted i says) to m k says),
       );
 }
 
-pub all_told : (l : Layers) → AllDoneCommit → (count : ℕ) (w : World) → count < 2 ^ 64 → Reached count w → AllByRecursion (λ p. SaysWhatRootDid count w p.content) w.posted
+pub all_told : (l : Layers) → AllDoneCommit → (hosts : Hosts) (w : World) → HaveOwnAddresses hosts → Reached hosts w → AllByRecursion (λ p. SaysWhatRootDid hosts w p.content) w.posted
 unfolding telling
-all_told l done count w few reached = posts_have count few (telling l done count) w reached
+all_told l done hosts w few reached = posts_have hosts few (telling l done hosts) w reached
 
 -- effects
 abbrev Founded : World → Happened → Type 0
@@ -75,30 +75,30 @@ posted_happened : (n : ℕ) (ps : List Post) (w : World) → (post_all n ps w).h
 posted_happened n [] w = refl
 posted_happened n (p ∷ ps) w = posted_happened n ps _
 
-pub all_founded : (l : Layers) → AllDoneCommit → (count : ℕ) (w : World) → count < 2 ^ 64 → Reached count w → AreFounded w
-all_founded l done count w few (opened is) = subst AreFounded (sym is) tt
-all_founded l done count w few (stepped u n x b e now landed ps reached found up heard those is) =
+pub all_founded : (l : Layers) → AllDoneCommit → (hosts : Hosts) (w : World) → HaveOwnAddresses hosts → Reached hosts w → AreFounded w
+all_founded l done hosts w few (opened is) = subst AreFounded (sym is) tt
+all_founded l done hosts w few (stepped u n x b e now landed ps reached found up heard those is) =
     subst AreFounded (sym is)
     (subst (AllByRecursion (Founded after)) (sym (posted_happened n ps (counts u n x b e now landed)))
     (all_on (counts u n x b e now landed) after (grows_posts n ps (counts u n x b e now landed)) (u.happened ++ map (happened_at n) (step b e now landed).effects)
     (all_join (Founded (counts u n x b e now landed)) u.happened _
-    (all_on u (counts u n x b e now landed) (grows_counts u n x b e now landed found) u.happened (all_founded l done count u few reached))
+    (all_on u (counts u n x b e now landed) (grows_counts u n x b e now landed found) u.happened (all_founded l done hosts u few reached))
     (at_node (counts u n x b e now landed) n (step b e now landed).effects
-    (step_founded count u n x b e now landed premises (l.backed.reached count u few reached) (all_told l done count u few reached) (l.moves.moved b e now landed premises.ready))))))
+    (step_founded hosts u n x b e now landed premises (l.backed.reached hosts u few reached) (all_told l done hosts u few reached) (l.moves.moved b e now landed premises.ready))))))
   where
     after : World
     after = post_all n ps (counts u n x b e now landed)
 
-    premises : StepPremises count u n x b e
-    premises = step_premises l count u n x b e few reached found up heard
-all_founded l done count w few (fell u n x b reached found up is) =
+    premises : StepPremises hosts u n x b e
+    premises = step_premises l hosts u n x b e few reached found up heard
+all_founded l done hosts w few (fell u n x b reached found up is) =
     let g : Grows u (goes_down n b u) = grows_falls u n x b found in
     subst AreFounded (sym is)
     (subst (AllByRecursion (Founded (goes_down n b u))) (sym (ap (λ (v : World). v.happened) (ap (put_book n None (record u { happened = u.happened ++ lost_in n b })) found)))
-    (all_join (Founded (goes_down n b u)) u.happened _ (all_on u (goes_down n b u) g u.happened (all_founded l done count u few reached)) (of_lost (goes_down n b u) n b)))
-all_founded l done count w few (rose u n x stop reached found down small is) =
+    (all_join (Founded (goes_down n b u)) u.happened _ (all_on u (goes_down n b u) g u.happened (all_founded l done hosts u few reached)) (of_lost (goes_down n b u) n b)))
+all_founded l done hosts w few (rose u n x stop reached found down small is) =
     subst AreFounded (sym is)
-    (all_on u (record u { nodes = put_nth n (up_after (started (last_incarnation x.journal + 1) x) stop) u.nodes }) (grows_rises u n x stop found) u.happened (all_founded l done count u few reached))
-all_founded l done count w few (waited u n x clock reached found is) =
+    (all_on u (record u { nodes = put_nth n (up_after (started (last_incarnation x.journal + 1) x) stop) u.nodes }) (grows_rises u n x stop found) u.happened (all_founded l done hosts u few reached))
+all_founded l done hosts w few (waited u n x clock reached found is) =
     subst AreFounded (sym is)
-    (all_on u (record u { nodes = put_nth n (record x { clock = clock }) u.nodes }) (grows_waits u n x clock found) u.happened (all_founded l done count u few reached))
+    (all_on u (record u { nodes = put_nth n (record x { clock = clock }) u.nodes }) (grows_waits u n x clock found) u.happened (all_founded l done hosts u few reached))

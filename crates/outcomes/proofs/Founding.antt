@@ -25,7 +25,7 @@ use Rattle.at_model.specs.Leaves.{leaf_ended}
 use Rattle.at_model.specs.Moves.{Change}
 use Rattle.at_model.specs.Seats.{ending_of, prepared}
 use Rattle.at_model.specs.Step.{Outcome, moment_of, plan, step}
-use Rattle.at_model.specs.World.{Node, Who, World, nth}
+use Rattle.at_model.specs.World.{Node, Who, World, nth, Hosts}
 use Rattle.model_laws.specs.Agreement.{IsIn, IsOutcomeOf, Stands}
 use Rattle.model_laws.specs.Drawn.{with_entry}
 use Rattle.model_laws.specs.Grows.{Grows}
@@ -114,26 +114,26 @@ entry_stands u n x b e now landed found r is =
     (record x { book = Some (step b e now landed).book; journal = with_entry (plan b e now).entry landed x.journal }, put_this u.nodes n x _ found, entered (plan b e now).entry landed x.journal r is)
 
 -- a transaction
-deed_founded : (count : ℕ) (u : World) (n : ℕ) (x : Node) (b : Book) (e : Event) (now : ℕ) (landed : Bool) → StepPremises count u n x b e → IsOutcome count u → (t : Transaction) (how : How)
+deed_founded : (hosts : Hosts) (u : World) (n : ℕ) (x : Node) (b : Book) (e : Event) (now : ℕ) (landed : Bool) → StepPremises hosts u n x b e → IsOutcome hosts u → (t : Transaction) (how : How)
     (at : List Enlistment) → StoodFor how t → IsHeard how e t → standing landed (plan b e now).entry ≡ recorded how t at
     → AllByRecursion (IsFounded (counts u n x b e now landed) n) (happens how t)
-deed_founded count u n x b e now landed p j t How.Aborts at stood heard is = (abort_founded (counts u n x b e now landed) n t.superior t.id, tt)
-deed_founded count u n x b e now landed p j t How.RollsBack at stood heard is = (abort_founded (counts u n x b e now landed) n t.superior t.id, tt)
-deed_founded count u n x b e now landed p j t How.Decides at stood heard is =
+deed_founded hosts u n x b e now landed p j t How.Aborts at stood heard is = (abort_founded (counts u n x b e now landed) n t.superior t.id, tt)
+deed_founded hosts u n x b e now landed p j t How.RollsBack at stood heard is = (abort_founded (counts u n x b e now landed) n t.superior t.id, tt)
+deed_founded hosts u n x b e now landed p j t How.Decides at stood heard is =
     (root_founded (counts u n x b e now landed) n t.superior t.id stood.1 (prepared at) (entry_stands u n x b e now landed p.found (records.Decided t.id (prepared at)) is), tt)
-deed_founded count u n x b e now landed p j t How.DecidesAlone at stood heard is =
+deed_founded hosts u n x b e now landed p j t How.DecidesAlone at stood heard is =
     (root_founded (counts u n x b e now landed) n t.superior t.id stood.1 (prepared at) (entry_stands u n x b e now landed p.found (records.Decided t.id (prepared at)) is), tt)
-deed_founded count u n x b e now landed p j t How.Commits at stood heard is =
-    let (voted, under) = commit_came count u n x b e p j heard.message heard.came t.id kinds.Durable heard.target heard.says refl in (
-      sub_founded (counts u n x b e now landed) n t.superior t.id stood.1 (voted_on u (counts u n x b e now landed) (grown count u n x b e now landed p) (record { node = n; id = t.id }) voted)
-          (under_committed_on u (counts u n x b e now landed) (grown count u n x b e now landed p) (record { node = n; id = t.id }) kinds.Durable under),
+deed_founded hosts u n x b e now landed p j t How.Commits at stood heard is =
+    let (voted, under) = commit_came hosts u n x b e p j heard.message heard.came t.id kinds.Durable heard.target heard.says refl in (
+      sub_founded (counts u n x b e now landed) n t.superior t.id stood.1 (voted_on u (counts u n x b e now landed) (grown hosts u n x b e now landed p) (record { node = n; id = t.id }) voted)
+          (under_committed_on u (counts u n x b e now landed) (grown hosts u n x b e now landed p) (record { node = n; id = t.id }) kinds.Durable under),
       tt,
     )
-deed_founded count u n x b e now landed p j t How.Idles at stood heard is = tt
-deed_founded count u n x b e now landed p j t How.Votes at stood heard is = tt
-deed_founded count u n x b e now landed p j t How.Leaves at stood heard is = tt
-deed_founded count u n x b e now landed p j t How.Ends at stood heard is = tt
-deed_founded count u n x b e now landed p j t How.Forgets at stood heard is = tt
+deed_founded hosts u n x b e now landed p j t How.Idles at stood heard is = tt
+deed_founded hosts u n x b e now landed p j t How.Votes at stood heard is = tt
+deed_founded hosts u n x b e now landed p j t How.Leaves at stood heard is = tt
+deed_founded hosts u n x b e now landed p j t How.Ends at stood heard is = tt
+deed_founded hosts u n x b e now landed p j t How.Forgets at stood heard is = tt
 
 -- a leaf
 leaf_commit_founded : (w : World) (n : ℕ) (id : Numbers) (kind : Kind) → (kind ≡ kinds.Durable → IsUnderCommitted w (record { node = n; id = id }) kinds.Durable) → IsFounded w n (effects.Leaf id kind endings.Committed)
@@ -146,65 +146,65 @@ all_of_one w n es f e h = subst (AllByRecursion (IsFounded w n)) (sym e) (h, tt)
 all_of_none : (w : World) (n : ℕ) (es : List Effect) → es ≡ [] → AllByRecursion (IsFounded w n) es
 all_of_none w n es e = subst (AllByRecursion (IsFounded w n)) (sym e) tt
 
-leaf_founded : (count : ℕ) (u : World) (n : ℕ) (x : Node) (b : Book) (e : Event) (now : ℕ) (landed : Bool) → StepPremises count u n x b e → IsOutcome count u → (m : Moment) (l : Leaf) (entry : Option Record)
+leaf_founded : (hosts : Hosts) (u : World) (n : ℕ) (x : Node) (b : Book) (e : Event) (now : ℕ) (landed : Bool) → StepPremises hosts u n x b e → IsOutcome hosts u → (m : Moment) (l : Leaf) (entry : Option Record)
     (c : Change Leaf) → LeafDeed m e l entry c → AllByRecursion (IsFounded (counts u n x b e now landed) n) c.effects
-leaf_founded count u n x b e now landed p j m l entry c (idles left is none on none_happened) = all_of_none (counts u n x b e now landed) n c.effects none_happened
-leaf_founded count u n x b e now landed p j m l entry c (aborts state why none gone happened) =
+leaf_founded hosts u n x b e now landed p j m l entry c (idles left is none on none_happened) = all_of_none (counts u n x b e now landed) n c.effects none_happened
+leaf_founded hosts u n x b e now landed p j m l entry c (aborts state why none gone happened) =
     all_of_one (counts u n x b e now landed) n c.effects (leaf_ended l endings.Aborted) happened (leaf_abort_founded (counts u n x b e now landed) n l.id l.kind)
-leaf_founded count u n x b e now landed p j m l entry c (prepares to came state vote known is on none_happened posted) = all_of_none (counts u n x b e now landed) n c.effects none_happened
-leaf_founded count u n x b e now landed p j m l entry c (leaves to came state vote known none gone none_happened posted) = all_of_none (counts u n x b e now landed) n c.effects none_happened
-leaf_founded count u n x b e now landed p j m l entry c (dropped came kind none gone none_happened posted) = all_of_none (counts u n x b e now landed) n c.effects none_happened
-leaf_founded count u n x b e now landed p j m l entry c (commits to came state known is gone happened posted) =
+leaf_founded hosts u n x b e now landed p j m l entry c (prepares to came state vote known is on none_happened posted) = all_of_none (counts u n x b e now landed) n c.effects none_happened
+leaf_founded hosts u n x b e now landed p j m l entry c (leaves to came state vote known none gone none_happened posted) = all_of_none (counts u n x b e now landed) n c.effects none_happened
+leaf_founded hosts u n x b e now landed p j m l entry c (dropped came kind none gone none_happened posted) = all_of_none (counts u n x b e now landed) n c.effects none_happened
+leaf_founded hosts u n x b e now landed p j m l entry c (commits to came state known is gone happened posted) =
     all_of_one (counts u n x b e now landed) n c.effects (leaf_ended l endings.Committed) happened
     (leaf_commit_founded (counts u n x b e now landed) n l.id l.kind
-    (λ durable. under_committed_on u (counts u n x b e now landed) (grown count u n x b e now landed p) (record { node = n; id = l.id }) kinds.Durable
-    (commit_came count u n x b e p j came.arrived came.event l.id l.kind came.target came.message durable).1))
-leaf_founded count u n x b e now landed p j m l entry c (rolls_back to came state known is gone happened posted) =
+    (λ durable. under_committed_on u (counts u n x b e now landed) (grown hosts u n x b e now landed p) (record { node = n; id = l.id }) kinds.Durable
+    (commit_came hosts u n x b e p j came.arrived came.event l.id l.kind came.target came.message durable).1))
+leaf_founded hosts u n x b e now landed p j m l entry c (rolls_back to came state known is gone happened posted) =
     all_of_one (counts u n x b e now landed) n c.effects (leaf_ended l endings.Aborted) happened (leaf_abort_founded (counts u n x b e now landed) n l.id l.kind)
 
 -- an activity
-heard_outcome : (count : ℕ) (u : World) (n : ℕ) (x : Node) (b : Book) (e : Event) → StepPremises count u n x b e → AllByRecursion (λ q. SaysWhatRootDid count u q.content) u.posted → (a : Activity) (v : Notice)
-    → (came : CameToActivity e a (messages.Notice v)) → (w : HasCome count u n came.arrived) × SaysWhatRootDid count u w.posted.content × LeadsTo count w.to n (targets.Initiator a.id)
-heard_outcome count u n x b e p told a v came =
-    let w : HasCome count u n came.arrived = came_by count u n x b e p came.arrived came.event in
-    (w, one_of (λ q. SaysWhatRootDid count u q.content) u.posted w.posted told w.stands, subst (LeadsTo count w.to n) came.target w.leads)
+heard_outcome : (hosts : Hosts) (u : World) (n : ℕ) (x : Node) (b : Book) (e : Event) → StepPremises hosts u n x b e → AllByRecursion (λ q. SaysWhatRootDid hosts u q.content) u.posted → (a : Activity) (v : Notice)
+    → (came : CameToActivity e a (messages.Notice v)) → (w : HasCome hosts u n came.arrived) × SaysWhatRootDid hosts u w.posted.content × LeadsTo hosts w.to n (targets.Initiator a.id)
+heard_outcome hosts u n x b e p told a v came =
+    let w : HasCome hosts u n came.arrived = came_by hosts u n x b e p came.arrived came.event in
+    (w, one_of (λ q. SaysWhatRootDid hosts u q.content) u.posted w.posted told w.stands, subst (LeadsTo hosts w.to n) came.target w.leads)
 
-tells_founded : (count : ℕ) (u : World) (n : ℕ) (x : Node) (b : Book) (e : Event) → StepPremises count u n x b e → AllByRecursion (λ q. SaysWhatRootDid count u q.content) u.posted → (m : Moment) (a : Activity)
+tells_founded : (hosts : Hosts) (u : World) (n : ℕ) (x : Node) (b : Book) (e : Event) → StepPremises hosts u n x b e → AllByRecursion (λ q. SaysWhatRootDid hosts u q.content) u.posted → (m : Moment) (a : Activity)
     (what : Told) → ActivityTells m e a what → IsFounded u n (effects.Told a.id what)
-tells_founded count u n x b e p told m a what (told_committed v came running is) =
-    let (w, says, leads) = heard_outcome count u n x b e p told a notices.Committed came in
+tells_founded hosts u n x b e p told m a what (told_committed v came running is) =
+    let (w, says, leads) = heard_outcome hosts u n x b e p told a notices.Committed came in
     subst (λ t. IsFounded u n (effects.Told a.id t)) (sym is) (says.0 w.to n a.id (w.message ∙ came.message) w.sent leads)
-tells_founded count u n x b e p told m a what (told_aborted came running is) =
-    let (w, says, leads) = heard_outcome count u n x b e p told a notices.Aborted came in
+tells_founded hosts u n x b e p told m a what (told_aborted came running is) =
+    let (w, says, leads) = heard_outcome hosts u n x b e p told a notices.Aborted came in
     subst (λ t. IsFounded u n (effects.Told a.id t)) (sym is) (says.1 w.to n a.id (w.message ∙ came.message) w.sent leads)
-tells_founded count u n x b e p told m a what (uncreated name came relates creating is) = subst (λ t. IsFounded u n (effects.Told a.id t)) (sym is) tt
-tells_founded count u n x b e p told m a what (unregistered name came relates registering is) = subst (λ t. IsFounded u n (effects.Told a.id t)) (sym is) tt
-tells_founded count u n x b e p told m a what (unknown v came completing is) = subst (λ t. IsFounded u n (effects.Told a.id t)) (sym is) tt
-tells_founded count u n x b e p told m a what (expired came begun creating due is) = subst (λ t. IsFounded u n (effects.Told a.id t)) (sym is) tt
+tells_founded hosts u n x b e p told m a what (uncreated name came relates creating is) = subst (λ t. IsFounded u n (effects.Told a.id t)) (sym is) tt
+tells_founded hosts u n x b e p told m a what (unregistered name came relates registering is) = subst (λ t. IsFounded u n (effects.Told a.id t)) (sym is) tt
+tells_founded hosts u n x b e p told m a what (unknown v came completing is) = subst (λ t. IsFounded u n (effects.Told a.id t)) (sym is) tt
+tells_founded hosts u n x b e p told m a what (expired came begun creating due is) = subst (λ t. IsFounded u n (effects.Told a.id t)) (sym is) tt
 
-activity_founded : (count : ℕ) (u : World) (n : ℕ) (x : Node) (b : Book) (e : Event) (now : ℕ) (landed : Bool) → StepPremises count u n x b e → AllByRecursion (λ q. SaysWhatRootDid count u q.content) u.posted
+activity_founded : (hosts : Hosts) (u : World) (n : ℕ) (x : Node) (b : Book) (e : Event) (now : ℕ) (landed : Bool) → StepPremises hosts u n x b e → AllByRecursion (λ q. SaysWhatRootDid hosts u q.content) u.posted
     → (m : Moment) (a : Activity) (entry : Option Record) (c : Change Activity) → ActivityDeed m e a entry c → AllByRecursion (IsFounded (counts u n x b e now landed) n) c.effects
-activity_founded count u n x b e now landed p told m a entry c (goes_on left is none on none_happened) = all_of_none (counts u n x b e now landed) n c.effects none_happened
-activity_founded count u n x b e now landed p told m a entry c (tells what why none gone happened posted) =
+activity_founded hosts u n x b e now landed p told m a entry c (goes_on left is none on none_happened) = all_of_none (counts u n x b e now landed) n c.effects none_happened
+activity_founded hosts u n x b e now landed p told m a entry c (tells what why none gone happened posted) =
     all_of_one (counts u n x b e now landed) n c.effects (effects.Told a.id what) happened
-    (founded_on u (counts u n x b e now landed) (grown count u n x b e now landed p) n (effects.Told a.id what) (tells_founded count u n x b e p told m a what why))
+    (founded_on u (counts u n x b e now landed) (grown hosts u n x b e now landed p) n (effects.Told a.id what) (tells_founded hosts u n x b e p told m a what why))
 
 -- each step
-pub step_founded : (count : ℕ) (u : World) (n : ℕ) (x : Node) (b : Book) (e : Event) (now : ℕ) (landed : Bool) → StepPremises count u n x b e → IsOutcome count u
-    → AllByRecursion (λ q. SaysWhatRootDid count u q.content) u.posted → Moved b e now (standing landed (plan b e now).entry) (step b e now landed)
+pub step_founded : (hosts : Hosts) (u : World) (n : ℕ) (x : Node) (b : Book) (e : Event) (now : ℕ) (landed : Bool) → StepPremises hosts u n x b e → IsOutcome hosts u
+    → AllByRecursion (λ q. SaysWhatRootDid hosts u q.content) u.posted → Moved b e now (standing landed (plan b e now).entry) (step b e now landed)
     → AllByRecursion (IsFounded (counts u n x b e now landed) n) (step b e now landed).effects
-step_founded count u n x b e now landed p j told (transaction_did d) =
+step_founded hosts u n x b e now landed p j told (transaction_did d) =
     subst (AllByRecursion (IsFounded (counts u n x b e now landed) n)) (sym (d.effects_are ∙ d.deed.happened))
-    (deed_founded count u n x b e now landed p j d.old d.deed.how d.deed.at d.deed.stood d.deed.heard d.deed.records)
-step_founded count u n x b e now landed p j told (leaf_did d) =
+    (deed_founded hosts u n x b e now landed p j d.old d.deed.how d.deed.at d.deed.stood d.deed.heard d.deed.records)
+step_founded hosts u n x b e now landed p j told (leaf_did d) =
     subst (AllByRecursion (IsFounded (counts u n x b e now landed) n)) (sym d.effects_are)
-    (leaf_founded count u n x b e now landed p j (moment_of b now) d.old (standing landed (plan b e now).entry) d.change d.deed)
-step_founded count u n x b e now landed p j told (activity_did d) =
+    (leaf_founded hosts u n x b e now landed p j (moment_of b now) d.old (standing landed (plan b e now).entry) d.change d.deed)
+step_founded hosts u n x b e now landed p j told (activity_did d) =
     subst (AllByRecursion (IsFounded (counts u n x b e now landed) n)) (sym d.effects_are)
-    (activity_founded count u n x b e now landed p told (moment_of b now) d.old (standing landed (plan b e now).entry) d.change d.deed)
-step_founded count u n x b e now landed p j told (registered d) = all_of_none (counts u n x b e now landed) n (step b e now landed).effects (ap (λ (q : Outcome). q.effects) d.is)
-step_founded count u n x b e now landed p j told (transaction_made d) = all_of_none (counts u n x b e now landed) n (step b e now landed).effects (ap (λ (q : Outcome). q.effects) d.is)
-step_founded count u n x b e now landed p j told (leaf_made d) = all_of_none (counts u n x b e now landed) n (step b e now landed).effects (ap (λ (q : Outcome). q.effects) d.is)
-step_founded count u n x b e now landed p j told (activity_made d) = all_of_none (counts u n x b e now landed) n (step b e now landed).effects (ap (λ (q : Outcome). q.effects) d.is)
-step_founded count u n x b e now landed p j told (answered d) = all_of_none (counts u n x b e now landed) n (step b e now landed).effects (ap (λ (q : Outcome). q.effects) d.is)
-step_founded count u n x b e now landed p j told (rested d) = all_of_none (counts u n x b e now landed) n (step b e now landed).effects d.effects_are
+    (activity_founded hosts u n x b e now landed p told (moment_of b now) d.old (standing landed (plan b e now).entry) d.change d.deed)
+step_founded hosts u n x b e now landed p j told (registered d) = all_of_none (counts u n x b e now landed) n (step b e now landed).effects (ap (λ (q : Outcome). q.effects) d.is)
+step_founded hosts u n x b e now landed p j told (transaction_made d) = all_of_none (counts u n x b e now landed) n (step b e now landed).effects (ap (λ (q : Outcome). q.effects) d.is)
+step_founded hosts u n x b e now landed p j told (leaf_made d) = all_of_none (counts u n x b e now landed) n (step b e now landed).effects (ap (λ (q : Outcome). q.effects) d.is)
+step_founded hosts u n x b e now landed p j told (activity_made d) = all_of_none (counts u n x b e now landed) n (step b e now landed).effects (ap (λ (q : Outcome). q.effects) d.is)
+step_founded hosts u n x b e now landed p j told (answered d) = all_of_none (counts u n x b e now landed) n (step b e now landed).effects (ap (λ (q : Outcome). q.effects) d.is)
+step_founded hosts u n x b e now landed p j told (rested d) = all_of_none (counts u n x b e now landed) n (step b e now landed).effects d.effects_are

@@ -12,7 +12,7 @@ use Rattle.at_model.specs.Book.{Book, is_id}
 use Rattle.at_model.specs.Moves.{Decision, Goes, Records}
 use Rattle.at_model.specs.Outcomes.{is_kept, outcomes_after, put_last, with_outcome}
 use Rattle.at_model.specs.Step.{Plan, at_time, moment_of, plan, plan_of, put_activity, put_leaf, put_transaction, step}
-use Rattle.at_model.specs.World.{Node, World, nth}
+use Rattle.at_model.specs.World.{Node, World, nth, Hosts}
 use Rattle.model_laws.specs.Agreement.{IsIn}
 use Rattle.model_laws.specs.Drawn.{with_entry}
 use Rattle.model_laws.specs.Reached.{Reached}
@@ -74,9 +74,9 @@ keeping = record {
   rises = λ base rs small h. refl;
 }
 
-pub keeps_outcomes : (count : ℕ) (w : World) → Reached count w → (n : ℕ) (x : Node) (b : Book) → nth n w.nodes ≡ Some x → x.book ≡ Some b → b.outcomes ≡ outcomes_after [] x.journal
+pub keeps_outcomes : (hosts : Hosts) (w : World) → Reached hosts w → (n : ℕ) (x : Node) (b : Book) → nth n w.nodes ≡ Some x → x.book ≡ Some b → b.outcomes ≡ outcomes_after [] x.journal
 unfolding keeping
-keeps_outcomes count w reached n x b found up = subst (IfThere (λ (c : Book). c.outcomes ≡ outcomes_after [] x.journal)) up (nodes_hold keeping count w reached n x found)
+keeps_outcomes hosts w reached n x b found up = subst (IfThere (λ (c : Book). c.outcomes ≡ outcomes_after [] x.journal)) up (nodes_hold keeping hosts w reached n x found)
 
 -- each kept id is that of a record that adds it
 abbrev pub Adds : Record → Numbers → Type 0
@@ -140,10 +140,10 @@ from_records id (r ∷ rs) ids k = by_rest (from_records id rs (with_outcome r i
     by_rest (inl h) = by_first (with_one id ids r h)
     by_rest (inr a) = inr (record { by = a.by; stands = inr a.stands; adds = a.adds })
 
-pub kept_added : (count : ℕ) (w : World) → Reached count w → (n : ℕ) (x : Node) (b : Book) → nth n w.nodes ≡ Some x → x.book ≡ Some b → (id : Numbers) → is_kept id b.outcomes ≡ true
+pub kept_added : (hosts : Hosts) (w : World) → Reached hosts w → (n : ℕ) (x : Node) (b : Book) → nth n w.nodes ≡ Some x → x.book ≡ Some b → (id : Numbers) → is_kept id b.outcomes ≡ true
     → IsAdded x.journal id
-kept_added count w reached n x b found up id kept =
-    either (from_records id x.journal [] (subst (IsIn id) (keeps_outcomes count w reached n x b found up) (kept_in id b.outcomes kept)))
+kept_added hosts w reached n x b found up id kept =
+    either (from_records id x.journal [] (subst (IsIn id) (keeps_outcomes hosts w reached n x b found up) (kept_in id b.outcomes kept)))
   where
     either : IsIn id [] ⊎ IsAdded x.journal id → IsAdded x.journal id
     either (inl h) = absurd h

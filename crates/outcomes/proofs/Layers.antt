@@ -2,7 +2,7 @@
 use Rattle.std.specs.Prelude.{ℕ, Some, ◌^◌, ◌≡◌, ◌<◌}
 use Rattle.at_base.specs.declared.event.Event.{Event}
 use Rattle.at_model.specs.Book.{Book}
-use Rattle.at_model.specs.World.{Node, World, nth}
+use Rattle.at_model.specs.World.{Node, World, nth, Hosts, HaveOwnAddresses}
 use Rattle.model_laws.specs.Reached.{Heard, Reached}
 use Rattle.enlistments.specs.Knowing.{CoordinatorsAreKnown}
 use Rattle.enlistments.specs.Moves.{StepsMove}
@@ -19,22 +19,22 @@ pub record Layers : Type 0 where
   pub kept : VotesAreKept
   pub backed : OutcomesAreBacked
 
-pub world_premises : (l : Layers) (count : ℕ) (u : World) → count < 2 ^ 64 → Reached count u → WorldPremises count u
-world_premises l count u few reached = record {
-  laws = world_laws count u few reached;
+pub world_premises : (l : Layers) (hosts : Hosts) (u : World) → HaveOwnAddresses hosts → Reached hosts u → WorldPremises hosts u
+world_premises l hosts u few reached = record {
+  laws = world_laws hosts u few reached;
   moves = l.moves;
   tells = l.tells;
-  knowing = l.known.reached count u few reached;
-  prepared = l.kept.prepared count u few reached;
-  read_only = l.kept.read_only count u few reached;
+  knowing = l.known.reached hosts u few reached;
+  prepared = l.kept.prepared hosts u few reached;
+  read_only = l.kept.read_only hosts u few reached;
 }
 
-pub step_premises : (l : Layers) (count : ℕ) (u : World) (n : ℕ) (x : Node) (b : Book) (e : Event) → count < 2 ^ 64 → Reached count u → nth n u.nodes ≡ Some x → x.book ≡ Some b → Heard u n x e
-    → StepPremises count u n x b e
-step_premises l count u n x b e few reached found up heard = record {
-  world = world_premises l count u few reached;
+pub step_premises : (l : Layers) (hosts : Hosts) (u : World) (n : ℕ) (x : Node) (b : Book) (e : Event) → HaveOwnAddresses hosts → Reached hosts u → nth n u.nodes ≡ Some x → x.book ≡ Some b → Heard u n x e
+    → StepPremises hosts u n x b e
+step_premises l hosts u n x b e few reached found up heard = record {
+  world = world_premises l hosts u few reached;
   found = found;
   up = up;
   heard = heard;
-  ready = l.moves.ready count u reached n x b found up;
+  ready = l.moves.ready hosts u reached n x b found up;
 }

@@ -1,7 +1,7 @@
 -- The machine of atomic commit is consistent.
 use Rattle.std.specs.Prelude.{ℕ, ◌≡◌, ◌⊎◌}
 use Rattle.std.proofs.Common.{inl, inr, sym, subst, ◌∙◌}
-use Rattle.at_model.specs.World.{Who, World}
+use Rattle.at_model.specs.World.{Who, World, Hosts}
 use Rattle.model_laws.specs.Agreement.{IsOf}
 use Rattle.outcomes.specs.AtomicCommit.{AllReady, IsReady, Move, NoneCommitted, Status, Step, aborts, commits, leaves, prepares, stays}
 use Rattle.outcomes.specs.Statuses.{Unfolds, begins, goes, status_of}
@@ -36,13 +36,13 @@ step_ready root members more before after h s y m e = by_move (one_committed (be
         moved_ready (before x) (after x) (x ≡ root) (AllReady more after) (NoneCommitted more after) (h y (s.joins y y m m e) was x (s.joins x y k m e)) (λ none. none y m e) (s.moves x k)
     by_move (inr r) = r
 
-unfolds_ready : (count : ℕ) (root : Who) (w : World) → Unfolds count root w → ReadyOnce (λ x. IsOf w x root) (status_of w)
-unfolds_ready count root w (begins h) = λ y m e. absurd (never y e)
+unfolds_ready : (hosts : Hosts) (root : Who) (w : World) → Unfolds hosts root w → ReadyOnce (λ x. IsOf w x root) (status_of w)
+unfolds_ready hosts root w (begins h) = λ y m e. absurd (never y e)
   where
     never : (y : Who) → status_of w y ≡ Status.Committed → ⊥
     never y e = let f : Status.Working ≡ Status.Committed = sym (h y) ∙ e in cc
-unfolds_ready count root w (goes u rest s) =
-    step_ready root (λ x. IsOf u x root) (λ x. IsOf w x root) (status_of u) (status_of w) (unfolds_ready count root u rest) s
+unfolds_ready hosts root w (goes u rest s) =
+    step_ready root (λ x. IsOf u x root) (λ x. IsOf w x root) (status_of u) (status_of w) (unfolds_ready hosts root u rest) s
 
-pub consistent : (count : ℕ) (root : Who) (w : World) → Unfolds count root w → (x y : Who) → IsOf w x root → IsOf w y root → status_of w x ≡ Status.Committed → status_of w y ≡ Status.Aborted → ⊥
-consistent count root w h x y m k e f = not_ready (status_of w y) (unfolds_ready count root w h x m e y k) (inr f)
+pub consistent : (hosts : Hosts) (root : Who) (w : World) → Unfolds hosts root w → (x y : Who) → IsOf w x root → IsOf w y root → status_of w x ≡ Status.Committed → status_of w y ≡ Status.Aborted → ⊥
+consistent hosts root w h x y m k e f = not_ready (status_of w y) (unfolds_ready hosts root w h x m e y k) (inr f)

@@ -4,7 +4,7 @@ use Rattle.std.specs.List.{AllByRecursion}
 use Rattle.std.proofs.lemmas.Bool.{eqb-true}
 use Rattle.std.proofs.Common.{arith, sym, subst, ap, ◌∙◌}
 use Rattle.at_base.specs.declared.outs.Effect.{Effect}
-use Rattle.at_model.specs.World.{Happened, Node, Who, World, WorldEvent, nth, run_of}
+use Rattle.at_model.specs.World.{Happened, Node, Who, World, WorldEvent, nth, run_of, Hosts}
 use Rattle.model_laws.specs.Agreement.{ends_as, is_end_of}
 use Rattle.model_laws.proofs.Reaching.{run_reached}
 use Rattle.agreement.specs.Lives.{ends, happened_on}
@@ -48,7 +48,7 @@ at_most w x there here = by_found (nth x.node w.nodes) refl
     by_found None e =
         subst (λ (es : List Effect). length (ends x.id es) ≤ 1) (sym (unmet x.node (HasNode w) (no_node e) w.happened there)) (omega arith)
 
-pub once : (count : ℕ) (es : List WorldEvent) (x : Who) → length (filter (is_end_of x) (run_of count es).happened) ≤ 1
-once count es x =
-    subst (λ n. n ≤ 1) (sym (ends_same x (run_of count es).happened))
-    (at_most (run_of count es) x (all_there count (run_of count es) (run_reached count es)) (λ y found. lives_agree.once count es x.node y found x.id))
+pub once : (hosts : Hosts) (es : List WorldEvent) (x : Who) → length (filter (is_end_of x) (run_of hosts es).happened) ≤ 1
+once hosts es x =
+    subst (λ n. n ≤ 1) (sym (ends_same x (run_of hosts es).happened))
+    (at_most (run_of hosts es) x (all_there hosts (run_of hosts es) (run_reached hosts es)) (λ y found. lives_agree.once hosts es x.node y found x.id))

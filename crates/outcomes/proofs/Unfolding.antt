@@ -10,7 +10,7 @@ use Rattle.at_base.specs.declared.outs.Post.{Post}
 use Rattle.at_model.specs.Book.{Book}
 use Rattle.at_model.specs.Recover.{last_incarnation}
 use Rattle.at_model.specs.Step.{leaf_at, plan, step, transaction_at}
-use Rattle.at_model.specs.World.{Node, Who, World, goes_down, lost_in, nth, opening, put_book, put_nth, run_of, started, up_after, with_post}
+use Rattle.at_model.specs.World.{Node, Who, World, goes_down, lost_in, nth, opening, put_book, put_nth, run_of, started, up_after, with_post, Hosts, HaveOwnAddresses}
 use Rattle.model_laws.specs.Agreement.{HasAborted, HasCommitted, HasPosted, IsIn, IsOf, below, itself}
 use Rattle.model_laws.specs.Grows.{Grows}
 use Rattle.model_laws.specs.Reached.{Reached, counts, fell, opened, post_all, rose, stepped, waited}
@@ -39,42 +39,42 @@ use Rattle.outcomes.proofs.Statuses.{Seen, seen}
 use Rattle.outcomes.proofs.VotesFirst.{commits_before, votes_first}
 
 -- who voted ReadOnly has no vote Prepared
-left_unvoted : (count : ℕ) (w : World) → WorldPremises count w → (x : Who) → HasVoted w x → HasPosted w x kinds.Durable notices.ReadOnly → ⊥
-left_unvoted count w p x v r = traces count w p x v (p.read_only x r)
+left_unvoted : (hosts : Hosts) (w : World) → WorldPremises hosts w → (x : Who) → HasVoted w x → HasPosted w x kinds.Durable notices.ReadOnly → ⊥
+left_unvoted hosts w p x v r = traces hosts w p x v (p.read_only x r)
 
 -- what a later status makes of an earlier one
-move : (count : ℕ) (u w : World) → Grows u w → WorldPremises count w → IsBound w → (x : Who) (before after : Status) (root ready uncommitted : Type 0) → (HasCommitted w x → root ⊎ (HasCommitted u x ⊎ HasVoted u x)) → (HasCommitted w x → ready) → (HasAborted w x → uncommitted)
+move : (hosts : Hosts) (u w : World) → Grows u w → WorldPremises hosts w → IsBound w → (x : Who) (before after : Status) (root ready uncommitted : Type 0) → (HasCommitted w x → root ⊎ (HasCommitted u x ⊎ HasVoted u x)) → (HasCommitted w x → ready) → (HasAborted w x → uncommitted)
     → Seen u x before → Seen w x after → Move before after root ready uncommitted
-move count u w g p h x Status.Committed Status.Committed root ready uncommitted v r n s t = stays refl
-move count u w g p h x Status.Committed Status.Aborted root ready uncommitted v r n s t = absurd (h.one x (committed_on u w g x s) t)
-move count u w g p h x Status.Committed Status.Left root ready uncommitted v r n s t = absurd (h.left x t (inr (committed_on u w g x s)))
-move count u w g p h x Status.Committed Status.Prepared root ready uncommitted v r n s t = absurd (t.1 (committed_on u w g x s))
-move count u w g p h x Status.Committed Status.Working root ready uncommitted v r n s t = absurd (t.1 (committed_on u w g x s))
-move count u w g p h x Status.Aborted Status.Committed root ready uncommitted v r n s t = absurd (h.one x t (aborted_on u w g x s))
-move count u w g p h x Status.Aborted Status.Aborted root ready uncommitted v r n s t = stays refl
-move count u w g p h x Status.Aborted Status.Left root ready uncommitted v r n s t = absurd (h.left x t (inl (aborted_on u w g x s)))
-move count u w g p h x Status.Aborted Status.Prepared root ready uncommitted v r n s t = absurd (t.2 (aborted_on u w g x s))
-move count u w g p h x Status.Aborted Status.Working root ready uncommitted v r n s t = absurd (t.2 (aborted_on u w g x s))
-move count u w g p h x Status.Left Status.Committed root ready uncommitted v r n s t = absurd (h.left x (posted_on u w g x kinds.Durable notices.ReadOnly s) (inr t))
-move count u w g p h x Status.Left Status.Aborted root ready uncommitted v r n s t = absurd (h.left x (posted_on u w g x kinds.Durable notices.ReadOnly s) (inl t))
-move count u w g p h x Status.Left Status.Left root ready uncommitted v r n s t = stays refl
-move count u w g p h x Status.Left Status.Prepared root ready uncommitted v r n s t = absurd (t.3 (posted_on u w g x kinds.Durable notices.ReadOnly s))
-move count u w g p h x Status.Left Status.Working root ready uncommitted v r n s t = absurd (t.3 (posted_on u w g x kinds.Durable notices.ReadOnly s))
-move count u w g p h x Status.Prepared Status.Committed root ready uncommitted v r n s t = commits (inl refl) refl (r t)
-move count u w g p h x Status.Prepared Status.Aborted root ready uncommitted v r n s t = aborts (inr refl) refl (n t)
-move count u w g p h x Status.Prepared Status.Left root ready uncommitted v r n s t = absurd (left_unvoted count w p x (voted_on u w g x s.0) t)
-move count u w g p h x Status.Prepared Status.Prepared root ready uncommitted v r n s t = stays refl
-move count u w g p h x Status.Prepared Status.Working root ready uncommitted v r n s t = absurd (t.0 (voted_on u w g x s.0))
-move count u w g p h x Status.Working Status.Committed root ready uncommitted v r n s t = commits (inr (refl, is_root (v t))) refl (r t)
+move hosts u w g p h x Status.Committed Status.Committed root ready uncommitted v r n s t = stays refl
+move hosts u w g p h x Status.Committed Status.Aborted root ready uncommitted v r n s t = absurd (h.one x (committed_on u w g x s) t)
+move hosts u w g p h x Status.Committed Status.Left root ready uncommitted v r n s t = absurd (h.left x t (inr (committed_on u w g x s)))
+move hosts u w g p h x Status.Committed Status.Prepared root ready uncommitted v r n s t = absurd (t.1 (committed_on u w g x s))
+move hosts u w g p h x Status.Committed Status.Working root ready uncommitted v r n s t = absurd (t.1 (committed_on u w g x s))
+move hosts u w g p h x Status.Aborted Status.Committed root ready uncommitted v r n s t = absurd (h.one x t (aborted_on u w g x s))
+move hosts u w g p h x Status.Aborted Status.Aborted root ready uncommitted v r n s t = stays refl
+move hosts u w g p h x Status.Aborted Status.Left root ready uncommitted v r n s t = absurd (h.left x t (inl (aborted_on u w g x s)))
+move hosts u w g p h x Status.Aborted Status.Prepared root ready uncommitted v r n s t = absurd (t.2 (aborted_on u w g x s))
+move hosts u w g p h x Status.Aborted Status.Working root ready uncommitted v r n s t = absurd (t.2 (aborted_on u w g x s))
+move hosts u w g p h x Status.Left Status.Committed root ready uncommitted v r n s t = absurd (h.left x (posted_on u w g x kinds.Durable notices.ReadOnly s) (inr t))
+move hosts u w g p h x Status.Left Status.Aborted root ready uncommitted v r n s t = absurd (h.left x (posted_on u w g x kinds.Durable notices.ReadOnly s) (inl t))
+move hosts u w g p h x Status.Left Status.Left root ready uncommitted v r n s t = stays refl
+move hosts u w g p h x Status.Left Status.Prepared root ready uncommitted v r n s t = absurd (t.3 (posted_on u w g x kinds.Durable notices.ReadOnly s))
+move hosts u w g p h x Status.Left Status.Working root ready uncommitted v r n s t = absurd (t.3 (posted_on u w g x kinds.Durable notices.ReadOnly s))
+move hosts u w g p h x Status.Prepared Status.Committed root ready uncommitted v r n s t = commits (inl refl) refl (r t)
+move hosts u w g p h x Status.Prepared Status.Aborted root ready uncommitted v r n s t = aborts (inr refl) refl (n t)
+move hosts u w g p h x Status.Prepared Status.Left root ready uncommitted v r n s t = absurd (left_unvoted hosts w p x (voted_on u w g x s.0) t)
+move hosts u w g p h x Status.Prepared Status.Prepared root ready uncommitted v r n s t = stays refl
+move hosts u w g p h x Status.Prepared Status.Working root ready uncommitted v r n s t = absurd (t.0 (voted_on u w g x s.0))
+move hosts u w g p h x Status.Working Status.Committed root ready uncommitted v r n s t = commits (inr (refl, is_root (v t))) refl (r t)
   where
     is_root : root ⊎ (HasCommitted u x ⊎ HasVoted u x) → root
     is_root (inl k) = k
     is_root (inr (inl c)) = absurd (s.1 c)
     is_root (inr (inr k)) = absurd (s.0 k)
-move count u w g p h x Status.Working Status.Aborted root ready uncommitted v r n s t = aborts (inl refl) refl (n t)
-move count u w g p h x Status.Working Status.Left root ready uncommitted v r n s t = leaves refl refl
-move count u w g p h x Status.Working Status.Prepared root ready uncommitted v r n s t = prepares refl refl
-move count u w g p h x Status.Working Status.Working root ready uncommitted v r n s t = stays refl
+move hosts u w g p h x Status.Working Status.Aborted root ready uncommitted v r n s t = aborts (inl refl) refl (n t)
+move hosts u w g p h x Status.Working Status.Left root ready uncommitted v r n s t = leaves refl refl
+move hosts u w g p h x Status.Working Status.Prepared root ready uncommitted v r n s t = prepares refl refl
+move hosts u w g p h x Status.Working Status.Working root ready uncommitted v r n s t = stays refl
 
 -- once one has committed, everybody is ready
 ready_as : (w : World) → IsBound w → (y : Who) (s : Status) → Seen w y s → HasCommitted w y ⊎ Sealed w y → IsReady s
@@ -123,10 +123,10 @@ voted_first u w h x root (below t number i of) first c = by_case (first (as_part
     by_case (inr k) = inr (inr k)
 
 -- a step of the machine, where nobody joins once one has committed
-pub machine_step : (count : ℕ) (u w : World) (root : Who) → Grows u w → WorldPremises count w → IsBound w → ((x : Who) → CommittedBelow w x → CommittedBelow u x ⊎ HasVoted u x)
+pub machine_step : (hosts : Hosts) (u w : World) (root : Who) → Grows u w → WorldPremises hosts w → IsBound w → ((x : Who) → CommittedBelow w x → CommittedBelow u x ⊎ HasVoted u x)
     → ((x : Who) → IsOf w x root → HasCommitted w root → IsOf u x root) → Step root (λ x. IsOf u x root) (λ x. IsOf w x root) (status_of u) (status_of w)
-machine_step count u w root g p h first joins = record {
-  moves = λ x m. move count u w g p h x (status_of u x) (status_of w x) (x ≡ root) (AllReady (λ y. IsOf w y root) (status_of w)) (NoneCommitted (λ y. IsOf w y root) (status_of w))
+machine_step hosts u w root g p h first joins = record {
+  moves = λ x m. move hosts u w g p h x (status_of u x) (status_of w x) (x ≡ root) (AllReady (λ y. IsOf w y root) (status_of w)) (NoneCommitted (λ y. IsOf w y root) (status_of w))
       (λ c. voted_first u w h x root m (first x) c) (all_ready w h x root m)
       (none_committed w h x root m) (seen u x) (seen w x);
   joins = λ x y m k e. joins x m (up w h y root k (committed_as w y e));
@@ -138,9 +138,9 @@ of_same u w x root e (itself f) = itself f
 of_same u w x root e (below t number i of) = below t number (subst (IsIn (record { transaction = t; seat = Some (record { number = number; kind = kinds.Durable }); participant = Some x })) e i) (of_same u w t root e of)
 
 -- behind a commit nobody is accepted: an undecided transaction is under none that has committed
-open_apart : (count : ℕ) (w : World) → WorldPremises count w → IsBound w → (n : ℕ) (x : Node) (b : Book) → nth n w.nodes ≡ Some x → x.book ≡ Some b → (before : Book) (t root : Who)
+open_apart : (hosts : Hosts) (w : World) → WorldPremises hosts w → IsBound w → (n : ℕ) (x : Node) (b : Book) → nth n w.nodes ≡ Some x → x.book ≡ Some b → (before : Book) (t root : Who)
     → JoinsOpen n before b t → IsOf w t root → HasCommitted w root → ⊥
-open_apart count w p h n x b found up before t root k m c = by_place (down w h t root m c)
+open_apart hosts w p h n x b found up before t root k m c = by_place (down w h t root m c)
   where
     found_there : nth t.node w.nodes ≡ Some x
     found_there = ap (λ i. nth i w.nodes) k.node ∙ found
@@ -162,11 +162,11 @@ open_apart count w p h n x b found up before t root k m c = by_place (down w h t
     by_place (inr (inl r)) = still_there (p.read_only t r)
     by_place (inr (inr (v, never))) = unpromised_vote w t.node x t.id found_there opened_still.nothing v
 
-none_joins : (count : ℕ) (u : World) (n : ℕ) (x : Node) (b : Book) (e : Event) (now : ℕ) (landed : Bool) → StepPremises count u n x b e → WorldPremises count (counts u n x b e now landed)
+none_joins : (hosts : Hosts) (u : World) (n : ℕ) (x : Node) (b : Book) (e : Event) (now : ℕ) (landed : Bool) → StepPremises hosts u n x b e → WorldPremises hosts (counts u n x b e now landed)
     → IsBound (counts u n x b e now landed) → (y root : Who) → IsOf (counts u n x b e now landed) y root → HasCommitted (counts u n x b e now landed) root → IsOf u y root
-none_joins count u n x b e now landed p w h y root (itself f) c = itself f
-none_joins count u n x b e now landed p w h y root (below t number i of) c =
-    by_seat (none_joins count u n x b e now landed p w h t root of c) (seat_joins count u n x b e now landed p t number kinds.Durable y i)
+none_joins hosts u n x b e now landed p w h y root (itself f) c = itself f
+none_joins hosts u n x b e now landed p w h y root (below t number i of) c =
+    by_seat (none_joins hosts u n x b e now landed p w h t root of c) (seat_joins hosts u n x b e now landed p t number kinds.Durable y i)
   where
     after : Node
     after = record x { book = Some (step b e now landed).book; journal = with_entry (plan b e now).entry landed x.journal }
@@ -174,61 +174,61 @@ none_joins count u n x b e now landed p w h y root (below t number i of) c =
     by_seat : IsOf u t root → HasSeat u t number kinds.Durable y ⊎ JoinsOpen n b (step b e now landed).book t → IsOf u y root
     by_seat before (inl k) = below t number k before
     by_seat before (inr k) =
-        absurd (open_apart count (counts u n x b e now landed) w h n after (step b e now landed).book (put_this u.nodes n x after p.found) refl b t root k of c)
+        absurd (open_apart hosts (counts u n x b e now landed) w h n after (step b e now landed).book (put_this u.nodes n x after p.found) refl b t root k of c)
 
 -- the posts of a step
-posts_unfold : (count : ℕ) (root : Who) (n : ℕ) (P : Post → Type 0) (ps : List Post) (w : World) → AllByRecursion P ps
-    → ((qs : List Post) → AllByRecursion P qs → WorldPremises count (post_all n qs w) × IsBound (post_all n qs w)) → Unfolds count root w → Unfolds count root (post_all n ps w)
-posts_unfold count root n P [] w these h m = m
-posts_unfold count root n P (p ∷ ps) w (this, these) h m =
-    posts_unfold count root n P ps (with_post n p w) these (λ qs l. h (p ∷ qs) (this, l))
+posts_unfold : (hosts : Hosts) (root : Who) (n : ℕ) (P : Post → Type 0) (ps : List Post) (w : World) → AllByRecursion P ps
+    → ((qs : List Post) → AllByRecursion P qs → WorldPremises hosts (post_all n qs w) × IsBound (post_all n qs w)) → Unfolds hosts root w → Unfolds hosts root (post_all n ps w)
+posts_unfold hosts root n P [] w these h m = m
+posts_unfold hosts root n P (p ∷ ps) w (this, these) h m =
+    posts_unfold hosts root n P ps (with_post n p w) these (λ qs l. h (p ∷ qs) (this, l))
     (goes w m
-    (machine_step count w (with_post n p w) root (grows_posts n (p ∷ []) w) (h (p ∷ []) (this, tt)).0 (h (p ∷ []) (this, tt)).1 (λ x k. inl k) (λ x i c. of_same w (with_post n p w) x root refl i)))
+    (machine_step hosts w (with_post n p w) root (grows_posts n (p ∷ []) w) (h (p ∷ []) (this, tt)).0 (h (p ∷ []) (this, tt)).1 (λ x k. inl k) (λ x i c. of_same w (with_post n p w) x root refl i)))
 
 -- the opening world
-opening_working : (count : ℕ) (x : Who) → status_of (opening count) x ≡ Status.Working
-opening_working count x = by_node (nth x.node (opening count).nodes) refl
+opening_working : (hosts : Hosts) (x : Who) → status_of (opening hosts) x ≡ Status.Working
+opening_working hosts x = by_node (nth x.node (opening hosts).nodes) refl
   where
-    none_voted : (o : Option Node) → nth x.node (opening count).nodes ≡ o → votes_in x.id o ≡ false
+    none_voted : (o : Option Node) → nth x.node (opening hosts).nodes ≡ o → votes_in x.id o ≡ false
     none_voted None e = refl
-    none_voted (Some y) e = ap (λ (z : Node). list_any (is_vote x.id) z.journal) (opening_node count x.node y e)
+    none_voted (Some y) e = ap (λ (z : Node). list_any (is_vote x.id) z.journal) (opening_node hosts x.node y e)
 
-    by_node : (o : Option Node) → nth x.node (opening count).nodes ≡ o → status_of (opening count) x ≡ Status.Working
+    by_node : (o : Option Node) → nth x.node (opening hosts).nodes ≡ o → status_of (opening hosts) x ≡ Status.Working
     by_node o e = ap (λ c. if c then Status.Prepared else Status.Working) (ap (votes_in x.id) e ∙ none_voted o e)
 
-premises_of : (count : ℕ) (w : World) → count < 2 ^ 64 → Reached count w → WorldPremises count w × IsBound w
-premises_of count w few reached = (world_premises layers count w few reached, bound count w few reached)
+premises_of : (hosts : Hosts) (w : World) → HaveOwnAddresses hosts → Reached hosts w → WorldPremises hosts w × IsBound w
+premises_of hosts w few reached = (world_premises layers hosts w few reached, bound hosts w few reached)
 
 -- every reached world
-pub unfolds : (count : ℕ) (w : World) (root : Who) → count < 2 ^ 64 → Reached count w → Unfolds count root w
-unfolds count w root few (opened is) = begins (λ x. ap (λ (v : World). status_of v x) is ∙ opening_working count x)
-unfolds count w root few (stepped u n x b e now landed ps reached found up heard those is) =
-    subst (Unfolds count root) (sym is)
-    (posts_unfold count root n (λ q. IsIn (outs.Post q) (step b e now landed).outs) ps (counts u n x b e now landed) those
-    (λ qs these. premises_of count (post_all n qs (counts u n x b e now landed)) few (stepped u n x b e now landed qs reached found up heard these refl))
-    (goes u (unfolds count u root few reached)
-    (machine_step count u (counts u n x b e now landed) root (grows_counts u n x b e now landed found) after.0 after.1
-    (votes_first count u n x b e now landed (step_premises layers count u n x b e few reached found up heard) (outcomes_are_backed.reached count u few reached))
-    (λ y i c. none_joins count u n x b e now landed (step_premises layers count u n x b e few reached found up heard) after.0 after.1 y root i c))))
+pub unfolds : (hosts : Hosts) (w : World) (root : Who) → HaveOwnAddresses hosts → Reached hosts w → Unfolds hosts root w
+unfolds hosts w root few (opened is) = begins (λ x. ap (λ (v : World). status_of v x) is ∙ opening_working hosts x)
+unfolds hosts w root few (stepped u n x b e now landed ps reached found up heard those is) =
+    subst (Unfolds hosts root) (sym is)
+    (posts_unfold hosts root n (λ q. IsIn (outs.Post q) (step b e now landed).outs) ps (counts u n x b e now landed) those
+    (λ qs these. premises_of hosts (post_all n qs (counts u n x b e now landed)) few (stepped u n x b e now landed qs reached found up heard these refl))
+    (goes u (unfolds hosts u root few reached)
+    (machine_step hosts u (counts u n x b e now landed) root (grows_counts u n x b e now landed found) after.0 after.1
+    (votes_first hosts u n x b e now landed (step_premises layers hosts u n x b e few reached found up heard) (outcomes_are_backed.reached hosts u few reached))
+    (λ y i c. none_joins hosts u n x b e now landed (step_premises layers hosts u n x b e few reached found up heard) after.0 after.1 y root i c))))
   where
-    after : WorldPremises count (counts u n x b e now landed) × IsBound (counts u n x b e now landed)
-    after = premises_of count (counts u n x b e now landed) few (stepped u n x b e now landed [] reached found up heard tt refl)
-unfolds count w root few (fell u n x b reached found up is) =
-    let k : WorldPremises count (goes_down n b u) × IsBound (goes_down n b u) = premises_of count (goes_down n b u) few (fell u n x b reached found up refl) in
-    subst (Unfolds count root) (sym is)
-    (goes u (unfolds count u root few reached)
-    (machine_step count u (goes_down n b u) root (grows_falls u n x b found) k.0 k.1 (λ y c. inl (commits_before u n x b found y c))
+    after : WorldPremises hosts (counts u n x b e now landed) × IsBound (counts u n x b e now landed)
+    after = premises_of hosts (counts u n x b e now landed) few (stepped u n x b e now landed [] reached found up heard tt refl)
+unfolds hosts w root few (fell u n x b reached found up is) =
+    let k : WorldPremises hosts (goes_down n b u) × IsBound (goes_down n b u) = premises_of hosts (goes_down n b u) few (fell u n x b reached found up refl) in
+    subst (Unfolds hosts root) (sym is)
+    (goes u (unfolds hosts u root few reached)
+    (machine_step hosts u (goes_down n b u) root (grows_falls u n x b found) k.0 k.1 (λ y c. inl (commits_before u n x b found y c))
     (λ y i c. of_same u (goes_down n b u) y root (ap (λ (v : World). v.accepted) (ap (put_book n None (record u { happened = u.happened ++ lost_in n b })) found)) i)))
-unfolds count w root few (rose u n x stop reached found down_now small is) =
+unfolds hosts w root few (rose u n x stop reached found down_now small is) =
     let v : World = record u { nodes = put_nth n (up_after (started (last_incarnation x.journal + 1) x) stop) u.nodes } in
-    let k : WorldPremises count v × IsBound v = premises_of count v few (rose u n x stop reached found down_now small refl) in
-    subst (Unfolds count root) (sym is)
-    (goes u (unfolds count u root few reached) (machine_step count u v root (grows_rises u n x stop found) k.0 k.1 (λ y c. inl c) (λ y i c. of_same u v y root refl i)))
-unfolds count w root few (waited u n x clock reached found is) =
+    let k : WorldPremises hosts v × IsBound v = premises_of hosts v few (rose u n x stop reached found down_now small refl) in
+    subst (Unfolds hosts root) (sym is)
+    (goes u (unfolds hosts u root few reached) (machine_step hosts u v root (grows_rises u n x stop found) k.0 k.1 (λ y c. inl c) (λ y i c. of_same u v y root refl i)))
+unfolds hosts w root few (waited u n x clock reached found is) =
     let v : World = record u { nodes = put_nth n (record x { clock = clock }) u.nodes } in
-    let k : WorldPremises count v × IsBound v = premises_of count v few (waited u n x clock reached found refl) in
-    subst (Unfolds count root) (sym is)
-    (goes u (unfolds count u root few reached) (machine_step count u v root (grows_waits u n x clock found) k.0 k.1 (λ y c. inl c) (λ y i c. of_same u v y root refl i)))
+    let k : WorldPremises hosts v × IsBound v = premises_of hosts v few (waited u n x clock reached found refl) in
+    subst (Unfolds hosts root) (sym is)
+    (goes u (unfolds hosts u root few reached) (machine_step hosts u v root (grows_waits u n x clock found) k.0 k.1 (λ y c. inl c) (λ y i c. of_same u v y root refl i)))
 
 pub runs_commit_atomically : RunsCommitAtomically
-runs_commit_atomically = record { runs = λ count es root few. unfolds count (run_of count es) root few (run_reached count es); consistent = consistent }
+runs_commit_atomically = record { runs = λ hosts es root few. unfolds hosts (run_of hosts es) root few (run_reached hosts es); consistent = consistent }

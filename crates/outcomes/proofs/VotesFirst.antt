@@ -16,7 +16,7 @@ use Rattle.at_model.specs.Leaves.{leaf_ended}
 use Rattle.at_model.specs.Moves.{Change}
 use Rattle.at_model.specs.Seats.{ending, ending_of}
 use Rattle.at_model.specs.Step.{Outcome, moment_of, plan, step}
-use Rattle.at_model.specs.World.{Happened, Node, Who, World, goes_down, happened_at, lost_in, nth, put_book}
+use Rattle.at_model.specs.World.{Happened, Node, Who, World, goes_down, happened_at, lost_in, nth, put_book, Hosts}
 use Rattle.model_laws.specs.Agreement.{IsIn}
 use Rattle.model_laws.specs.Reached.{counts}
 use Rattle.agreement.specs.ActivityDeeds.{ActivityDeed, idles as goes_on, tells}
@@ -72,29 +72,29 @@ commits_by How.Commits t id f stood i h = record {
 }
 commits_by other t id f stood i h = absurd i
 
-transaction_voted : (count : ℕ) (u : World) (n : ℕ) (x : Node) (b : Book) (e : Event) → StepPremises count u n x b e → IsOutcome count u → (t : Transaction) (how : How) → IsHeard how e t
+transaction_voted : (hosts : Hosts) (u : World) (n : ℕ) (x : Node) (b : Book) (e : Event) → StepPremises hosts u n x b e → IsOutcome hosts u → (t : Transaction) (how : How) → IsHeard how e t
     → how ≡ How.Commits → HasVoted u (record { node = n; id = t.id })
-transaction_voted count u n x b e p j t how heard is = voted (subst (λ h. IsHeard h e t) is heard)
+transaction_voted hosts u n x b e p j t how heard is = voted (subst (λ h. IsHeard h e t) is heard)
   where
     voted : IsHeard How.Commits e t → HasVoted u (record { node = n; id = t.id })
-    voted said = (commit_came count u n x b e p j said.message said.came t.id kinds.Durable said.target said.says refl).0
+    voted said = (commit_came hosts u n x b e p j said.message said.came t.id kinds.Durable said.target said.says refl).0
 
 -- a leaf commits on its coordinator's
-leaf_voted : (count : ℕ) (u : World) (n : ℕ) (x : Node) (b : Book) (e : Event) → StepPremises count u n x b e → IsOutcome count u → (m : Moment) (l : Leaf) (entry : Option Record) (c : Change Leaf)
+leaf_voted : (hosts : Hosts) (u : World) (n : ℕ) (x : Node) (b : Book) (e : Event) → StepPremises hosts u n x b e → IsOutcome hosts u → (m : Moment) (l : Leaf) (entry : Option Record) (c : Change Leaf)
     → LeafDeed m e l entry c → (id : Numbers) (f : Effect) → IsIn f c.effects → IsCommitBelow id f → HasVoted u (record { node = n; id = id })
-leaf_voted count u n x b e p j m l entry c (idles left is none on none_happened) id f i h = absurd (none_in f c.effects [] none_happened refl i)
-leaf_voted count u n x b e p j m l entry c (aborts state why none gone happened) id f i h =
+leaf_voted hosts u n x b e p j m l entry c (idles left is none on none_happened) id f i h = absurd (none_in f c.effects [] none_happened refl i)
+leaf_voted hosts u n x b e p j m l entry c (aborts state why none gone happened) id f i h =
     let k : endings.Aborted ≡ endings.Committed =
     (leaf_end_is l id endings.Aborted endings.Committed (subst (IsEnd id endings.Committed) (only_one f (leaf_ended l endings.Aborted) (subst (IsIn f) happened i)) (as_end id f h))).0 in
     absurd cc
-leaf_voted count u n x b e p j m l entry c (prepares to came state vote known is on none_happened posted) id f i h = absurd (none_in f c.effects [] none_happened refl i)
-leaf_voted count u n x b e p j m l entry c (leaves to came state vote known none gone none_happened posted) id f i h = absurd (none_in f c.effects [] none_happened refl i)
-leaf_voted count u n x b e p j m l entry c (dropped came kind none gone none_happened posted) id f i h = absurd (none_in f c.effects [] none_happened refl i)
-leaf_voted count u n x b e p j m l entry c (commits to came state known is gone happened posted) id f i h =
+leaf_voted hosts u n x b e p j m l entry c (prepares to came state vote known is on none_happened posted) id f i h = absurd (none_in f c.effects [] none_happened refl i)
+leaf_voted hosts u n x b e p j m l entry c (leaves to came state vote known none gone none_happened posted) id f i h = absurd (none_in f c.effects [] none_happened refl i)
+leaf_voted hosts u n x b e p j m l entry c (dropped came kind none gone none_happened posted) id f i h = absurd (none_in f c.effects [] none_happened refl i)
+leaf_voted hosts u n x b e p j m l entry c (commits to came state known is gone happened posted) id f i h =
     let (same, own, durable) =
     leaf_end_is l id endings.Committed endings.Committed (subst (IsEnd id endings.Committed) (only_one f (leaf_ended l endings.Committed) (subst (IsIn f) happened i)) (as_end id f h)) in
-    subst (λ k. HasVoted u (record { node = n; id = k })) own (commit_came count u n x b e p j came.arrived came.event l.id l.kind came.target came.message durable).0
-leaf_voted count u n x b e p j m l entry c (rolls_back to came state known is gone happened posted) id f i h =
+    subst (λ k. HasVoted u (record { node = n; id = k })) own (commit_came hosts u n x b e p j came.arrived came.event l.id l.kind came.target came.message durable).0
+leaf_voted hosts u n x b e p j m l entry c (rolls_back to came state known is gone happened posted) id f i h =
     let k : endings.Aborted ≡ endings.Committed =
     (leaf_end_is l id endings.Aborted endings.Committed (subst (IsEnd id endings.Committed) (only_one f (leaf_ended l endings.Aborted) (subst (IsIn f) happened i)) (as_end id f h))).0 in
     absurd cc
@@ -108,19 +108,19 @@ activity_apart m e a entry c (goes_on left is none on none_happened) id f i h = 
 activity_apart m e a entry c (tells told why none gone happened posted) id f i h =
     told_apart id a.id told (subst (IsCommitBelow id) (only_one f (effects.Told a.id told) (subst (IsIn f) happened i)) h)
 
-commit_now : (count : ℕ) (u : World) (n : ℕ) (x : Node) (b : Book) (e : Event) (now : ℕ) (entry : Option Record) (o : Outcome) → StepPremises count u n x b e → IsOutcome count u → Moved b e now entry o
+commit_now : (hosts : Hosts) (u : World) (n : ℕ) (x : Node) (b : Book) (e : Event) (now : ℕ) (entry : Option Record) (o : Outcome) → StepPremises hosts u n x b e → IsOutcome hosts u → Moved b e now entry o
     → (id : Numbers) (f : Effect) → IsIn f o.effects → IsCommitBelow id f → HasVoted u (record { node = n; id = id })
-commit_now count u n x b e now entry o p j (transaction_did d) id f i h =
+commit_now hosts u n x b e now entry o p j (transaction_did d) id f i h =
     let k : CommitsBy d.deed.how d.old id = commits_by d.deed.how d.old id f d.deed.stood (subst (IsIn f) (d.effects_are ∙ d.deed.happened) i) h in
-    subst (λ l. HasVoted u (record { node = n; id = l })) k.own (transaction_voted count u n x b e p j d.old d.deed.how d.deed.heard k.by)
-commit_now count u n x b e now entry o p j (leaf_did d) id f i h = leaf_voted count u n x b e p j (moment_of b now) d.old entry d.change d.deed id f (subst (IsIn f) d.effects_are i) h
-commit_now count u n x b e now entry o p j (activity_did d) id f i h = absurd (activity_apart (moment_of b now) e d.old entry d.change d.deed id f (subst (IsIn f) d.effects_are i) h)
-commit_now count u n x b e now entry o p j (registered d) id f i h = absurd (none_in f o.effects [] (ap (λ (q : Outcome). q.effects) d.is) refl i)
-commit_now count u n x b e now entry o p j (transaction_made d) id f i h = absurd (none_in f o.effects [] (ap (λ (q : Outcome). q.effects) d.is) refl i)
-commit_now count u n x b e now entry o p j (leaf_made d) id f i h = absurd (none_in f o.effects [] (ap (λ (q : Outcome). q.effects) d.is) refl i)
-commit_now count u n x b e now entry o p j (activity_made d) id f i h = absurd (none_in f o.effects [] (ap (λ (q : Outcome). q.effects) d.is) refl i)
-commit_now count u n x b e now entry o p j (answered d) id f i h = absurd (none_in f o.effects [] (ap (λ (q : Outcome). q.effects) d.is) refl i)
-commit_now count u n x b e now entry o p j (rested d) id f i h = absurd (none_in f o.effects [] d.effects_are refl i)
+    subst (λ l. HasVoted u (record { node = n; id = l })) k.own (transaction_voted hosts u n x b e p j d.old d.deed.how d.deed.heard k.by)
+commit_now hosts u n x b e now entry o p j (leaf_did d) id f i h = leaf_voted hosts u n x b e p j (moment_of b now) d.old entry d.change d.deed id f (subst (IsIn f) d.effects_are i) h
+commit_now hosts u n x b e now entry o p j (activity_did d) id f i h = absurd (activity_apart (moment_of b now) e d.old entry d.change d.deed id f (subst (IsIn f) d.effects_are i) h)
+commit_now hosts u n x b e now entry o p j (registered d) id f i h = absurd (none_in f o.effects [] (ap (λ (q : Outcome). q.effects) d.is) refl i)
+commit_now hosts u n x b e now entry o p j (transaction_made d) id f i h = absurd (none_in f o.effects [] (ap (λ (q : Outcome). q.effects) d.is) refl i)
+commit_now hosts u n x b e now entry o p j (leaf_made d) id f i h = absurd (none_in f o.effects [] (ap (λ (q : Outcome). q.effects) d.is) refl i)
+commit_now hosts u n x b e now entry o p j (activity_made d) id f i h = absurd (none_in f o.effects [] (ap (λ (q : Outcome). q.effects) d.is) refl i)
+commit_now hosts u n x b e now entry o p j (answered d) id f i h = absurd (none_in f o.effects [] (ap (λ (q : Outcome). q.effects) d.is) refl i)
+commit_now hosts u n x b e now entry o p j (rested d) id f i h = absurd (none_in f o.effects [] d.effects_are refl i)
 
 at_here : (n : ℕ) (y : Who) → y.node ≡ n → ◌≡◌ {A = Who} (record { node = n; id = y.id }) y
 at_here n y e = λ i. record { node = sym e i; id = y.id }
@@ -163,14 +163,14 @@ commits_before u n x b found y h = by_effect h
     by_effect (inr i) = inr (old (effects.Leaf y.id kinds.Durable endings.Committed) (inr refl) i)
 
 -- so behind a step
-pub votes_first : (count : ℕ) (u : World) (n : ℕ) (x : Node) (b : Book) (e : Event) (now : ℕ) (landed : Bool) → StepPremises count u n x b e → IsOutcome count u → (y : Who)
+pub votes_first : (hosts : Hosts) (u : World) (n : ℕ) (x : Node) (b : Book) (e : Event) (now : ℕ) (landed : Bool) → StepPremises hosts u n x b e → IsOutcome hosts u → (y : Who)
     → CommittedBelow (counts u n x b e now landed) y → CommittedBelow u y ⊎ HasVoted u y
-votes_first count u n x b e now landed p j y h = by_effect h
+votes_first hosts u n x b e now landed p j y h = by_effect h
   where
     now_voted : (f : Effect) → IsCommitBelow y.id f → (y.node ≡ n) × IsIn f (step b e now landed).effects → HasVoted u y
     now_voted f k (here, i) =
         subst (HasVoted u) (at_here n y here)
-        (commit_now count u n x b e now (standing landed (plan b e now).entry) (step b e now landed) p j (p.world.moves.moved b e now landed p.ready) y.id f i k)
+        (commit_now hosts u n x b e now (standing landed (plan b e now).entry) (step b e now landed) p j (p.world.moves.moved b e now landed p.ready) y.id f i k)
 
     lift : (f : Effect) → IsCommitBelow y.id f → (IsIn (happened_at y.node f) u.happened → CommittedBelow u y)
         → IsIn (happened_at y.node f) u.happened ⊎ ((y.node ≡ n) × IsIn f (step b e now landed).effects) → CommittedBelow u y ⊎ HasVoted u y

@@ -7,7 +7,7 @@ use Rattle.at_base.specs.declared.record.Record.TheVariants as records
 use Rattle.at_base.specs.declared.record.Seated.{Seated}
 use Rattle.at_base.specs.declared.outs.Ending.TheVariants as endings
 use Rattle.at_base.specs.declared.outs.Effect.TheVariants as effects
-use Rattle.at_model.specs.World.{Who, World, happened_at}
+use Rattle.at_model.specs.World.{Hosts, Who, World, happened_at}
 use Rattle.model_laws.specs.Agreement.{HasAborted, HasCommitted, HasOneSuperior, HasPosted, IsAccepted, IsAnswered, IsIn, Stands}
 use Rattle.agreement.specs.Sorts.{AreSorted}
 use Rattle.votes.specs.Voting.{HasVoted}
@@ -28,7 +28,9 @@ IsUnderOne w P x = (t : Who) × IsUnder w t x × P t
 pub record IsBound (w : World) : Type 0 where
   -- nothing both commits and aborts
   pub one : (x : Who) → HasCommitted w x → HasAborted w x → ⊥
-  pub sorted : AreSorted w
+  -- the hosts whose world it is, and the sorts of their items
+  pub hosts : Hosts
+  pub sorted : AreSorted hosts w
   pub superior : HasOneSuperior w
   -- a participant commits only under one that has committed
   pub told : (x : Who) → CommittedBelow w x → IsUnderOne w (HasCommitted w) x

@@ -2,13 +2,13 @@
 use Rattle.std.specs.Prelude.{List, [], ◌∷◌, ◌++◌, ◌≡◌}
 use Rattle.at_base.specs.declared.notice.Vote.TheVariants as votes
 use Rattle.at_model.specs.Views.{commit_at, deliver_to}
-use Rattle.at_model.specs.World.{WorldEvent, run_of}
+use Rattle.at_model.specs.World.{WorldEvent, run_of, example_hosts}
 use Rattle.model_laws.specs.Examples.{first, one_aborts, one_participant, plain_path, read_only}
 use Rattle.outcomes.specs.AtomicCommit.{Status}
 use Rattle.outcomes.specs.Statuses.{status_of}
 
 abbrev pub seen_in : List WorldEvent → List Status
-seen_in es = status_of (run_of 3 es) (record { node = 2; id = first }) ∷ status_of (run_of 3 es) (record { node = 3; id = first }) ∷ []
+seen_in es = status_of (run_of (example_hosts 3) es) (record { node = 2; id = first }) ∷ status_of (run_of (example_hosts 3) es) (record { node = 3; id = first }) ∷ []
 
 pub record StatusesAreSeen : Type 0 where
   pub registered : seen_in (one_participant votes.Prepared) ≡ Status.Working ∷ Status.Working ∷ []

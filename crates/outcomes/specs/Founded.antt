@@ -16,7 +16,7 @@ use Rattle.at_base.specs.declared.outs.Told.TheVariants as tellings
 use Rattle.at_base.specs.declared.record.Record.TheVariants as records
 use Rattle.at_base.specs.declared.record.Seated.{Seated}
 use Rattle.at_base.specs.declared.target.Target.TheVariants as targets
-use Rattle.at_model.specs.World.{World}
+use Rattle.at_model.specs.World.{World, Hosts, HaveOwnAddresses}
 use Rattle.model_laws.specs.Agreement.{IsOutcomeOf, Stands}
 use Rattle.model_laws.specs.Reached.{Reached}
 use Rattle.enlistments.specs.Leads.{LeadsTo}
@@ -38,14 +38,14 @@ abbrev pub AreFounded : World → Type 0
 AreFounded w = AllByRecursion (λ h. IsFounded w h.node h.what) w.happened
 
 -- A Committed or an Aborted that goes to an initiator says what the root did that accepted it.
-abbrev pub SaysOutcome : ℕ → World → Notice → Ending → Post → Type 0
-SaysOutcome count w n what p =
-    (to : Epr) (m : ℕ) (i : Numbers) → p.message ≡ messages.Notice n → p.to ≡ Some to → LeadsTo count to m (targets.Initiator i) → IsOutcomeOf w (record { node = m; id = i }) what
+abbrev pub SaysOutcome : Hosts → World → Notice → Ending → Post → Type 0
+SaysOutcome hosts w n what p =
+    (to : Epr) (m : ℕ) (i : Numbers) → p.message ≡ messages.Notice n → p.to ≡ Some to → LeadsTo hosts to m (targets.Initiator i) → IsOutcomeOf w (record { node = m; id = i }) what
 
-abbrev pub SaysWhatRootDid : ℕ → World → Post → Type 0
-SaysWhatRootDid count w p = SaysOutcome count w notices.Committed endings.Committed p × SaysOutcome count w notices.Aborted endings.Aborted p
+abbrev pub SaysWhatRootDid : Hosts → World → Post → Type 0
+SaysWhatRootDid hosts w p = SaysOutcome hosts w notices.Committed endings.Committed p × SaysOutcome hosts w notices.Aborted endings.Aborted p
 
 -- So it is in every world that is reached.
 pub record OutcomesAreFounded : Type 0 where
-  pub told : (count : ℕ) (w : World) → count < 2 ^ 64 → Reached count w → AllByRecursion (λ p. SaysWhatRootDid count w p.content) w.posted
-  pub founded : (count : ℕ) (w : World) → count < 2 ^ 64 → Reached count w → AreFounded w
+  pub told : (hosts : Hosts) (w : World) → HaveOwnAddresses hosts → Reached hosts w → AllByRecursion (λ p. SaysWhatRootDid hosts w p.content) w.posted
+  pub founded : (hosts : Hosts) (w : World) → HaveOwnAddresses hosts → Reached hosts w → AreFounded w

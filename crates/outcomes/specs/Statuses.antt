@@ -14,7 +14,7 @@ use Rattle.at_base.specs.declared.target.Target.{Target}
 use Rattle.at_base.specs.declared.target.Target.TheVariants as targets
 use Rattle.at_tables.specs.Names.{is_notice}
 use Rattle.at_model.specs.Book.{is_id}
-use Rattle.at_model.specs.World.{Node, Who, World, WorldEvent, nth, run_of}
+use Rattle.at_model.specs.World.{Node, Who, World, WorldEvent, nth, run_of, Hosts, HaveOwnAddresses}
 use Rattle.model_laws.specs.Agreement.{IsOf}
 use Rattle.votes.specs.Voting.{is_vote}
 use Rattle.outcomes.specs.AtomicCommit.{Status, Step}
@@ -61,13 +61,13 @@ status_of w x =
     else Status.Working
 
 -- A run of the machine, along the worlds of a run of the model: its members are those of the root.
-pub data Unfolds (count : ℕ) (root : Who) : World → Type 0 where
-  begins : {w : World} → ((x : Who) → status_of w x ≡ Status.Working) → Unfolds count root w
-  goes : {w : World} (u : World) → Unfolds count root u → Step root (λ x. IsOf u x root) (λ x. IsOf w x root) (status_of u) (status_of w) → Unfolds count root w
+pub data Unfolds (hosts : Hosts) (root : Who) : World → Type 0 where
+  begins : {w : World} → ((x : Who) → status_of w x ≡ Status.Working) → Unfolds hosts root w
+  goes : {w : World} (u : World) → Unfolds hosts root u → Step root (λ x. IsOf u x root) (λ x. IsOf w x root) (status_of u) (status_of w) → Unfolds hosts root w
 
 pub record RunsCommitAtomically : Type 0 where
   -- each run is one of the machine, for each root
-  pub runs : (count : ℕ) (es : List WorldEvent) (root : Who) → count < 2 ^ 64 → Unfolds count root (run_of count es)
+  pub runs : (hosts : Hosts) (es : List WorldEvent) (root : Who) → HaveOwnAddresses hosts → Unfolds hosts root (run_of hosts es)
   -- and wherever the machine goes, none that committed is beside one that aborted
-  pub consistent : (count : ℕ) (root : Who) (w : World) → Unfolds count root w → (x y : Who) → IsOf w x root → IsOf w y root → status_of w x ≡ Status.Committed
+  pub consistent : (hosts : Hosts) (root : Who) (w : World) → Unfolds hosts root w → (x y : Who) → IsOf w x root → IsOf w y root → status_of w x ≡ Status.Committed
       → status_of w y ≡ Status.Aborted → ⊥

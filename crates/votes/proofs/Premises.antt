@@ -26,7 +26,7 @@ pub record WorldLaws (hosts : Hosts) (u : World) : Type 0 where
   pub reached : Reached hosts u
   pub bases : HaveBases u.nodes (new_nodes hosts.base_of hosts.count 1)
   pub lives : (m : ℕ) (y : Node) → nth m u.nodes ≡ Some y → (id : Numbers) → Life y.journal (happened_on m u.happened) id (transaction_at (book_of y) id) (leaf_at (book_of y) id)
-  pub sorted : AreSorted u
+  pub sorted : AreSorted hosts u
   pub seated : IsSeated u
   pub one : HasOneSuperior u
 
@@ -48,15 +48,15 @@ pub record StepPremises (hosts : Hosts) (u : World) (n : ℕ) (x : Node) (b : Bo
   pub ready : IsReady b
 
 -- P holds behind each step and each fall
-abbrev pub StepKeeps : (ℕ → World → Type 0) → Type 0
+abbrev pub StepKeeps : (Hosts → World → Type 0) → Type 0
 StepKeeps P =
     (hosts : Hosts) (u : World) (n : ℕ) (x : Node) (b : Book) (e : Event) (now : ℕ) (landed : Bool) → StepPremises hosts u n x b e → IsOutcome hosts u → P hosts (counts u n x b e now landed)
 
-abbrev pub FallKeeps : (ℕ → World → Type 0) → Type 0
+abbrev pub FallKeeps : (Hosts → World → Type 0) → Type 0
 FallKeeps P = (hosts : Hosts) (u : World) (n : ℕ) (x : Node) (b : Book) → WorldPremises hosts u → nth n u.nodes ≡ Some x → x.book ≡ Some b → IsOutcome hosts u → P hosts (goes_down n b u)
 
 -- what each post of a step satisfies, in the world behind it
-abbrev pub StepSends : (ℕ → World → Post → Type 0) → Type 0
+abbrev pub StepSends : (Hosts → World → Post → Type 0) → Type 0
 StepSends Fine =
     (hosts : Hosts) (u : World) (n : ℕ) (x : Node) (b : Book) (e : Event) (now : ℕ) (landed : Bool) → StepPremises hosts u n x b e → IsOutcome hosts u
     → AllByRecursion (OutFine (Fine hosts (counts u n x b e now landed))) (step b e now landed).outs
