@@ -256,7 +256,7 @@ as_long [] (y ∷ ys) h = absurd h
 as_long (x ∷ xs) [] h = absurd h
 as_long (x ∷ xs) (y ∷ ys) (e, h) = ap suc (as_long xs ys h)
 
-new_length : (base_of : ℕ → List ℕ) (k m : ℕ) → length (new_nodes base_of k m) ≡ k
+pub new_length : (base_of : ℕ → List ℕ) (k m : ℕ) → length (new_nodes base_of k m) ≡ k
 new_length base_of zero m = refl
 new_length base_of (suc k) m = ap suc (new_length base_of k (m + 1))
 

@@ -50,7 +50,7 @@ use Rattle.enlistments.specs.Moves.{Registered}
 use Rattle.enlistments.specs.Telling.{IsReply, Responds, names_completion, names_seat}
 use Rattle.enlistments.proofs.Answering.{steps_tell}
 use Rattle.enlistments.proofs.Answers.{held_after, keeps_id}
-use Rattle.enlistments.proofs.Arriving.{HasCome, Stepping, has_come, step_ready, up_known, world_bases}
+use Rattle.enlistments.proofs.Arriving.{HasCome, Stepping, has_come, step_ready, up_known, world_bases, node_number}
 use Rattle.enlistments.proofs.Fresh.{IsFresh, leaf_fresh, made_fresh}
 use Rattle.enlistments.proofs.Lasting.{Held, placed, seat_placed}
 use Rattle.enlistments.proofs.Nodes.{NodesLaw, books_have}
@@ -60,37 +60,8 @@ use Rattle.enlistments.proofs.Registers.{IsRegisterOf, for_completion, for_kind,
 use Rattle.paired.specs.Paired.{IsParticipant, IsSeat, IsSeatIfKnown}
 
 -- nodes are numbered from 1
-none_at : (xs : List Node) (x : Node) → nth 0 xs ≡ Some x → ⊥
-none_at [] x e = cc
-none_at (y ∷ xs) x e = none_at xs x e
-
-in_range : (n : ℕ) (xs : List Node) (x : Node) → nth n xs ≡ Some x → n ≤ length xs
-in_range n [] x e = absurd cc
-in_range n (y ∷ xs) x e = by_number (λ f. in_range (n - 1) xs x f) (nat_eq n 1) refl e
-  where
-    by_number : (nth (n - 1) xs ≡ Some x → n - 1 ≤ length xs) → (c : Bool) → nat_eq n 1 ≡ c → (if c then Some y else nth (n - 1) xs) ≡ Some x → n ≤ length (y ∷ xs)
-    by_number rest true c e = omega (arith, eqb-true n 1 c)
-    by_number rest false c e = omega (arith, rest e)
-
-as_long : (xs ys : List Node) → HaveBases xs ys → length xs ≡ length ys
-as_long [] [] h = refl
-as_long [] (y ∷ ys) h = absurd h
-as_long (x ∷ xs) [] h = absurd h
-as_long (x ∷ xs) (y ∷ ys) (e, h) = omega (arith, as_long xs ys h)
-
-new_length : (k m : ℕ) → length (new_nodes k m) ≡ k
-new_length zero m = refl
-new_length (suc k) m = omega (arith, new_length k (m + 1))
-
 pub node_range : (hosts : Hosts) (w : World) → HaveOwnAddresses hosts → Reached hosts w → (n : ℕ) (x : Node) → nth n w.nodes ≡ Some x → (1 ≤ n) × (n ≤ hosts.count)
-node_range hosts w small reached n x found = (
-  by_number (nat_eq n 0) refl,
-  omega (arith, in_range n w.nodes x found, as_long w.nodes (new_nodes hosts.base_of hosts.count 1) (world_bases hosts w small reached), new_length hosts 1),
-)
-  where
-    by_number : (c : Bool) → nat_eq n 0 ≡ c → 1 ≤ n
-    by_number true c = absurd (none_at w.nodes x (subst (λ k. nth k w.nodes ≡ Some x) (eqb-true n 0 c) found))
-    by_number false c = let other : n ≡ 0 → ⊥ = eqb-false n 0 c in omega (arith, other)
+node_range hosts w apart reached n x found = node_number hosts n w x apart reached found
 
 -- seats
 

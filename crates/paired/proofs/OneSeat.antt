@@ -50,9 +50,9 @@ abbrev pub HasOneSeat : World → Type 0
 HasOneSeat w = (t x : Who) (kind : Kind) (k j : ℕ) → HasSeat w t k kind x → HasSeat w t j kind x → k ≡ j
 
 -- whom a participant's endpoint leads to
-pub home_is : (hosts : Hosts) (kind : Kind) (e : Epr) (x : Who) → HaveOwnAddresses hosts → IsParticipant hosts kind e → who_named hosts e ≡ Some x → e ≡ participant_of x kind
+pub home_is : (hosts : Hosts) (kind : Kind) (e : Epr) (x : Who) → HaveOwnAddresses hosts → IsParticipant hosts kind e → who_named hosts e ≡ Some x → e ≡ participant_of hosts x kind
 home_is hosts kind e x small h named =
-    h.is ∙ ap (λ y. participant_of y kind) (same h.who x (sym leads ∙ named))
+    h.is ∙ ap (λ y. participant_of hosts y kind) (same h.who x (sym leads ∙ named))
   where
     leads : who_named hosts e ≡ Some h.who
     leads =
@@ -231,7 +231,7 @@ record IsTaken (hosts : Hosts) (n : ℕ) (b : Book) (t : Who) (number : ℕ) (ki
   node : t.node ≡ n
   least : number ≡ length old.seats + 1
   undecided : may_expire old.phase ≡ true
-  apart : AreApart kind (participant_of x kind) old.seats
+  apart : AreApart kind (participant_of hosts x kind) old.seats
 
 same_seat : (p q : Seat) → Some p ≡ Some q → p ≡ q
 same_seat p q e = cc
@@ -248,7 +248,7 @@ taken_by hosts n b old by t x number kind small found who (inr h) i =
         let seat : record { number = number; kind = kind } ≡ record { number = length old.seats + 1; kind = h.kind } =
         same_seat (record { number = number; kind = kind }) (record { number = length old.seats + 1; kind = h.kind }) (ap (λ (a : Accepted). a.seat) e) in
         let k : h.kind ≡ kind = sym (ap (λ (z : Seat). z.kind) seat) in
-        let is : h.participant ≡ participant_of x kind =
+        let is : h.participant ≡ participant_of hosts x kind =
         home_is hosts kind h.participant x small (subst (λ d. IsParticipant hosts d h.participant) k h.home) (sym (ap (λ (a : Accepted). a.participant) e)) in
         record {
           old = old;
@@ -256,7 +256,7 @@ taken_by hosts n b old by t x number kind small found who (inr h) i =
           node = ap (λ (y : Who). y.node) who;
           least = ap (λ (z : Seat). z.number) seat;
           undecided = h.undecided;
-          apart = subst (λ d. AreApart d (participant_of x kind) old.seats) k (subst (λ p. AreApart h.kind p old.seats) is h.apart);
+          apart = subst (λ d. AreApart d (participant_of hosts x kind) old.seats) k (subst (λ p. AreApart h.kind p old.seats) is h.apart);
         }
 
 is_taken : (hosts : Hosts) (u : World) (n : ℕ) (y : Node) (b : Book) (e : Event) (now : ℕ) (landed : Bool) (t x : Who) (number : ℕ) (kind : Kind) → Stepping hosts u n y b e now landed
@@ -282,7 +282,7 @@ is_taken hosts u n y b e now landed t x number kind s i = by_old (transaction_at
 none_before : (hosts : Hosts) (u : World) (n : ℕ) (y : Node) (b : Book) (t x : Who) (number other : ℕ) (kind : Kind) → HaveOwnAddresses hosts → Reached hosts u → nth n u.nodes ≡ Some y → y.book ≡ Some b
     → IsTaken hosts n b t number kind x → HasSeat u t other kind x → ⊥
 none_before hosts u n y b t x number other kind small reached found up k i =
-    one_of (λ (s : Enlistment). s.kind ≡ kind → s.participant ≡ participant_of x kind → ⊥) k.old.seats r.seat k.apart r.among r.kind_is
+    one_of (λ (s : Enlistment). s.kind ≡ kind → s.participant ≡ participant_of hosts x kind → ⊥) k.old.seats r.seat k.apart r.among r.kind_is
     (home_is hosts kind r.seat.participant x small
     (subst (λ d. IsParticipant hosts d r.seat.participant) r.kind_is
     (one_of (λ (s : Enlistment). IsParticipant hosts s.kind s.participant) k.old.seats r.seat

@@ -45,7 +45,7 @@ seat_home hosts w small reached n x b t s found up i j =
     one_of (λ (q : Enlistment). IsParticipant hosts q.kind q.participant) t.seats s (one_of (TransactionHome hosts) b.transactions t (transactions_home hosts w small reached n x b found up) i).0 j
 
 seat_is : (hosts : Hosts) (w : World) → HaveOwnAddresses hosts → Reached hosts w → (n : ℕ) (x : Node) (b : Book) (t : Transaction) (s : Enlistment) (y : Who) → nth n w.nodes ≡ Some x → x.book ≡ Some b
-    → IsIn t b.transactions → IsIn s t.seats → HasSeat w (record { node = n; id = t.id }) s.number s.kind y → s.participant ≡ participant_of y s.kind
+    → IsIn t b.transactions → IsIn s t.seats → HasSeat w (record { node = n; id = t.id }) s.number s.kind y → s.participant ≡ participant_of hosts y s.kind
 seat_is hosts w small reached n x b t s y found up i j h =
     let same : accepted_seat n w.nodes t.id s ≡ registration (record { node = n; id = t.id }) s.number s.kind y =
     (world_laws hosts w small reached).seated.one_each (accepted_seat n w.nodes t.id s) (registration (record { node = n; id = t.id }) s.number s.kind y) (record { number = s.number; kind = s.kind })
@@ -54,7 +54,7 @@ seat_is hosts w small reached n x b t s y found up i j h =
     (sym (who_same w.nodes (new_nodes hosts.base_of hosts.count 1) s.participant (world_bases hosts w small reached)) ∙ ap (λ (a : Accepted). a.participant) same)
 
 seat_has : (hosts : Hosts) (w : World) → HaveOwnAddresses hosts → Reached hosts w → (n : ℕ) (x : Node) (b : Book) (t : Transaction) (s : Enlistment) (y : Who) → nth n w.nodes ≡ Some x → x.book ≡ Some b
-    → IsIn t b.transactions → IsIn s t.seats → IsPlace hosts y → s.participant ≡ participant_of y s.kind → HasSeat w (record { node = n; id = t.id }) s.number s.kind y
+    → IsIn t b.transactions → IsIn s t.seats → IsPlace hosts y → s.participant ≡ participant_of hosts y s.kind → HasSeat w (record { node = n; id = t.id }) s.number s.kind y
 seat_has hosts w small reached n x b t s y found up i j place is =
     let named : who_of w.nodes s.participant ≡ Some y =
     who_same w.nodes (new_nodes hosts.base_of hosts.count 1) s.participant (world_bases hosts w small reached) ∙ ap (who_named hosts) is
@@ -80,13 +80,13 @@ known_has hosts w small c x kind h k =
     (subst (λ m. HasSeat w (record { node = h.transaction.node; id = id }) m kind x) (sym at) accepted)
 
 known_is : (hosts : Hosts) (w : World) → HaveOwnAddresses hosts → Reached hosts w → (c : Epr) (t x : Who) (number : ℕ) (kind : Kind) → IsSeat hosts kind c → Enlists hosts w c x kind → HasSeat w t number kind x
-    → c ≡ seat_of t number kind
+    → c ≡ seat_of hosts t number kind
 known_is hosts w small reached c t x number kind h k i =
     let j : HasSeat w h.transaction h.number kind x = known_has hosts w small c x kind h k in
     let who : h.transaction ≡ t = (world_laws hosts w small reached).one x h.transaction t _ _ j i in
     h.is
-    ∙ (λ r. seat_of (who r) h.number kind)
-    ∙ ap (λ m. seat_of t m kind) (one_seat hosts w small reached t x kind h.number number (subst (λ y. HasSeat w y h.number kind x) who j) i)
+    ∙ (λ r. seat_of hosts (who r) h.number kind)
+    ∙ ap (λ m. seat_of hosts t m kind) (one_seat hosts w small reached t x kind h.number number (subst (λ y. HasSeat w y h.number kind x) who j) i)
 
 pub paired : (hosts : Hosts) (w : World) → HaveOwnAddresses hosts → Reached hosts w → IsPaired hosts w
 paired hosts w small reached = record {

@@ -19,11 +19,11 @@ use Rattle.votes.specs.Answering.{HasSeat}
 use Rattle.votes.specs.Voting.{HasVoted}
 
 -- the endpoints that a node writes for a participant, and for a seat
-abbrev pub participant_of : Who → Kind → Epr
-participant_of x kind = endpoint_of (hosts.base_of x.node) (targets.Participant x.id kind)
+abbrev pub participant_of : Hosts → Who → Kind → Epr
+participant_of hosts x kind = endpoint_of (hosts.base_of x.node) (targets.Participant x.id kind)
 
-abbrev pub seat_of : Who → ℕ → Kind → Epr
-seat_of t number kind = endpoint_of (hosts.base_of t.node) (targets.Coordinator t.id (record { number = number; kind = kind }))
+abbrev pub seat_of : Hosts → Who → ℕ → Kind → Epr
+seat_of hosts t number kind = endpoint_of (hosts.base_of t.node) (targets.Coordinator t.id (record { number = number; kind = kind }))
 
 -- an item of a node of a world of so many nodes, whose id a path can name
 pub record IsPlace (hosts : Hosts) (x : Who) : Type 0 where
@@ -35,7 +35,7 @@ pub record IsPlace (hosts : Hosts) (x : Who) : Type 0 where
 pub record IsParticipant (hosts : Hosts) (kind : Kind) (e : Epr) : Type 0 where
   pub who : Who
   pub place : IsPlace hosts who
-  pub is : e ≡ participant_of who kind
+  pub is : e ≡ participant_of hosts who kind
 
 -- the endpoint is that of a seat of this kind
 pub record IsSeat (hosts : Hosts) (kind : Kind) (e : Epr) : Type 0 where
@@ -44,7 +44,7 @@ pub record IsSeat (hosts : Hosts) (kind : Kind) (e : Epr) : Type 0 where
   pub place : IsPlace hosts transaction
   pub least : 1 ≤ number
   pub most : number < 2 ^ 16
-  pub is : e ≡ seat_of transaction number kind
+  pub is : e ≡ seat_of hosts transaction number kind
 
 abbrev pub IsSeatIfKnown : Hosts → Kind → Option Epr → Type 0
 IsSeatIfKnown hosts kind None = Unit {0}
@@ -63,12 +63,12 @@ pub record IsPaired (hosts : Hosts) (w : World) : Type 0 where
   pub leaves : (n : ℕ) (x : Node) (b : Book) (l : Leaf) → nth n w.nodes ≡ Some x → x.book ≡ Some b → IsIn l b.leaves → IsSeatIfKnown hosts l.kind l.coordinator
   -- who sits at a seat is who was accepted there
   pub seat_is : (n : ℕ) (x : Node) (b : Book) (t : Transaction) (s : Enlistment) (y : Who) → nth n w.nodes ≡ Some x → x.book ≡ Some b → IsIn t b.transactions → IsIn s t.seats
-      → HasSeat w (record { node = n; id = t.id }) s.number s.kind y → s.participant ≡ participant_of y s.kind
+      → HasSeat w (record { node = n; id = t.id }) s.number s.kind y → s.participant ≡ participant_of hosts y s.kind
   pub seat_has : (n : ℕ) (x : Node) (b : Book) (t : Transaction) (s : Enlistment) (y : Who) → nth n w.nodes ≡ Some x → x.book ≡ Some b → IsIn t b.transactions → IsIn s t.seats → IsPlace hosts y
-      → s.participant ≡ participant_of y s.kind → HasSeat w (record { node = n; id = t.id }) s.number s.kind y
+      → s.participant ≡ participant_of hosts y s.kind → HasSeat w (record { node = n; id = t.id }) s.number s.kind y
   -- a coordinator that a participant knows is the seat at which it was accepted
   pub known_has : (c : Epr) (x : Who) (kind : Kind) (h : IsSeat hosts kind c) → Enlists hosts w c x kind → HasSeat w h.transaction h.number kind x
-  pub known_is : (c : Epr) (t x : Who) (number : ℕ) (kind : Kind) → IsSeat hosts kind c → Enlists hosts w c x kind → HasSeat w t number kind x → c ≡ seat_of t number kind
+  pub known_is : (c : Epr) (t x : Who) (number : ℕ) (kind : Kind) → IsSeat hosts kind c → Enlists hosts w c x kind → HasSeat w t number kind x → c ≡ seat_of hosts t number kind
 
 -- What records and outcomes say of the items of a book.
 pub record HaveVotes (w : World) (n : ℕ) (b : Book) : Type 0 where

@@ -68,12 +68,12 @@ linked_at hosts u v before after g id t s found under =
 
 -- a Commit that arrives is answered, or the participant commits
 commit_arrives : (hosts : Hosts) (u v : World) (before after : List Posted) → (g : Goes hosts u v before after) → (x z : Who) (number : ℕ) (a : Arrived) → x.node ≡ g.number
-    → g.event ≡ events.Arrived a → IsNoticeFrom (targets.Participant x.id kinds.Durable) notices.Commit (seat_of z number kinds.Durable) a → HasSeat u z number kinds.Durable x
-    → CommitsAt v x ⊎ Tells (Some (seat_of z number kinds.Durable)) notices.Committed (posted_in g)
+    → g.event ≡ events.Arrived a → IsNoticeFrom (targets.Participant x.id kinds.Durable) notices.Commit (seat_of hosts z number kinds.Durable) a → HasSeat u z number kinds.Durable x
+    → CommitsAt v x ⊎ Tells (Some (seat_of hosts z number kinds.Durable)) notices.Committed (posted_in g)
 commit_arrives hosts u v before after g x z number a here came ((target, says), from) seat = by_transaction (transaction_at g.book x.id) refl
   where
     e : Epr
-    e = seat_of z number kinds.Durable
+    e = seat_of hosts z number kinds.Durable
 
     holds : Holds u x.node g.book
     holds = subst (λ m. Holds u m g.book) (sym here) (holds_before hosts u v before after g)
@@ -117,7 +117,7 @@ commit_arrives hosts u v before after g x z number a here came ((target, says), 
         ((partners_are_paired.votes hosts u g.small g.reached x.node holds.node g.book holds.found holds.up).prepared l (leaf_own g.book x.id l found)
         (subst (λ i. HasVoted u (record { node = x.node; id = i })) (sym id_is) voted))
         (stored_is l.coordinator a.from e from
-        (λ c knows. leaf_knows hosts u g.small g.reached x.node g.book holds x.id l c z number found (subst (λ d. HasSeat u z number d x) (sym k) seat) knows ∙ ap (seat_of z number) k)))
+        (λ c knows. leaf_knows hosts u g.small g.reached x.node g.book holds x.id l c z number found (subst (λ d. HasSeat u z number d x) (sym k) seat) knows ∙ ap (seat_of hosts z number) k)))
     by_kind l none found false other =
         stranger (subst (λ o. NoParticipant kinds.Durable o (leaf_at g.book x.id)) (sym none)
         (subst (λ o. IfFound (λ (y : Leaf). is_kind y.kind kinds.Durable ≡ false) o) (sym found) other))
@@ -133,11 +133,11 @@ commit_arrives hosts u v before after g x z number a here came ((target, says), 
 
 -- a link that commits goes on, or says Committed
 committing_on : (hosts : Hosts) (u v : World) (before after : List Posted) → (g : Goes hosts u v before after) → (x z : Who) (number : ℕ) → HasSeat u z number kinds.Durable x → CommitsAt u x
-    → CommitsAt v x ⊎ Tells (Some (seat_of z number kinds.Durable)) notices.Committed (posted_in g)
+    → CommitsAt v x ⊎ Tells (Some (seat_of hosts z number kinds.Durable)) notices.Committed (posted_in g)
 committing_on hosts u v before after g x z number seat k = by_place (or_elsewhere x.node g.number)
   where
     e : Epr
-    e = seat_of z number kinds.Durable
+    e = seat_of hosts z number kinds.Durable
 
     here_commits : x.node ≡ g.number → (o : Transaction) → transaction_at g.book x.id ≡ Some o → (s : Option Superior) → o.superior ≡ s → CommitsIn s
         → CommitsAt v x ⊎ Tells (Some e) notices.Committed (posted_in g)
@@ -162,7 +162,7 @@ committing_on hosts u v before after g x z number seat k = by_place (or_elsewher
         inl (record { book = k.book; holds = holds_elsewhere hosts u v before after g x.node k.book other k.holds; transaction = k.transaction; found = k.found; commits = k.commits })
 
 commit_on : (hosts : Hosts) (u v : World) (before after : List Posted) → (g : Goes hosts u v before after) → (n : ℕ) (b : Book) (t : Transaction) (s : Enlistment) (x : Who)
-    → Holds u n b → transaction_at b t.id ≡ Some t → IsIn s t.seats → s.kind ≡ kinds.Durable → IsPlace hosts x → s.participant ≡ participant_of x s.kind
+    → Holds u n b → transaction_at b t.id ≡ Some t → IsIn s t.seats → s.kind ≡ kinds.Durable → IsPlace hosts x → s.participant ≡ participant_of hosts x s.kind
     → (n ≡ g.number → ParticipantSaid notices.Committed g.event t s → ⊥) → OwesCommitted u before (record { node = n; id = t.id }) s.number x
     → OwesCommitted v after (record { node = n; id = t.id }) s.number x
 commit_on hosts u v before after g n b t s x h found i durable place is unanswered owed = by_owed owed
@@ -176,12 +176,12 @@ commit_on hosts u v before after g n b t s x h found i durable place is unanswer
     there : IsSeatPlace hosts z s.number
     there = seat_place hosts u g.small g.reached n b h t s found i
 
-    answered : CommitsAt v x ⊎ Tells (Some (seat_of z s.number kinds.Durable)) notices.Committed (posted_in g) → OwesCommitted v after z s.number x
+    answered : CommitsAt v x ⊎ Tells (Some (seat_of hosts z s.number kinds.Durable)) notices.Committed (posted_in g) → OwesCommitted v after z s.number x
     answered (inl commits) = inr (inr commits)
     answered (inr tells) = inr (inl (seat_told hosts u v before after g z s.number kinds.Durable notices.Committed tt there tells))
 
-    by_asked : (c : Comes before x.node (IsNoticeFrom (targets.Participant x.id kinds.Durable) notices.Commit (seat_of z s.number kinds.Durable)))
-        → Comes after x.node (IsNoticeFrom (targets.Participant x.id kinds.Durable) notices.Commit (seat_of z s.number kinds.Durable)) ⊎ ((x.node ≡ g.number) × (g.event ≡ events.Arrived c.arrived))
+    by_asked : (c : Comes before x.node (IsNoticeFrom (targets.Participant x.id kinds.Durable) notices.Commit (seat_of hosts z s.number kinds.Durable)))
+        → Comes after x.node (IsNoticeFrom (targets.Participant x.id kinds.Durable) notices.Commit (seat_of hosts z s.number kinds.Durable)) ⊎ ((x.node ≡ g.number) × (g.event ≡ events.Arrived c.arrived))
         → OwesCommitted v after z s.number x
     by_asked c (inl stays) = inl stays
     by_asked c (inr (here, came)) = answered (commit_arrives hosts u v before after g x z s.number c.arrived here came c.says seat)
@@ -204,7 +204,7 @@ commit_on hosts u v before after g n b t s x h found i durable place is unanswer
 
 commits_here : (hosts : Hosts) (Asked : ℕ → Type 0) (u v : World) (before after : List Posted) → (g : Goes hosts u v before after) → CommitsAreOwed hosts Asked u before → (t : Transaction)
     (s : Enlistment) (x : Who) → Asked g.number → transaction_at (book_after g) t.id ≡ Some t → IsIn s t.seats → s.kind ≡ kinds.Durable → s.state ≡ states.Committing
-    → IsPlace hosts x → s.participant ≡ participant_of x s.kind → OwesCommitted v after (record { node = g.number; id = t.id }) s.number x
+    → IsPlace hosts x → s.participant ≡ participant_of hosts x s.kind → OwesCommitted v after (record { node = g.number; id = t.id }) s.number x
 commits_here hosts Asked u v before after g h t s x asked found i durable state place is = by_seat b.seats
   where
     b : StoodBefore hosts u v before after g t s
@@ -217,14 +217,14 @@ commits_here hosts Asked u v before after g h t s x asked found i durable state 
         → ((p.old.state ≡ states.Committing) × (ParticipantSaid notices.Committed g.event b.old p.old → ⊥)) ⊎ IsIn (seat_post g.book.base b.old.id p.old notices.Commit) (posted_in g)
         → OwesCommitted v after (record { node = g.number; id = b.old.id }) p.old.number x
     by_asked p (inl (was, unanswered)) =
-        let same : p.old.participant ≡ participant_of x p.old.kind = subst (λ (a : Seating). a.participant ≡ participant_of x a.kind) p.pair.0.0 is in
+        let same : p.old.participant ≡ participant_of hosts x p.old.kind = subst (λ (a : Seating). a.participant ≡ participant_of hosts x a.kind) p.pair.0.0 is in
         let k : p.old.kind ≡ kinds.Durable = subst (λ (a : Seating). a.kind ≡ kinds.Durable) p.pair.0.0 durable in
         commit_on hosts u v before after g g.number g.book b.old p.old x held b.found p.among k place same (λ here. unanswered)
         (h.seats g.number g.book b.old p.old x asked held b.found p.among k was place same)
     by_asked p (inr sent) =
-        let same : p.old.participant ≡ participant_of x p.old.kind = subst (λ (a : Seating). a.participant ≡ participant_of x a.kind) p.pair.0.0 is in
+        let same : p.old.participant ≡ participant_of hosts x p.old.kind = subst (λ (a : Seating). a.participant ≡ participant_of hosts x a.kind) p.pair.0.0 is in
         let k : p.old.kind ≡ kinds.Durable = subst (λ (a : Seating). a.kind ≡ kinds.Durable) p.pair.0.0 durable in
-        inl (subst (λ d. Comes after x.node (IsNoticeFrom (targets.Participant x.id d) notices.Commit (seat_of (record { node = g.number; id = b.old.id }) p.old.number d))) k
+        inl (subst (λ d. Comes after x.node (IsNoticeFrom (targets.Participant x.id d) notices.Commit (seat_of hosts (record { node = g.number; id = b.old.id }) p.old.number d))) k
         (seat_asks hosts u v before after g b.old.id p.old x notices.Commit tt place same sent))
 
     by_seat : Partner (IsOwed g.book.base g.event b.old (posted_in g)) b.old.seats s ⊎ IsNew g.book.base b.old (posted_in g) s
@@ -240,7 +240,7 @@ commits_kept hosts Asked u v before after g h = record {
 }
   where
     by_place : (n : ℕ) (b : Book) (t : Transaction) (s : Enlistment) (x : Who) → Asked n → Holds v n b → transaction_at b t.id ≡ Some t → IsIn s t.seats → s.kind ≡ kinds.Durable
-        → s.state ≡ states.Committing → IsPlace hosts x → s.participant ≡ participant_of x s.kind → (n ≡ g.number) ⊎ (n ≡ g.number → ⊥)
+        → s.state ≡ states.Committing → IsPlace hosts x → s.participant ≡ participant_of hosts x s.kind → (n ≡ g.number) ⊎ (n ≡ g.number → ⊥)
         → OwesCommitted v after (record { node = n; id = t.id }) s.number x
     by_place n b t s x asked holds found i durable state place is (inl here) =
         let same : b ≡ book_after g = same_book v g.number b (book_after g) (subst (λ m. Holds v m b) here holds) (holds_after hosts u v before after g) in

@@ -148,11 +148,11 @@ new_comes hosts u v before after g n p to T i goes leads taken = record {
 }
 
 -- endpoints
-pub leads_participant : (hosts : Hosts) (x : Who) (kind : Kind) (e : Epr) → HaveOwnAddresses hosts → IsPlace hosts x → e ≡ participant_of x kind → LeadsTo hosts e x.node (targets.Participant x.id kind)
+pub leads_participant : (hosts : Hosts) (x : Who) (kind : Kind) (e : Epr) → HaveOwnAddresses hosts → IsPlace hosts x → e ≡ participant_of hosts x kind → LeadsTo hosts e x.node (targets.Participant x.id kind)
 leads_participant hosts x kind e small h is =
     subst (λ y. LeadsTo hosts y x.node (targets.Participant x.id kind)) (sym is) (leads_home hosts x.node (targets.Participant x.id kind) small h.least h.most h.id)
 
-pub leads_seat : (hosts : Hosts) (t : Who) (number : ℕ) (kind : Kind) → HaveOwnAddresses hosts → IsSeatPlace hosts t number → LeadsTo hosts (seat_of t number kind) t.node (seat_target_of t number kind)
+pub leads_seat : (hosts : Hosts) (t : Who) (number : ℕ) (kind : Kind) → HaveOwnAddresses hosts → IsSeatPlace hosts t number → LeadsTo hosts (seat_of hosts t number kind) t.node (seat_target_of t number kind)
 leads_seat hosts t number kind small h = leads_home hosts t.node (seat_target_of t number kind) small h.place.least h.place.most (h.place.id, h.least, h.most)
 
 -- what participants and seats are told
@@ -176,17 +176,17 @@ takes_answer notices.Committed t number kind h = refl
 takes_answer other t number kind h = absurd h
 
 pub participant_told : (hosts : Hosts) (u v : World) (before after : List Posted) → (g : Goes hosts u v before after) → (x : Who) (kind : Kind) (n : Notice) (to : Epr) → AsksParticipant n → IsPlace hosts x
-    → to ≡ participant_of x kind → Tells (Some to) n (posted_in g) → Comes after x.node (IsNotice (targets.Participant x.id kind) n)
+    → to ≡ participant_of hosts x kind → Tells (Some to) n (posted_in g) → Comes after x.node (IsNotice (targets.Participant x.id kind) n)
 participant_told hosts u v before after g x kind n to asks place is (p, i, goes, says) =
     comes_as after x.node (λ a e. (ap (λ (y : Arrived). y.target) e, ap (λ (y : Arrived). y.message) e ∙ says))
     (new_comes hosts u v before after g x.node p to (targets.Participant x.id kind) i goes (leads_participant hosts x kind to g.small place is)
     (ap (takes (targets.Participant x.id kind)) says ∙ takes_asked n x.id kind asks))
 
 pub seat_told : (hosts : Hosts) (u v : World) (before after : List Posted) → (g : Goes hosts u v before after) → (t : Who) (number : ℕ) (kind : Kind) (n : Notice) → AnswersSeat n
-    → IsSeatPlace hosts t number → Tells (Some (seat_of t number kind)) n (posted_in g) → Comes after t.node (IsNotice (seat_target_of t number kind) n)
+    → IsSeatPlace hosts t number → Tells (Some (seat_of hosts t number kind)) n (posted_in g) → Comes after t.node (IsNotice (seat_target_of t number kind) n)
 seat_told hosts u v before after g t number kind n answers place (p, i, goes, says) =
     comes_as after t.node (λ a e. (ap (λ (y : Arrived). y.target) e, ap (λ (y : Arrived). y.message) e ∙ says))
-    (new_comes hosts u v before after g t.node p (seat_of t number kind) (seat_target_of t number kind) i goes (leads_seat hosts t number kind g.small place)
+    (new_comes hosts u v before after g t.node p (seat_of hosts t number kind) (seat_target_of t number kind) i goes (leads_seat hosts t number kind g.small place)
     (ap (takes (seat_target_of t number kind)) says ∙ takes_answer n t number kind answers))
 
 -- a seat's own message to its participant
@@ -196,8 +196,8 @@ SaysWhose notices.Commit = Unit {0}
 SaysWhose other = ⊥
 
 pub seat_asks : (hosts : Hosts) (u v : World) (before after : List Posted) → (g : Goes hosts u v before after) → (id : Numbers) (s : Enlistment) (x : Who) (n : Notice) → SaysWhose n → IsPlace hosts x
-    → s.participant ≡ participant_of x s.kind → IsIn (seat_post g.book.base id s n) (posted_in g)
-    → Comes after x.node (IsNoticeFrom (targets.Participant x.id s.kind) n (seat_of (record { node = g.number; id = id }) s.number s.kind))
+    → s.participant ≡ participant_of hosts x s.kind → IsIn (seat_post g.book.base id s n) (posted_in g)
+    → Comes after x.node (IsNoticeFrom (targets.Participant x.id s.kind) n (seat_of hosts (record { node = g.number; id = id }) s.number s.kind))
 seat_asks hosts u v before after g id s x notices.Prepare h place is i =
     comes_as after x.node
     (λ a e. (

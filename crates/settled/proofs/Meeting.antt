@@ -56,7 +56,7 @@ seat_place hosts w small reached n b h t s found i =
     record { place = record { least = least; most = most; id = id }; least = p.least; most = p.most }
 
 pub seat_has : (hosts : Hosts) (w : World) → HaveOwnAddresses hosts → Reached hosts w → (n : ℕ) (b : Book) → Holds w n b → (t : Transaction) (s : Enlistment) (x : Who) → transaction_at b t.id ≡ Some t → IsIn s t.seats
-    → IsPlace hosts x → s.participant ≡ participant_of x s.kind → HasSeat w (record { node = n; id = t.id }) s.number s.kind x
+    → IsPlace hosts x → s.participant ≡ participant_of hosts x s.kind → HasSeat w (record { node = n; id = t.id }) s.number s.kind x
 seat_has hosts w small reached n b h t s x found i place is =
     (partners_are_paired.paired hosts w small reached).seat_has n h.node b t s x h.found h.up (in_book b t.id t found) i place is
 
@@ -86,13 +86,13 @@ leaf_seat hosts w small reached n b h id l c found knows = (
 )
 
 pub link_knows : (hosts : Hosts) (w : World) → HaveOwnAddresses hosts → Reached hosts w → (n : ℕ) (b : Book) → Holds w n b → (id : Numbers) (t : Transaction) (kind : Kind) (c : Epr) (z : Who) (number : ℕ)
-    → transaction_at b id ≡ Some t → HasSeat w z number kind (record { node = n; id = id }) → coordinator_at kind t.superior ≡ Some c → c ≡ seat_of z number kind
+    → transaction_at b id ≡ Some t → HasSeat w z number kind (record { node = n; id = id }) → coordinator_at kind t.superior ≡ Some c → c ≡ seat_of hosts z number kind
 link_knows hosts w small reached n b h id t kind c z number found seat knows =
     let (k, e) = link_seat hosts w small reached n b h id t kind c found knows in
     (partners_are_paired.paired hosts w small reached).known_is c z (record { node = n; id = id }) number kind k e seat
 
 pub leaf_knows : (hosts : Hosts) (w : World) → HaveOwnAddresses hosts → Reached hosts w → (n : ℕ) (b : Book) → Holds w n b → (id : Numbers) (l : Leaf) (c : Epr) (z : Who) (number : ℕ)
-    → leaf_at b id ≡ Some l → HasSeat w z number l.kind (record { node = n; id = id }) → l.coordinator ≡ Some c → c ≡ seat_of z number l.kind
+    → leaf_at b id ≡ Some l → HasSeat w z number l.kind (record { node = n; id = id }) → l.coordinator ≡ Some c → c ≡ seat_of hosts z number l.kind
 leaf_knows hosts w small reached n b h id l c z number found seat knows =
     let (k, e) = leaf_seat hosts w small reached n b h id l c found knows in
     (partners_are_paired.paired hosts w small reached).known_is c z (record { node = n; id = id }) number l.kind k e seat

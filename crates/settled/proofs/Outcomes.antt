@@ -61,14 +61,14 @@ becomes R N (o ∷ os) (n ∷ ns) s (h, k) (inr i) =
     let r : Becomes R s ns = becomes R N os ns s k i in
     record { new = r.new; among = inr r.among; pair = r.pair }
 
-told_on_way : (hosts : Hosts) (u v : World) (before after : List Posted) → (g : Goes hosts u v before after) → (x : Who) (to : Epr) → IsPlace hosts x → to ≡ participant_of x kinds.Durable
+told_on_way : (hosts : Hosts) (u v : World) (before after : List Posted) → (g : Goes hosts u v before after) → (x : Who) (to : Epr) → IsPlace hosts x → to ≡ participant_of hosts x kinds.Durable
     → TellsOutcome (Some to) (posted_in g) → IsToldOnWay after x
 told_on_way hosts u v before after g x to place is (inl tells) = inl (participant_told hosts u v before after g x kinds.Durable notices.Commit to tt place is tells)
 told_on_way hosts u v before after g x to place is (inr tells) = inr (participant_told hosts u v before after g x kinds.Durable notices.Rollback to tt place is tells)
 
 -- a durable seat that is Prepared, or hears so, is Prepared, or tells the outcome
 seat_keeps : (hosts : Hosts) (u v : World) (before after : List Posted) → (g : Goes hosts u v before after) → (x z : Who) (number : ℕ) (t : Transaction) (q : Enlistment) → z.node ≡ g.number
-    → transaction_at g.book z.id ≡ Some t → IsIn q t.seats → q.number ≡ number → q.kind ≡ kinds.Durable → SaysPrepared g.event t q → IsPlace hosts x → q.participant ≡ participant_of x kinds.Durable
+    → transaction_at g.book z.id ≡ Some t → IsIn q t.seats → q.number ≡ number → q.kind ≡ kinds.Durable → SaysPrepared g.event t q → IsPlace hosts x → q.participant ≡ participant_of hosts x kinds.Durable
     → IsPreparedAt v z number ⊎ IsToldOnWay after x
 seat_keeps hosts u v before after g x z number t q here found i numbered durable says place is =
     by_left (transaction_at (book_after g) z.id) refl
@@ -101,7 +101,7 @@ seat_keeps hosts u v before after g x z number t q here found i numbered durable
         by_kept new e b (b.pair.0.1 durable says)
 
 -- the seat of a participant
-pub enlists_has : (hosts : Hosts) (w : World) → HaveOwnAddresses hosts → (x z : Who) (number : ℕ) (kind : Kind) → IsSeatPlace hosts z number → Enlists hosts w (seat_of z number kind) x kind → HasSeat w z number kind x
+pub enlists_has : (hosts : Hosts) (w : World) → HaveOwnAddresses hosts → (x z : Who) (number : ℕ) (kind : Kind) → IsSeatPlace hosts z number → Enlists hosts w (seat_of hosts z number kind) x kind → HasSeat w z number kind x
 enlists_has hosts w small x z number kind place h =
     let (id, k, is, accepted) = h z.node (seat_target_of z number kind) (leads_seat hosts z number kind small place) in
     let (same, at) = same_numbers z.id id number k is in
@@ -113,7 +113,7 @@ enlists_has hosts w small x z number kind place h =
         (cc, ap (λ (s : Seat). s.number) seats)
 
 seat_whose : (hosts : Hosts) (u v : World) (before after : List Posted) → (g : Goes hosts u v before after) → (x z : Who) (number : ℕ) (t : Transaction) (q : Enlistment) → z.node ≡ g.number
-    → transaction_at g.book z.id ≡ Some t → IsIn q t.seats → q.number ≡ number → q.kind ≡ kinds.Durable → HasSeat u z number kinds.Durable x → q.participant ≡ participant_of x kinds.Durable
+    → transaction_at g.book z.id ≡ Some t → IsIn q t.seats → q.number ≡ number → q.kind ≡ kinds.Durable → HasSeat u z number kinds.Durable x → q.participant ≡ participant_of hosts x kinds.Durable
 seat_whose hosts u v before after g x z number t q here found i numbered durable seat =
     let held : Holds u g.number g.book = holds_before hosts u v before after g in
     let id_is : t.id ≡ z.id = found_id transaction_id z.id g.book.transactions t found in
@@ -122,11 +122,11 @@ seat_whose hosts u v before after g x z number t q here found i numbered durable
     (subst (λ k. HasSeat u (record { node = g.number; id = t.id }) k kinds.Durable x) (sym numbered)
     (subst (λ j. HasSeat u (record { node = g.number; id = j }) number kinds.Durable x) (sym id_is)
     (subst (λ m. HasSeat u (record { node = m; id = z.id }) number kinds.Durable x) here seat))))
-    ∙ ap (participant_of x) durable
+    ∙ ap (participant_of hosts x) durable
 
 -- a vote that arrives is counted, or answered with the outcome
 vote_arrives : (hosts : Hosts) (u v : World) (before after : List Posted) → (g : Goes hosts u v before after) → (x z : Who) (number : ℕ) (a : Arrived) → z.node ≡ g.number → g.event ≡ events.Arrived a
-    → IsNoticeFrom (seat_target_of z number kinds.Durable) notices.Prepared (participant_of x kinds.Durable) a → IsPlace hosts x → HasSeat u z number kinds.Durable x
+    → IsNoticeFrom (seat_target_of z number kinds.Durable) notices.Prepared (participant_of hosts x kinds.Durable) a → IsPlace hosts x → HasSeat u z number kinds.Durable x
     → IsPreparedAt v z number ⊎ IsToldOnWay after x
 vote_arrives hosts u v before after g x z number a here came ((target, says), from) place seat = by_transaction (transaction_at g.book z.id) refl
   where
@@ -135,9 +135,9 @@ vote_arrives hosts u v before after g x z number a here came ((target, says), fr
 
     stranger : IfFound (λ (t : Transaction). find_seat number kinds.Durable t.seats ≡ None) (transaction_at g.book z.id) → IsPreparedAt v z number ⊎ IsToldOnWay after x
     stranger unknown =
-        inr (inr (participant_told hosts u v before after g x kinds.Durable notices.Rollback (participant_of x kinds.Durable) tt place refl
-        (subst (λ d. Tells (Some (participant_of x kinds.Durable)) notices.Rollback (posts_of (step g.book d g.now true).outs)) (sym came)
-        (steps_owe_seats.unknown g.book a g.now z.id s target refl unknown says (participant_of x kinds.Durable) from))))
+        inr (inr (participant_told hosts u v before after g x kinds.Durable notices.Rollback (participant_of hosts x kinds.Durable) tt place refl
+        (subst (λ d. Tells (Some (participant_of hosts x kinds.Durable)) notices.Rollback (posts_of (step g.book d g.now true).outs)) (sym came)
+        (steps_owe_seats.unknown g.book a g.now z.id s target refl unknown says (participant_of hosts x kinds.Durable) from))))
 
     by_seat : (t : Transaction) → transaction_at g.book z.id ≡ Some t → (o : Option Enlistment) → find_seat number kinds.Durable t.seats ≡ o → IsPreparedAt v z number ⊎ IsToldOnWay after x
     by_seat t found None none = stranger (subst (IfFound (λ (y : Transaction). find_seat number kinds.Durable y.seats ≡ None)) (sym found) none)
@@ -194,8 +194,8 @@ outcome_on hosts u v before after g x z number place seat untold owed = by_owed 
     counted (inl prepared) = inr (inr prepared)
     counted (inr told) = inr (inl told)
 
-    by_vote : (c : Comes before z.node (IsNoticeFrom (seat_target_of z number kinds.Durable) notices.Prepared (participant_of x kinds.Durable)))
-        → Comes after z.node (IsNoticeFrom (seat_target_of z number kinds.Durable) notices.Prepared (participant_of x kinds.Durable)) ⊎ ((z.node ≡ g.number) × (g.event ≡ events.Arrived c.arrived))
+    by_vote : (c : Comes before z.node (IsNoticeFrom (seat_target_of z number kinds.Durable) notices.Prepared (participant_of hosts x kinds.Durable)))
+        → Comes after z.node (IsNoticeFrom (seat_target_of z number kinds.Durable) notices.Prepared (participant_of hosts x kinds.Durable)) ⊎ ((z.node ≡ g.number) × (g.event ≡ events.Arrived c.arrived))
         → OwesOutcome v after x z number
     by_vote c (inl stays) = inl stays
     by_vote c (inr (here, came)) = counted (vote_arrives hosts u v before after g x z number c.arrived here came c.says place seat)
@@ -218,7 +218,7 @@ outcome_on hosts u v before after g x z number place seat untold owed = by_owed 
 
 -- a vote that is posted now
 vote_posted : (hosts : Hosts) (u v : World) (before after : List Posted) → (g : Goes hosts u v before after) → (id : Numbers) (z : Who) (number : ℕ) (to : Epr) → IsSeatPlace hosts z number
-    → to ≡ seat_of z number kinds.Durable → IsIn (notice_post g.book.base (targets.Participant id kinds.Durable) to notices.Prepared) (posted_in g)
+    → to ≡ seat_of hosts z number kinds.Durable → IsIn (notice_post g.book.base (targets.Participant id kinds.Durable) to notices.Prepared) (posted_in g)
     → OwesOutcome v after (record { node = g.number; id = id }) z number
 vote_posted hosts u v before after g id z number to place is i =
     inl (comes_as after z.node
@@ -248,7 +248,7 @@ leaf_placed hosts w small reached n b h id l found =
 -- links
 links_here : (hosts : Hosts) (Asked : ℕ → Type 0) (u v : World) (before after : List Posted) → (g : Goes hosts u v before after) → OutcomesAreOwed hosts Asked u before → (t : Transaction) (s : Superior)
     (z : Who) (number : ℕ) → Asked g.number → transaction_at (book_after g) t.id ≡ Some t → t.superior ≡ Some s → s.durable.state ≡ states.PreparedSuccess → IsSeatPlace hosts z number
-    → s.durable.coordinator ≡ Some (seat_of z number kinds.Durable) → OwesOutcome v after (record { node = g.number; id = t.id }) z number
+    → s.durable.coordinator ≡ Some (seat_of hosts z number kinds.Durable) → OwesOutcome v after (record { node = g.number; id = t.id }) z number
 links_here hosts Asked u v before after g h t s z number asked found under state place knows = by_superior o.old.superior refl
   where
     o : TransactionStood g.book t
@@ -271,8 +271,8 @@ links_here hosts Asked u v before after g h t s z number asked found under state
         × ((SuperiorSaid kinds.Durable notices.Commit g.event o.old → ⊥) × (SuperiorSaid kinds.Durable notices.Rollback g.event o.old → ⊥)))
         ⊎ SaysVote g.book.base o.old.id s.durable.coordinator (posted_in g) → OwesOutcome v after (record { node = g.number; id = o.old.id }) z number
     by_kept y was (inl ((prepared, same), (uncommitted, unrolled))) =
-        let known : y.durable.coordinator ≡ Some (seat_of z number kinds.Durable) = sym same ∙ knows in
-        let (seat, enlists) = link_seat hosts u g.small g.reached g.number g.book held o.old.id o.old kinds.Durable (seat_of z number kinds.Durable) own (ap (coordinator_at kinds.Durable) was ∙ known) in
+        let known : y.durable.coordinator ≡ Some (seat_of hosts z number kinds.Durable) = sym same ∙ knows in
+        let (seat, enlists) = link_seat hosts u g.small g.reached g.number g.book held o.old.id o.old kinds.Durable (seat_of hosts z number kinds.Durable) own (ap (coordinator_at kinds.Durable) was ∙ known) in
         outcome_on hosts u v before after g (record { node = g.number; id = o.old.id }) z number (transaction_placed hosts u g.small g.reached g.number g.book held o.old.id o.old own)
         (enlists_has hosts u g.small (record { node = g.number; id = o.old.id }) z number kinds.Durable place enlists) untold
         (h.links g.number g.book o.old y z number asked held own was prepared place known)
@@ -281,7 +281,7 @@ links_here hosts Asked u v before after g h t s z number asked found under state
         untold here a came target (inl says) = uncommitted (record { message = a; came = came; target = target; says = says })
         untold here a came target (inr says) = unrolled (record { message = a; came = came; target = target; says = says })
     by_kept y was (inr (to, is, sent)) =
-        vote_posted hosts u v before after g o.old.id z number to place (same_endpoint s.durable.coordinator to (seat_of z number kinds.Durable) is knows) sent
+        vote_posted hosts u v before after g o.old.id z number to place (same_endpoint s.durable.coordinator to (seat_of hosts z number kinds.Durable) is knows) sent
 
     by_superior : (y : Option Superior) → o.old.superior ≡ y → OwesOutcome v after (record { node = g.number; id = t.id }) z number
     by_superior None root = absurd (never None under root)
@@ -294,7 +294,7 @@ links_here hosts Asked u v before after g h t s z number asked found under state
 -- leaves
 leaves_here : (hosts : Hosts) (Asked : ℕ → Type 0) (u v : World) (before after : List Posted) → (g : Goes hosts u v before after) → OutcomesAreOwed hosts Asked u before → (l : Leaf) (z : Who)
     (number : ℕ) → Asked g.number → leaf_at (book_after g) l.id ≡ Some l → l.kind ≡ kinds.Durable → l.state ≡ states.PreparedSuccess → IsSeatPlace hosts z number
-    → l.coordinator ≡ Some (seat_of z number kinds.Durable) → OwesOutcome v after (record { node = g.number; id = l.id }) z number
+    → l.coordinator ≡ Some (seat_of hosts z number kinds.Durable) → OwesOutcome v after (record { node = g.number; id = l.id }) z number
 leaves_here hosts Asked u v before after g h l z number asked found durable state place knows =
     subst (λ i. OwesOutcome v after (record { node = g.number; id = i }) z number) id_is
     (by_kept
@@ -321,11 +321,11 @@ leaves_here hosts Asked u v before after g h l z number asked found durable stat
         ⊎ ((to : Epr) × (l.coordinator ≡ Some to) × IsIn (notice_post g.book.base (leaf_target o.old) to notices.Prepared) (posted_in g))
         → OwesOutcome v after (record { node = g.number; id = o.old.id }) z number
     by_kept (inl ((prepared, same), (uncommitted, unrolled))) =
-        let known : o.old.coordinator ≡ Some (seat_of z number kinds.Durable) = sym same ∙ knows in
-        let (seat, enlists) = leaf_seat hosts u g.small g.reached g.number g.book held o.old.id o.old (seat_of z number kinds.Durable) own known in
+        let known : o.old.coordinator ≡ Some (seat_of hosts z number kinds.Durable) = sym same ∙ knows in
+        let (seat, enlists) = leaf_seat hosts u g.small g.reached g.number g.book held o.old.id o.old (seat_of hosts z number kinds.Durable) own known in
         outcome_on hosts u v before after g (record { node = g.number; id = o.old.id }) z number (leaf_placed hosts u g.small g.reached g.number g.book held o.old.id o.old own)
         (enlists_has hosts u g.small (record { node = g.number; id = o.old.id }) z number kinds.Durable place
-        (subst (λ k. Enlists hosts u (seat_of z number kinds.Durable) (record { node = g.number; id = o.old.id }) k) was_durable enlists)) untold
+        (subst (λ k. Enlists hosts u (seat_of hosts z number kinds.Durable) (record { node = g.number; id = o.old.id }) k) was_durable enlists)) untold
         (h.leaves g.number g.book o.old z number asked held own was_durable prepared place known)
       where
         untold : IsUntold hosts u v before after g (record { node = g.number; id = o.old.id })
@@ -334,7 +334,7 @@ leaves_here hosts Asked u v before after g h l z number asked found durable stat
         untold here a came target (inr says) =
             unrolled (record { arrived = a; event = came; target = target ∙ ap (targets.Participant o.old.id) (sym was_durable); message = says })
     by_kept (inr (to, is, sent)) =
-        vote_posted hosts u v before after g o.old.id z number to place (same_endpoint l.coordinator to (seat_of z number kinds.Durable) is knows)
+        vote_posted hosts u v before after g o.old.id z number to place (same_endpoint l.coordinator to (seat_of hosts z number kinds.Durable) is knows)
         (subst (λ k. IsIn (notice_post g.book.base (targets.Participant o.old.id k) to notices.Prepared) (posted_in g)) was_durable sent)
 
 -- elsewhere nothing comes
@@ -349,7 +349,7 @@ outcomes_kept hosts Asked u v before after g h = record {
 }
   where
     links_at : (n : ℕ) (b : Book) (t : Transaction) (s : Superior) (z : Who) (number : ℕ) → Asked n → Holds v n b → transaction_at b t.id ≡ Some t → t.superior ≡ Some s
-        → s.durable.state ≡ states.PreparedSuccess → IsSeatPlace hosts z number → s.durable.coordinator ≡ Some (seat_of z number kinds.Durable) → (n ≡ g.number) ⊎ (n ≡ g.number → ⊥)
+        → s.durable.state ≡ states.PreparedSuccess → IsSeatPlace hosts z number → s.durable.coordinator ≡ Some (seat_of hosts z number kinds.Durable) → (n ≡ g.number) ⊎ (n ≡ g.number → ⊥)
         → OwesOutcome v after (record { node = n; id = t.id }) z number
     links_at n b t s z number asked holds found under state place knows (inl here) =
         let same : b ≡ book_after g = same_book v g.number b (book_after g) (subst (λ m. Holds v m b) here holds) (holds_after hosts u v before after g) in
@@ -357,21 +357,21 @@ outcomes_kept hosts Asked u v before after g h = record {
         (links_here hosts Asked u v before after g h t s z number (subst Asked here asked) (subst (λ c. transaction_at c t.id ≡ Some t) same found) under state place knows)
     links_at n b t s z number asked holds found under state place knows (inr other) =
         let held : Holds u n b = held_elsewhere hosts u v before after g n b other holds in
-        let (seat, enlists) = link_seat hosts u g.small g.reached n b held t.id t kinds.Durable (seat_of z number kinds.Durable) found (ap (coordinator_at kinds.Durable) under ∙ knows) in
+        let (seat, enlists) = link_seat hosts u g.small g.reached n b held t.id t kinds.Durable (seat_of hosts z number kinds.Durable) found (ap (coordinator_at kinds.Durable) under ∙ knows) in
         outcome_on hosts u v before after g (record { node = n; id = t.id }) z number (transaction_placed hosts u g.small g.reached n b held t.id t found)
         (enlists_has hosts u g.small (record { node = n; id = t.id }) z number kinds.Durable place enlists) (not_here hosts u v before after g (record { node = n; id = t.id }) other)
         (h.links n b t s z number asked held found under state place knows)
 
     leaves_at : (n : ℕ) (b : Book) (l : Leaf) (z : Who) (number : ℕ) → Asked n → Holds v n b → leaf_at b l.id ≡ Some l → l.kind ≡ kinds.Durable → l.state ≡ states.PreparedSuccess
-        → IsSeatPlace hosts z number → l.coordinator ≡ Some (seat_of z number kinds.Durable) → (n ≡ g.number) ⊎ (n ≡ g.number → ⊥) → OwesOutcome v after (record { node = n; id = l.id }) z number
+        → IsSeatPlace hosts z number → l.coordinator ≡ Some (seat_of hosts z number kinds.Durable) → (n ≡ g.number) ⊎ (n ≡ g.number → ⊥) → OwesOutcome v after (record { node = n; id = l.id }) z number
     leaves_at n b l z number asked holds found durable state place knows (inl here) =
         let same : b ≡ book_after g = same_book v g.number b (book_after g) (subst (λ m. Holds v m b) here holds) (holds_after hosts u v before after g) in
         subst (λ m. OwesOutcome v after (record { node = m; id = l.id }) z number) (sym here)
         (leaves_here hosts Asked u v before after g h l z number (subst Asked here asked) (subst (λ c. leaf_at c l.id ≡ Some l) same found) durable state place knows)
     leaves_at n b l z number asked holds found durable state place knows (inr other) =
         let held : Holds u n b = held_elsewhere hosts u v before after g n b other holds in
-        let (seat, enlists) = leaf_seat hosts u g.small g.reached n b held l.id l (seat_of z number kinds.Durable) found knows in
+        let (seat, enlists) = leaf_seat hosts u g.small g.reached n b held l.id l (seat_of hosts z number kinds.Durable) found knows in
         outcome_on hosts u v before after g (record { node = n; id = l.id }) z number (leaf_placed hosts u g.small g.reached n b held l.id l found)
         (enlists_has hosts u g.small (record { node = n; id = l.id }) z number kinds.Durable place
-        (subst (λ k. Enlists hosts u (seat_of z number kinds.Durable) (record { node = n; id = l.id }) k) durable enlists))
+        (subst (λ k. Enlists hosts u (seat_of hosts z number kinds.Durable) (record { node = n; id = l.id }) k) durable enlists))
         (not_here hosts u v before after g (record { node = n; id = l.id }) other) (h.leaves n b l z number asked held found durable state place knows)

@@ -49,15 +49,15 @@ answer_comes : (hosts : Hosts) (u v : World) (before after : List Posted) → (g
     → g.event ≡ events.Arrived a → IsRegisterOf x kind id a → Comes after x.node (IsRegisteredBy x kind)
 answer_comes hosts u v before after g x kind m id a place came r =
     let (p, i, goes, relates, answers) =
-    subst (λ d. TellsRegistered (participant_of x kind) a.id (posts_of (step g.book d g.now true).outs)) (sym came)
-    (registers_are_answered.answered g.book a g.now id r.register (participant_of x kind) r.target r.says r.reply r.fault) in
+    subst (λ d. TellsRegistered (participant_of hosts x kind) a.id (posts_of (step g.book d g.now true).outs)) (sym came)
+    (registers_are_answered.answered g.book a g.now id r.register (participant_of hosts x kind) r.target r.says r.reply r.fault) in
     comes_as after x.node
     (λ b e. record {
       target = ap (λ (y : Arrived). y.target) e;
       relates = relates_itself b.relates (register_id (hosts.base_of x.node) (targets.Participant x.id kind)) (ap (λ (y : Arrived). y.relates) e ∙ relates ∙ r.named);
       answers = subst AnswersRegister (sym (ap (λ (y : Arrived). y.message) e)) answers;
     })
-    (new_comes hosts u v before after g x.node p (participant_of x kind) (targets.Participant x.id kind) i goes (leads_participant hosts x kind (participant_of x kind) g.small place refl)
+    (new_comes hosts u v before after g x.node p (participant_of hosts x kind) (targets.Participant x.id kind) i goes (leads_participant hosts x kind (participant_of hosts x kind) g.small place refl)
     (takes_registered p.message x.id kind answers))
 
 registered_on : (hosts : Hosts) (u v : World) (before after : List Posted) → (g : Goes hosts u v before after) → (x : Who) (kind : Kind) (m : ℕ) (id : Numbers) → IsPlace hosts x

@@ -368,7 +368,7 @@ above hosts es queue small q x a = by_superior k.transaction.superior refl
         let z : Who = at.transaction in
         let prepared : IsPreparedAt w z at.number =
         outcome_prepared w queue (record { node = x.node; id = k.transaction.id }) z at.number q.none
-        (q.outcomes.links x.node k.book k.transaction s z at.number tt k.holds own e links.1 (record { place = at.place; least = at.least; most = at.most }) (knows ∙ ap Some {y = seat_of z at.number kinds.Durable} at.is)) in
+        (q.outcomes.links x.node k.book k.transaction s z at.number tt k.holds own e links.1 (record { place = at.place; least = at.least; most = at.most }) (knows ∙ ap Some {y = seat_of hosts z at.number kinds.Durable} at.is)) in
         record {
           who = z;
           number = at.number;
@@ -432,7 +432,7 @@ none_doubts hosts es queue small q n b h l found e =
 
     by_coordinator : l.kind ≡ kinds.Durable → l.state ≡ states.PreparedSuccess → (c : Epr) → l.coordinator ≡ Some c → IsSeat hosts l.kind c → ⊥
     by_coordinator durable state c knows at =
-        let same : c ≡ seat_of at.transaction at.number kinds.Durable = at.is ∙ ap (seat_of at.transaction at.number) durable in
+        let same : c ≡ seat_of hosts at.transaction at.number kinds.Durable = at.is ∙ ap (seat_of hosts at.transaction at.number) durable in
         none_voted hosts es queue small q at.transaction
         (prepared_voted hosts es queue small q at.transaction at.number
         (outcome_prepared w queue (record { node = n; id = l.id }) at.transaction at.number q.none

@@ -94,7 +94,7 @@ votes_asked hosts es n j small passed = record { seats = λ m b t s x here holds
     v = ticked_at n (run_of hosts es)
 
     asked : (b : Book) (t : Transaction) (s : Enlistment) (x : Who) → (h : Holds v n b) → transaction_at b t.id ≡ Some t → IsIn s t.seats → s.state ≡ states.Preparing → IsPlace hosts x
-        → s.participant ≡ participant_of x s.kind → (t.phase ≡ Phase.Aborting) ⊎ ArePosted (run_of hosts es) v (transaction_again b.base t)
+        → s.participant ≡ participant_of hosts x s.kind → (t.phase ≡ Phase.Aborting) ⊎ ArePosted (run_of hosts es) v (transaction_again b.base t)
         → OwesVote v (drop j v.posted) (record { node = n; id = t.id }) s.number s.kind x
     asked b t s x h found i state place is (inl aborting) =
         absurd (not_aborting hosts v (ticked_reached hosts es n) n b h t s states.Preparing found i state no_preparing aborting)
@@ -109,7 +109,7 @@ votes_asked hosts es n j small passed = record { seats = λ m b t s x here holds
         (in_seats b.base t.id t.seats s notices.Prepare (ap unanswered_seat state) i)) refl (leads_participant hosts x s.kind s.participant small place is) refl))
 
     at_node : (m : ℕ) (b : Book) (t : Transaction) (s : Enlistment) (x : Who) → m ≡ n → Holds v m b → transaction_at b t.id ≡ Some t → IsIn s t.seats → s.state ≡ states.Preparing → IsPlace hosts x
-        → s.participant ≡ participant_of x s.kind → OwesVote v (drop j v.posted) (record { node = m; id = t.id }) s.number s.kind x
+        → s.participant ≡ participant_of hosts x s.kind → OwesVote v (drop j v.posted) (record { node = m; id = t.id }) s.number s.kind x
     at_node m b t s x here holds found i state place is =
         let h : Holds v n b = subst (λ k. Holds v k b) here holds in
         subst (λ k. OwesVote v (drop j v.posted) (record { node = k; id = t.id }) s.number s.kind x) (sym here)
@@ -123,7 +123,7 @@ commits_asked hosts es n j small passed = record { seats = λ m b t s x here hol
     v = ticked_at n (run_of hosts es)
 
     asked : (b : Book) (t : Transaction) (s : Enlistment) (x : Who) → (h : Holds v n b) → transaction_at b t.id ≡ Some t → IsIn s t.seats → s.kind ≡ kinds.Durable → s.state ≡ states.Committing
-        → IsPlace hosts x → s.participant ≡ participant_of x s.kind → (t.phase ≡ Phase.Aborting) ⊎ ArePosted (run_of hosts es) v (transaction_again b.base t)
+        → IsPlace hosts x → s.participant ≡ participant_of hosts x s.kind → (t.phase ≡ Phase.Aborting) ⊎ ArePosted (run_of hosts es) v (transaction_again b.base t)
         → OwesCommitted v (drop j v.posted) (record { node = n; id = t.id }) s.number x
     asked b t s x h found i durable state place is (inl aborting) =
         absurd (not_aborting hosts v (ticked_reached hosts es n) n b h t s states.Committing found i state no_committing aborting)
@@ -139,7 +139,7 @@ commits_asked hosts es n j small passed = record { seats = λ m b t s x here hol
         (in_seats b.base t.id t.seats s notices.Commit (ap unanswered_seat state) i)) refl (leads_participant hosts x s.kind s.participant small place is) refl))
 
     at_node : (m : ℕ) (b : Book) (t : Transaction) (s : Enlistment) (x : Who) → m ≡ n → Holds v m b → transaction_at b t.id ≡ Some t → IsIn s t.seats → s.kind ≡ kinds.Durable
-        → s.state ≡ states.Committing → IsPlace hosts x → s.participant ≡ participant_of x s.kind → OwesCommitted v (drop j v.posted) (record { node = m; id = t.id }) s.number x
+        → s.state ≡ states.Committing → IsPlace hosts x → s.participant ≡ participant_of hosts x s.kind → OwesCommitted v (drop j v.posted) (record { node = m; id = t.id }) s.number x
     at_node m b t s x here holds found i durable state place is =
         let h : Holds v n b = subst (λ k. Holds v k b) here holds in
         subst (λ k. OwesCommitted v (drop j v.posted) (record { node = k; id = t.id }) s.number x) (sym here)
@@ -213,7 +213,7 @@ leaf_registers m l q state asks =
 vote_came : (queue : List Posted) (base : List ℕ) (n : ℕ) (id : Numbers) (z : Who) (number : ℕ) (to : Epr) → base ≡ hosts.base_of n
     → Comes queue z.node (λ a. a ≡ arrival_of (targets.Coordinator z.id (record { number = number; kind = kinds.Durable })) (notice_post base (targets.Participant id kinds.Durable) to notices.Prepared))
     → Comes queue z.node
-    (IsNoticeFrom (targets.Coordinator z.id (record { number = number; kind = kinds.Durable })) notices.Prepared (participant_of (record { node = n; id = id }) kinds.Durable))
+    (IsNoticeFrom (targets.Coordinator z.id (record { number = number; kind = kinds.Durable })) notices.Prepared (participant_of hosts (record { node = n; id = id }) kinds.Durable))
 vote_came queue base n id z number to is c =
     comes_as queue z.node
     (λ a e. (
@@ -246,19 +246,19 @@ outcomes_asked hosts es n j small passed = record {
     v = ticked_at n (run_of hosts es)
 
     link_asked : (b : Book) (t : Transaction) (s : Superior) (z : Who) (number : ℕ) → (h : Holds v n b) → transaction_at b t.id ≡ Some t → t.superior ≡ Some s
-        → s.durable.state ≡ states.PreparedSuccess → IsSeatPlace hosts z number → s.durable.coordinator ≡ Some (seat_of z number kinds.Durable)
+        → s.durable.state ≡ states.PreparedSuccess → IsSeatPlace hosts z number → s.durable.coordinator ≡ Some (seat_of hosts z number kinds.Durable)
         → (t.phase ≡ Phase.Aborting) ⊎ ArePosted (run_of hosts es) v (transaction_again b.base t) → OwesOutcome v (drop j v.posted) (record { node = n; id = t.id }) z number
     link_asked b t s z number h found under state place knows (inl aborting) =
         absurd (link_stays hosts v (ticked_reached hosts es n) n b h t s kinds.Durable states.PreparedSuccess found under state not_prepared aborting)
     link_asked b t s z number h found under state place knows (inr posted) =
-        let p : Post = notice_post b.base (targets.Participant t.id kinds.Durable) (seat_of z number kinds.Durable) notices.Prepared in
-        inl (vote_came (drop j v.posted) b.base n t.id z number (seat_of z number kinds.Durable) (base_at hosts v small (ticked_reached hosts es n) n b h)
-        (again_comes hosts es n j z.node (transaction_again b.base t) p (seat_of z number kinds.Durable) (targets.Coordinator z.id (record { number = number; kind = kinds.Durable })) passed posted
-        (in_links b.base t s kinds.Durable p under (again_prepared b.base t.id kinds.Durable s.request s.durable (seat_of z number kinds.Durable) state knows)) refl
+        let p : Post = notice_post b.base (targets.Participant t.id kinds.Durable) (seat_of hosts z number kinds.Durable) notices.Prepared in
+        inl (vote_came (drop j v.posted) b.base n t.id z number (seat_of hosts z number kinds.Durable) (base_at hosts v small (ticked_reached hosts es n) n b h)
+        (again_comes hosts es n j z.node (transaction_again b.base t) p (seat_of hosts z number kinds.Durable) (targets.Coordinator z.id (record { number = number; kind = kinds.Durable })) passed posted
+        (in_links b.base t s kinds.Durable p under (again_prepared b.base t.id kinds.Durable s.request s.durable (seat_of hosts z number kinds.Durable) state knows)) refl
         (leads_seat hosts z number kinds.Durable small place) refl))
 
     at_link : (m : ℕ) (b : Book) (t : Transaction) (s : Superior) (z : Who) (number : ℕ) → m ≡ n → Holds v m b → transaction_at b t.id ≡ Some t → t.superior ≡ Some s
-        → s.durable.state ≡ states.PreparedSuccess → IsSeatPlace hosts z number → s.durable.coordinator ≡ Some (seat_of z number kinds.Durable)
+        → s.durable.state ≡ states.PreparedSuccess → IsSeatPlace hosts z number → s.durable.coordinator ≡ Some (seat_of hosts z number kinds.Durable)
         → OwesOutcome v (drop j v.posted) (record { node = m; id = t.id }) z number
     at_link m b t s z number here holds found under state place knows =
         let h : Holds v n b = subst (λ k. Holds v k b) here holds in
@@ -266,17 +266,17 @@ outcomes_asked hosts es n j small passed = record {
         (link_asked b t s z number h found under state place knows (ticks_ask.transactions hosts es n h.node b t.id t h.found h.up found))
 
     at_leaf : (m : ℕ) (b : Book) (l : Leaf) (z : Who) (number : ℕ) → m ≡ n → Holds v m b → leaf_at b l.id ≡ Some l → l.kind ≡ kinds.Durable → l.state ≡ states.PreparedSuccess
-        → IsSeatPlace hosts z number → l.coordinator ≡ Some (seat_of z number kinds.Durable) → OwesOutcome v (drop j v.posted) (record { node = m; id = l.id }) z number
+        → IsSeatPlace hosts z number → l.coordinator ≡ Some (seat_of hosts z number kinds.Durable) → OwesOutcome v (drop j v.posted) (record { node = m; id = l.id }) z number
     at_leaf m b l z number here holds found durable state place knows =
         let h : Holds v n b = subst (λ k. Holds v k b) here holds in
-        let p : Post = notice_post b.base (targets.Participant l.id kinds.Durable) (seat_of z number kinds.Durable) notices.Prepared in
+        let p : Post = notice_post b.base (targets.Participant l.id kinds.Durable) (seat_of hosts z number kinds.Durable) notices.Prepared in
         let c : Moment = moment_of b h.node.clock in
         subst (λ k. OwesOutcome v (drop j v.posted) (record { node = k; id = l.id }) z number) (sym here)
-        (inl (vote_came (drop j v.posted) b.base n l.id z number (seat_of z number kinds.Durable) (base_at hosts v small (ticked_reached hosts es n) n b h)
-        (again_comes hosts es n j z.node (leaf_again c l) p (seat_of z number kinds.Durable) (targets.Coordinator z.id (record { number = number; kind = kinds.Durable })) passed
+        (inl (vote_came (drop j v.posted) b.base n l.id z number (seat_of hosts z number kinds.Durable) (base_at hosts v small (ticked_reached hosts es n) n b h)
+        (again_comes hosts es n j z.node (leaf_again c l) p (seat_of hosts z number kinds.Durable) (targets.Coordinator z.id (record { number = number; kind = kinds.Durable })) passed
         (ticks_ask.leaves hosts es n h.node b l.id l h.found h.up found)
-        (subst (λ k. IsIn (notice_post b.base (targets.Participant l.id k) (seat_of z number kinds.Durable) notices.Prepared) (leaf_again c l)) durable
-        (leaf_prepared c l (seat_of z number kinds.Durable) state knows)) refl (leads_seat hosts z number kinds.Durable small place) refl)))
+        (subst (λ k. IsIn (notice_post b.base (targets.Participant l.id k) (seat_of hosts z number kinds.Durable) notices.Prepared) (leaf_again c l)) durable
+        (leaf_prepared c l (seat_of hosts z number kinds.Durable) state knows)) refl (leads_seat hosts z number kinds.Durable small place) refl)))
 
 pub registrations_asked : (hosts : Hosts) (es : List WorldEvent) (n j : ℕ) → HaveOwnAddresses hosts → j ≤ length (run_of hosts es).posted
     → RegistrationsAreOwed hosts (λ m. m ≡ n) (ticked_at n (run_of hosts es)) (drop j (ticked_at n (run_of hosts es)).posted)

@@ -98,12 +98,12 @@ not_asked hosts u v before after g behind x a n b t number here came target says
 
 -- a Prepare that arrives is answered, or the participant is busy with it
 prepare_arrives : (hosts : Hosts) (u v : World) (before after : List Posted) → (g : Goes hosts u v before after) → (x : Who) (kind : Kind) (z : Who) (number : ℕ) (a : Arrived) → x.node ≡ g.number
-    → g.event ≡ events.Arrived a → IsNoticeFrom (targets.Participant x.id kind) notices.Prepare (seat_of z number kind) a → HasSeat u z number kind x → HasRegistered u x kind
-    → IsBusyAt v x kind ⊎ TellsAnswer (seat_of z number kind) (posted_in g)
+    → g.event ≡ events.Arrived a → IsNoticeFrom (targets.Participant x.id kind) notices.Prepare (seat_of hosts z number kind) a → HasSeat u z number kind x → HasRegistered u x kind
+    → IsBusyAt v x kind ⊎ TellsAnswer (seat_of hosts z number kind) (posted_in g)
 prepare_arrives hosts u v before after g x kind z number a here came ((target, says), from) seat registered = by_transaction (transaction_at g.book x.id) refl
   where
     e : Epr
-    e = seat_of z number kind
+    e = seat_of hosts z number kind
 
     holds : Holds u x.node g.book
     holds = subst (λ m. Holds u m g.book) (sym here) (holds_before hosts u v before after g)
@@ -141,7 +141,7 @@ prepare_arrives hosts u v before after g x kind z number a here came ((target, s
         inr ((steps_owe_leaves.leaves g.book g.event g.now (ready hosts u v before after g) l (leaf_own g.book x.id l found) (ap (transaction_at g.book) id_is ∙ none)).0
         (record { arrived = a; event = came; target = target ∙ (λ i. targets.Participant (sym id_is i) (sym k i)); message = says }) e (registered.leaf g.book l holds found)
         (stored_is l.coordinator a.from e from
-        (λ c knows. leaf_knows hosts u g.small g.reached x.node g.book holds x.id l c z number found (subst (λ d. HasSeat u z number d x) (sym k) seat) knows ∙ ap (seat_of z number) k)))
+        (λ c knows. leaf_knows hosts u g.small g.reached x.node g.book holds x.id l c z number found (subst (λ d. HasSeat u z number d x) (sym k) seat) knows ∙ ap (seat_of hosts z number) k)))
     by_kind l none found false other =
         stranger (subst (λ o. NoParticipant kind o (leaf_at g.book x.id)) (sym none) (subst (λ o. IfFound (λ (y : Leaf). is_kind y.kind kind ≡ false) o) (sym found) other))
 
@@ -166,14 +166,14 @@ link_known kinds.Durable s h = h.1
 
 busy_on : (hosts : Hosts) (u v : World) (before after : List Posted) → (g : Goes hosts u v before after) → PreparesAreBehind hosts u → (x : Who) (kind : Kind) (n : ℕ) (b : Book) (t : Transaction)
     (number : ℕ) → Holds u n b → transaction_at b t.id ≡ Some t → suits t.phase kind states.Preparing ≡ true → HasSeat u (record { node = n; id = t.id }) number kind x → IsBusyAt u x kind
-    → IsBusyAt v x kind ⊎ TellsAnswer (seat_of (record { node = n; id = t.id }) number kind) (posted_in g)
+    → IsBusyAt v x kind ⊎ TellsAnswer (seat_of hosts (record { node = n; id = t.id }) number kind) (posted_in g)
 busy_on hosts u v before after g behind x kind n b t number h found early seat k = by_place (or_elsewhere x.node g.number)
   where
     z : Who
     z = record { node = n; id = t.id }
 
     e : Epr
-    e = seat_of z number kind
+    e = seat_of hosts z number kind
 
     here_busy : x.node ≡ g.number → (o : Transaction) → transaction_at g.book x.id ≡ Some o → (s : Option Superior) → o.superior ≡ s → LinkIsBusy kind s → IsBusyAt v x kind ⊎ TellsAnswer e (posted_in g)
     here_busy here o there None under busy = absurd busy
@@ -207,7 +207,7 @@ busy_on hosts u v before after g behind x kind n b t number h found early seat k
 
 -- so what a seat waits for stays owed, where no answer came to it
 pub vote_on : (hosts : Hosts) (u v : World) (before after : List Posted) → (g : Goes hosts u v before after) → PreparesAreBehind hosts u → (n : ℕ) (b : Book) (t : Transaction) (s : Enlistment) (x : Who)
-    → Holds u n b → transaction_at b t.id ≡ Some t → IsIn s t.seats → s.state ≡ states.Preparing → IsPlace hosts x → s.participant ≡ participant_of x s.kind → HasRegistered u x s.kind
+    → Holds u n b → transaction_at b t.id ≡ Some t → IsIn s t.seats → s.state ≡ states.Preparing → IsPlace hosts x → s.participant ≡ participant_of hosts x s.kind → HasRegistered u x s.kind
     → (n ≡ g.number → HasAnswered g.event t s → ⊥) → OwesVote u before (record { node = n; id = t.id }) s.number s.kind x → OwesVote v after (record { node = n; id = t.id }) s.number s.kind x
 vote_on hosts u v before after g behind n b t s x h found i state place is registered unanswered owed = by_owed owed
   where
@@ -223,12 +223,12 @@ vote_on hosts u v before after g behind n b t s x h found i state place is regis
     early : suits t.phase s.kind states.Preparing ≡ true
     early = subst (λ d. suits t.phase s.kind d ≡ true) state (suits_at hosts u g.reached n b h t s found i)
 
-    answered : IsBusyAt v x s.kind ⊎ TellsAnswer (seat_of z s.number s.kind) (posted_in g) → OwesVote v after z s.number s.kind x
+    answered : IsBusyAt v x s.kind ⊎ TellsAnswer (seat_of hosts z s.number s.kind) (posted_in g) → OwesVote v after z s.number s.kind x
     answered (inl busy) = inr (inr busy)
     answered (inr (m, answers, tells)) = inr (inl (m, answers, seat_told hosts u v before after g z s.number s.kind m answers there tells))
 
-    by_asked : (c : Comes before x.node (IsNoticeFrom (targets.Participant x.id s.kind) notices.Prepare (seat_of z s.number s.kind)))
-        → Comes after x.node (IsNoticeFrom (targets.Participant x.id s.kind) notices.Prepare (seat_of z s.number s.kind)) ⊎ ((x.node ≡ g.number) × (g.event ≡ events.Arrived c.arrived))
+    by_asked : (c : Comes before x.node (IsNoticeFrom (targets.Participant x.id s.kind) notices.Prepare (seat_of hosts z s.number s.kind)))
+        → Comes after x.node (IsNoticeFrom (targets.Participant x.id s.kind) notices.Prepare (seat_of hosts z s.number s.kind)) ⊎ ((x.node ≡ g.number) × (g.event ≡ events.Arrived c.arrived))
         → OwesVote v after z s.number s.kind x
     by_asked c (inl stays) = inl stays
     by_asked c (inr (here, came)) = answered (prepare_arrives hosts u v before after g x s.kind z s.number c.arrived here came c.says seat registered)

@@ -90,12 +90,12 @@ AnswersOnWay queue t number kind = (n : Notice) × AnswersSeat n × Comes queue 
 
 abbrev pub OwesVote : World → List Posted → Who → ℕ → Kind → Who → Type 0
 OwesVote w queue t number kind x =
-    Comes queue x.node (IsNoticeFrom (targets.Participant x.id kind) notices.Prepare (seat_of t number kind)) ⊎ (AnswersOnWay queue t number kind ⊎ IsBusyAt w x kind)
+    Comes queue x.node (IsNoticeFrom (targets.Participant x.id kind) notices.Prepare (seat_of hosts t number kind)) ⊎ (AnswersOnWay queue t number kind ⊎ IsBusyAt w x kind)
 
 -- A durable seat that waits until its participant has committed: it is told to, or says so, or is busy with telling its own.
 abbrev pub OwesCommitted : World → List Posted → Who → ℕ → Who → Type 0
 OwesCommitted w queue t number x =
-    Comes queue x.node (IsNoticeFrom (targets.Participant x.id kinds.Durable) notices.Commit (seat_of t number kinds.Durable))
+    Comes queue x.node (IsNoticeFrom (targets.Participant x.id kinds.Durable) notices.Commit (seat_of hosts t number kinds.Durable))
     ⊎ (Comes queue t.node (IsNotice (seat_target_of t number kinds.Durable) notices.Committed) ⊎ CommitsAt w x)
 
 -- A durable participant that waits for the outcome: its vote is on its way, or the outcome is, or the seat has its vote.
@@ -105,15 +105,15 @@ IsToldOnWay queue x =
 
 abbrev pub OwesOutcome : World → List Posted → Who → Who → ℕ → Type 0
 OwesOutcome w queue x t number =
-    Comes queue t.node (IsNoticeFrom (seat_target_of t number kinds.Durable) notices.Prepared (participant_of x kinds.Durable)) ⊎ (IsToldOnWay queue x ⊎ IsPreparedAt w t number)
+    Comes queue t.node (IsNoticeFrom (seat_target_of t number kinds.Durable) notices.Prepared (participant_of hosts x kinds.Durable)) ⊎ (IsToldOnWay queue x ⊎ IsPreparedAt w t number)
 
 -- A participant that registers at a transaction of a node: its Register is on its way, or the answer.
 pub record IsRegisterOf (x : Who) (kind : Kind) (id : Numbers) (a : Arrived) : Type 0 where
   pub target : a.target ≡ targets.Registration id
   pub register : Register
   pub says : a.message ≡ messages.Register register
-  pub reply : a.reply ≡ replies.At (participant_of x kind)
-  pub fault : a.fault ≡ replies.At (participant_of x kind)
+  pub reply : a.reply ≡ replies.At (participant_of hosts x kind)
+  pub fault : a.fault ≡ replies.At (participant_of hosts x kind)
   pub named : a.id ≡ Some (register_id (hosts.base_of x.node) (targets.Participant x.id kind))
 
 pub record IsRegisteredBy (x : Who) (kind : Kind) (a : Arrived) : Type 0 where
@@ -127,17 +127,17 @@ OwesRegistered queue x kind n id = Comes queue n (IsRegisterOf x kind id) ⊎ Co
 -- All that is owed to the seats and participants of these nodes.
 pub record VotesAreOwed (hosts : Hosts) (Asked : ℕ → Type 0) (w : World) (queue : List Posted) : Type 0 where
   pub seats : (n : ℕ) (b : Book) (t : Transaction) (s : Enlistment) (x : Who) → Asked n → Holds w n b → transaction_at b t.id ≡ Some t → IsIn s t.seats → s.state ≡ states.Preparing → IsPlace hosts x
-      → s.participant ≡ participant_of x s.kind → OwesVote w queue (record { node = n; id = t.id }) s.number s.kind x
+      → s.participant ≡ participant_of hosts x s.kind → OwesVote w queue (record { node = n; id = t.id }) s.number s.kind x
 
 pub record CommitsAreOwed (hosts : Hosts) (Asked : ℕ → Type 0) (w : World) (queue : List Posted) : Type 0 where
   pub seats : (n : ℕ) (b : Book) (t : Transaction) (s : Enlistment) (x : Who) → Asked n → Holds w n b → transaction_at b t.id ≡ Some t → IsIn s t.seats → s.kind ≡ kinds.Durable
-      → s.state ≡ states.Committing → IsPlace hosts x → s.participant ≡ participant_of x s.kind → OwesCommitted w queue (record { node = n; id = t.id }) s.number x
+      → s.state ≡ states.Committing → IsPlace hosts x → s.participant ≡ participant_of hosts x s.kind → OwesCommitted w queue (record { node = n; id = t.id }) s.number x
 
 pub record OutcomesAreOwed (hosts : Hosts) (Asked : ℕ → Type 0) (w : World) (queue : List Posted) : Type 0 where
   pub links : (n : ℕ) (b : Book) (t : Transaction) (s : Superior) (z : Who) (number : ℕ) → Asked n → Holds w n b → transaction_at b t.id ≡ Some t → t.superior ≡ Some s
-      → s.durable.state ≡ states.PreparedSuccess → IsSeatPlace hosts z number → s.durable.coordinator ≡ Some (seat_of z number kinds.Durable) → OwesOutcome w queue (record { node = n; id = t.id }) z number
+      → s.durable.state ≡ states.PreparedSuccess → IsSeatPlace hosts z number → s.durable.coordinator ≡ Some (seat_of hosts z number kinds.Durable) → OwesOutcome w queue (record { node = n; id = t.id }) z number
   pub leaves : (n : ℕ) (b : Book) (l : Leaf) (z : Who) (number : ℕ) → Asked n → Holds w n b → leaf_at b l.id ≡ Some l → l.kind ≡ kinds.Durable → l.state ≡ states.PreparedSuccess → IsSeatPlace hosts z number
-      → l.coordinator ≡ Some (seat_of z number kinds.Durable) → OwesOutcome w queue (record { node = n; id = l.id }) z number
+      → l.coordinator ≡ Some (seat_of hosts z number kinds.Durable) → OwesOutcome w queue (record { node = n; id = l.id }) z number
 
 pub record RegistrationsAreOwed (hosts : Hosts) (Asked : ℕ → Type 0) (w : World) (queue : List Posted) : Type 0 where
   pub links : (n : ℕ) (b : Book) (t : Transaction) (s : Superior) (kind : Kind) (r : Request) (m : ℕ) (id : Numbers) → Asked n → Holds w n b → transaction_at b t.id ≡ Some t → t.superior ≡ Some s

@@ -252,9 +252,9 @@ all_timed : (es : List WorldEvent) (w : World) → AreTimed w → AreTimed (run_
 all_timed [] w h = h
 all_timed (e ∷ es) w h = all_timed es (world_step w e) (step_timed w e h)
 
-new_timed : (k n : ℕ) → AllByRecursion IsTimed (new_nodes k n)
-new_timed zero n = tt
-new_timed (suc k) n = (tt, new_timed k (n + 1))
+new_timed : (base_of : ℕ → List ℕ) (k n : ℕ) → AllByRecursion IsTimed (new_nodes base_of k n)
+new_timed base_of zero n = tt
+new_timed base_of (suc k) n = (tt, new_timed base_of k (n + 1))
 
 pub run_timed : (hosts : Hosts) (es : List WorldEvent) → AreTimed (run_of hosts es)
-run_timed hosts es = all_timed es (opening hosts) (new_timed hosts 1)
+run_timed hosts es = all_timed es (opening hosts) (new_timed hosts.base_of hosts.count 1)

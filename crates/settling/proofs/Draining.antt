@@ -176,7 +176,7 @@ unfolding settle settled settle_from
 events_few hosts es =
     let w : World = run_of hosts es in
     let s : Settling = risen hosts es in
-    let size : length w.nodes ≡ hosts = run_length hosts w (record { events = es; is = refl }) in
+    let size : length w.nodes ≡ hosts.count = run_length hosts w (record { events = es; is = refl }) in
     let most : ℕ = granted s in
     omega (arith, size, rounds_length hosts most 8 s (risen_run hosts es), all_length (ups 1 w.nodes) (record { world = w; events = [] }), ups_length 1 w.nodes)
 

@@ -68,9 +68,9 @@ drained P (suc most) j s g h = by_next (next j s.world) refl (λ p t i. drained 
         one_more k n e (rest k (also (Turn n (Deliver k) [] None) s) (record { passed = l.passed; paid = omega (arith, l.paid, g.paid); steady = l.steady }))
 
 -- the ticks of a round
-ticked_all : (P : Prices) (hosts : Hosts) (j limit u : ℕ) (xs : List Node) (s : Settling) → IsOfRun hosts s.world → u + length xs ≡ hosts → Ticks P j u limit s.world
-    → Ticks P j hosts limit (all_also (ticks (u + 1) xs) s).world
-ticked_all P hosts j limit u [] s r e t = let same : u ≡ hosts = omega (arith, e) in subst (λ k. Ticks P j k limit s.world) same t
+ticked_all : (P : Prices) (hosts : Hosts) (j limit u : ℕ) (xs : List Node) (s : Settling) → IsOfRun hosts s.world → u + length xs ≡ hosts.count → Ticks P j u limit s.world
+    → Ticks P j hosts.count limit (all_also (ticks (u + 1) xs) s).world
+ticked_all P hosts j limit u [] s r e t = let same : u ≡ hosts.count = omega (arith, e) in subst (λ k. Ticks P j k limit s.world) same t
 ticked_all P hosts j limit u (x ∷ xs) s r e t =
     let tick : WorldEvent = Turn (u + 1) (Tick resend_after) [] None in
     let there : u + 1 ≤ length s.world.nodes = omega (arith, e, run_length hosts s.world r) in
@@ -122,9 +122,9 @@ begun_good P hosts s r =
     let j : ℕ = length s.world.posted in
     let limit : ℕ = seat_most P * seats_of s.world + other_most P * others_of s.world in
     let nothing : queued P (drop j s.world.posted) ≡ 0 = ap (queued P) (drop_all j s.world.posted (omega arith)) in
-    let size : length s.world.nodes ≡ hosts = run_length hosts s.world r in
-    let t : Ticks P j hosts limit (all_also (ticks 1 s.world.nodes) s).world =
+    let size : length s.world.nodes ≡ hosts.count = run_length hosts s.world r in
+    let t : Ticks P j hosts.count limit (all_also (ticks 1 s.world.nodes) s).world =
     ticked_all P hosts j limit 0 s.world.nodes s r (omega (arith, size)) (record { passed = omega arith; paid = omega (arith, nothing, nodes_most P s.world.nodes); steady = run_steady hosts s.world r }) in
     let w : World = (all_also (ticks 1 s.world.nodes) s).world in
-    let all : mixed P hosts w.nodes ≡ sum_by (node_load P) w.nodes = mixed_all P w.nodes hosts (sym (run_length hosts w (all_further hosts (ticks 1 s.world.nodes) s r))) in
+    let all : mixed P hosts.count w.nodes ≡ sum_by (node_load P) w.nodes = mixed_all P w.nodes hosts.count (sym (run_length hosts w (all_further hosts (ticks 1 s.world.nodes) s r))) in
     record { passed = t.passed; paid = omega (arith, t.paid, all); steady = t.steady }

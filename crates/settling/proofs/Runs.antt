@@ -8,6 +8,7 @@ use Rattle.model_laws.specs.Reached.{Reached, counts, fell, opened, rose, steppe
 use Rattle.model_laws.specs.Settle.{Settling, all_also, also}
 use Rattle.model_laws.proofs.Deciding.{IfThere}
 use Rattle.model_laws.proofs.Reaching.{run_reached}
+use Rattle.agreement.proofs.Sorted.{new_length}
 use Rattle.settling.specs.Pays.{IsSteady}
 use Rattle.settling.proofs.Delivering.{AreSteady, IsSteadyNode}
 use Rattle.settling.proofs.Paying.{steady_books}
@@ -34,12 +35,8 @@ pub run_is : (hosts : Hosts) (w : World) → IsOfRun hosts w → Reached hosts w
 run_is hosts w h = subst (Reached hosts) (sym h.is) (run_reached hosts h.events)
 
 -- how many nodes it has
-new_length : (k n : ℕ) → length (new_nodes k n) ≡ k
-new_length zero n = refl
-new_length (suc k) n = let rest : length (new_nodes k (n + 1)) ≡ k = new_length k (n + 1) in omega (arith, rest)
-
-pub reached_length : (hosts : Hosts) (w : World) → Reached hosts w → length w.nodes ≡ hosts
-reached_length hosts w (opened is) = ap (λ (v : World). length v.nodes) is ∙ new_length hosts 1
+pub reached_length : (hosts : Hosts) (w : World) → Reached hosts w → length w.nodes ≡ hosts.count
+reached_length hosts w (opened is) = ap (λ (v : World). length v.nodes) is ∙ new_length hosts.base_of hosts.count 1
 reached_length hosts w (stepped u n x b e now landed ps reached found up heard those is) =
     ap (λ (v : World). length v.nodes) is ∙ ap length (posts_nodes n ps (counts u n x b e now landed)) ∙ length_put n _ u.nodes ∙ reached_length hosts u reached
 reached_length hosts w (fell u n x b reached found up is) =
@@ -47,7 +44,7 @@ reached_length hosts w (fell u n x b reached found up is) =
 reached_length hosts w (rose u n x stop reached found down small is) = ap (λ (v : World). length v.nodes) is ∙ length_put n _ u.nodes ∙ reached_length hosts u reached
 reached_length hosts w (waited u n x clock reached found is) = ap (λ (v : World). length v.nodes) is ∙ length_put n _ u.nodes ∙ reached_length hosts u reached
 
-pub run_length : (hosts : Hosts) (w : World) → IsOfRun hosts w → length w.nodes ≡ hosts
+pub run_length : (hosts : Hosts) (w : World) → IsOfRun hosts w → length w.nodes ≡ hosts.count
 run_length hosts w h = reached_length hosts w (run_is hosts w h)
 
 -- what holds of each node by its number holds of all
