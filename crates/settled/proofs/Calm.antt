@@ -170,8 +170,8 @@ record Standing (hosts : Hosts) (inv : Invariant hosts) (n k : ℕ) (r : Turning
   passed : k ≤ length world.posted
   holds : inv.Of (newest n node world book) (drop k world.posted)
 
-abbrev Stays : ℕ → Event → List Posted → List Posted → Type 0
-Stays n e before after = (q : Posted) → IsIn q before → IsIn q after ⊎ HasArrived n e q
+abbrev Stays : Hosts → ℕ → Event → List Posted → List Posted → Type 0
+Stays hosts n e before after = (q : Posted) → IsIn q before → IsIn q after ⊎ HasArrived hosts n e q
 
 all_own : (os : List Out) → AllByRecursion (λ p. IsIn (outs.Post p) os) (posts_of os)
 all_own [] = tt
@@ -188,7 +188,7 @@ all_own (outs.Answer status reply ∷ os) = more os (posts_of os) (all_own os)
 
 counted_stands : (hosts : Hosts) (inv : Invariant hosts) (n k : ℕ) (u : World) (x : Node) (b : Book) (e : Event) (now : ℕ) (entry : Option Record) (before : List Posted) → HaveOwnAddresses hosts
     → nth n u.nodes ≡ Some x → (plan b e now).entry ≡ entry → Reached hosts (newest n x u b) → k ≤ length u.posted → Heard (newest n x u b) n x e → MakesNone e
-    → Stays n e before (drop k u.posted) → inv.Of (newest n x u b) before
+    → Stays hosts n e before (drop k u.posted) → inv.Of (newest n x u b) before
     → Standing hosts inv n k (counted n (plan b e now).landed (calm (record u { nodes = put_nth n (record x { journal = with_entry entry true x.journal }) u.nodes }) b))
 counted_stands hosts inv n k u x b e now entry before small found entry_is reached passed heard makes stays h = record {
   world = post_all n ps begun;
@@ -265,12 +265,12 @@ counted_stands hosts inv n k u x b e now entry before small found entry_is reach
       adds = λ q i. subst (λ zs. IsIn q (drop k zs)) (sym posted) (back_in k q u.posted (map (posted_as n (newest n x u b).nodes) ps) passed i);
     }
       where
-        by_place : (q : Posted) → IsIn q (drop k u.posted) ⊎ HasArrived n e q → IsIn q (drop k v.posted) ⊎ HasArrived n e q
+        by_place : (q : Posted) → IsIn q (drop k u.posted) ⊎ HasArrived hosts n e q → IsIn q (drop k v.posted) ⊎ HasArrived hosts n e q
         by_place q (inl j) = inl (subst (λ zs. IsIn q (drop k zs)) (sym posted) (front_in k q u.posted (map (posted_as n (newest n x u b).nodes) ps) j))
         by_place q (inr arrived) = inr arrived
 
 take_stands : (hosts : Hosts) (inv : Invariant hosts) (n k : ℕ) (u : World) (x : Node) (b : Book) (e : Event) (now : ℕ) (before : List Posted) → HaveOwnAddresses hosts → nth n u.nodes ≡ Some x
-    → Reached hosts (newest n x u b) → k ≤ length u.posted → Heard (newest n x u b) n x e → MakesNone e → Stays n e before (drop k u.posted) → inv.Of (newest n x u b) before
+    → Reached hosts (newest n x u b) → k ≤ length u.posted → Heard (newest n x u b) n x e → MakesNone e → Stays hosts n e before (drop k u.posted) → inv.Of (newest n x u b) before
     → Standing hosts inv n k (take_step n (plan b e now) (calm u b))
 unfolding counted_stands
 take_stands hosts inv n k u x b e now before small found reached passed heard makes stays h = by_entry (plan b e now).entry refl
@@ -436,7 +436,7 @@ arrival_after hosts inv n k w x b p small found up reached passed among to plain
         same_number : (i j : ℕ) → Some i ≡ Some j → i ≡ j
         same_number i j f = cc
 
-        dropped : (q : Posted) → IsIn q (p ∷ drop k w.posted) → IsIn q (drop k w.posted) ⊎ IsLost q
+        dropped : (q : Posted) → IsIn q (p ∷ drop k w.posted) → IsIn q (drop k w.posted) ⊎ IsLost hosts q
         dropped q (inl is) =
             inr (λ m a r d. none_there (decoded x.base p.content) a e
             (ap (λ bs. decoded bs p.content) (base ∙ ap hosts.base_of (same_number n m (sym to ∙ ap (λ (y : Posted). y.receiver) (sym is) ∙ r))) ∙ ap (λ (y : Posted). decoded (hosts.base_of m) y.content) (sym is) ∙ d))
@@ -449,7 +449,7 @@ arrival_after hosts inv n k w x b p small found up reached passed among to plain
         same_event : (o : Option Arrived) (c d : Arrived) → o ≡ Some c → o ≡ Some d → events.Arrived c ≡ events.Arrived d
         same_event o c d f g = cc
 
-        stays : (q : Posted) → IsIn q (p ∷ drop k w.posted) → IsIn q (drop k w.posted) ⊎ HasArrived n (events.Arrived a) q
+        stays : (q : Posted) → IsIn q (p ∷ drop k w.posted) → IsIn q (drop k w.posted) ⊎ HasArrived hosts n (events.Arrived a) q
         stays q (inl is) =
             inr (
               ap (λ (y : Posted). y.receiver) is ∙ to,
@@ -488,10 +488,10 @@ delivery_after hosts inv j k n w x b p small found up f plain a =
     none_there : (o : Option ℕ) (m : ℕ) → o ≡ None → o ≡ Some m → ⊥
     none_there o m g h = cc
 
-    by_place : (q : Posted) → (q.receiver ≡ None) ⊎ ((q ≡ f.post) ⊎ IsIn q (drop (f.behind + 1) (drop j w.posted))) → IsIn q (f.post ∷ drop k w.posted) ⊎ IsLost q
+    by_place : (q : Posted) → (q.receiver ≡ None) ⊎ ((q ≡ f.post) ⊎ IsIn q (drop (f.behind + 1) (drop j w.posted))) → IsIn q (f.post ∷ drop k w.posted) ⊎ IsLost hosts q
     by_place q (inl none) = inr (λ m c r d. none_there q.receiver m none r)
     by_place q (inr (inl is)) = inl (inl is)
     by_place q (inr (inr i)) = inl (inr (subst (IsIn q) rest i))
 
-    skipped : (q : Posted) → IsIn q (drop j w.posted) → IsIn q (f.post ∷ drop k w.posted) ⊎ IsLost q
+    skipped : (q : Posted) → IsIn q (drop j w.posted) → IsIn q (f.post ∷ drop k w.posted) ⊎ IsLost hosts q
     skipped q i = by_place q (f.rest q i)

@@ -163,8 +163,8 @@ committing_on hosts u v before after g x z number seat k = by_place (or_elsewher
 
 commit_on : (hosts : Hosts) (u v : World) (before after : List Posted) → (g : Goes hosts u v before after) → (n : ℕ) (b : Book) (t : Transaction) (s : Enlistment) (x : Who)
     → Holds u n b → transaction_at b t.id ≡ Some t → IsIn s t.seats → s.kind ≡ kinds.Durable → IsPlace hosts x → s.participant ≡ participant_of hosts x s.kind
-    → (n ≡ g.number → ParticipantSaid notices.Committed g.event t s → ⊥) → OwesCommitted u before (record { node = n; id = t.id }) s.number x
-    → OwesCommitted v after (record { node = n; id = t.id }) s.number x
+    → (n ≡ g.number → ParticipantSaid notices.Committed g.event t s → ⊥) → OwesCommitted hosts u before (record { node = n; id = t.id }) s.number x
+    → OwesCommitted hosts v after (record { node = n; id = t.id }) s.number x
 commit_on hosts u v before after g n b t s x h found i durable place is unanswered owed = by_owed owed
   where
     z : Who
@@ -176,18 +176,18 @@ commit_on hosts u v before after g n b t s x h found i durable place is unanswer
     there : IsSeatPlace hosts z s.number
     there = seat_place hosts u g.small g.reached n b h t s found i
 
-    answered : CommitsAt v x ⊎ Tells (Some (seat_of hosts z s.number kinds.Durable)) notices.Committed (posted_in g) → OwesCommitted v after z s.number x
+    answered : CommitsAt v x ⊎ Tells (Some (seat_of hosts z s.number kinds.Durable)) notices.Committed (posted_in g) → OwesCommitted hosts v after z s.number x
     answered (inl commits) = inr (inr commits)
     answered (inr tells) = inr (inl (seat_told hosts u v before after g z s.number kinds.Durable notices.Committed tt there tells))
 
-    by_asked : (c : Comes before x.node (IsNoticeFrom (targets.Participant x.id kinds.Durable) notices.Commit (seat_of hosts z s.number kinds.Durable)))
-        → Comes after x.node (IsNoticeFrom (targets.Participant x.id kinds.Durable) notices.Commit (seat_of hosts z s.number kinds.Durable)) ⊎ ((x.node ≡ g.number) × (g.event ≡ events.Arrived c.arrived))
-        → OwesCommitted v after z s.number x
+    by_asked : (c : Comes hosts before x.node (IsNoticeFrom (targets.Participant x.id kinds.Durable) notices.Commit (seat_of hosts z s.number kinds.Durable)))
+        → Comes hosts after x.node (IsNoticeFrom (targets.Participant x.id kinds.Durable) notices.Commit (seat_of hosts z s.number kinds.Durable)) ⊎ ((x.node ≡ g.number) × (g.event ≡ events.Arrived c.arrived))
+        → OwesCommitted hosts v after z s.number x
     by_asked c (inl stays) = inl stays
     by_asked c (inr (here, came)) = answered (commit_arrives hosts u v before after g x z s.number c.arrived here came c.says seat)
 
-    by_heard : (c : Comes before n (IsNotice (seat_target_of z s.number kinds.Durable) notices.Committed))
-        → Comes after n (IsNotice (seat_target_of z s.number kinds.Durable) notices.Committed) ⊎ ((n ≡ g.number) × (g.event ≡ events.Arrived c.arrived)) → OwesCommitted v after z s.number x
+    by_heard : (c : Comes hosts before n (IsNotice (seat_target_of z s.number kinds.Durable) notices.Committed))
+        → Comes hosts after n (IsNotice (seat_target_of z s.number kinds.Durable) notices.Committed) ⊎ ((n ≡ g.number) × (g.event ≡ events.Arrived c.arrived)) → OwesCommitted hosts v after z s.number x
     by_heard c (inl stays) = inr (inl stays)
     by_heard c (inr (here, came)) =
         absurd (unanswered here (record {
@@ -197,14 +197,14 @@ commit_on hosts u v before after g n b t s x h found i durable place is unanswer
           says = c.says.1;
         }))
 
-    by_owed : OwesCommitted u before z s.number x → OwesCommitted v after z s.number x
+    by_owed : OwesCommitted hosts u before z s.number x → OwesCommitted hosts v after z s.number x
     by_owed (inl c) = by_asked c (or_arrives hosts u v before after g x.node _ c)
     by_owed (inr (inl c)) = by_heard c (or_arrives hosts u v before after g n _ c)
     by_owed (inr (inr commits)) = answered (committing_on hosts u v before after g x z s.number seat commits)
 
 commits_here : (hosts : Hosts) (Asked : ℕ → Type 0) (u v : World) (before after : List Posted) → (g : Goes hosts u v before after) → CommitsAreOwed hosts Asked u before → (t : Transaction)
     (s : Enlistment) (x : Who) → Asked g.number → transaction_at (book_after g) t.id ≡ Some t → IsIn s t.seats → s.kind ≡ kinds.Durable → s.state ≡ states.Committing
-    → IsPlace hosts x → s.participant ≡ participant_of hosts x s.kind → OwesCommitted v after (record { node = g.number; id = t.id }) s.number x
+    → IsPlace hosts x → s.participant ≡ participant_of hosts x s.kind → OwesCommitted hosts v after (record { node = g.number; id = t.id }) s.number x
 commits_here hosts Asked u v before after g h t s x asked found i durable state place is = by_seat b.seats
   where
     b : StoodBefore hosts u v before after g t s
@@ -215,7 +215,7 @@ commits_here hosts Asked u v before after g h t s x asked found i durable state 
 
     by_asked : (p : Partner (IsOwed g.book.base g.event b.old (posted_in g)) b.old.seats s)
         → ((p.old.state ≡ states.Committing) × (ParticipantSaid notices.Committed g.event b.old p.old → ⊥)) ⊎ IsIn (seat_post g.book.base b.old.id p.old notices.Commit) (posted_in g)
-        → OwesCommitted v after (record { node = g.number; id = b.old.id }) p.old.number x
+        → OwesCommitted hosts v after (record { node = g.number; id = b.old.id }) p.old.number x
     by_asked p (inl (was, unanswered)) =
         let same : p.old.participant ≡ participant_of hosts x p.old.kind = subst (λ (a : Seating). a.participant ≡ participant_of hosts x a.kind) p.pair.0.0 is in
         let k : p.old.kind ≡ kinds.Durable = subst (λ (a : Seating). a.kind ≡ kinds.Durable) p.pair.0.0 durable in
@@ -224,14 +224,14 @@ commits_here hosts Asked u v before after g h t s x asked found i durable state 
     by_asked p (inr sent) =
         let same : p.old.participant ≡ participant_of hosts x p.old.kind = subst (λ (a : Seating). a.participant ≡ participant_of hosts x a.kind) p.pair.0.0 is in
         let k : p.old.kind ≡ kinds.Durable = subst (λ (a : Seating). a.kind ≡ kinds.Durable) p.pair.0.0 durable in
-        inl (subst (λ d. Comes after x.node (IsNoticeFrom (targets.Participant x.id d) notices.Commit (seat_of hosts (record { node = g.number; id = b.old.id }) p.old.number d))) k
+        inl (subst (λ d. Comes hosts after x.node (IsNoticeFrom (targets.Participant x.id d) notices.Commit (seat_of hosts (record { node = g.number; id = b.old.id }) p.old.number d))) k
         (seat_asks hosts u v before after g b.old.id p.old x notices.Commit tt place same sent))
 
     by_seat : Partner (IsOwed g.book.base g.event b.old (posted_in g)) b.old.seats s ⊎ IsNew g.book.base b.old (posted_in g) s
-        → OwesCommitted v after (record { node = g.number; id = t.id }) s.number x
+        → OwesCommitted hosts v after (record { node = g.number; id = t.id }) s.number x
     by_seat (inl p) =
-        subst (λ j. OwesCommitted v after (record { node = g.number; id = j }) s.number x) (sym b.id_is)
-        (subst (λ (a : Seating). OwesCommitted v after (record { node = g.number; id = b.old.id }) a.number x) (sym p.pair.0.0) (by_asked p (p.pair.1.1 state)))
+        subst (λ j. OwesCommitted hosts v after (record { node = g.number; id = j }) s.number x) (sym b.id_is)
+        (subst (λ (a : Seating). OwesCommitted hosts v after (record { node = g.number; id = b.old.id }) a.number x) (sym p.pair.0.0) (by_asked p (p.pair.1.1 state)))
     by_seat (inr new) = absurd (new.1.0 state)
 
 pub commits_kept : (hosts : Hosts) (Asked : ℕ → Type 0) (u v : World) (before after : List Posted) → (g : Goes hosts u v before after) → CommitsAreOwed hosts Asked u before → CommitsAreOwed hosts Asked v after
@@ -241,10 +241,10 @@ commits_kept hosts Asked u v before after g h = record {
   where
     by_place : (n : ℕ) (b : Book) (t : Transaction) (s : Enlistment) (x : Who) → Asked n → Holds v n b → transaction_at b t.id ≡ Some t → IsIn s t.seats → s.kind ≡ kinds.Durable
         → s.state ≡ states.Committing → IsPlace hosts x → s.participant ≡ participant_of hosts x s.kind → (n ≡ g.number) ⊎ (n ≡ g.number → ⊥)
-        → OwesCommitted v after (record { node = n; id = t.id }) s.number x
+        → OwesCommitted hosts v after (record { node = n; id = t.id }) s.number x
     by_place n b t s x asked holds found i durable state place is (inl here) =
         let same : b ≡ book_after g = same_book v g.number b (book_after g) (subst (λ m. Holds v m b) here holds) (holds_after hosts u v before after g) in
-        subst (λ m. OwesCommitted v after (record { node = m; id = t.id }) s.number x) (sym here)
+        subst (λ m. OwesCommitted hosts v after (record { node = m; id = t.id }) s.number x) (sym here)
         (commits_here hosts Asked u v before after g h t s x (subst Asked here asked) (subst (λ c. transaction_at c t.id ≡ Some t) same found) i durable state place is)
     by_place n b t s x asked holds found i durable state place is (inr other) =
         let held : Holds u n b = held_elsewhere hosts u v before after g n b other holds in

@@ -108,21 +108,21 @@ or_elsewhere n m = by_number (nat_eq n m) refl
     by_number false c = inr (eqb-false n m c)
 
 -- what is on its way
-pub or_arrives : (hosts : Hosts) (u v : World) (before after : List Posted) → (g : Goes hosts u v before after) → (n : ℕ) (P : Arrived → Type 0) → (c : Comes before n P)
-    → Comes after n P ⊎ ((n ≡ g.number) × (g.event ≡ events.Arrived c.arrived))
+pub or_arrives : (hosts : Hosts) (u v : World) (before after : List Posted) → (g : Goes hosts u v before after) → (n : ℕ) (P : Arrived → Type 0) → (c : Comes hosts before n P)
+    → Comes hosts after n P ⊎ ((n ≡ g.number) × (g.event ≡ events.Arrived c.arrived))
 or_arrives hosts u v before after g n P c = by_place (g.stays c.posted c.waits)
   where
     same_number : (i j : ℕ) → Some i ≡ Some j → i ≡ j
     same_number i j e = cc
 
-    by_place : IsIn c.posted after ⊎ HasArrived g.number g.event c.posted → Comes after n P ⊎ ((n ≡ g.number) × (g.event ≡ events.Arrived c.arrived))
+    by_place : IsIn c.posted after ⊎ HasArrived hosts g.number g.event c.posted → Comes hosts after n P ⊎ ((n ≡ g.number) × (g.event ≡ events.Arrived c.arrived))
     by_place (inl i) = inl (record { posted = c.posted; waits = i; receiver = c.receiver; arrived = c.arrived; decodes = c.decodes; says = c.says })
     by_place (inr (to, arrives)) =
         let here : n ≡ g.number = same_number n g.number (sym c.receiver ∙ to) in
         inr (here, arrives c.arrived (ap (λ m. decoded (hosts.base_of m) c.posted.content) (sym here) ∙ c.decodes))
 
-pub comes_as : {P Q : Arrived → Type 0} (queue : List Posted) (n : ℕ) → ((a : Arrived) → P a → Q a) → Comes queue n P → Comes queue n Q
-comes_as queue n f c = record { posted = c.posted; waits = c.waits; receiver = c.receiver; arrived = c.arrived; decodes = c.decodes; says = f c.arrived c.says }
+pub comes_as : (hosts : Hosts) {P Q : Arrived → Type 0} (queue : List Posted) (n : ℕ) → ((a : Arrived) → P a → Q a) → Comes hosts queue n P → Comes hosts queue n Q
+comes_as hosts queue n f c = record { posted = c.posted; waits = c.waits; receiver = c.receiver; arrived = c.arrived; decodes = c.decodes; says = f c.arrived c.says }
 
 -- a message that is posted comes to whom its endpoint leads
 mapped_in : {A B : Type 0} (f : A → B) (x : A) (xs : List A) → IsIn x xs → IsIn (f x) (map f xs)
@@ -133,11 +133,11 @@ mapped_in f x (y ∷ xs) (inr i) = inr (mapped_in f x xs i)
 pub decodes_there : (hosts : Hosts) (n : ℕ) (p : Post) (to : Epr) (T : Target) → p.to ≡ Some to → LeadsTo hosts to n T → takes T p.message ≡ true → decoded (hosts.base_of n) p ≡ Some (arrival_of T p)
 decodes_there hosts n p to T goes leads taken =
     ap (option_and_then (λ (e : Epr). decoded_at (target_at (hosts.base_of n) e.address) p)) goes
-    ∙ ap (λ o. decoded_at o p) (place_is hosts 1 to.address (n, T) leads).target
+    ∙ ap (λ o. decoded_at o p) (place_is hosts.base_of hosts.count 1 to.address (n, T) leads).target
     ∙ ap (λ b. if b then Some (arrival_of T p) else None) taken
 
 pub new_comes : (hosts : Hosts) (u v : World) (before after : List Posted) → (g : Goes hosts u v before after) → (n : ℕ) (p : Post) (to : Epr) (T : Target) → IsIn p (posted_in g) → p.to ≡ Some to
-    → LeadsTo hosts to n T → takes T p.message ≡ true → Comes after n (λ a. a ≡ arrival_of T p)
+    → LeadsTo hosts to n T → takes T p.message ≡ true → Comes hosts after n (λ a. a ≡ arrival_of T p)
 new_comes hosts u v before after g n p to T i goes leads taken = record {
   posted = posted_as g.number u.nodes p;
   waits = g.adds (posted_as g.number u.nodes p) (mapped_in (posted_as g.number u.nodes) p (posted_in g) i);
@@ -176,16 +176,16 @@ takes_answer notices.Committed t number kind h = refl
 takes_answer other t number kind h = absurd h
 
 pub participant_told : (hosts : Hosts) (u v : World) (before after : List Posted) → (g : Goes hosts u v before after) → (x : Who) (kind : Kind) (n : Notice) (to : Epr) → AsksParticipant n → IsPlace hosts x
-    → to ≡ participant_of hosts x kind → Tells (Some to) n (posted_in g) → Comes after x.node (IsNotice (targets.Participant x.id kind) n)
+    → to ≡ participant_of hosts x kind → Tells (Some to) n (posted_in g) → Comes hosts after x.node (IsNotice (targets.Participant x.id kind) n)
 participant_told hosts u v before after g x kind n to asks place is (p, i, goes, says) =
-    comes_as after x.node (λ a e. (ap (λ (y : Arrived). y.target) e, ap (λ (y : Arrived). y.message) e ∙ says))
+    comes_as hosts after x.node (λ a e. (ap (λ (y : Arrived). y.target) e, ap (λ (y : Arrived). y.message) e ∙ says))
     (new_comes hosts u v before after g x.node p to (targets.Participant x.id kind) i goes (leads_participant hosts x kind to g.small place is)
     (ap (takes (targets.Participant x.id kind)) says ∙ takes_asked n x.id kind asks))
 
 pub seat_told : (hosts : Hosts) (u v : World) (before after : List Posted) → (g : Goes hosts u v before after) → (t : Who) (number : ℕ) (kind : Kind) (n : Notice) → AnswersSeat n
-    → IsSeatPlace hosts t number → Tells (Some (seat_of hosts t number kind)) n (posted_in g) → Comes after t.node (IsNotice (seat_target_of t number kind) n)
+    → IsSeatPlace hosts t number → Tells (Some (seat_of hosts t number kind)) n (posted_in g) → Comes hosts after t.node (IsNotice (seat_target_of t number kind) n)
 seat_told hosts u v before after g t number kind n answers place (p, i, goes, says) =
-    comes_as after t.node (λ a e. (ap (λ (y : Arrived). y.target) e, ap (λ (y : Arrived). y.message) e ∙ says))
+    comes_as hosts after t.node (λ a e. (ap (λ (y : Arrived). y.target) e, ap (λ (y : Arrived). y.message) e ∙ says))
     (new_comes hosts u v before after g t.node p (seat_of hosts t number kind) (seat_target_of t number kind) i goes (leads_seat hosts t number kind g.small place)
     (ap (takes (seat_target_of t number kind)) says ∙ takes_answer n t number kind answers))
 
@@ -197,9 +197,9 @@ SaysWhose other = ⊥
 
 pub seat_asks : (hosts : Hosts) (u v : World) (before after : List Posted) → (g : Goes hosts u v before after) → (id : Numbers) (s : Enlistment) (x : Who) (n : Notice) → SaysWhose n → IsPlace hosts x
     → s.participant ≡ participant_of hosts x s.kind → IsIn (seat_post g.book.base id s n) (posted_in g)
-    → Comes after x.node (IsNoticeFrom (targets.Participant x.id s.kind) n (seat_of hosts (record { node = g.number; id = id }) s.number s.kind))
+    → Comes hosts after x.node (IsNoticeFrom (targets.Participant x.id s.kind) n (seat_of hosts (record { node = g.number; id = id }) s.number s.kind))
 seat_asks hosts u v before after g id s x notices.Prepare h place is i =
-    comes_as after x.node
+    comes_as hosts after x.node
     (λ a e. (
       (ap (λ (y : Arrived). y.target) e, ap (λ (y : Arrived). y.message) e),
       ap (λ (y : Arrived). y.from) e ∙ ap (λ base. Some (endpoint_of base (seat_target id s))) (base_is hosts u v before after g),
@@ -207,7 +207,7 @@ seat_asks hosts u v before after g id s x notices.Prepare h place is i =
     (new_comes hosts u v before after g x.node (seat_post g.book.base id s notices.Prepare) s.participant (targets.Participant x.id s.kind) i refl
     (leads_participant hosts x s.kind s.participant g.small place is) refl)
 seat_asks hosts u v before after g id s x notices.Commit h place is i =
-    comes_as after x.node
+    comes_as hosts after x.node
     (λ a e. (
       (ap (λ (y : Arrived). y.target) e, ap (λ (y : Arrived). y.message) e),
       ap (λ (y : Arrived). y.from) e ∙ ap (λ base. Some (endpoint_of base (seat_target id s))) (base_is hosts u v before after g),

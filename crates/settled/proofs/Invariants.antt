@@ -81,33 +81,33 @@ waits_same u n x clock found = record { back = λ m b h. back m b h (or_elsewher
         }
     forth m b h (inr other) = record { node = h.node; found = put_other u.nodes m n (record x { clock = clock }) other ∙ h.found; up = h.up }
 
-abbrev Stay : List Posted → List Posted → Type 0
-Stay before after = (q : Posted) → IsIn q before → IsIn q after ⊎ IsLost q
+abbrev Stay : Hosts → List Posted → List Posted → Type 0
+Stay hosts before after = (q : Posted) → IsIn q before → IsIn q after ⊎ IsLost hosts q
 
-comes_on : (before after : List Posted) (n : ℕ) (P : Arrived → Type 0) → Stay before after → Comes before n P → Comes after n P
-comes_on before after n P stays c = by_place (stays c.posted c.waits)
+comes_on : (hosts : Hosts) (before after : List Posted) (n : ℕ) (P : Arrived → Type 0) → Stay hosts before after → Comes hosts before n P → Comes hosts after n P
+comes_on hosts before after n P stays c = by_place (stays c.posted c.waits)
   where
-    by_place : IsIn c.posted after ⊎ IsLost c.posted → Comes after n P
+    by_place : IsIn c.posted after ⊎ IsLost hosts c.posted → Comes hosts after n P
     by_place (inl i) = record { posted = c.posted; waits = i; receiver = c.receiver; arrived = c.arrived; decodes = c.decodes; says = c.says }
     by_place (inr lost) = absurd (lost n c.arrived c.receiver c.decodes)
 
-vote_moves : (u v : World) (before after : List Posted) (t : Who) (number : ℕ) (kind : Kind) (x : Who) → SameBooks u v → Stay before after → OwesVote u before t number kind x → OwesVote v after t number kind x
-vote_moves u v before after t number kind x s k (inl c) = inl (comes_on before after x.node _ k c)
-vote_moves u v before after t number kind x s k (inr (inl (m, answers, c))) = inr (inl (m, answers, comes_on before after t.node _ k c))
-vote_moves u v before after t number kind x s k (inr (inr b)) =
+vote_moves : (hosts : Hosts) (u v : World) (before after : List Posted) (t : Who) (number : ℕ) (kind : Kind) (x : Who) → SameBooks u v → Stay hosts before after → OwesVote hosts u before t number kind x → OwesVote hosts v after t number kind x
+vote_moves hosts u v before after t number kind x s k (inl c) = inl (comes_on hosts before after x.node _ k c)
+vote_moves hosts u v before after t number kind x s k (inr (inl (m, answers, c))) = inr (inl (m, answers, comes_on hosts before after t.node _ k c))
+vote_moves hosts u v before after t number kind x s k (inr (inr b)) =
     inr (inr (record { book = b.book; holds = s.forth x.node b.book b.holds; transaction = b.transaction; found = b.found; busy = b.busy }))
 
-committed_moves : (u v : World) (before after : List Posted) (t : Who) (number : ℕ) (x : Who) → SameBooks u v → Stay before after → OwesCommitted u before t number x → OwesCommitted v after t number x
-committed_moves u v before after t number x s k (inl c) = inl (comes_on before after x.node _ k c)
-committed_moves u v before after t number x s k (inr (inl c)) = inr (inl (comes_on before after t.node _ k c))
-committed_moves u v before after t number x s k (inr (inr b)) =
+committed_moves : (hosts : Hosts) (u v : World) (before after : List Posted) (t : Who) (number : ℕ) (x : Who) → SameBooks u v → Stay hosts before after → OwesCommitted hosts u before t number x → OwesCommitted hosts v after t number x
+committed_moves hosts u v before after t number x s k (inl c) = inl (comes_on hosts before after x.node _ k c)
+committed_moves hosts u v before after t number x s k (inr (inl c)) = inr (inl (comes_on hosts before after t.node _ k c))
+committed_moves hosts u v before after t number x s k (inr (inr b)) =
     inr (inr (record { book = b.book; holds = s.forth x.node b.book b.holds; transaction = b.transaction; found = b.found; commits = b.commits }))
 
-outcome_moves : (u v : World) (before after : List Posted) (x t : Who) (number : ℕ) → SameBooks u v → Stay before after → OwesOutcome u before x t number → OwesOutcome v after x t number
-outcome_moves u v before after x t number s k (inl c) = inl (comes_on before after t.node _ k c)
-outcome_moves u v before after x t number s k (inr (inl (inl c))) = inr (inl (inl (comes_on before after x.node _ k c)))
-outcome_moves u v before after x t number s k (inr (inl (inr c))) = inr (inl (inr (comes_on before after x.node _ k c)))
-outcome_moves u v before after x t number s k (inr (inr b)) =
+outcome_moves : (hosts : Hosts) (u v : World) (before after : List Posted) (x t : Who) (number : ℕ) → SameBooks u v → Stay hosts before after → OwesOutcome hosts u before x t number → OwesOutcome hosts v after x t number
+outcome_moves hosts u v before after x t number s k (inl c) = inl (comes_on hosts before after t.node _ k c)
+outcome_moves hosts u v before after x t number s k (inr (inl (inl c))) = inr (inl (inl (comes_on hosts before after x.node _ k c)))
+outcome_moves hosts u v before after x t number s k (inr (inl (inr c))) = inr (inl (inr (comes_on hosts before after x.node _ k c)))
+outcome_moves hosts u v before after x t number s k (inr (inr b)) =
     inr (inr (record {
       book = b.book;
       holds = s.forth t.node b.book b.holds;
@@ -120,37 +120,37 @@ outcome_moves u v before after x t number s k (inr (inr b)) =
       state_is = b.state_is;
     }))
 
-registered_moves : (before after : List Posted) (x : Who) (kind : Kind) (m : ℕ) (id : Numbers) → Stay before after → OwesRegistered before x kind m id → OwesRegistered after x kind m id
-registered_moves before after x kind m id k (inl c) = inl (comes_on before after m _ k c)
-registered_moves before after x kind m id k (inr c) = inr (comes_on before after x.node _ k c)
+registered_moves : (hosts : Hosts) (before after : List Posted) (x : Who) (kind : Kind) (m : ℕ) (id : Numbers) → Stay hosts before after → OwesRegistered hosts before x kind m id → OwesRegistered hosts after x kind m id
+registered_moves hosts before after x kind m id k (inl c) = inl (comes_on hosts before after m _ k c)
+registered_moves hosts before after x kind m id k (inr c) = inr (comes_on hosts before after x.node _ k c)
 
-pub votes_move : (hosts : Hosts) (Asked : ℕ → Type 0) (u v : World) (before after : List Posted) → SameBooks u v → Stay before after → VotesAreOwed hosts Asked u before → VotesAreOwed hosts Asked v after
+pub votes_move : (hosts : Hosts) (Asked : ℕ → Type 0) (u v : World) (before after : List Posted) → SameBooks u v → Stay hosts before after → VotesAreOwed hosts Asked u before → VotesAreOwed hosts Asked v after
 votes_move hosts Asked u v before after s k h = record {
   seats = λ n b t q x asked holds found i state place is.
-      vote_moves u v before after (record { node = n; id = t.id }) q.number q.kind x s k (h.seats n b t q x asked (s.back n b holds) found i state place is);
+      vote_moves hosts u v before after (record { node = n; id = t.id }) q.number q.kind x s k (h.seats n b t q x asked (s.back n b holds) found i state place is);
 }
 
-pub commits_move : (hosts : Hosts) (Asked : ℕ → Type 0) (u v : World) (before after : List Posted) → SameBooks u v → Stay before after → CommitsAreOwed hosts Asked u before → CommitsAreOwed hosts Asked v after
+pub commits_move : (hosts : Hosts) (Asked : ℕ → Type 0) (u v : World) (before after : List Posted) → SameBooks u v → Stay hosts before after → CommitsAreOwed hosts Asked u before → CommitsAreOwed hosts Asked v after
 commits_move hosts Asked u v before after s k h = record {
   seats = λ n b t q x asked holds found i durable state place is.
-      committed_moves u v before after (record { node = n; id = t.id }) q.number x s k (h.seats n b t q x asked (s.back n b holds) found i durable state place is);
+      committed_moves hosts u v before after (record { node = n; id = t.id }) q.number x s k (h.seats n b t q x asked (s.back n b holds) found i durable state place is);
 }
 
-pub outcomes_move : (hosts : Hosts) (Asked : ℕ → Type 0) (u v : World) (before after : List Posted) → SameBooks u v → Stay before after → OutcomesAreOwed hosts Asked u before → OutcomesAreOwed hosts Asked v after
+pub outcomes_move : (hosts : Hosts) (Asked : ℕ → Type 0) (u v : World) (before after : List Posted) → SameBooks u v → Stay hosts before after → OutcomesAreOwed hosts Asked u before → OutcomesAreOwed hosts Asked v after
 outcomes_move hosts Asked u v before after s k h = record {
   links = λ n b t q z number asked holds found under state place knows.
-      outcome_moves u v before after (record { node = n; id = t.id }) z number s k (h.links n b t q z number asked (s.back n b holds) found under state place knows);
+      outcome_moves hosts u v before after (record { node = n; id = t.id }) z number s k (h.links n b t q z number asked (s.back n b holds) found under state place knows);
   leaves = λ n b l z number asked holds found durable state place knows.
-      outcome_moves u v before after (record { node = n; id = l.id }) z number s k (h.leaves n b l z number asked (s.back n b holds) found durable state place knows);
+      outcome_moves hosts u v before after (record { node = n; id = l.id }) z number s k (h.leaves n b l z number asked (s.back n b holds) found durable state place knows);
 }
 
-pub registrations_move : (hosts : Hosts) (Asked : ℕ → Type 0) (u v : World) (before after : List Posted) → SameBooks u v → Stay before after → RegistrationsAreOwed hosts Asked u before
+pub registrations_move : (hosts : Hosts) (Asked : ℕ → Type 0) (u v : World) (before after : List Posted) → SameBooks u v → Stay hosts before after → RegistrationsAreOwed hosts Asked u before
     → RegistrationsAreOwed hosts Asked v after
 registrations_move hosts Asked u v before after s k h = record {
   links = λ n b t q kind r m id asked holds found under state request leads.
-      registered_moves before after (record { node = n; id = t.id }) kind m id k (h.links n b t q kind r m id asked (s.back n b holds) found under state request leads);
+      registered_moves hosts before after (record { node = n; id = t.id }) kind m id k (h.links n b t q kind r m id asked (s.back n b holds) found under state request leads);
   leaves = λ n b l r m id asked holds found state request leads.
-      registered_moves before after (record { node = n; id = l.id }) l.kind m id k (h.leaves n b l r m id asked (s.back n b holds) found state request leads);
+      registered_moves hosts before after (record { node = n; id = l.id }) l.kind m id k (h.leaves n b l r m id asked (s.back n b holds) found state request leads);
 }
 
 pub none_routed_moves : (hosts : Hosts) (u v : World) → SameBooks u v → NoneRouted hosts u → NoneRouted hosts v

@@ -62,24 +62,24 @@ becomes R N (o ∷ os) (n ∷ ns) s (h, k) (inr i) =
     record { new = r.new; among = inr r.among; pair = r.pair }
 
 told_on_way : (hosts : Hosts) (u v : World) (before after : List Posted) → (g : Goes hosts u v before after) → (x : Who) (to : Epr) → IsPlace hosts x → to ≡ participant_of hosts x kinds.Durable
-    → TellsOutcome (Some to) (posted_in g) → IsToldOnWay after x
+    → TellsOutcome (Some to) (posted_in g) → IsToldOnWay hosts after x
 told_on_way hosts u v before after g x to place is (inl tells) = inl (participant_told hosts u v before after g x kinds.Durable notices.Commit to tt place is tells)
 told_on_way hosts u v before after g x to place is (inr tells) = inr (participant_told hosts u v before after g x kinds.Durable notices.Rollback to tt place is tells)
 
 -- a durable seat that is Prepared, or hears so, is Prepared, or tells the outcome
 seat_keeps : (hosts : Hosts) (u v : World) (before after : List Posted) → (g : Goes hosts u v before after) → (x z : Who) (number : ℕ) (t : Transaction) (q : Enlistment) → z.node ≡ g.number
     → transaction_at g.book z.id ≡ Some t → IsIn q t.seats → q.number ≡ number → q.kind ≡ kinds.Durable → SaysPrepared g.event t q → IsPlace hosts x → q.participant ≡ participant_of hosts x kinds.Durable
-    → IsPreparedAt v z number ⊎ IsToldOnWay after x
+    → IsPreparedAt v z number ⊎ IsToldOnWay hosts after x
 seat_keeps hosts u v before after g x z number t q here found i numbered durable says place is =
     by_left (transaction_at (book_after g) z.id) refl
     (subst (λ o. AreOwed g.book.base g.event (posted_in g) o (transaction_at (book_after g) z.id)) found
     (steps_owe_seats.seats g.book g.event g.now (ready hosts u v before after g) (shaped hosts u v before after g) z.id))
   where
-    told : IsTold (posted_in g) q → IsToldOnWay after x
+    told : IsTold (posted_in g) q → IsToldOnWay hosts after x
     told h = told_on_way hosts u v before after g x q.participant place is h
 
     by_kept : (new : Transaction) → transaction_at (book_after g) z.id ≡ Some new → (b : Becomes (IsOwed g.book.base g.event t (posted_in g)) q new.seats)
-        → (b.new.state ≡ states.Prepared) ⊎ IsTold (posted_in g) q → IsPreparedAt v z number ⊎ IsToldOnWay after x
+        → (b.new.state ≡ states.Prepared) ⊎ IsTold (posted_in g) q → IsPreparedAt v z number ⊎ IsToldOnWay hosts after x
     by_kept new e b (inl prepared) =
         inl (record {
           book = book_after g;
@@ -94,7 +94,7 @@ seat_keeps hosts u v before after g x z number t q here found i numbered durable
         })
     by_kept new e b (inr tells) = inr (told tells)
 
-    by_left : (o : Option Transaction) → transaction_at (book_after g) z.id ≡ o → AreOwed g.book.base g.event (posted_in g) (Some t) o → IsPreparedAt v z number ⊎ IsToldOnWay after x
+    by_left : (o : Option Transaction) → transaction_at (book_after g) z.id ≡ o → AreOwed g.book.base g.event (posted_in g) (Some t) o → IsPreparedAt v z number ⊎ IsToldOnWay hosts after x
     by_left None e all = inr (told (one_of (λ (s : Enlistment). s.kind ≡ kinds.Durable → SaysPrepared g.event t s → IsTold (posted_in g) s) t.seats q all i durable says))
     by_left (Some new) e (same, pairs) =
         let b : Becomes (IsOwed g.book.base g.event t (posted_in g)) q new.seats = becomes (IsOwed g.book.base g.event t (posted_in g)) (IsNew g.book.base t (posted_in g)) t.seats new.seats q pairs i in
@@ -127,19 +127,19 @@ seat_whose hosts u v before after g x z number t q here found i numbered durable
 -- a vote that arrives is counted, or answered with the outcome
 vote_arrives : (hosts : Hosts) (u v : World) (before after : List Posted) → (g : Goes hosts u v before after) → (x z : Who) (number : ℕ) (a : Arrived) → z.node ≡ g.number → g.event ≡ events.Arrived a
     → IsNoticeFrom (seat_target_of z number kinds.Durable) notices.Prepared (participant_of hosts x kinds.Durable) a → IsPlace hosts x → HasSeat u z number kinds.Durable x
-    → IsPreparedAt v z number ⊎ IsToldOnWay after x
+    → IsPreparedAt v z number ⊎ IsToldOnWay hosts after x
 vote_arrives hosts u v before after g x z number a here came ((target, says), from) place seat = by_transaction (transaction_at g.book z.id) refl
   where
     s : Seat
     s = record { number = number; kind = kinds.Durable }
 
-    stranger : IfFound (λ (t : Transaction). find_seat number kinds.Durable t.seats ≡ None) (transaction_at g.book z.id) → IsPreparedAt v z number ⊎ IsToldOnWay after x
+    stranger : IfFound (λ (t : Transaction). find_seat number kinds.Durable t.seats ≡ None) (transaction_at g.book z.id) → IsPreparedAt v z number ⊎ IsToldOnWay hosts after x
     stranger unknown =
         inr (inr (participant_told hosts u v before after g x kinds.Durable notices.Rollback (participant_of hosts x kinds.Durable) tt place refl
         (subst (λ d. Tells (Some (participant_of hosts x kinds.Durable)) notices.Rollback (posts_of (step g.book d g.now true).outs)) (sym came)
         (steps_owe_seats.unknown g.book a g.now z.id s target refl unknown says (participant_of hosts x kinds.Durable) from))))
 
-    by_seat : (t : Transaction) → transaction_at g.book z.id ≡ Some t → (o : Option Enlistment) → find_seat number kinds.Durable t.seats ≡ o → IsPreparedAt v z number ⊎ IsToldOnWay after x
+    by_seat : (t : Transaction) → transaction_at g.book z.id ≡ Some t → (o : Option Enlistment) → find_seat number kinds.Durable t.seats ≡ o → IsPreparedAt v z number ⊎ IsToldOnWay hosts after x
     by_seat t found None none = stranger (subst (IfFound (λ (y : Transaction). find_seat number kinds.Durable y.seats ≡ None)) (sym found) none)
     by_seat t found (Some q) there =
         let (numbered, durable, i) = found_seat number kinds.Durable t.seats q there in
@@ -152,16 +152,16 @@ vote_arrives hosts u v before after g x z number a here came ((target, says), fr
           says = says;
         })) place (seat_whose hosts u v before after g x z number t q here found i numbered durable seat)
 
-    by_transaction : (o : Option Transaction) → transaction_at g.book z.id ≡ o → IsPreparedAt v z number ⊎ IsToldOnWay after x
+    by_transaction : (o : Option Transaction) → transaction_at g.book z.id ≡ o → IsPreparedAt v z number ⊎ IsToldOnWay hosts after x
     by_transaction None e = stranger (subst (IfFound (λ (y : Transaction). find_seat number kinds.Durable y.seats ≡ None)) (sym e) tt)
     by_transaction (Some t) e = by_seat t e (find_seat number kinds.Durable t.seats) refl
 
 -- a seat that is Prepared
 prepared_on : (hosts : Hosts) (u v : World) (before after : List Posted) → (g : Goes hosts u v before after) → (x z : Who) (number : ℕ) → IsPlace hosts x → HasSeat u z number kinds.Durable x
-    → IsPreparedAt u z number → IsPreparedAt v z number ⊎ IsToldOnWay after x
+    → IsPreparedAt u z number → IsPreparedAt v z number ⊎ IsToldOnWay hosts after x
 prepared_on hosts u v before after g x z number place seat k = by_place (or_elsewhere z.node g.number)
   where
-    by_place : (z.node ≡ g.number) ⊎ (z.node ≡ g.number → ⊥) → IsPreparedAt v z number ⊎ IsToldOnWay after x
+    by_place : (z.node ≡ g.number) ⊎ (z.node ≡ g.number → ⊥) → IsPreparedAt v z number ⊎ IsToldOnWay hosts after x
     by_place (inl here) =
         let same : k.book ≡ g.book = same_book u z.node k.book g.book k.holds (subst (λ m. Holds u m g.book) (sym here) (holds_before hosts u v before after g)) in
         let found : transaction_at g.book z.id ≡ Some k.transaction = subst (λ c. transaction_at c z.id ≡ Some k.transaction) same k.found in
@@ -187,30 +187,30 @@ IsUntold hosts u v before after g x =
     → (a.message ≡ messages.Notice notices.Commit) ⊎ (a.message ≡ messages.Notice notices.Rollback) → ⊥
 
 outcome_on : (hosts : Hosts) (u v : World) (before after : List Posted) → (g : Goes hosts u v before after) → (x z : Who) (number : ℕ) → IsPlace hosts x → HasSeat u z number kinds.Durable x
-    → IsUntold hosts u v before after g x → OwesOutcome u before x z number → OwesOutcome v after x z number
+    → IsUntold hosts u v before after g x → OwesOutcome hosts u before x z number → OwesOutcome hosts v after x z number
 outcome_on hosts u v before after g x z number place seat untold owed = by_owed owed
   where
-    counted : IsPreparedAt v z number ⊎ IsToldOnWay after x → OwesOutcome v after x z number
+    counted : IsPreparedAt v z number ⊎ IsToldOnWay hosts after x → OwesOutcome hosts v after x z number
     counted (inl prepared) = inr (inr prepared)
     counted (inr told) = inr (inl told)
 
-    by_vote : (c : Comes before z.node (IsNoticeFrom (seat_target_of z number kinds.Durable) notices.Prepared (participant_of hosts x kinds.Durable)))
-        → Comes after z.node (IsNoticeFrom (seat_target_of z number kinds.Durable) notices.Prepared (participant_of hosts x kinds.Durable)) ⊎ ((z.node ≡ g.number) × (g.event ≡ events.Arrived c.arrived))
-        → OwesOutcome v after x z number
+    by_vote : (c : Comes hosts before z.node (IsNoticeFrom (seat_target_of z number kinds.Durable) notices.Prepared (participant_of hosts x kinds.Durable)))
+        → Comes hosts after z.node (IsNoticeFrom (seat_target_of z number kinds.Durable) notices.Prepared (participant_of hosts x kinds.Durable)) ⊎ ((z.node ≡ g.number) × (g.event ≡ events.Arrived c.arrived))
+        → OwesOutcome hosts v after x z number
     by_vote c (inl stays) = inl stays
     by_vote c (inr (here, came)) = counted (vote_arrives hosts u v before after g x z number c.arrived here came c.says place seat)
 
-    by_commit : (c : Comes before x.node (IsNotice (targets.Participant x.id kinds.Durable) notices.Commit))
-        → Comes after x.node (IsNotice (targets.Participant x.id kinds.Durable) notices.Commit) ⊎ ((x.node ≡ g.number) × (g.event ≡ events.Arrived c.arrived)) → OwesOutcome v after x z number
+    by_commit : (c : Comes hosts before x.node (IsNotice (targets.Participant x.id kinds.Durable) notices.Commit))
+        → Comes hosts after x.node (IsNotice (targets.Participant x.id kinds.Durable) notices.Commit) ⊎ ((x.node ≡ g.number) × (g.event ≡ events.Arrived c.arrived)) → OwesOutcome hosts v after x z number
     by_commit c (inl stays) = inr (inl (inl stays))
     by_commit c (inr (here, came)) = absurd (untold here c.arrived came c.says.0 (inl c.says.1))
 
-    by_rollback : (c : Comes before x.node (IsNotice (targets.Participant x.id kinds.Durable) notices.Rollback))
-        → Comes after x.node (IsNotice (targets.Participant x.id kinds.Durable) notices.Rollback) ⊎ ((x.node ≡ g.number) × (g.event ≡ events.Arrived c.arrived)) → OwesOutcome v after x z number
+    by_rollback : (c : Comes hosts before x.node (IsNotice (targets.Participant x.id kinds.Durable) notices.Rollback))
+        → Comes hosts after x.node (IsNotice (targets.Participant x.id kinds.Durable) notices.Rollback) ⊎ ((x.node ≡ g.number) × (g.event ≡ events.Arrived c.arrived)) → OwesOutcome hosts v after x z number
     by_rollback c (inl stays) = inr (inl (inr stays))
     by_rollback c (inr (here, came)) = absurd (untold here c.arrived came c.says.0 (inr c.says.1))
 
-    by_owed : OwesOutcome u before x z number → OwesOutcome v after x z number
+    by_owed : OwesOutcome hosts u before x z number → OwesOutcome hosts v after x z number
     by_owed (inl c) = by_vote c (or_arrives hosts u v before after g z.node _ c)
     by_owed (inr (inl (inl c))) = by_commit c (or_arrives hosts u v before after g x.node _ c)
     by_owed (inr (inl (inr c))) = by_rollback c (or_arrives hosts u v before after g x.node _ c)
@@ -219,9 +219,9 @@ outcome_on hosts u v before after g x z number place seat untold owed = by_owed 
 -- a vote that is posted now
 vote_posted : (hosts : Hosts) (u v : World) (before after : List Posted) → (g : Goes hosts u v before after) → (id : Numbers) (z : Who) (number : ℕ) (to : Epr) → IsSeatPlace hosts z number
     → to ≡ seat_of hosts z number kinds.Durable → IsIn (notice_post g.book.base (targets.Participant id kinds.Durable) to notices.Prepared) (posted_in g)
-    → OwesOutcome v after (record { node = g.number; id = id }) z number
+    → OwesOutcome hosts v after (record { node = g.number; id = id }) z number
 vote_posted hosts u v before after g id z number to place is i =
-    inl (comes_as after z.node
+    inl (comes_as hosts after z.node
     (λ a e. (
       (ap (λ (y : Arrived). y.target) e, ap (λ (y : Arrived). y.message) e),
       ap (λ (y : Arrived). y.from) e ∙ ap (λ base. Some (endpoint_of base (targets.Participant id kinds.Durable))) (base_is hosts u v before after g),
@@ -248,7 +248,7 @@ leaf_placed hosts w small reached n b h id l found =
 -- links
 links_here : (hosts : Hosts) (Asked : ℕ → Type 0) (u v : World) (before after : List Posted) → (g : Goes hosts u v before after) → OutcomesAreOwed hosts Asked u before → (t : Transaction) (s : Superior)
     (z : Who) (number : ℕ) → Asked g.number → transaction_at (book_after g) t.id ≡ Some t → t.superior ≡ Some s → s.durable.state ≡ states.PreparedSuccess → IsSeatPlace hosts z number
-    → s.durable.coordinator ≡ Some (seat_of hosts z number kinds.Durable) → OwesOutcome v after (record { node = g.number; id = t.id }) z number
+    → s.durable.coordinator ≡ Some (seat_of hosts z number kinds.Durable) → OwesOutcome hosts v after (record { node = g.number; id = t.id }) z number
 links_here hosts Asked u v before after g h t s z number asked found under state place knows = by_superior o.old.superior refl
   where
     o : TransactionStood g.book t
@@ -269,7 +269,7 @@ links_here hosts Asked u v before after g h t s z number asked found under state
     by_kept : (y : Superior) → o.old.superior ≡ Some y
         → (((y.durable.state ≡ states.PreparedSuccess) × (s.durable.coordinator ≡ y.durable.coordinator))
         × ((SuperiorSaid kinds.Durable notices.Commit g.event o.old → ⊥) × (SuperiorSaid kinds.Durable notices.Rollback g.event o.old → ⊥)))
-        ⊎ SaysVote g.book.base o.old.id s.durable.coordinator (posted_in g) → OwesOutcome v after (record { node = g.number; id = o.old.id }) z number
+        ⊎ SaysVote g.book.base o.old.id s.durable.coordinator (posted_in g) → OwesOutcome hosts v after (record { node = g.number; id = o.old.id }) z number
     by_kept y was (inl ((prepared, same), (uncommitted, unrolled))) =
         let known : y.durable.coordinator ≡ Some (seat_of hosts z number kinds.Durable) = sym same ∙ knows in
         let (seat, enlists) = link_seat hosts u g.small g.reached g.number g.book held o.old.id o.old kinds.Durable (seat_of hosts z number kinds.Durable) own (ap (coordinator_at kinds.Durable) was ∙ known) in
@@ -283,10 +283,10 @@ links_here hosts Asked u v before after g h t s z number asked found under state
     by_kept y was (inr (to, is, sent)) =
         vote_posted hosts u v before after g o.old.id z number to place (same_endpoint s.durable.coordinator to (seat_of hosts z number kinds.Durable) is knows) sent
 
-    by_superior : (y : Option Superior) → o.old.superior ≡ y → OwesOutcome v after (record { node = g.number; id = t.id }) z number
+    by_superior : (y : Option Superior) → o.old.superior ≡ y → OwesOutcome hosts v after (record { node = g.number; id = t.id }) z number
     by_superior None root = absurd (never None under root)
     by_superior (Some y) was =
-        subst (λ i. OwesOutcome v after (record { node = g.number; id = i }) z number) id_is
+        subst (λ i. OwesOutcome hosts v after (record { node = g.number; id = i }) z number) id_is
         (by_kept y was
         (subst (λ q. KeepsVote g.book.base g.event o.old y (posted_in g) q) (ap superior_left (ap (transaction_at (book_after g)) id_is ∙ found) ∙ under)
         (steps_owe_links.links g.book g.event g.now (ready hosts u v before after g) (shaped hosts u v before after g) o.old y own was).1.1.1.1 state))
@@ -294,9 +294,9 @@ links_here hosts Asked u v before after g h t s z number asked found under state
 -- leaves
 leaves_here : (hosts : Hosts) (Asked : ℕ → Type 0) (u v : World) (before after : List Posted) → (g : Goes hosts u v before after) → OutcomesAreOwed hosts Asked u before → (l : Leaf) (z : Who)
     (number : ℕ) → Asked g.number → leaf_at (book_after g) l.id ≡ Some l → l.kind ≡ kinds.Durable → l.state ≡ states.PreparedSuccess → IsSeatPlace hosts z number
-    → l.coordinator ≡ Some (seat_of hosts z number kinds.Durable) → OwesOutcome v after (record { node = g.number; id = l.id }) z number
+    → l.coordinator ≡ Some (seat_of hosts z number kinds.Durable) → OwesOutcome hosts v after (record { node = g.number; id = l.id }) z number
 leaves_here hosts Asked u v before after g h l z number asked found durable state place knows =
-    subst (λ i. OwesOutcome v after (record { node = g.number; id = i }) z number) id_is
+    subst (λ i. OwesOutcome hosts v after (record { node = g.number; id = i }) z number) id_is
     (by_kept
     (subst (λ q. KeepsLeafVote g.book.base g.event o.old (posted_in g) q) (ap (leaf_at (book_after g)) id_is ∙ found)
     (steps_owe_leaves.leaves g.book g.event g.now (ready hosts u v before after g) o.old own
@@ -319,7 +319,7 @@ leaves_here hosts Asked u v before after g h l z number asked found durable stat
 
     by_kept : (((o.old.state ≡ states.PreparedSuccess) × (l.coordinator ≡ o.old.coordinator)) × ((Notified g.event o.old notices.Commit → ⊥) × (Notified g.event o.old notices.Rollback → ⊥)))
         ⊎ ((to : Epr) × (l.coordinator ≡ Some to) × IsIn (notice_post g.book.base (leaf_target o.old) to notices.Prepared) (posted_in g))
-        → OwesOutcome v after (record { node = g.number; id = o.old.id }) z number
+        → OwesOutcome hosts v after (record { node = g.number; id = o.old.id }) z number
     by_kept (inl ((prepared, same), (uncommitted, unrolled))) =
         let known : o.old.coordinator ≡ Some (seat_of hosts z number kinds.Durable) = sym same ∙ knows in
         let (seat, enlists) = leaf_seat hosts u g.small g.reached g.number g.book held o.old.id o.old (seat_of hosts z number kinds.Durable) own known in
@@ -350,10 +350,10 @@ outcomes_kept hosts Asked u v before after g h = record {
   where
     links_at : (n : ℕ) (b : Book) (t : Transaction) (s : Superior) (z : Who) (number : ℕ) → Asked n → Holds v n b → transaction_at b t.id ≡ Some t → t.superior ≡ Some s
         → s.durable.state ≡ states.PreparedSuccess → IsSeatPlace hosts z number → s.durable.coordinator ≡ Some (seat_of hosts z number kinds.Durable) → (n ≡ g.number) ⊎ (n ≡ g.number → ⊥)
-        → OwesOutcome v after (record { node = n; id = t.id }) z number
+        → OwesOutcome hosts v after (record { node = n; id = t.id }) z number
     links_at n b t s z number asked holds found under state place knows (inl here) =
         let same : b ≡ book_after g = same_book v g.number b (book_after g) (subst (λ m. Holds v m b) here holds) (holds_after hosts u v before after g) in
-        subst (λ m. OwesOutcome v after (record { node = m; id = t.id }) z number) (sym here)
+        subst (λ m. OwesOutcome hosts v after (record { node = m; id = t.id }) z number) (sym here)
         (links_here hosts Asked u v before after g h t s z number (subst Asked here asked) (subst (λ c. transaction_at c t.id ≡ Some t) same found) under state place knows)
     links_at n b t s z number asked holds found under state place knows (inr other) =
         let held : Holds u n b = held_elsewhere hosts u v before after g n b other holds in
@@ -363,10 +363,10 @@ outcomes_kept hosts Asked u v before after g h = record {
         (h.links n b t s z number asked held found under state place knows)
 
     leaves_at : (n : ℕ) (b : Book) (l : Leaf) (z : Who) (number : ℕ) → Asked n → Holds v n b → leaf_at b l.id ≡ Some l → l.kind ≡ kinds.Durable → l.state ≡ states.PreparedSuccess
-        → IsSeatPlace hosts z number → l.coordinator ≡ Some (seat_of hosts z number kinds.Durable) → (n ≡ g.number) ⊎ (n ≡ g.number → ⊥) → OwesOutcome v after (record { node = n; id = l.id }) z number
+        → IsSeatPlace hosts z number → l.coordinator ≡ Some (seat_of hosts z number kinds.Durable) → (n ≡ g.number) ⊎ (n ≡ g.number → ⊥) → OwesOutcome hosts v after (record { node = n; id = l.id }) z number
     leaves_at n b l z number asked holds found durable state place knows (inl here) =
         let same : b ≡ book_after g = same_book v g.number b (book_after g) (subst (λ m. Holds v m b) here holds) (holds_after hosts u v before after g) in
-        subst (λ m. OwesOutcome v after (record { node = m; id = l.id }) z number) (sym here)
+        subst (λ m. OwesOutcome hosts v after (record { node = m; id = l.id }) z number) (sym here)
         (leaves_here hosts Asked u v before after g h l z number (subst Asked here asked) (subst (λ c. leaf_at c l.id ≡ Some l) same found) durable state place knows)
     leaves_at n b l z number asked holds found durable state place knows (inr other) =
         let held : Holds u n b = held_elsewhere hosts u v before after g n b other holds in

@@ -46,12 +46,12 @@ relates_itself o id e = ap (λ y. relates_to y id) e ∙ (bytes_eq-Decides id id
 
 -- the Register is answered where it arrives
 answer_comes : (hosts : Hosts) (u v : World) (before after : List Posted) → (g : Goes hosts u v before after) → (x : Who) (kind : Kind) (m : ℕ) (id : Numbers) (a : Arrived) → IsPlace hosts x
-    → g.event ≡ events.Arrived a → IsRegisterOf x kind id a → Comes after x.node (IsRegisteredBy x kind)
+    → g.event ≡ events.Arrived a → IsRegisterOf hosts x kind id a → Comes hosts after x.node (IsRegisteredBy hosts x kind)
 answer_comes hosts u v before after g x kind m id a place came r =
     let (p, i, goes, relates, answers) =
     subst (λ d. TellsRegistered (participant_of hosts x kind) a.id (posts_of (step g.book d g.now true).outs)) (sym came)
     (registers_are_answered.answered g.book a g.now id r.register (participant_of hosts x kind) r.target r.says r.reply r.fault) in
-    comes_as after x.node
+    comes_as hosts after x.node
     (λ b e. record {
       target = ap (λ (y : Arrived). y.target) e;
       relates = relates_itself b.relates (register_id (hosts.base_of x.node) (targets.Participant x.id kind)) (ap (λ (y : Arrived). y.relates) e ∙ relates ∙ r.named);
@@ -61,19 +61,19 @@ answer_comes hosts u v before after g x kind m id a place came r =
     (takes_registered p.message x.id kind answers))
 
 registered_on : (hosts : Hosts) (u v : World) (before after : List Posted) → (g : Goes hosts u v before after) → (x : Who) (kind : Kind) (m : ℕ) (id : Numbers) → IsPlace hosts x
-    → (x.node ≡ g.number → (a : Arrived) → g.event ≡ events.Arrived a → IsRegisteredBy x kind a → ⊥) → OwesRegistered before x kind m id → OwesRegistered after x kind m id
+    → (x.node ≡ g.number → (a : Arrived) → g.event ≡ events.Arrived a → IsRegisteredBy hosts x kind a → ⊥) → OwesRegistered hosts before x kind m id → OwesRegistered hosts after x kind m id
 registered_on hosts u v before after g x kind m id place unanswered owed = by_owed owed
   where
-    by_register : (c : Comes before m (IsRegisterOf x kind id)) → Comes after m (IsRegisterOf x kind id) ⊎ ((m ≡ g.number) × (g.event ≡ events.Arrived c.arrived)) → OwesRegistered after x kind m id
+    by_register : (c : Comes hosts before m (IsRegisterOf hosts x kind id)) → Comes hosts after m (IsRegisterOf hosts x kind id) ⊎ ((m ≡ g.number) × (g.event ≡ events.Arrived c.arrived)) → OwesRegistered hosts after x kind m id
     by_register c (inl stays) = inl stays
     by_register c (inr (here, came)) = inr (answer_comes hosts u v before after g x kind m id c.arrived place came c.says)
 
-    by_answer : (c : Comes before x.node (IsRegisteredBy x kind)) → Comes after x.node (IsRegisteredBy x kind) ⊎ ((x.node ≡ g.number) × (g.event ≡ events.Arrived c.arrived))
-        → OwesRegistered after x kind m id
+    by_answer : (c : Comes hosts before x.node (IsRegisteredBy hosts x kind)) → Comes hosts after x.node (IsRegisteredBy hosts x kind) ⊎ ((x.node ≡ g.number) × (g.event ≡ events.Arrived c.arrived))
+        → OwesRegistered hosts after x kind m id
     by_answer c (inl stays) = inr stays
     by_answer c (inr (here, came)) = absurd (unanswered here c.arrived came c.says)
 
-    by_owed : OwesRegistered before x kind m id → OwesRegistered after x kind m id
+    by_owed : OwesRegistered hosts before x kind m id → OwesRegistered hosts after x kind m id
     by_owed (inl c) = by_register c (or_arrives hosts u v before after g m _ c)
     by_owed (inr c) = by_answer c (or_arrives hosts u v before after g x.node _ c)
 
@@ -143,13 +143,13 @@ registrations_kept hosts Asked u v before after g h = record {
   where
     links_at : (n : ℕ) (b : Book) (t : Transaction) (s : Superior) (kind : Kind) (r : Request) (m : ℕ) (id : Numbers) → Asked n → Holds v n b → transaction_at b t.id ≡ Some t
         → t.superior ≡ Some s → (link_of kind s).state ≡ states.Registering → s.request ≡ Some r → LeadsTo hosts r.registration m (targets.Registration id)
-        → (n ≡ g.number) ⊎ (n ≡ g.number → ⊥) → OwesRegistered after (record { node = n; id = t.id }) kind m id
+        → (n ≡ g.number) ⊎ (n ≡ g.number → ⊥) → OwesRegistered hosts after (record { node = n; id = t.id }) kind m id
     links_at n b t s kind r m id asked holds found under state request leads (inl here) =
         let same : b ≡ book_after g = same_book v g.number b (book_after g) (subst (λ i. Holds v i b) here holds) (holds_after hosts u v before after g) in
         let held : Holds u g.number g.book = holds_before hosts u v before after g in
         let j : LinkJoined hosts u v before after g t s kind = link_joined hosts u v before after g t s kind (subst (λ c. transaction_at c t.id ≡ Some t) same found) under state in
-        subst (λ i. OwesRegistered after (record { node = i; id = t.id }) kind m id) (sym here)
-        (subst (λ i. OwesRegistered after (record { node = g.number; id = i }) kind m id) j.id_is
+        subst (λ i. OwesRegistered hosts after (record { node = i; id = t.id }) kind m id) (sym here)
+        (subst (λ i. OwesRegistered hosts after (record { node = g.number; id = i }) kind m id) j.id_is
         (registered_on hosts u v before after g (record { node = g.number; id = j.old.id }) kind m id (transaction_placed hosts u g.small g.reached g.number g.book held j.old.id j.old j.found)
         (λ at a came k. j.unanswered (record {
           message = a;
@@ -165,14 +165,14 @@ registrations_kept hosts Asked u v before after g h = record {
         (λ at a came k. absurd (other at)) (h.links n b t s kind r m id asked held found under state request leads)
 
     leaves_at : (n : ℕ) (b : Book) (l : Leaf) (r : WorkRequest) (m : ℕ) (id : Numbers) → Asked n → Holds v n b → leaf_at b l.id ≡ Some l → l.state ≡ states.Registering → l.request ≡ Some r
-        → LeadsTo hosts r.registration m (targets.Registration id) → (n ≡ g.number) ⊎ (n ≡ g.number → ⊥) → OwesRegistered after (record { node = n; id = l.id }) l.kind m id
+        → LeadsTo hosts r.registration m (targets.Registration id) → (n ≡ g.number) ⊎ (n ≡ g.number → ⊥) → OwesRegistered hosts after (record { node = n; id = l.id }) l.kind m id
     leaves_at n b l r m id asked holds found state request leads (inl here) =
         let same : b ≡ book_after g = same_book v g.number b (book_after g) (subst (λ i. Holds v i b) here holds) (holds_after hosts u v before after g) in
         let held : Holds u g.number g.book = holds_before hosts u v before after g in
         let j : LeafJoined hosts u v before after g l = leaf_joined hosts u v before after g l (subst (λ c. leaf_at c l.id ≡ Some l) same found) state in
-        subst (λ i. OwesRegistered after (record { node = i; id = l.id }) l.kind m id) (sym here)
-        (subst (λ k. OwesRegistered after (record { node = g.number; id = l.id }) k m id) (sym j.kind_is)
-        (subst (λ i. OwesRegistered after (record { node = g.number; id = i }) j.old.kind m id) j.id_is
+        subst (λ i. OwesRegistered hosts after (record { node = i; id = l.id }) l.kind m id) (sym here)
+        (subst (λ k. OwesRegistered hosts after (record { node = g.number; id = l.id }) k m id) (sym j.kind_is)
+        (subst (λ i. OwesRegistered hosts after (record { node = g.number; id = i }) j.old.kind m id) j.id_is
         (registered_on hosts u v before after g (record { node = g.number; id = j.old.id }) j.old.kind m id (leaf_placed hosts u g.small g.reached g.number g.book held j.old.id j.old j.found)
         (λ at a came k. j.unanswered (record {
           message = a;

@@ -46,8 +46,8 @@ use Rattle.settled.proofs.Votes.{suits_at}
 abbrev pub NoneLeft : List Posted → Type 0
 NoneLeft queue = (q : Posted) → IsIn q queue → q.receiver ≡ None
 
-none_comes : (queue : List Posted) (n : ℕ) (P : Arrived → Type 0) → NoneLeft queue → Comes queue n P → ⊥
-none_comes queue n P h c = differ c.posted.receiver (h c.posted c.waits) c.receiver
+none_comes : (hosts : Hosts) (queue : List Posted) (n : ℕ) (P : Arrived → Type 0) → NoneLeft queue → Comes hosts queue n P → ⊥
+none_comes hosts queue n P h c = differ c.posted.receiver (h c.posted c.waits) c.receiver
   where
     differ : (o : Option ℕ) → o ≡ None → o ≡ Some n → ⊥
     differ o e f = cc
@@ -179,9 +179,9 @@ preparing_below hosts w queue small reached q n b h t s found i state =
     p : IsParticipant hosts s.kind s.participant
     p = participant_at hosts w small reached n b h t s found i
 
-    by_owed : OwesVote w queue (record { node = n; id = t.id }) s.number s.kind p.who → Below w (record { node = n; id = t.id })
-    by_owed (inl c) = absurd (none_comes queue p.who.node _ q.none c)
-    by_owed (inr (inl (m, answers, c))) = absurd (none_comes queue n _ q.none c)
+    by_owed : OwesVote hosts w queue (record { node = n; id = t.id }) s.number s.kind p.who → Below w (record { node = n; id = t.id })
+    by_owed (inl c) = absurd (none_comes hosts queue p.who.node _ q.none c)
+    by_owed (inr (inl (m, answers, c))) = absurd (none_comes hosts queue n _ q.none c)
     by_owed (inr (inr busy)) = record {
       who = p.who;
       number = s.number;
@@ -198,9 +198,9 @@ committing_below hosts w queue small reached q n b h t s found i durable state =
     p : IsParticipant hosts s.kind s.participant
     p = participant_at hosts w small reached n b h t s found i
 
-    by_owed : OwesCommitted w queue (record { node = n; id = t.id }) s.number p.who → Below w (record { node = n; id = t.id })
-    by_owed (inl c) = absurd (none_comes queue p.who.node _ q.none c)
-    by_owed (inr (inl c)) = absurd (none_comes queue n _ q.none c)
+    by_owed : OwesCommitted hosts w queue (record { node = n; id = t.id }) s.number p.who → Below w (record { node = n; id = t.id })
+    by_owed (inl c) = absurd (none_comes hosts queue p.who.node _ q.none c)
+    by_owed (inr (inl c)) = absurd (none_comes hosts queue n _ q.none c)
     by_owed (inr (inr commits)) = record {
       who = p.who;
       number = s.number;
@@ -324,11 +324,11 @@ prepared_voted hosts es queue small q z number k =
     by_phase (inr voted) = record { stands = record { book = k.book; holds = k.holds; transaction = k.transaction; found = k.found }; voted = voted }
 
 -- an outcome that is owed is owed by a seat that is Prepared
-outcome_prepared : (w : World) (queue : List Posted) (x z : Who) (number : ℕ) → NoneLeft queue → OwesOutcome w queue x z number → IsPreparedAt w z number
-outcome_prepared w queue x z number none (inl c) = absurd (none_comes queue z.node _ none c)
-outcome_prepared w queue x z number none (inr (inl (inl c))) = absurd (none_comes queue x.node _ none c)
-outcome_prepared w queue x z number none (inr (inl (inr c))) = absurd (none_comes queue x.node _ none c)
-outcome_prepared w queue x z number none (inr (inr k)) = k
+outcome_prepared : (hosts : Hosts) (w : World) (queue : List Posted) (x z : Who) (number : ℕ) → NoneLeft queue → OwesOutcome hosts w queue x z number → IsPreparedAt w z number
+outcome_prepared hosts w queue x z number none (inl c) = absurd (none_comes hosts queue z.node _ none c)
+outcome_prepared hosts w queue x z number none (inr (inl (inl c))) = absurd (none_comes hosts queue x.node _ none c)
+outcome_prepared hosts w queue x z number none (inr (inl (inr c))) = absurd (none_comes hosts queue x.node _ none c)
+outcome_prepared hosts w queue x z number none (inr (inr k)) = k
 
 -- one further up has voted too
 record Above (w : World) (x : Who) : Type 0 where
@@ -367,7 +367,7 @@ above hosts es queue small q x a = by_superior k.transaction.superior refl
         let (at, enlists) = link_seat hosts w small (run_reached hosts es) x.node k.book k.holds x.id k.transaction kinds.Durable c k.found (ap (coordinator_at kinds.Durable) {y = Some s} e ∙ knows) in
         let z : Who = at.transaction in
         let prepared : IsPreparedAt w z at.number =
-        outcome_prepared w queue (record { node = x.node; id = k.transaction.id }) z at.number q.none
+        outcome_prepared hosts w queue (record { node = x.node; id = k.transaction.id }) z at.number q.none
         (q.outcomes.links x.node k.book k.transaction s z at.number tt k.holds own e links.1 (record { place = at.place; least = at.least; most = at.most }) (knows ∙ ap Some {y = seat_of hosts z at.number kinds.Durable} at.is)) in
         record {
           who = z;
@@ -435,7 +435,7 @@ none_doubts hosts es queue small q n b h l found e =
         let same : c ≡ seat_of hosts at.transaction at.number kinds.Durable = at.is ∙ ap (seat_of hosts at.transaction at.number) durable in
         none_voted hosts es queue small q at.transaction
         (prepared_voted hosts es queue small q at.transaction at.number
-        (outcome_prepared w queue (record { node = n; id = l.id }) at.transaction at.number q.none
+        (outcome_prepared hosts w queue (record { node = n; id = l.id }) at.transaction at.number q.none
         (q.outcomes.leaves n b l at.transaction at.number tt h found durable state (record { place = at.place; least = at.least; most = at.most }) (knows ∙ ap Some same))))
 
     by_stand : l.kind ≡ kinds.Durable → l.state ≡ states.PreparedSuccess → LeafStands l → ⊥

@@ -111,7 +111,7 @@ receiver_there hosts w small reached q n i to = by_to q.content.to refl (sym (ro
     by_place address None e f = absurd cc
     by_place address (Some p) e f =
         let same : p.0 ≡ n = cc in
-        let place = place_is hosts 1 address p e in
+        let place = place_is hosts.base_of hosts.count 1 address p e in
         node_there n w.nodes (omega (arith, same, place.least)) (omega (arith, same, place.most, reached_length hosts w reached))
 
     by_to : (o : Option Epr) → q.content.to ≡ o → receiver_of (new_nodes hosts.base_of hosts.count 1) o ≡ Some n → (x : Node) × (nth n w.nodes ≡ Some x)
@@ -153,14 +153,14 @@ dear : ℕ → Prices
 dear making = record { seat = 0; other = 0; making = making }
 
 round_walk : (hosts : Hosts) (most : ℕ) (f : Family hosts) (s : Settling) → HaveOwnAddresses hosts → ((u : ℕ) (w : World) (queue : List Posted) → (f.inv u).Of w queue → AreUp w) → IsOfRun hosts s.world
-    → IsDrained most s → (f.inv 0).Of s.world [] → Drained hosts (f.inv hosts) (settle_round most s).world
+    → IsDrained most s → (f.inv 0).Of s.world [] → Drained hosts (f.inv hosts.count) (settle_round most s).world
 unfolding dear
 round_walk hosts most f s small up r d h =
     let j : ℕ = length s.world.posted in
     let limit : ℕ = seat_most (dear 0) * seats_of s.world + other_most (dear 0) * others_of s.world in
     let P : Prices = dear (limit + 1) in
-    deliveries_walk hosts (f.inv hosts) P limit (settle_round most s) j (all_also (ticks 1 s.world.nodes) s) small (up hosts) (omega arith) d
-    (ticks_walk hosts f j 0 hosts s.world.nodes s small r (omega (arith, run_length hosts s.world r))
+    deliveries_walk hosts (f.inv hosts.count) P limit (settle_round most s) j (all_also (ticks 1 s.world.nodes) s) small (up hosts.count) (omega arith) d
+    (ticks_walk hosts f j 0 hosts.count s.world.nodes s small r (omega (arith, run_length hosts s.world r))
     (record { reached = run_is hosts s.world r; passed = omega arith; holds = subst ((f.inv 0).Of s.world) (sym (drop_all j s.world.posted (omega arith))) h }))
     (begun_good P hosts s r)
 
@@ -183,8 +183,8 @@ first_round hosts small = record {
   );
 }
 
-none_comes : (queue : List Posted) (n : ℕ) (P : Arrived → Type 0) → NoneLeft queue → Comes queue n P → ⊥
-none_comes queue n P h c = differ c.posted.receiver (h c.posted c.waits) c.receiver
+none_comes : (hosts : Hosts) (queue : List Posted) (n : ℕ) (P : Arrived → Type 0) → NoneLeft queue → Comes hosts queue n P → ⊥
+none_comes hosts queue n P h c = differ c.posted.receiver (h c.posted c.waits) c.receiver
   where
     differ : (o : Option ℕ) → o ≡ None → o ≡ Some n → ⊥
     differ o e f = cc
@@ -196,9 +196,9 @@ none_registers hosts w queue none h = record {
   leaves = λ n b l r m id holds found state request leads. nobody (record { node = n; id = l.id }) l.kind m id (h.leaves n b l r m id tt holds found state request leads);
 }
   where
-    nobody : (x : Who) (kind : Kind) (m : ℕ) (id : Numbers) → OwesRegistered queue x kind m id → ⊥
-    nobody x kind m id (inl c) = none_comes queue m _ none c
-    nobody x kind m id (inr c) = none_comes queue x.node _ none c
+    nobody : (x : Who) (kind : Kind) (m : ℕ) (id : Numbers) → OwesRegistered hosts queue x kind m id → ⊥
+    nobody x kind m id (inl c) = none_comes hosts queue m _ none c
+    nobody x kind m id (inr c) = none_comes hosts queue x.node _ none c
 
 round_registers : (hosts : Hosts) (most : ℕ) (s : Settling) → HaveOwnAddresses hosts → IsOfRun hosts s.world → AreUp s.world → IsDrained most s → NoneRouted hosts (settle_round most s).world
 unfolding registering first_round

@@ -64,7 +64,7 @@ routed hosts w reached q i = one_of (IsRouted hosts) w.posted q (holds hosts (ro
 
 -- so it comes to where it leads
 pub posted_comes : (hosts : Hosts) (w : World) → Reached hosts w → (queue : List Posted) (n : ℕ) (q : Posted) (p : Post) (to : Epr) (T : Target) → IsIn q w.posted → IsIn q queue → q.content ≡ p
-    → p.to ≡ Some to → LeadsTo hosts to n T → takes T p.message ≡ true → Comes queue n (λ a. a ≡ arrival_of T p)
+    → p.to ≡ Some to → LeadsTo hosts to n T → takes T p.message ≡ true → Comes hosts queue n (λ a. a ≡ arrival_of T p)
 posted_comes hosts w reached queue n q p to T i waits is goes leads taken = record {
   posted = q;
   waits = waits;

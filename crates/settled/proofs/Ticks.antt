@@ -53,7 +53,7 @@ ticked_reached hosts es n = run_is hosts (ticked_at n (run_of hosts es)) (furthe
 -- what was posted is on its way
 again_comes : (hosts : Hosts) (es : List WorldEvent) (n j m : ℕ) (ps : List Post) (p : Post) (to : Epr) (T : Target) → j ≤ length (run_of hosts es).posted
     → ArePosted (run_of hosts es) (ticked_at n (run_of hosts es)) ps → IsIn p ps → p.to ≡ Some to → LeadsTo hosts to m T → takes T p.message ≡ true
-    → Comes (drop j (ticked_at n (run_of hosts es)).posted) m (λ a. a ≡ arrival_of T p)
+    → Comes hosts (drop j (ticked_at n (run_of hosts es)).posted) m (λ a. a ≡ arrival_of T p)
 again_comes hosts es n j m ps p to T passed h i goes leads taken =
     let w : World = run_of hosts es in
     let v : World = ticked_at n w in
@@ -95,11 +95,11 @@ votes_asked hosts es n j small passed = record { seats = λ m b t s x here holds
 
     asked : (b : Book) (t : Transaction) (s : Enlistment) (x : Who) → (h : Holds v n b) → transaction_at b t.id ≡ Some t → IsIn s t.seats → s.state ≡ states.Preparing → IsPlace hosts x
         → s.participant ≡ participant_of hosts x s.kind → (t.phase ≡ Phase.Aborting) ⊎ ArePosted (run_of hosts es) v (transaction_again b.base t)
-        → OwesVote v (drop j v.posted) (record { node = n; id = t.id }) s.number s.kind x
+        → OwesVote hosts v (drop j v.posted) (record { node = n; id = t.id }) s.number s.kind x
     asked b t s x h found i state place is (inl aborting) =
         absurd (not_aborting hosts v (ticked_reached hosts es n) n b h t s states.Preparing found i state no_preparing aborting)
     asked b t s x h found i state place is (inr posted) =
-        inl (comes_as (drop j v.posted) x.node
+        inl (comes_as hosts (drop j v.posted) x.node
         (λ a e. (
           (ap (λ (y : Arrived). y.target) e, ap (λ (y : Arrived). y.message) e),
           ap (λ (y : Arrived). y.from) e ∙ ap (λ base. Some (endpoint_of base (seat_target t.id s))) (base_at hosts v small (ticked_reached hosts es n) n b h),
@@ -109,10 +109,10 @@ votes_asked hosts es n j small passed = record { seats = λ m b t s x here holds
         (in_seats b.base t.id t.seats s notices.Prepare (ap unanswered_seat state) i)) refl (leads_participant hosts x s.kind s.participant small place is) refl))
 
     at_node : (m : ℕ) (b : Book) (t : Transaction) (s : Enlistment) (x : Who) → m ≡ n → Holds v m b → transaction_at b t.id ≡ Some t → IsIn s t.seats → s.state ≡ states.Preparing → IsPlace hosts x
-        → s.participant ≡ participant_of hosts x s.kind → OwesVote v (drop j v.posted) (record { node = m; id = t.id }) s.number s.kind x
+        → s.participant ≡ participant_of hosts x s.kind → OwesVote hosts v (drop j v.posted) (record { node = m; id = t.id }) s.number s.kind x
     at_node m b t s x here holds found i state place is =
         let h : Holds v n b = subst (λ k. Holds v k b) here holds in
-        subst (λ k. OwesVote v (drop j v.posted) (record { node = k; id = t.id }) s.number s.kind x) (sym here)
+        subst (λ k. OwesVote hosts v (drop j v.posted) (record { node = k; id = t.id }) s.number s.kind x) (sym here)
         (asked b t s x h found i state place is (ticks_ask.transactions hosts es n h.node b t.id t h.found h.up found))
 
 pub commits_asked : (hosts : Hosts) (es : List WorldEvent) (n j : ℕ) → HaveOwnAddresses hosts → j ≤ length (run_of hosts es).posted
@@ -124,11 +124,11 @@ commits_asked hosts es n j small passed = record { seats = λ m b t s x here hol
 
     asked : (b : Book) (t : Transaction) (s : Enlistment) (x : Who) → (h : Holds v n b) → transaction_at b t.id ≡ Some t → IsIn s t.seats → s.kind ≡ kinds.Durable → s.state ≡ states.Committing
         → IsPlace hosts x → s.participant ≡ participant_of hosts x s.kind → (t.phase ≡ Phase.Aborting) ⊎ ArePosted (run_of hosts es) v (transaction_again b.base t)
-        → OwesCommitted v (drop j v.posted) (record { node = n; id = t.id }) s.number x
+        → OwesCommitted hosts v (drop j v.posted) (record { node = n; id = t.id }) s.number x
     asked b t s x h found i durable state place is (inl aborting) =
         absurd (not_aborting hosts v (ticked_reached hosts es n) n b h t s states.Committing found i state no_committing aborting)
     asked b t s x h found i durable state place is (inr posted) =
-        inl (comes_as (drop j v.posted) x.node
+        inl (comes_as hosts (drop j v.posted) x.node
         (λ a e. (
           (ap (λ (y : Arrived). y.target) e ∙ ap (targets.Participant x.id) durable, ap (λ (y : Arrived). y.message) e),
           ap (λ (y : Arrived). y.from) e
@@ -139,10 +139,10 @@ commits_asked hosts es n j small passed = record { seats = λ m b t s x here hol
         (in_seats b.base t.id t.seats s notices.Commit (ap unanswered_seat state) i)) refl (leads_participant hosts x s.kind s.participant small place is) refl))
 
     at_node : (m : ℕ) (b : Book) (t : Transaction) (s : Enlistment) (x : Who) → m ≡ n → Holds v m b → transaction_at b t.id ≡ Some t → IsIn s t.seats → s.kind ≡ kinds.Durable
-        → s.state ≡ states.Committing → IsPlace hosts x → s.participant ≡ participant_of hosts x s.kind → OwesCommitted v (drop j v.posted) (record { node = m; id = t.id }) s.number x
+        → s.state ≡ states.Committing → IsPlace hosts x → s.participant ≡ participant_of hosts x s.kind → OwesCommitted hosts v (drop j v.posted) (record { node = m; id = t.id }) s.number x
     at_node m b t s x here holds found i durable state place is =
         let h : Holds v n b = subst (λ k. Holds v k b) here holds in
-        subst (λ k. OwesCommitted v (drop j v.posted) (record { node = k; id = t.id }) s.number x) (sym here)
+        subst (λ k. OwesCommitted hosts v (drop j v.posted) (record { node = k; id = t.id }) s.number x) (sym here)
         (asked b t s x h found i durable state place is (ticks_ask.transactions hosts es n h.node b t.id t h.found h.up found))
 
 -- links
@@ -210,22 +210,22 @@ leaf_registers m l q state asks =
     (subst (λ o. IsIn (leaf_register m l q.registration) (leaf_register_again m l o)) (sym asks) (inl refl))
 
 -- a vote, and a Register, that came
-vote_came : (queue : List Posted) (base : List ℕ) (n : ℕ) (id : Numbers) (z : Who) (number : ℕ) (to : Epr) → base ≡ hosts.base_of n
-    → Comes queue z.node (λ a. a ≡ arrival_of (targets.Coordinator z.id (record { number = number; kind = kinds.Durable })) (notice_post base (targets.Participant id kinds.Durable) to notices.Prepared))
-    → Comes queue z.node
+vote_came : (hosts : Hosts) (queue : List Posted) (base : List ℕ) (n : ℕ) (id : Numbers) (z : Who) (number : ℕ) (to : Epr) → base ≡ hosts.base_of n
+    → Comes hosts queue z.node (λ a. a ≡ arrival_of (targets.Coordinator z.id (record { number = number; kind = kinds.Durable })) (notice_post base (targets.Participant id kinds.Durable) to notices.Prepared))
+    → Comes hosts queue z.node
     (IsNoticeFrom (targets.Coordinator z.id (record { number = number; kind = kinds.Durable })) notices.Prepared (participant_of hosts (record { node = n; id = id }) kinds.Durable))
-vote_came queue base n id z number to is c =
-    comes_as queue z.node
+vote_came hosts queue base n id z number to is c =
+    comes_as hosts queue z.node
     (λ a e. (
       (ap (λ (y : Arrived). y.target) e, ap (λ (y : Arrived). y.message) e),
       ap (λ (y : Arrived). y.from) e ∙ ap (λ bs. Some (endpoint_of bs (targets.Participant id kinds.Durable))) is,
     )) c
 
-register_came : (queue : List Posted) (base : List ℕ) (n : ℕ) (id : Numbers) (kind : Kind) (to : Epr) (m : ℕ) (j : Numbers) → base ≡ hosts.base_of n
-    → Comes queue m (λ a. a ≡ arrival_of (targets.Registration j) (register_post base (targets.Participant id kind) (protocol_of kind) to))
-    → Comes queue m (IsRegisterOf (record { node = n; id = id }) kind j)
-register_came queue base n id kind to m j is c =
-    comes_as queue m
+register_came : (hosts : Hosts) (queue : List Posted) (base : List ℕ) (n : ℕ) (id : Numbers) (kind : Kind) (to : Epr) (m : ℕ) (j : Numbers) → base ≡ hosts.base_of n
+    → Comes hosts queue m (λ a. a ≡ arrival_of (targets.Registration j) (register_post base (targets.Participant id kind) (protocol_of kind) to))
+    → Comes hosts queue m (IsRegisterOf hosts (record { node = n; id = id }) kind j)
+register_came hosts queue base n id kind to m j is c =
+    comes_as hosts queue m
     (λ a e. record {
       target = ap (λ (y : Arrived). y.target) e;
       register = record { protocol = protocol_of kind; participant = endpoint_of base (targets.Participant id kind) };
@@ -247,32 +247,32 @@ outcomes_asked hosts es n j small passed = record {
 
     link_asked : (b : Book) (t : Transaction) (s : Superior) (z : Who) (number : ℕ) → (h : Holds v n b) → transaction_at b t.id ≡ Some t → t.superior ≡ Some s
         → s.durable.state ≡ states.PreparedSuccess → IsSeatPlace hosts z number → s.durable.coordinator ≡ Some (seat_of hosts z number kinds.Durable)
-        → (t.phase ≡ Phase.Aborting) ⊎ ArePosted (run_of hosts es) v (transaction_again b.base t) → OwesOutcome v (drop j v.posted) (record { node = n; id = t.id }) z number
+        → (t.phase ≡ Phase.Aborting) ⊎ ArePosted (run_of hosts es) v (transaction_again b.base t) → OwesOutcome hosts v (drop j v.posted) (record { node = n; id = t.id }) z number
     link_asked b t s z number h found under state place knows (inl aborting) =
         absurd (link_stays hosts v (ticked_reached hosts es n) n b h t s kinds.Durable states.PreparedSuccess found under state not_prepared aborting)
     link_asked b t s z number h found under state place knows (inr posted) =
         let p : Post = notice_post b.base (targets.Participant t.id kinds.Durable) (seat_of hosts z number kinds.Durable) notices.Prepared in
-        inl (vote_came (drop j v.posted) b.base n t.id z number (seat_of hosts z number kinds.Durable) (base_at hosts v small (ticked_reached hosts es n) n b h)
+        inl (vote_came hosts (drop j v.posted) b.base n t.id z number (seat_of hosts z number kinds.Durable) (base_at hosts v small (ticked_reached hosts es n) n b h)
         (again_comes hosts es n j z.node (transaction_again b.base t) p (seat_of hosts z number kinds.Durable) (targets.Coordinator z.id (record { number = number; kind = kinds.Durable })) passed posted
         (in_links b.base t s kinds.Durable p under (again_prepared b.base t.id kinds.Durable s.request s.durable (seat_of hosts z number kinds.Durable) state knows)) refl
         (leads_seat hosts z number kinds.Durable small place) refl))
 
     at_link : (m : ℕ) (b : Book) (t : Transaction) (s : Superior) (z : Who) (number : ℕ) → m ≡ n → Holds v m b → transaction_at b t.id ≡ Some t → t.superior ≡ Some s
         → s.durable.state ≡ states.PreparedSuccess → IsSeatPlace hosts z number → s.durable.coordinator ≡ Some (seat_of hosts z number kinds.Durable)
-        → OwesOutcome v (drop j v.posted) (record { node = m; id = t.id }) z number
+        → OwesOutcome hosts v (drop j v.posted) (record { node = m; id = t.id }) z number
     at_link m b t s z number here holds found under state place knows =
         let h : Holds v n b = subst (λ k. Holds v k b) here holds in
-        subst (λ k. OwesOutcome v (drop j v.posted) (record { node = k; id = t.id }) z number) (sym here)
+        subst (λ k. OwesOutcome hosts v (drop j v.posted) (record { node = k; id = t.id }) z number) (sym here)
         (link_asked b t s z number h found under state place knows (ticks_ask.transactions hosts es n h.node b t.id t h.found h.up found))
 
     at_leaf : (m : ℕ) (b : Book) (l : Leaf) (z : Who) (number : ℕ) → m ≡ n → Holds v m b → leaf_at b l.id ≡ Some l → l.kind ≡ kinds.Durable → l.state ≡ states.PreparedSuccess
-        → IsSeatPlace hosts z number → l.coordinator ≡ Some (seat_of hosts z number kinds.Durable) → OwesOutcome v (drop j v.posted) (record { node = m; id = l.id }) z number
+        → IsSeatPlace hosts z number → l.coordinator ≡ Some (seat_of hosts z number kinds.Durable) → OwesOutcome hosts v (drop j v.posted) (record { node = m; id = l.id }) z number
     at_leaf m b l z number here holds found durable state place knows =
         let h : Holds v n b = subst (λ k. Holds v k b) here holds in
         let p : Post = notice_post b.base (targets.Participant l.id kinds.Durable) (seat_of hosts z number kinds.Durable) notices.Prepared in
         let c : Moment = moment_of b h.node.clock in
-        subst (λ k. OwesOutcome v (drop j v.posted) (record { node = k; id = l.id }) z number) (sym here)
-        (inl (vote_came (drop j v.posted) b.base n l.id z number (seat_of hosts z number kinds.Durable) (base_at hosts v small (ticked_reached hosts es n) n b h)
+        subst (λ k. OwesOutcome hosts v (drop j v.posted) (record { node = k; id = l.id }) z number) (sym here)
+        (inl (vote_came hosts (drop j v.posted) b.base n l.id z number (seat_of hosts z number kinds.Durable) (base_at hosts v small (ticked_reached hosts es n) n b h)
         (again_comes hosts es n j z.node (leaf_again c l) p (seat_of hosts z number kinds.Durable) (targets.Coordinator z.id (record { number = number; kind = kinds.Durable })) passed
         (ticks_ask.leaves hosts es n h.node b l.id l h.found h.up found)
         (subst (λ k. IsIn (notice_post b.base (targets.Participant l.id k) (seat_of hosts z number kinds.Durable) notices.Prepared) (leaf_again c l)) durable
@@ -290,28 +290,28 @@ registrations_asked hosts es n j small passed = record {
 
     link_asked : (b : Book) (t : Transaction) (s : Superior) (kind : Kind) (r : Request) (k : ℕ) (id : Numbers) → (h : Holds v n b) → transaction_at b t.id ≡ Some t → t.superior ≡ Some s
         → (link_of kind s).state ≡ states.Registering → s.request ≡ Some r → LeadsTo hosts r.registration k (targets.Registration id)
-        → (t.phase ≡ Phase.Aborting) ⊎ ArePosted (run_of hosts es) v (transaction_again b.base t) → OwesRegistered (drop j v.posted) (record { node = n; id = t.id }) kind k id
+        → (t.phase ≡ Phase.Aborting) ⊎ ArePosted (run_of hosts es) v (transaction_again b.base t) → OwesRegistered hosts (drop j v.posted) (record { node = n; id = t.id }) kind k id
     link_asked b t s kind r k id h found under state request leads (inl aborting) =
         absurd (link_stays hosts v (ticked_reached hosts es n) n b h t s kind states.Registering found under state not_registering aborting)
     link_asked b t s kind r k id h found under state request leads (inr posted) =
-        inl (register_came (drop j v.posted) b.base n t.id kind r.registration k id (base_at hosts v small (ticked_reached hosts es n) n b h)
+        inl (register_came hosts (drop j v.posted) b.base n t.id kind r.registration k id (base_at hosts v small (ticked_reached hosts es n) n b h)
         (again_comes hosts es n j k (transaction_again b.base t) (link_register b.base t.id kind r.registration) r.registration (targets.Registration id) passed posted
         (in_links b.base t s kind (link_register b.base t.id kind r.registration) under (again_registers b.base t.id kind s.request (link_of kind s) r state request)) refl leads refl))
 
     at_link : (m : ℕ) (b : Book) (t : Transaction) (s : Superior) (kind : Kind) (r : Request) (k : ℕ) (id : Numbers) → m ≡ n → Holds v m b → transaction_at b t.id ≡ Some t → t.superior ≡ Some s
         → (link_of kind s).state ≡ states.Registering → s.request ≡ Some r → LeadsTo hosts r.registration k (targets.Registration id)
-        → OwesRegistered (drop j v.posted) (record { node = m; id = t.id }) kind k id
+        → OwesRegistered hosts (drop j v.posted) (record { node = m; id = t.id }) kind k id
     at_link m b t s kind r k id here holds found under state request leads =
         let h : Holds v n b = subst (λ i. Holds v i b) here holds in
-        subst (λ i. OwesRegistered (drop j v.posted) (record { node = i; id = t.id }) kind k id) (sym here)
+        subst (λ i. OwesRegistered hosts (drop j v.posted) (record { node = i; id = t.id }) kind k id) (sym here)
         (link_asked b t s kind r k id h found under state request leads (ticks_ask.transactions hosts es n h.node b t.id t h.found h.up found))
 
     at_leaf : (m : ℕ) (b : Book) (l : Leaf) (r : WorkRequest) (k : ℕ) (id : Numbers) → m ≡ n → Holds v m b → leaf_at b l.id ≡ Some l → l.state ≡ states.Registering → l.request ≡ Some r
-        → LeadsTo hosts r.registration k (targets.Registration id) → OwesRegistered (drop j v.posted) (record { node = m; id = l.id }) l.kind k id
+        → LeadsTo hosts r.registration k (targets.Registration id) → OwesRegistered hosts (drop j v.posted) (record { node = m; id = l.id }) l.kind k id
     at_leaf m b l r k id here holds found state request leads =
         let h : Holds v n b = subst (λ i. Holds v i b) here holds in
         let c : Moment = moment_of b h.node.clock in
-        subst (λ i. OwesRegistered (drop j v.posted) (record { node = i; id = l.id }) l.kind k id) (sym here)
-        (inl (register_came (drop j v.posted) b.base n l.id l.kind r.registration k id (base_at hosts v small (ticked_reached hosts es n) n b h)
+        subst (λ i. OwesRegistered hosts (drop j v.posted) (record { node = i; id = l.id }) l.kind k id) (sym here)
+        (inl (register_came hosts (drop j v.posted) b.base n l.id l.kind r.registration k id (base_at hosts v small (ticked_reached hosts es n) n b h)
         (again_comes hosts es n j k (leaf_again c l) (leaf_register c l r.registration) r.registration (targets.Registration id) passed
         (ticks_ask.leaves hosts es n h.node b l.id l h.found h.up found) (leaf_registers c l r state request) refl leads refl)))

@@ -208,7 +208,7 @@ busy_on hosts u v before after g behind x kind n b t number h found early seat k
 -- so what a seat waits for stays owed, where no answer came to it
 pub vote_on : (hosts : Hosts) (u v : World) (before after : List Posted) → (g : Goes hosts u v before after) → PreparesAreBehind hosts u → (n : ℕ) (b : Book) (t : Transaction) (s : Enlistment) (x : Who)
     → Holds u n b → transaction_at b t.id ≡ Some t → IsIn s t.seats → s.state ≡ states.Preparing → IsPlace hosts x → s.participant ≡ participant_of hosts x s.kind → HasRegistered u x s.kind
-    → (n ≡ g.number → HasAnswered g.event t s → ⊥) → OwesVote u before (record { node = n; id = t.id }) s.number s.kind x → OwesVote v after (record { node = n; id = t.id }) s.number s.kind x
+    → (n ≡ g.number → HasAnswered g.event t s → ⊥) → OwesVote hosts u before (record { node = n; id = t.id }) s.number s.kind x → OwesVote hosts v after (record { node = n; id = t.id }) s.number s.kind x
 vote_on hosts u v before after g behind n b t s x h found i state place is registered unanswered owed = by_owed owed
   where
     z : Who
@@ -223,23 +223,23 @@ vote_on hosts u v before after g behind n b t s x h found i state place is regis
     early : suits t.phase s.kind states.Preparing ≡ true
     early = subst (λ d. suits t.phase s.kind d ≡ true) state (suits_at hosts u g.reached n b h t s found i)
 
-    answered : IsBusyAt v x s.kind ⊎ TellsAnswer (seat_of hosts z s.number s.kind) (posted_in g) → OwesVote v after z s.number s.kind x
+    answered : IsBusyAt v x s.kind ⊎ TellsAnswer (seat_of hosts z s.number s.kind) (posted_in g) → OwesVote hosts v after z s.number s.kind x
     answered (inl busy) = inr (inr busy)
     answered (inr (m, answers, tells)) = inr (inl (m, answers, seat_told hosts u v before after g z s.number s.kind m answers there tells))
 
-    by_asked : (c : Comes before x.node (IsNoticeFrom (targets.Participant x.id s.kind) notices.Prepare (seat_of hosts z s.number s.kind)))
-        → Comes after x.node (IsNoticeFrom (targets.Participant x.id s.kind) notices.Prepare (seat_of hosts z s.number s.kind)) ⊎ ((x.node ≡ g.number) × (g.event ≡ events.Arrived c.arrived))
-        → OwesVote v after z s.number s.kind x
+    by_asked : (c : Comes hosts before x.node (IsNoticeFrom (targets.Participant x.id s.kind) notices.Prepare (seat_of hosts z s.number s.kind)))
+        → Comes hosts after x.node (IsNoticeFrom (targets.Participant x.id s.kind) notices.Prepare (seat_of hosts z s.number s.kind)) ⊎ ((x.node ≡ g.number) × (g.event ≡ events.Arrived c.arrived))
+        → OwesVote hosts v after z s.number s.kind x
     by_asked c (inl stays) = inl stays
     by_asked c (inr (here, came)) = answered (prepare_arrives hosts u v before after g x s.kind z s.number c.arrived here came c.says seat registered)
 
-    by_heard : (m : Notice) → AnswersSeat m → (c : Comes before n (IsNotice (seat_target_of z s.number s.kind) m))
-        → Comes after n (IsNotice (seat_target_of z s.number s.kind) m) ⊎ ((n ≡ g.number) × (g.event ≡ events.Arrived c.arrived)) → OwesVote v after z s.number s.kind x
+    by_heard : (m : Notice) → AnswersSeat m → (c : Comes hosts before n (IsNotice (seat_target_of z s.number s.kind) m))
+        → Comes hosts after n (IsNotice (seat_target_of z s.number s.kind) m) ⊎ ((n ≡ g.number) × (g.event ≡ events.Arrived c.arrived)) → OwesVote hosts v after z s.number s.kind x
     by_heard m answers c (inl stays) = inr (inl (m, answers, stays))
     by_heard m answers c (inr (here, came)) =
         absurd (unanswered here (m, answers, record { message = c.arrived; came = came; target = c.says.0; says = c.says.1 }))
 
-    by_owed : OwesVote u before z s.number s.kind x → OwesVote v after z s.number s.kind x
+    by_owed : OwesVote hosts u before z s.number s.kind x → OwesVote hosts v after z s.number s.kind x
     by_owed (inl c) = by_asked c (or_arrives hosts u v before after g x.node _ c)
     by_owed (inr (inl (m, answers, c))) = by_heard m answers c (or_arrives hosts u v before after g n _ c)
     by_owed (inr (inr busy)) = answered (busy_on hosts u v before after g behind x s.kind n b t s.number h found early seat busy)

@@ -66,7 +66,7 @@ NoneRegisters w = (z x : Who) (kind : Kind) (number : ℕ) → HasSeat w z numbe
 
 votes_here : (hosts : Hosts) (Asked : ℕ → Type 0) (u v : World) (before after : List Posted) → (g : Goes hosts u v before after) → PreparesAreBehind hosts u → NoneRegisters u
     → VotesAreOwed hosts Asked u before → (t : Transaction) (s : Enlistment) (x : Who) → Asked g.number → transaction_at (book_after g) t.id ≡ Some t → IsIn s t.seats → s.state ≡ states.Preparing
-    → IsPlace hosts x → s.participant ≡ participant_of hosts x s.kind → OwesVote v after (record { node = g.number; id = t.id }) s.number s.kind x
+    → IsPlace hosts x → s.participant ≡ participant_of hosts x s.kind → OwesVote hosts v after (record { node = g.number; id = t.id }) s.number s.kind x
 votes_here hosts Asked u v before after g behind registered h t s x asked found i state place is = by_seat b.seats
   where
     b : StoodBefore hosts u v before after g t s
@@ -75,12 +75,12 @@ votes_here hosts Asked u v before after g behind registered h t s x asked found 
     held : Holds u g.number g.book
     held = holds_before hosts u v before after g
 
-    as_new : OwesVote v after (record { node = g.number; id = b.old.id }) s.number s.kind x → OwesVote v after (record { node = g.number; id = t.id }) s.number s.kind x
-    as_new k = subst (λ j. OwesVote v after (record { node = g.number; id = j }) s.number s.kind x) (sym b.id_is) k
+    as_new : OwesVote hosts v after (record { node = g.number; id = b.old.id }) s.number s.kind x → OwesVote hosts v after (record { node = g.number; id = t.id }) s.number s.kind x
+    as_new k = subst (λ j. OwesVote hosts v after (record { node = g.number; id = j }) s.number s.kind x) (sym b.id_is) k
 
     by_asked : (p : Partner (IsOwed g.book.base g.event b.old (posted_in g)) b.old.seats s)
         → ((p.old.state ≡ states.Preparing) × (HasAnswered g.event b.old p.old → ⊥)) ⊎ IsIn (seat_post g.book.base b.old.id p.old notices.Prepare) (posted_in g)
-        → OwesVote v after (record { node = g.number; id = b.old.id }) p.old.number p.old.kind x
+        → OwesVote hosts v after (record { node = g.number; id = b.old.id }) p.old.number p.old.kind x
     by_asked p (inl (was, unanswered)) =
         let same : p.old.participant ≡ participant_of hosts x p.old.kind = subst (λ (a : Seating). a.participant ≡ participant_of hosts x a.kind) p.pair.0.0 is in
         vote_on hosts u v before after g behind g.number g.book b.old p.old x held b.found p.among was place same
@@ -90,9 +90,9 @@ votes_here hosts Asked u v before after g behind registered h t s x asked found 
         inl (seat_asks hosts u v before after g b.old.id p.old x notices.Prepare tt place (subst (λ (a : Seating). a.participant ≡ participant_of hosts x a.kind) p.pair.0.0 is) sent)
 
     by_seat : Partner (IsOwed g.book.base g.event b.old (posted_in g)) b.old.seats s ⊎ IsNew g.book.base b.old (posted_in g) s
-        → OwesVote v after (record { node = g.number; id = t.id }) s.number s.kind x
+        → OwesVote hosts v after (record { node = g.number; id = t.id }) s.number s.kind x
     by_seat (inl p) =
-        as_new (subst (λ (a : Seating). OwesVote v after (record { node = g.number; id = b.old.id }) a.number a.kind x) (sym p.pair.0.0) (by_asked p (p.pair.1.0 state)))
+        as_new (subst (λ (a : Seating). OwesVote hosts v after (record { node = g.number; id = b.old.id }) a.number a.kind x) (sym p.pair.0.0) (by_asked p (p.pair.1.0 state)))
     by_seat (inr new) = as_new (inl (seat_asks hosts u v before after g b.old.id s x notices.Prepare tt place is (new.0 state)))
 
 pub votes_kept : (hosts : Hosts) (Asked : ℕ → Type 0) (u v : World) (before after : List Posted) → (g : Goes hosts u v before after) → PreparesAreBehind hosts u → NoneRegisters u
@@ -100,10 +100,10 @@ pub votes_kept : (hosts : Hosts) (Asked : ℕ → Type 0) (u v : World) (before 
 votes_kept hosts Asked u v before after g behind registered h = record { seats = λ n b t s x asked holds found i state place is. by_place n b t s x asked holds found i state place is (or_elsewhere n g.number) }
   where
     by_place : (n : ℕ) (b : Book) (t : Transaction) (s : Enlistment) (x : Who) → Asked n → Holds v n b → transaction_at b t.id ≡ Some t → IsIn s t.seats → s.state ≡ states.Preparing
-        → IsPlace hosts x → s.participant ≡ participant_of hosts x s.kind → (n ≡ g.number) ⊎ (n ≡ g.number → ⊥) → OwesVote v after (record { node = n; id = t.id }) s.number s.kind x
+        → IsPlace hosts x → s.participant ≡ participant_of hosts x s.kind → (n ≡ g.number) ⊎ (n ≡ g.number → ⊥) → OwesVote hosts v after (record { node = n; id = t.id }) s.number s.kind x
     by_place n b t s x asked holds found i state place is (inl here) =
         let same : b ≡ book_after g = same_book v g.number b (book_after g) (subst (λ m. Holds v m b) here holds) (holds_after hosts u v before after g) in
-        subst (λ m. OwesVote v after (record { node = m; id = t.id }) s.number s.kind x) (sym here)
+        subst (λ m. OwesVote hosts v after (record { node = m; id = t.id }) s.number s.kind x) (sym here)
         (votes_here hosts Asked u v before after g behind registered h t s x (subst Asked here asked) (subst (λ c. transaction_at c t.id ≡ Some t) same found) i state place is)
     by_place n b t s x asked holds found i state place is (inr other) =
         let held : Holds u n b = held_elsewhere hosts u v before after g n b other holds in

@@ -18,8 +18,8 @@ abbrev pub posted_as : ℕ → List Node → Post → Posted
 posted_as n nodes p = record { sender = n; receiver = receiver_of nodes p.to; content = p }
 
 -- this message has arrived
-abbrev pub HasArrived : ℕ → Event → Posted → Type 0
-HasArrived n e q = (q.receiver ≡ Some n) × ((a : Arrived) → decoded (hosts.base_of n) q.content ≡ Some a → e ≡ events.Arrived a)
+abbrev pub HasArrived : Hosts → ℕ → Event → Posted → Type 0
+HasArrived hosts n e q = (q.receiver ≡ Some n) × ((a : Arrived) → decoded (hosts.base_of n) q.content ≡ Some a → e ≡ events.Arrived a)
 
 -- an event that makes nothing
 abbrev pub MakesNone : Event → Type 0
@@ -40,5 +40,5 @@ pub record Goes (hosts : Hosts) (u v : World) (before after : List Posted) : Typ
   pub heard : Heard u number node event
   pub makes : MakesNone event
   pub is : v ≡ post_all number (posts_of (step book event now true).outs) (counts u number node book event now true)
-  pub stays : (q : Posted) → IsIn q before → IsIn q after ⊎ HasArrived number event q
+  pub stays : (q : Posted) → IsIn q before → IsIn q after ⊎ HasArrived hosts number event q
   pub adds : (q : Posted) → IsIn q (map (posted_as number u.nodes) (posts_of (step book event now true).outs)) → IsIn q after
