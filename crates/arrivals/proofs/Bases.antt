@@ -1,30 +1,34 @@
--- The base of each node of a world is one under which its items' addresses are URLs with their paths.
-use Rattle.std.proofs.Common.{◌≡◌, ◌≢◌, ℕ, ◌+◌, ◌-◌, ◌^◌, ◌<◌, Bool, true, false, not, ◌&&◌, ◌==◌, List, [], ◌∷◌, ◌++◌, Some, None, All, refl, sym, ap, subst, ◌∙◌, arith, inl, append-nil}
-use Rattle.std.specs.Prelude.{codes, decimal, nat_lt}
+-- What an http URL has before its path is a base: the addresses of a node's items under it are URLs with their paths.
+use Rattle.std.proofs.Common.{◌≡◌, ◌≢◌, ℕ, ◌+◌, ◌-◌, ◌^◌, ◌<◌, Bool, true, false, not, ◌&&◌, ◌==◌, List, [], ◌∷◌, ◌++◌, Option, Some, None, All, take, refl, sym, ap, subst, ◌∙◌, arith, inl, append-nil}
+use Rattle.std.specs.Prelude.{Ok, MatchOption, codes, decimal, nat_lt}
 use Rattle.std.specs.Char.{to_ascii_lowercase}
 use Rattle.std.specs.Int.{IsInRange}
-use Rattle.std.specs.List.{list_all}
+use Rattle.std.specs.List.{concat, list_all}
 use Rattle.std.proofs.lemmas.Bool.{and_parts, ltb-true, eqb-true}
+use Rattle.std.proofs.lemmas.List.{append_assoc, append_cancel_right}
 use Rattle.std.proofs.lemmas.List.Elements.{All-append, All-cons, All-nil, All-weaker}
 use Rattle.std.proofs.lemmas.List.Folds.{map_fixed}
 use Rattle.percent_encoding.specs.AsciiSet.{contains}
 use Rattle.percent_encoding.specs.Percent.{IsKept}
 use Rattle.percent_encoding.proofs.AsciiSetLemmas.{kept_from_outside}
+use Rattle.url.specs.declared.host.Host.{Host}
 use Rattle.url.specs.declared.host.Host.TheVariants.{Domain}
 use Rattle.url.specs.declared.scheme.SchemeType.TheVariants.{SpecialNotFile}
 use Rattle.url.specs.declared.sets.TheConstants.{FORBIDDEN_DOMAIN}
-use Rattle.url.specs.Host.{IsDomain}
+use Rattle.url.specs.Host.{IsDomain, IsHostOf}
 use Rattle.url.specs.Input.{rsplit_once}
 use Rattle.url.specs.Ipv4.{ends_in_a_number, parse_number}
 use Rattle.url.specs.Parser.{parse_url}
-use Rattle.url.specs.Parts.{IsValid, IsValidHead, Parts, serialize}
-use Rattle.url.specs.Scheme.{IsScheme, default_port, scheme_len, scheme_type}
+use Rattle.url.specs.Parts.{IsValid, IsValidHead, Parts, kind_of, pieces, serialize}
+use Rattle.url.specs.Scheme.{IsScheme, default_port, is_special, scheme_len, scheme_type}
 use Rattle.url.proofs.HostRoundTrip.{All-decimal}
 use Rattle.url.proofs.InputLemmas.{rsplit_once_at}
 use Rattle.url.proofs.SetLemmas.{checked}
 use Rattle.url.proofs.Theorems.{parse_url-serialize_special}
-use Rattle.at_model.specs.World.{base_of}
-use Rattle.arrivals.specs.Worlds.{IsBase}
+use Rattle.at_base.specs.declared.target.Target.{Target}
+use Rattle.at_model.specs.Addresses.{target_of}
+use Rattle.at_model.specs.World.{HaveOwnAddresses, Hosts, IsNumber, example_base}
+use Rattle.arrivals.specs.Worlds.{HaveOwnBases, IsBase, with_path}
 use Rattle.addressing.specs.Posting.{path_in}
 use Rattle.arrivals.proofs.Paths.{IsPath, named_path}
 
@@ -84,15 +88,15 @@ domain n small = record {
   named = not_a_number n;
 }
 
-abbrev url_of : ℕ → List ℕ → Parts
-url_of n path =
+abbrev url_of : ℕ → Parts
+url_of n =
     record {
       scheme = codes "http";
       username = [];
       password = [];
       host = Some (Domain (host_of n));
       port = None;
-      path = path;
+      path = [];
       query = None;
       fragment = None;
     }
@@ -105,8 +109,47 @@ scheme : IsScheme (codes "http")
 unfolding scheme_len
 scheme = record { nonempty = omega arith; whole = refl; lower = refl }
 
-head : (n : ℕ) (path : List ℕ) → n < 2 ^ 64 → IsValidHead (url_of n path)
-head n path small = record {
+-- what stands before a path
+joined : (front : List (List ℕ)) (path : List ℕ) → concat (front ++ path ∷ [] ∷ [] ∷ [] ∷ [] ∷ []) ≡ concat (front ++ [] ∷ [] ∷ [] ∷ [] ∷ [] ∷ []) ++ path
+joined [] path = append-nil path
+joined (piece ∷ front) path = ap (λ (bytes : List ℕ). piece ++ bytes) (joined front path) ∙ sym (append_assoc piece (concat (front ++ [] ∷ [] ∷ [] ∷ [] ∷ [] ∷ [])) path)
+
+written : (url : Parts) (host : Host (List ℕ)) (path : List ℕ) → url.host ≡ Some host → serialize (with_path url path) ≡ serialize (with_path url []) ++ path
+written url host path e = subst Written (sym e) (joined (front (Some host)) path)
+  where
+    front : Option (Host (List ℕ)) → List (List ℕ)
+    front o = take 10 (pieces (record url { host = o; path = []; query = None; fragment = None }))
+
+    Written : Option (Host (List ℕ)) → Type 0
+    Written o =
+        serialize (record url { host = o; path = path; query = None; fragment = None }) ≡ serialize (record url { host = o; path = []; query = None; fragment = None }) ++ path
+
+valid : (url : Parts) (path : List ℕ) → IsValidHead url → url.scheme ≡ codes "http" → IsPath path → IsValid (with_path url path)
+valid url path h http p = record {
+  head = record { scheme = h.scheme; username = h.username; password = h.password; host = h.host; port = h.port; bare = h.bare };
+  path = inl (rw (ap scheme_type http ∙ special) (p.segments, λ _. p.some));
+  query = tt;
+  fragment = tt;
+}
+
+pub head_is_base : (url : Parts) → IsValidHead url → url.scheme ≡ codes "http" → IsBase (serialize (with_path url []))
+head_is_base url h http rest target e = by_host url.host refl
+  where
+    of_http : scheme_type url.scheme ≡ SpecialNotFile
+    of_http = ap scheme_type http ∙ special
+
+    whole : parse_url None (serialize (with_path url rest)) ≡ Ok (with_path url rest)
+    whole = parse_url-serialize_special (with_path url rest) None (valid url rest h http (named_path rest target e)) of_http
+
+    hostless : url.host ≡ None → ⊥
+    hostless n = absurd (subst (λ o. MatchOption o (is_special (kind_of url) ≡ false) (IsHostOf (kind_of url))) n h.host)
+
+    by_host : (o : Option (Host (List ℕ))) → url.host ≡ o → path_in (parse_url None (serialize (with_path url []) ++ rest)) ≡ Some rest
+    by_host None n = absurd (hostless n)
+    by_host (Some host) n = ap path_in (sym (ap (parse_url None) (written url host rest n)) ∙ whole)
+
+head : (n : ℕ) → n < 2 ^ 64 → IsValidHead (url_of n)
+head n small = record {
   scheme = scheme;
   username = All-nil _;
   password = All-nil _;
@@ -115,18 +158,20 @@ head n path small = record {
   bare = λ _. (refl, refl, refl);
 }
 
-valid : (n : ℕ) (path : List ℕ) → n < 2 ^ 64 → IsPath path → IsValid (url_of n path)
-valid n path small h = record {
-  head = head n path small;
-  path = inl (rw special (h.segments, λ _. h.some));
-  query = tt;
-  fragment = tt;
-}
+text_of : (n : ℕ) → serialize (url_of n) ≡ example_base n
+text_of n = ap (λ (bytes : List ℕ). codes "http://n" ++ bytes) (append-nil (decimal n ++ codes ".example"))
 
-written : (n : ℕ) (path : List ℕ) → serialize (url_of n path) ≡ base_of n ++ path
-written n path = ap (λ (p : List ℕ). codes "http://n" ++ ((decimal n ++ codes ".example") ++ p)) (append-nil path)
+pub example_is_base : (n : ℕ) → n < 2 ^ 64 → IsBase (example_base n)
+example_is_base n small = subst IsBase (text_of n) (head_is_base (url_of n) (head n small) refl)
 
-pub node_base : (n : ℕ) → n < 2 ^ 64 → IsBase (base_of n)
-node_base n small rest target e =
-    let whole = parse_url-serialize_special (url_of n rest) None (valid n rest small (named_path rest target e)) special in
-    ap path_in (sym (ap (parse_url None) (written n rest)) ∙ whole)
+-- what both of two addresses name is one path, so that one base stands before it
+pub apart : (hosts : Hosts) → HaveOwnBases hosts → HaveOwnAddresses hosts
+apart hosts h m n rest path S T first second there here e = h.differ m n first second (append_cancel_right (hosts.base_of m) (hosts.base_of n) path (ap (λ (bytes : List ℕ). hosts.base_of m ++ bytes) (sym same) ∙ e))
+  where
+    path_or : Option (List ℕ) → List ℕ
+    path_or (Some p) = p
+    path_or None = []
+
+    same : rest ≡ path
+    same =
+        ap path_or (sym (h.bases m first rest S there) ∙ ap (λ (bytes : List ℕ). path_in (parse_url None bytes)) e ∙ h.bases n second path T here)

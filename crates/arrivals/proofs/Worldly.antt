@@ -10,7 +10,7 @@ use Rattle.at_base.specs.declared.event.Arrived.{Arrived}
 use Rattle.at_base.specs.declared.outs.Post.{Post}
 use Rattle.at_base.specs.declared.target.Target.{Target}
 use Rattle.at_model.specs.Addresses.{after_prefix, target_of}
-use Rattle.at_model.specs.World.{arrival_of, base_of, decoded, decoded_at, reply_of as model_reply_of, takes, target_at}
+use Rattle.at_model.specs.World.{arrival_of, decoded, decoded_at, reply_of as model_reply_of, takes, target_at}
 use Rattle.addressing.specs.Endpoints.{is_anonymous, is_nobody, reply_of}
 use Rattle.addressing.specs.Posting.{path_in}
 use Rattle.wire_msgs.specs.Targets.{target_at as wire_target_at}
@@ -19,7 +19,6 @@ use Rattle.wire_posts.specs.Envelopes.{IsTextOf, reply_epr}
 use Rattle.wire_posts.specs.Returning.{CanReturn, IsInLimits, returned, written_to}
 use Rattle.wire_posts.proofs.Arriving.{text_returns}
 use Rattle.arrivals.specs.Reaching.{can_be_sent_to, is_postable, reaches, sender_of}
-use Rattle.arrivals.proofs.Bases.{node_base}
 use Rattle.arrivals.proofs.Paths.{behind_prefix}
 use Rattle.arrivals.specs.Worlds.{CanArrive, IsBase, IsProper, IsProperReply, IsWritten, Reaches}
 
@@ -139,7 +138,3 @@ node_reaches base post arrived text path b e of c w s p =
       request = c.request;
     } in
     post_reaches base post arrived text path e of can w s p
-
-pub world_reaches : (n : ℕ) (post : Post) (arrived : Arrived) (text path : List ℕ) → n < 2 ^ 64 → decoded (base_of n) post ≡ Some arrived → IsTextOf post text
-    → CanArrive post → IsInLimits post → IsShort text → IsProper post → Reaches text path arrived
-world_reaches n post arrived text path small = node_reaches (base_of n) post arrived text path (node_base n small)

@@ -1,6 +1,7 @@
 -- What is posted on the wire and what a world of nodes says of it.
 use Rattle.std.specs.Prelude.{◌≡◌, ◌++◌, ◌||◌, ℕ, List, true, false, IfSome, Some, None}
 use Rattle.url.specs.Parser.{parse_url}
+use Rattle.url.specs.Parts.{Parts}
 use Rattle.at_base.specs.declared.epr.Epr.{Epr}
 use Rattle.at_base.specs.declared.epr.Reply.{Reply}
 use Rattle.at_base.specs.declared.epr.Reply.TheVariants as replies
@@ -10,6 +11,7 @@ use Rattle.at_base.specs.declared.message.Message.TheVariants as messages
 use Rattle.at_base.specs.declared.outs.Post.{Post}
 use Rattle.at_base.specs.declared.target.Target.{Target}
 use Rattle.at_model.specs.Addresses.{target_of}
+use Rattle.at_model.specs.World.{Hosts, IsNumber}
 use Rattle.addressing.specs.Endpoints.{is_anonymous, is_nobody}
 use Rattle.wire_msgs.specs.declared.decode.Arrival.{Arrival}
 use Rattle.wire_msgs.specs.Arrivals.{Arrives}
@@ -33,6 +35,15 @@ pub record IsProper (post : Post) : Type 0 where
 -- a base under which the address of each of a node's items is a URL with its path
 abbrev pub IsBase : List ℕ → Type 0
 IsBase base = (rest : List ℕ) (target : Target) → target_of rest ≡ Some target → path_in (parse_url None (base ++ rest)) ≡ Some rest
+
+-- the URL with this path in the place of its own, and with no query and no fragment
+abbrev pub with_path : Parts → List ℕ → Parts
+with_path url path = record url { path = path; query = None; fragment = None }
+
+-- each node has a base, and no two have the same
+pub record HaveOwnBases (hosts : Hosts) : Type 0 where
+  pub bases : (n : ℕ) → IsNumber hosts n → IsBase (hosts.base_of n)
+  pub differ : (m n : ℕ) → IsNumber hosts m → IsNumber hosts n → hosts.base_of m ≡ hosts.base_of n → m ≡ n
 
 -- a destination that is written
 pub record IsWritten (epr : Epr) : Type 0 where

@@ -7,7 +7,7 @@ use Rattle.at_base.specs.declared.outs.Effect.{Effect}
 use Rattle.at_base.specs.declared.outs.Effect.TheVariants as effects
 use Rattle.at_base.specs.declared.outs.Told.TheVariants as tellings
 use Rattle.at_model.specs.Step.{leaf_at, transaction_at}
-use Rattle.at_model.specs.World.{Happened, Node, Who, World, happened_at, nth}
+use Rattle.at_model.specs.World.{Happened, Node, Who, World, happened_at, nth, Hosts, HaveOwnAddresses}
 use Rattle.model_laws.specs.Agreement.{IsIn, IsToldTruly, is_end_of}
 use Rattle.model_laws.specs.Reached.{Reached}
 use Rattle.agreement.specs.Lives.{book_of, ends, happened_on}
@@ -44,12 +44,12 @@ at_most w x there here = by_found (nth x.node w.nodes) refl
     by_found None e =
         subst (λ (es : List Effect). length (ends x.id es) ≤ 1) (sym (unmet x.node (HasNode w) (no_node e) w.happened there)) (omega arith)
 
-once : (count : ℕ) (w : World) → count < 2 ^ 64 → Reached count w → (x : Who) → length (filter (is_end_of x) w.happened) ≤ 1
-once count w few reached x =
+once : (hosts : Hosts) (w : World) → HaveOwnAddresses hosts → Reached hosts w → (x : Who) → length (filter (is_end_of x) w.happened) ≤ 1
+once hosts w few reached x =
     subst (λ n. n ≤ 1) (sym (ends_same x w.happened))
-    (at_most w x (all_there count w reached) (λ y found.
+    (at_most w x (all_there hosts w reached) (λ y found.
     life_once y.journal (happened_on x.node w.happened) x.id (transaction_at (book_of y) x.id) (leaf_at (book_of y) x.id)
-    ((world_premises layers count w few reached).laws.lives x.node y found x.id)))
+    ((world_premises layers hosts w few reached).laws.lives x.node y found x.id)))
 
 founded : (w : World) → AreFounded w → (n : ℕ) (f : Effect) → IsIn (happened_at n f) w.happened → IsFounded w n f
 founded w h n f i = one_of (λ (g : Happened). IsFounded w g.node g.what) w.happened (happened_at n f) h i
@@ -61,13 +61,13 @@ told_truly w h = record {
 }
 
 pub agrees_wherever : AgreesWherever
-agrees_wherever count w few reached = record {
-  agreed = record { whole = whole w (bound count w few reached); once = once count w few reached };
-  behind = behind_answers w (bound count w few reached);
-  told = told_truly w (outcomes_are_founded.founded count w few reached);
+agrees_wherever hosts w few reached = record {
+  agreed = record { whole = whole w (bound hosts w few reached); once = once hosts w few reached };
+  behind = behind_answers w (bound hosts w few reached);
+  told = told_truly w (outcomes_are_founded.founded hosts w few reached);
 }
 
 pub nets_agree : {S : Type 0} (told : S → Told) → NetsAreWorlds told → NetsAgree told
-nets_agree told worlds count net few run =
-    let (w, reached, is) = worlds count net run in
-    (w, is, agrees_wherever count w few reached)
+nets_agree told worlds hosts net few run =
+    let (w, reached, is) = worlds hosts net run in
+    (w, is, agrees_wherever hosts w few reached)

@@ -2,12 +2,12 @@
 use Rattle.std.specs.Prelude.{ℕ, List, ◌≡◌, ◌<◌, ◌^◌, Option, Some, Result, Ok, Err}
 use Rattle.std.proofs.Common.{refl, sym, subst, ap, ◌∙◌}
 use Rattle.arrivals.specs.Reaching.{reaches}
-use Rattle.arrivals.specs.Worlds.{CanArrive, IsProper, Reaches}
+use Rattle.arrivals.specs.Worlds.{CanArrive, IsBase, IsProper, Reaches}
 use Rattle.at_base.specs.declared.event.Arrived.{Arrived}
 use Rattle.at_base.specs.declared.event.Event.{Event}
 use Rattle.at_base.specs.declared.event.Event.TheVariants as events
 use Rattle.at_base.specs.declared.outs.Post.{Post}
-use Rattle.at_model.specs.World.{base_of, decoded}
+use Rattle.at_model.specs.World.{decoded, Hosts}
 use Rattle.node_at.specs.Meanings.{Meaning, Means, Says, request}
 use Rattle.node_at.specs.Meanings.Meaning.{Refused, Steps, Lost, Unread}
 use Rattle.node_at.specs.Meanings.Means.{is_refused, is_request}
@@ -32,9 +32,9 @@ use Rattle.node_worlds.specs.Nets.{IsPostedTo, Net}
 abbrev OneTree : Type 0
 OneTree = (bytes : List ℕ) → (t : Tree) → (u : Tree) → Spells bytes t → Spells bytes u → t ≡ u
 
-abbrev OnANode : Type 0
-OnANode =
-    (n : ℕ) → (post : Post) → (arrived : Arrived) → (text : List ℕ) → (path : List ℕ) → n < 2 ^ 64 → decoded (base_of n) post ≡ Some arrived → IsTextOf post text → CanArrive post
+abbrev AtABase : Type 0
+AtABase =
+    (base : List ℕ) → (post : Post) → (arrived : Arrived) → (text : List ℕ) → (path : List ℕ) → IsBase base → decoded base post ≡ Some arrived → IsTextOf post text → CanArrive post
     → IsInLimits post → IsShort text → IsProper post → Reaches text path arrived
 
 arrival_or : Arrival → Result Arrival Refusal → Arrival
@@ -87,15 +87,15 @@ said role path body meaning (says_nothing refusal other answered refused) a h = 
 said role path body meaning (says_elsewhere arrival differs arrives other) a h = absurd (not_refused _ _ _ h)
 said role path body meaning (says arrival differs arrives served) a h = record { arrival = arrival; arrives = arrives; is = same_arrived a (reaches arrival) h }
 
-module _ (one : OneTree) (reach : OnANode) where
-  heard_so : (net : Net) (i : ℕ) (path text : List ℕ) (a : Arrived) → i < 2 ^ 64 → IsDelivered net i text → Comes path text a → IsPostedTo net i a
-  heard_so net i path text a few d c =
-      let r = reach i d.posted.content d.arrived text path few d.decodes d.of d.can d.limits d.short d.proper in
+module _ (one : OneTree) (reach : AtABase) where
+  heard_so : (hosts : Hosts) (net : Net) (i : ℕ) (path text : List ℕ) (a : Arrived) → IsBase (hosts.base_of i) → IsDelivered hosts net i text → Comes path text a → IsPostedTo hosts net i a
+  heard_so hosts net i path text a base d c =
+      let r = reach (hosts.base_of i) d.posted.content d.arrived text path base d.decodes d.of d.can d.limits d.short d.proper in
       let same : c.arrival ≡ r.arrival = one_arrival one text path c.arrival r.arrival c.arrives r.arrives in
       (d.posted, d.stands, d.received, d.decodes ∙ ap Some (sym r.reached ∙ ap reaches (sym same) ∙ c.is))
 
   pub posts_heard : PostsAreHeard
-  posts_heard net i role path text a few d asks = heard_so net i path text a few d (said role path text (Steps (events.Arrived a)) asks a refl)
+  posts_heard hosts net i role path text a base d asks = heard_so hosts net i path text a base d (said role path text (Steps (events.Arrived a)) asks a refl)
 
 -- what bytes that ask for a step ask for
 record Requests (role : Role) (input : List ℕ) (meaning : Meaning) : Type 0 where
@@ -118,11 +118,11 @@ same_body p q x y e = ap (body_or x) e
 
 module _ (back : PostsAreReadBack) (one_thing : AskOneThing) (heard : PostsAreHeard) where
   pub posts_brought : PostsAreBrought
-  posts_brought net i role input a few b means =
+  posts_brought hosts net i role input a base b means =
       let r = requested role input (Steps (events.Arrived a)) means (events.Arrived a) refl in
       let action = action_in b.delivered.posted.content.message in
       let asked : Asks (post_of b.to action b.text) (request (without_query b.to.path) b.text) = back b.to action b.text (subst (CanBeRead b.to.path (authority b.to) action b.text) b.is b.can) in
       let same : r.body ≡ b.text =
       same_body r.path (without_query b.to.path) r.body b.text
       (one_thing input (request r.path r.body) (request (without_query b.to.path) b.text) r.asks (subst (λ z. Asks z (request (without_query b.to.path) b.text)) (sym b.is) asked)) in
-      heard net i role r.path b.text a few b.delivered (subst (λ z. Says role r.path z (Steps (events.Arrived a))) same r.says)
+      heard hosts net i role r.path b.text a base b.delivered (subst (λ z. Says role r.path z (Steps (events.Arrived a))) same r.says)

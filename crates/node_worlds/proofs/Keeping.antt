@@ -6,7 +6,7 @@ use Rattle.std.proofs.lemmas.List.{append-nil, append_assoc}
 use Rattle.at_base.specs.declared.record.Record.{Record}
 use Rattle.at_base.specs.declared.record.Record.TheVariants as records
 use Rattle.at_model.specs.Recover.{last_incarnation}
-use Rattle.at_model.specs.World.{nth, put_nth}
+use Rattle.at_model.specs.World.{nth, put_nth, Hosts}
 use Rattle.decision_log.specs.Keeping.{GrowsByOne, kept_of}
 use Rattle.decision_log.specs.Shrinking.{ShrinksTheSame}
 use Rattle.journal_at.specs.declared.version.Version.{Version}
@@ -124,35 +124,35 @@ module _ (grows : GrowsByOne) (shrinks : ShrinksTheSame) where
           absurd (gone last n refl (ap (λ (z : Place). z.node) place ∙ up))
       by_number (inr f) = all j r n (sym (nth_other places j i q f) ∙ sym (nth_other (put_nth i q places) j i last f) ∙ e) up
 
-  keeps : {S : Type 0} (told : S → Told) (count : ℕ) (net : Net) → Runs told count net → Kept net.places
-  keeps told count net (Runs.opened is) = subst (λ (z : Net). Kept z.places) (sym is) (none_kept count)
-  keeps told count net (Runs.started u i p n limit s t run here down start same is) =
+  keeps : {S : Type 0} (told : S → Told) (hosts : Hosts) (net : Net) → Runs told hosts net → Kept net.places
+  keeps told hosts net (Runs.opened is) = subst (λ (z : Net). Kept z.places) (sym is) (none_kept hosts)
+  keeps told hosts net (Runs.started u i p n limit s t run here down start same is) =
       let q : Place = record { node = Some n; records = p.records ++ start_after p.records ∷ [] } in
       subst (λ (z : Net). Kept z.places) (sym is)
-      (put_kept u.places i p q here (keeps told count u run) (λ k e. node_is n k e ∙ start.kept ∙ start_kept shrinks start.version start.rs p.records same))
-  keeps told count net (Runs.turned u i p n m result role shrunk s t ps run here up turn runs brings sent is) =
+      (put_kept u.places i p q here (keeps told hosts u run) (λ k e. node_is n k e ∙ start.kept ∙ start_kept shrinks start.version start.rs p.records same))
+  keeps told hosts net (Runs.turned u i p n m result role shrunk s t ps run here up turn runs brings sent is) =
       let steps = steps_in turn.first role n turn.node (told s) (told turn.behind) turn.steps in
       let q : Place = record { node = Some m; records = p.records ++ recorded steps } in
       subst (λ (z : Net). Kept z.places) (sym is)
-      (put_kept u.places i p q here (keeps told count u run) (λ k e.
+      (put_kept u.places i p q here (keeps told hosts u run) (λ k e.
       node_is m k e ∙ ends_kept told turn.first result shrunk turn.node m turn.behind t turn.ends
       ∙ turn_kept grows turn.first role n turn.node (told s) (told turn.behind) turn.steps (not_halted told turn.first result shrunk turn.node m turn.behind t turn.ends runs)
-      ∙ ap (λ z. kept_behind z steps) (keeps told count u run i p n here up)
+      ∙ ap (λ z. kept_behind z steps) (keeps told hosts u run i p n here up)
       ∙ kept_row grows steps p.records))
-  keeps told count net (Runs.asked u i p n m id l s t ps run here up done sent is) =
+  keeps told hosts net (Runs.asked u i p n m id l s t ps run here up done sent is) =
       subst (λ (z : Net). Kept z.places) (sym is)
-      (put_kept u.places i p _ here (keeps told count u run) (λ k e.
-      node_is m k e ∙ done.3.3.went.kept ∙ ap (kept_by (if_landed done.3.3.landed _)) (keeps told count u run i p n here up) ∙ kept_one grows (if_landed done.3.3.landed _) p.records))
-  keeps told count net (Runs.cut_off u i p n m result role shrunk s t front rest ds ps run here up turn brings begun sent is) =
-      subst (λ (z : Net). Kept z.places) (sym is) (broken_kept u.places i p _ _ here (keeps told count u run))
-  keeps told count net (Runs.asked_cut_off u i p n l now step doing ps run here up does sent is) =
-      subst (λ (z : Net). Kept z.places) (sym is) (broken_kept u.places i p _ _ here (keeps told count u run))
-  keeps told count net (Runs.idled u i p n run here up is) =
+      (put_kept u.places i p _ here (keeps told hosts u run) (λ k e.
+      node_is m k e ∙ done.3.3.went.kept ∙ ap (kept_by (if_landed done.3.3.landed _)) (keeps told hosts u run i p n here up) ∙ kept_one grows (if_landed done.3.3.landed _) p.records))
+  keeps told hosts net (Runs.cut_off u i p n m result role shrunk s t front rest ds ps run here up turn brings begun sent is) =
+      subst (λ (z : Net). Kept z.places) (sym is) (broken_kept u.places i p _ _ here (keeps told hosts u run))
+  keeps told hosts net (Runs.asked_cut_off u i p n l now step doing ps run here up does sent is) =
+      subst (λ (z : Net). Kept z.places) (sym is) (broken_kept u.places i p _ _ here (keeps told hosts u run))
+  keeps told hosts net (Runs.idled u i p n run here up is) =
       let q : Place = record { node = Some (record n { effects = [] }); records = p.records } in
       subst (λ (z : Net). Kept z.places) (sym is)
-      (put_kept u.places i p q here (keeps told count u run) (λ k e. node_is (record n { effects = [] }) k e ∙ keeps told count u run i p n here up))
-  keeps told count net (Runs.ended u i p n run here up is) =
-      subst (λ (z : Net). Kept z.places) (sym is) (ended_kept u.places i p p.records here (keeps told count u run))
+      (put_kept u.places i p q here (keeps told hosts u run) (λ k e. node_is (record n { effects = [] }) k e ∙ keeps told hosts u run i p n here up))
+  keeps told hosts net (Runs.ended u i p n run here up is) =
+      subst (λ (z : Net). Kept z.places) (sym is) (ended_kept u.places i p p.records here (keeps told hosts u run))
 
   pub nets_keep : {S : Type 0} (told : S → Told) → NetsKeep told
-  nets_keep told count net run = keeps told count net run
+  nets_keep told hosts net run = keeps told hosts net run

@@ -11,7 +11,7 @@ use Rattle.at_base.specs.declared.outs.Post.{Post}
 use Rattle.at_base.specs.declared.record.Record.{Record}
 use Rattle.at_model.specs.Book.{Book}
 use Rattle.at_model.specs.Step.{plan, step}
-use Rattle.at_model.specs.World.{Node, World, nth, put_nth, with_post, happened_at}
+use Rattle.at_model.specs.World.{Node, World, nth, put_nth, with_post, happened_at, Hosts}
 use Rattle.model_laws.specs.Agreement.{IsIn}
 use Rattle.model_laws.specs.Drawn.{with_entry}
 use Rattle.model_laws.specs.Reached.{Heard, counts, post_all, stepped}
@@ -53,10 +53,10 @@ entry_is None false rs = sym (append-nil rs)
 entry_is (Some r) true rs = refl
 entry_is (Some r) false rs = sym (append-nil rs)
 
-one_leads : (count i : ℕ) (u : World) (x : Node) (b : Book) (e : Event) (now : ℕ) (landed : Bool) (ps : List Post) → IsUp count i u x b → Heard u i x e
+one_leads : (hosts : Hosts) (i : ℕ) (u : World) (x : Node) (b : Book) (e : Event) (now : ℕ) (landed : Bool) (ps : List Post) → IsUp hosts i u x b → Heard u i x e
     → AllByRecursion (λ p. IsIn (outs.Post p) (step b e now landed).outs) ps
-    → Leads count i u x (step b e now landed).book (records_by (if_landed landed (plan b e now).entry)) ps (step b e now landed).effects
-one_leads count i u x b e now landed ps up heard those = record {
+    → Leads hosts i u x (step b e now landed).book (records_by (if_landed landed (plan b e now).entry)) ps (step b e now landed).effects
+one_leads hosts i u x b e now landed ps up heard those = record {
   world = post_all i ps counted;
   reached = stepped u i x b e now landed ps up.reached up.found up.up heard those refl;
   nodes = posts_nodes i ps counted ∙ ap (λ rs. put_nth i (record x { book = Some (step b e now landed).book; journal = rs }) u.nodes) (entry_is (plan b e now).entry landed x.journal);
@@ -71,8 +71,8 @@ one_leads count i u x b e now landed ps up heard those = record {
     node = record x { book = Some (step b e now landed).book; journal = with_entry (plan b e now).entry landed x.journal }
 
 -- none, and one behind the other
-pub leads_none : (count i : ℕ) (u : World) (x : Node) (b : Book) → IsUp count i u x b → Leads count i u x b [] [] []
-leads_none count i u x b up = record {
+pub leads_none : (hosts : Hosts) (i : ℕ) (u : World) (x : Node) (b : Book) → IsUp hosts i u x b → Leads hosts i u x b [] [] []
+leads_none hosts i u x b up = record {
   world = u;
   reached = up.reached;
   nodes = sym (put_same i x u.nodes up.found) ∙ (λ j. put_nth i (record x { book = up.up j; journal = sym (append-nil x.journal) j }) u.nodes);
@@ -80,17 +80,17 @@ leads_none count i u x b up = record {
   happened = sym (append-nil u.happened);
 }
 
-pub then_up : (count i : ℕ) (u : World) (x : Node) (b c : Book) (rs : List Record) (ps : List Post) (es : List Effect) → IsUp count i u x b → (l : Leads count i u x c rs ps es)
-    → IsUp count i l.world (moved x c rs) c
-then_up count i u x b c rs ps es up l = record {
+pub then_up : (hosts : Hosts) (i : ℕ) (u : World) (x : Node) (b c : Book) (rs : List Record) (ps : List Post) (es : List Effect) → IsUp hosts i u x b → (l : Leads hosts i u x c rs ps es)
+    → IsUp hosts i l.world (moved x c rs) c
+then_up hosts i u x b c rs ps es up l = record {
   reached = l.reached;
   found = ap (nth i) l.nodes ∙ put_this u.nodes i x (moved x c rs) up.found;
   up = refl;
 }
 
-pub leads_then : (count i : ℕ) (u : World) (x : Node) (b c d : Book) (rs qs : List Record) (ps os : List Post) (es fs : List Effect) → IsUp count i u x b → (l : Leads count i u x c rs ps es)
-    → Leads count i l.world (moved x c rs) d qs os fs → Leads count i u x d (rs ++ qs) (ps ++ os) (es ++ fs)
-leads_then count i u x b c d rs qs ps os es fs up l k = record {
+pub leads_then : (hosts : Hosts) (i : ℕ) (u : World) (x : Node) (b c d : Book) (rs qs : List Record) (ps os : List Post) (es fs : List Effect) → IsUp hosts i u x b → (l : Leads hosts i u x c rs ps es)
+    → Leads hosts i l.world (moved x c rs) d qs os fs → Leads hosts i u x d (rs ++ qs) (ps ++ os) (es ++ fs)
+leads_then hosts i u x b c d rs qs ps os es fs up l k = record {
   world = k.world;
   reached = k.reached;
   nodes = k.nodes ∙ ap (put_nth i (moved (moved x c rs) d qs)) l.nodes ∙ put_put i (moved x c rs) (moved (moved x c rs) d qs) u.nodes
@@ -104,9 +104,9 @@ leads_then count i u x b c d rs qs ps os es fs up l k = record {
     sent : map (posted_at i l.world.nodes) os ≡ map (posted_at i u.nodes) os
     sent = ap (λ xs. map (posted_at i xs) os) l.nodes ∙ posted_put i x (moved x c rs) u.nodes os up.found refl
 
-pub leads_as : (count i : ℕ) (u : World) (x : Node) (b c : Book) (rs qs : List Record) (ps os : List Post) (es fs : List Effect) → b ≡ c → rs ≡ qs → ps ≡ os → es ≡ fs
-    → Leads count i u x b rs ps es → Leads count i u x c qs os fs
-leads_as count i u x b c rs qs ps os es fs e f g h l = record {
+pub leads_as : (hosts : Hosts) (i : ℕ) (u : World) (x : Node) (b c : Book) (rs qs : List Record) (ps os : List Post) (es fs : List Effect) → b ≡ c → rs ≡ qs → ps ≡ os → es ≡ fs
+    → Leads hosts i u x b rs ps es → Leads hosts i u x c qs os fs
+leads_as hosts i u x b c rs qs ps os es fs e f g h l = record {
   world = l.world;
   reached = l.reached;
   nodes = l.nodes ∙ (λ j. put_nth i (moved x (e j) (f j)) u.nodes);
@@ -164,7 +164,7 @@ sent_in os xs d ps are s =
 
 -- a step that was done
 pub steps_lead : StepsLead
-steps_lead count i u x b e now s d ps up heard is sent =
-    leads_as count i u x (step b e now s.landed).book s.behind (records_by (if_landed s.landed (plan b e now).entry)) (records_by (if_landed s.landed s.entry)) ps ps
+steps_lead hosts i u x b e now s d ps up heard is sent =
+    leads_as hosts i u x (step b e now s.landed).book s.behind (records_by (if_landed s.landed (plan b e now).entry)) (records_by (if_landed s.landed s.entry)) ps ps
     (step b e now s.landed).effects s.came (sym is.outcome.behind) (ap (λ o. records_by (if_landed s.landed o)) (sym is.entry)) refl (sym is.outcome.came)
-    (one_leads count i u x b e now s.landed ps up heard (sent_in (step b e now s.landed).outs s.leaving d ps is.outcome.leaving sent))
+    (one_leads hosts i u x b e now s.landed ps up heard (sent_in (step b e now s.landed).outs s.leaving d ps is.outcome.leaving sent))

@@ -1,6 +1,6 @@
 -- Agreement of what served nodes do.
 use Rattle.std.specs.Prelude.{ℕ, ◌<◌, ◌^◌}
-use Rattle.at_model.specs.World.{World}
+use Rattle.at_model.specs.World.{World, Hosts, HaveOwnAddresses}
 use Rattle.model_laws.specs.Agreement.{IsAgreed, IsBehindAnswers, IsToldTruly}
 use Rattle.model_laws.specs.Reached.{Reached}
 use Rattle.site_model.specs.Told.{Told}
@@ -15,8 +15,8 @@ pub record IsOneOutcome (w : World) : Type 0 where
 
 -- so it is in every world that is reached, and not only at the end of an event
 abbrev pub AgreesWherever : Type 0
-AgreesWherever = (count : ℕ) (w : World) → count < 2 ^ 64 → Reached count w → IsOneOutcome w
+AgreesWherever = (hosts : Hosts) (w : World) → HaveOwnAddresses hosts → Reached hosts w → IsOneOutcome w
 
 -- and so among nodes that serve
 abbrev pub NetsAgree : {S : Type 0} → (S → Told) → Type 0
-NetsAgree told = (count : ℕ) (net : Net) → count < 2 ^ 64 → Runs told count net → (w : World) × IsWorldOf net w × IsOneOutcome w
+NetsAgree told = (hosts : Hosts) (net : Net) → HaveOwnAddresses hosts → Runs told hosts net → (w : World) × IsWorldOf hosts net w × IsOneOutcome w

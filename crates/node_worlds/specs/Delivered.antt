@@ -1,12 +1,12 @@
 -- A request that brings what another node posted.
-use Rattle.std.specs.Prelude.{ℕ, List, ◌≡◌, ◌<◌, ◌^◌, Some}
+use Rattle.std.specs.Prelude.{ℕ, List, ◌≡◌, Some}
 use Rattle.addressing.specs.declared.post_to.PostTo.{PostTo}
-use Rattle.arrivals.specs.Worlds.{CanArrive, IsProper}
+use Rattle.arrivals.specs.Worlds.{CanArrive, IsBase, IsProper}
 use Rattle.at_base.specs.declared.event.Arrived.{Arrived}
 use Rattle.at_base.specs.declared.event.Event.TheVariants as events
 use Rattle.at_base.specs.declared.outs.Out.{Out}
 use Rattle.at_base.specs.declared.outs.Post.{Post}
-use Rattle.at_model.specs.World.{Posted, base_of, decoded}
+use Rattle.at_model.specs.World.{Posted, decoded, Hosts}
 use Rattle.http_post.specs.Readable.{CanBeRead}
 use Rattle.http_post.specs.Written.{authority, post_of}
 use Rattle.model_laws.specs.Agreement.{IsIn}
@@ -22,13 +22,13 @@ use Rattle.node_worlds.specs.Nets.{IsPostedTo, Net}
 use Rattle.node_worlds.specs.Sent.{Sent}
 
 -- This is the envelope of a message that was posted to that node, and one that can be read there.
-pub record IsDelivered (net : Net) (i : ℕ) (text : List ℕ) : Type 0 where
+pub record IsDelivered (hosts : Hosts) (net : Net) (i : ℕ) (text : List ℕ) : Type 0 where
   pub posted : Posted
   pub stands : IsIn posted net.posted
   pub received : posted.receiver ≡ Some i
   pub of : IsTextOf posted.content text
   pub arrived : Arrived
-  pub decodes : decoded (base_of i) posted.content ≡ Some arrived
+  pub decodes : decoded (hosts.base_of i) posted.content ≡ Some arrived
   pub can : CanArrive posted.content
   pub proper : IsProper posted.content
   pub limits : IsInLimits posted.content
@@ -38,19 +38,19 @@ pub record IsDelivered (net : Net) (i : ℕ) (text : List ℕ) : Type 0 where
 -- decodes it there.
 abbrev pub PostsAreHeard : Type 0
 PostsAreHeard =
-    (net : Net) (i : ℕ) (role : Role) (path text : List ℕ) (a : Arrived) → i < 2 ^ 64 → IsDelivered net i text → Says role path text (Steps (events.Arrived a)) → IsPostedTo net i a
+    (hosts : Hosts) (net : Net) (i : ℕ) (role : Role) (path text : List ℕ) (a : Arrived) → IsBase (hosts.base_of i) → IsDelivered hosts net i text → Says role path text (Steps (events.Arrived a)) → IsPostedTo hosts net i a
 
 -- These are the bytes by which such a message is posted to an address, and they can be read as a request.
-pub record IsBrought (net : Net) (i : ℕ) (input : List ℕ) : Type 0 where
+pub record IsBrought (hosts : Hosts) (net : Net) (i : ℕ) (input : List ℕ) : Type 0 where
   pub text : List ℕ
-  pub delivered : IsDelivered net i text
+  pub delivered : IsDelivered hosts net i text
   pub to : PostTo
   pub is : input ≡ post_of to (action_in delivered.posted.content.message) text
   pub can : CanBeRead to.path (authority to) (action_in delivered.posted.content.message) text input
 
 -- Whatever message they ask a node of any role to take, it is the one that was posted.
 abbrev pub PostsAreBrought : Type 0
-PostsAreBrought = (net : Net) (i : ℕ) (role : Role) (input : List ℕ) (a : Arrived) → i < 2 ^ 64 → IsBrought net i input → Means role input (Steps (events.Arrived a)) → IsPostedTo net i a
+PostsAreBrought = (hosts : Hosts) (net : Net) (i : ℕ) (role : Role) (input : List ℕ) (a : Arrived) → IsBase (hosts.base_of i) → IsBrought hosts net i input → Means role input (Steps (events.Arrived a)) → IsPostedTo hosts net i a
 
 -- Each call of the network by which a step posted is that of a post which it sent, to the address that this goes to.
 abbrev pub CallsArePosts : Type 0

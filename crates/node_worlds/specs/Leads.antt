@@ -6,7 +6,7 @@ use Rattle.at_base.specs.declared.outs.Post.{Post}
 use Rattle.at_base.specs.declared.record.Record.{Record}
 use Rattle.at_model.specs.Book.{Book}
 use Rattle.at_model.specs.Step.{Outcome}
-use Rattle.at_model.specs.World.{Node, Posted, World, nth, put_nth, receiver_of, happened_at}
+use Rattle.at_model.specs.World.{Node, Posted, World, nth, put_nth, receiver_of, happened_at, Hosts}
 use Rattle.model_laws.specs.Reached.{Heard, Reached}
 use Rattle.node_at.specs.Doings.{Doing, book_behind, came_of}
 use Rattle.node_at.specs.Meanings.{Meaning}
@@ -24,16 +24,16 @@ moved x b rs = record x { book = Some b; journal = x.journal ++ rs }
 
 -- A world that is reached: one node has this book now, and further records; it posted these messages, and these effects came.
 -- All else is as it was.
-pub record Leads (count i : ℕ) (u : World) (x : Node) (b : Book) (rs : List Record) (ps : List Post) (es : List Effect) : Type 0 where
+pub record Leads (hosts : Hosts) (i : ℕ) (u : World) (x : Node) (b : Book) (rs : List Record) (ps : List Post) (es : List Effect) : Type 0 where
   pub world : World
-  pub reached : Reached count world
+  pub reached : Reached hosts world
   pub nodes : world.nodes ≡ put_nth i (moved x b rs) u.nodes
   pub posted : world.posted ≡ u.posted ++ map (posted_at i u.nodes) ps
   pub happened : world.happened ≡ u.happened ++ map (happened_at i) es
 
 -- a node that is up, in a world that is reached
-pub record IsUp (count i : ℕ) (u : World) (x : Node) (b : Book) : Type 0 where
-  pub reached : Reached count u
+pub record IsUp (hosts : Hosts) (i : ℕ) (u : World) (x : Node) (b : Book) : Type 0 where
+  pub reached : Reached hosts u
   pub found : nth i u.nodes ≡ Some x
   pub up : x.book ≡ Some b
 
@@ -41,8 +41,8 @@ pub record IsUp (count i : ℕ) (u : World) (x : Node) (b : Book) : Type 0 where
 -- what was sent here is posted there.
 abbrev pub StepsLead : Type 0
 StepsLead =
-    (count i : ℕ) (u : World) (x : Node) (b : Book) (e : Event) (now : ℕ) (s : TurnStep) (d : Doing) (ps : List Post) → IsUp count i u x b → Heard u i x e → IsStep b e now s
-    → Sent s.leaving d.made ps → Leads count i u x s.behind (records_by (if_landed s.landed s.entry)) ps s.came
+    (hosts : Hosts) (i : ℕ) (u : World) (x : Node) (b : Book) (e : Event) (now : ℕ) (s : TurnStep) (d : Doing) (ps : List Post) → IsUp hosts i u x b → Heard u i x e → IsStep b e now s
+    → Sent s.leaving d.made ps → Leads hosts i u x s.behind (records_by (if_landed s.landed s.entry)) ps s.came
 
 -- what is asked, the node may step on
 abbrev pub IsHeard : World → ℕ → Node → Meaning → Type 0
@@ -51,6 +51,6 @@ IsHeard u i x meaning = (e : Event) → meaning ≡ Steps e → Heard u i x e
 -- So are the steps of a turn, as many as were done: that of what the connection asks, and those of the items that are due.
 abbrev pub TurnsLead : Type 0
 TurnsLead =
-    (count i : ℕ) (u : World) (x : Node) (b : Book) (now status : ℕ) (left : List Outcome) (meaning : Meaning) (steps : List TurnStep) (doings : List Doing) (ps : List Post)
-    → IsUp count i u x b → IsHeard u i x meaning → Steppings now b left meaning steps status → AreSent steps doings ps
-    → Leads count i u x (book_behind b steps) (recorded steps) ps (came_of steps)
+    (hosts : Hosts) (i : ℕ) (u : World) (x : Node) (b : Book) (now status : ℕ) (left : List Outcome) (meaning : Meaning) (steps : List TurnStep) (doings : List Doing) (ps : List Post)
+    → IsUp hosts i u x b → IsHeard u i x meaning → Steppings now b left meaning steps status → AreSent steps doings ps
+    → Leads hosts i u x (book_behind b steps) (recorded steps) ps (came_of steps)

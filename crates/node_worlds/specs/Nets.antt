@@ -8,7 +8,7 @@ use Rattle.at_base.specs.declared.event.Local.{Local}
 use Rattle.at_base.specs.declared.outs.Post.{Post}
 use Rattle.at_base.specs.declared.record.Record.{Record}
 use Rattle.at_model.specs.Step.{plan}
-use Rattle.at_model.specs.World.{Happened, Node, Posted, World, base_of, decoded, happened_at, lost_in, new_nodes, nth, put_nth}
+use Rattle.at_model.specs.World.{Happened, Node, Posted, World, decoded, happened_at, lost_in, new_nodes, nth, put_nth, Hosts}
 use Rattle.model_laws.specs.Agreement.{IsIn}
 use Rattle.model_laws.specs.Reached.{Reached}
 use Rattle.site_model.specs.Told.{Told}
@@ -51,18 +51,18 @@ new_places zero = []
 new_places (suc k) = new_place ∷ new_places k
 
 -- no node has started, and no journal has a record
-abbrev pub new_net : ℕ → Net
-new_net count = record { places = new_places count; posted = []; happened = [] }
+abbrev pub new_net : Hosts → Net
+new_net hosts = record { places = new_places hosts.count; posted = []; happened = [] }
 
 -- a message that some node posted to this one, as it is decoded there
-abbrev pub IsPostedTo : Net → ℕ → Arrived → Type 0
-IsPostedTo net i a = (p : Posted) × IsIn p net.posted × (p.receiver ≡ Some i) × (decoded (base_of i) p.content ≡ Some a)
+abbrev pub IsPostedTo : Hosts → Net → ℕ → Arrived → Type 0
+IsPostedTo hosts net i a = (p : Posted) × IsIn p net.posted × (p.receiver ≡ Some i) × (decoded (hosts.base_of i) p.content ≡ Some a)
 
 -- The machine tells what the connection that is opened next brings; and if that is a message, some node posted it to this one.
-pub record Brings (net : Net) (i : ℕ) (role : Role) (s : Told) : Type 0 where
+pub record Brings (hosts : Hosts) (net : Net) (i : ℕ) (role : Role) (s : Told) : Type 0 where
   pub input : List ℕ
   pub tells : next_input s.link ≡ Some input
-  pub posted : (a : Arrived) → Means role input (Steps (events.Arrived a)) → IsPostedTo net i a
+  pub posted : (a : Arrived) → Means role input (Steps (events.Arrived a)) → IsPostedTo hosts net i a
 
 -- whether a turn opened a connection
 abbrev pub IsOpened : Turned → Type 0
@@ -101,14 +101,14 @@ begun_in turneds.Closed role n m old new t = []
 begun_in turneds.LinkDown role n m old new t = []
 
 -- a post reaches the node whose base its address has
-abbrev pub posts_from : ℕ → ℕ → List Post → List Posted
-posts_from count i ps = map (posted_at i (new_nodes count 1)) ps
+abbrev pub posts_from : Hosts → ℕ → List Post → List Posted
+posts_from hosts i ps = map (posted_at i (new_nodes hosts.base_of hosts.count 1)) ps
 
 -- One node did this: it stands so now, with further records, and posted these; its effects came.
-abbrev pub after : ℕ → ℕ → Net → Place → State → List Record → List Post → Net
-after count i u p m rs ps = record {
+abbrev pub after : Hosts → ℕ → Net → Place → State → List Record → List Post → Net
+after hosts i u p m rs ps = record {
   places = put_nth i (record { node = Some m; records = p.records ++ rs }) u.places;
-  posted = u.posted ++ posts_from count i ps;
+  posted = u.posted ++ posts_from hosts i ps;
   happened = u.happened ++ map (happened_at i) m.effects;
 }
 
@@ -129,57 +129,57 @@ abbrev pub as_far : State → List TurnStep → State
 as_far n steps = record n { book = book_behind n.book steps; effects = came_of steps }
 
 -- a node that did these steps, and ended
-abbrev pub broken : ℕ → ℕ → Net → Place → State → List TurnStep → List Post → Net
-broken count i u p n steps ps =
-    without i (after count i u p (as_far n steps) (recorded steps) ps) (record { node = Some (as_far n steps); records = p.records ++ recorded steps }) (as_far n steps)
+abbrev pub broken : Hosts → ℕ → Net → Place → State → List TurnStep → List Post → Net
+broken hosts i u p n steps ps =
+    without i (after hosts i u p (as_far n steps) (recorded steps) ps) (record { node = Some (as_far n steps); records = p.records ++ recorded steps }) (as_far n steps)
 
 -- a node that has forgotten the effects of its last call
 abbrev pub rested : ℕ → Net → Place → State → Net
 rested i u p n = record u { places = put_nth i (record { node = Some (record n { effects = [] }); records = p.records }) u.places }
 
 -- What nodes that serve can come to, each by the contract of the call that it does, over any machine.
-pub data Runs {S : Type 0} (told : S → Told) (count : ℕ) : Net → Type 0 where
-  opened : {w : Net} → w ≡ new_net count → Runs told count w
+pub data Runs {S : Type 0} (told : S → Told) (hosts : Hosts) : Net → Type 0 where
+  opened : {w : Net} → w ≡ new_net hosts → Runs told hosts w
   -- A node starts, under its base, and on files that stand for what its journal was told to hold, or for what is left of that.
-  started : {w : Net} (u : Net) (i : ℕ) (p : Place) (n : State) (limit : ℕ) (s t : S) → Runs told count u → nth i u.places ≡ Some p → p.node ≡ None
-      → (start : IsStarted (base_of i) limit n (told s) (told t)) → AreSame (carried start.version start.rs) p.records → w ≡ with_started i u p n → Runs told count w
+  started : {w : Net} (u : Net) (i : ℕ) (p : Place) (n : State) (limit : ℕ) (s t : S) → Runs told hosts u → nth i u.places ≡ Some p → p.node ≡ None
+      → (start : IsStarted (hosts.base_of i) limit n (told s) (told t)) → AreSame (carried start.version start.rs) p.records → w ≡ with_started i u p n → Runs told hosts w
   -- it takes a turn, and doesn't halt
-  turned : {w : Net} (u : Net) (i : ℕ) (p : Place) (n m : State) (result : Turned) (role : Role) (shrunk : Shrunk) (s t : S) (ps : List Post) → Runs told count u
+  turned : {w : Net} (u : Net) (i : ℕ) (p : Place) (n m : State) (result : Turned) (role : Role) (shrunk : Shrunk) (s t : S) (ps : List Post) → Runs told hosts u
       → nth i u.places ≡ Some p → p.node ≡ Some n → (turn : TakesTurn told result role shrunk n m s t) → (result ≡ turneds.Halted → ⊥)
-      → (IsOpened turn.first → Brings u i role (told s))
+      → (IsOpened turn.first → Brings hosts u i role (told s))
       → AreSent (steps_in turn.first role n turn.node (told s) (told turn.behind) turn.steps) (doings_in turn.first role n turn.node (told s) (told turn.behind) turn.steps) ps
-      → w ≡ after count i u p m (recorded (steps_in turn.first role n turn.node (told s) (told turn.behind) turn.steps)) ps → Runs told count w
+      → w ≡ after hosts i u p m (recorded (steps_in turn.first role n turn.node (told s) (told turn.behind) turn.steps)) ps → Runs told hosts w
   -- it does what its program requests
-  asked : {w : Net} (u : Net) (i : ℕ) (p : Place) (n m : State) (id : Numbers) (l : Local) (s t : S) (ps : List Post) → Runs told count u
+  asked : {w : Net} (u : Net) (i : ℕ) (p : Place) (n m : State) (id : Numbers) (l : Local) (s t : S) (ps : List Post) → Runs told hosts u
       → nth i u.places ≡ Some p → p.node ≡ Some n → (done : Asked (answers.Done id) n m l (told s) (told t)) → Sent done.3.3.leaving done.3.3.went.made ps
-      → w ≡ after count i u p m (records_by (if_landed done.3.3.landed (plan n.book (events.Local l) done.3.0).entry)) ps → Runs told count w
+      → w ≡ after hosts i u p m (records_by (if_landed done.3.3.landed (plan n.book (events.Local l) done.3.0).entry)) ps → Runs told hosts w
   -- A turn is cut off, or it halts: the first of its steps were done, and some of what they post was sent.
   cut_off : {w : Net} (u : Net) (i : ℕ) (p : Place) (n m : State) (result : Turned) (role : Role) (shrunk : Shrunk) (s t : S) (front rest : List TurnStep) (doings : List Doing) (ps : List Post)
-      → Runs told count u → nth i u.places ≡ Some p → p.node ≡ Some n → (turn : TakesTurn told result role shrunk n m s t)
-      → (IsOpened turn.first → Brings u i role (told s))
+      → Runs told hosts u → nth i u.places ≡ Some p → p.node ≡ Some n → (turn : TakesTurn told result role shrunk n m s t)
+      → (IsOpened turn.first → Brings hosts u i role (told s))
       → begun_in turn.first role n turn.node (told s) (told turn.behind) turn.steps ≡ front ++ rest → AreSent front doings ps
-      → w ≡ broken count i u p n front ps → Runs told count w
+      → w ≡ broken hosts i u p n front ps → Runs told hosts w
   -- a request is cut off behind its record, which stands or doesn't
   asked_cut_off : {w : Net} (u : Net) (i : ℕ) (p : Place) (n : State) (l : Local) (now : ℕ) (step : TurnStep) (doing : Doing) (ps : List Post)
-      → Runs told count u → nth i u.places ≡ Some p → p.node ≡ Some n → IsStep n.book (events.Local l) now step → Sent step.leaving doing.made ps
-      → w ≡ broken count i u p n (step ∷ []) ps → Runs told count w
+      → Runs told hosts u → nth i u.places ≡ Some p → p.node ≡ Some n → IsStep n.book (events.Local l) now step → Sent step.leaving doing.made ps
+      → w ≡ broken hosts i u p n (step ∷ []) ps → Runs told hosts w
   -- a call does nothing
-  idled : {w : Net} (u : Net) (i : ℕ) (p : Place) (n : State) → Runs told count u → nth i u.places ≡ Some p → p.node ≡ Some n → w ≡ rested i u p n → Runs told count w
+  idled : {w : Net} (u : Net) (i : ℕ) (p : Place) (n : State) → Runs told hosts u → nth i u.places ≡ Some p → p.node ≡ Some n → w ≡ rested i u p n → Runs told hosts w
   -- it ends
-  ended : {w : Net} (u : Net) (i : ℕ) (p : Place) (n : State) → Runs told count u → nth i u.places ≡ Some p → p.node ≡ Some n → w ≡ without i u p n → Runs told count w
+  ended : {w : Net} (u : Net) (i : ℕ) (p : Place) (n : State) → Runs told hosts u → nth i u.places ≡ Some p → p.node ≡ Some n → w ≡ without i u p n → Runs told hosts w
 
 -- A node of the world is this one: it has its base, its book where it is up, and the records of its journal.
-pub record StandsAs (i : ℕ) (p : Place) (x : Node) : Type 0 where
-  pub base : x.base ≡ base_of i
+pub record StandsAs (hosts : Hosts) (i : ℕ) (p : Place) (x : Node) : Type 0 where
+  pub base : x.base ≡ hosts.base_of i
   pub book : x.book ≡ option_map (λ (n : State). n.book) p.node
   pub journal : x.journal ≡ p.records
 
 -- The world is the net: each node stands there as it does here, and what was posted and what happened is the same.
-pub record IsWorldOf (net : Net) (w : World) : Type 0 where
-  pub nodes : (i : ℕ) (p : Place) → nth i net.places ≡ Some p → (x : Node) × (nth i w.nodes ≡ Some x) × StandsAs i p x
+pub record IsWorldOf (hosts : Hosts) (net : Net) (w : World) : Type 0 where
+  pub nodes : (i : ℕ) (p : Place) → nth i net.places ≡ Some p → (x : Node) × (nth i w.nodes ≡ Some x) × StandsAs hosts i p x
   pub posted : w.posted ≡ net.posted
   pub happened : w.happened ≡ net.happened
 
 -- Whatever nodes do that serve and post to one another, they are a world that the model reaches.
 abbrev pub NetsAreWorlds : {S : Type 0} → (S → Told) → Type 0
-NetsAreWorlds told = (count : ℕ) (net : Net) → Runs told count net → (w : World) × Reached count w × IsWorldOf net w
+NetsAreWorlds told = (hosts : Hosts) (net : Net) → Runs told hosts net → (w : World) × Reached hosts w × IsWorldOf hosts net w

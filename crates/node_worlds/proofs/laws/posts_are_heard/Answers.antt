@@ -2,4 +2,4 @@ use Rattle.node_worlds.proofs.Hearing.{posts_heard}
 use Rattle.node_worlds.proofs.laws.posts_are_heard.Goals as goal
 
 pub returns : goal.returns
-returns c = posts_heard c.one_text_spells_one_tree.ensures c.what_is_posted_reaches_the_book.ensures.on_a_node
+returns c = posts_heard c.one_text_spells_one_tree.ensures c.what_is_posted_reaches_the_book.ensures.addressed
