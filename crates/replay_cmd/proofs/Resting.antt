@@ -3,7 +3,8 @@ use Rattle.std.proofs.Common.{ℕ, zero, suc, ◌+◌, ◌≡◌, ◌<◌, ◌^�
 use Rattle.std.specs.Prelude.{Option, Some, None}
 use Rattle.std.specs.List.{AllByRecursion}
 use Rattle.at_model.specs.Book.{Book}
-use Rattle.at_model.specs.World.{Deliver, Node, Turn, World, WorldEvent, run_on}
+use Rattle.at_model.specs.World.{Deliver, Node, Turn, World, WorldEvent, run_on, HaveOwnAddresses, example_hosts}
+use Rattle.model_laws.specs.Reached.{ExamplesAreApart}
 use Rattle.model_laws.specs.Agreement.{Agrees, HasOneSuperior, IsAgreed, IsBehindAnswers, IsToldTruly}
 use Rattle.model_laws.specs.Enlisted.{EnlistsUnderOne}
 use Rattle.model_laws.specs.Made.{MakesNoIdTwice}
@@ -86,28 +87,28 @@ reports_runs true all = happen_on (nodes_of all) (settle (world_of all)) (course
 
 -- what holds of each run holds of the world of a report
 
-safe_run : (count : ℕ) (w : World) → IsOfRun count w → count < 2 ^ 64 → Agrees → EnlistsUnderOne → MakesNoIdTwice → IsSafe count w
-safe_run count w r few agrees superior made = record {
+safe_run : (count : ℕ) (w : World) → IsOfRun count w → HaveOwnAddresses (example_hosts count) → Agrees → EnlistsUnderOne → MakesNoIdTwice → IsSafe count w
+safe_run count w r apart agrees superior made = record {
   of_run = r;
-  agreed = subst IsAgreed (sym r.run) (agrees.agreed count r.events few);
-  behind = subst IsBehindAnswers (sym r.run) (agrees.behind count r.events few);
-  told = subst IsToldTruly (sym r.run) (agrees.told count r.events few);
-  superior = subst HasOneSuperior (sym r.run) (superior count r.events few);
-  ids = λ n. made.apart count n r.events;
+  agreed = subst IsAgreed (sym r.run) (agrees.agreed (example_hosts count) r.events apart);
+  behind = subst IsBehindAnswers (sym r.run) (agrees.behind (example_hosts count) r.events apart);
+  told = subst IsToldTruly (sym r.run) (agrees.told (example_hosts count) r.events apart);
+  superior = subst HasOneSuperior (sym r.run) (superior (example_hosts count) r.events apart);
+  ids = λ n. made.apart (example_hosts count) n r.events;
 }
 
-pub reports_are_safe : Agrees → EnlistsUnderOne → MakesNoIdTwice → ReportsAreSafe
-reports_are_safe agrees superior made settle all can =
-    safe_run (nodes_of all) (world_with settle all) (reports_runs settle all) (omega (arith, can.most)) agrees superior made
+pub reports_are_safe : ExamplesAreApart → Agrees → EnlistsUnderOne → MakesNoIdTwice → ReportsAreSafe
+reports_are_safe apart agrees superior made settle all can =
+    safe_run (nodes_of all) (world_with settle all) (reports_runs settle all) (apart (nodes_of all) (omega (arith, can.most))) agrees superior made
 
 -- behind the events that settle it the world is at rest
 
-run_settled : (count : ℕ) (w : World) → IsOfRun count w → count < 2 ^ 64 → Settles → AllByRecursion MayStart w.nodes → is_settled (run_on w (settle w)) ≡ true
-run_settled count w r few settles start =
+run_settled : (count : ℕ) (w : World) → IsOfRun count w → HaveOwnAddresses (example_hosts count) → Settles → AllByRecursion MayStart w.nodes → is_settled (run_on w (settle w)) ≡ true
+run_settled count w r apart settles start =
     subst (λ v. is_settled (run_on v (settle v)) ≡ true) (sym r.run)
-    (settles count r.events few (subst (λ v. AllByRecursion MayStart v.nodes) r.run start)).rests
+    (settles (example_hosts count) r.events apart (subst (λ v. AllByRecursion MayStart v.nodes) r.run start)).rests
 
-pub reports_come_to_rest : Settles → ReportsComeToRest
-reports_come_to_rest settles all can start =
+pub reports_come_to_rest : ExamplesAreApart → Settles → ReportsComeToRest
+reports_come_to_rest apart settles all can start =
     ap is_settled (happened_on (settle (world_of all)) (course_of all))
-    ∙ run_settled (nodes_of all) (world_of all) (report_run all) (omega (arith, can.most)) settles start
+    ∙ run_settled (nodes_of all) (world_of all) (report_run all) (apart (nodes_of all) (omega (arith, can.most))) settles start

@@ -4,7 +4,7 @@ use Rattle.std.specs.Prelude.{Option, Some, None, option_map}
 use Rattle.std.specs.List.{AllByRecursion}
 use Rattle.at_base.specs.declared.event.Local.TheVariants as locals
 use Rattle.at_model.specs.Views.{up, deliver_to, tick_at, request, begin_at, interpose_at, work_at, commit_at}
-use Rattle.at_model.specs.World.{Crash, World, WorldEvent, nth, opening, run_on, world_step}
+use Rattle.at_model.specs.World.{Crash, World, WorldEvent, nth, opening, run_on, world_step, example_hosts}
 use Rattle.schedules.specs.Generator.{made}
 use Rattle.schedules.specs.declared.line.Line.{Line}
 use Rattle.schedules.specs.declared.line.Line.TheVariants as lines
@@ -24,7 +24,7 @@ pub step_on : (count : ℕ) (w : World) (e : WorldEvent) → IsOfRun count w →
 step_on count w e r smooth = record {
   events = r.events ++ e ∷ [];
   smooth = smooth_append r.events e r.smooth smooth;
-  run = ap (λ v. world_step v e) r.run ∙ sym (run_append (opening count) r.events e);
+  run = ap (λ v. world_step v e) r.run ∙ sym (run_append (opening (example_hosts count)) r.events e);
 }
 
 deliver_on :
@@ -72,7 +72,7 @@ up_on count (suc left) n c r = up_on count left (n + 1) (happens (up n) c) (step
 pub report_run : (all : List Line) → IsOfRun (nodes_of all) (world_of all)
 report_run all =
     all_on (nodes_of all) all (begun (nodes_of all))
-    (up_on (nodes_of all) (nodes_of all) 1 (record { world = opening (nodes_of all); delivered = []; text = [] })
+    (up_on (nodes_of all) (nodes_of all) 1 (record { world = opening (example_hosts (nodes_of all)); delivered = []; text = [] })
     (record { events = []; smooth = tt; run = refl }))
 
 -- what is made of a seed may be replayed

@@ -1,7 +1,7 @@
 -- What a schedule that was read says of its nodes, and what world a report is of.
 use Rattle.std.specs.Prelude.{ℕ, List, [], Option, None, Bool, true, false, not, ◌&&◌, ◌≡◌, ◌≤◌, Ok}
 use Rattle.std.specs.List.{AllByRecursion}
-use Rattle.at_model.specs.World.{World, WorldEvent, Deliver, Tick, Raw, Turn, Ask, Crash, Up, opening, run_of}
+use Rattle.at_model.specs.World.{World, WorldEvent, Deliver, Tick, Raw, Turn, Ask, Crash, Up, opening, run_of, example_hosts}
 use Rattle.model_laws.specs.Agreement.{HasOneSuperior, IsAgreed, IsBehindAnswers, IsToldTruly}
 use Rattle.model_laws.specs.Drawn.{AreApart}
 use Rattle.model_laws.specs.Made.{made_on}
@@ -39,7 +39,7 @@ IsSmooth e = is_smooth e ≡ true
 pub record IsOfRun (count : ℕ) (w : World) : Type 0 where
   pub events : List WorldEvent
   pub smooth : AllByRecursion IsSmooth events
-  pub run : w ≡ run_of count events
+  pub run : w ≡ run_of (example_hosts count) events
 
 -- A report is that of a run, also where its world is brought to rest.
 abbrev pub ReportsRuns : Type 0
@@ -54,7 +54,7 @@ pub record IsSafe (count : ℕ) (w : World) : Type 0 where
   pub behind : IsBehindAnswers w
   pub told : IsToldTruly w
   pub superior : HasOneSuperior w
-  pub ids : (n : ℕ) → AreApart (made_on n (opening count) of_run.events)
+  pub ids : (n : ℕ) → AreApart (made_on n (opening (example_hosts count)) of_run.events)
 
 -- It holds of the world of each report, also where it is brought to rest.
 abbrev pub ReportsAreSafe : Type 0

@@ -12,7 +12,7 @@ use Rattle.at_model.specs.Activities.{Refusal}
 use Rattle.at_model.specs.Book.{Book}
 use Rattle.at_model.specs.Step.{refuses}
 use Rattle.at_model.specs.Views.{line_of, up, deliver_to, tick_at, request, begin_at, interpose_at, work_at, commit_at}
-use Rattle.at_model.specs.World.{World, WorldEvent, Posted, Happened, Turn, Ask, Crash, Up, Deliver, Tick, nth, node_of, opening, world_step}
+use Rattle.at_model.specs.World.{World, WorldEvent, Posted, Happened, Turn, Ask, Crash, Up, Deliver, Tick, nth, node_of, opening, world_step, example_hosts}
 use Rattle.model_laws.specs.Settle.{settle}
 use Rattle.schedules.specs.Generator.{made}
 use Rattle.schedules.specs.declared.line.Line.{Line}
@@ -176,7 +176,7 @@ all_up (suc count) n c = all_up count (n + 1) (happens (up n) c)
 
 -- Every node comes up, in a world where nothing happened before.
 abbrev pub begun : ℕ → Course
-begun count = all_up count 1 (record { world = opening count; delivered = []; text = [] })
+begun count = all_up count 1 (record { world = opening (example_hosts count); delivered = []; text = [] })
 
 abbrev pub is_ending : Ending → Ending → Bool
 is_ending endings.Committed endings.Committed = true

@@ -2,7 +2,7 @@
 
 ghost use Rattle.std.specs.Prelude.{◌≡◌, ◌≤◌, ◌<◌, ◌+◌, ◌-◌, ◌^◌, ◌++◌, [], IfOk, OnOk, None, length, drop, map, option_map, option_copied};
 ghost use Rattle.at_model.specs.Views.{deliver_to, request, tick_at, up};
-ghost use Rattle.at_model.specs.World.{Turn, Ask, Crash, nth, opening, world_step};
+ghost use Rattle.at_model.specs.World.{Turn, Ask, Crash, nth, opening, world_step, example_hosts};
 ghost use Rattle.world_laws.specs.Events.{event_of, input_of};
 ghost use Rattle.world_laws.specs.Runs.{book_at, world_of};
 ghost use Rattle.world_laws.specs.Moves.{losses_of, steps_of};
@@ -58,7 +58,7 @@ fn stepped(world: World, alloc: Global, event: WorldEvent) -> Result<Stepped, Al
 #[tactic(auto, using(crate::proofs::Loops::opened))]
 fn opened(alloc: Global, count: u8) -> Result<World, AllocError>
     requires { (1 ≤ count) × (count ≤ 8) }
-    ensures { IfOk result (λ world. world_of world ≡ opening count) }
+    ensures { IfOk result (λ world. world_of world ≡ opening (example_hosts count)) }
 {
     let world = World::new(alloc, count)?;
     Ok(world)
@@ -250,7 +250,7 @@ impl Course {
     /// A world of so many nodes, each of which is down.
     fn opening(alloc: Global, count: u8) -> Result<Course, AllocError>
         requires { (1 ≤ count) × (count ≤ 8) }
-        ensures { IfOk result (λ c. c ≡ record { world = opening count; delivered = []; text = [] }) }
+        ensures { IfOk result (λ c. c ≡ record { world = opening (example_hosts count); delivered = []; text = [] }) }
     {
         Ok(Course {
             world: opened(alloc, count)?,

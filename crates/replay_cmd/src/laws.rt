@@ -2,7 +2,7 @@
 
 ghost use Rattle.replay_cmd.specs.Laws.{ReadIsReplayable, ReportsAreSafe, ReportsComeToRest, ReportsRuns};
 
-use model_laws::rules::{enlists_under_one, makes_no_id_twice};
+use model_laws::rules::{enlists_under_one, examples_are_apart, makes_no_id_twice};
 use outcomes::laws::agrees;
 use settled::laws::settles;
 
@@ -24,6 +24,7 @@ pub fn a_report_is_that_of_a_run()
 pub fn reports_are_safe()
     ensures { ReportsAreSafe }
 {
+    examples_are_apart();
     agrees();
     enlists_under_one();
     makes_no_id_twice();
@@ -34,5 +35,6 @@ pub fn reports_are_safe()
 pub fn reports_come_to_rest()
     ensures { ReportsComeToRest }
 {
+    examples_are_apart();
     settles();
 }

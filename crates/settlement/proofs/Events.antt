@@ -2,7 +2,7 @@
 use Rattle.std.proofs.Common.{ℕ, zero, suc, ◌+◌, ◌-◌, ◌<◌, ◌≤◌, ◌≡◌, refl, List, [], ◌∷◌, ◌++◌, length, map, drop, ap, ◌∙◌, sym, arith}
 use Rattle.std.proofs.lemmas.List.{append-nil, append_assoc, map-append}
 use Rattle.std.specs.Prelude.{None, option_and_then}
-use Rattle.at_model.specs.World.{Node, Tick, Turn, WorldEvent, nth, run_of}
+use Rattle.at_model.specs.World.{Node, Tick, Turn, WorldEvent, nth, run_of, example_hosts}
 use Rattle.model_laws.specs.Settle.{ticks, up_if, ups}
 use Rattle.settling.proofs.Places.{nth_behind}
 use Rattle.settling.proofs.Runs.{run_length}
@@ -16,7 +16,7 @@ one_behind old new e h = ap (map event_of) h ∙ map-append event_of old (e ∷ 
 -- a world has as many nodes as its run
 pub nodes_counted : (r : Run) → length (world_of r).nodes ≡ r.count
 unfolding world_of
-nodes_counted r = run_length r.count (run_of r.count (map event_of r.events)) (record { events = map event_of r.events; is = refl })
+nodes_counted r = run_length (example_hosts r.count) (run_of (example_hosts r.count) (map event_of r.events)) (record { events = map event_of r.events; is = refl })
 
 pub none_behind : (xs : List WorldEvent) → xs ≡ xs ++ []
 none_behind xs = sym (append-nil xs)

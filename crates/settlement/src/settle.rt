@@ -8,6 +8,7 @@ ghost use Rattle.world_laws.specs.Events.{event_of};
 ghost use Rattle.world_laws.specs.Runs.{world_of};
 
 use crate::resting::settled;
+use model_laws::rules::examples_are_apart;
 use settled::laws::settles;
 use settling::laws::drains;
 use std::alloc::{AllocError, Global};
@@ -27,6 +28,7 @@ pub fn settle(alloc: Global, world: &World) -> Result<Vec<WorldEvent>, AllocErro
     ensures few { length (settle (world_of world.now)) ≤ settle_bound (world_of world.now) }
     ensures rests { AllByRecursion MayStart (world_of world.now).nodes → is_settled (run_on (world_of world.now) (settle (world_of world.now))) ≡ true }
 {
+    examples_are_apart();
     drains();
     settles();
     let _count = world.count();

@@ -10,7 +10,7 @@ use Rattle.model_laws.specs.Order.{IdsRise, IsInOrder}
 use Rattle.model_laws.specs.Drawn.{restarted}
 use Rattle.at_model.specs.Recover.{last_incarnation, recover}
 use Rattle.at_model.specs.Step.{Plan, plan}
-use Rattle.at_model.specs.World.{Node, Posted, WorldEvent, Deliver, Tick, Raw, Turn, Ask, Crash, Up, nth, put_nth, new_node, new_nodes, node_of, opening, arrival_plan, answer_plan, decoded, is_receiver, started, up_after}
+use Rattle.at_model.specs.World.{Node, Posted, WorldEvent, Deliver, Tick, Raw, Turn, Ask, Crash, Up, nth, put_nth, new_node, new_nodes, node_of, opening, arrival_plan, answer_plan, decoded, is_receiver, started, up_after, example_hosts, example_base}
 use Rattle.world_laws.specs.Events.{ms_of}
 use Rattle.world_laws.specs.Runs.{AreReady, IsFit, IsNode, IsReady}
 use Rattle.world_laws.specs.Moves.{Scene, after, arrival_move, crash_move, delivery_move, ended, later_at, lost_of, luck_of, move_of, moved_in, nodes_by, quiet, raw_move, request_move, seen, start_move, tick_move, turn_move, with_all, with_nodes, with_taken}
@@ -166,16 +166,16 @@ module _ (ids : IdsRise) where
   }
 
 -- the opening nodes
-new_node_is : (n : ℕ) → IsNode 0 (new_node n)
+new_node_is : (n : ℕ) → IsNode 0 (new_node (example_base n))
 new_node_is n = record { order = λ b e. absurd (none_some b e); clock = omega arith }
 
-new_each : (count n : ℕ) → AllByRecursion (IsNode 0) (new_nodes count n)
+new_each : (count n : ℕ) → AllByRecursion (IsNode 0) (new_nodes example_base count n)
 new_each zero n = tt
 new_each (suc k) n = (new_node_is n, new_each k (n + 1))
 
-new_length : (count n : ℕ) → length (new_nodes count n) ≡ count
+new_length : (count n : ℕ) → length (new_nodes example_base count n) ≡ count
 new_length zero n = refl
 new_length (suc k) n = ap suc (new_length k (n + 1))
 
-pub opening_fits : (count : ℕ) → count ≤ 8 → IsFit 0 (seen (opening count))
+pub opening_fits : (count : ℕ) → count ≤ 8 → IsFit 0 (seen (opening (example_hosts count)))
 opening_fits count few = record { few = rw (new_length count 1) few; each = new_each count 1 }

@@ -5,7 +5,7 @@ use Rattle.std.proofs.lemmas.List.{append-nil, append_assoc, drop_all, map-appen
 use Rattle.std.proofs.lemmas.Option.{slice_get_past}
 use Rattle.at_base.specs.declared.outs.Effect.{Effect}
 use Rattle.model_laws.specs.Order.{IdsRise}
-use Rattle.at_model.specs.World.{World, Node, Posted, WorldEvent, nth, new_node, new_nodes, node_of, put_nth, run_of, run_on, opening, world_step}
+use Rattle.at_model.specs.World.{World, Node, Posted, WorldEvent, nth, new_node, new_nodes, node_of, put_nth, run_of, run_on, opening, world_step, example_hosts, example_base}
 use Rattle.world_laws.specs.declared.event.WorldEvent.{WorldEvent as Given}
 use Rattle.world_laws.specs.Events.{event_of, ms_of}
 use Rattle.world_laws.specs.declared.posted.Counted.{Counted}
@@ -26,8 +26,8 @@ pub one_more : (count : ℕ) (events : List Given) (e : Given)
     ≡ world_step (world_of (record { count = count; events = events })) (event_of e)
 unfolding world_of
 one_more count events e =
-    ap (run_on (opening count)) (map-append event_of events (e ∷ []))
-    ∙ run_more (opening count) (map event_of events) (event_of e)
+    ap (run_on (opening (example_hosts count))) (map-append event_of events (e ∷ []))
+    ∙ run_more (opening (example_hosts count)) (map event_of events) (event_of e)
 
 pub nth_past : {A : Type 0} (n : ℕ) (xs : List A) → length xs < n → nth n xs ≡ None
 nth_past n xs h =
@@ -86,22 +86,22 @@ ok_more P Q (Ok t) f h = f t h
 ok_more P Q (Err e) f h = tt
 
 -- the opening world
-first_node : (k n : ℕ) → 0 < k → new_nodes k n ≡ new_node n ∷ new_nodes (k - 1) (n + 1)
+first_node : (k n : ℕ) → 0 < k → new_nodes example_base k n ≡ new_node (example_base n) ∷ new_nodes example_base (k - 1) (n + 1)
 first_node zero n h = absurd (omega (arith, h))
-first_node (suc k) n h = let same : k ≡ suc k - 1 = omega arith in ap (λ j. new_node n ∷ new_nodes j (n + 1)) same
+first_node (suc k) n h = let same : k ≡ suc k - 1 = omega arith in ap (λ j. new_node (example_base n) ∷ new_nodes example_base j (n + 1)) same
 
-pub one_new : (count number : ℕ) (nodes more : List Node) (x : Node) → number < count → x ≡ new_node (number + 1)
-    → more ≡ nodes ++ x ∷ [] → nodes ++ new_nodes (count - number) (number + 1) ≡ new_nodes count 1
-    → more ++ new_nodes (count - (number + 1)) (number + 1 + 1) ≡ new_nodes count 1
+pub one_new : (count number : ℕ) (nodes more : List Node) (x : Node) → number < count → x ≡ new_node (example_base (number + 1))
+    → more ≡ nodes ++ x ∷ [] → nodes ++ new_nodes example_base (count - number) (number + 1) ≡ new_nodes example_base count 1
+    → more ++ new_nodes example_base (count - (number + 1)) (number + 1 + 1) ≡ new_nodes example_base count 1
 one_new count number nodes more x within is pushed all =
     let fewer : count - number - 1 ≡ count - (number + 1) = omega (arith, within) in
-    ap (λ ys. ys ++ new_nodes (count - (number + 1)) (number + 1 + 1)) (pushed ∙ ap (λ y. nodes ++ y ∷ []) is)
-    ∙ append_assoc nodes (new_node (number + 1) ∷ []) (new_nodes (count - (number + 1)) (number + 1 + 1))
-    ∙ ap (λ k. nodes ++ (new_node (number + 1) ∷ new_nodes k (number + 1 + 1))) (sym fewer)
+    ap (λ ys. ys ++ new_nodes example_base (count - (number + 1)) (number + 1 + 1)) (pushed ∙ ap (λ y. nodes ++ y ∷ []) is)
+    ∙ append_assoc nodes (new_node (example_base (number + 1)) ∷ []) (new_nodes example_base (count - (number + 1)) (number + 1 + 1))
+    ∙ ap (λ k. nodes ++ (new_node (example_base (number + 1)) ∷ new_nodes example_base k (number + 1 + 1))) (sym fewer)
     ∙ ap (λ ys. nodes ++ ys) (sym (first_node (count - number) (number + 1) (omega (arith, within))))
     ∙ all
 
-pub opened : (count : ℕ) (s : Scene) (events : List Given) → 1 ≤ count → count ≤ 8 → s ≡ seen (opening count) → events ≡ []
+pub opened : (count : ℕ) (s : Scene) (events : List Given) → 1 ≤ count → count ≤ 8 → s ≡ seen (opening (example_hosts count)) → events ≡ []
     → IsRun count s events
 unfolding world_of
 opened count s events least most is none = rw none (record {
@@ -142,9 +142,9 @@ whole_step r count events more e is pushed =
     ap world_of (ap (run count) pushed ∙ ap (with_event e) is) ∙ one_more r.count r.events e
 
 pub whole_run : (w : Run) (n i : ℕ) (all : List Given) → w.count ≡ n → w.events ++ drop i all ≡ all → length all ≤ i
-    → world_of w ≡ run_of n (map event_of all)
+    → world_of w ≡ run_of (example_hosts n) (map event_of all)
 unfolding world_of
 whole_run w n i all count is over =
     let none : w.events ++ [] ≡ all = subst (λ xs. w.events ++ xs ≡ all) (drop_all i all over) is in
     let same : w.events ≡ all = sym (append-nil w.events) ∙ none in
-    ap (λ k. run_of k (map event_of w.events)) count ∙ ap (λ xs. run_of n (map event_of xs)) same
+    ap (λ k. run_of (example_hosts k) (map event_of w.events)) count ∙ ap (λ xs. run_of (example_hosts n) (map event_of xs)) same

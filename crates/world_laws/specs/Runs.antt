@@ -6,7 +6,7 @@ use Rattle.at_model.specs.Activities.{Refusal}
 use Rattle.at_model.specs.Book.{Book}
 use Rattle.model_laws.specs.Order.{IsInOrder}
 use Rattle.at_model.specs.Step.{refuses}
-use Rattle.at_model.specs.World.{World, Node, nth, run_of}
+use Rattle.at_model.specs.World.{World, Node, nth, run_of, example_hosts}
 use Rattle.world_laws.specs.declared.event.WorldEvent.{WorldEvent as Given}
 use Rattle.world_laws.specs.Events.{event_of}
 use Rattle.world_laws.specs.Moves.{Scene, seen}
@@ -18,7 +18,7 @@ pub record Run : Type 0 where
 
 -- The world that a run comes to.
 unfoldable pub world_of : Run → World
-world_of r = run_of r.count (map event_of r.events)
+world_of r = run_of (example_hosts r.count) (map event_of r.events)
 
 abbrev pub clock_of : Node → ℕ
 clock_of x = x.clock

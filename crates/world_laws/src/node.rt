@@ -2,7 +2,7 @@
 
 ghost use Rattle.std.specs.Prelude.{ℕ, List, ◌≡◌, ◌≤◌, [], IfOk, OnOk, None, map, option_map, option_copied, option_and_then};
 ghost use Rattle.at_model.specs.Step.{refuses};
-ghost use Rattle.at_model.specs.World.{new_node, started, up_after};
+ghost use Rattle.at_model.specs.World.{new_node, started, up_after, example_base};
 ghost use Rattle.completion_at.specs.Names.{refusal_of};
 ghost use Rattle.world_laws.specs.Events.{event_of, input_of};
 ghost use Rattle.world_laws.specs.Moves.{arrival_move, crash_move, delivery_move, ended, input_move, move_of, raw_move, request_move, start_move, tick_move};
@@ -47,7 +47,7 @@ impl Model for Node {
 impl Node {
     /// The node of this number in an opening world: it is down, with an empty journal, and its clock shows 0.
     pub fn new(alloc: Global, number: u8) -> Result<Node, AllocError>
-        ensures { IfOk result (λ x. x ≡ new_node number) }
+        ensures { IfOk result (λ x. x ≡ new_node (example_base number)) }
     {
         let base = format!(in alloc; "http://n{}.example", number)?;
         let base = Text::from_string(base).into_shared(alloc)?;

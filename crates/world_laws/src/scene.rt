@@ -1,7 +1,7 @@
 //! The nodes of a world, the messages that they posted, and what happened to them.
 
 ghost use Rattle.std.specs.Prelude.{◌≡◌, ◌≤◌, ◌<◌, ◌++◌, IfOk, OnOk, Some, map, length, option_copied, slice_get, slice_set};
-ghost use Rattle.at_model.specs.World.{Node as Known, happened_at, new_nodes, node_of, nth, opening};
+ghost use Rattle.at_model.specs.World.{Node as Known, happened_at, new_nodes, node_of, nth, opening, example_hosts, example_base};
 ghost use Rattle.world_laws.specs.Events.{event_of};
 ghost use Rattle.world_laws.specs.Runs.{AreReady, IsReady};
 ghost use Rattle.world_laws.specs.Moves.{after, counted_in, move_of, moved_by, moved_in, nodes_by, numbered, seen, steps_in, with_all, with_lost, with_nodes, with_taken};
@@ -36,7 +36,7 @@ impl Model for Scene {
 }
 
 fn new_nodes(alloc: Global, count: u8) -> Result<Vec<Node>, AllocError>
-    ensures { IfOk result (λ nodes. nodes.items ≡ new_nodes count 1) }
+    ensures { IfOk result (λ nodes. nodes.items ≡ new_nodes example_base count 1) }
 {
     let mut nodes = Vec::new(alloc);
     let mut number = 0;
@@ -99,7 +99,7 @@ pub struct Happening {
 impl Scene {
     /// The opening world of so many nodes.
     pub fn new(alloc: Global, count: u8) -> Result<Scene, AllocError>
-        ensures { IfOk result (λ scene. scene ≡ seen (opening count)) }
+        ensures { IfOk result (λ scene. scene ≡ seen (opening (example_hosts count))) }
     {
         Ok(Scene {
             nodes: new_nodes(alloc, count)?,

@@ -6,8 +6,9 @@ ghost use Rattle.model_laws.specs.Agreement.{Agrees, HasOneSuperior, IsAgreed, I
 ghost use Rattle.model_laws.specs.Drawn.{AreApart};
 ghost use Rattle.model_laws.specs.Enlisted.{EnlistsUnderOne};
 ghost use Rattle.model_laws.specs.Made.{MakesNoIdTwice, made_on};
+ghost use Rattle.model_laws.specs.Reached.{ExamplesAreApart};
 ghost use Rattle.model_laws.specs.Settle.{IsSettling, MayStart, Settles};
-ghost use Rattle.at_model.specs.World.{nth, opening, run_of, world_step};
+ghost use Rattle.at_model.specs.World.{nth, opening, run_of, world_step, example_hosts};
 ghost use Rattle.completion_at.specs.Names.{refusal_of};
 ghost use Rattle.world_laws.specs.Events.{event_of};
 ghost use Rattle.world_laws.specs.Moves.{losses_of, steps_of};
@@ -21,7 +22,7 @@ use at_base::event::Local;
 use at_base::outs::Effects;
 use completion_at::requests::Refusal;
 use interposition::book::Book;
-use model_laws::rules::{enlists_under_one, ids_rise, makes_no_id_twice};
+use model_laws::rules::{enlists_under_one, examples_are_apart, ids_rise, makes_no_id_twice};
 use outcomes::laws::agrees;
 use settled::laws::settles;
 use std::alloc::{AllocError, Global};
@@ -175,7 +176,7 @@ fn ran(alloc: Global, nodes: u8, events: &[WorldEvent]) -> Result<World, AllocEr
     requires nodes { (1 ≤ nodes) × (nodes ≤ 8) }
     requires few { length events.now ≤ 4294967295 }
     ensures run { IfOk result (λ world. world ≡ record { count = nodes; events = events.now }) }
-    ensures world { IfOk result (λ world. world_of world ≡ run_of nodes (map event_of events.now)) }
+    ensures world { IfOk result (λ world. world_of world ≡ run_of (example_hosts nodes) (map event_of events.now)) }
 {
     let mut world = World::new(alloc, nodes)?;
     for event in events {
@@ -189,16 +190,18 @@ fn ran(alloc: Global, nodes: u8, events: &[WorldEvent]) -> Result<World, AllocEr
     Ok(world)
 }
 
-/// What holds in every run: no node makes an id twice, all registrations of one item are with one transaction, agreement, and
-/// settling.
+/// What holds in every run: no node makes an id twice, all registrations of one item are with one transaction, the nodes' addresses are
+/// apart, agreement, and settling.
 fn laws()
     ensures ids { MakesNoIdTwice }
     ensures superior { EnlistsUnderOne }
+    ensures apart { ExamplesAreApart }
     ensures agreement { Agrees }
     ensures settling { Settles }
 {
     makes_no_id_twice();
     enlists_under_one();
+    examples_are_apart();
     agrees();
     settles();
 }
@@ -214,8 +217,8 @@ pub fn run_world(alloc: Global, nodes: u8, events: &[WorldEvent]) -> Result<Worl
     requires nodes { (1 ≤ nodes) × (nodes ≤ 8) }
     requires few { length events.now ≤ 4294967295 }
     ensures run { IfOk result (λ world. world ≡ record { count = nodes; events = events.now }) }
-    ensures world { IfOk result (λ world. world_of world ≡ run_of nodes (map event_of events.now)) }
-    ensures ids { (n : ℕ) → AreApart (made_on n (opening nodes) (map event_of events.now)) }
+    ensures world { IfOk result (λ world. world_of world ≡ run_of (example_hosts nodes) (map event_of events.now)) }
+    ensures ids { (n : ℕ) → AreApart (made_on n (opening (example_hosts nodes)) (map event_of events.now)) }
     ensures superior { IfOk result (λ world. HasOneSuperior (world_of world)) }
     ensures agreed { IfOk result (λ world. IsAgreed (world_of world)) }
     ensures behind { IfOk result (λ world. IsBehindAnswers (world_of world)) }

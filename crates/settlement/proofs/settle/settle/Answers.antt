@@ -12,11 +12,11 @@ returns-in_err-events-clause-few c = are_few c.args.world.now c.drains.ensures
 
 pub returns-in_err-events-clause-rests : goal.returns-in_err-events-clause-rests
 returns-in_err-events-clause-rests c =
-    rests c.args.world.now c.settles.ensures (subst (λ n. n ≤ 8) c.count-count.ensures.value c.count-count.ensures.nodes.1)
+    rests c.args.world.now c.examples_are_apart.ensures c.settles.ensures (subst (λ n. n ≤ 8) c.count-count.ensures.value c.count-count.ensures.nodes.1)
 
 pub returns-clause-few : goal.returns-clause-few
 returns-clause-few c = are_few c.args.world.now c.drains.ensures
 
 pub returns-clause-rests : goal.returns-clause-rests
 returns-clause-rests c =
-    rests c.args.world.now c.settles.ensures (subst (λ n. n ≤ 8) c.count-count.ensures.value c.count-count.ensures.nodes.1)
+    rests c.args.world.now c.examples_are_apart.ensures c.settles.ensures (subst (λ n. n ≤ 8) c.count-count.ensures.value c.count-count.ensures.nodes.1)
