@@ -111,7 +111,7 @@ abbrev pub HasOneSuperior : World → Type 0
 HasOneSuperior w =
     (x s t : Who) (one other : Option Seat) → IsAccepted w s one x → IsAccepted w t other x → s ≡ t
 
--- Agreement, stated of every run of fewer than 2^64 nodes, whatever is delivered, lost, repeated, reordered, stopped or
+-- Agreement, stated of every run of nodes with addresses of their own, whatever is delivered, lost, repeated, reordered, stopped or
 -- crashed.
 pub record Agrees : Type 0 where
   pub agreed : (hosts : Hosts) (es : List WorldEvent) → HaveOwnAddresses hosts → IsAgreed (run_of hosts es)

@@ -79,13 +79,13 @@ pub fn calls_are_posts()
     ensures { CallsArePosts }
 {}
 
-/// Agreement in every world of fewer than 2^64 nodes that is reached step by step.
+/// Agreement in every world of nodes with addresses of their own that is reached step by step.
 #[tactic(auto, using(crate::proofs::Agreeing::agrees_wherever))]
 pub fn agrees_wherever()
     ensures { AgreesWherever }
 {}
 
-/// Agreement among fewer than 2^64 nodes that serve (WS-AtomicTransaction 1.2, section 1).
+/// Agreement among nodes with addresses of their own that serve (WS-AtomicTransaction 1.2, section 1).
 pub fn nets_agree<S: Site>()
     ensures { NetsAgree S.told }
 {

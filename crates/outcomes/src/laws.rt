@@ -12,7 +12,7 @@ pub fn outcomes_are_founded()
     ensures { OutcomesAreFounded }
 {}
 
-/// Agreement: in every run of fewer than 2^64 nodes, whatever is delivered, lost, repeated, reordered, stopped or crashed, and
+/// Agreement: in every run of nodes with addresses of their own, whatever is delivered, lost, repeated, reordered, stopped or crashed, and
 /// through any depth of subordinates, no activity is split and nothing ends twice; a root's commit and a subordinate's vote stand
 /// behind every answer; and an activity is told what its root did (WS-AtomicTransaction 1.2, section 1).
 #[tactic(auto, using(crate::proofs::Agreeing::agrees))]
