@@ -357,9 +357,9 @@ outs_on P Q base (outs.Answer status reply ∷ os) f (h, k) = (tt, outs_on P Q b
 
 steps_whose : (hosts : Hosts) (u : World) (n : ℕ) (x : Node) (b : Book) (e : Event) (now : ℕ) (landed : Bool) → HaveOwnAddresses hosts → Reached hosts u → nth n u.nodes ≡ Some x → x.book ≡ Some b → AllWhose hosts u
     → AllWhose hosts (counts u n x b e now landed) × AllByRecursion (OutFine (IsWhose (IsOwnId (counts u n x b e now landed) n) (hosts.base_of n))) (step b e now landed).outs
-steps_whose hosts u n x b e now landed small reached found up h =
+steps_whose hosts u n x b e now landed distinct reached found up h =
     let v : World = counts u n x b e now landed in
-    let g : WorldGood hosts u = world_good hosts u small reached in
+    let g : WorldGood hosts u = world_good hosts u distinct reached in
     let known : IsUp (hosts.base_of n) (g.choices n) x.journal b = subst (IsKnown (hosts.base_of n) (g.choices n) x.journal) up (g.nodes n x found) in (
       whose_on hosts u v (drawn_put u v n x z found refl (λ id k. drawn_step x b e now landed x.book refl up id k)) u.posted h,
       outs_on (IsKept (step b e now landed).book) (IsOwnId v n) (hosts.base_of n) (step b e now landed).outs (λ own id k. (k.0, (z, put_this u.nodes n x z found, k.1)))
@@ -387,11 +387,11 @@ rises_whose hosts u n x stop found down h =
     (λ id k. drawn_up x.base x.journal stop id (subst (λ o. HasDrawn x.journal o id) down k))) u.posted h
 
 registering : (hosts : Hosts) → HaveOwnAddresses hosts → Law hosts
-registering hosts small = record {
+registering hosts distinct = record {
   Good = AllWhose hosts;
   Fine = λ w g n p. IsWhose (IsOwnId w n) (hosts.base_of n) p;
   opens = tt;
-  steps = λ u n x b e now landed reached found up heard g. steps_whose hosts u n x b e now landed small reached found up g;
+  steps = λ u n x b e now landed reached found up heard g. steps_whose hosts u n x b e now landed distinct reached found up g;
   posts = λ w g n p f. all_join (PostedWhose hosts (with_post n p w)) w.posted _ g (f, tt);
   still_fine = λ w g n p q f h. h;
   falls = λ u n x b reached found up g. falls_whose hosts u n x b reached found g;
@@ -410,8 +410,8 @@ one_whose hosts w (q ∷ ps) p (h, k) (inr i) = one_whose hosts w ps p k i
 pub registers_named : (hosts : Hosts) (w : World) → HaveOwnAddresses hosts → Reached hosts w → (p : Posted) (r : Register) → IsIn p w.posted → p.content.message ≡ messages.Register r
     → IsOwnRegister (IsOwnId w p.sender) (hosts.base_of p.sender) p.content r
 unfolding registering
-registers_named hosts w small reached p r i e =
-    subst (Whose (IsOwnId w p.sender) (hosts.base_of p.sender) p.content) e (one_whose hosts w w.posted p (holds hosts (registering hosts small) w reached) i)
+registers_named hosts w distinct reached p r i e =
+    subst (Whose (IsOwnId w p.sender) (hosts.base_of p.sender) p.content) e (one_whose hosts w w.posted p (holds hosts (registering hosts distinct) w reached) i)
 
 pub registers_name_their_sender : RegistersNameTheirSender
 registers_name_their_sender hosts es small p r i e = registers_named hosts (run_of hosts es) small (run_reached hosts es) p r i e

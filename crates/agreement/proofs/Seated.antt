@@ -93,7 +93,7 @@ record Premises (hosts : Hosts) (u : World) (n : ℕ) (x : Node) (b : Book) (e :
 
 premises : (hosts : Hosts) (u : World) (n : ℕ) (x : Node) (b : Book) (e : Event) (now : ℕ) (landed : Bool) → HaveOwnAddresses hosts → Reached hosts u → nth n u.nodes ≡ Some x → x.book ≡ Some b
     → AreHeld hosts u.nodes u.accepted → Premises hosts u n x b e now landed
-premises hosts u n x b e now landed small reached found up h = record {
+premises hosts u n x b e now landed distinct reached found up h = record {
   sound = sound;
   steps = record {
     order = sound.order;
@@ -120,7 +120,7 @@ premises hosts u n x b e now landed small reached found up h = record {
     each = finds_each transaction_id after.transactions (ids_rise.stays b e now landed sound.order).rising.transactions
 
     good : WorldGood hosts u
-    good = world_good hosts u small reached
+    good = world_good hosts u distinct reached
 
     known : IsUp (hosts.base_of n) (good.choices n) x.journal b
     known = subst (IsKnown (hosts.base_of n) (good.choices n) x.journal) up (good.nodes n x found)
@@ -228,12 +228,12 @@ rises_held hosts u n x stop found down h =
 
 -- the law
 held_law : (hosts : Hosts) → HaveOwnAddresses hosts → Law hosts
-held_law hosts small = record {
+held_law hosts distinct = record {
   Good = λ w. AreHeld hosts w.nodes w.accepted;
   Fine = λ w g n p. Unit {0};
   opens = record { one_each = λ a c s r i. absurd i; nodes_held = λ n x found. newborn n x found };
   steps = λ u n x b e now landed reached found up heard h.
-      (steps_held hosts u n x b e now landed found (premises hosts u n x b e now landed small reached found up h) h, nothing_asked (step b e now landed).outs);
+      (steps_held hosts u n x b e now landed found (premises hosts u n x b e now landed distinct reached found up h) h, nothing_asked (step b e now landed).outs);
   posts = λ w h n p f. h;
   still_fine = λ w g n p q f k. tt;
   falls = λ u n x b reached found up h. falls_held hosts u n x b reached found up h;
@@ -253,7 +253,7 @@ held_law hosts small = record {
 
 world_held : (hosts : Hosts) (w : World) → HaveOwnAddresses hosts → Reached hosts w → AreHeld hosts w.nodes w.accepted
 unfolding held_law
-world_held hosts w small reached = holds hosts (held_law hosts small) w reached
+world_held hosts w distinct reached = holds hosts (held_law hosts distinct) w reached
 
 -- as the nodes of the world say it
 as_entries : (hosts : Hosts) (n : ℕ) (w : World) (id : Numbers) (t : Transaction) → HaveBases w.nodes (nodes_of hosts) → map (accepted_seat n w.nodes id) t.seats ≡ entries hosts n id t.seats
@@ -288,7 +288,7 @@ held_record hosts n w bases (records.Ended id) h = tt
 held_record hosts n w bases (records.Done id) h = tt
 
 pub world_seated : (hosts : Hosts) (w : World) → HaveOwnAddresses hosts → Reached hosts w → IsSeated w
-world_seated hosts w small reached = record {
+world_seated hosts w distinct reached = record {
   one_each = held.one_each;
   complete = λ n x b t found up i undecided. held_complete hosts n w t bases ((one_of (IsHeld hosts w.accepted n) b.transactions t (book n x b found up) i).1.0 undecided);
   enlisted = λ n x b found up. all_more (IsHeld hosts w.accepted n) (IsEnlisted w n) b.transactions (λ t h. held_enlisted hosts n w t bases h) (book n x b found up);
@@ -297,10 +297,10 @@ world_seated hosts w small reached = record {
 }
   where
     held : AreHeld hosts w.nodes w.accepted
-    held = world_held hosts w small reached
+    held = world_held hosts w distinct reached
 
     bases : HaveBases w.nodes (nodes_of hosts)
-    bases = (world_good hosts w small reached).world.bases
+    bases = (world_good hosts w distinct reached).world.bases
 
     book : (n : ℕ) (x : Node) (b : Book) → nth n w.nodes ≡ Some x → x.book ≡ Some b → IsHeldBook hosts w.accepted n b
     book n x b found up = subst (IfThere (IsHeldBook hosts w.accepted n)) up (held.nodes_held n x found).book

@@ -306,14 +306,14 @@ own_fits sorts m (targets.Coordinator i s) id protocol seat h k f = absurd h
 
 placed_fits : (hosts : Hosts) (sorts : Sorts) (m : ℕ) (p : Post) (r : Register) (seat : Option Seat) → HaveOwnAddresses hosts → IsOwnRegister (Fitting hosts (sorts m) m) (hosts.base_of m) p r → SeatFor (protocol_named r.protocol) seat
     → FitsParticipant sorts (who_of (new_nodes hosts.base_of hosts.count 1) r.participant) seat
-placed_fits hosts sorts m p r seat small o f =
+placed_fits hosts sorts m p r seat distinct o f =
     subst (λ (e : Epr). FitsParticipant sorts (who_of (new_nodes hosts.base_of hosts.count 1) e) seat) (sym o.participant)
     (by_place (place_of 1 (new_nodes hosts.base_of hosts.count 1) (endpoint_of (hosts.base_of m) o.own).address) refl)
   where
     by_place : (q : Option (ℕ × Target)) → place_of 1 (new_nodes hosts.base_of hosts.count 1) (endpoint_of (hosts.base_of m) o.own).address ≡ q → FitsParticipant sorts (who_at q) seat
     by_place None e = tt
     by_place (Some (j, S)) e =
-        let (same, target) = addresses_lead_home hosts m j o.own S small o.known.1.1 (has_path o.own o.id r.protocol o.registers o.known.1.0) e in
+        let (same, target) = addresses_lead_home hosts m j o.own S distinct o.known.1.1 (has_path o.own o.id r.protocol o.registers o.known.1.0) e in
         subst (λ i. FitsParticipant sorts (who_at (Some (i, S))) seat) (sym same)
         (subst (λ T. FitsParticipant sorts (who_at (Some (m, T))) seat) (sym target) (own_fits sorts m o.own o.id r.protocol seat o.registers o.known.0 f))
 
@@ -339,12 +339,12 @@ came_from hosts u n x events.Tick g h c r came says = absurd cc
 
 seat_fits : (hosts : Hosts) (sorts : Sorts) (n : ℕ) (b : Book) (e : Event) (nodes : List Node) (acc : Accepted) → HaveOwnAddresses hosts → HaveBases nodes (new_nodes hosts.base_of hosts.count 1) → FitsBook (sorts n) b → CameFrom hosts sorts e
     → NewSeat b e n nodes acc → FitsAccepted sorts acc
-seat_fits hosts sorts n b e nodes acc small bases book from new =
+seat_fits hosts sorts n b e nodes acc distinct bases book from new =
     let (p, o) = from new.arrived new.register new.came new.says in (
       subst (λ (w : Who). IsTransaction (sorts w.node w.id)) (sym new.transaction)
           (either_sort (sorts n new.standing.id) new.standing.superior (all_find (λ y. sorts n y.id ≡ sort_under y.superior) transaction_id new.id b.transactions new.standing book.transactions new.found)),
       subst (λ w. FitsParticipant sorts w acc.seat) (sym (new.participant ∙ who_same nodes (new_nodes hosts.base_of hosts.count 1) new.register.participant bases))
-          (placed_fits hosts sorts p.sender p.content new.register acc.seat small o new.seat),
+          (placed_fits hosts sorts p.sender p.content new.register acc.seat distinct o new.seat),
     )
 
 -- a step
@@ -353,7 +353,7 @@ stands_now o b up h = subst (IfThere Stands) up h
 
 steps_sorted : (hosts : Hosts) (u : World) (n : ℕ) (x : Node) (b : Book) (e : Event) (now : ℕ) (landed : Bool) → HaveOwnAddresses hosts → Reached hosts u → nth n u.nodes ≡ Some x → x.book ≡ Some b
     → Heard u n x e → AreSorted hosts u → (v : AreSorted hosts (counts u n x b e now landed)) × AllByRecursion (OutFine (IsWhose (Fitting hosts (v.sort n) n) (hosts.base_of n))) (step b e now landed).outs
-steps_sorted hosts u n x b e now landed small reached found up heard g =
+steps_sorted hosts u n x b e now landed distinct reached found up heard g =
     let fits : FitsNode (g.sort n) x = g.nodes n x found in
     let undrawn : (id : Numbers) → (IsDrawn b id → ⊥) → g.sort n id ≡ Unmade = (λ id f. fits.undrawn id (λ d. f (subst (λ o. HasDrawn x.journal o id) up d))) in
     let r : Grown (g.sort n) (plan b e now) landed =
@@ -366,7 +366,7 @@ steps_sorted hosts u n x b e now landed small reached found up heard g =
       book = r.book;
       undrawn = λ id f. r.undrawn id (undrawn id (λ d. f (drawn_on b (step b e now landed).book (steps_keep_place b e now landed) id d))) f;
     } in
-    let w : WorldGood hosts u = world_good hosts u small reached in
+    let w : WorldGood hosts u = world_good hosts u distinct reached in
     let known : IsUp (hosts.base_of n) (w.choices n) x.journal b = subst (IsKnown (hosts.base_of n) (w.choices n) x.journal) up (w.nodes n x found) in
     let book : FitsBook (g.sort n) b = subst (FitsIfUp (g.sort n)) up fits.book in
     let low : IsNumber hosts n = is_number hosts n u.nodes x w.world.bases found in (
@@ -375,7 +375,7 @@ steps_sorted hosts u n x b e now landed small reached found up heard g =
         accepted = all_join (FitsAccepted new) u.accepted (accepted_in n u.nodes b (step b e now landed).book.transactions)
             (all_more (FitsAccepted g.sort) (FitsAccepted new) u.accepted (λ acc k. accepted_on g.sort new (put_keeps g.sort n r.after r.keeps) acc k) g.accepted)
             (all_more (NewSeat b e n u.nodes) (FitsAccepted new) (accepted_in n u.nodes b (step b e now landed).book.transactions)
-            (λ acc k. accepted_on g.sort new (put_keeps g.sort n r.after r.keeps) acc (seat_fits hosts g.sort n b e u.nodes acc small w.world.bases book (came_from hosts u n x e g heard) k))
+            (λ acc k. accepted_on g.sort new (put_keeps g.sort n r.after r.keeps) acc (seat_fits hosts g.sort n b e u.nodes acc distinct w.world.bases book (came_from hosts u n x e g heard) k))
             (step_accepts b e now landed n u.nodes known.says.order ((step_gives (hosts.base_of n) (w.choices n) b e now landed known.says).accepted n u.nodes)));
         posted = posted_on hosts g.sort new (put_keeps g.sort n r.after r.keeps) u.posted g.posted;
         nodes = each_put (λ k y. FitsNode (new k) y) u.nodes n x z found (subst (λ s. FitsNode s z) (sym (put_here g.sort n r.after)) here)
@@ -453,11 +453,11 @@ opening_sorted hosts = record { sort = λ n id. Unmade; nodes = λ n x f. down n
     down n x e = subst (FitsNode (λ id. Unmade)) (sym e) (record { journal = tt; book = tt; undrawn = λ id f. refl })
 
 sorting : (hosts : Hosts) → HaveOwnAddresses hosts → Law hosts
-sorting hosts small = record {
+sorting hosts distinct = record {
   Good = AreSorted hosts;
   Fine = λ w g n p. IsWhose (Fitting hosts (g.sort n) n) (hosts.base_of n) p;
   opens = opening_sorted hosts;
-  steps = λ u n x b e now landed reached found up heard g. steps_sorted hosts u n x b e now landed small reached found up heard g;
+  steps = λ u n x b e now landed reached found up heard g. steps_sorted hosts u n x b e now landed distinct reached found up heard g;
   posts = λ w g n p f. record { sort = g.sort; nodes = g.nodes; happened = g.happened; accepted = g.accepted; posted = all_join (FitsPosted hosts g.sort) w.posted _ g.posted (f, tt) };
   still_fine = λ w g n p q f h. h;
   falls = λ u n x b reached found up g. falls_sorted hosts u n x b reached found up g;
@@ -469,7 +469,7 @@ sorting hosts small = record {
 
 pub world_sorted : (hosts : Hosts) (w : World) → HaveOwnAddresses hosts → Reached hosts w → AreSorted hosts w
 unfolding sorting
-world_sorted hosts w small reached = holds hosts (sorting hosts small) w reached
+world_sorted hosts w distinct reached = holds hosts (sorting hosts distinct) w reached
 
 pub sorts_agree : SortsAgree
 sorts_agree hosts es small = world_sorted hosts (run_of hosts es) small (run_reached hosts es)

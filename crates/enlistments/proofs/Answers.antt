@@ -46,7 +46,7 @@ keeps_id m a r t g (refuses name is) = ap (λ x. x.transaction.id) is
 pub held_after : (hosts : Hosts) (u : World) (n : ℕ) (x : Node) (b : Book) (e : Event) (now : ℕ) (landed : Bool) → Stepping hosts u n x b e now landed
     → (d : Registered b e now (standing landed (plan b e now).entry) (step b e now landed)) → Held hosts (counts u n x b e now landed) n d.gives.transaction
 held_after hosts u n x b e now landed s d = record {
-  small = s.small;
+  distinct = s.distinct;
   reached = then_reached hosts u n x b e now landed s;
   x = record x { book = Some (step b e now landed).book; journal = with_entry (plan b e now).entry landed x.journal };
   b = (step b e now landed).book;
@@ -81,7 +81,7 @@ response_names hosts u n x b e now landed s p to c m T goes leads (names_seat d 
     let at : T ≡ targets.Participant i kind = (r.leads m T l).1 ∙ own in
     let there : LeadsTo hosts q.participant m (targets.Participant i kind) = subst (λ y. LeadsTo hosts y m (targets.Participant i kind)) (sym who) (l ∙ (λ j. Some (m, at j))) in
     let written : endpoint_of (hosts.base_of n) (seat_target d.gives.transaction.id q) ≡ c =
-    (λ j. endpoint_of (sym (up_known hosts u s.small s.reached n x b s.found s.up).says.base_is j)
+    (λ j. endpoint_of (sym (up_known hosts u s.distinct s.reached n x b s.found s.up).says.base_is j)
     (seat_target (keeps_id (moment_of b now) d.arrived d.request d.old d.gives d.enrolls j) q)) ∙ sym is in
     subst (NamesSeatOf hosts w c m) (sym at)
     (subst (λ y. Enlists hosts w y (record { node = m; id = i }) kind) written
@@ -94,7 +94,7 @@ response_names hosts u n x b e now landed s p to c m T goes leads (names_complet
     let at : T ≡ targets.Initiator i = (r.leads m T l).1 ∙ own in
     let led : LeadsTo hosts y.initiator m (targets.Initiator i) = subst (λ z. LeadsTo hosts z m (targets.Initiator i)) (sym who) (l ∙ (λ j. Some (m, at j))) in
     let written : endpoint_of (hosts.base_of n) (targets.Completion d.gives.transaction.id) ≡ c =
-    (λ j. endpoint_of (sym (up_known hosts u s.small s.reached n x b s.found s.up).says.base_is j)
+    (λ j. endpoint_of (sym (up_known hosts u s.distinct s.reached n x b s.found s.up).says.base_is j)
     (targets.Completion (keeps_id (moment_of b now) d.arrived d.request d.old d.gives d.enrolls j))) ∙ sym is in
     subst (NamesSeatOf hosts w c m) (sym at)
     (subst (λ z. Completes hosts w z (record { node = m; id = i })) written
@@ -120,8 +120,8 @@ answering hosts = record {
 
 pub answers_name : (hosts : Hosts) (w : World) → HaveOwnAddresses hosts → Reached hosts w → AllByRecursion (AnswersName hosts w) w.posted
 unfolding answering
-answers_name hosts w small reached = posts_have hosts small (answering hosts) w reached
+answers_name hosts w distinct reached = posts_have hosts distinct (answering hosts) w reached
 
 pub answer_names : (hosts : Hosts) (w : World) → HaveOwnAddresses hosts → Reached hosts w → (p : Posted) → IsIn p w.posted → AnswersName hosts w p
 unfolding answering
-answer_names hosts w small reached p i = one_has hosts small (answering hosts) w reached p i
+answer_names hosts w distinct reached p i = one_has hosts distinct (answering hosts) w reached p i

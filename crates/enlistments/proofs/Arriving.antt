@@ -34,7 +34,7 @@ use Rattle.enlistments.proofs.Paths.{target_within}
 
 -- a step of a world that is reached
 pub record Stepping (hosts : Hosts) (u : World) (n : ℕ) (x : Node) (b : Book) (e : Event) (now : ℕ) (landed : Bool) : Type 0 where
-  pub small : HaveOwnAddresses hosts
+  pub distinct : HaveOwnAddresses hosts
   pub reached : Reached hosts u
   pub found : nth n u.nodes ≡ Some x
   pub up : x.book ≡ Some b
@@ -48,13 +48,13 @@ pub step_ready : (hosts : Hosts) (u : World) (n : ℕ) (x : Node) (b : Book) (e 
 step_ready hosts u n x b e now landed s = book_ready hosts u s.reached n x b s.found s.up
 
 pub world_bases : (hosts : Hosts) (w : World) → HaveOwnAddresses hosts → Reached hosts w → HaveBases w.nodes (new_nodes hosts.base_of hosts.count 1)
-world_bases hosts w small reached = (world_good hosts w small reached).world.bases
+world_bases hosts w distinct reached = (world_good hosts w distinct reached).world.bases
 
 -- the base of a book, and its incarnation
-pub up_known : (hosts : Hosts) (w : World) (small : HaveOwnAddresses hosts) (reached : Reached hosts w) (n : ℕ) (x : Node) (b : Book) → nth n w.nodes ≡ Some x → x.book ≡ Some b
-    → IsUp (hosts.base_of n) ((world_good hosts w small reached).choices n) x.journal b
-up_known hosts w small reached n x b found up =
-    subst (IsKnown (hosts.base_of n) ((world_good hosts w small reached).choices n) x.journal) up ((world_good hosts w small reached).nodes n x found)
+pub up_known : (hosts : Hosts) (w : World) (distinct : HaveOwnAddresses hosts) (reached : Reached hosts w) (n : ℕ) (x : Node) (b : Book) → nth n w.nodes ≡ Some x → x.book ≡ Some b
+    → IsUp (hosts.base_of n) ((world_good hosts w distinct reached).choices n) x.journal b
+up_known hosts w distinct reached n x b found up =
+    subst (IsKnown (hosts.base_of n) ((world_good hosts w distinct reached).choices n) x.journal) up ((world_good hosts w distinct reached).nodes n x found)
 
 -- numbers of nodes
 pub node_number : (hosts : Hosts) (n : ℕ) (w : World) (x : Node) → HaveOwnAddresses hosts → Reached hosts w → nth n w.nodes ≡ Some x → IsNumber hosts n

@@ -48,7 +48,7 @@ use Rattle.enlistments.proofs.Voting.{same_to, signed_home, vote_at_seat, writte
 held_before : (hosts : Hosts) (u : World) (n : ℕ) (x : Node) (b : Book) (e : Event) (now : ℕ) (landed : Bool) → Stepping hosts u n x b e now landed
     → (d : TransactionDid b e now (standing landed (plan b e now).entry) (step b e now landed)) → Held hosts u n d.old
 held_before hosts u n x b e now landed s d = record {
-  small = s.small;
+  distinct = s.distinct;
   reached = s.reached;
   x = x;
   b = b;
@@ -73,7 +73,7 @@ voter_asked : (hosts : Hosts) (u : World) (n : ℕ) (x : Node) (b : Book) (e : E
 voter_asked hosts u n x b e now landed s d id q at says =
     let h : HasCome hosts u n d.arrived = has_come hosts u n x b e now landed d.arrived s d.came in (
       h,
-      vote_at_seat hosts u s.small s.reached h.posted h.stands notices.Prepared h.to n id q (h.message ∙ says) (inl refl) h.sent (subst (λ T. LeadsTo hosts h.to n T) at h.leads),
+      vote_at_seat hosts u s.distinct s.reached h.posted h.stands notices.Prepared h.to n id q (h.message ∙ says) (inl refl) h.sent (subst (λ T. LeadsTo hosts h.to n T) at h.leads),
       subst HasPath at h.path,
     )
 
@@ -126,7 +126,7 @@ asks_own hosts u n x b e now landed s v p to c m i kind goes leads from (asks_no
     (written_by hosts u n x b e now landed s notices.Rollback (targets.Coordinator id q) p.from c (ap (λ (z : Post). z.from) is) from)
 asks_own hosts u n x b e now landed s v p to c m i kind goes leads from (asks_completion d y wants knows is) =
     let h : ActivityKnows hosts u n d.old =
-    all_find (ActivityKnows hosts u n) activity_id d.old.id b.activities d.old (books_know hosts u s.small s.reached n x b s.found s.up).activities d.found in
+    all_find (ActivityKnows hosts u n) activity_id d.old.id b.activities d.old (books_know hosts u s.distinct s.reached n x b s.found s.up).activities d.found in
     let (id, at, accepted) = subst (λ o. CompletesIfKnown hosts u o (record { node = n; id = d.old.id }))
     (knows ∙ ap Some (same_to p y to (ap (λ (z : Post). z.to) is) goes)) h m (targets.Participant i kind) leads in
     absurd (not_completion i id kind at)
@@ -146,7 +146,7 @@ asking hosts = record {
 
 pub asks_its_own : (hosts : Hosts) (w : World) → HaveOwnAddresses hosts → Reached hosts w → AllByRecursion (AsksItsOwn hosts w) w.posted
 unfolding asking
-asks_its_own hosts w small reached = posts_have hosts small (asking hosts) w reached
+asks_its_own hosts w distinct reached = posts_have hosts distinct (asking hosts) w reached
 
 -- to a completion seat: a seat's participant is no completion seat
 seat_no_completion : (hosts : Hosts) (u : World) (n : ℕ) (t : Transaction) (q : Enlistment) (to : Epr) (m : ℕ) (id : Numbers) → Held hosts u n t → IsIn q t.seats → q.participant ≡ to
@@ -176,12 +176,12 @@ asks_as_initiator hosts u n x b e now landed s v p to c m k id T goes leads from
     (sym (vote.from to m (targets.Completion id) (sym h.from ∙ asked ∙ ap Some (same_to p y to (ap (λ (z : Post). z.to) is) goes)) leads).1))
 asks_as_initiator hosts u n x b e now landed s v p to c m k id T goes leads from l (asks_completion d y wants knows is) =
     let h : ActivityKnows hosts u n d.old =
-    all_find (ActivityKnows hosts u n) activity_id d.old.id b.activities d.old (books_know hosts u s.small s.reached n x b s.found s.up).activities d.found in
+    all_find (ActivityKnows hosts u n) activity_id d.old.id b.activities d.old (books_know hosts u s.distinct s.reached n x b s.found s.up).activities d.found in
     let (j, at, accepted) = subst (λ o. CompletesIfKnown hosts u o (record { node = n; id = d.old.id }))
     (knows ∙ ap Some (same_to p y to (ap (λ (z : Post). z.to) is) goes)) h m (targets.Completion id) leads in
     let small : IsId d.old.id =
-    (all_find (λ a. Meets ((world_good hosts u s.small s.reached).choices n a.id) (activity_standing a) × IsId a.id) activity_id d.old.id b.activities d.old
-    (up_known hosts u s.small s.reached n x b s.found s.up).says.fits.activities d.found).1 in
+    (all_find (λ a. Meets ((world_good hosts u s.distinct s.reached).choices n a.id) (activity_standing a) × IsId a.id) activity_id d.old.id b.activities d.old
+    (up_known hosts u s.distinct s.reached n x b s.found s.up).says.fits.activities d.found).1 in
     let (here, own) = signed_home hosts u n x b e now landed s (targets.Initiator d.old.id) T c k
     (written_by hosts u n x b e now landed s v (targets.Initiator d.old.id) p.from c (ap (λ (z : Post). z.from) is) from) small l in
     let same : id ≡ j = same_completion id j at in (
@@ -216,4 +216,4 @@ completing hosts = record {
 
 pub initiators_ask : (hosts : Hosts) (w : World) → HaveOwnAddresses hosts → Reached hosts w → AllByRecursion (AsksAsInitiator hosts w) w.posted
 unfolding completing
-initiators_ask hosts w small reached = posts_have hosts small (completing hosts) w reached
+initiators_ask hosts w distinct reached = posts_have hosts distinct (completing hosts) w reached

@@ -47,7 +47,7 @@ answered : (hosts : Hosts) (u : World) (n : ℕ) (x : Node) (b : Book) (e : Even
 answered hosts u n x b e now landed s a c came says =
     let h : HasCome hosts u n a = has_come hosts u n x b e now landed a s came in
     names_on hosts u (counts u n x b e now landed) (grows_counts u n x b e now landed s.found) c n a.target
-    (answer_names hosts u s.small s.reached h.posted h.stands h.to c n a.target h.sent (h.message ∙ says) h.leads)
+    (answer_names hosts u s.distinct s.reached h.posted h.stands h.to c n a.target h.sent (h.message ∙ says) h.leads)
 
 -- transactions
 link_knows : (hosts : Hosts) (w : World) (n : ℕ) (e : Event) (old new : Transaction) (kind : Kind) → Answered hosts w n e → KeepsLink e old new kind → TransactionKnows hosts w n old
@@ -221,12 +221,12 @@ knowing hosts = record {
 
 pub books_know : (hosts : Hosts) (w : World) → HaveOwnAddresses hosts → Reached hosts w → (n : ℕ) (x : Node) (b : Book) → nth n w.nodes ≡ Some x → x.book ≡ Some b → BookKnows hosts w n b
 unfolding knowing
-books_know hosts w small reached n x b found up =
-    let h : BookHas hosts (knowing hosts) w n b = books_have hosts small (knowing hosts) w reached n x b found up in
+books_know hosts w distinct reached n x b found up =
+    let h : BookHas hosts (knowing hosts) w n b = books_have hosts distinct (knowing hosts) w reached n x b found up in
     record { transactions = h.transactions; leaves = h.leaves; activities = h.activities }
 
 pub journals_know : (hosts : Hosts) (w : World) → HaveOwnAddresses hosts → Reached hosts w → (n : ℕ) (x : Node) → nth n w.nodes ≡ Some x → AllByRecursion (RecordKnows hosts w n) x.journal
 unfolding knowing
-journals_know hosts w small reached n x found =
-    let h : NodeHas hosts (knowing hosts) w n x.journal x.book = nodes_have hosts small (knowing hosts) w reached n x found in
+journals_know hosts w distinct reached n x found =
+    let h : NodeHas hosts (knowing hosts) w n x.journal x.book = nodes_have hosts distinct (knowing hosts) w reached n x found in
     h.journal

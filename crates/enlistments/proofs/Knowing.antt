@@ -19,19 +19,19 @@ use Rattle.enlistments.proofs.Voting.{votes_at_seats}
 
 seats_of_kind : (hosts : Hosts) (w : World) → HaveOwnAddresses hosts → Reached hosts w → (n : ℕ) (x : Node) (b : Book) (t : Transaction) → nth n w.nodes ≡ Some x → x.book ≡ Some b → IsIn t b.transactions
     → AllByRecursion (λ s. IsOfKind hosts s.participant s.kind) t.seats
-seats_of_kind hosts w small reached n x b t found up i =
+seats_of_kind hosts w distinct reached n x b t found up i =
     all_more (λ s. IsPlaced hosts (accepted_as s)) (λ s. IsOfKind hosts s.participant s.kind) t.seats (λ s h. h.kind)
-    (one_of (TransactionPlaced hosts) b.transactions t (transactions_placed hosts w small reached n x b found up) i).1
+    (one_of (TransactionPlaced hosts) b.transactions t (transactions_placed hosts w distinct reached n x b found up) i).1
 
 knowing : (hosts : Hosts) (w : World) → HaveOwnAddresses hosts → Reached hosts w → IsKnowing hosts w
-knowing hosts w small reached = record {
-  answers = answers_name hosts w small reached;
-  books = books_know hosts w small reached;
-  journals = journals_know hosts w small reached;
-  asks = asks_its_own hosts w small reached;
-  completes = initiators_ask hosts w small reached;
-  votes = votes_at_seats hosts w small reached;
-  seats = seats_of_kind hosts w small reached;
+knowing hosts w distinct reached = record {
+  answers = answers_name hosts w distinct reached;
+  books = books_know hosts w distinct reached;
+  journals = journals_know hosts w distinct reached;
+  asks = asks_its_own hosts w distinct reached;
+  completes = initiators_ask hosts w distinct reached;
+  votes = votes_at_seats hosts w distinct reached;
+  seats = seats_of_kind hosts w distinct reached;
 }
 
 pub coordinators_are_known : CoordinatorsAreKnown

@@ -45,11 +45,11 @@ if_completes_on hosts u w g (Some c) x h = completes_on hosts u w g c x h
 
 -- who it is that a place names
 pub who_leads : (hosts : Hosts) (w : World) → HaveOwnAddresses hosts → Reached hosts w → (e : Epr) (m : ℕ) (T : Target) → LeadsTo hosts e m T → who_of w.nodes e ≡ who_at (Some (m, T))
-who_leads hosts w small reached e m T l = who_same w.nodes (new_nodes hosts.base_of hosts.count 1) e (world_bases hosts w small reached) ∙ ap who_at l
+who_leads hosts w distinct reached e m T l = who_same w.nodes (new_nodes hosts.base_of hosts.count 1) e (world_bases hosts w distinct reached) ∙ ap who_at l
 
 -- a transaction of a book in a reached world
 pub record Held (hosts : Hosts) (w : World) (n : ℕ) (t : Transaction) : Type 0 where
-  pub small : HaveOwnAddresses hosts
+  pub distinct : HaveOwnAddresses hosts
   pub reached : Reached hosts w
   pub x : Node
   pub b : Book
@@ -58,10 +58,10 @@ pub record Held (hosts : Hosts) (w : World) (n : ℕ) (t : Transaction) : Type 0
   pub stands : IsIn t b.transactions
 
 enlisted : (hosts : Hosts) (w : World) (n : ℕ) (t : Transaction) → Held hosts w n t → IsEnlisted w n t
-enlisted hosts w n t h = one_of (IsEnlisted w n) h.b.transactions t ((seats_are_registered.reached hosts w h.small h.reached).enlisted n h.x h.b h.found h.up) h.stands
+enlisted hosts w n t h = one_of (IsEnlisted w n) h.b.transactions t ((seats_are_registered.reached hosts w h.distinct h.reached).enlisted n h.x h.b h.found h.up) h.stands
 
 pub placed : (hosts : Hosts) (w : World) (n : ℕ) (t : Transaction) → Held hosts w n t → TransactionPlaced hosts t
-placed hosts w n t h = one_of (TransactionPlaced hosts) h.b.transactions t (transactions_placed hosts w h.small h.reached n h.x h.b h.found h.up) h.stands
+placed hosts w n t h = one_of (TransactionPlaced hosts) h.b.transactions t (transactions_placed hosts w h.distinct h.reached n h.x h.b h.found h.up) h.stands
 
 pub seat_placed : (hosts : Hosts) (w : World) (n : ℕ) (t : Transaction) (s : Enlistment) → Held hosts w n t → IsIn s t.seats → IsPlaced hosts (accepted_as s)
 seat_placed hosts w n t s h i = one_of (λ q. IsPlaced hosts (accepted_as q)) t.seats s (placed hosts w n t h).1 i
@@ -71,7 +71,7 @@ pub seat_enlists : (hosts : Hosts) (w : World) (n : ℕ) (t : Transaction) (s : 
     → LeadsTo hosts s.participant m (targets.Participant i kind) → Enlists hosts w (endpoint_of (hosts.base_of n) (seat_target t.id s)) (record { node = m; id = i }) kind
 seat_enlists hosts w n t s m i kind h sits l k T leads =
     let p : IsPlaced hosts (accepted_as s) = seat_placed hosts w n t s h sits in
-    let (here, is) = addresses_lead_home hosts n k (seat_target t.id s) T h.small (node_number hosts n w h.x h.small h.reached h.found) ((placed hosts w n t h).0, p.least, p.most) leads in
+    let (here, is) = addresses_lead_home hosts n k (seat_target t.id s) T h.distinct (node_number hosts n w h.x h.distinct h.reached h.found) ((placed hosts w n t h).0, p.least, p.most) leads in
     let (j, kind_is) = p.kind m (targets.Participant i kind) l in
     let same : s.kind ≡ kind = sym (same_kind kind s.kind i j kind_is) in
     let accepted : IsIn (accepted_seat n w.nodes t.id s) w.accepted = one_of (λ q. IsIn (accepted_seat n w.nodes t.id q) w.accepted) t.seats s (enlisted hosts w n t h).0 sits in (
@@ -81,7 +81,7 @@ seat_enlists hosts w n t s m i kind h sits l k T leads =
       subst (λ a. IsIn a w.accepted) (λ r. record {
         transaction = record { node = sym here r; id = t.id };
         seat = Some (record { number = s.number; kind = same r });
-        participant = who_leads hosts w h.small h.reached s.participant m (targets.Participant i kind) l r;
+        participant = who_leads hosts w h.distinct h.reached s.participant m (targets.Participant i kind) l r;
       }) accepted,
     )
   where
@@ -92,7 +92,7 @@ seat_enlists hosts w n t s m i kind h sits l k T leads =
 pub completion_completes : (hosts : Hosts) (w : World) (n : ℕ) (t : Transaction) (c : Completion) (m : ℕ) (i : Numbers) → Held hosts w n t → t.completion ≡ Some c
     → LeadsTo hosts c.initiator m (targets.Initiator i) → Completes hosts w (endpoint_of (hosts.base_of n) (targets.Completion t.id)) (record { node = m; id = i })
 completion_completes hosts w n t c m i h there l k T leads =
-    let (here, is) = addresses_lead_home hosts n k (targets.Completion t.id) T h.small (node_number hosts n w h.x h.small h.reached h.found) (placed hosts w n t h).0 leads in
+    let (here, is) = addresses_lead_home hosts n k (targets.Completion t.id) T h.distinct (node_number hosts n w h.x h.distinct h.reached h.found) (placed hosts w n t h).0 leads in
     let accepted : AllByRecursion (λ a. IsIn a w.accepted) (accepted_completion n w.nodes t.id None (Some c)) =
     subst (λ o. AllByRecursion (λ a. IsIn a w.accepted) (accepted_completion n w.nodes t.id None o)) there (enlisted hosts w n t h).1 in (
       t.id,
@@ -100,7 +100,7 @@ completion_completes hosts w n t c m i h there l k T leads =
       subst (λ a. IsIn a w.accepted) (λ r. record {
         transaction = record { node = sym here r; id = t.id };
         seat = None;
-        participant = who_leads hosts w h.small h.reached c.initiator m (targets.Initiator i) l r;
+        participant = who_leads hosts w h.distinct h.reached c.initiator m (targets.Initiator i) l r;
       }) accepted.0,
     )
 

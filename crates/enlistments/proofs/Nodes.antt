@@ -175,14 +175,14 @@ put_has hosts l u w n x y found nodes g k h m z f =
     each_put (λ i v. NodeHas hosts l w i v.journal v.book) u.nodes n x y found k (λ i v other r. node_on hosts l u w g i v.journal v.book (h i v r)) m z (sym (ap (nth m) nodes) ∙ f)
 
 nodes_law : (hosts : Hosts) → HaveOwnAddresses hosts → NodesLaw hosts → Law hosts
-nodes_law hosts small l = record {
+nodes_law hosts distinct l = record {
   Good = AllHave hosts l;
   Fine = λ w g n p. Unit {0};
   opens = λ n x found. subst (λ (y : Node). NodeHas hosts l (opening hosts) n y.journal y.book) (sym (opening_node hosts n x found)) (record { journal = tt; book = tt });
   steps = λ u n x b e now landed reached found up heard h. (
     put_has hosts l u (counts u n x b e now landed) n x (record x { book = Some (step b e now landed).book; journal = with_entry (plan b e now).entry landed x.journal }) found refl
         (grows_counts u n x b e now landed found)
-        (step_has hosts l u n x b e now landed (record { small = small; reached = reached; found = found; up = up; heard = heard }) (h n x found).journal
+        (step_has hosts l u n x b e now landed (record { distinct = distinct; reached = reached; found = found; up = up; heard = heard }) (h n x found).journal
         (subst (IfThere (BookHas hosts l u n)) up (h n x found).book)) h,
     out_unit (step b e now landed).outs,
   );
@@ -210,8 +210,8 @@ nodes_law hosts small l = record {
 
 pub nodes_have : (hosts : Hosts) → HaveOwnAddresses hosts → (l : NodesLaw hosts) (w : World) → Reached hosts w → (n : ℕ) (x : Node) → nth n w.nodes ≡ Some x → NodeHas hosts l w n x.journal x.book
 unfolding nodes_law
-nodes_have hosts small l w reached = holds hosts (nodes_law hosts small l) w reached
+nodes_have hosts distinct l w reached = holds hosts (nodes_law hosts distinct l) w reached
 
 pub books_have : (hosts : Hosts) → HaveOwnAddresses hosts → (l : NodesLaw hosts) (w : World) → Reached hosts w → (n : ℕ) (x : Node) (b : Book) → nth n w.nodes ≡ Some x → x.book ≡ Some b
     → BookHas hosts l w n b
-books_have hosts small l w reached n x b found up = subst (IfThere (BookHas hosts l w n)) up (nodes_have hosts small l w reached n x found).book
+books_have hosts distinct l w reached n x b found up = subst (IfThere (BookHas hosts l w n)) up (nodes_have hosts distinct l w reached n x found).book

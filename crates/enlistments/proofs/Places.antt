@@ -190,7 +190,7 @@ voted_placed hosts id superior seats false (h, k) = (h, seats_recovered hosts st
 -- what is made
 made_id : (hosts : Hosts) (u : World) (n : ℕ) (x : Node) (b : Book) (e : Event) (now : ℕ) (landed : Bool) (id : Numbers) → Stepping hosts u n x b e now landed → next_id b ≡ Some id → IsId id
 made_id hosts u n x b e now landed id s next =
-    next_small b id (up_known hosts u s.small s.reached n x b s.found s.up).says.least (up_known hosts u s.small s.reached n x b s.found s.up).says.most next
+    next_small b id (up_known hosts u s.distinct s.reached n x b s.found s.up).says.least (up_known hosts u s.distinct s.reached n x b s.found s.up).says.most next
 
 placing : (hosts : Hosts) → NodesLaw hosts
 placing hosts = record {
@@ -226,9 +226,9 @@ placing hosts = record {
 pub transactions_placed : (hosts : Hosts) (w : World) → HaveOwnAddresses hosts → Reached hosts w → (n : ℕ) (x : Node) (b : Book) → nth n w.nodes ≡ Some x → x.book ≡ Some b
     → AllByRecursion (TransactionPlaced hosts) b.transactions
 unfolding placing
-transactions_placed hosts w small reached n x b found up = (books_have hosts small (placing hosts) w reached n x b found up).transactions
+transactions_placed hosts w distinct reached n x b found up = (books_have hosts distinct (placing hosts) w reached n x b found up).transactions
 
 pub leaves_placed : (hosts : Hosts) (w : World) → HaveOwnAddresses hosts → Reached hosts w → (n : ℕ) (x : Node) (b : Book) → nth n w.nodes ≡ Some x → x.book ≡ Some b
     → AllByRecursion (λ l. IsId l.id) b.leaves
 unfolding placing
-leaves_placed hosts w small reached n x b found up = (books_have hosts small (placing hosts) w reached n x b found up).leaves
+leaves_placed hosts w distinct reached n x b found up = (books_have hosts distinct (placing hosts) w reached n x b found up).leaves

@@ -43,14 +43,14 @@ same_posts : (hosts : Hosts) (l : PostLaw hosts) (u w : World) → Grows u w →
 same_posts hosts l u w g e h = subst (AllByRecursion (l.Of w)) (sym e) (all_more (l.Of u) (l.Of w) u.posted (l.on u w g) h)
 
 posts_law : (hosts : Hosts) → HaveOwnAddresses hosts → PostLaw hosts → Law hosts
-posts_law hosts small l = record {
+posts_law hosts distinct l = record {
   Good = AllHave hosts l;
   Fine = λ w g n p. IsFine hosts l w n p;
   opens = tt;
   steps = λ u n x b e now landed reached found up heard h. (
     same_posts hosts l u (counts u n x b e now landed) (grows_counts u n x b e now landed found) refl h,
     outs_of (IsFine hosts l (counts u n x b e now landed) n) (step b e now landed).outs
-        (λ p i r. l.new u n x b e now landed (record { small = small; reached = reached; found = found; up = up; heard = heard }) h p i r),
+        (λ p i r. l.new u n x b e now landed (record { distinct = distinct; reached = reached; found = found; up = up; heard = heard }) h p i r),
   );
   posts = λ w h n p f.
       all_join (l.Of (with_post n p w)) w.posted _ (all_more (l.Of w) (l.Of (with_post n p w)) w.posted (l.on w (with_post n p w) (grows_posts n (p ∷ []) w)) h)
@@ -65,7 +65,7 @@ posts_law hosts small l = record {
 
 pub posts_have : (hosts : Hosts) → HaveOwnAddresses hosts → (l : PostLaw hosts) (w : World) → Reached hosts w → AllByRecursion (l.Of w) w.posted
 unfolding posts_law
-posts_have hosts small l w reached = holds hosts (posts_law hosts small l) w reached
+posts_have hosts distinct l w reached = holds hosts (posts_law hosts distinct l) w reached
 
 pub one_has : (hosts : Hosts) → HaveOwnAddresses hosts → (l : PostLaw hosts) (w : World) → Reached hosts w → (p : Posted) → IsIn p w.posted → l.Of w p
-one_has hosts small l w reached p i = one_of (l.Of w) w.posted p (posts_have hosts small l w reached) i
+one_has hosts distinct l w reached p i = one_of (l.Of w) w.posted p (posts_have hosts distinct l w reached) i

@@ -50,7 +50,7 @@ pub register_of : (hosts : Hosts) (u : World) (n : ℕ) (x : Node) (b : Book) (e
 register_of hosts u n x b e now landed a r s came says =
     let h : HasCome hosts u n a = has_come hosts u n x b e now landed a s came in
     let p : Posted = h.posted in
-    let sorted : AreSorted hosts u = world_sorted hosts u s.small s.reached in
+    let sorted : AreSorted hosts u = world_sorted hosts u s.distinct s.reached in
     let g : IsOwnRegister (λ own id. FitsTarget (sorted.sort p.sender) own × (IsId id × IsNumber hosts p.sender)) (hosts.base_of p.sender) p.content r =
     subst (Whose (λ own id. FitsTarget (sorted.sort p.sender) own × (IsId id × IsNumber hosts p.sender)) (hosts.base_of p.sender) p.content) (h.message ∙ says)
     (one_of (λ q. IsWhose (λ own id. FitsTarget (sorted.sort q.sender) own × (IsId id × IsNumber hosts q.sender)) (hosts.base_of q.sender) q.content) u.posted p sorted.posted h.stands) in
@@ -61,7 +61,7 @@ register_of hosts u n x b e now landed a r s came says =
       registers = g.registers;
       reply = h.reply ∙ ap reply_of g.reply;
       leads = λ m T l.
-          addresses_lead_home hosts p.sender m g.own T s.small g.known.1.1 (has_path g.own g.id r.protocol g.registers g.known.1.0)
+          addresses_lead_home hosts p.sender m g.own T s.distinct g.known.1.1 (has_path g.own g.id r.protocol g.registers g.known.1.0)
           (sym (ap (λ (y : Epr). place_of 1 (new_nodes hosts.base_of hosts.count 1) y.address) g.participant) ∙ l);
     }
 

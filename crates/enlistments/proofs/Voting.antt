@@ -49,12 +49,12 @@ from_is notices.Committed e c f = absurd cc
 pub written_by : (hosts : Hosts) (u : World) (n : ℕ) (x : Node) (b : Book) (e : Event) (now : ℕ) (landed : Bool) → Stepping hosts u n x b e now landed → (v : Notice) (T : Target) (from : Option Epr)
     (c : Epr) → from ≡ from_on v (endpoint_of b.base T) → from ≡ Some c → c ≡ endpoint_of (hosts.base_of n) T
 written_by hosts u n x b e now landed s v T from c f g =
-    sym (from_is v (endpoint_of b.base T) c (sym f ∙ g)) ∙ ap (λ base. endpoint_of base T) (up_known hosts u s.small s.reached n x b s.found s.up).says.base_is
+    sym (from_is v (endpoint_of b.base T) c (sym f ∙ g)) ∙ ap (λ base. endpoint_of base T) (up_known hosts u s.distinct s.reached n x b s.found s.up).says.base_is
 
 pub signed_home : (hosts : Hosts) (u : World) (n : ℕ) (x : Node) (b : Book) (e : Event) (now : ℕ) (landed : Bool) → Stepping hosts u n x b e now landed → (T S : Target) (c : Epr) (m : ℕ)
     → c ≡ endpoint_of (hosts.base_of n) T → HasPath T → LeadsTo hosts c m S → (m ≡ n) × (S ≡ T)
 signed_home hosts u n x b e now landed s T S c m f path leads =
-    addresses_lead_home hosts n m T S s.small (node_number hosts n u x s.small s.reached s.found) path
+    addresses_lead_home hosts n m T S s.distinct (node_number hosts n u x s.distinct s.reached s.found) path
     (subst (λ y. place_of 1 (new_nodes hosts.base_of hosts.count 1) y.address ≡ Some (m, S)) f leads)
 
 -- the vote of an item
@@ -88,15 +88,15 @@ votes_at : (hosts : Hosts) (u : World) (n : ℕ) (x : Node) (b : Book) (e : Even
     → IsVoteAt hosts (counts u n x b e now landed) (record { sender = n; receiver = r; content = p }) k T
 votes_at hosts u n x b e now landed s v p r to k T goes leads (votes_under d kind y knows why from) =
     let h : TransactionKnows hosts u n d.old =
-    all_find (TransactionKnows hosts u n) transaction_id d.old.id b.transactions d.old (books_know hosts u s.small s.reached n x b s.found s.up).transactions d.found in
+    all_find (TransactionKnows hosts u n) transaction_id d.old.id b.transactions d.old (books_know hosts u s.distinct s.reached n x b s.found s.up).transactions d.found in
     let placed : TransactionPlaced hosts d.old =
-    all_find (TransactionPlaced hosts) transaction_id d.old.id b.transactions d.old (transactions_placed hosts u s.small s.reached n x b s.found s.up) d.found in
+    all_find (TransactionPlaced hosts) transaction_id d.old.id b.transactions d.old (transactions_placed hosts u s.distinct s.reached n x b s.found s.up) d.found in
     vote_of hosts u n x b e now landed s d.old.id kind v p r to k T placed.0
     (known hosts u n d.old.id kind (coordinator_at kind d.old.superior) to (knows ∙ ap Some (same_to p y to from.sent goes)) (h kind)) from.owned from.from leads
 votes_at hosts u n x b e now landed s v p r to k T goes leads (votes_alone d y knows why is) =
     let h : LeafKnows hosts u n d.old =
-    all_find (LeafKnows hosts u n) leaf_id d.old.id b.leaves d.old (books_know hosts u s.small s.reached n x b s.found s.up).leaves d.found in
-    let small : IsId d.old.id = all_find (λ l. IsId l.id) leaf_id d.old.id b.leaves d.old (leaves_placed hosts u s.small s.reached n x b s.found s.up) d.found in
+    all_find (LeafKnows hosts u n) leaf_id d.old.id b.leaves d.old (books_know hosts u s.distinct s.reached n x b s.found s.up).leaves d.found in
+    let small : IsId d.old.id = all_find (λ l. IsId l.id) leaf_id d.old.id b.leaves d.old (leaves_placed hosts u s.distinct s.reached n x b s.found s.up) d.found in
     vote_of hosts u n x b e now landed s d.old.id d.old.kind v p r to k T small
     (known hosts u n d.old.id d.old.kind d.old.coordinator to (knows ∙ ap Some (same_to p y to (ap (λ (q : Post). q.to) is) goes)) h) (ap (λ (q : Post). q.own) is) (ap (λ (q : Post). q.from) is)
     leads
@@ -119,8 +119,8 @@ voting hosts = record {
 
 pub votes_at_seats : (hosts : Hosts) (w : World) → HaveOwnAddresses hosts → Reached hosts w → AllByRecursion (VotesAtItsSeat hosts w) w.posted
 unfolding voting
-votes_at_seats hosts w small reached = posts_have hosts small (voting hosts) w reached
+votes_at_seats hosts w distinct reached = posts_have hosts distinct (voting hosts) w reached
 
 pub vote_at_seat : (hosts : Hosts) (w : World) → HaveOwnAddresses hosts → Reached hosts w → (p : Posted) → IsIn p w.posted → VotesAtItsSeat hosts w p
 unfolding voting
-vote_at_seat hosts w small reached p i = one_has hosts small (voting hosts) w reached p i
+vote_at_seat hosts w distinct reached p i = one_has hosts distinct (voting hosts) w reached p i

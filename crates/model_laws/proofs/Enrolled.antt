@@ -196,13 +196,13 @@ numbered hosts choices w n x h e =
 -- what is accepted
 accept_says : (hosts : Hosts) (choices : Choices) (n : ℕ) (e : Event) (nodes : List Node) (acc : Accepted) → HaveOwnAddresses hosts → HaveBases nodes (nodes_of hosts) → EventSays hosts choices n e
     → AcceptedBy e n nodes acc → IsChosen hosts choices acc
-accept_says hosts choices n e nodes acc small bases says by =
+accept_says hosts choices n e nodes acc distinct bases says by =
     let arrival : ArrivalSays hosts choices n by.register.participant by.id = says by.arrived by.register by.id by.came by.says by.target in
     let ours : IsOurs hosts choices by.register.participant (Some arrival.endpoint) = arrival.ours in
     record {
       item = record { node = ours.node; id = ours.registers.id };
       participant = by.participant ∙ who_same nodes (nodes_of hosts) by.register.participant bases ∙ ap (who_of (nodes_of hosts)) ours.registers.is
-          ∙ ap who_at (leads_home hosts ours.node ours.registers.own small ours.least ours.most (is_written ours.registers.own ours.registers.id ours.registers.named ours.small))
+          ∙ ap who_at (leads_home hosts ours.node ours.registers.own distinct ours.least ours.most (is_written ours.registers.own ours.registers.id ours.registers.named ours.small))
           ∙ ap (option_map (λ id. record { node = ours.node; id = id })) ours.registers.named;
       endpoint = arrival.endpoint;
       chosen = ours.registers.stands ∙ ap At (sym (same_endpoint arrival.endpoint ours.registers.endpoint ours.registers.goes));
@@ -316,7 +316,7 @@ each_out Q (outs.Answer status reply) h = tt
 
 steps_good : (hosts : Hosts) (u : World) (n : ℕ) (x : Node) (b : Book) (e : Event) (now : ℕ) (landed : Bool) → HaveOwnAddresses hosts → nth n u.nodes ≡ Some x → x.book ≡ Some b → Heard u n x e
     → WorldGood hosts u → (g : WorldGood hosts (counts u n x b e now landed)) × AllByRecursion (OutFine (PostFine hosts (counts u n x b e now landed) g n)) (step b e now landed).outs
-steps_good hosts u n x b e now landed small found up heard h =
+steps_good hosts u n x b e now landed distinct found up heard h =
     let known : IsUp (hosts.base_of n) (h.choices n) x.journal b = subst (IsKnown (hosts.base_of n) (h.choices n) x.journal) up (h.nodes n x found) in
     let g : Gives (hosts.base_of n) e (h.choices n) b (step b e now landed) = step_gives (hosts.base_of n) (h.choices n) b e now landed known.says in
     let book : Says (hosts.base_of n) g.after (step b e now landed).book = says_on (hosts.base_of n) (h.choices n) b e now landed known.says g in
@@ -332,7 +332,7 @@ steps_good hosts u n x b e now landed small found up heard h =
           posted = says.posted;
           accepted = all_join (IsChosen hosts new) u.accepted (accepted_in n u.nodes b (step b e now landed).book.transactions) says.accepted
               (all_more (AcceptedBy e n u.nodes) (IsChosen hosts new) (accepted_in n u.nodes b (step b e now landed).book.transactions)
-              (λ acc by. chosen_on new keeps acc (accept_says hosts h.choices n e u.nodes acc small h.world.bases (heard_says hosts u n x e h found heard) by)) (g.accepted n u.nodes));
+              (λ acc by. chosen_on new keeps acc (accept_says hosts h.choices n e u.nodes acc distinct h.world.bases (heard_says hosts u n x e h found heard) by)) (g.accepted n u.nodes));
         };
         nodes = each_put (λ k z. IsKnown (hosts.base_of k) (new k) z.journal z.book) u.nodes n x y found
             (record {
@@ -486,11 +486,11 @@ opening_good hosts = record {
 -- the law of every world that is reached
 enrolled : (hosts : Hosts) → HaveOwnAddresses hosts → Law hosts
 unfolding post_good
-enrolled hosts small = record {
+enrolled hosts distinct = record {
   Good = WorldGood hosts;
   Fine = PostFine hosts;
   opens = opening_good hosts;
-  steps = λ u n x b e now landed reached found up heard g. steps_good hosts u n x b e now landed small found up heard g;
+  steps = λ u n x b e now landed reached found up heard g. steps_good hosts u n x b e now landed distinct found up heard g;
   posts = λ w g n p f. post_good hosts w g n p f;
   still_fine = λ w g n p q f h. h;
   falls = λ u n x b reached found up g. falls_good hosts u n x b g found up;
@@ -501,7 +501,7 @@ enrolled hosts small = record {
 
 pub world_good : (hosts : Hosts) (w : World) → HaveOwnAddresses hosts → Reached hosts w → WorldGood hosts w
 unfolding enrolled
-world_good hosts w small reached = holds hosts (enrolled hosts small) w reached
+world_good hosts w distinct reached = holds hosts (enrolled hosts distinct) w reached
 
 -- what was accepted is accepted by one
 one_accepted : (hosts : Hosts) (choices : Choices) (all : List Accepted) (acc : Accepted) → AllByRecursion (IsChosen hosts choices) all → IsIn acc all → IsChosen hosts choices acc
@@ -511,8 +511,8 @@ one_accepted hosts choices (a ∷ all) acc (h, k) (inr i) = one_accepted hosts c
 
 -- every world that is reached
 pub one_superior : (hosts : Hosts) (w : World) → HaveOwnAddresses hosts → Reached hosts w → HasOneSuperior w
-one_superior hosts w small reached x s t one other i j =
-    let g : WorldGood hosts w = world_good hosts w small reached in
+one_superior hosts w distinct reached x s t one other i j =
+    let g : WorldGood hosts w = world_good hosts w distinct reached in
     let a : IsChosen hosts g.choices (record { transaction = s; seat = one; participant = Some x }) = one_accepted hosts g.choices w.accepted _ g.world.accepted i in
     let b : IsChosen hosts g.choices (record { transaction = t; seat = other; participant = Some x }) = one_accepted hosts g.choices w.accepted _ g.world.accepted j in
     let same : a.item ≡ b.item = same_item a.item b.item (sym a.participant ∙ b.participant) in
@@ -544,10 +544,10 @@ pub record IsChosenAt (hosts : Hosts) (choices : Choices) (t x : Who) : Type 0 w
   pub chosen : choices x.node x.id ≡ At endpoint
   pub place : place_of 1 (nodes_of hosts) endpoint.address ≡ Some (t.node, targets.Registration t.id)
 
-pub chosen_at : (hosts : Hosts) (w : World) (small : HaveOwnAddresses hosts) (reached : Reached hosts w) (t x : Who) (seat : Option Seat) → IsAccepted w t seat x
-    → IsChosenAt hosts (world_good hosts w small reached).choices t x
-chosen_at hosts w small reached t x seat i =
-    let g : WorldGood hosts w = world_good hosts w small reached in
+pub chosen_at : (hosts : Hosts) (w : World) (distinct : HaveOwnAddresses hosts) (reached : Reached hosts w) (t x : Who) (seat : Option Seat) → IsAccepted w t seat x
+    → IsChosenAt hosts (world_good hosts w distinct reached).choices t x
+chosen_at hosts w distinct reached t x seat i =
+    let g : WorldGood hosts w = world_good hosts w distinct reached in
     let a : IsChosen hosts g.choices (record { transaction = t; seat = seat; participant = Some x }) = one_accepted hosts g.choices w.accepted _ g.world.accepted i in
     let same : a.item ≡ x = same_item a.item x (sym a.participant) in
     record { endpoint = a.endpoint; chosen = ap (λ (y : Who). g.choices y.node y.id) (sym same) ∙ a.chosen; place = a.place }
@@ -556,8 +556,8 @@ chosen_at hosts w small reached t x seat i =
     same_item y z e = cc
 
 pub all_known : (hosts : Hosts) (w : World) → HaveOwnAddresses hosts → Reached hosts w → AllByRecursion IsKnownItem w.accepted
-all_known hosts w small reached =
-    let g : WorldGood hosts w = world_good hosts w small reached in
+all_known hosts w distinct reached =
+    let g : WorldGood hosts w = world_good hosts w distinct reached in
     all_more (IsChosen hosts g.choices) IsKnownItem w.accepted (λ acc f. ap is_some f.participant) g.world.accepted
 
 pub enlists_under_one : EnlistsUnderOne

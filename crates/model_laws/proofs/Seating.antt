@@ -215,7 +215,7 @@ record_named hosts w n b e now phase h (records.Done id) f = tt
 -- a step
 steps_seated : (hosts : Hosts) (u : World) (n : ℕ) (x : Node) (b : Book) (e : Event) (now : ℕ) (landed : Bool) → HaveOwnAddresses hosts → Reached hosts u → nth n u.nodes ≡ Some x → x.book ≡ Some b
     → AreSeated hosts u → AreSeated hosts (counts u n x b e now landed)
-steps_seated hosts u n x b e now landed small reached found up h =
+steps_seated hosts u n x b e now landed distinct reached found up h =
     each_put (λ k z. NodeSeated hosts v k z) u.nodes n x y found
     (record {
       book = all_both (λ t. Grown (transaction_at b t.id) t) (λ t. AllByRecursion (λ acc. IsIn acc v.accepted) (accepted_by n (nodes_of hosts) (transaction_at b t.id) t)) (IsSeated hosts v n) new
@@ -238,7 +238,7 @@ steps_seated hosts u n x b e now landed small reached found up h =
     y = record x { book = Some (step b e now landed).book; journal = with_entry (plan b e now).entry landed x.journal }
 
     good : WorldGood hosts u
-    good = world_good hosts u small reached
+    good = world_good hosts u distinct reached
 
     known : IsUp (hosts.base_of n) (good.choices n) x.journal b
     known = subst (IsKnown (hosts.base_of n) (good.choices n) x.journal) up (good.nodes n x found)
@@ -311,11 +311,11 @@ falls_seated hosts u n x b found h =
     down = record u { nodes = put_nth n (record x { book = None }) u.nodes; happened = u.happened ++ lost_in n b }
 
 seated_law : (hosts : Hosts) → HaveOwnAddresses hosts → Law hosts
-seated_law hosts small = record {
+seated_law hosts distinct = record {
   Good = AreSeated hosts;
   Fine = λ w g n p. Unit {0};
   opens = λ n x found. subst (NodeSeated hosts (opening hosts) n) (sym (opening_node hosts n x found)) (record { book = tt; journal = tt });
-  steps = λ u n x b e now landed reached found up heard h. (steps_seated hosts u n x b e now landed small reached found up h, nothing_asked (step b e now landed).outs);
+  steps = λ u n x b e now landed reached found up heard h. (steps_seated hosts u n x b e now landed distinct reached found up h, nothing_asked (step b e now landed).outs);
   posts = λ w h n p f m y r. node_on hosts w (with_post n p w) m (λ acc i. i) y (h m y r);
   still_fine = λ w g n p q f k. tt;
   falls = λ u n x b reached found up h. falls_seated hosts u n x b found h;
@@ -339,7 +339,7 @@ seated_law hosts small = record {
 
 world_seated : (hosts : Hosts) (w : World) → HaveOwnAddresses hosts → Reached hosts w → AreSeated hosts w
 unfolding seated_law
-world_seated hosts w small reached = holds hosts (seated_law hosts small) w reached
+world_seated hosts w distinct reached = holds hosts (seated_law hosts distinct) w reached
 
 pub holds_the_enlisted : HoldsTheEnlisted
 holds_the_enlisted hosts es small n x b found up =

@@ -45,11 +45,11 @@ at_most w x there here = by_found (nth x.node w.nodes) refl
         subst (λ (es : List Effect). length (ends x.id es) ≤ 1) (sym (unmet x.node (HasNode w) (no_node e) w.happened there)) (omega arith)
 
 once : (hosts : Hosts) (w : World) → HaveOwnAddresses hosts → Reached hosts w → (x : Who) → length (filter (is_end_of x) w.happened) ≤ 1
-once hosts w few reached x =
+once hosts w distinct reached x =
     subst (λ n. n ≤ 1) (sym (ends_same x w.happened))
     (at_most w x (all_there hosts w reached) (λ y found.
     life_once y.journal (happened_on x.node w.happened) x.id (transaction_at (book_of y) x.id) (leaf_at (book_of y) x.id)
-    ((world_premises layers hosts w few reached).laws.lives x.node y found x.id)))
+    ((world_premises layers hosts w distinct reached).laws.lives x.node y found x.id)))
 
 founded : (w : World) → AreFounded w → (n : ℕ) (f : Effect) → IsIn (happened_at n f) w.happened → IsFounded w n f
 founded w h n f i = one_of (λ (g : Happened). IsFounded w g.node g.what) w.happened (happened_at n f) h i

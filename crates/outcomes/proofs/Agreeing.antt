@@ -100,7 +100,7 @@ under_aborted : (w : World) (x : Who) → IsUnderAborted w x → IsUnderOne w (H
 under_aborted w x h = (h.transaction, (h.number, h.seat), h.aborted)
 
 pub bound : (hosts : Hosts) (w : World) → HaveOwnAddresses hosts → Reached hosts w → IsBound w
-bound hosts w few reached = record {
+bound hosts w distinct reached = record {
   one = one_end hosts w premises.laws;
   hosts = hosts;
   sorted = premises.laws.sorted;
@@ -118,13 +118,13 @@ bound hosts w few reached = record {
 }
   where
     premises : WorldPremises hosts w
-    premises = world_premises layers hosts w few reached
+    premises = world_premises layers hosts w distinct reached
 
     joint : IsOutcome hosts w
-    joint = outcomes_are_backed.reached hosts w few reached
+    joint = outcomes_are_backed.reached hosts w distinct reached
 
     all : AreFounded w
-    all = outcomes_are_founded.founded hosts w few reached
+    all = outcomes_are_founded.founded hosts w distinct reached
 
 told_truly : (w : World) → AreFounded w → IsToldTruly w
 told_truly w h = record {

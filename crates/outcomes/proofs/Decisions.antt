@@ -127,7 +127,7 @@ carrying hosts = record {
 
 pub carried_out : (hosts : Hosts) (w : World) → HaveOwnAddresses hosts → Reached hosts w → (n : ℕ) (x : Node) → nth n w.nodes ≡ Some x → (r : Record) → IsIn r x.journal → IsCarriedOut w n r
 unfolding carrying
-carried_out hosts w few reached n x found r i = one_of (IsCarriedOut w n) x.journal r (nodes_have hosts few (carrying hosts) w reached n x found).journal i
+carried_out hosts w distinct reached n x found r i = one_of (IsCarriedOut w n) x.journal r (nodes_have hosts distinct (carrying hosts) w reached n x found).journal i
 
 -- what a root is known to have done, as its initiator asks
 added_root : (w : World) (n : ℕ) (id : Numbers) (r : Record) → Adds r id → IsCarriedOut w n r → IsCommittedRoot w n id
@@ -137,6 +137,6 @@ added_root w n id other e h = absurd e
 
 pub kept_root : (hosts : Hosts) (w : World) → HaveOwnAddresses hosts → Reached hosts w → (n : ℕ) (x : Node) (b : Book) → nth n w.nodes ≡ Some x → x.book ≡ Some b → (id : Numbers) → is_kept id b.outcomes ≡ true
     → IsCommittedRoot w n id
-kept_root hosts w few reached n x b found up id kept =
+kept_root hosts w distinct reached n x b found up id kept =
     let a : IsAdded x.journal id = kept_added hosts w reached n x b found up id kept in
-    added_root w n id a.by a.adds (carried_out hosts w few reached n x found a.by a.stands)
+    added_root w n id a.by a.adds (carried_out hosts w distinct reached n x found a.by a.stands)

@@ -36,7 +36,7 @@ telling l done hosts = record {
   Of = λ w p. SaysWhatRootDid hosts w p.content;
   on = λ u w g p h. (says_on hosts u w g notices.Committed endings.Committed p.content h.0, says_on hosts u w g notices.Aborted endings.Aborted p.content h.1);
   new = λ u n x b e now landed s before p i r.
-      let q : StepPremises hosts u n x b e = step_premises l hosts u n x b e s.small s.reached s.found s.up s.heard in (
+      let q : StepPremises hosts u n x b e = step_premises l hosts u n x b e s.distinct s.reached s.found s.up s.heard in (
         (λ to m k says. committed_heard hosts u n x b e now landed q (done hosts u s.reached n x b s.found s.up) p (l.tells.told b e now landed q.ready p notices.Committed i says) to m k says),
         (λ to m k says. aborted_heard hosts u n x b e now landed q p (l.tells.told b e now landed q.ready p notices.Aborted i says) to m k says),
       );
@@ -44,7 +44,7 @@ telling l done hosts = record {
 
 pub all_told : (l : Layers) → AllDoneCommit → (hosts : Hosts) (w : World) → HaveOwnAddresses hosts → Reached hosts w → AllByRecursion (λ p. SaysWhatRootDid hosts w p.content) w.posted
 unfolding telling
-all_told l done hosts w few reached = posts_have hosts few (telling l done hosts) w reached
+all_told l done hosts w distinct reached = posts_have hosts distinct (telling l done hosts) w reached
 
 -- effects
 abbrev Founded : World → Happened → Type 0
@@ -76,29 +76,29 @@ posted_happened n [] w = refl
 posted_happened n (p ∷ ps) w = posted_happened n ps _
 
 pub all_founded : (l : Layers) → AllDoneCommit → (hosts : Hosts) (w : World) → HaveOwnAddresses hosts → Reached hosts w → AreFounded w
-all_founded l done hosts w few (opened is) = subst AreFounded (sym is) tt
-all_founded l done hosts w few (stepped u n x b e now landed ps reached found up heard those is) =
+all_founded l done hosts w distinct (opened is) = subst AreFounded (sym is) tt
+all_founded l done hosts w distinct (stepped u n x b e now landed ps reached found up heard those is) =
     subst AreFounded (sym is)
     (subst (AllByRecursion (Founded after)) (sym (posted_happened n ps (counts u n x b e now landed)))
     (all_on (counts u n x b e now landed) after (grows_posts n ps (counts u n x b e now landed)) (u.happened ++ map (happened_at n) (step b e now landed).effects)
     (all_join (Founded (counts u n x b e now landed)) u.happened _
-    (all_on u (counts u n x b e now landed) (grows_counts u n x b e now landed found) u.happened (all_founded l done hosts u few reached))
+    (all_on u (counts u n x b e now landed) (grows_counts u n x b e now landed found) u.happened (all_founded l done hosts u distinct reached))
     (at_node (counts u n x b e now landed) n (step b e now landed).effects
-    (step_founded hosts u n x b e now landed premises (l.backed.reached hosts u few reached) (all_told l done hosts u few reached) (l.moves.moved b e now landed premises.ready))))))
+    (step_founded hosts u n x b e now landed premises (l.backed.reached hosts u distinct reached) (all_told l done hosts u distinct reached) (l.moves.moved b e now landed premises.ready))))))
   where
     after : World
     after = post_all n ps (counts u n x b e now landed)
 
     premises : StepPremises hosts u n x b e
-    premises = step_premises l hosts u n x b e few reached found up heard
-all_founded l done hosts w few (fell u n x b reached found up is) =
+    premises = step_premises l hosts u n x b e distinct reached found up heard
+all_founded l done hosts w distinct (fell u n x b reached found up is) =
     let g : Grows u (goes_down n b u) = grows_falls u n x b found in
     subst AreFounded (sym is)
     (subst (AllByRecursion (Founded (goes_down n b u))) (sym (ap (λ (v : World). v.happened) (ap (put_book n None (record u { happened = u.happened ++ lost_in n b })) found)))
-    (all_join (Founded (goes_down n b u)) u.happened _ (all_on u (goes_down n b u) g u.happened (all_founded l done hosts u few reached)) (of_lost (goes_down n b u) n b)))
-all_founded l done hosts w few (rose u n x stop reached found down small is) =
+    (all_join (Founded (goes_down n b u)) u.happened _ (all_on u (goes_down n b u) g u.happened (all_founded l done hosts u distinct reached)) (of_lost (goes_down n b u) n b)))
+all_founded l done hosts w distinct (rose u n x stop reached found down least is) =
     subst AreFounded (sym is)
-    (all_on u (record u { nodes = put_nth n (up_after (started (last_incarnation x.journal + 1) x) stop) u.nodes }) (grows_rises u n x stop found) u.happened (all_founded l done hosts u few reached))
-all_founded l done hosts w few (waited u n x clock reached found is) =
+    (all_on u (record u { nodes = put_nth n (up_after (started (last_incarnation x.journal + 1) x) stop) u.nodes }) (grows_rises u n x stop found) u.happened (all_founded l done hosts u distinct reached))
+all_founded l done hosts w distinct (waited u n x clock reached found is) =
     subst AreFounded (sym is)
-    (all_on u (record u { nodes = put_nth n (record x { clock = clock }) u.nodes }) (grows_waits u n x clock found) u.happened (all_founded l done hosts u few reached))
+    (all_on u (record u { nodes = put_nth n (record x { clock = clock }) u.nodes }) (grows_waits u n x clock found) u.happened (all_founded l done hosts u distinct reached))

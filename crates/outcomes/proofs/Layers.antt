@@ -20,19 +20,19 @@ pub record Layers : Type 0 where
   pub backed : OutcomesAreBacked
 
 pub world_premises : (l : Layers) (hosts : Hosts) (u : World) → HaveOwnAddresses hosts → Reached hosts u → WorldPremises hosts u
-world_premises l hosts u few reached = record {
-  laws = world_laws hosts u few reached;
+world_premises l hosts u distinct reached = record {
+  laws = world_laws hosts u distinct reached;
   moves = l.moves;
   tells = l.tells;
-  knowing = l.known.reached hosts u few reached;
-  prepared = l.kept.prepared hosts u few reached;
-  read_only = l.kept.read_only hosts u few reached;
+  knowing = l.known.reached hosts u distinct reached;
+  prepared = l.kept.prepared hosts u distinct reached;
+  read_only = l.kept.read_only hosts u distinct reached;
 }
 
 pub step_premises : (l : Layers) (hosts : Hosts) (u : World) (n : ℕ) (x : Node) (b : Book) (e : Event) → HaveOwnAddresses hosts → Reached hosts u → nth n u.nodes ≡ Some x → x.book ≡ Some b → Heard u n x e
     → StepPremises hosts u n x b e
-step_premises l hosts u n x b e few reached found up heard = record {
-  world = world_premises l hosts u few reached;
+step_premises l hosts u n x b e distinct reached found up heard = record {
+  world = world_premises l hosts u distinct reached;
   found = found;
   up = up;
   heard = heard;

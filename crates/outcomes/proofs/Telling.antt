@@ -138,7 +138,7 @@ known_root hosts u n x b e p id has = by_test (is_decided_root (transaction_at b
 
     by_test : (c k : Bool) → is_decided_root (transaction_at b id) ≡ c → is_kept id b.outcomes ≡ k → (c || k) ≡ true → IsCommittedRoot u n id
     by_test true k f g h = stands (transaction_at b id) refl f
-    by_test false true f g h = kept_root hosts u p.world.laws.few p.world.laws.reached n x b p.found p.up id g
+    by_test false true f g h = kept_root hosts u p.world.laws.distinct p.world.laws.reached n x b p.found p.up id g
     by_test false false f g h = absurd cc
 
 -- an initiator that asks again

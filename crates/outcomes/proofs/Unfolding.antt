@@ -197,38 +197,38 @@ opening_working hosts x = by_node (nth x.node (opening hosts).nodes) refl
     by_node o e = ap (λ c. if c then Status.Prepared else Status.Working) (ap (votes_in x.id) e ∙ none_voted o e)
 
 premises_of : (hosts : Hosts) (w : World) → HaveOwnAddresses hosts → Reached hosts w → WorldPremises hosts w × IsBound w
-premises_of hosts w few reached = (world_premises layers hosts w few reached, bound hosts w few reached)
+premises_of hosts w distinct reached = (world_premises layers hosts w distinct reached, bound hosts w distinct reached)
 
 -- every reached world
 pub unfolds : (hosts : Hosts) (w : World) (root : Who) → HaveOwnAddresses hosts → Reached hosts w → Unfolds hosts root w
-unfolds hosts w root few (opened is) = begins (λ x. ap (λ (v : World). status_of v x) is ∙ opening_working hosts x)
-unfolds hosts w root few (stepped u n x b e now landed ps reached found up heard those is) =
+unfolds hosts w root distinct (opened is) = begins (λ x. ap (λ (v : World). status_of v x) is ∙ opening_working hosts x)
+unfolds hosts w root distinct (stepped u n x b e now landed ps reached found up heard those is) =
     subst (Unfolds hosts root) (sym is)
     (posts_unfold hosts root n (λ q. IsIn (outs.Post q) (step b e now landed).outs) ps (counts u n x b e now landed) those
-    (λ qs these. premises_of hosts (post_all n qs (counts u n x b e now landed)) few (stepped u n x b e now landed qs reached found up heard these refl))
-    (goes u (unfolds hosts u root few reached)
+    (λ qs these. premises_of hosts (post_all n qs (counts u n x b e now landed)) distinct (stepped u n x b e now landed qs reached found up heard these refl))
+    (goes u (unfolds hosts u root distinct reached)
     (machine_step hosts u (counts u n x b e now landed) root (grows_counts u n x b e now landed found) after.0 after.1
-    (votes_first hosts u n x b e now landed (step_premises layers hosts u n x b e few reached found up heard) (outcomes_are_backed.reached hosts u few reached))
-    (λ y i c. none_joins hosts u n x b e now landed (step_premises layers hosts u n x b e few reached found up heard) after.0 after.1 y root i c))))
+    (votes_first hosts u n x b e now landed (step_premises layers hosts u n x b e distinct reached found up heard) (outcomes_are_backed.reached hosts u distinct reached))
+    (λ y i c. none_joins hosts u n x b e now landed (step_premises layers hosts u n x b e distinct reached found up heard) after.0 after.1 y root i c))))
   where
     after : WorldPremises hosts (counts u n x b e now landed) × IsBound (counts u n x b e now landed)
-    after = premises_of hosts (counts u n x b e now landed) few (stepped u n x b e now landed [] reached found up heard tt refl)
-unfolds hosts w root few (fell u n x b reached found up is) =
-    let k : WorldPremises hosts (goes_down n b u) × IsBound (goes_down n b u) = premises_of hosts (goes_down n b u) few (fell u n x b reached found up refl) in
+    after = premises_of hosts (counts u n x b e now landed) distinct (stepped u n x b e now landed [] reached found up heard tt refl)
+unfolds hosts w root distinct (fell u n x b reached found up is) =
+    let k : WorldPremises hosts (goes_down n b u) × IsBound (goes_down n b u) = premises_of hosts (goes_down n b u) distinct (fell u n x b reached found up refl) in
     subst (Unfolds hosts root) (sym is)
-    (goes u (unfolds hosts u root few reached)
+    (goes u (unfolds hosts u root distinct reached)
     (machine_step hosts u (goes_down n b u) root (grows_falls u n x b found) k.0 k.1 (λ y c. inl (commits_before u n x b found y c))
     (λ y i c. of_same u (goes_down n b u) y root (ap (λ (v : World). v.accepted) (ap (put_book n None (record u { happened = u.happened ++ lost_in n b })) found)) i)))
-unfolds hosts w root few (rose u n x stop reached found down_now small is) =
+unfolds hosts w root distinct (rose u n x stop reached found down_now least is) =
     let v : World = record u { nodes = put_nth n (up_after (started (last_incarnation x.journal + 1) x) stop) u.nodes } in
-    let k : WorldPremises hosts v × IsBound v = premises_of hosts v few (rose u n x stop reached found down_now small refl) in
+    let k : WorldPremises hosts v × IsBound v = premises_of hosts v distinct (rose u n x stop reached found down_now least refl) in
     subst (Unfolds hosts root) (sym is)
-    (goes u (unfolds hosts u root few reached) (machine_step hosts u v root (grows_rises u n x stop found) k.0 k.1 (λ y c. inl c) (λ y i c. of_same u v y root refl i)))
-unfolds hosts w root few (waited u n x clock reached found is) =
+    (goes u (unfolds hosts u root distinct reached) (machine_step hosts u v root (grows_rises u n x stop found) k.0 k.1 (λ y c. inl c) (λ y i c. of_same u v y root refl i)))
+unfolds hosts w root distinct (waited u n x clock reached found is) =
     let v : World = record u { nodes = put_nth n (record x { clock = clock }) u.nodes } in
-    let k : WorldPremises hosts v × IsBound v = premises_of hosts v few (waited u n x clock reached found refl) in
+    let k : WorldPremises hosts v × IsBound v = premises_of hosts v distinct (waited u n x clock reached found refl) in
     subst (Unfolds hosts root) (sym is)
-    (goes u (unfolds hosts u root few reached) (machine_step hosts u v root (grows_waits u n x clock found) k.0 k.1 (λ y c. inl c) (λ y i c. of_same u v y root refl i)))
+    (goes u (unfolds hosts u root distinct reached) (machine_step hosts u v root (grows_waits u n x clock found) k.0 k.1 (λ y c. inl c) (λ y i c. of_same u v y root refl i)))
 
 pub runs_commit_atomically : RunsCommitAtomically
 runs_commit_atomically = record { runs = λ hosts es root few. unfolds hosts (run_of hosts es) root few (run_reached hosts es); consistent = consistent }

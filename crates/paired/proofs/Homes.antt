@@ -121,7 +121,7 @@ response_home hosts u n x b e now landed s p to c m i kind goes leads (names_sea
     let h : Held hosts (counts u n x b e now landed) n d.gives.transaction = held_after hosts u n x b e now landed s d in
     let place : IsPlaced hosts (accepted_as q) = seat_placed hosts (counts u n x b e now landed) n d.gives.transaction q h sits in
     let id_is : d.gives.transaction.id ≡ d.old.id = keeps_id (moment_of b now) d.arrived d.request d.old d.gives d.enrolls in
-    let (least, most) = node_range hosts u s.small s.reached n x s.found in
+    let (least, most) = node_range hosts u s.distinct s.reached n x s.found in
     record {
       transaction = record { node = n; id = d.old.id };
       number = q.number;
@@ -129,7 +129,7 @@ response_home hosts u n x b e now landed s p to c m i kind goes leads (names_sea
       least = place.least;
       most = place.most;
       is = written
-          ∙ (λ r'. endpoint_of ((up_known hosts u s.small s.reached n x b s.found s.up).says.base_is r')
+          ∙ (λ r'. endpoint_of ((up_known hosts u s.distinct s.reached n x b s.found s.up).says.base_is r')
           (targets.Coordinator d.old.id (record { number = q.number; kind = (is ∙ sym same) r' })));
     }
 response_home hosts u n x b e now landed s p to c m i kind goes leads (names_completion d y protocol there who is reply) =
@@ -148,7 +148,7 @@ answers_home hosts = record {
 
 answer_home : (hosts : Hosts) (w : World) → HaveOwnAddresses hosts → Reached hosts w → (p : Posted) → IsIn p w.posted → AnswersHome hosts p
 unfolding answers_home
-answer_home hosts w small reached p i = one_has hosts small (answers_home hosts) w reached p i
+answer_home hosts w distinct reached p i = one_has hosts distinct (answers_home hosts) w reached p i
 
 -- a RegisterResponse that came to a participant names a seat
 abbrev Answered : Hosts → Event → Type 0
@@ -157,7 +157,7 @@ Answered hosts e = (a : Arrived) (c : Epr) (i : Numbers) (kind : Kind) → e ≡
 answered : (hosts : Hosts) (u : World) (n : ℕ) (x : Node) (b : Book) (e : Event) (now : ℕ) (landed : Bool) → Stepping hosts u n x b e now landed → Answered hosts e
 answered hosts u n x b e now landed s a c i kind came says target =
     let h : HasCome hosts u n a = has_come hosts u n x b e now landed a s came in
-    answer_home hosts u s.small s.reached h.posted h.stands h.to c n i kind h.sent (h.message ∙ says) (h.leads ∙ (λ j. Some (n, target j)))
+    answer_home hosts u s.distinct s.reached h.posted h.stands h.to c n i kind h.sent (h.message ∙ says) (h.leads ∙ (λ j. Some (n, target j)))
 
 -- transactions
 after_home : (hosts : Hosts) (e : Event) (t : Transaction) (how : How) (olds news : List Enlistment) → AreSeatsAfter e t how olds news → SeatsHome hosts olds → SeatsHome hosts news
@@ -262,10 +262,10 @@ pub register_home : (hosts : Hosts) (u : World) (n : ℕ) (x : Node) (b : Book) 
 register_home hosts u n x b e now landed a r kind s came says protocol =
     let h : HasCome hosts u n a = has_come hosts u n x b e now landed a s came in
     let p : Posted = h.posted in
-    let own = registers_named hosts u s.small s.reached p r h.stands (h.message ∙ says) in
+    let own = registers_named hosts u s.distinct s.reached p r h.stands (h.message ∙ says) in
     let (i, is) = for_kind own.own own.id r.protocol kind own.registers protocol in
     let (y, there, drawn) = own.known.1 in
-    let (least, most) = node_range hosts u s.small s.reached p.sender y there in
+    let (least, most) = node_range hosts u s.distinct s.reached p.sender y there in
     record {
       who = record { node = p.sender; id = i };
       place = record { least = least; most = most; id = subst IsId (id_of own.own own.id r.protocol kind i own.registers is) own.known.0 };
@@ -347,9 +347,9 @@ homes hosts = record {
 pub transactions_home : (hosts : Hosts) (w : World) → HaveOwnAddresses hosts → Reached hosts w → (n : ℕ) (x : Node) (b : Book) → nth n w.nodes ≡ Some x → x.book ≡ Some b
     → AllByRecursion (TransactionHome hosts) b.transactions
 unfolding homes
-transactions_home hosts w small reached n x b found up = (books_have hosts small (homes hosts) w reached n x b found up).transactions
+transactions_home hosts w distinct reached n x b found up = (books_have hosts distinct (homes hosts) w reached n x b found up).transactions
 
 pub leaves_home : (hosts : Hosts) (w : World) → HaveOwnAddresses hosts → Reached hosts w → (n : ℕ) (x : Node) (b : Book) → nth n w.nodes ≡ Some x → x.book ≡ Some b
     → AllByRecursion (LeafHome hosts) b.leaves
 unfolding homes
-leaves_home hosts w small reached n x b found up = (books_have hosts small (homes hosts) w reached n x b found up).leaves
+leaves_home hosts w distinct reached n x b found up = (books_have hosts distinct (homes hosts) w reached n x b found up).leaves

@@ -51,13 +51,13 @@ HasOneSeat w = (t x : Who) (kind : Kind) (k j : ℕ) → HasSeat w t k kind x �
 
 -- whom a participant's endpoint leads to
 pub home_is : (hosts : Hosts) (kind : Kind) (e : Epr) (x : Who) → HaveOwnAddresses hosts → IsParticipant hosts kind e → who_named hosts e ≡ Some x → e ≡ participant_of hosts x kind
-home_is hosts kind e x small h named =
+home_is hosts kind e x distinct h named =
     h.is ∙ ap (λ y. participant_of hosts y kind) (same h.who x (sym leads ∙ named))
   where
     leads : who_named hosts e ≡ Some h.who
     leads =
         ap (who_named hosts) h.is
-        ∙ (λ i. who_at (leads_home hosts h.who.node (targets.Participant h.who.id kind) small h.place.least h.place.most h.place.id i))
+        ∙ (λ i. who_at (leads_home hosts h.who.node (targets.Participant h.who.id kind) distinct h.place.least h.place.most h.place.id i))
 
     same : (y z : Who) → Some y ≡ Some z → y ≡ z
     same y z f = cc
@@ -238,8 +238,8 @@ same_seat p q e = cc
 
 taken_by : (hosts : Hosts) (n : ℕ) (b : Book) (old by : Transaction) (t x : Who) (number : ℕ) (kind : Kind) → HaveOwnAddresses hosts → transaction_at b by.id ≡ Some old → t ≡ record { node = n; id = by.id }
     → IsFurther hosts old by → IsIn (registration t number kind x) (entries hosts n by.id (drop (length old.seats) by.seats)) → IsTaken hosts n b t number kind x
-taken_by hosts n b old by t x number kind small found who (inl none) i = absurd (subst (λ (ss : List Enlistment). IsIn (registration t number kind x) (entries hosts n by.id ss)) none i)
-taken_by hosts n b old by t x number kind small found who (inr h) i =
+taken_by hosts n b old by t x number kind distinct found who (inl none) i = absurd (subst (λ (ss : List Enlistment). IsIn (registration t number kind x) (entries hosts n by.id ss)) none i)
+taken_by hosts n b old by t x number kind distinct found who (inr h) i =
     by_one (subst (λ (ss : List Enlistment). IsIn (registration t number kind x) (entries hosts n by.id ss)) (ap (drop (length old.seats)) h.seats ∙ behind_all old.seats (new_seat old h.participant h.kind ∷ [])) i)
   where
     by_one : IsIn (registration t number kind x) (entries hosts n by.id (new_seat old h.participant h.kind ∷ [])) → IsTaken hosts n b t number kind x
@@ -249,7 +249,7 @@ taken_by hosts n b old by t x number kind small found who (inr h) i =
         same_seat (record { number = number; kind = kind }) (record { number = length old.seats + 1; kind = h.kind }) (ap (λ (a : Accepted). a.seat) e) in
         let k : h.kind ≡ kind = sym (ap (λ (z : Seat). z.kind) seat) in
         let is : h.participant ≡ participant_of hosts x kind =
-        home_is hosts kind h.participant x small (subst (λ d. IsParticipant hosts d h.participant) k h.home) (sym (ap (λ (a : Accepted). a.participant) e)) in
+        home_is hosts kind h.participant x distinct (subst (λ d. IsParticipant hosts d h.participant) k h.home) (sym (ap (λ (a : Accepted). a.participant) e)) in
         record {
           old = old;
           found = ap (λ (y : Who). transaction_at b y.id) who ∙ found;
@@ -269,25 +269,25 @@ is_taken hosts u n y b e now landed t x number kind s i = by_old (transaction_at
     k : IsNew n (new_nodes hosts.base_of hosts.count 1) b news (registration t number kind x)
     k =
         is_new n (new_nodes hosts.base_of hosts.count 1) b news (registration t number kind x)
-        (subst (IsIn (registration t number kind x)) (accepted_same n u.nodes (new_nodes hosts.base_of hosts.count 1) b news (world_bases hosts u s.small s.reached)) i)
+        (subst (IsIn (registration t number kind x)) (accepted_same n u.nodes (new_nodes hosts.base_of hosts.count 1) b news (world_bases hosts u s.distinct s.reached)) i)
 
     by_old : (o : Option Transaction) → transaction_at b k.by.id ≡ o → IsIn (registration t number kind x) (accepted_by n (new_nodes hosts.base_of hosts.count 1) o k.by) → IsTaken hosts n b t number kind x
     by_old None f j = absurd j
     by_old (Some old) f j =
-        taken_by hosts n b old k.by t x number kind s.small f (of_transaction n (new_nodes hosts.base_of hosts.count 1) (Some old) k.by (registration t number kind x) j)
+        taken_by hosts n b old k.by t x number kind s.distinct f (of_transaction n (new_nodes hosts.base_of hosts.count 1) (Some old) k.by (registration t number kind x) j)
         (one_of (Further hosts b) news k.by (all_further hosts u n y b e now landed s) k.among old f)
         (at_further_seat hosts n old k.by (registration t number kind x) (record { number = number; kind = kind }) j refl)
 
 -- the participant had no registration with this transaction
 none_before : (hosts : Hosts) (u : World) (n : ℕ) (y : Node) (b : Book) (t x : Who) (number other : ℕ) (kind : Kind) → HaveOwnAddresses hosts → Reached hosts u → nth n u.nodes ≡ Some y → y.book ≡ Some b
     → IsTaken hosts n b t number kind x → HasSeat u t other kind x → ⊥
-none_before hosts u n y b t x number other kind small reached found up k i =
+none_before hosts u n y b t x number other kind distinct reached found up k i =
     one_of (λ (s : Enlistment). s.kind ≡ kind → s.participant ≡ participant_of hosts x kind → ⊥) k.old.seats r.seat k.apart r.among r.kind_is
-    (home_is hosts kind r.seat.participant x small
+    (home_is hosts kind r.seat.participant x distinct
     (subst (λ d. IsParticipant hosts d r.seat.participant) r.kind_is
     (one_of (λ (s : Enlistment). IsParticipant hosts s.kind s.participant) k.old.seats r.seat
     (one_of (λ (z : Transaction). AllByRecursion (λ s. IsParticipant hosts s.kind s.participant) z.seats) b.transactions k.old
-    (all_more _ _ b.transactions (λ z h. h.0) (transactions_home hosts u small reached n y b found up)) among) r.among))
+    (all_more _ _ b.transactions (λ z h. h.0) (transactions_home hosts u distinct reached n y b found up)) among) r.among))
     r.named)
   where
     among : IsIn k.old b.transactions
@@ -302,8 +302,8 @@ none_before hosts u n y b t x number other kind small reached found up k i =
     r : SeatOf hosts k.old.seats other kind x
     r =
         seat_of hosts n k.old.id k.old.seats other kind x
-        (subst (IsIn (registration (record { node = n; id = k.old.id }) other kind x)) (seats_same n u.nodes (new_nodes hosts.base_of hosts.count 1) k.old.id k.old.seats (world_bases hosts u small reached))
-        ((world_seated hosts u small reached).complete n y b k.old found up among k.undecided (registration (record { node = n; id = k.old.id }) other kind x) (record { number = other; kind = kind })
+        (subst (IsIn (registration (record { node = n; id = k.old.id }) other kind x)) (seats_same n u.nodes (new_nodes hosts.base_of hosts.count 1) k.old.id k.old.seats (world_bases hosts u distinct reached))
+        ((world_seated hosts u distinct reached).complete n y b k.old found up among k.undecided (registration (record { node = n; id = k.old.id }) other kind x) (record { number = other; kind = kind })
         (subst (λ z. HasSeat u z other kind x) who i) refl refl))
 
 step_one_seat : (hosts : Hosts) (u : World) (n : ℕ) (y : Node) (b : Book) (e : Event) (now : ℕ) (landed : Bool) → Stepping hosts u n y b e now landed → HasOneSeat u
@@ -316,20 +316,20 @@ step_one_seat hosts u n y b e now landed s h t x kind k j i l =
 
     by_both : IsIn (registration t k kind x) u.accepted ⊎ IsIn (registration t k kind x) news → IsIn (registration t j kind x) u.accepted ⊎ IsIn (registration t j kind x) news → k ≡ j
     by_both (inl p) (inl q) = h t x kind k j p q
-    by_both (inl p) (inr q) = absurd (none_before hosts u n y b t x j k kind s.small s.reached s.found s.up (is_taken hosts u n y b e now landed t x j kind s q) p)
-    by_both (inr p) (inl q) = absurd (none_before hosts u n y b t x k j kind s.small s.reached s.found s.up (is_taken hosts u n y b e now landed t x k kind s p) q)
+    by_both (inl p) (inr q) = absurd (none_before hosts u n y b t x j k kind s.distinct s.reached s.found s.up (is_taken hosts u n y b e now landed t x j kind s q) p)
+    by_both (inr p) (inl q) = absurd (none_before hosts u n y b t x k j kind s.distinct s.reached s.found s.up (is_taken hosts u n y b e now landed t x k kind s p) q)
     by_both (inr p) (inr q) =
         let one : IsTaken hosts n b t k kind x = is_taken hosts u n y b e now landed t x k kind s p in
         let other : IsTaken hosts n b t j kind x = is_taken hosts u n y b e now landed t x j kind s q in
         one.least ∙ ap (λ (z : Transaction). length z.seats + 1) (same_found (transaction_at b t.id) one.old other.old one.found other.found) ∙ sym other.least
 
 seated_once : (hosts : Hosts) → HaveOwnAddresses hosts → Law hosts
-seated_once hosts small = record {
+seated_once hosts distinct = record {
   Good = HasOneSeat;
   Fine = λ w g n p. Unit {0};
   opens = λ t x kind k j i. absurd i;
   steps = λ u n x b e now landed reached found up heard h. (
-    step_one_seat hosts u n x b e now landed (record { small = small; reached = reached; found = found; up = up; heard = heard }) h,
+    step_one_seat hosts u n x b e now landed (record { distinct = distinct; reached = reached; found = found; up = up; heard = heard }) h,
     out_unit (step b e now landed).outs,
   );
   posts = λ w h n p f. h;
@@ -341,4 +341,4 @@ seated_once hosts small = record {
 
 pub one_seat : (hosts : Hosts) (w : World) → HaveOwnAddresses hosts → Reached hosts w → HasOneSeat w
 unfolding seated_once
-one_seat hosts w small reached = holds hosts (seated_once hosts small) w reached
+one_seat hosts w distinct reached = holds hosts (seated_once hosts distinct) w reached

@@ -35,32 +35,32 @@ use Rattle.paired.proofs.OneSeat.{home_is, one_seat}
 -- what is accepted at a seat
 seat_accepted : (hosts : Hosts) (w : World) → HaveOwnAddresses hosts → Reached hosts w → (n : ℕ) (x : Node) (b : Book) (t : Transaction) (s : Enlistment) → nth n w.nodes ≡ Some x → x.book ≡ Some b
     → IsIn t b.transactions → IsIn s t.seats → IsIn (accepted_seat n w.nodes t.id s) w.accepted
-seat_accepted hosts w small reached n x b t s found up i j =
+seat_accepted hosts w distinct reached n x b t s found up i j =
     one_of (λ (q : Enlistment). IsIn (accepted_seat n w.nodes t.id q) w.accepted) t.seats s
-    (one_of (IsEnlisted w n) b.transactions t ((world_laws hosts w small reached).seated.enlisted n x b found up) i).0 j
+    (one_of (IsEnlisted w n) b.transactions t ((world_laws hosts w distinct reached).seated.enlisted n x b found up) i).0 j
 
 seat_home : (hosts : Hosts) (w : World) → HaveOwnAddresses hosts → Reached hosts w → (n : ℕ) (x : Node) (b : Book) (t : Transaction) (s : Enlistment) → nth n w.nodes ≡ Some x → x.book ≡ Some b
     → IsIn t b.transactions → IsIn s t.seats → IsParticipant hosts s.kind s.participant
-seat_home hosts w small reached n x b t s found up i j =
-    one_of (λ (q : Enlistment). IsParticipant hosts q.kind q.participant) t.seats s (one_of (TransactionHome hosts) b.transactions t (transactions_home hosts w small reached n x b found up) i).0 j
+seat_home hosts w distinct reached n x b t s found up i j =
+    one_of (λ (q : Enlistment). IsParticipant hosts q.kind q.participant) t.seats s (one_of (TransactionHome hosts) b.transactions t (transactions_home hosts w distinct reached n x b found up) i).0 j
 
 seat_is : (hosts : Hosts) (w : World) → HaveOwnAddresses hosts → Reached hosts w → (n : ℕ) (x : Node) (b : Book) (t : Transaction) (s : Enlistment) (y : Who) → nth n w.nodes ≡ Some x → x.book ≡ Some b
     → IsIn t b.transactions → IsIn s t.seats → HasSeat w (record { node = n; id = t.id }) s.number s.kind y → s.participant ≡ participant_of hosts y s.kind
-seat_is hosts w small reached n x b t s y found up i j h =
+seat_is hosts w distinct reached n x b t s y found up i j h =
     let same : accepted_seat n w.nodes t.id s ≡ registration (record { node = n; id = t.id }) s.number s.kind y =
-    (world_laws hosts w small reached).seated.one_each (accepted_seat n w.nodes t.id s) (registration (record { node = n; id = t.id }) s.number s.kind y) (record { number = s.number; kind = s.kind })
-    (record { number = s.number; kind = s.kind }) (seat_accepted hosts w small reached n x b t s found up i j) h refl refl refl refl in
-    home_is hosts s.kind s.participant y small (seat_home hosts w small reached n x b t s found up i j)
-    (sym (who_same w.nodes (new_nodes hosts.base_of hosts.count 1) s.participant (world_bases hosts w small reached)) ∙ ap (λ (a : Accepted). a.participant) same)
+    (world_laws hosts w distinct reached).seated.one_each (accepted_seat n w.nodes t.id s) (registration (record { node = n; id = t.id }) s.number s.kind y) (record { number = s.number; kind = s.kind })
+    (record { number = s.number; kind = s.kind }) (seat_accepted hosts w distinct reached n x b t s found up i j) h refl refl refl refl in
+    home_is hosts s.kind s.participant y distinct (seat_home hosts w distinct reached n x b t s found up i j)
+    (sym (who_same w.nodes (new_nodes hosts.base_of hosts.count 1) s.participant (world_bases hosts w distinct reached)) ∙ ap (λ (a : Accepted). a.participant) same)
 
 seat_has : (hosts : Hosts) (w : World) → HaveOwnAddresses hosts → Reached hosts w → (n : ℕ) (x : Node) (b : Book) (t : Transaction) (s : Enlistment) (y : Who) → nth n w.nodes ≡ Some x → x.book ≡ Some b
     → IsIn t b.transactions → IsIn s t.seats → IsPlace hosts y → s.participant ≡ participant_of hosts y s.kind → HasSeat w (record { node = n; id = t.id }) s.number s.kind y
-seat_has hosts w small reached n x b t s y found up i j place is =
+seat_has hosts w distinct reached n x b t s y found up i j place is =
     let named : who_of w.nodes s.participant ≡ Some y =
-    who_same w.nodes (new_nodes hosts.base_of hosts.count 1) s.participant (world_bases hosts w small reached) ∙ ap (who_named hosts) is
-    ∙ (λ r. who_at (leads_home hosts y.node (targets.Participant y.id s.kind) small place.least place.most place.id r)) in
+    who_same w.nodes (new_nodes hosts.base_of hosts.count 1) s.participant (world_bases hosts w distinct reached) ∙ ap (who_named hosts) is
+    ∙ (λ r. who_at (leads_home hosts y.node (targets.Participant y.id s.kind) distinct place.least place.most place.id r)) in
     subst (λ o. IsIn (record { transaction = record { node = n; id = t.id }; seat = Some (record { number = s.number; kind = s.kind }); participant = o }) w.accepted) named
-    (seat_accepted hosts w small reached n x b t s found up i j)
+    (seat_accepted hosts w distinct reached n x b t s found up i j)
 
 -- a coordinator that is known
 same_numbers : (id j : Numbers) (number k : ℕ) (kind : Kind)
@@ -70,10 +70,10 @@ same_numbers id j number k kind e =
     (cc, ap (λ (s : Seat). s.number) seats)
 
 known_has : (hosts : Hosts) (w : World) → HaveOwnAddresses hosts → (c : Epr) (x : Who) (kind : Kind) (h : IsSeat hosts kind c) → Enlists hosts w c x kind → HasSeat w h.transaction h.number kind x
-known_has hosts w small c x kind h k =
+known_has hosts w distinct c x kind h k =
     let T = targets.Coordinator h.transaction.id (record { number = h.number; kind = kind }) in
     let leads : LeadsTo hosts c h.transaction.node T =
-    subst (λ y. LeadsTo hosts y h.transaction.node T) (sym h.is) (leads_home hosts h.transaction.node T small h.place.least h.place.most (h.place.id, h.least, h.most)) in
+    subst (λ y. LeadsTo hosts y h.transaction.node T) (sym h.is) (leads_home hosts h.transaction.node T distinct h.place.least h.place.most (h.place.id, h.least, h.most)) in
     let (id, number, is, accepted) = k h.transaction.node T leads in
     let (same, at) = same_numbers h.transaction.id id h.number number kind is in
     subst (λ i. HasSeat w (record { node = h.transaction.node; id = i }) h.number kind x) (sym same)
@@ -81,36 +81,36 @@ known_has hosts w small c x kind h k =
 
 known_is : (hosts : Hosts) (w : World) → HaveOwnAddresses hosts → Reached hosts w → (c : Epr) (t x : Who) (number : ℕ) (kind : Kind) → IsSeat hosts kind c → Enlists hosts w c x kind → HasSeat w t number kind x
     → c ≡ seat_of hosts t number kind
-known_is hosts w small reached c t x number kind h k i =
-    let j : HasSeat w h.transaction h.number kind x = known_has hosts w small c x kind h k in
-    let who : h.transaction ≡ t = (world_laws hosts w small reached).one x h.transaction t _ _ j i in
+known_is hosts w distinct reached c t x number kind h k i =
+    let j : HasSeat w h.transaction h.number kind x = known_has hosts w distinct c x kind h k in
+    let who : h.transaction ≡ t = (world_laws hosts w distinct reached).one x h.transaction t _ _ j i in
     h.is
     ∙ (λ r. seat_of hosts (who r) h.number kind)
-    ∙ ap (λ m. seat_of hosts t m kind) (one_seat hosts w small reached t x kind h.number number (subst (λ y. HasSeat w y h.number kind x) who j) i)
+    ∙ ap (λ m. seat_of hosts t m kind) (one_seat hosts w distinct reached t x kind h.number number (subst (λ y. HasSeat w y h.number kind x) who j) i)
 
 pub paired : (hosts : Hosts) (w : World) → HaveOwnAddresses hosts → Reached hosts w → IsPaired hosts w
-paired hosts w small reached = record {
-  one_seat = one_seat hosts w small reached;
-  seats = λ n x b t found up i. (one_of (TransactionHome hosts) b.transactions t (transactions_home hosts w small reached n x b found up) i).0;
-  links = λ n x b t kind found up i. (one_of (TransactionHome hosts) b.transactions t (transactions_home hosts w small reached n x b found up) i).1 kind;
-  leaves = λ n x b l found up i. one_of (LeafHome hosts) b.leaves l (leaves_home hosts w small reached n x b found up) i;
-  seat_is = seat_is hosts w small reached;
-  seat_has = seat_has hosts w small reached;
-  known_has = known_has hosts w small;
-  known_is = known_is hosts w small reached;
+paired hosts w distinct reached = record {
+  one_seat = one_seat hosts w distinct reached;
+  seats = λ n x b t found up i. (one_of (TransactionHome hosts) b.transactions t (transactions_home hosts w distinct reached n x b found up) i).0;
+  links = λ n x b t kind found up i. (one_of (TransactionHome hosts) b.transactions t (transactions_home hosts w distinct reached n x b found up) i).1 kind;
+  leaves = λ n x b l found up i. one_of (LeafHome hosts) b.leaves l (leaves_home hosts w distinct reached n x b found up) i;
+  seat_is = seat_is hosts w distinct reached;
+  seat_has = seat_has hosts w distinct reached;
+  known_has = known_has hosts w distinct;
+  known_is = known_is hosts w distinct reached;
 }
 
 -- votes and outcomes
 life_at : (hosts : Hosts) (w : World) → HaveOwnAddresses hosts → Reached hosts w → (n : ℕ) (x : Node) (b : Book) → nth n w.nodes ≡ Some x → x.book ≡ Some b → (id : Numbers)
     → Life x.journal (happened_on n w.happened) id (transaction_at b id) (leaf_at b id)
-life_at hosts w small reached n x b found up id =
-    subst (λ c. Life x.journal (happened_on n w.happened) id (transaction_at c id) (leaf_at c id)) (ap (standing x.base x.journal) up) ((world_laws hosts w small reached).lives n x found id)
+life_at hosts w distinct reached n x b found up id =
+    subst (λ c. Life x.journal (happened_on n w.happened) id (transaction_at c id) (leaf_at c id)) (ap (standing x.base x.journal) up) ((world_laws hosts w distinct reached).lives n x found id)
 
 open_at : (hosts : Hosts) (w : World) → HaveOwnAddresses hosts → Reached hosts w → (n : ℕ) (x : Node) (b : Book) → nth n w.nodes ≡ Some x → x.book ≡ Some b → (t : Transaction) → transaction_at b t.id ≡ Some t
     → may_expire t.phase ≡ true → IsOpen x.journal (happened_on n w.happened) t.id
-open_at hosts w small reached n x b found up t here undecided =
+open_at hosts w distinct reached n x b found up t here undecided =
     is_open x.journal (happened_on n w.happened) t.id t
-    (life_of x.journal (happened_on n w.happened) t.id (transaction_at b t.id) (leaf_at b t.id) t (life_at hosts w small reached n x b found up t.id) here) undecided
+    (life_of x.journal (happened_on n w.happened) t.id (transaction_at b t.id) (leaf_at b t.id) t (life_at hosts w distinct reached n x b found up t.id) here) undecided
 
 promised : (w : World) (n : ℕ) (x : Node) (id : Numbers) → nth n w.nodes ≡ Some x → PromisesNothing id x.journal → HasVoted w (record { node = n; id = id }) → ⊥
 promised w n x id found nothing (r, (y, there, i), vote) =
@@ -118,16 +118,16 @@ promised w n x id found nothing (r, (y, there, i), vote) =
 
 leaf_stands : (hosts : Hosts) (w : World) → HaveOwnAddresses hosts → Reached hosts w → (n : ℕ) (x : Node) (b : Book) → nth n w.nodes ≡ Some x → x.book ≡ Some b → (l : Leaf) → leaf_at b l.id ≡ Some l
     → LeafAlone x.journal (happened_on n w.happened) l.id (transaction_at b l.id) l
-leaf_stands hosts w small reached n x b found up l here =
+leaf_stands hosts w distinct reached n x b found up l here =
     leaf_alone x.journal (happened_on n w.happened) l.id (transaction_at b l.id) l
-    (subst (λ o. Life x.journal (happened_on n w.happened) l.id (transaction_at b l.id) o) here (life_at hosts w small reached n x b found up l.id))
+    (subst (λ o. Life x.journal (happened_on n w.happened) l.id (transaction_at b l.id) o) here (life_at hosts w distinct reached n x b found up l.id))
 
 pub have_votes : (hosts : Hosts) (w : World) → HaveOwnAddresses hosts → Reached hosts w → (n : ℕ) (x : Node) (b : Book) → nth n w.nodes ≡ Some x → x.book ≡ Some b → HaveVotes w n b
-have_votes hosts w small reached n x b found up = record {
-  alone = λ l here. (leaf_stands hosts w small reached n x b found up l here).transaction;
-  undecided = λ t here u. not_ended w n t.id (open_at hosts w small reached n x b found up t here u).unended endings.Committed;
-  unvoted = λ t here u. promised w n x t.id found (open_at hosts w small reached n x b found up t here u).nothing;
-  prepared = λ l here v. by_life l v (leaf_stands hosts w small reached n x b found up l here).life;
+have_votes hosts w distinct reached n x b found up = record {
+  alone = λ l here. (leaf_stands hosts w distinct reached n x b found up l here).transaction;
+  undecided = λ t here u. not_ended w n t.id (open_at hosts w distinct reached n x b found up t here u).unended endings.Committed;
+  unvoted = λ t here u. promised w n x t.id found (open_at hosts w distinct reached n x b found up t here u).nothing;
+  prepared = λ l here v. by_life l v (leaf_stands hosts w distinct reached n x b found up l here).life;
 }
   where
     by_life : (l : Leaf) → HasVoted w (record { node = n; id = l.id }) → LeafLife x.journal (happened_on n w.happened) l.id l → l.state ≡ states.PreparedSuccess

@@ -82,7 +82,7 @@ record IsThis (x : Who) (kind : Kind) (m : ℕ) (i : Numbers) : Type 0 where
   who_is : x ≡ record { node = m; id = i }
 
 is_this : (hosts : Hosts) (kind : Kind) (e : Epr) (m : ℕ) (i : Numbers) → HaveOwnAddresses hosts → (h : IsParticipant hosts kind e) → LeadsTo hosts e m (targets.Participant i kinds.Durable) → IsThis h.who kind m i
-is_this hosts kind e m i small h leads = same h.who.node m h.who.id i kind (sym (leads_participant hosts h.who kind e small h.place h.is) ∙ leads)
+is_this hosts kind e m i distinct h leads = same h.who.node m h.who.id i kind (sym (leads_participant hosts h.who kind e distinct h.place h.is) ∙ leads)
   where
     same : (a b : ℕ) (j k : Numbers) (d : Kind) → ◌≡◌ {A = Option (ℕ × Target)} (Some (a, targets.Participant j d)) (Some (b, targets.Participant k kinds.Durable)) → IsThis (record { node = a; id = j }) d b k
     same a b j k d f =
@@ -118,11 +118,11 @@ from_seat : (hosts : Hosts) (u : World) (n : ℕ) (x : Node) (b : Book) (e : Eve
 from_seat hosts u n x b e now landed s p to m i goes leads says (asks_seat d q sits why from) =
     let h : IsParticipant hosts q.kind q.participant =
     one_of (λ (r : Enlistment). IsParticipant hosts r.kind r.participant) d.old.seats q
-    ((partners_are_paired.paired hosts u s.small s.reached).seats n x b d.old s.found s.up (found_stands transaction_id d.old.id d.old b.transactions d.found)) sits in
+    ((partners_are_paired.paired hosts u s.distinct s.reached).seats n x b d.old s.found s.up (found_stands transaction_id d.old.id d.old b.transactions d.found)) sits in
     let same : q.participant ≡ to = same_end p.to q.participant to from.sent goes in
-    let k : IsThis h.who q.kind m i = is_this hosts q.kind q.participant m i s.small h (subst (λ y. LeadsTo hosts y m (targets.Participant i kinds.Durable)) (sym same) leads) in
+    let k : IsThis h.who q.kind m i = is_this hosts q.kind q.participant m i s.distinct h (subst (λ y. LeadsTo hosts y m (targets.Participant i kinds.Durable)) (sym same) leads) in
     let seat : HasSeat u (record { node = n; id = d.old.id }) q.number q.kind h.who =
-    (partners_are_paired.paired hosts u s.small s.reached).seat_has n x b d.old q h.who s.found s.up (found_stands transaction_id d.old.id d.old b.transactions d.found) sits h.place h.is in
+    (partners_are_paired.paired hosts u s.distinct s.reached).seat_has n x b d.old q h.who s.found s.up (found_stands transaction_id d.old.id d.old b.transactions d.found) sits h.place h.is in
     record {
       id = d.old.id;
       number = q.number;
@@ -136,10 +136,10 @@ from_seat hosts u n x b e now landed s p to m i goes leads says (asks_late_seat 
     let h : Held hosts (counts u n x b e now landed) n d.gives.transaction = held_after hosts u n x b e now landed s d in
     let k : IsParticipant hosts kind d.request.participant =
     one_of (λ (r : Enlistment). IsParticipant hosts r.kind r.participant) d.gives.transaction.seats (new_seat d.old d.request.participant kind)
-    ((partners_are_paired.paired hosts (counts u n x b e now landed) h.small h.reached).seats n h.x h.b d.gives.transaction h.found h.up h.stands) there in
+    ((partners_are_paired.paired hosts (counts u n x b e now landed) h.distinct h.reached).seats n h.x h.b d.gives.transaction h.found h.up h.stands) there in
     let same : d.request.participant ≡ to = same_end p.to d.request.participant to (ap (λ (y : Post). y.to) sent) goes in
     absurd (not_late d.old.phase kind
-    (is_this hosts kind d.request.participant m i s.small k (subst (λ y. LeadsTo hosts y m (targets.Participant i kinds.Durable)) (sym same) leads)).kind_is late)
+    (is_this hosts kind d.request.participant m i s.distinct k (subst (λ y. LeadsTo hosts y m (targets.Participant i kinds.Durable)) (sym same) leads)).kind_is late)
 from_seat hosts u n x b e now landed s p to m i goes leads says (asks_no_seat d id q from at durable none asked who is sent) = absurd cc
 from_seat hosts u n x b e now landed s p to m i goes leads says (asks_completion d from (inl is) knows sent) = absurd cc
 from_seat hosts u n x b e now landed s p to m i goes leads says (asks_completion d from (inr is) knows sent) = absurd cc
@@ -157,7 +157,7 @@ from_seats hosts = record {
 
 goes_from_seat : (hosts : Hosts) (w : World) → HaveOwnAddresses hosts → Reached hosts w → (p : Posted) → IsIn p w.posted → GoesFromSeat hosts w p
 unfolding from_seats
-goes_from_seat hosts w small reached p i = one_has hosts small (from_seats hosts) w reached p i
+goes_from_seat hosts w distinct reached p i = one_has hosts distinct (from_seats hosts) w reached p i
 
 -- Who posted one has asked, or is gone.
 record IsLate (w : World) (n : ℕ) (id : Numbers) : Type 0 where
@@ -385,8 +385,8 @@ unfolding late_law
 posted_late hosts w reached p i = one_of (PostedLate w) w.posted p (holds hosts (late_law hosts) w reached) i
 
 pub prepares_are_behind : (hosts : Hosts) (w : World) → HaveOwnAddresses hosts → Reached hosts w → PreparesAreBehind hosts w
-prepares_are_behind hosts w small reached p to m i among goes leads says =
-    let h : IsOfSeat w p.sender p.content (record { node = m; id = i }) = goes_from_seat hosts w small reached p among to m i goes leads says in
+prepares_are_behind hosts w distinct reached p to m i among goes leads says =
+    let h : IsOfSeat w p.sender p.content (record { node = m; id = i }) = goes_from_seat hosts w distinct reached p among to m i goes leads says in
     record {
       transaction = record { node = p.sender; id = h.id };
       number = h.number;

@@ -155,8 +155,8 @@ base_at (z ∷ xs) (y ∷ ys) n x (h, k) e = by_number (λ f. base_at xs ys (n -
     by_number rest false f = rest f
 
 node_base : (hosts : Hosts) (w : World) → HaveOwnAddresses hosts → Reached hosts w → (n : ℕ) (x : Node) → nth n w.nodes ≡ Some x → x.base ≡ hosts.base_of n
-node_base hosts w small reached n x found =
-    let (y, there, same) = base_at w.nodes (new_nodes hosts.base_of hosts.count 1) n x (world_bases hosts w small reached) found in
+node_base hosts w distinct reached n x found =
+    let (y, there, same) = base_at w.nodes (new_nodes hosts.base_of hosts.count 1) n x (world_bases hosts w distinct reached) found in
     same ∙ ap (λ (v : Node). v.base) (opening_node hosts n y there)
 
 -- A turn on its way.
@@ -190,7 +190,7 @@ counted_stands : (hosts : Hosts) (inv : Invariant hosts) (n k : ℕ) (u : World)
     → nth n u.nodes ≡ Some x → (plan b e now).entry ≡ entry → Reached hosts (newest n x u b) → k ≤ length u.posted → Heard (newest n x u b) n x e → MakesNone e
     → Stays hosts n e before (drop k u.posted) → inv.Of (newest n x u b) before
     → Standing hosts inv n k (counted n (plan b e now).landed (calm (record u { nodes = put_nth n (record x { journal = with_entry entry true x.journal }) u.nodes }) b))
-counted_stands hosts inv n k u x b e now entry before small found entry_is reached passed heard makes stays h = record {
+counted_stands hosts inv n k u x b e now entry before distinct found entry_is reached passed heard makes stays h = record {
   world = post_all n ps begun;
   book = o.book;
   is = send_calm n o.outs begun o.book;
@@ -249,7 +249,7 @@ counted_stands hosts inv n k u x b e now entry before small found entry_is reach
 
     goes : Goes hosts (newest n x u b) v before (drop k v.posted)
     goes = record {
-      small = small;
+      distinct = distinct;
       reached = reached;
       number = n;
       node = record x { book = Some b };
@@ -273,29 +273,29 @@ take_stands : (hosts : Hosts) (inv : Invariant hosts) (n k : ℕ) (u : World) (x
     → Reached hosts (newest n x u b) → k ≤ length u.posted → Heard (newest n x u b) n x e → MakesNone e → Stays hosts n e before (drop k u.posted) → inv.Of (newest n x u b) before
     → Standing hosts inv n k (take_step n (plan b e now) (calm u b))
 unfolding counted_stands
-take_stands hosts inv n k u x b e now before small found reached passed heard makes stays h = by_entry (plan b e now).entry refl
+take_stands hosts inv n k u x b e now before distinct found reached passed heard makes stays h = by_entry (plan b e now).entry refl
   where
     by_entry : (entry : Option Record) → (plan b e now).entry ≡ entry → Standing hosts inv n k (step_by n entry (plan b e now) (calm u b))
     by_entry None f =
         subst (λ xs. Standing hosts inv n k (counted n (plan b e now).landed (calm (record u { nodes = xs }) b))) (put_same n x u.nodes found)
-        (counted_stands hosts inv n k u x b e now None before small found f reached passed heard makes stays h)
+        (counted_stands hosts inv n k u x b e now None before distinct found f reached passed heard makes stays h)
     by_entry (Some entry) f =
         subst (λ w. Standing hosts inv n k (counted n (plan b e now).landed (calm w b))) (sym (ap (with_record n entry u) found))
-        (counted_stands hosts inv n k u x b e now (Some entry) before small found f reached passed heard makes stays h)
+        (counted_stands hosts inv n k u x b e now (Some entry) before distinct found f reached passed heard makes stays h)
 
 -- the due steps
 due_stands : (hosts : Hosts) (inv : Invariant hosts) (n k now : ℕ) (item : Item) (r : Turning) → HaveOwnAddresses hosts → Standing hosts inv n k r → Standing hosts inv n k (due_step n now item r)
-due_stands hosts inv n k now item r small s =
+due_stands hosts inv n k now item r distinct s =
     subst (λ t. Standing hosts inv n k (due_step n now item t)) (sym s.is) (by_due (is_due s.book now item))
   where
     by_due : (c : Bool) → Standing hosts inv n k (if c then take_step n (plan s.book (events.Due item) now) (calm s.world s.book) else calm s.world s.book)
     by_due true =
-        take_stands hosts inv n k s.world s.node s.book (events.Due item) now (drop k s.world.posted) small s.found s.reached s.passed tt tt (λ q i. inl i) s.holds
+        take_stands hosts inv n k s.world s.node s.book (events.Due item) now (drop k s.world.posted) distinct s.found s.reached s.passed tt tt (λ q i. inl i) s.holds
     by_due false = record { world = s.world; book = s.book; is = refl; node = s.node; found = s.found; reached = s.reached; passed = s.passed; holds = s.holds }
 
 dues_stand : (hosts : Hosts) (inv : Invariant hosts) (n k now : ℕ) (items : List Item) (r : Turning) → HaveOwnAddresses hosts → Standing hosts inv n k r → Standing hosts inv n k (due_steps n now items r)
-dues_stand hosts inv n k now [] r small s = s
-dues_stand hosts inv n k now (item ∷ rest) r small s = dues_stand hosts inv n k now rest (due_step n now item r) small (due_stands hosts inv n k now item r small s)
+dues_stand hosts inv n k now [] r distinct s = s
+dues_stand hosts inv n k now (item ∷ rest) r distinct s = dues_stand hosts inv n k now rest (due_step n now item r) distinct (due_stands hosts inv n k now item r distinct s)
 
 -- A world behind a turn.
 pub record After (hosts : Hosts) (inv : Invariant hosts) (k : ℕ) (w : World) : Type 0 where
@@ -309,9 +309,9 @@ turn_after hosts inv n k r s =
     (subst (λ o. After hosts inv k (put_book n (Some s.book) s.world o)) (sym s.found) (record { reached = s.reached; passed = s.passed; holds = s.holds }))
 
 taken_after : (hosts : Hosts) (inv : Invariant hosts) (n k now : ℕ) (p : Plan) (r : Turning) → HaveOwnAddresses hosts → Standing hosts inv n k (take_step n p r) → After hosts inv k (take_turn n now p r)
-taken_after hosts inv n k now p r small s =
+taken_after hosts inv n k now p r distinct s =
     turn_after hosts inv n k (due_steps n now (items_of (take_step n p r).book) (take_step n p r))
-    (dues_stand hosts inv n k now (items_of (take_step n p r).book) (take_step n p r) small s)
+    (dues_stand hosts inv n k now (items_of (take_step n p r).book) (take_step n p r) distinct s)
 
 -- a turn begins with the world as it is
 begins : (w : World) (n : ℕ) (x : Node) (b : Book) → nth n w.nodes ≡ Some x → x.book ≡ Some b → w ≡ newest n x w b
@@ -320,21 +320,21 @@ begins w n x b found up = λ i. record w { nodes = (sym (put_same n x w.nodes fo
 -- a tick
 tick_plan_stands : (hosts : Hosts) (inv : Invariant hosts) (n k : ℕ) (w : World) (x : Node) (b : Book) (now : ℕ) → HaveOwnAddresses hosts → nth n w.nodes ≡ Some x → x.book ≡ Some b → After hosts inv k w
     → Standing hosts inv n k (take_step n (plan b events.Tick now) (calm w b))
-tick_plan_stands hosts inv n k w x b now small found up a =
-    take_stands hosts inv n k w x b events.Tick now (drop k w.posted) small found (subst (Reached hosts) (begins w n x b found up) a.reached) a.passed tt tt (λ q i. inl i)
+tick_plan_stands hosts inv n k w x b now distinct found up a =
+    take_stands hosts inv n k w x b events.Tick now (drop k w.posted) distinct found (subst (Reached hosts) (begins w n x b found up) a.reached) a.passed tt tt (λ q i. inl i)
     (subst (λ (z : World). inv.Of z (drop k w.posted)) (begins w n x b found up) a.holds)
 
 pub tick_after : (hosts : Hosts) (inv : Invariant hosts) (n k : ℕ) (w : World) → HaveOwnAddresses hosts → After hosts inv k w → After hosts inv k (world_step w (Turn n (Tick resend_after) [] None))
 unfolding world_step
-tick_after hosts inv n k w small a = by_node (nth n w.nodes) refl
+tick_after hosts inv n k w distinct a = by_node (nth n w.nodes) refl
   where
     by_book : (x : Node) (o : Option Book) → nth n w.nodes ≡ Some x → x.book ≡ o
         → After hosts inv k (on_book o (λ b. take_turn n (x.clock + resend_after) (plan b events.Tick (x.clock + resend_after)) (calm (ticked n (later resend_after x) w) b)) w)
     by_book x None found up = a
     by_book x (Some b) found up =
         let v : World = ticked n (later resend_after x) w in
-        taken_after hosts inv n k (x.clock + resend_after) (plan b events.Tick (x.clock + resend_after)) (calm v b) small
-        (tick_plan_stands hosts inv n k v (later resend_after x) b (x.clock + resend_after) small (put_this w.nodes n x (later resend_after x) found) up
+        taken_after hosts inv n k (x.clock + resend_after) (plan b events.Tick (x.clock + resend_after)) (calm v b) distinct
+        (tick_plan_stands hosts inv n k v (later resend_after x) b (x.clock + resend_after) distinct (put_this w.nodes n x (later resend_after x) found) up
         (record {
           reached = waited w n x (x.clock + resend_after) a.reached found refl;
           passed = a.passed;
@@ -398,10 +398,10 @@ first_at i (p ∷ ps) k n e = by_receiver p.receiver refl e (λ f. first_at (i +
 arrival_after : (hosts : Hosts) (inv : Invariant hosts) (n k : ℕ) (w : World) (x : Node) (b : Book) (p : Posted) → HaveOwnAddresses hosts → nth n w.nodes ≡ Some x → x.book ≡ Some b → Reached hosts w
     → k ≤ length w.posted → IsIn p w.posted → p.receiver ≡ Some n → MakesNothing p.content.message → inv.Of w (p ∷ drop k w.posted)
     → After hosts inv k (take_turn n x.clock (arrival_plan b x.clock (decoded x.base p.content)) (calm w b))
-arrival_after hosts inv n k w x b p small found up reached passed among to plain h = by_decoded (decoded x.base p.content) refl
+arrival_after hosts inv n k w x b p distinct found up reached passed among to plain h = by_decoded (decoded x.base p.content) refl
   where
     base : x.base ≡ hosts.base_of n
-    base = node_base hosts w small reached n x found
+    base = node_base hosts w distinct reached n x found
 
     now_reached : Reached hosts (newest n x w b)
     now_reached = subst (Reached hosts) (begins w n x b found up) reached
@@ -444,7 +444,7 @@ arrival_after hosts inv n k w x b p small found up reached passed among to plain
 
     arrived : (a : Arrived) → decoded x.base p.content ≡ Some a → a.message ≡ p.content.message → Standing hosts inv n k (take_step n (plan b (events.Arrived a) x.clock) (calm w b))
     arrived a e says =
-        take_stands hosts inv n k w x b (events.Arrived a) x.clock (p ∷ drop k w.posted) small found now_reached passed (p, among, to, e) (subst MakesNothing (sym says) plain) stays now_holds
+        take_stands hosts inv n k w x b (events.Arrived a) x.clock (p ∷ drop k w.posted) distinct found now_reached passed (p, among, to, e) (subst MakesNothing (sym says) plain) stays now_holds
       where
         same_event : (o : Option Arrived) (c d : Arrived) → o ≡ Some c → o ≡ Some d → events.Arrived c ≡ events.Arrived d
         same_event o c d f g = cc
@@ -458,19 +458,19 @@ arrival_after hosts inv n k w x b p small found up reached passed among to plain
         stays q (inr i) = inl i
 
     by_decoded : (o : Option Arrived) → decoded x.base p.content ≡ o → After hosts inv k (take_turn n x.clock (arrival_plan b x.clock o) (calm w b))
-    by_decoded None e = taken_after hosts inv n k x.clock (answer_plan b 500) (calm w b) small (no_answer e)
-    by_decoded (Some a) e = taken_after hosts inv n k x.clock (plan b (events.Arrived a) x.clock) (calm w b) small (arrived a e (decoded_message x.base p.content a e))
+    by_decoded None e = taken_after hosts inv n k x.clock (answer_plan b 500) (calm w b) distinct (no_answer e)
+    by_decoded (Some a) e = taken_after hosts inv n k x.clock (plan b (events.Arrived a) x.clock) (calm w b) distinct (arrived a e (decoded_message x.base p.content a e))
 
 pub delivery_after : (hosts : Hosts) (inv : Invariant hosts) (j k n : ℕ) (w : World) (x : Node) (b : Book) (p : Posted) → HaveOwnAddresses hosts → nth n w.nodes ≡ Some x → x.book ≡ Some b
     → (f : FirstAt (j + 1) (drop j w.posted) k n) → MakesNothing f.post.content.message → After hosts inv j w → After hosts inv k (world_step w (Turn n (Deliver k) [] None))
 unfolding world_step
-delivery_after hosts inv j k n w x b p small found up f plain a =
+delivery_after hosts inv j k n w x b p distinct found up f plain a =
     subst (λ o. After hosts inv k (at_some_node (Turn n (Deliver k) [] None) o w)) (sym found)
     (subst (λ o. After hosts inv k (on_book o (λ c. deliver n x c [] None (nth k w.posted) w) w)) (sym up)
     (subst (λ o. After hosts inv k (deliver n x b [] None o w)) (sym at)
     (subst (λ o. After hosts inv k (if is_receiver n o then take_turn n x.clock (arrival_plan b x.clock (decoded x.base f.post.content)) (calm w b) else w)) (sym f.receiver)
     (subst (λ c. After hosts inv k (if c then take_turn n x.clock (arrival_plan b x.clock (decoded x.base f.post.content)) (calm w b) else w)) (sym (own_number n))
-    (arrival_after hosts inv n k w x b f.post small found up a.reached (nth_within k w.posted f.post at) (is_in_list k f.post w.posted at) f.receiver plain
+    (arrival_after hosts inv n k w x b f.post distinct found up a.reached (nth_within k w.posted f.post at) (is_in_list k f.post w.posted at) f.receiver plain
     (inv.drops w (drop j w.posted) (f.post ∷ drop k w.posted) skipped a.holds))))))
   where
     number : j + (f.behind + 1) ≡ k

@@ -30,28 +30,28 @@ use Rattle.settled.proofs.Meeting.{found_own, leaf_own, shape_at}
 use Rattle.settled.proofs.VotesKept.{NoneRegisters}
 
 -- where it registers
-there : (hosts : Hosts) (w : World) (small : HaveOwnAddresses hosts) (reached : Reached hosts w) (z x : Who) (number : ℕ) (kind : Kind) (e : Epr) → HasSeat w z number kind x
-    → (world_good hosts w small reached).choices x.node x.id ≡ At e → LeadsTo hosts e z.node (targets.Registration z.id)
-there hosts w small reached z x number kind e seat is =
-    let c : IsChosenAt hosts (world_good hosts w small reached).choices z x = chosen_at hosts w small reached z x _ seat in
+there : (hosts : Hosts) (w : World) (distinct : HaveOwnAddresses hosts) (reached : Reached hosts w) (z x : Who) (number : ℕ) (kind : Kind) (e : Epr) → HasSeat w z number kind x
+    → (world_good hosts w distinct reached).choices x.node x.id ≡ At e → LeadsTo hosts e z.node (targets.Registration z.id)
+there hosts w distinct reached z x number kind e seat is =
+    let c : IsChosenAt hosts (world_good hosts w distinct reached).choices z x = chosen_at hosts w distinct reached z x _ seat in
     subst (λ y. LeadsTo hosts y z.node (targets.Registration z.id)) (same_at c.endpoint e (sym c.chosen ∙ is)) c.place
 
-link_there : (hosts : Hosts) (w : World) (small : HaveOwnAddresses hosts) (reached : Reached hosts w) (x : Who) (b : Book) (t : Transaction) (s : Superior) (r : Request) → Holds w x.node b
-    → transaction_at b x.id ≡ Some t → t.superior ≡ Some s → s.request ≡ Some r → (world_good hosts w small reached).choices x.node x.id ≡ At r.registration
-link_there hosts w small reached x b t s r h found under asks =
-    let choices : Numbers → Standing = (world_good hosts w small reached).choices x.node in
+link_there : (hosts : Hosts) (w : World) (distinct : HaveOwnAddresses hosts) (reached : Reached hosts w) (x : Who) (b : Book) (t : Transaction) (s : Superior) (r : Request) → Holds w x.node b
+    → transaction_at b x.id ≡ Some t → t.superior ≡ Some s → s.request ≡ Some r → (world_good hosts w distinct reached).choices x.node x.id ≡ At r.registration
+link_there hosts w distinct reached x b t s r h found under asks =
+    let choices : Numbers → Standing = (world_good hosts w distinct reached).choices x.node in
     subst (λ i. choices i ≡ At r.registration) (found_id transaction_id x.id b.transactions t found)
     (meets_at (choices t.id) (transaction_standing t) r.registration
-    (all_find (λ y. Meets (choices y.id) (transaction_standing y)) transaction_id x.id b.transactions t (up_known hosts w small reached x.node h.node b h.found h.up).says.fits.transactions found)
+    (all_find (λ y. Meets (choices y.id) (transaction_standing y)) transaction_id x.id b.transactions t (up_known hosts w distinct reached x.node h.node b h.found h.up).says.fits.transactions found)
     (ap (λ o. by_request (request_of o)) under ∙ ap by_request asks))
 
-leaf_there : (hosts : Hosts) (w : World) (small : HaveOwnAddresses hosts) (reached : Reached hosts w) (x : Who) (b : Book) (l : Leaf) (r : WorkRequest) → Holds w x.node b
-    → leaf_at b x.id ≡ Some l → l.request ≡ Some r → (world_good hosts w small reached).choices x.node x.id ≡ At r.registration
-leaf_there hosts w small reached x b l r h found asks =
-    let choices : Numbers → Standing = (world_good hosts w small reached).choices x.node in
+leaf_there : (hosts : Hosts) (w : World) (distinct : HaveOwnAddresses hosts) (reached : Reached hosts w) (x : Who) (b : Book) (l : Leaf) (r : WorkRequest) → Holds w x.node b
+    → leaf_at b x.id ≡ Some l → l.request ≡ Some r → (world_good hosts w distinct reached).choices x.node x.id ≡ At r.registration
+leaf_there hosts w distinct reached x b l r h found asks =
+    let choices : Numbers → Standing = (world_good hosts w distinct reached).choices x.node in
     subst (λ i. choices i ≡ At r.registration) (found_id leaf_id x.id b.leaves l found)
     (meets_at (choices l.id) (leaf_standing l) r.registration
-    (all_find (λ y. Meets (choices y.id) (leaf_standing y)) leaf_id x.id b.leaves l (up_known hosts w small reached x.node h.node b h.found h.up).says.fits.leaves found) (ap by_work asks))
+    (all_find (λ y. Meets (choices y.id) (leaf_standing y)) leaf_id x.id b.leaves l (up_known hosts w distinct reached x.node h.node b h.found h.up).says.fits.leaves found) (ap by_work asks))
 
 if_some : {A : Type 0} (o : Option A) → is_none o ≡ false → (a : A) × (o ≡ Some a)
 if_some None e = absurd cc
@@ -63,14 +63,14 @@ link_knows kinds.Volatile s h = h.0
 link_knows kinds.Durable s h = h.1
 
 pub none_registers : (hosts : Hosts) (w : World) → HaveOwnAddresses hosts → Reached hosts w → NoneRouted hosts w → NoneRegisters w
-none_registers hosts w small reached h z x kind number seat = record {
+none_registers hosts w distinct reached h z x kind number seat = record {
   link = λ b t s holds found under state.
       let (r, asks) =
       if_some s.request
       (subst (λ d. LinkKnows s.request d (link_of kind s).coordinator) state
       (link_knows kind s (subst (λ o. StandsUnder t.phase o t.completion) under (shape_at hosts w reached x.node b holds x.id t found).1.1))).1 in
       h.links x.node b t s kind r z.node z.id holds (found_own b x.id t found) under state asks
-      (there hosts w small reached z x number kind r.registration seat (link_there hosts w small reached x b t s r holds found under asks));
+      (there hosts w distinct reached z x number kind r.registration seat (link_there hosts w distinct reached x b t s r holds found under asks));
   leaf = λ b l holds found state.
       by_stand b l holds found state (all_find LeafStands leaf_id x.id b.leaves l (book_ready hosts w reached x.node holds.node b holds.found holds.up).leaves found);
 }
@@ -87,6 +87,6 @@ none_registers hosts w small reached h z x kind number seat = record {
     by_stand : (b : Book) (l : Leaf) → Holds w x.node b → leaf_at b x.id ≡ Some l → l.state ≡ states.Registering → LeafStands l → ⊥
     by_stand b l holds found state (registers r is none asks) =
         h.leaves x.node b l r z.node z.id holds (leaf_own b x.id l found) state asks
-        (there hosts w small reached z x number kind r.registration seat (leaf_there hosts w small reached x b l r holds found asks))
+        (there hosts w distinct reached z x number kind r.registration seat (leaf_there hosts w distinct reached x b l r holds found asks))
     by_stand b l holds found state (works c is knows none) = other l states.Active state is not_active
     by_stand b l holds found state (waits c is knows none vote) = other l states.PreparedSuccess state is not_waiting

@@ -46,9 +46,9 @@ pub comes_voted : (hosts : Hosts) (u v : World) (before after : List Posted) →
     → a.target ≡ targets.Participant x.id kinds.Durable → a.message ≡ messages.Notice notices.Commit → HasVoted u x
 comes_voted hosts u v before after g x a here came target says =
     let h : HasCome hosts u g.number a = has_come hosts u g.number g.node g.book g.event g.now true a (stepping hosts u v before after g) came in
-    votes_are_kept.prepared hosts u g.small g.reached x
+    votes_are_kept.prepared hosts u g.distinct g.reached x
     (subst (λ n. HasPosted u (record { node = n; id = x.id }) kinds.Durable notices.Prepared) (sym here)
-    ((one_of (λ (p : Posted). CommitIsBacked hosts u p.content) u.posted h.posted (outcomes_are_backed.reached hosts u g.small g.reached).commits h.stands h.to g.number x.id kinds.Durable
+    ((one_of (λ (p : Posted). CommitIsBacked hosts u p.content) u.posted h.posted (outcomes_are_backed.reached hosts u g.distinct g.reached).commits h.stands h.to g.number x.id kinds.Durable
     (h.message ∙ says) h.sent (h.leads ∙ (λ i. Some (g.number, target i)))).0))
 
 early_undecided : (p : Phase) (volatile durable : State) → AreIn p volatile durable → IsEarly durable → may_expire p ≡ true
@@ -94,11 +94,11 @@ commit_arrives hosts u v before after g x z number a here came ((target, says), 
         steps_owe_links.links g.book g.event g.now (ready hosts u v before after g) (shaped hosts u v before after g) t s (found_own g.book x.id t found) under in
         by_answer id_is
         (l.1.0 (record { message = a; came = came; target = target ∙ ap (λ i. targets.Participant i kinds.Durable) (sym id_is); says = says }) e
-        (λ early. (partners_are_paired.votes hosts u g.small g.reached x.node holds.node g.book holds.found holds.up).unvoted t (found_own g.book x.id t found)
+        (λ early. (partners_are_paired.votes hosts u g.distinct g.reached x.node holds.node g.book holds.found holds.up).unvoted t (found_own g.book x.id t found)
         (early_undecided t.phase s.volatile.state s.durable.state (linked_at hosts u v before after g x.id t s found under) early)
         (subst (λ i. HasVoted u (record { node = x.node; id = i })) (sym id_is) voted))
         (stored_is s.durable.coordinator a.from e from
-        (λ c knows. link_knows hosts u g.small g.reached x.node g.book holds x.id t kinds.Durable c z number found seat (ap (coordinator_at kinds.Durable) under ∙ knows))))
+        (λ c knows. link_knows hosts u g.distinct g.reached x.node g.book holds x.id t kinds.Durable c z number found seat (ap (coordinator_at kinds.Durable) under ∙ knows))))
       where
         by_answer : t.id ≡ x.id → CommitsIn (superior_left (transaction_at (book_after g) t.id)) ⊎ Tells (Some e) notices.Committed (posted_in g)
             → CommitsAt v x ⊎ Tells (Some e) notices.Committed (posted_in g)
@@ -114,10 +114,10 @@ commit_arrives hosts u v before after g x z number a here came ((target, says), 
         let k : l.kind ≡ kinds.Durable = same_kind l.kind kinds.Durable same in
         inr ((steps_owe_leaves.leaves g.book g.event g.now (ready hosts u v before after g) l (leaf_own g.book x.id l found) (ap (transaction_at g.book) id_is ∙ none)).1.0
         (record { arrived = a; event = came; target = target ∙ (λ i. targets.Participant (sym id_is i) (sym k i)); message = says }) e
-        ((partners_are_paired.votes hosts u g.small g.reached x.node holds.node g.book holds.found holds.up).prepared l (leaf_own g.book x.id l found)
+        ((partners_are_paired.votes hosts u g.distinct g.reached x.node holds.node g.book holds.found holds.up).prepared l (leaf_own g.book x.id l found)
         (subst (λ i. HasVoted u (record { node = x.node; id = i })) (sym id_is) voted))
         (stored_is l.coordinator a.from e from
-        (λ c knows. leaf_knows hosts u g.small g.reached x.node g.book holds x.id l c z number found (subst (λ d. HasSeat u z number d x) (sym k) seat) knows ∙ ap (seat_of hosts z number) k)))
+        (λ c knows. leaf_knows hosts u g.distinct g.reached x.node g.book holds x.id l c z number found (subst (λ d. HasSeat u z number d x) (sym k) seat) knows ∙ ap (seat_of hosts z number) k)))
     by_kind l none found false other =
         stranger (subst (λ o. NoParticipant kinds.Durable o (leaf_at g.book x.id)) (sym none)
         (subst (λ o. IfFound (λ (y : Leaf). is_kind y.kind kinds.Durable ≡ false) o) (sym found) other))
@@ -150,7 +150,7 @@ committing_on hosts u v before after g x z number seat k = by_place (or_elsewher
         let knows : s.durable.coordinator ≡ Some e =
         known_is s.durable.coordinator e
         (subst (λ d. LinkKnows s.request d s.durable.coordinator) commits (subst (λ y. StandsUnder o.phase y o.completion) under (shape_at hosts u g.reached x.node g.book holds x.id o there).1.1).1)
-        (λ c is. link_knows hosts u g.small g.reached x.node g.book holds x.id o kinds.Durable c z number there seat (ap (coordinator_at kinds.Durable) under ∙ is)) in
+        (λ c is. link_knows hosts u g.distinct g.reached x.node g.book holds x.id o kinds.Durable c z number there seat (ap (coordinator_at kinds.Durable) under ∙ is)) in
         still_committing hosts u v before after g x e here
         (subst (λ i. StaysCommitting e (posted_in g) (superior_left (transaction_at (book_after g) i))) id_is (l.1.1.1.0 e commits knows))
 
@@ -171,10 +171,10 @@ commit_on hosts u v before after g n b t s x h found i durable place is unanswer
     z = record { node = n; id = t.id }
 
     seat : HasSeat u z s.number kinds.Durable x
-    seat = subst (λ d. HasSeat u z s.number d x) durable (seat_has hosts u g.small g.reached n b h t s x found i place is)
+    seat = subst (λ d. HasSeat u z s.number d x) durable (seat_has hosts u g.distinct g.reached n b h t s x found i place is)
 
     there : IsSeatPlace hosts z s.number
-    there = seat_place hosts u g.small g.reached n b h t s found i
+    there = seat_place hosts u g.distinct g.reached n b h t s found i
 
     answered : CommitsAt v x ⊎ Tells (Some (seat_of hosts z s.number kinds.Durable)) notices.Committed (posted_in g) → OwesCommitted hosts v after z s.number x
     answered (inl commits) = inr (inr commits)

@@ -35,7 +35,7 @@ use Rattle.settled.specs.Goes.{Goes, HasArrived, posted_as}
 use Rattle.settled.specs.Owed.{Comes, Holds, IsNotice, IsNoticeFrom, IsSeatPlace, seat_target_of}
 
 pub stepping : (hosts : Hosts) (u v : World) (before after : List Posted) → (g : Goes hosts u v before after) → Stepping hosts u g.number g.node g.book g.event g.now true
-stepping hosts u v before after g = record { small = g.small; reached = g.reached; found = g.found; up = g.up; heard = g.heard }
+stepping hosts u v before after g = record { distinct = g.distinct; reached = g.reached; found = g.found; up = g.up; heard = g.heard }
 
 pub ready : (hosts : Hosts) (u v : World) (before after : List Posted) → (g : Goes hosts u v before after) → IsReady g.book
 ready hosts u v before after g = step_ready hosts u g.number g.node g.book g.event g.now true (stepping hosts u v before after g)
@@ -44,7 +44,7 @@ pub shaped : (hosts : Hosts) (u v : World) (before after : List Posted) → (g :
 shaped hosts u v before after g = reached_shaped hosts u g.reached g.number g.node g.book g.found g.up
 
 pub base_is : (hosts : Hosts) (u v : World) (before after : List Posted) → (g : Goes hosts u v before after) → g.book.base ≡ hosts.base_of g.number
-base_is hosts u v before after g = (up_known hosts u g.small g.reached g.number g.node g.book g.found g.up).says.base_is
+base_is hosts u v before after g = (up_known hosts u g.distinct g.reached g.number g.node g.book g.found g.up).says.base_is
 
 -- what is posted
 abbrev pub posted_in : {hosts : Hosts} {u v : World} {before after : List Posted} → Goes hosts u v before after → List Post
@@ -141,7 +141,7 @@ pub new_comes : (hosts : Hosts) (u v : World) (before after : List Posted) → (
 new_comes hosts u v before after g n p to T i goes leads taken = record {
   posted = posted_as g.number u.nodes p;
   waits = g.adds (posted_as g.number u.nodes p) (mapped_in (posted_as g.number u.nodes) p (posted_in g) i);
-  receiver = ap (receiver_of u.nodes) goes ∙ receiver_same u.nodes (new_nodes hosts.base_of hosts.count 1) (Some to) (world_bases hosts u g.small g.reached) ∙ ap (option_map (λ q. q.0)) leads;
+  receiver = ap (receiver_of u.nodes) goes ∙ receiver_same u.nodes (new_nodes hosts.base_of hosts.count 1) (Some to) (world_bases hosts u g.distinct g.reached) ∙ ap (option_map (λ q. q.0)) leads;
   arrived = arrival_of T p;
   decodes = decodes_there hosts n p to T goes leads taken;
   says = refl;
@@ -149,11 +149,11 @@ new_comes hosts u v before after g n p to T i goes leads taken = record {
 
 -- endpoints
 pub leads_participant : (hosts : Hosts) (x : Who) (kind : Kind) (e : Epr) → HaveOwnAddresses hosts → IsPlace hosts x → e ≡ participant_of hosts x kind → LeadsTo hosts e x.node (targets.Participant x.id kind)
-leads_participant hosts x kind e small h is =
-    subst (λ y. LeadsTo hosts y x.node (targets.Participant x.id kind)) (sym is) (leads_home hosts x.node (targets.Participant x.id kind) small h.least h.most h.id)
+leads_participant hosts x kind e distinct h is =
+    subst (λ y. LeadsTo hosts y x.node (targets.Participant x.id kind)) (sym is) (leads_home hosts x.node (targets.Participant x.id kind) distinct h.least h.most h.id)
 
 pub leads_seat : (hosts : Hosts) (t : Who) (number : ℕ) (kind : Kind) → HaveOwnAddresses hosts → IsSeatPlace hosts t number → LeadsTo hosts (seat_of hosts t number kind) t.node (seat_target_of t number kind)
-leads_seat hosts t number kind small h = leads_home hosts t.node (seat_target_of t number kind) small h.place.least h.place.most (h.place.id, h.least, h.most)
+leads_seat hosts t number kind distinct h = leads_home hosts t.node (seat_target_of t number kind) distinct h.place.least h.place.most (h.place.id, h.least, h.most)
 
 -- what participants and seats are told
 abbrev pub AsksParticipant : Notice → Type 0
@@ -179,14 +179,14 @@ pub participant_told : (hosts : Hosts) (u v : World) (before after : List Posted
     → to ≡ participant_of hosts x kind → Tells (Some to) n (posted_in g) → Comes hosts after x.node (IsNotice (targets.Participant x.id kind) n)
 participant_told hosts u v before after g x kind n to asks place is (p, i, goes, says) =
     comes_as hosts after x.node (λ a e. (ap (λ (y : Arrived). y.target) e, ap (λ (y : Arrived). y.message) e ∙ says))
-    (new_comes hosts u v before after g x.node p to (targets.Participant x.id kind) i goes (leads_participant hosts x kind to g.small place is)
+    (new_comes hosts u v before after g x.node p to (targets.Participant x.id kind) i goes (leads_participant hosts x kind to g.distinct place is)
     (ap (takes (targets.Participant x.id kind)) says ∙ takes_asked n x.id kind asks))
 
 pub seat_told : (hosts : Hosts) (u v : World) (before after : List Posted) → (g : Goes hosts u v before after) → (t : Who) (number : ℕ) (kind : Kind) (n : Notice) → AnswersSeat n
     → IsSeatPlace hosts t number → Tells (Some (seat_of hosts t number kind)) n (posted_in g) → Comes hosts after t.node (IsNotice (seat_target_of t number kind) n)
 seat_told hosts u v before after g t number kind n answers place (p, i, goes, says) =
     comes_as hosts after t.node (λ a e. (ap (λ (y : Arrived). y.target) e, ap (λ (y : Arrived). y.message) e ∙ says))
-    (new_comes hosts u v before after g t.node p (seat_of hosts t number kind) (seat_target_of t number kind) i goes (leads_seat hosts t number kind g.small place)
+    (new_comes hosts u v before after g t.node p (seat_of hosts t number kind) (seat_target_of t number kind) i goes (leads_seat hosts t number kind g.distinct place)
     (ap (takes (seat_target_of t number kind)) says ∙ takes_answer n t number kind answers))
 
 -- a seat's own message to its participant
@@ -205,7 +205,7 @@ seat_asks hosts u v before after g id s x notices.Prepare h place is i =
       ap (λ (y : Arrived). y.from) e ∙ ap (λ base. Some (endpoint_of base (seat_target id s))) (base_is hosts u v before after g),
     ))
     (new_comes hosts u v before after g x.node (seat_post g.book.base id s notices.Prepare) s.participant (targets.Participant x.id s.kind) i refl
-    (leads_participant hosts x s.kind s.participant g.small place is) refl)
+    (leads_participant hosts x s.kind s.participant g.distinct place is) refl)
 seat_asks hosts u v before after g id s x notices.Commit h place is i =
     comes_as hosts after x.node
     (λ a e. (
@@ -213,5 +213,5 @@ seat_asks hosts u v before after g id s x notices.Commit h place is i =
       ap (λ (y : Arrived). y.from) e ∙ ap (λ base. Some (endpoint_of base (seat_target id s))) (base_is hosts u v before after g),
     ))
     (new_comes hosts u v before after g x.node (seat_post g.book.base id s notices.Commit) s.participant (targets.Participant x.id s.kind) i refl
-    (leads_participant hosts x s.kind s.participant g.small place is) refl)
+    (leads_participant hosts x s.kind s.participant g.distinct place is) refl)
 seat_asks hosts u v before after g id s x other h place is i = absurd h

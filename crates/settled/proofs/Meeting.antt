@@ -49,16 +49,16 @@ shape_at hosts w reached n b h id t found = all_find IsShaped transaction_id id 
 -- a seat of a transaction of a book
 pub seat_place : (hosts : Hosts) (w : World) → HaveOwnAddresses hosts → Reached hosts w → (n : ℕ) (b : Book) → Holds w n b → (t : Transaction) (s : Enlistment) → transaction_at b t.id ≡ Some t → IsIn s t.seats
     → IsSeatPlace hosts (record { node = n; id = t.id }) s.number
-seat_place hosts w small reached n b h t s found i =
-    let (id, seats) = one_of (TransactionPlaced hosts) b.transactions t (transactions_placed hosts w small reached n h.node b h.found h.up) (in_book b t.id t found) in
-    let (least, most) = node_range hosts w small reached n h.node h.found in
+seat_place hosts w distinct reached n b h t s found i =
+    let (id, seats) = one_of (TransactionPlaced hosts) b.transactions t (transactions_placed hosts w distinct reached n h.node b h.found h.up) (in_book b t.id t found) in
+    let (least, most) = node_range hosts w distinct reached n h.node h.found in
     let p = one_of (λ (q : Enlistment). IsPlaced hosts (accepted_as q)) t.seats s seats i in
     record { place = record { least = least; most = most; id = id }; least = p.least; most = p.most }
 
 pub seat_has : (hosts : Hosts) (w : World) → HaveOwnAddresses hosts → Reached hosts w → (n : ℕ) (b : Book) → Holds w n b → (t : Transaction) (s : Enlistment) (x : Who) → transaction_at b t.id ≡ Some t → IsIn s t.seats
     → IsPlace hosts x → s.participant ≡ participant_of hosts x s.kind → HasSeat w (record { node = n; id = t.id }) s.number s.kind x
-seat_has hosts w small reached n b h t s x found i place is =
-    (partners_are_paired.paired hosts w small reached).seat_has n h.node b t s x h.found h.up (in_book b t.id t found) i place is
+seat_has hosts w distinct reached n b h t s x found i place is =
+    (partners_are_paired.paired hosts w distinct reached).seat_has n h.node b t s x h.found h.up (in_book b t.id t found) i place is
 
 -- the coordinator that a link knows, and that a leaf knows
 if_known : (hosts : Hosts) (kind : Kind) (o : Option Epr) (c : Epr) → o ≡ Some c → IsSeatIfKnown hosts kind o → IsSeat hosts kind c
@@ -69,33 +69,33 @@ if_enlists hosts w o c x kind e h = subst (λ p. EnlistsIfKnown hosts w p x kind
 
 pub link_seat : (hosts : Hosts) (w : World) → HaveOwnAddresses hosts → Reached hosts w → (n : ℕ) (b : Book) → Holds w n b → (id : Numbers) (t : Transaction) (kind : Kind) (c : Epr) → transaction_at b id ≡ Some t
     → coordinator_at kind t.superior ≡ Some c → IsSeat hosts kind c × Enlists hosts w c (record { node = n; id = id }) kind
-link_seat hosts w small reached n b h id t kind c found knows = (
-  if_known hosts kind (coordinator_at kind t.superior) c knows ((partners_are_paired.paired hosts w small reached).links n h.node b t kind h.found h.up (in_book b id t found)),
+link_seat hosts w distinct reached n b h id t kind c found knows = (
+  if_known hosts kind (coordinator_at kind t.superior) c knows ((partners_are_paired.paired hosts w distinct reached).links n h.node b t kind h.found h.up (in_book b id t found)),
   subst (λ i. Enlists hosts w c (record { node = n; id = i }) kind) (found_id transaction_id id b.transactions t found)
       (if_enlists hosts w (coordinator_at kind t.superior) c (record { node = n; id = t.id }) kind knows
-      (one_of (TransactionKnows hosts w n) b.transactions t ((coordinators_are_known.reached hosts w small reached).books n h.node b h.found h.up).transactions (in_book b id t found) kind)),
+      (one_of (TransactionKnows hosts w n) b.transactions t ((coordinators_are_known.reached hosts w distinct reached).books n h.node b h.found h.up).transactions (in_book b id t found) kind)),
 )
 
 pub leaf_seat : (hosts : Hosts) (w : World) → HaveOwnAddresses hosts → Reached hosts w → (n : ℕ) (b : Book) → Holds w n b → (id : Numbers) (l : Leaf) (c : Epr) → leaf_at b id ≡ Some l
     → l.coordinator ≡ Some c → IsSeat hosts l.kind c × Enlists hosts w c (record { node = n; id = id }) l.kind
-leaf_seat hosts w small reached n b h id l c found knows = (
-  if_known hosts l.kind l.coordinator c knows ((partners_are_paired.paired hosts w small reached).leaves n h.node b l h.found h.up (found_stands leaf_id id l b.leaves found)),
+leaf_seat hosts w distinct reached n b h id l c found knows = (
+  if_known hosts l.kind l.coordinator c knows ((partners_are_paired.paired hosts w distinct reached).leaves n h.node b l h.found h.up (found_stands leaf_id id l b.leaves found)),
   subst (λ i. Enlists hosts w c (record { node = n; id = i }) l.kind) (found_id leaf_id id b.leaves l found)
       (if_enlists hosts w l.coordinator c (record { node = n; id = l.id }) l.kind knows
-      (one_of (LeafKnows hosts w n) b.leaves l ((coordinators_are_known.reached hosts w small reached).books n h.node b h.found h.up).leaves (found_stands leaf_id id l b.leaves found))),
+      (one_of (LeafKnows hosts w n) b.leaves l ((coordinators_are_known.reached hosts w distinct reached).books n h.node b h.found h.up).leaves (found_stands leaf_id id l b.leaves found))),
 )
 
 pub link_knows : (hosts : Hosts) (w : World) → HaveOwnAddresses hosts → Reached hosts w → (n : ℕ) (b : Book) → Holds w n b → (id : Numbers) (t : Transaction) (kind : Kind) (c : Epr) (z : Who) (number : ℕ)
     → transaction_at b id ≡ Some t → HasSeat w z number kind (record { node = n; id = id }) → coordinator_at kind t.superior ≡ Some c → c ≡ seat_of hosts z number kind
-link_knows hosts w small reached n b h id t kind c z number found seat knows =
-    let (k, e) = link_seat hosts w small reached n b h id t kind c found knows in
-    (partners_are_paired.paired hosts w small reached).known_is c z (record { node = n; id = id }) number kind k e seat
+link_knows hosts w distinct reached n b h id t kind c z number found seat knows =
+    let (k, e) = link_seat hosts w distinct reached n b h id t kind c found knows in
+    (partners_are_paired.paired hosts w distinct reached).known_is c z (record { node = n; id = id }) number kind k e seat
 
 pub leaf_knows : (hosts : Hosts) (w : World) → HaveOwnAddresses hosts → Reached hosts w → (n : ℕ) (b : Book) → Holds w n b → (id : Numbers) (l : Leaf) (c : Epr) (z : Who) (number : ℕ)
     → leaf_at b id ≡ Some l → HasSeat w z number l.kind (record { node = n; id = id }) → l.coordinator ≡ Some c → c ≡ seat_of hosts z number l.kind
-leaf_knows hosts w small reached n b h id l c z number found seat knows =
-    let (k, e) = leaf_seat hosts w small reached n b h id l c found knows in
-    (partners_are_paired.paired hosts w small reached).known_is c z (record { node = n; id = id }) number l.kind k e seat
+leaf_knows hosts w distinct reached n b h id l c z number found seat knows =
+    let (k, e) = leaf_seat hosts w distinct reached n b h id l c found knows in
+    (partners_are_paired.paired hosts w distinct reached).known_is c z (record { node = n; id = id }) number l.kind k e seat
 
 -- whom an answer goes to
 pub stored_is : (o from : Option Epr) (e : Epr) → from ≡ Some e → ((c : Epr) → o ≡ Some c → c ≡ e) → stored_or o from ≡ Some e

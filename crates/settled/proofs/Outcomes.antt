@@ -102,8 +102,8 @@ seat_keeps hosts u v before after g x z number t q here found i numbered durable
 
 -- the seat of a participant
 pub enlists_has : (hosts : Hosts) (w : World) → HaveOwnAddresses hosts → (x z : Who) (number : ℕ) (kind : Kind) → IsSeatPlace hosts z number → Enlists hosts w (seat_of hosts z number kind) x kind → HasSeat w z number kind x
-enlists_has hosts w small x z number kind place h =
-    let (id, k, is, accepted) = h z.node (seat_target_of z number kind) (leads_seat hosts z number kind small place) in
+enlists_has hosts w distinct x z number kind place h =
+    let (id, k, is, accepted) = h z.node (seat_target_of z number kind) (leads_seat hosts z number kind distinct place) in
     let (same, at) = same_numbers z.id id number k is in
     subst (λ i. HasSeat w (record { node = z.node; id = i }) number kind x) (sym same) (subst (λ m. HasSeat w (record { node = z.node; id = id }) m kind x) (sym at) accepted)
   where
@@ -117,7 +117,7 @@ seat_whose : (hosts : Hosts) (u v : World) (before after : List Posted) → (g :
 seat_whose hosts u v before after g x z number t q here found i numbered durable seat =
     let held : Holds u g.number g.book = holds_before hosts u v before after g in
     let id_is : t.id ≡ z.id = found_id transaction_id z.id g.book.transactions t found in
-    (partners_are_paired.paired hosts u g.small g.reached).seat_is g.number held.node g.book t q x held.found held.up (in_book g.book z.id t found) i
+    (partners_are_paired.paired hosts u g.distinct g.reached).seat_is g.number held.node g.book t q x held.found held.up (in_book g.book z.id t found) i
     (subst (λ k. HasSeat u (record { node = g.number; id = t.id }) q.number k x) (sym durable)
     (subst (λ k. HasSeat u (record { node = g.number; id = t.id }) k kinds.Durable x) (sym numbered)
     (subst (λ j. HasSeat u (record { node = g.number; id = j }) number kinds.Durable x) (sym id_is)
@@ -227,7 +227,7 @@ vote_posted hosts u v before after g id z number to place is i =
       ap (λ (y : Arrived). y.from) e ∙ ap (λ base. Some (endpoint_of base (targets.Participant id kinds.Durable))) (base_is hosts u v before after g),
     ))
     (new_comes hosts u v before after g z.node (notice_post g.book.base (targets.Participant id kinds.Durable) to notices.Prepared) to (seat_target_of z number kinds.Durable) i refl
-    (subst (λ y. LeadsTo hosts y z.node (seat_target_of z number kinds.Durable)) (sym is) (leads_seat hosts z number kinds.Durable g.small place)) refl))
+    (subst (λ y. LeadsTo hosts y z.node (seat_target_of z number kinds.Durable)) (sym is) (leads_seat hosts z number kinds.Durable g.distinct place)) refl))
 
 same_endpoint : (o : Option Epr) (c d : Epr) → o ≡ Some c → o ≡ Some d → c ≡ d
 same_endpoint o c d e f = cc
@@ -235,15 +235,15 @@ same_endpoint o c d e f = cc
 -- who waits stood before
 pub transaction_placed : (hosts : Hosts) (w : World) → HaveOwnAddresses hosts → Reached hosts w → (n : ℕ) (b : Book) → Holds w n b → (id : Numbers) (t : Transaction) → transaction_at b id ≡ Some t
     → IsPlace hosts (record { node = n; id = t.id })
-transaction_placed hosts w small reached n b h id t found =
-    let (least, most) = node_range hosts w small reached n h.node h.found in
-    record { least = least; most = most; id = (one_of (TransactionPlaced hosts) b.transactions t (transactions_placed hosts w small reached n h.node b h.found h.up) (in_book b id t found)).0 }
+transaction_placed hosts w distinct reached n b h id t found =
+    let (least, most) = node_range hosts w distinct reached n h.node h.found in
+    record { least = least; most = most; id = (one_of (TransactionPlaced hosts) b.transactions t (transactions_placed hosts w distinct reached n h.node b h.found h.up) (in_book b id t found)).0 }
 
 pub leaf_placed : (hosts : Hosts) (w : World) → HaveOwnAddresses hosts → Reached hosts w → (n : ℕ) (b : Book) → Holds w n b → (id : Numbers) (l : Leaf) → leaf_at b id ≡ Some l
     → IsPlace hosts (record { node = n; id = l.id })
-leaf_placed hosts w small reached n b h id l found =
-    let (least, most) = node_range hosts w small reached n h.node h.found in
-    record { least = least; most = most; id = one_of (λ (y : Leaf). IsId y.id) b.leaves l (leaves_placed hosts w small reached n h.node b h.found h.up) (found_stands leaf_id id l b.leaves found) }
+leaf_placed hosts w distinct reached n b h id l found =
+    let (least, most) = node_range hosts w distinct reached n h.node h.found in
+    record { least = least; most = most; id = one_of (λ (y : Leaf). IsId y.id) b.leaves l (leaves_placed hosts w distinct reached n h.node b h.found h.up) (found_stands leaf_id id l b.leaves found) }
 
 -- links
 links_here : (hosts : Hosts) (Asked : ℕ → Type 0) (u v : World) (before after : List Posted) → (g : Goes hosts u v before after) → OutcomesAreOwed hosts Asked u before → (t : Transaction) (s : Superior)
@@ -272,9 +272,9 @@ links_here hosts Asked u v before after g h t s z number asked found under state
         ⊎ SaysVote g.book.base o.old.id s.durable.coordinator (posted_in g) → OwesOutcome hosts v after (record { node = g.number; id = o.old.id }) z number
     by_kept y was (inl ((prepared, same), (uncommitted, unrolled))) =
         let known : y.durable.coordinator ≡ Some (seat_of hosts z number kinds.Durable) = sym same ∙ knows in
-        let (seat, enlists) = link_seat hosts u g.small g.reached g.number g.book held o.old.id o.old kinds.Durable (seat_of hosts z number kinds.Durable) own (ap (coordinator_at kinds.Durable) was ∙ known) in
-        outcome_on hosts u v before after g (record { node = g.number; id = o.old.id }) z number (transaction_placed hosts u g.small g.reached g.number g.book held o.old.id o.old own)
-        (enlists_has hosts u g.small (record { node = g.number; id = o.old.id }) z number kinds.Durable place enlists) untold
+        let (seat, enlists) = link_seat hosts u g.distinct g.reached g.number g.book held o.old.id o.old kinds.Durable (seat_of hosts z number kinds.Durable) own (ap (coordinator_at kinds.Durable) was ∙ known) in
+        outcome_on hosts u v before after g (record { node = g.number; id = o.old.id }) z number (transaction_placed hosts u g.distinct g.reached g.number g.book held o.old.id o.old own)
+        (enlists_has hosts u g.distinct (record { node = g.number; id = o.old.id }) z number kinds.Durable place enlists) untold
         (h.links g.number g.book o.old y z number asked held own was prepared place known)
       where
         untold : IsUntold hosts u v before after g (record { node = g.number; id = o.old.id })
@@ -300,7 +300,7 @@ leaves_here hosts Asked u v before after g h l z number asked found durable stat
     (by_kept
     (subst (λ q. KeepsLeafVote g.book.base g.event o.old (posted_in g) q) (ap (leaf_at (book_after g)) id_is ∙ found)
     (steps_owe_leaves.leaves g.book g.event g.now (ready hosts u v before after g) o.old own
-    ((partners_are_paired.votes hosts u g.small g.reached g.number held.node g.book held.found held.up).alone o.old own)).1.1.0 state))
+    ((partners_are_paired.votes hosts u g.distinct g.reached g.number held.node g.book held.found held.up).alone o.old own)).1.1.0 state))
   where
     o : LeafStood g.book l
     o = leaf_stood hosts u v before after g l found
@@ -322,9 +322,9 @@ leaves_here hosts Asked u v before after g h l z number asked found durable stat
         → OwesOutcome hosts v after (record { node = g.number; id = o.old.id }) z number
     by_kept (inl ((prepared, same), (uncommitted, unrolled))) =
         let known : o.old.coordinator ≡ Some (seat_of hosts z number kinds.Durable) = sym same ∙ knows in
-        let (seat, enlists) = leaf_seat hosts u g.small g.reached g.number g.book held o.old.id o.old (seat_of hosts z number kinds.Durable) own known in
-        outcome_on hosts u v before after g (record { node = g.number; id = o.old.id }) z number (leaf_placed hosts u g.small g.reached g.number g.book held o.old.id o.old own)
-        (enlists_has hosts u g.small (record { node = g.number; id = o.old.id }) z number kinds.Durable place
+        let (seat, enlists) = leaf_seat hosts u g.distinct g.reached g.number g.book held o.old.id o.old (seat_of hosts z number kinds.Durable) own known in
+        outcome_on hosts u v before after g (record { node = g.number; id = o.old.id }) z number (leaf_placed hosts u g.distinct g.reached g.number g.book held o.old.id o.old own)
+        (enlists_has hosts u g.distinct (record { node = g.number; id = o.old.id }) z number kinds.Durable place
         (subst (λ k. Enlists hosts u (seat_of hosts z number kinds.Durable) (record { node = g.number; id = o.old.id }) k) was_durable enlists)) untold
         (h.leaves g.number g.book o.old z number asked held own was_durable prepared place known)
       where
@@ -357,9 +357,9 @@ outcomes_kept hosts Asked u v before after g h = record {
         (links_here hosts Asked u v before after g h t s z number (subst Asked here asked) (subst (λ c. transaction_at c t.id ≡ Some t) same found) under state place knows)
     links_at n b t s z number asked holds found under state place knows (inr other) =
         let held : Holds u n b = held_elsewhere hosts u v before after g n b other holds in
-        let (seat, enlists) = link_seat hosts u g.small g.reached n b held t.id t kinds.Durable (seat_of hosts z number kinds.Durable) found (ap (coordinator_at kinds.Durable) under ∙ knows) in
-        outcome_on hosts u v before after g (record { node = n; id = t.id }) z number (transaction_placed hosts u g.small g.reached n b held t.id t found)
-        (enlists_has hosts u g.small (record { node = n; id = t.id }) z number kinds.Durable place enlists) (not_here hosts u v before after g (record { node = n; id = t.id }) other)
+        let (seat, enlists) = link_seat hosts u g.distinct g.reached n b held t.id t kinds.Durable (seat_of hosts z number kinds.Durable) found (ap (coordinator_at kinds.Durable) under ∙ knows) in
+        outcome_on hosts u v before after g (record { node = n; id = t.id }) z number (transaction_placed hosts u g.distinct g.reached n b held t.id t found)
+        (enlists_has hosts u g.distinct (record { node = n; id = t.id }) z number kinds.Durable place enlists) (not_here hosts u v before after g (record { node = n; id = t.id }) other)
         (h.links n b t s z number asked held found under state place knows)
 
     leaves_at : (n : ℕ) (b : Book) (l : Leaf) (z : Who) (number : ℕ) → Asked n → Holds v n b → leaf_at b l.id ≡ Some l → l.kind ≡ kinds.Durable → l.state ≡ states.PreparedSuccess
@@ -370,8 +370,8 @@ outcomes_kept hosts Asked u v before after g h = record {
         (leaves_here hosts Asked u v before after g h l z number (subst Asked here asked) (subst (λ c. leaf_at c l.id ≡ Some l) same found) durable state place knows)
     leaves_at n b l z number asked holds found durable state place knows (inr other) =
         let held : Holds u n b = held_elsewhere hosts u v before after g n b other holds in
-        let (seat, enlists) = leaf_seat hosts u g.small g.reached n b held l.id l (seat_of hosts z number kinds.Durable) found knows in
-        outcome_on hosts u v before after g (record { node = n; id = l.id }) z number (leaf_placed hosts u g.small g.reached n b held l.id l found)
-        (enlists_has hosts u g.small (record { node = n; id = l.id }) z number kinds.Durable place
+        let (seat, enlists) = leaf_seat hosts u g.distinct g.reached n b held l.id l (seat_of hosts z number kinds.Durable) found knows in
+        outcome_on hosts u v before after g (record { node = n; id = l.id }) z number (leaf_placed hosts u g.distinct g.reached n b held l.id l found)
+        (enlists_has hosts u g.distinct (record { node = n; id = l.id }) z number kinds.Durable place
         (subst (λ k. Enlists hosts u (seat_of hosts z number kinds.Durable) (record { node = n; id = l.id }) k) durable enlists))
         (not_here hosts u v before after g (record { node = n; id = l.id }) other) (h.leaves n b l z number asked held found durable state place knows)

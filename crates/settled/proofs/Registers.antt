@@ -57,7 +57,7 @@ answer_comes hosts u v before after g x kind m id a place came r =
       relates = relates_itself b.relates (register_id (hosts.base_of x.node) (targets.Participant x.id kind)) (ap (λ (y : Arrived). y.relates) e ∙ relates ∙ r.named);
       answers = subst AnswersRegister (sym (ap (λ (y : Arrived). y.message) e)) answers;
     })
-    (new_comes hosts u v before after g x.node p (participant_of hosts x kind) (targets.Participant x.id kind) i goes (leads_participant hosts x kind (participant_of hosts x kind) g.small place refl)
+    (new_comes hosts u v before after g x.node p (participant_of hosts x kind) (targets.Participant x.id kind) i goes (leads_participant hosts x kind (participant_of hosts x kind) g.distinct place refl)
     (takes_registered p.message x.id kind answers))
 
 registered_on : (hosts : Hosts) (u v : World) (before after : List Posted) → (g : Goes hosts u v before after) → (x : Who) (kind : Kind) (m : ℕ) (id : Numbers) → IsPlace hosts x
@@ -131,7 +131,7 @@ leaf_joined hosts u v before after g l found state =
     let (same, unanswered) =
     subst (λ q. RegistersStill g.book.base g.event o.old q) (ap (leaf_at (book_after g)) id_is ∙ found)
     (steps_owe_leaves.leaves g.book g.event g.now (ready hosts u v before after g) o.old own
-    ((partners_are_paired.votes hosts u g.small g.reached g.number held.node g.book held.found held.up).alone o.old own)).1.1.1 state in
+    ((partners_are_paired.votes hosts u g.distinct g.reached g.number held.node g.book held.found held.up).alone o.old own)).1.1.1 state in
     record { old = o.old; found = own; id_is = id_is; kind_is = o.kind; state = same.0; request = same.1; unanswered = unanswered }
 
 pub registrations_kept : (hosts : Hosts) (Asked : ℕ → Type 0) (u v : World) (before after : List Posted) → (g : Goes hosts u v before after) → RegistrationsAreOwed hosts Asked u before
@@ -150,7 +150,7 @@ registrations_kept hosts Asked u v before after g h = record {
         let j : LinkJoined hosts u v before after g t s kind = link_joined hosts u v before after g t s kind (subst (λ c. transaction_at c t.id ≡ Some t) same found) under state in
         subst (λ i. OwesRegistered hosts after (record { node = i; id = t.id }) kind m id) (sym here)
         (subst (λ i. OwesRegistered hosts after (record { node = g.number; id = i }) kind m id) j.id_is
-        (registered_on hosts u v before after g (record { node = g.number; id = j.old.id }) kind m id (transaction_placed hosts u g.small g.reached g.number g.book held j.old.id j.old j.found)
+        (registered_on hosts u v before after g (record { node = g.number; id = j.old.id }) kind m id (transaction_placed hosts u g.distinct g.reached g.number g.book held j.old.id j.old j.found)
         (λ at a came k. j.unanswered (record {
           message = a;
           came = came;
@@ -161,7 +161,7 @@ registrations_kept hosts Asked u v before after g h = record {
         (h.links g.number g.book j.old j.superior kind r m id (subst Asked here asked) held j.found j.under j.state (sym j.request ∙ request) leads)))
     links_at n b t s kind r m id asked holds found under state request leads (inr other) =
         let held : Holds u n b = held_elsewhere hosts u v before after g n b other holds in
-        registered_on hosts u v before after g (record { node = n; id = t.id }) kind m id (transaction_placed hosts u g.small g.reached n b held t.id t found)
+        registered_on hosts u v before after g (record { node = n; id = t.id }) kind m id (transaction_placed hosts u g.distinct g.reached n b held t.id t found)
         (λ at a came k. absurd (other at)) (h.links n b t s kind r m id asked held found under state request leads)
 
     leaves_at : (n : ℕ) (b : Book) (l : Leaf) (r : WorkRequest) (m : ℕ) (id : Numbers) → Asked n → Holds v n b → leaf_at b l.id ≡ Some l → l.state ≡ states.Registering → l.request ≡ Some r
@@ -173,7 +173,7 @@ registrations_kept hosts Asked u v before after g h = record {
         subst (λ i. OwesRegistered hosts after (record { node = i; id = l.id }) l.kind m id) (sym here)
         (subst (λ k. OwesRegistered hosts after (record { node = g.number; id = l.id }) k m id) (sym j.kind_is)
         (subst (λ i. OwesRegistered hosts after (record { node = g.number; id = i }) j.old.kind m id) j.id_is
-        (registered_on hosts u v before after g (record { node = g.number; id = j.old.id }) j.old.kind m id (leaf_placed hosts u g.small g.reached g.number g.book held j.old.id j.old j.found)
+        (registered_on hosts u v before after g (record { node = g.number; id = j.old.id }) j.old.kind m id (leaf_placed hosts u g.distinct g.reached g.number g.book held j.old.id j.old j.found)
         (λ at a came k. j.unanswered (record {
           message = a;
           came = came;
@@ -184,7 +184,7 @@ registrations_kept hosts Asked u v before after g h = record {
         (h.leaves g.number g.book j.old r m id (subst Asked here asked) held j.found j.state (sym j.request ∙ request) leads))))
     leaves_at n b l r m id asked holds found state request leads (inr other) =
         let held : Holds u n b = held_elsewhere hosts u v before after g n b other holds in
-        registered_on hosts u v before after g (record { node = n; id = l.id }) l.kind m id (leaf_placed hosts u g.small g.reached n b held l.id l found)
+        registered_on hosts u v before after g (record { node = n; id = l.id }) l.kind m id (leaf_placed hosts u g.distinct g.reached n b held l.id l found)
         (λ at a came k. absurd (other at)) (h.leaves n b l r m id asked held found state request leads)
 
 -- nobody begins to register

@@ -167,17 +167,17 @@ of_seat k state s e = let (f, g) = both_true (is_kind s.kind k) (is_state s.stat
 
 participant_at : (hosts : Hosts) (w : World) → HaveOwnAddresses hosts → Reached hosts w → (n : ℕ) (b : Book) → Holds w n b → (t : Transaction) (s : Enlistment) → transaction_at b t.id ≡ Some t → IsIn s t.seats
     → IsParticipant hosts s.kind s.participant
-participant_at hosts w small reached n b h t s found i =
+participant_at hosts w distinct reached n b h t s found i =
     one_of (λ (q : Enlistment). IsParticipant hosts q.kind q.participant) t.seats s
-    ((partners_are_paired.paired hosts w small reached).seats n h.node b t h.found h.up (in_book b t.id t found)) i
+    ((partners_are_paired.paired hosts w distinct reached).seats n h.node b t h.found h.up (in_book b t.id t found)) i
 
 preparing_below : (hosts : Hosts) (w : World) (queue : List Posted) → HaveOwnAddresses hosts → Reached hosts w → AllQuiet hosts w queue → (n : ℕ) (b : Book) → Holds w n b → (t : Transaction) (s : Enlistment)
     → transaction_at b t.id ≡ Some t → IsIn s t.seats → s.state ≡ states.Preparing → Below w (record { node = n; id = t.id })
-preparing_below hosts w queue small reached q n b h t s found i state =
+preparing_below hosts w queue distinct reached q n b h t s found i state =
     by_owed (q.votes.seats n b t s p.who tt h found i state p.place p.is)
   where
     p : IsParticipant hosts s.kind s.participant
-    p = participant_at hosts w small reached n b h t s found i
+    p = participant_at hosts w distinct reached n b h t s found i
 
     by_owed : OwesVote hosts w queue (record { node = n; id = t.id }) s.number s.kind p.who → Below w (record { node = n; id = t.id })
     by_owed (inl c) = absurd (none_comes hosts queue p.who.node _ q.none c)
@@ -186,17 +186,17 @@ preparing_below hosts w queue small reached q n b h t s found i state =
       who = p.who;
       number = s.number;
       kind = s.kind;
-      seat = seat_has hosts w small reached n b h t s p.who found i p.place p.is;
+      seat = seat_has hosts w distinct reached n b h t s p.who found i p.place p.is;
       asks = if_busy hosts w p.who s.kind reached (record { book = busy.book; holds = busy.holds; transaction = busy.transaction; found = busy.found }) busy.transaction.superior refl busy.busy;
     }
 
 committing_below : (hosts : Hosts) (w : World) (queue : List Posted) → HaveOwnAddresses hosts → Reached hosts w → AllQuiet hosts w queue → (n : ℕ) (b : Book) → Holds w n b → (t : Transaction) (s : Enlistment)
     → transaction_at b t.id ≡ Some t → IsIn s t.seats → s.kind ≡ kinds.Durable → s.state ≡ states.Committing → Below w (record { node = n; id = t.id })
-committing_below hosts w queue small reached q n b h t s found i durable state =
+committing_below hosts w queue distinct reached q n b h t s found i durable state =
     by_owed (q.commits.seats n b t s p.who tt h found i durable state p.place p.is)
   where
     p : IsParticipant hosts s.kind s.participant
-    p = participant_at hosts w small reached n b h t s found i
+    p = participant_at hosts w distinct reached n b h t s found i
 
     by_owed : OwesCommitted hosts w queue (record { node = n; id = t.id }) s.number p.who → Below w (record { node = n; id = t.id })
     by_owed (inl c) = absurd (none_comes hosts queue p.who.node _ q.none c)
@@ -205,26 +205,26 @@ committing_below hosts w queue small reached q n b h t s found i durable state =
       who = p.who;
       number = s.number;
       kind = s.kind;
-      seat = seat_has hosts w small reached n b h t s p.who found i p.place p.is;
+      seat = seat_has hosts w distinct reached n b h t s p.who found i p.place p.is;
       asks = if_commits hosts w p.who reached (record { book = commits.book; holds = commits.holds; transaction = commits.transaction; found = commits.found }) commits.transaction.superior refl commits.commits;
     }
 
 -- whoever asks waits for somebody below
 below : (hosts : Hosts) (w : World) (queue : List Posted) → HaveOwnAddresses hosts → Reached hosts w → AllQuiet hosts w queue → (n : ℕ) (b : Book) → Holds w n b → (t : Transaction)
     → transaction_at b t.id ≡ Some t → IsAsking t.phase → Below w (record { node = n; id = t.id })
-below hosts w queue small reached q n b h t found asks = by_phase t.phase asks (shape_at hosts w reached n b h t.id t found).1.0
+below hosts w queue distinct reached q n b h t found asks = by_phase t.phase asks (shape_at hosts w reached n b h t.id t found).1.0
   where
     by_phase : (p : Phase) → IsAsking p → Waits p t.seats → Below w (record { node = n; id = t.id })
     by_phase Phase.Volatile a e =
         let s : Passes (is_of kinds.Volatile states.Preparing) t.seats = some_passes (is_of kinds.Volatile states.Preparing) t.seats e in
-        preparing_below hosts w queue small reached q n b h t s.one found s.among (of_seat kinds.Volatile states.Preparing s.one s.passes).1
+        preparing_below hosts w queue distinct reached q n b h t s.one found s.among (of_seat kinds.Volatile states.Preparing s.one s.passes).1
     by_phase Phase.Durable a e =
         let s : Passes (is_of kinds.Durable states.Preparing) t.seats = some_passes (is_of kinds.Durable states.Preparing) t.seats e in
-        preparing_below hosts w queue small reached q n b h t s.one found s.among (of_seat kinds.Durable states.Preparing s.one s.passes).1
+        preparing_below hosts w queue distinct reached q n b h t s.one found s.among (of_seat kinds.Durable states.Preparing s.one s.passes).1
     by_phase Phase.Committing a e =
         let s : Passes (is_of kinds.Durable states.Committing) t.seats = some_passes (is_of kinds.Durable states.Committing) t.seats e in
         let (k, d) = of_seat kinds.Durable states.Committing s.one s.passes in
-        committing_below hosts w queue small reached q n b h t s.one found s.among k d
+        committing_below hosts w queue distinct reached q n b h t s.one found s.among k d
     by_phase Phase.Registering a e = absurd a
     by_phase Phase.Active a e = absurd a
     by_phase Phase.Voted a e = absurd a
@@ -242,42 +242,42 @@ waits_some Phase.Aborting seats a e = absurd a
 -- when it registered
 registered_first : (hosts : Hosts) (es : List WorldEvent) → HaveOwnAddresses hosts → (n : ℕ) (b : Book) → Holds (run_of hosts es) n b → (id : Numbers) (t : Transaction) → transaction_at b id ≡ Some t
     → is_none t.superior ≡ false → HasSome t.seats → RegistersFirst (run_of hosts es) (record { node = n; id = t.id })
-registered_first hosts es small n b h id t found under some = subordinates_register_first.runs hosts es n h.node b t small h.found h.up (in_book b id t found) under some
+registered_first hosts es distinct n b h id t found under some = subordinates_register_first.runs hosts es n h.node b t distinct h.found h.up (in_book b id t found) under some
 
 own_id : (b : Book) (id : Numbers) (t : Transaction) → transaction_at b id ≡ Some t → t.id ≡ id
 own_id b id t found = found_id transaction_id id b.transactions t found
 
 asking_first : (hosts : Hosts) (es : List WorldEvent) → HaveOwnAddresses hosts → (x : Who) (a : IsAskingUnder (run_of hosts es) x) → RegistersFirst (run_of hosts es) x
-asking_first hosts es small x a =
+asking_first hosts es distinct x a =
     let k : Stands (run_of hosts es) x = a.stands in
     subst (λ i. RegistersFirst (run_of hosts es) (record { node = x.node; id = i })) (own_id k.book x.id k.transaction k.found)
-    (registered_first hosts es small x.node k.book k.holds x.id k.transaction k.found a.under
+    (registered_first hosts es distinct x.node k.book k.holds x.id k.transaction k.found a.under
     (waits_some k.transaction.phase k.transaction.seats a.asks (shape_at hosts (run_of hosts es) (run_reached hosts es) x.node k.book k.holds x.id k.transaction k.found).1.0))
 
 further : (hosts : Hosts) (es : List WorldEvent) (queue : List Posted) → HaveOwnAddresses hosts → AllQuiet hosts (run_of hosts es) queue → (x : Who) → IsAskingUnder (run_of hosts es) x → Below (run_of hosts es) x
-further hosts es queue small q x a =
+further hosts es queue distinct q x a =
     let k : Stands (run_of hosts es) x = a.stands in
     subst (λ i. Below (run_of hosts es) (record { node = x.node; id = i })) (own_id k.book x.id k.transaction k.found)
-    (below hosts (run_of hosts es) queue small (run_reached hosts es) q x.node k.book k.holds k.transaction (found_own k.book x.id k.transaction k.found) a.asks)
+    (below hosts (run_of hosts es) queue distinct (run_reached hosts es) q x.node k.book k.holds k.transaction (found_own k.book x.id k.transaction k.found) a.asks)
 
 -- The descent: whoever asks waits for one that registered later.
-descend : (hosts : Hosts) (es : List WorldEvent) (queue : List Posted) (small : HaveOwnAddresses hosts) → AllQuiet hosts (run_of hosts es) queue → (fuel : ℕ) (x : Who) → (a : IsAskingUnder (run_of hosts es) x)
-    → length (run_of hosts es).accepted ≤ length (asking_first hosts es small x a).front + fuel → ⊥
-descend hosts es queue small q zero x a most =
-    let first : RegistersFirst (run_of hosts es) x = asking_first hosts es small x a in
+descend : (hosts : Hosts) (es : List WorldEvent) (queue : List Posted) (distinct : HaveOwnAddresses hosts) → AllQuiet hosts (run_of hosts es) queue → (fuel : ℕ) (x : Who) → (a : IsAskingUnder (run_of hosts es) x)
+    → length (run_of hosts es).accepted ≤ length (asking_first hosts es distinct x a).front + fuel → ⊥
+descend hosts es queue distinct q zero x a most =
+    let first : RegistersFirst (run_of hosts es) x = asking_first hosts es distinct x a in
     omega (arith, most, ap length first.stands, length-append first.front (first.registration ∷ first.back))
-descend hosts es queue small q (suc fuel) x a most =
-    let next : Below (run_of hosts es) x = further hosts es queue small q x a in
-    let later : length (asking_first hosts es small x a).front < length (asking_first hosts es small next.who next.asks).front =
-    subordinates_register_first.later hosts es x next.who (record { number = next.number; kind = next.kind }) (asking_first hosts es small x a) (asking_first hosts es small next.who next.asks) small
+descend hosts es queue distinct q (suc fuel) x a most =
+    let next : Below (run_of hosts es) x = further hosts es queue distinct q x a in
+    let later : length (asking_first hosts es distinct x a).front < length (asking_first hosts es distinct next.who next.asks).front =
+    subordinates_register_first.later hosts es x next.who (record { number = next.number; kind = next.kind }) (asking_first hosts es distinct x a) (asking_first hosts es distinct next.who next.asks) distinct
     next.seat in
-    descend hosts es queue small q fuel next.who next.asks (omega (arith, most, later))
+    descend hosts es queue distinct q fuel next.who next.asks (omega (arith, most, later))
 
 none_asks : (hosts : Hosts) (es : List WorldEvent) (queue : List Posted) → HaveOwnAddresses hosts → AllQuiet hosts (run_of hosts es) queue → (n : ℕ) (b : Book) → Holds (run_of hosts es) n b → (t : Transaction)
     → transaction_at b t.id ≡ Some t → IsAsking t.phase → ⊥
-none_asks hosts es queue small q n b h t found asks =
-    let next : Below (run_of hosts es) (record { node = n; id = t.id }) = below hosts (run_of hosts es) queue small (run_reached hosts es) q n b h t found asks in
-    descend hosts es queue small q (length (run_of hosts es).accepted) next.who next.asks (omega arith)
+none_asks hosts es queue distinct q n b h t found asks =
+    let next : Below (run_of hosts es) (record { node = n; id = t.id }) = below hosts (run_of hosts es) queue distinct (run_reached hosts es) q n b h t found asks in
+    descend hosts es queue distinct q (length (run_of hosts es).accepted) next.who next.asks (omega arith)
 
 -- A subordinate that has voted.
 record HasVotedUnder (w : World) (x : Who) : Type 0 where
@@ -292,13 +292,13 @@ voted_superior hosts w reached x a None e =
 voted_superior hosts w reached x a (Some s) e = refl
 
 voted_first : (hosts : Hosts) (es : List WorldEvent) → HaveOwnAddresses hosts → (x : Who) (a : HasVotedUnder (run_of hosts es) x) → RegistersFirst (run_of hosts es) x
-voted_first hosts es small x a =
+voted_first hosts es distinct x a =
     let k : Stands (run_of hosts es) x = a.stands in
     let s : Passes is_prepared_durable k.transaction.seats =
     some_passes is_prepared_durable k.transaction.seats
     (subst (λ p. Waits p k.transaction.seats) a.voted (shape_at hosts (run_of hosts es) (run_reached hosts es) x.node k.book k.holds x.id k.transaction k.found).1.0) in
     subst (λ i. RegistersFirst (run_of hosts es) (record { node = x.node; id = i })) (own_id k.book x.id k.transaction k.found)
-    (registered_first hosts es small x.node k.book k.holds x.id k.transaction k.found
+    (registered_first hosts es distinct x.node k.book k.holds x.id k.transaction k.found
     (voted_superior hosts (run_of hosts es) (run_reached hosts es) x a k.transaction.superior refl) (has_some k.transaction.seats s.one s.among))
 
 -- a seat that is Prepared is one of a transaction that asks, or that has voted
@@ -313,14 +313,14 @@ prepared_phase Phase.Aborting e = absurd cc
 
 prepared_voted : (hosts : Hosts) (es : List WorldEvent) (queue : List Posted) → HaveOwnAddresses hosts → AllQuiet hosts (run_of hosts es) queue → (z : Who) (number : ℕ) → IsPreparedAt (run_of hosts es) z number
     → HasVotedUnder (run_of hosts es) z
-prepared_voted hosts es queue small q z number k =
+prepared_voted hosts es queue distinct q z number k =
     by_phase (prepared_phase k.transaction.phase
     (subst (λ d. suits k.transaction.phase kinds.Durable d ≡ true) k.state_is
     (subst (λ d. suits k.transaction.phase d k.seat.state ≡ true) k.kind_is
     (suits_at hosts (run_of hosts es) (run_reached hosts es) z.node k.book k.holds k.transaction k.seat (found_own k.book z.id k.transaction k.found) k.among))))
   where
     by_phase : IsAsking k.transaction.phase ⊎ (k.transaction.phase ≡ Phase.Voted) → HasVotedUnder (run_of hosts es) z
-    by_phase (inl asks) = absurd (none_asks hosts es queue small q z.node k.book k.holds k.transaction (found_own k.book z.id k.transaction k.found) asks)
+    by_phase (inl asks) = absurd (none_asks hosts es queue distinct q z.node k.book k.holds k.transaction (found_own k.book z.id k.transaction k.found) asks)
     by_phase (inr voted) = record { stands = record { book = k.book; holds = k.holds; transaction = k.transaction; found = k.found }; voted = voted }
 
 -- an outcome that is owed is owed by a seat that is Prepared
@@ -342,7 +342,7 @@ if_known None e = absurd cc
 if_known (Some c) e = (c, refl)
 
 above : (hosts : Hosts) (es : List WorldEvent) (queue : List Posted) → HaveOwnAddresses hosts → AllQuiet hosts (run_of hosts es) queue → (x : Who) → HasVotedUnder (run_of hosts es) x → Above (run_of hosts es) x
-above hosts es queue small q x a = by_superior k.transaction.superior refl
+above hosts es queue distinct q x a = by_superior k.transaction.superior refl
   where
     w : World
     w = run_of hosts es
@@ -364,7 +364,7 @@ above hosts es queue small q x a = by_superior k.transaction.superior refl
         if_known s.durable.coordinator
         (subst (λ d. LinkKnows s.request d s.durable.coordinator) links.1
         (subst (λ y. StandsUnder k.transaction.phase y k.transaction.completion) e (shape_at hosts w (run_reached hosts es) x.node k.book k.holds x.id k.transaction k.found).1.1).1) in
-        let (at, enlists) = link_seat hosts w small (run_reached hosts es) x.node k.book k.holds x.id k.transaction kinds.Durable c k.found (ap (coordinator_at kinds.Durable) {y = Some s} e ∙ knows) in
+        let (at, enlists) = link_seat hosts w distinct (run_reached hosts es) x.node k.book k.holds x.id k.transaction kinds.Durable c k.found (ap (coordinator_at kinds.Durable) {y = Some s} e ∙ knows) in
         let z : Who = at.transaction in
         let prepared : IsPreparedAt w z at.number =
         outcome_prepared hosts w queue (record { node = x.node; id = k.transaction.id }) z at.number q.none
@@ -372,39 +372,39 @@ above hosts es queue small q x a = by_superior k.transaction.superior refl
         record {
           who = z;
           number = at.number;
-          seat = enlists_has hosts w small x z at.number kinds.Durable (record { place = at.place; least = at.least; most = at.most })
+          seat = enlists_has hosts w distinct x z at.number kinds.Durable (record { place = at.place; least = at.least; most = at.most })
               (subst (λ y. Enlists hosts w y x kinds.Durable) at.is enlists);
-          voted = prepared_voted hosts es queue small q z at.number prepared;
+          voted = prepared_voted hosts es queue distinct q z at.number prepared;
         }
 
 -- The ascent: whoever has voted waits for one that registered before.
-ascend : (hosts : Hosts) (es : List WorldEvent) (queue : List Posted) (small : HaveOwnAddresses hosts) → AllQuiet hosts (run_of hosts es) queue → (most : ℕ) (x : Who) → (a : HasVotedUnder (run_of hosts es) x)
-    → length (voted_first hosts es small x a).front ≤ most → ⊥
-ascend hosts es queue small q zero x a h =
-    let next : Above (run_of hosts es) x = above hosts es queue small q x a in
-    let earlier : length (voted_first hosts es small next.who next.voted).front < length (voted_first hosts es small x a).front =
-    subordinates_register_first.later hosts es next.who x (record { number = next.number; kind = kinds.Durable }) (voted_first hosts es small next.who next.voted) (voted_first hosts es small x a) small
+ascend : (hosts : Hosts) (es : List WorldEvent) (queue : List Posted) (distinct : HaveOwnAddresses hosts) → AllQuiet hosts (run_of hosts es) queue → (most : ℕ) (x : Who) → (a : HasVotedUnder (run_of hosts es) x)
+    → length (voted_first hosts es distinct x a).front ≤ most → ⊥
+ascend hosts es queue distinct q zero x a h =
+    let next : Above (run_of hosts es) x = above hosts es queue distinct q x a in
+    let earlier : length (voted_first hosts es distinct next.who next.voted).front < length (voted_first hosts es distinct x a).front =
+    subordinates_register_first.later hosts es next.who x (record { number = next.number; kind = kinds.Durable }) (voted_first hosts es distinct next.who next.voted) (voted_first hosts es distinct x a) distinct
     next.seat in
     omega (arith, h, earlier)
-ascend hosts es queue small q (suc most) x a h =
-    let next : Above (run_of hosts es) x = above hosts es queue small q x a in
-    let earlier : length (voted_first hosts es small next.who next.voted).front < length (voted_first hosts es small x a).front =
-    subordinates_register_first.later hosts es next.who x (record { number = next.number; kind = kinds.Durable }) (voted_first hosts es small next.who next.voted) (voted_first hosts es small x a) small
+ascend hosts es queue distinct q (suc most) x a h =
+    let next : Above (run_of hosts es) x = above hosts es queue distinct q x a in
+    let earlier : length (voted_first hosts es distinct next.who next.voted).front < length (voted_first hosts es distinct x a).front =
+    subordinates_register_first.later hosts es next.who x (record { number = next.number; kind = kinds.Durable }) (voted_first hosts es distinct next.who next.voted) (voted_first hosts es distinct x a) distinct
     next.seat in
-    ascend hosts es queue small q most next.who next.voted (omega (arith, h, earlier))
+    ascend hosts es queue distinct q most next.who next.voted (omega (arith, h, earlier))
 
 none_voted : (hosts : Hosts) (es : List WorldEvent) (queue : List Posted) → HaveOwnAddresses hosts → AllQuiet hosts (run_of hosts es) queue → (x : Who) → HasVotedUnder (run_of hosts es) x → ⊥
-none_voted hosts es queue small q x a = ascend hosts es queue small q (length (voted_first hosts es small x a).front) x a (omega arith)
+none_voted hosts es queue distinct q x a = ascend hosts es queue distinct q (length (voted_first hosts es distinct x a).front) x a (omega arith)
 
 -- nobody is in doubt
 none_waits : (hosts : Hosts) (es : List WorldEvent) (queue : List Posted) → HaveOwnAddresses hosts → AllQuiet hosts (run_of hosts es) queue → (n : ℕ) (b : Book) → Holds (run_of hosts es) n b → (t : Transaction)
     → transaction_at b t.id ≡ Some t → waits t ≡ true → ⊥
-none_waits hosts es queue small q n b h t found e = by_phase t.phase refl e
+none_waits hosts es queue distinct q n b h t found e = by_phase t.phase refl e
   where
     by_phase : (p : Phase) → t.phase ≡ p → waits_in p ≡ true → ⊥
     by_phase Phase.Voted is f =
-        none_voted hosts es queue small q (record { node = n; id = t.id }) (record { stands = record { book = b; holds = h; transaction = t; found = found }; voted = is })
-    by_phase Phase.Committing is f = none_asks hosts es queue small q n b h t found (subst IsAsking (sym is) tt)
+        none_voted hosts es queue distinct q (record { node = n; id = t.id }) (record { stands = record { book = b; holds = h; transaction = t; found = found }; voted = is })
+    by_phase Phase.Committing is f = none_asks hosts es queue distinct q n b h t found (subst IsAsking (sym is) tt)
     by_phase Phase.Registering is f = cc
     by_phase Phase.Active is f = cc
     by_phase Phase.Volatile is f = cc
@@ -413,7 +413,7 @@ none_waits hosts es queue small q n b h t found e = by_phase t.phase refl e
 
 none_doubts : (hosts : Hosts) (es : List WorldEvent) (queue : List Posted) → HaveOwnAddresses hosts → AllQuiet hosts (run_of hosts es) queue → (n : ℕ) (b : Book) → Holds (run_of hosts es) n b → (l : Leaf)
     → leaf_at b l.id ≡ Some l → is_doubtful_leaf l ≡ true → ⊥
-none_doubts hosts es queue small q n b h l found e =
+none_doubts hosts es queue distinct q n b h l found e =
     let (k, s) = both_true (is_kind l.kind kinds.Durable) (is_state l.state states.PreparedSuccess) e in
     by_stand (same_kind l.kind kinds.Durable k) (state_is l.state states.PreparedSuccess s)
     (all_find LeafStands leaf_id l.id b.leaves l (book_ready hosts (run_of hosts es) (run_reached hosts es) n h.node b h.found h.up).leaves found)
@@ -433,8 +433,8 @@ none_doubts hosts es queue small q n b h l found e =
     by_coordinator : l.kind ≡ kinds.Durable → l.state ≡ states.PreparedSuccess → (c : Epr) → l.coordinator ≡ Some c → IsSeat hosts l.kind c → ⊥
     by_coordinator durable state c knows at =
         let same : c ≡ seat_of hosts at.transaction at.number kinds.Durable = at.is ∙ ap (seat_of hosts at.transaction at.number) durable in
-        none_voted hosts es queue small q at.transaction
-        (prepared_voted hosts es queue small q at.transaction at.number
+        none_voted hosts es queue distinct q at.transaction
+        (prepared_voted hosts es queue distinct q at.transaction at.number
         (outcome_prepared hosts w queue (record { node = n; id = l.id }) at.transaction at.number q.none
         (q.outcomes.leaves n b l at.transaction at.number tt h found durable state (record { place = at.place; least = at.least; most = at.most }) (knows ∙ ap Some same))))
 
@@ -442,13 +442,13 @@ none_doubts hosts es queue small q n b h l found e =
     by_stand durable state (registers r is none asks) = other states.Registering state is not_registering
     by_stand durable state (works c is knows none) = other states.Active state is not_active
     by_stand durable state (leaf_waits c is knows none vote) =
-        by_coordinator durable state c knows (leaf_seat hosts w small (run_reached hosts es) n b h l.id l c found knows).0
+        by_coordinator durable state c knows (leaf_seat hosts w distinct (run_reached hosts es) n b h l.id l c found knows).0
 
 -- so the world is at rest
 pub rests : (hosts : Hosts) (es : List WorldEvent) (queue : List Posted) → HaveOwnAddresses hosts → ((n : ℕ) (x : Node) → nth n (run_of hosts es).nodes ≡ Some x → is_none x.book ≡ false) → NoneLeft queue
     → VotesAreOwed hosts (λ n. Unit {0}) (run_of hosts es) queue → CommitsAreOwed hosts (λ n. Unit {0}) (run_of hosts es) queue → OutcomesAreOwed hosts (λ n. Unit {0}) (run_of hosts es) queue
     → is_settled (run_of hosts es) ≡ true
-rests hosts es queue small up none votes commits outcomes =
+rests hosts es queue distinct up none votes commits outcomes =
     all_pass is_node_settled w.nodes (all_from_nth (λ x. is_node_settled x ≡ true) w.nodes (λ n x found. by_book n x found x.book refl (up n x found)))
   where
     w : World
@@ -467,8 +467,8 @@ rests hosts es queue small up none votes commits outcomes =
         ap is_book_settled e
         ∙ settled (list_any is_doubtful_leaf b.leaves) (list_any waits b.transactions)
         (none_passes is_doubtful_leaf b.leaves
-        (λ l i. none_doubts hosts es queue small q n b h l
+        (λ l i. none_doubts hosts es queue distinct q n b h l
         (one_of (λ (y : Leaf). leaf_at b y.id ≡ Some y) b.leaves l (finds_each leaf_id b.leaves (book_ready hosts w (run_reached hosts es) n x b found e).order.rising.leaves) i)))
         (none_passes waits b.transactions
-        (λ t i. none_waits hosts es queue small q n b h t
+        (λ t i. none_waits hosts es queue distinct q n b h t
         (one_of (λ (y : Transaction). transaction_at b y.id ≡ Some y) b.transactions t (finds_each transaction_id b.transactions (book_ready hosts w (run_reached hosts es) n x b found e).order.rising.transactions) i)))

@@ -50,20 +50,20 @@ record Family (hosts : Hosts) : Type 1 where
 
 tick_walk : (hosts : Hosts) (f : Family hosts) (u j : ℕ) (w : World) → HaveOwnAddresses hosts → IsOfRun hosts w → After hosts (f.inv u) j w
     → After hosts (f.inv (u + 1)) j (world_step w (Turn (u + 1) (Tick resend_after) [] None))
-tick_walk hosts f u j w small r a =
+tick_walk hosts f u j w distinct r a =
     subst (λ z. After hosts (f.inv u) j z → After hosts (f.inv (u + 1)) j (world_step z (Turn (u + 1) (Tick resend_after) [] None))) (sym r.is) of_run a
   where
     of_run : After hosts (f.inv u) j (run_of hosts r.events) → After hosts (f.inv (u + 1)) j (ticked_at (u + 1) (run_of hosts r.events))
     of_run b =
-        let k : After hosts (f.inv u) j (ticked_at (u + 1) (run_of hosts r.events)) = tick_after hosts (f.inv u) (u + 1) j (run_of hosts r.events) small b in
+        let k : After hosts (f.inv u) j (ticked_at (u + 1) (run_of hosts r.events)) = tick_after hosts (f.inv u) (u + 1) j (run_of hosts r.events) distinct b in
         record { reached = k.reached; passed = k.passed; holds = f.join r.events u j b.passed k.holds }
 
 ticks_walk : (hosts : Hosts) (f : Family hosts) (j u m : ℕ) (xs : List Node) (s : Settling) → HaveOwnAddresses hosts → IsOfRun hosts s.world → u + length xs ≡ m → After hosts (f.inv u) j s.world
     → After hosts (f.inv m) j (all_also (ticks (u + 1) xs) s).world
-ticks_walk hosts f j u m [] s small r e a = let same : u ≡ m = omega (arith, e) in subst (λ k. After hosts (f.inv k) j s.world) same a
-ticks_walk hosts f j u m (x ∷ xs) s small r e a =
+ticks_walk hosts f j u m [] s distinct r e a = let same : u ≡ m = omega (arith, e) in subst (λ k. After hosts (f.inv k) j s.world) same a
+ticks_walk hosts f j u m (x ∷ xs) s distinct r e a =
     let tick : WorldEvent = Turn (u + 1) (Tick resend_after) [] None in
-    ticks_walk hosts f j (u + 1) m xs (also tick s) small (further_run hosts s.world tick r) (omega (arith, e)) (tick_walk hosts f u j s.world small r a)
+    ticks_walk hosts f j (u + 1) m xs (also tick s) distinct (further_run hosts s.world tick r) (omega (arith, e)) (tick_walk hosts f u j s.world distinct r a)
 
 -- the deliveries
 in_queue : (P : Prices) (q : Posted) (ps : List Posted) → IsIn q ps → posted_weight P q ≤ queued P ps
@@ -105,7 +105,7 @@ node_there n (y ∷ ys) h k = by_number (λ i j. node_there (n - 1) ys i j) (nat
     by_number rest false e = let other : n ≡ 1 → ⊥ = eqb-false n 1 e in rest (omega (arith, h, other)) (omega (arith, k))
 
 receiver_there : (hosts : Hosts) (w : World) → HaveOwnAddresses hosts → Reached hosts w → (q : Posted) (n : ℕ) → IsIn q w.posted → q.receiver ≡ Some n → (x : Node) × (nth n w.nodes ≡ Some x)
-receiver_there hosts w small reached q n i to = by_to q.content.to refl (sym (routed hosts w reached q i) ∙ to)
+receiver_there hosts w distinct reached q n i to = by_to q.content.to refl (sym (routed hosts w reached q i) ∙ to)
   where
     by_place : (address : List ℕ) (o : Option (ℕ × Target)) → place_of 1 (new_nodes hosts.base_of hosts.count 1) address ≡ o → option_map (λ p. p.0) o ≡ Some n → (x : Node) × (nth n w.nodes ≡ Some x)
     by_place address None e f = absurd cc
@@ -135,17 +135,17 @@ dropped_in (suc j) q (p ∷ ps) i = inr (dropped_in j q ps i)
 
 deliveries_walk : (hosts : Hosts) (inv : Invariant hosts) (P : Prices) (limit : ℕ) (last : Settling) (j : ℕ) (s : Settling) → HaveOwnAddresses hosts → ((w : World) (queue : List Posted) → inv.Of w queue → AreUp w)
     → limit < P.making → Delivers last j s → After hosts inv j s.world → Good P limit j s.world → Drained hosts inv last.world
-deliveries_walk hosts inv P limit last j s small up most (none_left e is) a g =
+deliveries_walk hosts inv P limit last j s distinct up most (none_left e is) a g =
     subst (λ (t : Settling). Drained hosts inv t.world) (sym is) (record { place = j; after = a; none = none_received (j + 1) (drop j s.world.posted) e })
-deliveries_walk hosts inv P limit last j s small up most (one_more k n e rest) a g =
+deliveries_walk hosts inv P limit last j s distinct up most (one_more k n e rest) a g =
     let f : FirstAt (j + 1) (drop j s.world.posted) k n = first_at (j + 1) (drop j s.world.posted) k n e in
     let among : IsIn f.post (drop j s.world.posted) = first_in (f.behind + 1) f.post (drop j s.world.posted) f.at in
-    let (x, found) = receiver_there hosts s.world small a.reached f.post n (dropped_in j f.post s.world.posted among) f.receiver in
+    let (x, found) = receiver_there hosts s.world distinct a.reached f.post n (dropped_in j f.post s.world.posted among) f.receiver in
     let (b, held) = if_up x.book (up s.world (drop j s.world.posted) a.holds n x found) in
     let light : weight P f.post.content.message < P.making = omega (arith, in_queue P f.post (drop j s.world.posted) among, g.paid, most) in
     let l : Lowers P k (burden P j s.world) (world_step s.world (Turn n (Deliver k) [] None)) = next_lowers P j k n s.world e g.steady (omega (arith, g.paid, most)) in
-    deliveries_walk hosts inv P limit last k (also (Turn n (Deliver k) [] None) s) small up most rest
-    (delivery_after hosts inv j k n s.world x b f.post small found held f (makes_nothing P f.post.content.message light) a)
+    deliveries_walk hosts inv P limit last k (also (Turn n (Deliver k) [] None) s) distinct up most rest
+    (delivery_after hosts inv j k n s.world x b f.post distinct found held f (makes_nothing P f.post.content.message light) a)
     (record { passed = l.passed; paid = omega (arith, l.paid, g.paid); steady = l.steady })
 
 -- a round
@@ -155,31 +155,31 @@ dear making = record { seat = 0; other = 0; making = making }
 round_walk : (hosts : Hosts) (most : ℕ) (f : Family hosts) (s : Settling) → HaveOwnAddresses hosts → ((u : ℕ) (w : World) (queue : List Posted) → (f.inv u).Of w queue → AreUp w) → IsOfRun hosts s.world
     → IsDrained most s → (f.inv 0).Of s.world [] → Drained hosts (f.inv hosts.count) (settle_round most s).world
 unfolding dear
-round_walk hosts most f s small up r d h =
+round_walk hosts most f s distinct up r d h =
     let j : ℕ = length s.world.posted in
     let limit : ℕ = seat_most (dear 0) * seats_of s.world + other_most (dear 0) * others_of s.world in
     let P : Prices = dear (limit + 1) in
-    deliveries_walk hosts (f.inv hosts.count) P limit (settle_round most s) j (all_also (ticks 1 s.world.nodes) s) small (up hosts.count) (omega arith) d
-    (ticks_walk hosts f j 0 hosts.count s.world.nodes s small r (omega (arith, run_length hosts s.world r))
+    deliveries_walk hosts (f.inv hosts.count) P limit (settle_round most s) j (all_also (ticks 1 s.world.nodes) s) distinct (up hosts.count) (omega arith) d
+    (ticks_walk hosts f j 0 hosts.count s.world.nodes s distinct r (omega (arith, run_length hosts s.world r))
     (record { reached = run_is hosts s.world r; passed = omega arith; holds = subst ((f.inv 0).Of s.world) (sym (drop_all j s.world.posted (omega arith))) h }))
     (begun_good P hosts s r)
 
 -- nobody is asked by no tick
 none_yet : (hosts : Hosts) (w : World) → HaveOwnAddresses hosts → Reached hosts w → (n : ℕ) (b : Book) → Holds w n b → n ≤ 0 → ⊥
-none_yet hosts w small reached n b h k = omega (arith, k, (node_range hosts w small reached n h.node h.found).0)
+none_yet hosts w distinct reached n b h k = omega (arith, k, (node_range hosts w distinct reached n h.node h.found).0)
 
 all_asked : (hosts : Hosts) (w : World) → HaveOwnAddresses hosts → Reached hosts w → (n : ℕ) (b : Book) → Holds w n b → Unit {0} → n ≤ hosts.count
-all_asked hosts w small reached n b h k = (node_range hosts w small reached n h.node h.found).1
+all_asked hosts w distinct reached n b h k = (node_range hosts w distinct reached n h.node h.found).1
 
 -- The first round.
 first_round : (hosts : Hosts) → HaveOwnAddresses hosts → Family hosts
 unfolding registering
-first_round hosts small = record {
+first_round hosts distinct = record {
   inv = λ u. registering hosts (λ n. n ≤ u);
   join = λ es u j passed (up, h). (
     up,
     registrations_both hosts (λ n. n ≤ u) (λ n. n ≡ u + 1) (λ n. n ≤ u + 1) (ticked_at (u + 1) (run_of hosts es)) (drop j (ticked_at (u + 1) (run_of hosts es)).posted) (λ n k. up_to u n k) h
-        (registrations_asked hosts es (u + 1) j small passed),
+        (registrations_asked hosts es (u + 1) j distinct passed),
   );
 }
 
@@ -202,23 +202,23 @@ none_registers hosts w queue none h = record {
 
 round_registers : (hosts : Hosts) (most : ℕ) (s : Settling) → HaveOwnAddresses hosts → IsOfRun hosts s.world → AreUp s.world → IsDrained most s → NoneRouted hosts (settle_round most s).world
 unfolding registering first_round
-round_registers hosts most s small r up d =
+round_registers hosts most s distinct r up d =
     let k : Drained hosts (registering hosts (λ n. n ≤ hosts.count)) (settle_round most s).world =
-    round_walk hosts most (first_round hosts small) s small (λ u w queue h. h.0) r d (
+    round_walk hosts most (first_round hosts distinct) s distinct (λ u w queue h. h.0) r d (
       up,
       record {
-        links = λ n b t q kind a m id asked holds found. absurd (none_yet hosts s.world small (run_is hosts s.world r) n b holds asked);
-        leaves = λ n b l a m id asked holds found. absurd (none_yet hosts s.world small (run_is hosts s.world r) n b holds asked);
+        links = λ n b t q kind a m id asked holds found. absurd (none_yet hosts s.world distinct (run_is hosts s.world r) n b holds asked);
+        leaves = λ n b l a m id asked holds found. absurd (none_yet hosts s.world distinct (run_is hosts s.world r) n b holds asked);
       },
     ) in
     none_registers hosts (settle_round most s).world (drop k.place (settle_round most s).world.posted) k.none
     (registrations_of hosts (λ n. n ≤ hosts.count) (λ n. Unit {0}) (settle_round most s).world (drop k.place (settle_round most s).world.posted)
-    (all_asked hosts (settle_round most s).world small k.after.reached) k.after.holds.1)
+    (all_asked hosts (settle_round most s).world distinct k.after.reached) k.after.holds.1)
 
 -- Each later one.
 later_round : (hosts : Hosts) → HaveOwnAddresses hosts → Known hosts → Family hosts
 unfolding owing
-later_round hosts small known = record {
+later_round hosts distinct known = record {
   inv = λ u. owing hosts (λ n. n ≤ u) known;
   join = λ es u j passed h.
       let v : World = ticked_at (u + 1) (run_of hosts es) in
@@ -226,9 +226,9 @@ later_round hosts small known = record {
       record {
         up = h.up;
         routed = h.routed;
-        votes = votes_both hosts (λ n. n ≤ u) (λ n. n ≡ u + 1) (λ n. n ≤ u + 1) v queue (λ n k. up_to u n k) h.votes (votes_asked hosts es (u + 1) j small passed);
-        commits = commits_both hosts (λ n. n ≤ u) (λ n. n ≡ u + 1) (λ n. n ≤ u + 1) v queue (λ n k. up_to u n k) h.commits (commits_asked hosts es (u + 1) j small passed);
-        outcomes = outcomes_both hosts (λ n. n ≤ u) (λ n. n ≡ u + 1) (λ n. n ≤ u + 1) v queue (λ n k. up_to u n k) h.outcomes (outcomes_asked hosts es (u + 1) j small passed);
+        votes = votes_both hosts (λ n. n ≤ u) (λ n. n ≡ u + 1) (λ n. n ≤ u + 1) v queue (λ n k. up_to u n k) h.votes (votes_asked hosts es (u + 1) j distinct passed);
+        commits = commits_both hosts (λ n. n ≤ u) (λ n. n ≡ u + 1) (λ n. n ≤ u + 1) v queue (λ n k. up_to u n k) h.commits (commits_asked hosts es (u + 1) j distinct passed);
+        outcomes = outcomes_both hosts (λ n. n ≤ u) (λ n. n ≡ u + 1) (λ n. n ≤ u + 1) v queue (λ n k. up_to u n k) h.outcomes (outcomes_asked hosts es (u + 1) j distinct passed);
       };
 }
 
@@ -240,22 +240,22 @@ record IsResting (hosts : Hosts) (w : World) : Type 0 where
 round_rests : (hosts : Hosts) (most : ℕ) (s : Settling) → HaveOwnAddresses hosts → Known hosts → IsOfRun hosts s.world → AreUp s.world → NoneRouted hosts s.world → IsDrained most s
     → IsResting hosts (settle_round most s).world
 unfolding owing later_round
-round_rests hosts most s small known r up routes d =
+round_rests hosts most s distinct known r up routes d =
     let reached : Reached hosts s.world = run_is hosts s.world r in
     let k : Drained hosts (owing hosts (λ n. n ≤ hosts.count) known) (settle_round most s).world =
-    round_walk hosts most (later_round hosts small known) s small (λ u w queue h. h.up) r d (record {
+    round_walk hosts most (later_round hosts distinct known) s distinct (λ u w queue h. h.up) r d (record {
       up = up;
       routed = routes;
-      votes = record { seats = λ n b t q x asked holds. absurd (none_yet hosts s.world small reached n b holds asked) };
-      commits = record { seats = λ n b t q x asked holds. absurd (none_yet hosts s.world small reached n b holds asked) };
+      votes = record { seats = λ n b t q x asked holds. absurd (none_yet hosts s.world distinct reached n b holds asked) };
+      commits = record { seats = λ n b t q x asked holds. absurd (none_yet hosts s.world distinct reached n b holds asked) };
       outcomes = record {
-        links = λ n b t q z number asked holds. absurd (none_yet hosts s.world small reached n b holds asked);
-        leaves = λ n b l z number asked holds. absurd (none_yet hosts s.world small reached n b holds asked);
+        links = λ n b t q z number asked holds. absurd (none_yet hosts s.world distinct reached n b holds asked);
+        leaves = λ n b l z number asked holds. absurd (none_yet hosts s.world distinct reached n b holds asked);
       };
     }) in
     let w : World = (settle_round most s).world in
     let queue : List Posted = drop k.place w.posted in
-    let all : (n : ℕ) (b : Book) → Holds w n b → Unit {0} → n ≤ hosts.count = all_asked hosts w small k.after.reached in
+    let all : (n : ℕ) (b : Book) → Holds w n b → Unit {0} → n ≤ hosts.count = all_asked hosts w distinct k.after.reached in
     record {
       routed = k.after.holds.routed;
       settled = at_rest w queue (round_run hosts most s r) k.after.holds.up k.none (votes_of hosts (λ n. n ≤ hosts.count) (λ n. Unit {0}) w queue all k.after.holds.votes)
@@ -267,7 +267,7 @@ round_rests hosts most s small known r up routes d =
         → OutcomesAreOwed hosts (λ n. Unit {0}) w queue → is_settled w ≡ true
     at_rest w queue h =
         subst (λ z. AreUp z → NoneLeft queue → VotesAreOwed hosts (λ n. Unit {0}) z queue → CommitsAreOwed hosts (λ n. Unit {0}) z queue → OutcomesAreOwed hosts (λ n. Unit {0}) z queue
-        → is_settled z ≡ true) (sym h.is) (rests hosts h.events queue small)
+        → is_settled z ≡ true) (sym h.is) (rests hosts h.events queue distinct)
 
 -- Eight rounds.
 one_further : (n most : ℕ) (s : Settling) → settle_rounds (suc n) most s ≡ settle_round most (settle_rounds n most s)
@@ -286,23 +286,23 @@ up_at w h n x found = all_nth IsUp n x w.nodes h found
 nobody_registers : (hosts : Hosts) (es : List WorldEvent) (n : ℕ) → HaveOwnAddresses hosts → Known hosts → AllByRecursion MayStart (run_of hosts es).nodes → n < 8
     → NoneRouted hosts (settle_rounds (suc n) (granted (risen hosts es)) (risen hosts es)).world
 unfolding settle_rounds
-nobody_registers hosts es zero small known may h =
+nobody_registers hosts es zero distinct known may h =
     let most : ℕ = granted (risen hosts es) in
-    round_registers hosts most (risen hosts es) small (risen_run hosts es) (up_at (risen hosts es).world (nodes_rise.rounds hosts es 0 most may)) (drains.rounds hosts es 0 h)
-nobody_registers hosts es (suc n) small known may h =
+    round_registers hosts most (risen hosts es) distinct (risen_run hosts es) (up_at (risen hosts es).world (nodes_rise.rounds hosts es 0 most may)) (drains.rounds hosts es 0 h)
+nobody_registers hosts es (suc n) distinct known may h =
     let most : ℕ = granted (risen hosts es) in
     subst (λ (s : Settling). NoneRouted hosts s.world) (sym (one_further (suc n) most (risen hosts es)))
-    (round_rests hosts most (settle_rounds (suc n) most (risen hosts es)) small known (rounds_run hosts (suc n) most (risen hosts es) (risen_run hosts es))
-    (up_at (settle_rounds (suc n) most (risen hosts es)).world (nodes_rise.rounds hosts es (suc n) most may)) (nobody_registers hosts es n small known may (omega (arith, h)))
+    (round_rests hosts most (settle_rounds (suc n) most (risen hosts es)) distinct known (rounds_run hosts (suc n) most (risen hosts es) (risen_run hosts es))
+    (up_at (settle_rounds (suc n) most (risen hosts es)).world (nodes_rise.rounds hosts es (suc n) most may)) (nobody_registers hosts es n distinct known may (omega (arith, h)))
     (drains.rounds hosts es (suc n) h)).routed
 
 rounds_rest : (hosts : Hosts) (es : List WorldEvent) → HaveOwnAddresses hosts → Known hosts → AllByRecursion MayStart (run_of hosts es).nodes
     → is_settled (settle_rounds 8 (granted (risen hosts es)) (risen hosts es)).world ≡ true
-rounds_rest hosts es small known may =
+rounds_rest hosts es distinct known may =
     let most : ℕ = granted (risen hosts es) in
     subst (λ (s : Settling). is_settled s.world ≡ true) (sym (one_further 7 most (risen hosts es)))
-    (round_rests hosts most (settle_rounds 7 most (risen hosts es)) small known (rounds_run hosts 7 most (risen hosts es) (risen_run hosts es))
-    (up_at (settle_rounds 7 most (risen hosts es)).world (nodes_rise.rounds hosts es 7 most may)) (nobody_registers hosts es 6 small known may (omega arith)) (drains.rounds hosts es 7 (omega arith))).settled
+    (round_rests hosts most (settle_rounds 7 most (risen hosts es)) distinct known (rounds_run hosts 7 most (risen hosts es) (risen_run hosts es))
+    (up_at (settle_rounds 7 most (risen hosts es)).world (nodes_rise.rounds hosts es 7 most may)) (nobody_registers hosts es 6 distinct known may (omega arith)) (drains.rounds hosts es 7 (omega arith))).settled
 
 -- The events lead to that world.
 abbrev LedBy : World → Settling → Type 0
@@ -343,11 +343,11 @@ settled_led w = rounds_led w 8 (granted (all_up w)) (all_up w) (all_led w (ups 1
 
 settled_rests : (hosts : Hosts) (es : List WorldEvent) → HaveOwnAddresses hosts → Known hosts → AllByRecursion MayStart (run_of hosts es).nodes → is_settled (settled (run_of hosts es)).world ≡ true
 unfolding settled settle_from
-settled_rests hosts es small known may = rounds_rest hosts es small known may
+settled_rests hosts es distinct known may = rounds_rest hosts es distinct known may
 
 pub settles_if : ((hosts : Hosts) → HaveOwnAddresses hosts → Known hosts) → Settles
 unfolding settle
-settles_if known hosts es small may = record {
-  rests = ap is_settled (sym (settled_led (run_of hosts es))) ∙ settled_rests hosts es small (known hosts small) may;
+settles_if known hosts es distinct may = record {
+  rests = ap is_settled (sym (settled_led (run_of hosts es))) ∙ settled_rests hosts es distinct (known hosts distinct) may;
   few = drains.few hosts es;
 }

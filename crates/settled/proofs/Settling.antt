@@ -18,7 +18,7 @@ ticks_ask_for_all = record { votes = votes_asked; commits = commits_asked; outco
 pub owed_is_kept : OwedIsKept
 owed_is_kept = record {
   votes = λ hosts most u v before after g routes.
-      votes_kept hosts (λ n. n ≤ most) u v before after g (prepares_are_behind hosts u g.small g.reached) (none_registers hosts u g.small g.reached routes);
+      votes_kept hosts (λ n. n ≤ most) u v before after g (prepares_are_behind hosts u g.distinct g.reached) (none_registers hosts u g.distinct g.reached routes);
   commits = λ hosts most. commits_kept hosts (λ n. n ≤ most);
   outcomes = λ hosts most. outcomes_kept hosts (λ n. n ≤ most);
   registrations = λ hosts most. registrations_kept hosts (λ n. n ≤ most);

@@ -62,7 +62,7 @@ again_comes hosts es n j m ps p to T passed h i goes leads taken =
     (subst (λ zs. IsIn q (drop j zs)) (sym h.posted) (back_in j q w.posted h.new passed among)) is goes leads taken
 
 base_at : (hosts : Hosts) (w : World) → HaveOwnAddresses hosts → Reached hosts w → (n : ℕ) (b : Book) → Holds w n b → b.base ≡ hosts.base_of n
-base_at hosts w small reached n b h = (up_known hosts w small reached n h.node b h.found h.up).says.base_is
+base_at hosts w distinct reached n b h = (up_known hosts w distinct reached n h.node b h.found h.up).says.base_is
 
 -- seats
 in_seats : (base : List ℕ) (id : Numbers) (seats : List Enlistment) (s : Enlistment) (n : Notice) → unanswered_seat s.state ≡ Some n → IsIn s seats
@@ -88,7 +88,7 @@ no_committing k e = cc
 
 pub votes_asked : (hosts : Hosts) (es : List WorldEvent) (n j : ℕ) → HaveOwnAddresses hosts → j ≤ length (run_of hosts es).posted
     → VotesAreOwed hosts (λ m. m ≡ n) (ticked_at n (run_of hosts es)) (drop j (ticked_at n (run_of hosts es)).posted)
-votes_asked hosts es n j small passed = record { seats = λ m b t s x here holds found i state place is. at_node m b t s x here holds found i state place is }
+votes_asked hosts es n j distinct passed = record { seats = λ m b t s x here holds found i state place is. at_node m b t s x here holds found i state place is }
   where
     v : World
     v = ticked_at n (run_of hosts es)
@@ -102,11 +102,11 @@ votes_asked hosts es n j small passed = record { seats = λ m b t s x here holds
         inl (comes_as hosts (drop j v.posted) x.node
         (λ a e. (
           (ap (λ (y : Arrived). y.target) e, ap (λ (y : Arrived). y.message) e),
-          ap (λ (y : Arrived). y.from) e ∙ ap (λ base. Some (endpoint_of base (seat_target t.id s))) (base_at hosts v small (ticked_reached hosts es n) n b h),
+          ap (λ (y : Arrived). y.from) e ∙ ap (λ base. Some (endpoint_of base (seat_target t.id s))) (base_at hosts v distinct (ticked_reached hosts es n) n b h),
         ))
         (again_comes hosts es n j x.node (transaction_again b.base t) (notice_post b.base (seat_target t.id s) s.participant notices.Prepare) s.participant (targets.Participant x.id s.kind) passed posted
         (in_back (notice_post b.base (seat_target t.id s) s.participant notices.Prepare) (links_again b.base t.id t.superior) (seats_again b.base t.id t.seats)
-        (in_seats b.base t.id t.seats s notices.Prepare (ap unanswered_seat state) i)) refl (leads_participant hosts x s.kind s.participant small place is) refl))
+        (in_seats b.base t.id t.seats s notices.Prepare (ap unanswered_seat state) i)) refl (leads_participant hosts x s.kind s.participant distinct place is) refl))
 
     at_node : (m : ℕ) (b : Book) (t : Transaction) (s : Enlistment) (x : Who) → m ≡ n → Holds v m b → transaction_at b t.id ≡ Some t → IsIn s t.seats → s.state ≡ states.Preparing → IsPlace hosts x
         → s.participant ≡ participant_of hosts x s.kind → OwesVote hosts v (drop j v.posted) (record { node = m; id = t.id }) s.number s.kind x
@@ -117,7 +117,7 @@ votes_asked hosts es n j small passed = record { seats = λ m b t s x here holds
 
 pub commits_asked : (hosts : Hosts) (es : List WorldEvent) (n j : ℕ) → HaveOwnAddresses hosts → j ≤ length (run_of hosts es).posted
     → CommitsAreOwed hosts (λ m. m ≡ n) (ticked_at n (run_of hosts es)) (drop j (ticked_at n (run_of hosts es)).posted)
-commits_asked hosts es n j small passed = record { seats = λ m b t s x here holds found i durable state place is. at_node m b t s x here holds found i durable state place is }
+commits_asked hosts es n j distinct passed = record { seats = λ m b t s x here holds found i durable state place is. at_node m b t s x here holds found i durable state place is }
   where
     v : World
     v = ticked_at n (run_of hosts es)
@@ -132,11 +132,11 @@ commits_asked hosts es n j small passed = record { seats = λ m b t s x here hol
         (λ a e. (
           (ap (λ (y : Arrived). y.target) e ∙ ap (targets.Participant x.id) durable, ap (λ (y : Arrived). y.message) e),
           ap (λ (y : Arrived). y.from) e
-              ∙ (λ r. Some (endpoint_of (base_at hosts v small (ticked_reached hosts es n) n b h r) (targets.Coordinator t.id (record { number = s.number; kind = durable r })))),
+              ∙ (λ r. Some (endpoint_of (base_at hosts v distinct (ticked_reached hosts es n) n b h r) (targets.Coordinator t.id (record { number = s.number; kind = durable r })))),
         ))
         (again_comes hosts es n j x.node (transaction_again b.base t) (notice_post b.base (seat_target t.id s) s.participant notices.Commit) s.participant (targets.Participant x.id s.kind) passed posted
         (in_back (notice_post b.base (seat_target t.id s) s.participant notices.Commit) (links_again b.base t.id t.superior) (seats_again b.base t.id t.seats)
-        (in_seats b.base t.id t.seats s notices.Commit (ap unanswered_seat state) i)) refl (leads_participant hosts x s.kind s.participant small place is) refl))
+        (in_seats b.base t.id t.seats s notices.Commit (ap unanswered_seat state) i)) refl (leads_participant hosts x s.kind s.participant distinct place is) refl))
 
     at_node : (m : ℕ) (b : Book) (t : Transaction) (s : Enlistment) (x : Who) → m ≡ n → Holds v m b → transaction_at b t.id ≡ Some t → IsIn s t.seats → s.kind ≡ kinds.Durable
         → s.state ≡ states.Committing → IsPlace hosts x → s.participant ≡ participant_of hosts x s.kind → OwesCommitted hosts v (drop j v.posted) (record { node = m; id = t.id }) s.number x
@@ -237,7 +237,7 @@ register_came hosts queue base n id kind to m j is c =
 
 pub outcomes_asked : (hosts : Hosts) (es : List WorldEvent) (n j : ℕ) → HaveOwnAddresses hosts → j ≤ length (run_of hosts es).posted
     → OutcomesAreOwed hosts (λ m. m ≡ n) (ticked_at n (run_of hosts es)) (drop j (ticked_at n (run_of hosts es)).posted)
-outcomes_asked hosts es n j small passed = record {
+outcomes_asked hosts es n j distinct passed = record {
   links = λ m b t s z number here holds found under state place knows. at_link m b t s z number here holds found under state place knows;
   leaves = λ m b l z number here holds found durable state place knows. at_leaf m b l z number here holds found durable state place knows;
 }
@@ -252,10 +252,10 @@ outcomes_asked hosts es n j small passed = record {
         absurd (link_stays hosts v (ticked_reached hosts es n) n b h t s kinds.Durable states.PreparedSuccess found under state not_prepared aborting)
     link_asked b t s z number h found under state place knows (inr posted) =
         let p : Post = notice_post b.base (targets.Participant t.id kinds.Durable) (seat_of hosts z number kinds.Durable) notices.Prepared in
-        inl (vote_came hosts (drop j v.posted) b.base n t.id z number (seat_of hosts z number kinds.Durable) (base_at hosts v small (ticked_reached hosts es n) n b h)
+        inl (vote_came hosts (drop j v.posted) b.base n t.id z number (seat_of hosts z number kinds.Durable) (base_at hosts v distinct (ticked_reached hosts es n) n b h)
         (again_comes hosts es n j z.node (transaction_again b.base t) p (seat_of hosts z number kinds.Durable) (targets.Coordinator z.id (record { number = number; kind = kinds.Durable })) passed posted
         (in_links b.base t s kinds.Durable p under (again_prepared b.base t.id kinds.Durable s.request s.durable (seat_of hosts z number kinds.Durable) state knows)) refl
-        (leads_seat hosts z number kinds.Durable small place) refl))
+        (leads_seat hosts z number kinds.Durable distinct place) refl))
 
     at_link : (m : ℕ) (b : Book) (t : Transaction) (s : Superior) (z : Who) (number : ℕ) → m ≡ n → Holds v m b → transaction_at b t.id ≡ Some t → t.superior ≡ Some s
         → s.durable.state ≡ states.PreparedSuccess → IsSeatPlace hosts z number → s.durable.coordinator ≡ Some (seat_of hosts z number kinds.Durable)
@@ -272,15 +272,15 @@ outcomes_asked hosts es n j small passed = record {
         let p : Post = notice_post b.base (targets.Participant l.id kinds.Durable) (seat_of hosts z number kinds.Durable) notices.Prepared in
         let c : Moment = moment_of b h.node.clock in
         subst (λ k. OwesOutcome hosts v (drop j v.posted) (record { node = k; id = l.id }) z number) (sym here)
-        (inl (vote_came hosts (drop j v.posted) b.base n l.id z number (seat_of hosts z number kinds.Durable) (base_at hosts v small (ticked_reached hosts es n) n b h)
+        (inl (vote_came hosts (drop j v.posted) b.base n l.id z number (seat_of hosts z number kinds.Durable) (base_at hosts v distinct (ticked_reached hosts es n) n b h)
         (again_comes hosts es n j z.node (leaf_again c l) p (seat_of hosts z number kinds.Durable) (targets.Coordinator z.id (record { number = number; kind = kinds.Durable })) passed
         (ticks_ask.leaves hosts es n h.node b l.id l h.found h.up found)
         (subst (λ k. IsIn (notice_post b.base (targets.Participant l.id k) (seat_of hosts z number kinds.Durable) notices.Prepared) (leaf_again c l)) durable
-        (leaf_prepared c l (seat_of hosts z number kinds.Durable) state knows)) refl (leads_seat hosts z number kinds.Durable small place) refl)))
+        (leaf_prepared c l (seat_of hosts z number kinds.Durable) state knows)) refl (leads_seat hosts z number kinds.Durable distinct place) refl)))
 
 pub registrations_asked : (hosts : Hosts) (es : List WorldEvent) (n j : ℕ) → HaveOwnAddresses hosts → j ≤ length (run_of hosts es).posted
     → RegistrationsAreOwed hosts (λ m. m ≡ n) (ticked_at n (run_of hosts es)) (drop j (ticked_at n (run_of hosts es)).posted)
-registrations_asked hosts es n j small passed = record {
+registrations_asked hosts es n j distinct passed = record {
   links = λ m b t s kind r k id here holds found under state request leads. at_link m b t s kind r k id here holds found under state request leads;
   leaves = λ m b l r k id here holds found state request leads. at_leaf m b l r k id here holds found state request leads;
 }
@@ -294,7 +294,7 @@ registrations_asked hosts es n j small passed = record {
     link_asked b t s kind r k id h found under state request leads (inl aborting) =
         absurd (link_stays hosts v (ticked_reached hosts es n) n b h t s kind states.Registering found under state not_registering aborting)
     link_asked b t s kind r k id h found under state request leads (inr posted) =
-        inl (register_came hosts (drop j v.posted) b.base n t.id kind r.registration k id (base_at hosts v small (ticked_reached hosts es n) n b h)
+        inl (register_came hosts (drop j v.posted) b.base n t.id kind r.registration k id (base_at hosts v distinct (ticked_reached hosts es n) n b h)
         (again_comes hosts es n j k (transaction_again b.base t) (link_register b.base t.id kind r.registration) r.registration (targets.Registration id) passed posted
         (in_links b.base t s kind (link_register b.base t.id kind r.registration) under (again_registers b.base t.id kind s.request (link_of kind s) r state request)) refl leads refl))
 
@@ -312,6 +312,6 @@ registrations_asked hosts es n j small passed = record {
         let h : Holds v n b = subst (λ i. Holds v i b) here holds in
         let c : Moment = moment_of b h.node.clock in
         subst (λ i. OwesRegistered hosts (drop j v.posted) (record { node = i; id = l.id }) l.kind k id) (sym here)
-        (inl (register_came hosts (drop j v.posted) b.base n l.id l.kind r.registration k id (base_at hosts v small (ticked_reached hosts es n) n b h)
+        (inl (register_came hosts (drop j v.posted) b.base n l.id l.kind r.registration k id (base_at hosts v distinct (ticked_reached hosts es n) n b h)
         (again_comes hosts es n j k (leaf_again c l) (leaf_register c l r.registration) r.registration (targets.Registration id) passed
         (ticks_ask.leaves hosts es n h.node b l.id l h.found h.up found) (leaf_registers c l r state request) refl leads refl)))

@@ -73,15 +73,15 @@ pub comes_committed : (hosts : Hosts) (u v : World) (before after : List Posted)
 comes_committed hosts u v before after g x kind a here came target says =
     let h : HasCome hosts u g.number a = has_come hosts u g.number g.node g.book g.event g.now true a (stepping hosts u v before after g) came in
     subst (λ n. IsUnderCommitted u (record { node = n; id = x.id }) kind) (sym here)
-    ((one_of (λ (p : Posted). CommitIsBacked hosts u p.content) u.posted h.posted (outcomes_are_backed.reached hosts u g.small g.reached).commits h.stands h.to g.number x.id kind
+    ((one_of (λ (p : Posted). CommitIsBacked hosts u p.content) u.posted h.posted (outcomes_are_backed.reached hosts u g.distinct g.reached).commits h.stands h.to g.number x.id kind
     (h.message ∙ says) h.sent (h.leads ∙ (λ i. Some (g.number, target i)))).1)
 
 -- but not where its seat is still asked
 pub not_committed : (hosts : Hosts) (u v : World) (before after : List Posted) → (g : Goes hosts u v before after) → (x : Who) (kind : Kind) (n : ℕ) (b : Book) (t : Transaction) (number : ℕ)
     → Holds u n b → transaction_at b t.id ≡ Some t → may_expire t.phase ≡ true → HasSeat u (record { node = n; id = t.id }) number kind x → IsUnderCommitted u x kind → ⊥
 not_committed hosts u v before after g x kind n b t number h found undecided seat c =
-    (partners_are_paired.votes hosts u g.small g.reached n h.node b h.found h.up).undecided t found undecided
-    (subst (λ (z : Who). HasCommitted u z) (one_superior hosts u g.small g.reached x c.transaction (record { node = n; id = t.id }) _ _ c.seat seat) c.committed)
+    (partners_are_paired.votes hosts u g.distinct g.reached n h.node b h.found h.up).undecided t found undecided
+    (subst (λ (z : Who). HasCommitted u z) (one_superior hosts u g.distinct g.reached x c.transaction (record { node = n; id = t.id }) _ _ c.seat seat) c.committed)
 
 -- nor does a durable Prepare come while a volatile seat of the same transaction is asked
 not_asked : (hosts : Hosts) (u v : World) (before after : List Posted) → (g : Goes hosts u v before after) → PreparesAreBehind hosts u → (x : Who) (a : Arrived) (n : ℕ) (b : Book) (t : Transaction)
@@ -91,7 +91,7 @@ not_asked hosts u v before after g behind x a n b t number here came target says
     let c : HasCome hosts u g.number a = has_come hosts u g.number g.node g.book g.event g.now true a (stepping hosts u v before after g) came in
     let k : IsAskedBy u (record { node = g.number; id = x.id }) = behind c.posted c.to g.number x.id c.stands c.sent (c.leads ∙ (λ i. Some (g.number, target i))) (c.message ∙ says) in
     let same : k.transaction ≡ record { node = n; id = t.id } =
-    one_superior hosts u g.small g.reached (record { node = g.number; id = x.id }) k.transaction (record { node = n; id = t.id }) _ _ k.seat
+    one_superior hosts u g.distinct g.reached (record { node = g.number; id = x.id }) k.transaction (record { node = n; id = t.id }) _ _ k.seat
     (subst (λ m. HasSeat u (record { node = n; id = t.id }) number kinds.Volatile (record { node = m; id = x.id })) here seat) in
     volatile_early t.phase early
     (k.asked b t (subst (λ (z : Who). Holds u z.node b) (sym same) h) (ap (λ (z : Who). transaction_at b z.id) same ∙ found))
@@ -126,7 +126,7 @@ prepare_arrives hosts u v before after g x kind z number a here came ((target, s
         by_answer id_is
         (l.0 kind (record { message = a; came = came; target = target ∙ ap (λ i. targets.Participant i kind) (sym id_is); says = says }) e (registered.link g.book t s holds found under)
         (stored_is (link_of kind s).coordinator a.from e from
-        (λ c knows. link_knows hosts u g.small g.reached x.node g.book holds x.id t kind c z number found seat (ap (coordinator_at kind) under ∙ knows))))
+        (λ c knows. link_knows hosts u g.distinct g.reached x.node g.book holds x.id t kind c z number found seat (ap (coordinator_at kind) under ∙ knows))))
       where
         by_answer : t.id ≡ x.id → LinkIsBusy kind (superior_left (transaction_at (book_after g) t.id)) ⊎ TellsAnswer e (posted_in g) → IsBusyAt v x kind ⊎ TellsAnswer e (posted_in g)
         by_answer same (inl busy) =
@@ -141,7 +141,7 @@ prepare_arrives hosts u v before after g x kind z number a here came ((target, s
         inr ((steps_owe_leaves.leaves g.book g.event g.now (ready hosts u v before after g) l (leaf_own g.book x.id l found) (ap (transaction_at g.book) id_is ∙ none)).0
         (record { arrived = a; event = came; target = target ∙ (λ i. targets.Participant (sym id_is i) (sym k i)); message = says }) e (registered.leaf g.book l holds found)
         (stored_is l.coordinator a.from e from
-        (λ c knows. leaf_knows hosts u g.small g.reached x.node g.book holds x.id l c z number found (subst (λ d. HasSeat u z number d x) (sym k) seat) knows ∙ ap (seat_of hosts z number) k)))
+        (λ c knows. leaf_knows hosts u g.distinct g.reached x.node g.book holds x.id l c z number found (subst (λ d. HasSeat u z number d x) (sym k) seat) knows ∙ ap (seat_of hosts z number) k)))
     by_kind l none found false other =
         stranger (subst (λ o. NoParticipant kind o (leaf_at g.book x.id)) (sym none) (subst (λ o. IfFound (λ (y : Leaf). is_kind y.kind kind ≡ false) o) (sym found) other))
 
@@ -186,7 +186,7 @@ busy_on hosts u v before after g behind x kind n b t number h found early seat k
         known_is (link_of kind s).coordinator e
         (busy_state kind s (link_of kind s).state refl busy
         (link_known kind s (subst (λ y. StandsUnder o.phase y o.completion) under (shape_at hosts u g.reached x.node g.book holds x.id o there).1.1)))
-        (λ c knows. link_knows hosts u g.small g.reached x.node g.book holds x.id o kind c z number there seat (ap (coordinator_at kind) under ∙ knows)) in
+        (λ c knows. link_knows hosts u g.distinct g.reached x.node g.book holds x.id o kind c z number there seat (ap (coordinator_at kind) under ∙ knows)) in
         still_busy hosts u v before after g x kind e here
         (subst (λ i. StaysBusy kind e (posted_in g) (superior_left (transaction_at (book_after g) i))) id_is (l.1.1.0 kind e (excused id_is) busy knows))
       where
@@ -215,10 +215,10 @@ vote_on hosts u v before after g behind n b t s x h found i state place is regis
     z = record { node = n; id = t.id }
 
     seat : HasSeat u z s.number s.kind x
-    seat = seat_has hosts u g.small g.reached n b h t s x found i place is
+    seat = seat_has hosts u g.distinct g.reached n b h t s x found i place is
 
     there : IsSeatPlace hosts z s.number
-    there = seat_place hosts u g.small g.reached n b h t s found i
+    there = seat_place hosts u g.distinct g.reached n b h t s found i
 
     early : suits t.phase s.kind states.Preparing ≡ true
     early = subst (λ d. suits t.phase s.kind d ≡ true) state (suits_at hosts u g.reached n b h t s found i)

@@ -84,7 +84,7 @@ votes_here hosts Asked u v before after g behind registered h t s x asked found 
     by_asked p (inl (was, unanswered)) =
         let same : p.old.participant ≡ participant_of hosts x p.old.kind = subst (λ (a : Seating). a.participant ≡ participant_of hosts x a.kind) p.pair.0.0 is in
         vote_on hosts u v before after g behind g.number g.book b.old p.old x held b.found p.among was place same
-        (registered (record { node = g.number; id = b.old.id }) x p.old.kind p.old.number (seat_has hosts u g.small g.reached g.number g.book held b.old p.old x b.found p.among place same))
+        (registered (record { node = g.number; id = b.old.id }) x p.old.kind p.old.number (seat_has hosts u g.distinct g.reached g.number g.book held b.old p.old x b.found p.among place same))
         (λ here. unanswered) (h.seats g.number g.book b.old p.old x asked held b.found p.among was place same)
     by_asked p (inr sent) =
         inl (seat_asks hosts u v before after g b.old.id p.old x notices.Prepare tt place (subst (λ (a : Seating). a.participant ≡ participant_of hosts x a.kind) p.pair.0.0 is) sent)
@@ -108,5 +108,5 @@ votes_kept hosts Asked u v before after g behind registered h = record { seats =
     by_place n b t s x asked holds found i state place is (inr other) =
         let held : Holds u n b = held_elsewhere hosts u v before after g n b other holds in
         vote_on hosts u v before after g behind n b t s x held found i state place is
-        (registered (record { node = n; id = t.id }) x s.kind s.number (seat_has hosts u g.small g.reached n b held t s x found i place is))
+        (registered (record { node = n; id = t.id }) x s.kind s.number (seat_has hosts u g.distinct g.reached n b held t s x found i place is))
         (λ here. absurd (other here)) (h.seats n b t s x asked held found i state place is)

@@ -28,7 +28,7 @@ MakesNone (events.Local l) = ⊥
 MakesNone other = Unit {0}
 
 pub record Goes (hosts : Hosts) (u v : World) (before after : List Posted) : Type 0 where
-  pub small : HaveOwnAddresses hosts
+  pub distinct : HaveOwnAddresses hosts
   pub reached : Reached hosts u
   pub number : ℕ
   pub node : Node

@@ -50,9 +50,9 @@ use Rattle.settling.proofs.Runs.{nth_least, reached_length}
 
 -- an endpoint that a node writes
 home : (hosts : Hosts) (n : ℕ) (u : World) (x : Node) (T : Target) (c : Epr) → HaveOwnAddresses hosts → Reached hosts u → nth n u.nodes ≡ Some x → HasPath T → endpoint_of (hosts.base_of n) T ≡ c → Leads hosts c
-home hosts n u x T c small reached found path is =
+home hosts n u x T c distinct reached found path is =
     let most : n ≤ hosts.count = let size : n ≤ length u.nodes = nth_within n u.nodes x found in omega (arith, size, reached_length hosts u reached) in
-    record { node = n; target = T; leads = subst (λ (e : Epr). place_of 1 (new_nodes hosts.base_of hosts.count 1) e.address ≡ Some (n, T)) is (leads_home hosts n T small (nth_least n u.nodes x found) most (written T path)) }
+    record { node = n; target = T; leads = subst (λ (e : Epr). place_of 1 (new_nodes hosts.base_of hosts.count 1) e.address ≡ Some (n, T)) is (leads_home hosts n T distinct (nth_least n u.nodes x found) most (written T path)) }
   where
     written : (S : Target) → HasPath S → IsWritten S
     written targets.Activation h = h
@@ -67,15 +67,15 @@ response_leads : (hosts : Hosts) (u : World) (n : ℕ) (x : Node) (b : Book) (e 
     → Responds b e now (standing landed (plan b e now).entry) (step b e now landed) c p → Leads hosts c
 response_leads hosts u n x b e now landed s p c (names_seat d kind q protocol sits k who is reply) =
     let h : Held hosts (counts u n x b e now landed) n d.gives.transaction = held_after hosts u n x b e now landed s d in
-    let (own, seats) = one_of (TransactionPlaced hosts) h.b.transactions d.gives.transaction (transactions_placed hosts (counts u n x b e now landed) s.small h.reached n h.x h.b h.found h.up) h.stands in
+    let (own, seats) = one_of (TransactionPlaced hosts) h.b.transactions d.gives.transaction (transactions_placed hosts (counts u n x b e now landed) s.distinct h.reached n h.x h.b h.found h.up) h.stands in
     let place : IsPlaced hosts (accepted_as q) = one_of (λ y. IsPlaced hosts (accepted_as y)) d.gives.transaction.seats q seats sits in
-    home hosts n u x (seat_target d.gives.transaction.id q) c s.small s.reached s.found (own, place.least, place.most)
-    ((λ j. endpoint_of (sym (up_known hosts u s.small s.reached n x b s.found s.up).says.base_is j) (seat_target (keeps_id (moment_of b now) d.arrived d.request d.old d.gives d.enrolls j) q)) ∙ sym is)
+    home hosts n u x (seat_target d.gives.transaction.id q) c s.distinct s.reached s.found (own, place.least, place.most)
+    ((λ j. endpoint_of (sym (up_known hosts u s.distinct s.reached n x b s.found s.up).says.base_is j) (seat_target (keeps_id (moment_of b now) d.arrived d.request d.old d.gives d.enrolls j) q)) ∙ sym is)
 response_leads hosts u n x b e now landed s p c (names_completion d y protocol there who is reply) =
     let h : Held hosts (counts u n x b e now landed) n d.gives.transaction = held_after hosts u n x b e now landed s d in
-    let (own, seats) = one_of (TransactionPlaced hosts) h.b.transactions d.gives.transaction (transactions_placed hosts (counts u n x b e now landed) s.small h.reached n h.x h.b h.found h.up) h.stands in
-    home hosts n u x (targets.Completion d.gives.transaction.id) c s.small s.reached s.found own
-    ((λ j. endpoint_of (sym (up_known hosts u s.small s.reached n x b s.found s.up).says.base_is j) (targets.Completion (keeps_id (moment_of b now) d.arrived d.request d.old d.gives d.enrolls j))) ∙ sym is)
+    let (own, seats) = one_of (TransactionPlaced hosts) h.b.transactions d.gives.transaction (transactions_placed hosts (counts u n x b e now landed) s.distinct h.reached n h.x h.b h.found h.up) h.stands in
+    home hosts n u x (targets.Completion d.gives.transaction.id) c s.distinct s.reached s.found own
+    ((λ j. endpoint_of (sym (up_known hosts u s.distinct s.reached n x b s.found s.up).says.base_is j) (targets.Completion (keeps_id (moment_of b now) d.arrived d.request d.old d.gives d.enrolls j))) ∙ sym is)
 
 leading : (hosts : Hosts) → PostLaw hosts
 leading hosts = record {
@@ -86,7 +86,7 @@ leading hosts = record {
 
 answer_leads : (hosts : Hosts) (w : World) → HaveOwnAddresses hosts → Reached hosts w → (p : Posted) → IsIn p w.posted → AnswerLeads hosts p
 unfolding leading
-answer_leads hosts w small reached p i = one_has hosts small (leading hosts) w reached p i
+answer_leads hosts w distinct reached p i = one_has hosts distinct (leading hosts) w reached p i
 
 -- the coordinators of a transaction
 abbrev pub CoordinatorsLead : Hosts → Transaction → Type 0
@@ -101,7 +101,7 @@ link_leads : (hosts : Hosts) (u : World) (n : ℕ) (x : Node) (b : Book) (e : Ev
 link_leads hosts u n x b e now landed old new kind s (inl same) h = subst (LeadsIfKnown hosts) (sym same) (h kind)
 link_leads hosts u n x b e now landed old new kind s (inr j) h =
     let c : HasCome hosts u n j.message = has_come hosts u n x b e now landed j.message s j.came in
-    subst (LeadsIfKnown hosts) (sym j.known) (answer_leads hosts u s.small s.reached c.posted c.stands j.coordinator (c.message ∙ j.says))
+    subst (LeadsIfKnown hosts) (sym j.known) (answer_leads hosts u s.distinct s.reached c.posted c.stands j.coordinator (c.message ∙ j.says))
 
 left_leads : (hosts : Hosts) (u : World) (n : ℕ) (x : Node) (b : Book) (e : Event) (now : ℕ) (landed : Bool) (old : Transaction) (item : Option Transaction) → Stepping hosts u n x b e now landed
     → KeepsLinksIfLeft e old item → CoordinatorsLead hosts old → IfThere (CoordinatorsLead hosts) item
@@ -187,4 +187,4 @@ coordinating hosts = record {
 pub coordinators_lead : (hosts : Hosts) (w : World) → HaveOwnAddresses hosts → Reached hosts w → (n : ℕ) (x : Node) (b : Book) → nth n w.nodes ≡ Some x → x.book ≡ Some b
     → AllByRecursion (CoordinatorsLead hosts) b.transactions
 unfolding coordinating
-coordinators_lead hosts w small reached n x b found up = (books_have hosts small (coordinating hosts) w reached n x b found up).transactions
+coordinators_lead hosts w distinct reached n x b found up = (books_have hosts distinct (coordinating hosts) w reached n x b found up).transactions

@@ -162,16 +162,16 @@ coordinated t (Some s) e u a h = by_link (some_known s.volatile.coordinator s.du
 
 first_participant : (hosts : Hosts) (u : World) (n : ℕ) (x : Node) (b : Book) (t : Transaction) → HaveOwnAddresses hosts → Reached hosts u → nth n u.nodes ≡ Some x → x.book ≡ Some b
     → transaction_at b t.id ≡ Some t → accepts t.phase ≡ true → is_none t.superior ≡ false → t.seats ≡ [] → RegistersFirst u (record { node = n; id = t.id })
-first_participant hosts u n x b t small reached found up there takes under none =
+first_participant hosts u n x b t distinct reached found up there takes under none =
     let me : Who = record { node = n; id = t.id } in
     let c : Coordinated t =
     coordinated t t.superior refl under takes (all_find (λ y. JoinsFirst y.phase y.superior) transaction_id t.id b.transactions t (books_joined hosts u reached n x b found up) there) in
     let l : Leads hosts c.coordinator =
-    subst (LeadsIfKnown hosts) c.known (all_find (CoordinatorsLead hosts) transaction_id t.id b.transactions t (coordinators_lead hosts u small reached n x b found up) there c.kind) in
-    let knows : TransactionKnows hosts u n t = all_find (TransactionKnows hosts u n) transaction_id t.id b.transactions t (books_know hosts u small reached n x b found up).transactions there in
+    subst (LeadsIfKnown hosts) c.known (all_find (CoordinatorsLead hosts) transaction_id t.id b.transactions t (coordinators_lead hosts u distinct reached n x b found up) there c.kind) in
+    let knows : TransactionKnows hosts u n t = all_find (TransactionKnows hosts u n) transaction_id t.id b.transactions t (books_know hosts u distinct reached n x b found up).transactions there in
     let enlists : Enlists hosts u c.coordinator me c.kind = subst (λ o. EnlistsIfKnown hosts u o me c.kind) c.known (knows c.kind) in
     let (id, number, at, registered) = enlists l.node l.target l.leads in
-    let each : SeatsEach u n t = (seats_are_registered.reached hosts u small reached).complete n x b t found up (found_in transaction_id t.id b.transactions t there) (undecided t.phase takes) in
+    let each : SeatsEach u n t = (seats_are_registered.reached hosts u distinct reached).complete n x b t found up (found_in transaction_id t.id b.transactions t there) (undecided t.phase takes) in
     let nobody : (a : Accepted) → IsIn a u.accepted → IsSeatOf me a → ⊥ = λ a i of. subst (λ seats. IsIn a (map (accepted_seat n u.nodes t.id) seats)) none (each a of.0 i of.2 of.1) in
     let seat : Seat = record { number = number; kind = c.kind } in
     let r : Accepted = record { transaction = record { node = l.node; id = id }; seat = Some seat; participant = Some me } in
@@ -187,7 +187,7 @@ enrolled_order hosts u n x b e now landed s d (takes_seat kind protocol may is) 
   where
     by_seats : is_none d.old.superior ≡ false → (seats : List Enlistment) → d.old.seats ≡ seats → RegistersFirst u (record { node = n; id = d.old.id })
     by_seats under [] none =
-        first_participant hosts u n x b d.old s.small s.reached s.found s.up d.found
+        first_participant hosts u n x b d.old s.distinct s.reached s.found s.up d.found
         (first_true (accepts d.old.phase) _ (first_true (accepts d.old.phase && nat_lt (length d.old.seats) MOST_SEATS) _ may)) under none
     by_seats under (y ∷ ys) some = h under (subst HasSome (sym some) tt)
 enrolled_order hosts u n x b e now landed s d (takes_completion protocol may is) h =
@@ -263,7 +263,7 @@ ordering hosts = record {
 pub register_first : (hosts : Hosts) (w : World) → HaveOwnAddresses hosts → Reached hosts w → (n : ℕ) (x : Node) (b : Book) (t : Transaction) → nth n w.nodes ≡ Some x → x.book ≡ Some b
     → IsIn t b.transactions → OrderOf w n t
 unfolding ordering
-register_first hosts w small reached n x b t found up i = one_of (OrderOf w n) b.transactions t (books_have hosts small (ordering hosts) w reached n x b found up).transactions i
+register_first hosts w distinct reached n x b t found up i = one_of (OrderOf w n) b.transactions t (books_have hosts distinct (ordering hosts) w reached n x b found up).transactions i
 
 -- the first of two places
 first_place : {A : Type 0} (P : A → Type 0) (f g : List A) (r s : A) (b d : List A) → f ++ r ∷ b ≡ g ++ s ∷ d → AllByRecursion (λ a. P a → ⊥) f → (P r → ⊥) → P s → length f < length g
@@ -281,12 +281,12 @@ in_middle (y ∷ front) x back = inr (in_middle front x back)
 
 later_place : (hosts : Hosts) (es : List WorldEvent) (t x : Who) (s : Seat) (first : RegistersFirst (run_of hosts es) t) (second : RegistersFirst (run_of hosts es) x) → HaveOwnAddresses hosts
     → IsAccepted (run_of hosts es) t (Some s) x → length first.front < length second.front
-later_place hosts es t x s first second small there =
+later_place hosts es t x s first second distinct there =
     let r : Accepted = second.registration in
     let in_all : IsIn r (run_of hosts es).accepted = subst (IsIn r) (sym second.stands) (in_middle second.front r second.back) in
     let same : r ≡ record { transaction = r.transaction; seat = r.seat; participant = Some x } = λ i. record { transaction = r.transaction; seat = r.seat; participant = second.own i } in
     let own : IsAccepted (run_of hosts es) r.transaction r.seat x = subst (λ a. IsIn a (run_of hosts es).accepted) same in_all in
-    let one : r.transaction ≡ t = enlists_under_one hosts es small x r.transaction t r.seat (Some s) own there in
+    let one : r.transaction ≡ t = enlists_under_one hosts es distinct x r.transaction t r.seat (Some s) own there in
     first_place (IsSeatOf t) first.front second.front first.registration r first.back second.back (sym first.stands ∙ second.stands) first.none_before first.none_here (second.seat, second.taken, one)
 
 pub subordinates_register_first : SubordinatesRegisterFirst

@@ -175,7 +175,7 @@ none_at_seat hosts u n x b e p t found up known k j s leads =
     by_completion None f h = cc
     by_completion (Some c) f (h, rest) =
         let same : c.initiator ≡ up = cc in
-        apart (who_of u.nodes c.initiator) (unknown c same) (one_of IsKnownItem u.accepted _ (all_known hosts u p.world.laws.few p.world.laws.reached) h)
+        apart (who_of u.nodes c.initiator) (unknown c same) (one_of IsKnownItem u.accepted _ (all_known hosts u p.world.laws.distinct p.world.laws.reached) h)
 
 -- an initiator that asks: its From leads to an initiator
 pub asking_initiator : (hosts : Hosts) (u : World) (n : ℕ) (x : Node) (b : Book) (e : Event) → StepPremises hosts u n x b e → (a : Arrived) → e ≡ events.Arrived a → (id : Numbers)

@@ -263,4 +263,4 @@ falls_so hosts u v n x b p found up j g laws is told = record {
 pub outcome_falls : FallKeeps (λ hosts w. AbortsWereTold w) → FallKeeps IsOutcome
 outcome_falls told hosts u n x b p found up j =
     falls_so hosts u (goes_down n b u) n x b p found up j (grows_falls u n x b found)
-    (world_laws hosts (goes_down n b u) p.laws.few (fell u n x b p.laws.reached found up refl)) (gone_down n b u x found) (told hosts u n x b p found up j)
+    (world_laws hosts (goes_down n b u) p.laws.distinct (fell u n x b p.laws.reached found up refl)) (gone_down n b u x found) (told hosts u n x b p found up j)

@@ -80,7 +80,7 @@ new_joins hosts n b after order later came a s i e = joins (is_new n (nodes_of h
 -- the world behind a step is a reached one
 pub behind : (hosts : Hosts) (u : World) (n : ℕ) (x : Node) (b : Book) (e : Event) (now : ℕ) (landed : Bool) → StepPremises hosts u n x b e → WorldLaws hosts (counts u n x b e now landed)
 behind hosts u n x b e now landed p =
-    world_laws hosts (counts u n x b e now landed) p.world.laws.few (stepped u n x b e now landed [] p.world.laws.reached p.found p.up p.heard tt refl)
+    world_laws hosts (counts u n x b e now landed) p.world.laws.distinct (stepped u n x b e now landed [] p.world.laws.reached p.found p.up p.heard tt refl)
 
 -- a seat's registration stood before the step, or its transaction is undecided
 pub seat_joins : (hosts : Hosts) (u : World) (n : ℕ) (x : Node) (b : Book) (e : Event) (now : ℕ) (landed : Bool) → StepPremises hosts u n x b e → (t : Who) (number : ℕ) (kind : Kind) (y : Who)

@@ -42,19 +42,19 @@ use Rattle.votes.proofs.Telling.{seats_say_step}
 
 -- what is known of each reached world
 world_premises : (hosts : Hosts) (u : World) → HaveOwnAddresses hosts → Reached hosts u → WorldPremises hosts u
-world_premises hosts u few reached = record {
-  laws = world_laws hosts u few reached;
+world_premises hosts u distinct reached = record {
+  laws = world_laws hosts u distinct reached;
   moves = steps_move;
   tells = steps_tell;
-  knowing = coordinators_are_known.reached hosts u few reached;
-  prepared = prepared_recorded hosts u few reached;
-  read_only = read_only_gone hosts u few reached;
+  knowing = coordinators_are_known.reached hosts u distinct reached;
+  prepared = prepared_recorded hosts u distinct reached;
+  read_only = read_only_gone hosts u distinct reached;
 }
 
 step_premises : (hosts : Hosts) (u : World) (n : ℕ) (x : Node) (b : Book) (e : Event) → HaveOwnAddresses hosts → Reached hosts u → nth n u.nodes ≡ Some x → x.book ≡ Some b → Heard u n x e
     → StepPremises hosts u n x b e
-step_premises hosts u n x b e few reached found up heard =
-    record { world = world_premises hosts u few reached; found = found; up = up; heard = heard; ready = steps_move.ready hosts u reached n x b found up }
+step_premises hosts u n x b e distinct reached found up heard =
+    record { world = world_premises hosts u distinct reached; found = found; up = up; heard = heard; ready = steps_move.ready hosts u reached n x b found up }
 
 -- a post
 abbrev IsBacked : Hosts → World → Post → Type 0
@@ -115,14 +115,14 @@ nothing_yet hosts = record {
 
 -- the law
 outcome_law : (hosts : Hosts) → HaveOwnAddresses hosts → Law hosts
-outcome_law hosts few = record {
+outcome_law hosts distinct = record {
   Good = IsOutcome hosts;
   Fine = λ w g n p. IsBacked hosts w p;
   opens = nothing_yet hosts;
-  steps = λ u n x b e now landed reached found up heard j. stepped_outcome u n x b e now landed j (step_premises hosts u n x b e few reached found up heard);
+  steps = λ u n x b e now landed reached found up heard j. stepped_outcome u n x b e now landed j (step_premises hosts u n x b e distinct reached found up heard);
   posts = λ w j n p f. posted_outcome hosts w n p j f;
   still_fine = λ w j n p q f k. backed_on hosts w (with_post n p w) (grows_posts n (p ∷ []) w) q k;
-  falls = λ u n x b reached found up j. outcome_falls aborts_falls hosts u n x b (world_premises hosts u few reached) found up j;
+  falls = λ u n x b reached found up j. outcome_falls aborts_falls hosts u n x b (world_premises hosts u distinct reached) found up j;
   rises = λ u n x stop reached found down little j. outcome_rises hosts u n x stop found down j;
   waits = λ u n x clock reached found j. outcome_waits hosts u n x clock found j;
 }
@@ -152,7 +152,7 @@ outcome_law hosts few = record {
 
 world_outcome : (hosts : Hosts) (w : World) → HaveOwnAddresses hosts → Reached hosts w → IsOutcome hosts w
 unfolding outcome_law
-world_outcome hosts w few reached = holds hosts (outcome_law hosts few) w reached
+world_outcome hosts w distinct reached = holds hosts (outcome_law hosts distinct) w reached
 
 pub votes_are_kept : VotesAreKept
 votes_are_kept = record {

@@ -41,7 +41,7 @@ pub all_grown : (hosts : Hosts) (u : World) (n : ℕ) (x : Node) (b : Book) (e :
 all_grown hosts u n x b e now landed p = (step_gives (hosts.base_of n) (good.choices n) b e now landed known.says).grown
   where
     good : WorldGood hosts u
-    good = world_good hosts u p.world.laws.few p.world.laws.reached
+    good = world_good hosts u p.world.laws.distinct p.world.laws.reached
 
     known : IsUp (hosts.base_of n) (good.choices n) x.journal b
     known = subst (IsKnown (hosts.base_of n) (good.choices n) x.journal) p.up (good.nodes n x p.found)

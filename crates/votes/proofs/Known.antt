@@ -57,7 +57,7 @@ life_at hosts u n x b e s id = subst (λ c. Life x.journal (happened_on n u.happ
 -- what comes to it was posted
 pub came_by : (hosts : Hosts) (u : World) (n : ℕ) (x : Node) (b : Book) (e : Event) → StepPremises hosts u n x b e → (a : Arrived) → e ≡ events.Arrived a → HasCome hosts u n a
 came_by hosts u n x b e p a came =
-    has_come hosts u n x b e 0 true a (record { small = p.world.laws.few; reached = p.world.laws.reached; found = p.found; up = p.up; heard = p.heard }) came
+    has_come hosts u n x b e 0 true a (record { distinct = p.world.laws.distinct; reached = p.world.laws.reached; found = p.found; up = p.up; heard = p.heard }) came
 
 -- whom an endpoint leads to
 pub leads_who : (hosts : Hosts) (e : Epr) (m : ℕ) (T : Target) → LeadsTo hosts e m T → who_named hosts e ≡ who_at (Some (m, T))

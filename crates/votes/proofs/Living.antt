@@ -169,12 +169,12 @@ stands base rs (Some b) fx h id = h.good.lives id
 
 -- all that is known of a reached world
 pub world_laws : (hosts : Hosts) (w : World) → HaveOwnAddresses hosts → Reached hosts w → WorldLaws hosts w
-world_laws hosts w few reached = record {
-  few = few;
+world_laws hosts w distinct reached = record {
+  distinct = distinct;
   reached = reached;
-  bases = (world_good hosts w few reached).world.bases;
+  bases = (world_good hosts w distinct reached).world.bases;
   lives = λ m y found id. stands y.base y.journal y.book (happened_on m w.happened) (as_they_are hosts w reached m y found) id;
-  sorted = world_sorted hosts w few reached;
-  seated = world_seated hosts w few reached;
-  one = one_superior hosts w few reached;
+  sorted = world_sorted hosts w distinct reached;
+  seated = world_seated hosts w distinct reached;
+  one = one_superior hosts w distinct reached;
 }

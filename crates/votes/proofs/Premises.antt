@@ -22,7 +22,7 @@ use Rattle.votes.specs.Voting.{PreparedIsRecorded, ReadOnlyIsGone}
 
 -- what is known of every reached world
 pub record WorldLaws (hosts : Hosts) (u : World) : Type 0 where
-  pub few : HaveOwnAddresses hosts
+  pub distinct : HaveOwnAddresses hosts
   pub reached : Reached hosts u
   pub bases : HaveBases u.nodes (new_nodes hosts.base_of hosts.count 1)
   pub lives : (m : ℕ) (y : Node) → nth m u.nodes ≡ Some y → (id : Numbers) → Life y.journal (happened_on m u.happened) id (transaction_at (book_of y) id) (leaf_at (book_of y) id)

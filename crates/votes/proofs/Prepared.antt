@@ -241,14 +241,14 @@ fallen_recorded u n x b found h =
 
 -- the law
 prepared_law : (hosts : Hosts) → HaveOwnAddresses hosts → Law hosts
-prepared_law hosts few = record {
+prepared_law hosts distinct = record {
   Good = PreparedIsRecorded;
   Fine = λ w g n p. IsRecorded w n p;
   opens = λ x (q, i, sender, own, says). absurd i;
   steps = λ u n x b e now landed reached found up heard h. (
     (λ y k. voted_on u (counts u n x b e now landed) (grows_counts u n x b e now landed found) y (h y k)),
     all_outs (IsRecorded (counts u n x b e now landed) n) (step b e now landed).outs
-        (λ p i id own says. voter_recorded hosts u n x b e now landed (record { laws = world_laws hosts u few reached; found = found; up = up }) id
+        (λ p i id own says. voter_recorded hosts u n x b e now landed (record { laws = world_laws hosts u distinct reached; found = found; up = up }) id
         (voters b e now (standing landed (plan b e now).entry) (step b e now landed) id notices.Prepared p (inl refl) own says
         (steps_tell.told b e now landed (steps_move.ready hosts u reached n x b found up) p notices.Prepared i says))),
   );
@@ -262,4 +262,4 @@ prepared_law hosts few = record {
 
 pub prepared_recorded : (hosts : Hosts) (w : World) → HaveOwnAddresses hosts → Reached hosts w → PreparedIsRecorded w
 unfolding prepared_law
-prepared_recorded hosts w few reached = holds hosts (prepared_law hosts few) w reached
+prepared_recorded hosts w distinct reached = holds hosts (prepared_law hosts distinct) w reached

@@ -293,20 +293,20 @@ fall_gone hosts u n x b laws found up order h =
     (λ m differ. on_join m u.happened (lost_in n b) ∙ ap (λ zs. happened_on m u.happened ++ zs) (lost_there m n b differ) ∙ append-nil (happened_on m u.happened)) y (h y k))
 
 read_only_law : (hosts : Hosts) → HaveOwnAddresses hosts → Law hosts
-read_only_law hosts few = record {
+read_only_law hosts distinct = record {
   Good = ReadOnlyIsGone;
   Fine = λ w g n p. GoesWithoutTrace w n p;
   opens = λ x (q, i, sender, own, says). absurd i;
   steps = λ u n x b e now landed reached found up heard h. (
     step_gone hosts u n x b e now landed found up (steps_move.ready hosts u reached n x b found up) h,
     all_outs (GoesWithoutTrace (counts u n x b e now landed) n) (step b e now landed).outs
-        (λ p i id own says. voter_gone hosts u n x b e now landed (world_laws hosts u few reached) found up (steps_move.ready hosts u reached n x b found up) id
+        (λ p i id own says. voter_gone hosts u n x b e now landed (world_laws hosts u distinct reached) found up (steps_move.ready hosts u reached n x b found up) id
         (voters b e now (standing_entry landed (plan b e now).entry) (step b e now landed) id notices.ReadOnly p (inr refl) own says
         (steps_tell.told b e now landed (steps_move.ready hosts u reached n x b found up) p notices.ReadOnly i says))),
   );
   posts = λ w h n p f. posted_gone w n p h f;
   still_fine = λ w g n p q f k id own says. same_trace w n p (record { node = n; id = id }) (k id own says);
-  falls = λ u n x b reached found up h. fall_gone hosts u n x b (world_laws hosts u few reached) found up (steps_move.ready hosts u reached n x b found up).order h;
+  falls = λ u n x b reached found up h. fall_gone hosts u n x b (world_laws hosts u distinct reached) found up (steps_move.ready hosts u reached n x b found up).order h;
   rises = λ u n x stop reached found down little h y k.
       put_trace u (record u { nodes = put_nth n (up_after (started (last_incarnation x.journal + 1) x) stop) u.nodes }) n x (up_after (started (last_incarnation x.journal + 1) x) stop) found refl
       (λ id g. gone_up u.happened n x stop down id g) (λ m differ. refl) y (h y k);
@@ -317,4 +317,4 @@ read_only_law hosts few = record {
 
 pub read_only_gone : (hosts : Hosts) (w : World) → HaveOwnAddresses hosts → Reached hosts w → ReadOnlyIsGone w
 unfolding read_only_law
-read_only_gone hosts w few reached = holds hosts (read_only_law hosts few) w reached
+read_only_gone hosts w distinct reached = holds hosts (read_only_law hosts distinct) w reached
