@@ -691,6 +691,31 @@ deliver 6 1 202\n\
 told 1 1-1 aborted\n\
 ";
 
+/// What each node holds: two activities at the first; the root's completion seat and the subordinate's two seats; the
+/// subordinate's two links and its participant's seat; that participant; and nothing.
+const HELD: &str = "\
+begin 1 2 0\n\
+flush\n\
+interpose 1 1-1 3\n\
+flush\n\
+work 1 1-2 4 d prepared\n\
+flush\n\
+mark\n\
+held 1\n\
+held 2\n\
+held 3\n\
+held 4\n\
+held 5\n\
+";
+
+const HELD_LOG: &str = "\
+held 1 2\n\
+held 2 3\n\
+held 3 3\n\
+held 4 1\n\
+held 5 0\n\
+";
+
 /// Each run, and what it is to say.
 const RUNS: &[(&str, &str)] = &[
     (PLAIN, PLAIN_LOG),
@@ -713,6 +738,7 @@ const RUNS: &[(&str, &str)] = &[
     (UNREGISTERED_EXPIRES, UNREGISTERED_EXPIRES_LOG),
     (ACTIVITY_EXPIRES, ACTIVITY_EXPIRES_LOG),
     (ROLLS_BACK, ROLLS_BACK_LOG),
+    (HELD, HELD_LOG),
 ];
 
 fn push_wrong(

@@ -408,6 +408,16 @@ impl Net {
         }
     }
 
+    /// `held NODE`
+    fn held(&mut self, alloc: Global, line: &str) -> Result<(), AllocError> {
+        let held = match self.nodes.get(number(line, 1).saturating_sub(1)) {
+            Some(at) => at.book.held(),
+            None => 0,
+        };
+        let line = format!(in alloc; "{line} {held}")?;
+        self.note(line.as_str())
+    }
+
     fn lost(&self, alloc: Global, node: usize) -> Result<Effects, AllocError> {
         match self.nodes.get(node.saturating_sub(1)) {
             Some(at) => at.book.lost(alloc),
@@ -439,6 +449,7 @@ impl Net {
             "tick" => self.tick(alloc, line),
             "up" => self.restart(alloc, line),
             "same" => self.same(line),
+            "held" => self.held(alloc, line),
             _ => self.request(alloc, line),
         }
     }

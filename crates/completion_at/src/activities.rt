@@ -138,6 +138,13 @@ impl Activities {
         self.live.len()
     }
 
+    /// How many activities they hold. It takes no memory.
+    pub fn held(&self) -> u64
+        ensures { result ≡ length self.now }
+    {
+        self.live.len() as u64
+    }
+
     /// The activity of this id.
     pub fn find(&self, id: Id) -> Option<&Activity>
         ensures { option_copied result ≡ find_by activity_id id self.now }

@@ -1,4 +1,5 @@
 pub mod Creating
+pub mod Held
 pub mod Planning
 pub mod Recovering
 pub mod Registering

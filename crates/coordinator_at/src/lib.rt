@@ -4,6 +4,7 @@
 
 pub mod create;
 pub mod due;
+mod held;
 mod recover;
 pub mod register;
 pub mod transactions;

@@ -1,6 +1,6 @@
 //! The live transactions of a node: planned first, and then done.
 
-ghost use Rattle.std.specs.Prelude.{◌≡◌, ◌∷◌, ◌++◌, ◌&&◌, IfOk, OnOk, [], length, nat_eq, option_copied};
+ghost use Rattle.std.specs.Prelude.{◌≡◌, ◌∷◌, ◌++◌, ◌&&◌, ◌-◌, ◌^◌, IfOk, OnOk, [], length, min, nat_eq, option_copied};
 ghost use Rattle.at_model.specs.Book.{find_by, transaction_id};
 ghost use Rattle.at_model.specs.Due.{transaction_due};
 ghost use Rattle.at_model.specs.Step.{find_seat, is_reached};
@@ -8,11 +8,13 @@ ghost use Rattle.at_tables.specs.Names.{is_kind};
 ghost use Rattle.by_id.specs.Decided.{decision_of};
 ghost use Rattle.by_id.specs.Lists.{altered, next_due};
 ghost use Rattle.by_id.specs.Plans.{branch_of};
+ghost use Rattle.coordinator_at.specs.Held.{transactions_held};
 ghost use Rattle.coordinator_at.specs.Whole.{PlansAsTheModel};
 ghost use Rattle.coordinator_at.specs.Planning.{nothing, moved, creation_arrived, register_at, registration_arrived, completion_arrived, completion_at, seat_arrived, seat_at, link_arrived, link_at, arrived_at, transaction_asked, item_asked, transactions_plan, roots_lost, subordinates_lost, transactions_lost, has_initiator, has_seat, has_superior};
 
 use crate::create::on_create;
 use crate::due::on_due;
+use crate::held::all_held;
 use crate::register::on_register;
 use at_base::event::{Arrived, Event, Item, Moment};
 use at_base::id::Id;
@@ -346,6 +348,14 @@ impl Transactions {
         ensures { result ≡ length self.now }
     {
         self.live.len()
+    }
+
+    /// How many seats, completion seats and links (two of each subordinate) they hold, and the greatest number where there are
+    /// more. It takes no memory.
+    pub fn held(&self) -> u64
+        ensures { result ≡ min (transactions_held self.now) (2 ^ 64 - 1) }
+    {
+        all_held(self.live.as_slice())
     }
 
     /// The transaction of this id.

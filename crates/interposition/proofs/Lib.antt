@@ -7,3 +7,4 @@ pub mod Undrawn
 pub mod Finding
 pub mod Walking
 pub mod Losing
+pub mod Holding

@@ -1,6 +1,6 @@
 //! A node's book: planned first, and then done.
 
-ghost use Rattle.std.specs.Prelude.{ℕ, List, ◌≡◌, ◌≤◌, ◌++◌, ◌∷◌, [], IfOk, OnOk, Option, Some, None, option_copied, option_map};
+ghost use Rattle.std.specs.Prelude.{ℕ, List, ◌≡◌, ◌≤◌, ◌++◌, ◌∷◌, ◌-◌, ◌^◌, [], IfOk, OnOk, Option, Some, None, min, option_copied, option_map};
 ghost use Rattle.at_base.specs.declared.event.Event.TheVariants as events;
 ghost use Rattle.at_base.specs.declared.record.Record.{Record};
 ghost use Rattle.at_base.specs.declared.target.Target.TheVariants as targets;
@@ -13,13 +13,13 @@ ghost use Rattle.coordinator_at.specs.Planning.{has_initiator, transactions_lost
 ghost use Rattle.participant_at.specs.Planning.{leaves_lost, leaves_plan};
 ghost use Rattle.interposition.specs.Doing.{done, drawn, kept, noted, outcomes_by, sent};
 ghost use Rattle.interposition.specs.Due.{FindsTheDue, WalksTheDue, next_item, next_transaction, next_leaf, next_activity};
+ghost use Rattle.interposition.specs.Held.{HoldsFew, held};
 ghost use Rattle.interposition.specs.Recovered.{RecoversAsTheModel, StandFor, recovered};
 ghost use Rattle.interposition.specs.Planning.{arrived_part, at_activation, at_activity, at_completion, at_leaf, at_participant, at_registration, at_transaction, at_work, due_part, part_of, planned, requested_part};
 ghost use Rattle.interposition.specs.declared.plan.Part.TheVariants as parts;
 ghost use Rattle.transaction_at.specs.PhaseNames.{phase_of};
 ghost use Rattle.interposition.specs.Whole.{KeepsBounds, LosesAsTheModel, StepsAsTheModel};
 
-use crate::outcomes::Outcomes;
 use crate::plan::{Part, Plan, draws, notes_time};
 use crate::strangers::{answered, committed, ignored, nothing, stranger};
 use at_base::event::{Arrived, Event, Item, Local, Moment};
@@ -39,6 +39,7 @@ use completion_at::requests::Refusal;
 use coordinator_at::register::register_unknown;
 use coordinator_at::transactions::{Transactions, plans_as_the_model as transactions_as_the_model};
 use model_laws::rules::{ids_rise, records_are_well_formed, recovers_the_compacted};
+use outcomes_at::outcomes::Outcomes;
 use participant_at::leaves::{Leaves, plans_as_the_model as leaves_as_the_model};
 use std::alloc::{AllocError, Global};
 use std::marker::Model;
@@ -169,7 +170,7 @@ impl Book {
         ensures { IfOk result (λ book. book ≡ recovered base.now live.now done.now incarnation) }
     {
         let base = base.clone()?;
-        let outcomes = Outcomes::recover(alloc, done)?;
+        let outcomes = Outcomes::newest_of(alloc, done)?;
         let transactions = Transactions::recover(alloc, &base, live)?;
         let leaves = Leaves::recover(alloc, live)?;
         let activities = Activities::new(alloc)?;
@@ -598,6 +599,22 @@ impl Book {
         ensures { result ≡ self.now.incarnation }
     {
         self.incarnation
+    }
+
+    /// How many seats, completion seats, links (two of each subordinate), leaves and activities it holds, and the greatest
+    /// number where there are more. There are no more where each list has at most 4,294,967,295 items and each transaction
+    /// at most 512 seats (`exact`). A node makes no item of a list in which 1,024 live, and accepts nobody where 512 have a
+    /// seat. It takes no memory.
+    pub fn held(&self) -> u64
+        ensures value { result ≡ min (held self.now) (2 ^ 64 - 1) }
+        ensures exact { HoldsFew self.now → result ≡ held self.now }
+    {
+        let transactions = self.transactions.held();
+        let leaves = self.leaves.held();
+        let activities = self.activities.held();
+        transactions
+            .saturating_add(leaves)
+            .saturating_add(activities)
     }
 
     fn next_activity(&self, moment: &Moment, after: Option<Id>) -> Option<Item>

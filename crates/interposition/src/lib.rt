@@ -3,6 +3,5 @@
 #![tactic(auto)]
 
 pub mod book;
-pub mod outcomes;
 pub mod plan;
 mod strangers;

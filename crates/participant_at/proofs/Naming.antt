@@ -1,10 +1,14 @@
--- Message ids of names that are equal.
-use Rattle.std.proofs.Common.{ℕ, List, ◌≡◌, IfOk, subst}
+-- What an answer is equal to may be exchanged for what that is equal to.
+use Rattle.std.proofs.Common.{List, [], ◌∷◌, ◌++◌, ◌≡◌, IfOk, OnOk, subst}
 use Rattle.std.specs.Prelude.{Result}
-use Rattle.at_base.specs.MessageId.{message_id_of}
+use Rattle.at_base.specs.declared.outs.Out.{Out}
+use Rattle.at_base.specs.declared.outs.Out.TheVariants as outs
+use Rattle.at_base.specs.declared.outs.Post.{Post}
 
--- A message id of a name is one of the name that it is equal to.
-pub renamed :
-    {E : Type 0} (r : Result (List ℕ) E) (a b : List ℕ) → a ≡ b → IfOk r (λ t. t ≡ message_id_of a)
-    → IfOk r (λ t. t ≡ message_id_of b)
-renamed r a b e h = subst (λ n. IfOk r (λ t. t ≡ message_id_of n)) e h
+pub named : {A E : Type 0} (r : Result A E) (x y : A) → x ≡ y → IfOk r (λ a. a ≡ x) → IfOk r (λ a. a ≡ y)
+named r x y e h = subst (λ z. IfOk r (λ a. a ≡ z)) e h
+
+pub posted :
+    {A E : Type 0} (r : Result A E) (new old : List Out) (x y : Post) → x ≡ y → OnOk r (new ≡ old ++ outs.Post x ∷ [])
+    → OnOk r (new ≡ old ++ outs.Post y ∷ [])
+posted r new old x y e h = subst (λ z. OnOk r (new ≡ old ++ outs.Post z ∷ [])) e h

@@ -15,8 +15,7 @@ ghost use Rattle.participant_at.specs.Planning.{nothing, work_arrived, leaf_arri
 
 use crate::due::{may_expire, on_due};
 use crate::leaf::Leaf;
-use crate::posts::accepted;
-use crate::rules::{ending, on_leaf, unchanged};
+use crate::rules::{ending, on_leaf};
 use crate::work::on_work;
 use at_base::event::{Arrived, Event, Item, Moment};
 use at_base::id::Id;
@@ -24,7 +23,9 @@ use at_base::message::Message;
 use at_base::notice::Kind;
 use at_base::outs::{Effects, Ending, OutList, Outs};
 use at_base::target::Target;
+use at_posts::answers::accepted;
 use by_id::list::ById;
+use by_id::moves::unchanged;
 use by_id::plan::{Branch, Plan};
 use std::alloc::{AllocError, Global};
 use std::marker::Model;
@@ -160,6 +161,13 @@ impl Leaves {
         ensures { result ≡ length self.now }
     {
         self.live.len()
+    }
+
+    /// How many leaves they hold. It takes no memory.
+    pub fn held(&self) -> u64
+        ensures { result ≡ length self.now }
+    {
+        self.live.len() as u64
     }
 
     /// The leaf of this id.

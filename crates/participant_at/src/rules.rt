@@ -13,7 +13,7 @@ ghost use Rattle.at_tables.specs.declared.cells.State.TheVariants as states;
 ghost use Rattle.at_base.specs.declared.message.Message.TheVariants as messages;
 ghost use Rattle.at_base.specs.declared.outs.Ending.TheVariants as endings;
 ghost use Rattle.at_base.specs.declared.outs.Out.TheVariants as outcome;
-ghost use Rattle.by_id.specs.Plans.{changed, decided, unchanged};
+ghost use Rattle.by_id.specs.Plans.{changed, decided};
 ghost use Rattle.participant_at.specs.Branches.{kept, dropped, ended};
 
 use crate::leaf::Leaf;
@@ -27,6 +27,7 @@ use at_base::record::Record;
 use at_base::text::Text;
 use at_tables::cells::{Act, State, participant_cell};
 use by_id::list::Alteration;
+use by_id::moves::unchanged;
 use by_id::plan::{Branch, Plan};
 use std::alloc::{AllocError, Global};
 
@@ -95,16 +96,6 @@ fn ended(
         },
         outs,
     })
-}
-
-/// Nothing is done, and only this is sent.
-pub fn unchanged(alloc: Global, outs: OutList) -> Branch<Leaf>
-    ensures { result ≡ unchanged outs }
-{
-    Branch {
-        change: Alteration::Keep,
-        outs: silent(alloc, outs),
-    }
 }
 
 /// A copy of the leaf that has sent now.

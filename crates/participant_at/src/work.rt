@@ -8,15 +8,17 @@ ghost use Rattle.at_model.specs.Leaves.{new_leaf, leaf_register, refuse_work, em
 ghost use Rattle.participant_at.specs.Employing.{employed};
 
 use crate::leaf::{Leaf, WorkRequest};
-use crate::posts::{Answer, accepted, push_register, replied};
-use crate::rules::{silent, unchanged};
+use crate::posts::{Answer, push_register, replied};
+use crate::rules::silent;
 use at_base::epr::{Epr, Reply};
 use at_base::event::{Arrived, Moment};
 use at_base::id::Id;
 use at_base::message::{Work, cloned_option};
 use at_base::outs::OutList;
+use at_posts::answers::accepted;
 use at_tables::cells::State;
 use by_id::list::{Alteration, MOST};
+use by_id::moves::unchanged;
 use by_id::plan::{Branch, Plan};
 use std::alloc::{AllocError, Global};
 

@@ -12,7 +12,7 @@ use at_base::record::{Record, Seated};
 use at_base::text::Text;
 use by_id::list::is_same;
 use interposition::book::Book;
-use interposition::outcomes::Outcomes;
+use outcomes_at::outcomes::Outcomes;
 use std::alloc::{AllocError, Global};
 
 /// The incarnation of a Start, or of a record's id.
@@ -247,7 +247,7 @@ fn live_of(alloc: Global, journal: &[Record]) -> Result<Vec<Record>, AllocError>
 fn outcomes_of(alloc: Global, journal: &[Record]) -> Result<Outcomes, AllocError>
     ensures { IfOk result (λ outcomes. outcomes ≡ outcomes_after [] journal.now) }
 {
-    let mut outcomes = Outcomes::recover(alloc, &[])?;
+    let mut outcomes = Outcomes::new(alloc)?;
     for entry in journal {
         outcomes.note(entry);
     }

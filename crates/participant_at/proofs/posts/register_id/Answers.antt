@@ -1,7 +1,7 @@
-use Rattle.std.proofs.Common.{◌∙◌}
-use Rattle.participant_at.proofs.Naming.{renamed}
+use Rattle.at_model.specs.Addresses.{register_id}
+use Rattle.participant_at.proofs.Naming.{named}
 use Rattle.participant_at.proofs.posts.register_id.Goals as goal
 
 pub returns : goal.returns
 returns c =
-    renamed c.message_id.result _ _ (c.as_bytes.ensures.value ∙ (c.as_str.ensures ∙ c.in_ok-name.ensures)) c.message_id.ensures
+    named c.register_id.result _ _ (λ i. register_id c.args.moment.now.base (c.target_of-own.ensures i)) c.register_id.ensures
