@@ -10,7 +10,6 @@ installed. Each figure is the least of ROUNDS runs (default 5), net of a run of 
 import os
 import subprocess
 import sys
-from xml.parsers import expat
 
 try:
     from lxml import etree
@@ -18,6 +17,7 @@ except ImportError:
     etree = None
 
 from envelopes import envelope, least
+from trees import tree_of
 
 TOP = os.path.dirname(os.path.dirname(os.path.abspath(__file__)))
 PROGRAM = os.environ.get("MESSAGE_LOOP", os.path.join(TOP, "crates", "message_loop", "out", "message_loop"))
@@ -29,28 +29,6 @@ def looped(words, data):
         subprocess.run([PROGRAM] + words, input=data, stdout=subprocess.DEVNULL, check=True)
 
     return call
-
-
-def tree_of(data):
-    """The tree that expat reads: names with their namespaces, attributes, and children with joined texts."""
-    root = []
-    stack = [root]
-    parser = expat.ParserCreate(namespace_separator=" ")
-    parser.buffer_text = True
-
-    def start(name, attributes):
-        kids = []
-        stack[-1].append((name, attributes, kids))
-        stack.append(kids)
-
-    def text(piece):
-        stack[-1].append(piece)
-
-    parser.StartElementHandler = start
-    parser.EndElementHandler = lambda name: stack.pop()
-    parser.CharacterDataHandler = text
-    parser.Parse(data, True)
-    return root[0]
 
 
 def again(count, call, data):

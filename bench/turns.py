@@ -12,9 +12,9 @@ node. Each figure is the least of ROUNDS runs (default 5), net of a run of no ro
 import os
 import subprocess
 import sys
-from xml.parsers import expat
 
 from envelopes import least
+from trees import tree_of
 
 TOP = os.path.dirname(os.path.dirname(os.path.abspath(__file__)))
 PROGRAM = os.environ.get("TURN_LOOP", os.path.join(TOP, "crates", "turn_loop", "out", "turn_loop"))
@@ -48,23 +48,6 @@ class Plain:
         self.items = {"/registration/1-1": {}}
         self.sent = []
 
-    def tree(self, text):
-        root = []
-        stack = [root]
-        parser = expat.ParserCreate(namespace_separator=" ")
-        parser.buffer_text = True
-
-        def start(name, attributes):
-            kids = []
-            stack[-1].append((name, attributes, kids))
-            stack.append(kids)
-
-        parser.StartElementHandler = start
-        parser.EndElementHandler = lambda name: stack.pop()
-        parser.CharacterDataHandler = lambda piece: stack[-1].append(piece)
-        parser.Parse(text, True)
-        return root[0]
-
     @staticmethod
     def child(kids, name):
         return next((kid[2] for kid in kids if kid[0] == name), None)
@@ -74,7 +57,7 @@ class Plain:
         lines = head.decode().split("\r\n")
         path = lines[0].split()[1]
         fields = dict(line.split(": ", 1) for line in lines[1:])
-        envelope = self.tree(body[:int(fields["Content-Length"])])[2]
+        envelope = tree_of(body[:int(fields["Content-Length"])])[2]
         soap = "http://schemas.xmlsoap.org/soap/envelope/ "
         headers, inside = self.child(envelope, soap + "Header"), self.child(envelope, soap + "Body")[0]
         sender = self.child(headers, f"{WSA} From") or self.child(headers, f"{WSA} ReplyTo")

@@ -1,3 +1,4 @@
+mod Addresses
 mod Examples
 mod Making
 mod Parsing

@@ -1,5 +1,5 @@
 -- What the words are: a job, a question for the help or the version, or faulty.
-use Rattle.std.specs.Prelude.{ℕ, List, [], ◌∷◌, ◌++◌, ◌-◌, ◌^◌, ◌≡◌, Bool, true, false, ◌&&◌, is_some, nat_le, length, if◌then◌else◌, Option, Some, None, Ok, codes, IsSomeAnd, IsTrue}
+use Rattle.std.specs.Prelude.{ℕ, List, [], ◌∷◌, ◌++◌, ◌-◌, ◌^◌, ◌≡◌, Bool, true, false, ◌&&◌, ◌||◌, ◌==◌, bytes_eq, decimal, nat_le, length, if◌then◌else◌, Option, Some, None, Ok, codes, IsSomeAnd, IsTrue}
 use Rattle.std.specs.List.{list_all}
 use Rattle.addressing.specs.Posting.{post_to_of}
 use Rattle.addressing.specs.declared.post_to.PostTo.{PostTo}
@@ -75,9 +75,26 @@ tick_to url = if nat_le (length (tick_address url)) 2048 then post_to_of (tick_a
 abbrev pub is_visible : ℕ → Bool
 is_visible b = nat_le 33 b && nat_le b 126
 
--- the address of a node, which with `http://` before it is its base: something can be posted there
+-- the host and the port of a destination, as they stand in an http URL (RFC 9110, section 4.2.1)
+abbrev pub authority : PostTo → List ℕ
+authority to = to.host ++ (codes ":" ++ decimal to.port)
+
+-- they are the whole address, and the port isn't 0
+abbrev pub is_authority : List ℕ → Option PostTo → Bool
+is_authority listen (Some to) = nat_le 1 to.port && bytes_eq (authority to) listen
+is_authority listen None = false
+
+-- the address of a node: exactly the host and the port to which a post goes whose URL is the node's base, `http://` and the address
 abbrev pub is_address : List ℕ → Bool
-is_address listen = nat_le (length listen) 1000 && list_all is_visible listen && is_some (post_to_of (codes "http://" ++ listen))
+is_address listen = nat_le (length listen) 1000 && list_all is_visible listen && is_authority listen (post_to_of (codes "http://" ++ listen))
+
+-- `#`, `/`, `?` or `@`, which begins or ends another part of a URL
+abbrev pub is_delimiter : ℕ → Bool
+is_delimiter b = b == 35 || b == 47 || b == 63 || b == 64
+
+-- an address has none of them
+abbrev pub IsNoDelimiter : ℕ → Type 0
+IsNoDelimiter b = is_delimiter b ≡ false
 
 abbrev pub MeansServing : Text → List Row → Serving → Type 0
 MeansServing name rows s =

@@ -53,7 +53,7 @@ no_numbers = codes "error: invalid value for '--seed <SEED>' or '--steps <N>'\n 
 
 -- or what the address and the number of a node that serves are
 unfoldable pub no_serving : List ℕ
-no_serving = codes "error: invalid value for '--listen <ADDR>' or '--turns <N>'\n  [ADDR: an address of at most 1000 bytes that is an http URL with 'http://' before it; N: 0 to 4294967295]\n\nFor more information, try '--help'.\n"
+no_serving = codes "error: invalid value for '--listen <ADDR>' or '--turns <N>'\n  [ADDR: HOST:PORT of at most 1000 bytes, as http URLs are normalized, PORT 1 to 65535; N: 0 to 4294967295]\n\nFor more information, try '--help'.\n"
 
 -- of the command of this name
 abbrev pub unread_at : Text → List ℕ

@@ -1,7 +1,8 @@
 //! The job that the words name.
 
 ghost use Rattle.std.specs.List.{list_all};
-ghost use Rattle.std.specs.Prelude.{ℕ, ◌≡◌, ◌≢◌, [], Bool, IfOk, IfErr, IfSome, IsSomeAnd, Some, codes, map, option_map, string_bytes};
+ghost use Rattle.std.specs.Prelude.{ℕ, ◌≡◌, ◌≢◌, ◌++◌, [], All, Bool, IfOk, IfErr, IfSome, IsSomeAnd, IsTrue, Some, codes, decimal, map, option_map, string_bytes, unwrap_or};
+ghost use Rattle.addressing.specs.Posting.{postable};
 ghost use Rattle.addressing.specs.declared.post_to.PostTo.{PostTo as MeantTo};
 ghost use Rattle.clap.specs.Faults.{fault_of};
 ghost use Rattle.clap.specs.Kinds.{HasKind};
@@ -10,11 +11,13 @@ ghost use Rattle.clap.specs.Walk.{first_of, rows_of};
 ghost use Rattle.clap.specs.Matches.{found_of};
 ghost use Rattle.clap.specs.Values.{kind_of};
 ghost use Rattle.command_line.specs.Commands.{whole};
-ghost use Rattle.command_line.specs.Jobs.{Filter as MeantFilter, IsJobOf, Job as Meant, Means, MeansFilter, MeansMade, MeansServing, Role as MeantRole, Serving as MeantServing, flag_text, is_address, is_visible, role_name, tick_to};
+ghost use Rattle.command_line.specs.Jobs.{Filter as MeantFilter, IsJobOf, IsNoDelimiter, Job as Meant, Means, MeansFilter, MeansMade, MeansServing, Role as MeantRole, Serving as MeantServing, flag_text, is_address, is_authority, is_visible, role_name, tick_to};
 ghost use Rattle.command_line.specs.Views.{Says, SaysUnread, Tells, meant, meant_filter, meant_role, meant_serving};
+ghost use Rattle.url.specs.Host.{host_text};
+ghost use Rattle.url.specs.Parts.{IsValid, nonempty_host};
 
 use crate::commands::whole;
-use addressing::post_to::{PostTo, is_postable, post_to};
+use addressing::post_to::{PostTo, post_to};
 use at_base::epr::Epr;
 use at_base::text::Text;
 use at_tables::cells::State;
@@ -22,6 +25,7 @@ use clap::error::ErrorKind;
 use clap::{ArgMatches, Error};
 use schedules::values::{read_long, read_number, read_small};
 use std::alloc::{AllocError, Global};
+use url::{ParseError, Url};
 
 /// What reads its input to the end, and prints what it makes of it.
 #[derive(Clone, Copy, Debug, PartialEq, Eq)]
@@ -46,7 +50,7 @@ pub enum Role {
 #[derive(Clone, Copy, Debug, PartialEq, Eq)]
 pub struct Serving<'a> {
     pub role: Role,
-    /// Where it listens; with `http://` before it the node's base. At most 1,000 bytes, each in 33 to 126.
+    /// The host and the port where it listens; with `http://` before it the node's base.
     pub listen: &'a str,
     /// The name of the journal's first file.
     pub journal: &'a str,
@@ -184,16 +188,46 @@ fn are_visible(word: &str) -> bool
     true
 }
 
+/// The host and the port of an http URL.
+fn authority(alloc: Global, url: &Url) -> Result<String, AllocError>
+    ensures { IfOk result (λ text. string_bytes text ≡ unwrap_or (option_map host_text (nonempty_host url.now)) [] ++ codes ":" ++ decimal (unwrap_or url.now.port 80)) }
+{
+    let text = format!(in alloc;
+        "{}:{}",
+        url.host_str().unwrap_or(""),
+        url.port().unwrap_or(80)
+    )?;
+    Ok(text)
+}
+
+/// Whether the address is the host and the port of an http URL, and the port isn't 0.
+fn is_authority(alloc: Global, listen: &str, url: &Url) -> Result<bool, AllocError>
+    ensures is { IfOk result (λ is. is ≡ is_authority listen.now (postable url.now)) }
+    ensures valid { IsValid url.now }
+{
+    if url.scheme() != "http" || url.port() == Some(0) {
+        return Ok(false);
+    }
+    let own = authority(alloc, url)?;
+    Ok(own.as_str() == listen)
+}
+
 /// Whether a node may listen there.
+#[tactic(auto, using(crate::proofs::Addresses::undelimited))]
 fn is_address(alloc: Global, listen: &str) -> Result<bool, AllocError>
-    ensures { IfOk result (λ is. is ≡ is_address listen.now) }
+    ensures is { IfOk result (λ is. is ≡ is_address listen.now) }
+    ensures undelimited { IfOk result (λ is. IsTrue is → All IsNoDelimiter listen.now) }
 {
     if listen.len() > LISTEN_BYTES || !are_visible(listen) {
         return Ok(false);
     }
     let mut base = String::from_str(alloc, "http://")?;
     base.push_str(listen)?;
-    is_postable(alloc, base.as_str())
+    match Url::parse(alloc, base.as_str()) {
+        Ok(url) => is_authority(alloc, listen, &url),
+        Err(ParseError::OutOfMemory | ParseError::Overflow) => Err(AllocError),
+        Err(_) => Ok(false),
+    }
 }
 
 fn role_of(name: &str) -> Option<Role>

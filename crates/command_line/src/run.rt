@@ -122,7 +122,7 @@ fn no_serving() -> &'static str
     ensures { result.now ≡ no_serving }
 {
     "error: invalid value for '--listen <ADDR>' or '--turns <N>'\n  \
-[ADDR: an address of at most 1000 bytes that is an http URL with 'http://' before it; N: 0 to 4294967295]\n\n\
+[ADDR: HOST:PORT of at most 1000 bytes, as http URLs are normalized, PORT 1 to 65535; N: 0 to 4294967295]\n\n\
 For more information, try '--help'.\n"
 }
 

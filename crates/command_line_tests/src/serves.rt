@@ -8,6 +8,7 @@ use site_model::sink::Sink;
 use site_model::site::Site;
 use site_model::sure::SureSite;
 use std::alloc::{AllocError, Global};
+use std::str;
 use std::test::Fail;
 
 /// The status of a command over this input and machine, and whether it prints this.
@@ -26,7 +27,7 @@ fn serves<H: Site>(
 }
 
 const NO_SERVING: &str = "error: invalid value for '--listen <ADDR>' or '--turns <N>'\n  \
-[ADDR: an address of at most 1000 bytes that is an http URL with 'http://' before it; N: 0 to 4294967295]\n\n\
+[ADDR: HOST:PORT of at most 1000 bytes, as http URLs are normalized, PORT 1 to 65535; N: 0 to 4294967295]\n\n\
 For more information, try '--help'.\n";
 
 /// Words, the input, the status, and what is printed, on a machine to which nobody connects.
@@ -38,7 +39,7 @@ const ROWS: &[(&str, &str, u8, &str)] = &[
         "up 1\n",
     ),
     (
-        "participant --turns=4294967295 --journal j --listen localhost",
+        "participant --turns=4294967295 --journal j --listen localhost:9002",
         "commit",
         0,
         "up 1\n",
@@ -67,12 +68,6 @@ const ROWS: &[(&str, &str, u8, &str)] = &[
         2,
         NO_SERVING,
     ),
-    (
-        "initiator --listen 127.0.0.1:99999 --journal j --turns 1",
-        "",
-        2,
-        NO_SERVING,
-    ),
 ];
 
 #[test]
@@ -80,6 +75,74 @@ fn who_serves_is_named_by_the_words(rt: HostRuntime) -> Result<(), Fail> {
     for (line, input, status, printed) in ROWS {
         let found = serves(rt.alloc(), line, input, &mut SureSite::new(), printed)?;
         assert!(rt; found == (*status, true), "{line}: {found:?}");
+    }
+    Ok(())
+}
+
+/// Addresses, and whether a node may listen there. What is refused stands behind a neighbour that is taken.
+const ADDRESSES: &[(&str, bool)] = &[
+    ("h.example:9001", true),
+    ("h.example", false),
+    ("h.example:", false),
+    ("H.example:9001", false),
+    ("h.example:9001/", false),
+    ("h.example/:9001", false),
+    ("h.example:9001?q", false),
+    ("h.example:9001#f", false),
+    ("u@h.example:9001", false),
+    ("h.example\\:9001", false),
+    ("h.exampl%65:9001", false),
+    ("http://h.example:9001", false),
+    ("h:80", true),
+    ("h:080", false),
+    ("h:+80", false),
+    ("h:1", true),
+    ("h:0", false),
+    ("h:65535", true),
+    ("h:65536", false),
+    ("h:9001:9002", false),
+    (":9001", false),
+    ("127.0.0.1:9001", true),
+    ("127.1:9001", false),
+    ("127.0.0.256:9001", false),
+    ("[::1]:9001", true),
+    ("[::1]", false),
+    ("::1:9001", false),
+    ("[0::1]:9001", false),
+];
+
+/// Whether a node comes up at an address. None where it does neither that nor say what an address is.
+fn comes_up_at(alloc: Global, listen: &str) -> Result<Option<bool>, AllocError> {
+    let line = format!(in alloc; "coordinator --listen {listen} --journal j --turns 0")?;
+    let up = serves(alloc, line.as_str(), "", &mut SureSite::new(), "up 1\n")?;
+    if up == (0, true) {
+        return Ok(Some(true));
+    }
+    let refused = serves(alloc, line.as_str(), "", &mut SureSite::new(), NO_SERVING)?;
+    if refused == (2, true) {
+        return Ok(Some(false));
+    }
+    Ok(None)
+}
+
+#[test]
+fn an_address_is_a_host_and_a_port(rt: HostRuntime) -> Result<(), Fail> {
+    for (listen, is_taken) in ADDRESSES {
+        let found = comes_up_at(rt.alloc(), listen)?;
+        assert!(rt; found == Some(*is_taken), "{listen}: {found:?}");
+    }
+    Ok(())
+}
+
+/// Of 1,000 bytes, and of one more.
+#[test]
+fn an_address_has_1000_bytes(rt: HostRuntime) -> Result<(), Fail> {
+    for (count, is_taken) in [(995, true), (996, false)] {
+        let host = vec![in rt.alloc(); b'a'; count]?;
+        let host = str::from_utf8(host.as_slice()).unwrap_or("");
+        let listen = format!(in rt.alloc(); "{host}:9001")?;
+        let found = comes_up_at(rt.alloc(), listen.as_str())?;
+        assert!(rt; found == Some(is_taken), "{count}: {found:?}");
     }
     Ok(())
 }

@@ -183,7 +183,8 @@ impl Net {
         }
     }
 
-    fn act(&mut self, alloc: Global, act: Act, node: usize) -> Result<u16, AllocError> {
+    /// What this answers: 0 where it was done, else as `number` says it, or 9.
+    pub fn act(&mut self, alloc: Global, act: Act, node: usize) -> Result<u16, AllocError> {
         match act {
             Act::Post(sender, n) => self.carry(alloc, sender, n, node),
             Act::Begin | Act::Work | Act::Commit => self.request(alloc, act, node),
@@ -192,7 +193,7 @@ impl Net {
     }
 
     /// What happened for good at a node in its last call, and how many posts it has sent.
-    fn shows(&self, node: usize, effect: &str, posts: usize) -> bool {
+    pub fn shows(&self, node: usize, effect: &str, posts: usize) -> bool {
         match self.peers.get(node.saturating_sub(1)) {
             Some(peer) => peer.effect() == effect && peer.posts() == posts,
             None => false,
@@ -220,6 +221,14 @@ impl Net {
     pub fn holds(&self, node: usize, file: &[u8]) -> bool {
         match self.peers.get(node.saturating_sub(1)) {
             Some(peer) => peer.holds(file),
+            None => false,
+        }
+    }
+
+    /// Whether a node's last answer is its n-th, from 1, and is this.
+    pub fn has_answered(&self, node: usize, n: usize, bytes: &[u8]) -> bool {
+        match self.peers.get(node.saturating_sub(1)) {
+            Some(peer) => peer.answers() == n && peer.has_answered(n, bytes),
             None => false,
         }
     }
