@@ -141,8 +141,11 @@ head_is_base url h http rest target e = by_host url.host refl
     whole : parse_url None (serialize (with_path url rest)) ≡ Ok (with_path url rest)
     whole = parse_url-serialize_special (with_path url rest) None (valid url rest h http (named_path rest target e)) of_http
 
+    differ : true ≡ false → ⊥
+    differ f = cc
+
     hostless : url.host ≡ None → ⊥
-    hostless n = absurd (subst (λ o. MatchOption o (is_special (kind_of url) ≡ false) (IsHostOf (kind_of url))) n h.host)
+    hostless n = differ (sym (ap is_special of_http) ∙ subst (λ o. MatchOption o (is_special (kind_of url) ≡ false) (IsHostOf (kind_of url))) n h.host)
 
     by_host : (o : Option (Host (List ℕ))) → url.host ≡ o → path_in (parse_url None (serialize (with_path url []) ++ rest)) ≡ Some rest
     by_host None n = absurd (hostless n)
