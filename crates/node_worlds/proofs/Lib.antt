@@ -7,3 +7,9 @@ pub mod Restarting
 pub mod Agreeing
 pub mod Hearing
 pub mod Calling
+mod Rows
+mod Acts
+mod Recording
+mod Quiet
+mod Lives
+mod Machines

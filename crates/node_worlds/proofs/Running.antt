@@ -45,7 +45,7 @@ use Rattle.node_at.specs.declared.shrink.Shrunk.TheVariants as shrunks
 use Rattle.node_at.specs.declared.turn.Turned.{Turned}
 use Rattle.node_at.specs.declared.turn.Turned.TheVariants as turneds
 use Rattle.node_worlds.specs.Leads.{IsHeard, IsUp, Leads, moved, posted_at}
-use Rattle.node_worlds.specs.Nets.{Brings, as_far, begun_in, broken, IsOpened, Net, NetsAreWorlds, Place, Runs, StandsAs, doings_in, new_net, new_place, new_places, rested, steps_in, with_started, without}
+use Rattle.node_worlds.specs.Nets.{Brings, as_far, begun_in, broken, IsOpened, Net, NetsAreWorlds, Place, Runs, StandsAs, doings_in, new_net, new_place, new_places, rested, steps_in, with_start, with_started, without}
 use Rattle.node_worlds.specs.Nets.{after as net_after}
 use Rattle.node_worlds.specs.Sent.{AreSent, Sent, recorded, records_by}
 use Rattle.node_worlds.proofs.Places.{nth_other, nth_this}
@@ -325,6 +325,33 @@ started_shows recovers shrinks count i u p n limit old new h here down start sam
     book = (λ j. recover (stands.base j) (behind (stands.journal j)))
         ∙ same_book recovers (base_of i) (behind p.records) (carried start.version start.rs ++ start_after start.rs ∷ []) kept ∙ sym start.book
 
+-- a start of which the record alone stands
+start_shows : (count i : ℕ) (u : Net) (p : Place) → Shown count u → nth i u.places ≡ Some p → p.node ≡ None → last_incarnation p.records < 4294967295 → Shown count (with_start i u p)
+start_shows count i u p h here down small = record {
+  world = record h.world { nodes = put_nth i y h.world.nodes };
+  reached = rose h.world i x true h.reached found (stands.book ∙ ap (option_map (λ (k : State). k.book)) down) (subst (λ k. k < last_counter) (sym (ap last_incarnation stands.journal)) small) refl;
+  nodes = places_put u.places h.world.nodes i p (record { node = None; records = p.records ++ start_after p.records ∷ [] }) x y here found
+      (record { base = stands.base; book = refl; journal = ap (λ rs. rs ++ start_after rs ∷ []) stands.journal }) h.nodes;
+  bases = bases_put h.world.nodes (new_nodes count 1) i x y found refl h.bases;
+  posted = h.posted;
+  happened = h.happened;
+}
+  where
+    at : (x : Node) × (nth i h.world.nodes ≡ Some x) × StandsAs i p x
+    at = h.nodes i p here
+
+    x : Node
+    x = at.0
+
+    found : nth i h.world.nodes ≡ Some x
+    found = at.1
+
+    stands : StandsAs i p x
+    stands = at.2
+
+    y : Node
+    y = up_after (node_started (last_incarnation x.journal + 1) x) true
+
 -- the end of a node
 ended_shows : (count i : ℕ) (u : Net) (p : Place) (n : State) → Shown count u → nth i u.places ≡ Some p → p.node ≡ Some n → Shown count (without i u p n)
 ended_shows count i u p n h here up = record {
@@ -414,6 +441,8 @@ module _ (walks : WalksTheDue) (recovers : RecoversTheCompacted) (shrinks : Shri
   shows told count net (Runs.opened is) = subst (Shown count) (sym is) (opens count)
   shows told count net (Runs.started u i p n limit s t run here down start same is) =
       subst (Shown count) (sym is) (started_shows recovers shrinks count i u p n limit (told s) (told t) (shows told count u run) here down start same)
+  shows told count net (Runs.start_recorded u i p run here down small is) =
+      subst (Shown count) (sym is) (start_shows count i u p (shows told count u run) here down small)
   shows told count net (Runs.turned u i p n m result role shrunk s t ps run here up turn runs brings sent is) =
       let h = shows told count u run in
       let first = turn.first in

@@ -5,3 +5,6 @@ pub mod Keeping
 pub mod Agreement
 pub mod Restarting
 pub mod Delivered
+pub mod Acts
+pub mod Lives
+pub mod Machines
