@@ -110,41 +110,41 @@ pub did_none : (rs : List Record) (n : State) (s : Told) → IsUp rs n s → Did
 did_none rs n s u = record { made = []; calls = grown_same s.calls; sent = λ runs. refl; time = no_time s _; up = λ runs. up_none rs n s u }
 
 -- one row behind another
-pub did_then : (rs : List Record) (as bs : List Act) (k m : State) (old mid new : Told) → Did rs as k old mid → k.halted ≡ false → Did (rs ++ records_in as) bs m mid new → Did rs (as ++ bs) m old new
-did_then rs as bs k m old mid new h runs g = record {
+pub did_then : (rs : List Record) (acts bs : List Act) (k m : State) (old mid new : Told) → Did rs acts k old mid → k.halted ≡ false → Did (rs ++ records_in acts) bs m mid new → Did rs (acts ++ bs) m old new
+did_then rs acts bs k m old mid new h runs g = record {
   made = h.made ++ g.made;
   calls = grown_then old.calls mid.calls new.calls h.made g.made h.calls g.calls;
-  sent = λ r. sent_append h.made g.made ∙ (λ i. h.sent runs i ++ g.sent r i) ∙ sym (acts_sent_append as bs);
+  sent = λ r. sent_append h.made g.made ∙ (λ i. h.sent runs i ++ g.sent r i) ∙ sym (acts_sent_append acts bs);
   time = and_then old mid new _
       (weaker old mid _ _ h.time (λ l c p. (
         through old mid new g.made l g.calls p.0,
-        (p.1.0, p.1.1, early rs (sent_by p.1.0) as bs (sent_by l) c p.1.2),
+        (p.1.0, p.1.1, early rs (sent_by p.1.0) acts bs (sent_by l) c p.1.2),
       )))
       (weaker mid new _ _ g.time (λ l c p. (
         after_that old mid new h.made l h.calls p.0,
         behind l c p.1.0 p.1.1 p.1.2,
       )));
-  up = λ r. subst (λ z. IsUp z m new) (append_assoc rs (records_in as) (records_in bs) ∙ ap (λ z. rs ++ z) (sym (records_append as bs))) (g.up r);
+  up = λ r. subst (λ z. IsUp z m new) (append_assoc rs (records_in acts) (records_in bs) ∙ ap (λ z. rs ++ z) (sym (records_append acts bs))) (g.up r);
 }
   where
-    behind : (l : List Made) (c : Files) (mids : List Made) → mid.calls ≡ Some mids → IsSoFar (rs ++ records_in as) (sent_by mids) bs (sent_by l) c
-        → (before : List Made) × (old.calls ≡ Some before) × IsSoFar rs (sent_by before) (as ++ bs) (sent_by l) c
+    behind : (l : List Made) (c : Files) (mids : List Made) → mid.calls ≡ Some mids → IsSoFar (rs ++ records_in acts) (sent_by mids) bs (sent_by l) c
+        → (before : List Made) × (old.calls ≡ Some before) × IsSoFar rs (sent_by before) (acts ++ bs) (sent_by l) c
     behind l c mids was m =
         let (before, then, is) = option_map_is (λ z. z ++ h.made) old.calls mids (sym h.calls ∙ was) in (
           before,
           then,
-          late rs (sent_by before) as bs (sent_by l) c
-              (subst (λ z. IsSoFar (rs ++ records_in as) z bs (sent_by l) c) (ap sent_by is ∙ sent_append before h.made ∙ ap (λ z. sent_by before ++ z) (h.sent runs)) m),
+          late rs (sent_by before) acts bs (sent_by l) c
+              (subst (λ z. IsSoFar (rs ++ records_in acts) z bs (sent_by l) c) (ap sent_by is ∙ sent_append before h.made ∙ ap (λ z. sent_by before ++ z) (h.sent runs)) m),
         )
 
 -- the machine alone went on
-pub did_still : (rs : List Record) (as : List Act) (m : State) (old mid new : Told) → Did rs as m old mid → Still mid new → Did rs as m old new
-did_still rs as m old mid new h s = record {
+pub did_still : (rs : List Record) (acts : List Act) (m : State) (old mid new : Told) → Did rs acts m old mid → Still mid new → Did rs acts m old new
+did_still rs acts m old mid new h s = record {
   made = h.made;
   calls = s.calls ∙ h.calls;
   sent = h.sent;
   time = and_then old mid new _
       (weaker old mid _ _ h.time (λ l c p. (through old mid new [] l (s.calls ∙ grown_same mid.calls) p.0, p.1)))
       (weaker mid new _ _ s.time (λ l c p. absurd p));
-  up = λ runs. up_on (rs ++ records_in as) m mid new s.files s.images (h.up runs);
+  up = λ runs. up_on (rs ++ records_in acts) m mid new s.files s.images (h.up runs);
 }

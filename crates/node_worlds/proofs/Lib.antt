@@ -11,5 +11,5 @@ mod Rows
 mod Acts
 mod Recording
 mod Quiet
-mod Lives
+mod Living
 mod Machines

@@ -33,7 +33,7 @@ use Rattle.node_worlds.specs.Nets.{Net, Place, Runs, new_net, new_place, new_pla
 use Rattle.node_worlds.specs.Restarting.{RestartsOnRecords, StandsFor}
 use Rattle.node_worlds.specs.Sent.{recorded, records_by}
 use Rattle.node_worlds.proofs.Acts.{same_more, up_on}
-use Rattle.node_worlds.proofs.Lives.{request_did, turn_did}
+use Rattle.node_worlds.proofs.Living.{request_did, turn_did}
 use Rattle.node_worlds.proofs.Places.{nth_other, nth_this}
 use Rattle.node_worlds.proofs.Recording.{acts_recorded}
 use Rattle.node_worlds.proofs.Rows.{some_is}
@@ -85,7 +85,7 @@ new_at (suc k) i p e = by_number (λ f. new_at k (i - 1) p f) (nat_eq i 1) e
     by_number rest true f = sym (some_is new_place p f)
     by_number rest false f = rest f
 
-empty : Files
+abbrev empty : Files
 empty = record { first = []; second = [] }
 
 empty_stands : StandsFor [] empty

@@ -8,6 +8,7 @@ use Rattle.journal_at.specs.declared.journal.Compact.{Compact}
 use Rattle.journal_at.specs.declared.journal.Compact.TheVariants as compacts
 use Rattle.journal_at.specs.declared.journal.Journal.{Journal}
 use Rattle.journal_at.specs.Standing.{Makes, lay, raise}
+use Rattle.record_bytes.specs.Bytes.{bytes_of}
 use Rattle.site_model.specs.Told.{Told, Call, Made, BreaksOff, done, failed, sent_by, sent_of}
 use Rattle.node_at.specs.declared.shrink.Shrunk.{Shrunk}
 use Rattle.node_at.specs.declared.shrink.Shrunk.TheVariants as shrunks
@@ -57,9 +58,9 @@ makes_silent appends.Full file end body made h = ap sent_by h
 -- an append
 pub fate_silent : (landed : Bool) (entry : Option Record) (j : Journal) (first : List Made) (old new : Told) → IsFate landed entry j first old new → sent_by first ≡ []
 fate_silent landed None j first old new h = ap sent_by h.0
-fate_silent true (Some r) j first old new h = makes_silent appends.Done _ _ _ first h.0
-fate_silent false (Some r) j first old new (inl h) = makes_silent appends.Refused _ _ _ first h.0
-fate_silent false (Some r) j first old new (inr h) = makes_silent appends.Full _ _ _ first h.0
+fate_silent true (Some r) j first old new h = makes_silent appends.Done j.live j.end (bytes_of r) first h.0
+fate_silent false (Some r) j first old new (inl h) = makes_silent appends.Refused j.live j.end (bytes_of r) first h.0
+fate_silent false (Some r) j first old new (inr h) = makes_silent appends.Full j.live j.end (bytes_of r) first h.0
 
 steps_silent : (r : Compact) (unshut : Bool) (file : ℕ) (text : List ℕ) (made : List Made) → Steps r unshut file text made → sent_by made ≡ []
 steps_silent compacts.Done unshut file text made h =

@@ -27,8 +27,8 @@ use Rattle.node_worlds.proofs.Rows.{weaker}
 abbrev pub AreActs : List Act → List Deed → Type 0
 AreActs [] [] = Unit {0}
 AreActs [] (d ∷ ds) = ⊥
-AreActs (a ∷ as) [] = ⊥
-AreActs (a ∷ as) (d ∷ ds) = (AreRecords Two a.records d.landed × (d.sent ≡ a.sent)) × AreActs as ds
+AreActs (a ∷ acts) [] = ⊥
+AreActs (a ∷ acts) (d ∷ ds) = (AreRecords Two a.records d.landed × (d.sent ≡ a.sent)) × AreActs acts ds
 
 records_join : (rs ss : List Record) (xs ys : List (List ℕ)) → AreRecords Two rs xs → AreRecords Two ss ys → AreRecords Two (rs ++ ss) (xs ++ ys)
 records_join [] ss [] ys h k = k
@@ -36,30 +36,30 @@ records_join [] ss (x ∷ xs) ys h k = absurd h
 records_join (r ∷ rs) ss [] ys h k = absurd h
 records_join (r ∷ rs) ss (x ∷ xs) ys h k = (h.0, records_join rs ss xs ys h.1 k)
 
-landed_are : (as : List Act) (ds : List Deed) → AreActs as ds → AreRecords Two (records_in as) (landed_of ds)
+landed_are : (acts : List Act) (ds : List Deed) → AreActs acts ds → AreRecords Two (records_in acts) (landed_of ds)
 landed_are [] [] h = tt
 landed_are [] (d ∷ ds) h = absurd h
-landed_are (a ∷ as) [] h = absurd h
-landed_are (a ∷ as) (d ∷ ds) h = records_join a.records (records_in as) d.landed (landed_of ds) h.0.0 (landed_are as ds h.1)
+landed_are (a ∷ acts) [] h = absurd h
+landed_are (a ∷ acts) (d ∷ ds) h = records_join a.records (records_in acts) d.landed (landed_of ds) h.0.0 (landed_are acts ds h.1)
 
-sent_are : (as : List Act) (ds : List Deed) → AreActs as ds → sent_of ds ≡ sent_in as
+sent_are : (acts : List Act) (ds : List Deed) → AreActs acts ds → sent_of ds ≡ sent_in acts
 sent_are [] [] h = refl
 sent_are [] (d ∷ ds) h = absurd h
-sent_are (a ∷ as) [] h = absurd h
-sent_are (a ∷ as) (d ∷ ds) h = λ i. h.0.1 i ++ sent_are as ds h.1 i
+sent_are (a ∷ acts) [] h = absurd h
+sent_are (a ∷ acts) (d ∷ ds) h = λ i. h.0.1 i ++ sent_are acts ds h.1 i
 
-long_are : (as : List Act) (ds : List Deed) → AreActs as ds → length ds ≡ length as
+long_are : (acts : List Act) (ds : List Deed) → AreActs acts ds → length ds ≡ length acts
 long_are [] [] h = refl
 long_are [] (d ∷ ds) h = absurd h
-long_are (a ∷ as) [] h = absurd h
-long_are (a ∷ as) (d ∷ ds) h = let e = long_are as ds h.1 in omega (arith, e)
+long_are (a ∷ acts) [] h = absurd h
+long_are (a ∷ acts) (d ∷ ds) h = let e = long_are acts ds h.1 in omega (arith, e)
 
-take_are : (k : ℕ) (as : List Act) (ds : List Deed) → AreActs as ds → AreActs (take k as) (take k ds)
-take_are zero as ds h = tt
+take_are : (k : ℕ) (acts : List Act) (ds : List Deed) → AreActs acts ds → AreActs (take k acts) (take k ds)
+take_are zero acts ds h = tt
 take_are (suc k) [] [] h = tt
 take_are (suc k) [] (d ∷ ds) h = absurd h
-take_are (suc k) (a ∷ as) [] h = absurd h
-take_are (suc k) (a ∷ as) (d ∷ ds) h = (h.0, take_are k as ds h.1)
+take_are (suc k) (a ∷ acts) [] h = absurd h
+take_are (suc k) (a ∷ acts) (d ∷ ds) h = (h.0, take_are k acts ds h.1)
 
 -- a record that landed, or none
 one_are : (landed : Bool) (entry : Option Record) → IfSome entry (λ r. IsRecord Two r (bytes_of r)) → AreRecords Two (records_by (if_landed landed entry)) (bodies_by (if_landed landed entry))
@@ -148,34 +148,34 @@ module _ (law : RecordsAreBodies) where
     are = all_are qs rs o.bodies xs o.of o.are are;
   }
 
-  so_far : (rs : List Record) (n : State) (s : Told) (as : List Act) (ds : List Deed) (live : ℕ) (start sent : List Call) (c : Files) → (u : IsUp rs n s) → AreActs as ds
-      → AtMoment live u.holds.bodies start ds sent c → IsSoFar rs start as sent c
-  so_far rs n s as ds live start sent c u are m = record {
+  so_far : (rs : List Record) (n : State) (s : Told) (acts : List Act) (ds : List Deed) (live : ℕ) (start sent : List Call) (c : Files) → (u : IsUp rs n s) → AreActs acts ds
+      → AtMoment live u.holds.bodies start ds sent c → IsSoFar rs start acts sent c
+  so_far rs n s acts ds live start sent c u are m = record {
     k = m.k;
-    within = let e = long_are as ds are in let w = m.within in omega (arith, e, w);
+    within = let e = long_are acts ds are in let w = m.within in omega (arith, e, w);
     stands = (
-      u.records ++ records_in (take m.k as),
-      stand_for u.records (records_in (take m.k as)) (landed_of (take m.k ds)) live n.journal s c u.holds (landed_are (take m.k as) (take m.k ds) (take_are m.k as ds are)) m.image,
-      same_more u.records rs (records_in (take m.k as)) u.same,
+      u.records ++ records_in (take m.k acts),
+      stand_for u.records (records_in (take m.k acts)) (landed_of (take m.k ds)) live n.journal s c u.holds (landed_are (take m.k acts) (take m.k ds) (take_are m.k acts ds are)) m.image,
+      same_more u.records rs (records_in (take m.k acts)) u.same,
     );
-    least = subst (λ z. IsPrefix (start ++ z) sent) (sent_are (take (m.k - 1) as) (take (m.k - 1) ds) (take_are (m.k - 1) as ds are)) m.least;
-    most = subst (λ z. IsPrefix sent (start ++ z)) (sent_are (take m.k as) (take m.k ds) (take_are m.k as ds are)) m.most;
+    least = subst (λ z. IsPrefix (start ++ z) sent) (sent_are (take (m.k - 1) acts) (take (m.k - 1) ds) (take_are (m.k - 1) acts ds are)) m.least;
+    most = subst (λ z. IsPrefix sent (start ++ z)) (sent_are (take m.k acts) (take m.k ds) (take_are m.k acts ds are)) m.most;
   }
 
-  pub moments_done : (rs : List Record) (n : State) (old new : Told) (as : List Act) (ds : List Deed) → (u : IsUp rs n old) → AreActs as ds
-      → Moments n.journal.live u.holds.bodies ds old new → Elapses old new (IsPrefixDone rs as old new)
-  moments_done rs n old new as ds u are h =
-      weaker old new _ _ h (λ l c p. (p.0, (p.1.0, p.1.1, so_far rs n old as ds n.journal.live (sent_by p.1.0) (sent_by l) c u are p.1.2)))
+  pub moments_done : (rs : List Record) (n : State) (old new : Told) (acts : List Act) (ds : List Deed) → (u : IsUp rs n old) → AreActs acts ds
+      → Moments n.journal.live u.holds.bodies ds old new → Elapses old new (IsPrefixDone rs acts old new)
+  moments_done rs n old new acts ds u are h =
+      weaker old new _ _ h (λ l c p. (p.0, (p.1.0, p.1.1, so_far rs n old acts ds n.journal.live (sent_by p.1.0) (sent_by l) c u are p.1.2)))
 
-  pub sent_done : (as : List Act) (ds : List Deed) → AreActs as ds → sent_of ds ≡ sent_in as
-  sent_done as ds are = sent_are as ds are
+  pub sent_done : (acts : List Act) (ds : List Deed) → AreActs acts ds → sent_of ds ≡ sent_in acts
+  sent_done acts ds are = sent_are acts ds are
 
-  pub up_more : (rs : List Record) (n m : State) (old new : Told) (as : List Act) (ds : List Deed) → (u : IsUp rs n old) → AreActs as ds
-      → Keeps m.journal (u.holds.bodies ++ landed_of ds) new → m.journal.unsure ≡ false → m.halted ≡ false → m.kept ≡ kept_of Two (rs ++ records_in as) → IsUp (rs ++ records_in as) m new
-  up_more rs n m old new as ds u are keeps sure runs kept = record {
+  pub up_more : (rs : List Record) (n m : State) (old new : Told) (acts : List Act) (ds : List Deed) → (u : IsUp rs n old) → AreActs acts ds
+      → Keeps m.journal (u.holds.bodies ++ landed_of ds) new → m.journal.unsure ≡ false → m.halted ≡ false → m.kept ≡ kept_of Two (rs ++ records_in acts) → IsUp (rs ++ records_in acts) m new
+  up_more rs n m old new acts ds u are keeps sure runs kept = record {
     runs = runs;
-    records = u.records ++ records_in as;
-    holds = open_more u.records (records_in as) (landed_of ds) n.journal m.journal old new u.holds (landed_are as ds are) keeps sure;
-    same = same_more u.records rs (records_in as) u.same;
+    records = u.records ++ records_in acts;
+    holds = open_more u.records (records_in acts) (landed_of ds) n.journal m.journal old new u.holds (landed_are acts ds are) keeps sure;
+    same = same_more u.records rs (records_in acts) u.same;
     kept = kept;
   }

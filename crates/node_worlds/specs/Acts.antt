@@ -31,11 +31,11 @@ pub record Act : Type 0 where
 
 abbrev pub records_in : List Act → List Record
 records_in [] = []
-records_in (a ∷ as) = a.records ++ records_in as
+records_in (a ∷ acts) = a.records ++ records_in acts
 
 abbrev pub sent_in : List Act → List Call
 sent_in [] = []
-sent_in (a ∷ as) = a.sent ++ sent_in as
+sent_in (a ∷ acts) = a.sent ++ sent_in acts
 
 -- what was said of a connection before the first step
 abbrev pub spoken : List Made → Act

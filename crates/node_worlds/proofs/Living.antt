@@ -4,23 +4,25 @@ use Rattle.std.proofs.lemmas.List.{append-nil}
 use Rattle.at_base.specs.declared.event.Event.TheVariants as events
 use Rattle.at_base.specs.declared.event.Local.{Local}
 use Rattle.at_base.specs.declared.record.Record.{Record}
-use Rattle.at_model.specs.Step.{plan}
+use Rattle.at_model.specs.Step.{plan, step}
+use Rattle.completion_at.specs.declared.requests.Refusal.{Refusal}
+use Rattle.decision_log.specs.Folding.{AreRecords}
 use Rattle.decision_log.specs.Keeping.{GrowsByOne, kept_of}
 use Rattle.journal_at.specs.declared.version.Version.TheVariants.{Two}
 use Rattle.journal_at.specs.Standing.{Keeps}
 use Rattle.record_bytes.specs.Bytes.{bytes_of}
 use Rattle.record_bytes.specs.Versions.{AreBodies as RecordsAreBodies}
-use Rattle.site_model.specs.Told.{Told, Files, Call, Made, IsPrefix, Still, sent_by}
+use Rattle.site_model.specs.Told.{Told, Between, Files, Call, Made, IsPrefix, Still, sent_by}
 use Rattle.node_at.specs.Doings.{Doing, Ran, calls_of, deeds_of, kept_behind}
 use Rattle.node_at.specs.Endings.{Ends, Renews, Rested, TakesTurn}
 use Rattle.node_at.specs.Locals.{Asked, cleared}
 use Rattle.node_at.specs.Meanings.{Meaning}
 use Rattle.node_at.specs.Moments.{Deed, landed_of}
-use Rattle.node_at.specs.Shrinking.{StandForSame}
+use Rattle.node_at.specs.Shrinking.{StandForSame, Stays}
 use Rattle.node_at.specs.Started.{IsStarted}
 use Rattle.node_at.specs.Starting.{started}
 use Rattle.node_at.specs.State.{State}
-use Rattle.node_at.specs.Steps.{IsDone, IsStopped, if_landed, kept_by, landed_by}
+use Rattle.node_at.specs.Steps.{IsDone, IsStopped, Went, if_landed, kept_by, landed_by}
 use Rattle.node_at.specs.Texts.{call_by}
 use Rattle.node_at.specs.TurnText.{TurnStep}
 use Rattle.node_at.specs.Turns.{Halts, Rests, Turns, busy, calm, line_of}
@@ -101,19 +103,19 @@ module _ (law : RecordsAreBodies) (grows : GrowsByOne) where
   ran_did rs made steps doings n m old new u r = record {
     made = calls_of (line_of made ++ doings);
     calls = r.does.calls;
-    sent = λ runs. r.does.sent ∙ sent_done as ds are;
-    time = moments_done law rs n old new as ds u are (r.does.moments u.holds.bodies u.holds.keeps);
-    up = λ runs. up_more law rs n m old new as ds u are (r.does.stands u.holds.bodies u.holds.keeps) (r.sure ∙ u.holds.sure) runs
+    sent = λ runs. r.does.sent ∙ sent_done law acts ds are;
+    time = moments_done law rs n old new acts ds u are (r.does.moments u.holds.bodies u.holds.keeps);
+    up = λ runs. up_more law rs n m old new acts ds u are (r.does.stands u.holds.bodies u.holds.keeps) (r.sure ∙ u.holds.sure) runs
         (r.kept ∙ ap (λ k. kept_behind k steps) u.kept ∙ kept_row grows steps rs ∙ ap (λ z. kept_of Two (rs ++ z)) (sym (acts_recorded n.kept steps doings r.are)));
   }
     where
-      as : List Act
-      as = spoken made ∷ acts_of steps doings
+      acts : List Act
+      acts = spoken made ∷ acts_of steps doings
 
       ds : List Deed
       ds = deeds_of (line_of made ++ doings)
 
-      are : AreActs as ds
+      are : AreActs acts ds
       are = ((tt, refl), acts_are n.kept steps doings r.are)
 
   halts_did : (rs : List Record) (made : List Made) (meaning : Meaning) (now : ℕ) (n m : State) (old new : Told) → IsUp rs n old → (h : Halts (line_of made) meaning now n m old new)
@@ -122,12 +124,12 @@ module _ (law : RecordsAreBodies) (grows : GrowsByOne) where
     made = calls_of (line_of made) ++ h.first;
     calls = h.calls;
     sent = λ runs. absurd (true≢false (sym halted ∙ runs));
-    time = moments_done law rs n old new as ds u are (h.moments u.holds.bodies u.holds.keeps);
+    time = moments_done law rs n old new acts ds u are (h.moments u.holds.bodies u.holds.keeps);
     up = λ runs. absurd (true≢false (sym halted ∙ runs));
   }
     where
-      as : List Act
-      as = spoken made ∷ acted h.step (map call_by h.step.leaving) ∷ []
+      acts : List Act
+      acts = spoken made ∷ acted h.step (map call_by h.step.leaving) ∷ []
 
       ds : List Deed
       ds = deeds_of (line_of made) ++ record { landed = bytes_of h.entry ∷ []; sent = map call_by h.step.leaving } ∷ []
@@ -135,7 +137,7 @@ module _ (law : RecordsAreBodies) (grows : GrowsByOne) where
       stands : if_landed h.step.landed h.step.entry ≡ Some h.entry
       stands = λ i. if_landed (h.landed i) (h.records i)
 
-      are : AreActs as ds
+      are : AreActs acts ds
       are = ((tt, refl), ((subst (λ z. AreRecords Two (records_by z) (bytes_of h.entry ∷ [])) (sym stands) (h.formed, tt), refl), tt))
 
       halted : m.halted ≡ true
@@ -147,8 +149,8 @@ module _ (law : RecordsAreBodies) (grows : GrowsByOne) where
 
   module _ {S : Type 0} (told : S → Told) where
     -- what a turn did, and then the end of it
-    then_ended : (rs : List Record) (as : List Act) (k m : State) (old mid new : Told) → Did rs as k old mid → k.halted ≡ false → Did (rs ++ records_in as) [] m mid new → Did rs as m old new
-    then_ended rs as k m old mid new h runs g = subst (λ z. Did rs z m old new) (append-nil as) (did_then rs as [] k m old mid new h runs g)
+    then_ended : (rs : List Record) (acts : List Act) (k m : State) (old mid new : Told) → Did rs acts k old mid → k.halted ≡ false → Did (rs ++ records_in acts) [] m mid new → Did rs acts m old new
+    then_ended rs acts k m old mid new h runs g = subst (λ z. Did rs z m old new) (append-nil acts) (did_then rs acts [] k m old mid new h runs g)
 
     pub turn_did : (rs : List Record) (result : Turned) (role : Role) (shrunk : Shrunk) (n m : State) (s t : S) → IsUp rs n (told s) → (turn : TakesTurn told result role shrunk n m s t)
         → Did rs (acts_in turn.first role n turn.node (told s) (told turn.behind) turn.steps) m (told s) (told t)
@@ -163,11 +165,11 @@ module _ (law : RecordsAreBodies) (grows : GrowsByOne) where
         here : IsUp rs (calm n) (told s)
         here = same_up rs n (told s) u
 
-        renewed : (first : Turned) (as : List Act) → k.halted ≡ false → Did rs as k (told s) (told mid) → Renews told first result shrunk k m mid t → Did rs as m (told s) (told t)
-        renewed first as runs h r = then_ended rs as k m (told s) (told mid) (told t) h runs (renews_did told (rs ++ records_in as) first result shrunk k m mid t (h.up runs) r)
+        renewed : (first : Turned) (acts : List Act) → k.halted ≡ false → Did rs acts k (told s) (told mid) → Renews told first result shrunk k m mid t → Did rs acts m (told s) (told t)
+        renewed first acts runs h r = then_ended rs acts k m (told s) (told mid) (told t) h runs (renews_did told (rs ++ records_in acts) first result shrunk k m mid t (h.up runs) r)
 
-        rested : (first : Turned) (as : List Act) → Did rs as k (told s) (told mid) → Rested first result shrunk k m mid t → Did rs as m (told s) (told t)
-        rested first as h r = subst (λ z. Did rs as m (told s) (told z)) (sym r.site) (subst (λ z. Did rs as z (told s) (told mid)) (sym r.node) h)
+        rested : (first : Turned) (acts : List Act) → Did rs acts k (told s) (told mid) → Rested first result shrunk k m mid t → Did rs acts m (told s) (told t)
+        rested first acts h r = subst (λ z. Did rs acts m (told s) (told z)) (sym r.site) (subst (λ z. Did rs acts z (told s) (told mid)) (sym r.node) h)
 
         by : (first : Turned) → (steps : Turns first role n k (told s) (told mid)) → Ends told first result shrunk k m mid t → Did rs (acts_in first role n k (told s) (told mid) steps) m (told s) (told t)
         by (turneds.Served status) steps ends =
@@ -192,8 +194,8 @@ module _ (law : RecordsAreBodies) (grows : GrowsByOne) where
       calls = w.calls;
       sent = λ runs.
           sent_append w.first w.made ∙ ap (λ z. z ++ sent_by w.made) (fate_silent d.landed entry n.journal w.first old new w.fate) ∙ sym (append-nil (sent_by w.made));
-      time = moments_done law rs n old new as ds u are (w.moments u.holds.bodies u.holds.keeps);
-      up = λ runs. up_more law rs n m old new as ds u are
+      time = moments_done law rs n old new acts ds u are (w.moments u.holds.bodies u.holds.keeps);
+      up = λ runs. up_more law rs n m old new acts ds u are
           (subst (λ z. Keeps m.journal (u.holds.bodies ++ z) new) (sym (append-nil (landed_by d.landed entry))) (w.stands u.holds.bodies u.holds.keeps)) w.sure runs
           (w.kept ∙ ap (kept_by (if_landed d.landed entry)) u.kept ∙ kept_one grows (if_landed d.landed entry) rs
           ∙ ap (λ z. kept_of Two (rs ++ z)) (sym (append-nil (records_by (if_landed d.landed entry)))));
@@ -205,13 +207,13 @@ module _ (law : RecordsAreBodies) (grows : GrowsByOne) where
         w : Went entry d.landed (step n.book (events.Local l) now d.landed).book (step n.book (events.Local l) now d.landed).effects d.leaving n m old new
         w = d.went
 
-        as : List Act
-        as = record { records = records_by (if_landed d.landed entry); sent = sent_by d.went.made } ∷ []
+        acts : List Act
+        acts = record { records = records_by (if_landed d.landed entry); sent = sent_by d.went.made } ∷ []
 
         ds : List Deed
         ds = record { landed = landed_by d.landed entry; sent = sent_by d.went.made } ∷ []
 
-        are : AreActs as ds
+        are : AreActs acts ds
         are = ((landed_one d.landed entry (landed_by d.landed entry) w.formed refl, refl), tt)
 
     stop_did : (rs : List Record) (n m : State) (l : Local) (now : ℕ) (old new : Told) → IsUp rs n old → (h : IsStopped n m (events.Local l) now old new)
@@ -252,14 +254,14 @@ module _ (law : RecordsAreBodies) (grows : GrowsByOne) where
     lives_did rs n s u acts m t (begins e f g) =
         subst (λ z. Did rs acts m (told s) (told z)) (sym g) (subst (λ z. Did rs acts z (told s) (told s)) (sym f) (subst (λ z. Did rs z n (told s) (told s)) (sym e) (did_none rs n (told s) u)))
     lives_did rs n s u acts m t (waits mid life still) = did_still rs acts m (told s) (told mid) (told t) (lives_did rs n s u acts m mid life) still
-    lives_did rs n s u acts m t (turned as k mid result role shrunk life runs turn e) =
-        let h = lives_did rs n s u as k mid life in
+    lives_did rs n s u acts m t (turned firsts k mid result role shrunk life runs turn e) =
+        let h = lives_did rs n s u firsts k mid life in
         subst (λ z. Did rs z m (told s) (told t)) (sym e)
-        (did_then rs as _ k m (told s) (told mid) (told t) h runs (turn_did (rs ++ records_in as) result role shrunk k m mid t (h.up runs) turn))
-    lives_did rs n s u acts m t (asked as k mid answer l life runs request e) =
-        let h = lives_did rs n s u as k mid life in
+        (did_then rs firsts _ k m (told s) (told mid) (told t) h runs (turn_did (rs ++ records_in firsts) result role shrunk k m mid t (h.up runs) turn))
+    lives_did rs n s u acts m t (asked firsts k mid answer l life runs request e) =
+        let h = lives_did rs n s u firsts k mid life in
         subst (λ z. Did rs z m (told s) (told t)) (sym e)
-        (did_then rs as _ k m (told s) (told mid) (told t) h runs (request_did (rs ++ records_in as) answer k m l mid t (h.up runs) request))
+        (did_then rs firsts _ k m (told s) (told mid) (told t) h runs (request_did (rs ++ records_in firsts) answer k m l mid t (h.up runs) request))
 
     pub started_up : (base : List ℕ) (limit : ℕ) (n : State) (old new : Told) → (start : IsStarted base limit n old new) → IsUp (started start.version start.rs) n new
     started_up base limit n old new start = record {
