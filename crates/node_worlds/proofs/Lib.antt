@@ -13,3 +13,5 @@ mod Recording
 mod Quiet
 mod Living
 mod Machines
+mod Crashing
+mod Meeting

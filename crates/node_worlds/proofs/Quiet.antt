@@ -48,7 +48,7 @@ prepare_disk : (unshut : Bool) (file : ℕ) (text : List ℕ) → AreOnDisk (pre
 prepare_disk true file text = (refl, (refl, (refl, (refl, tt))))
 prepare_disk false file text = (refl, (refl, (refl, tt)))
 
-makes_silent : (a : Append) (file end : ℕ) (body : List ℕ) (made : List Made) → Makes a file end body made → sent_by made ≡ []
+pub makes_silent : (a : Append) (file end : ℕ) (body : List ℕ) (made : List Made) → Makes a file end body made → sent_by made ≡ []
 makes_silent appends.Done file end body made h = ap sent_by h
 makes_silent appends.Refused file end body made h = disk_breaks (lay file end body) made (lay_disk file end body) h
 makes_silent appends.Unsure file end body made (rest, e, b) =

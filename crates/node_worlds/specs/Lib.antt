@@ -8,3 +8,4 @@ pub mod Delivered
 pub mod Acts
 pub mod Lives
 pub mod Machines
+pub mod Crashing

@@ -1,11 +1,13 @@
 //! Laws of nodes on their machines, through all their calls and crashes.
 
+ghost use Rattle.node_worlds.specs.Crashing.{CrashesAreMet};
 ghost use Rattle.node_worlds.specs.Lives.{StepsArePrefixed};
 ghost use Rattle.node_worlds.specs.Machines.{RunsOnMachines};
 
 use crate::laws::restarts_on_records;
 use decision_log::fold::grows_by_one;
 use decision_log::shrink::shrinks_the_same;
+use record_bytes::read::are_apart;
 use record_bytes::write::are_bodies;
 use site_model::site::Site;
 
@@ -23,6 +25,18 @@ pub fn steps_are_prefixed<S: Site>()
 pub fn runs_on_machines<S: Site>()
     ensures { RunsOnMachines S.told }
 {
+    are_bodies();
+    grows_by_one();
+    restarts_on_records::<S>();
+    shrinks_the_same();
+}
+
+/// Whatever a crash leaves in a call of such a node, or between its calls, stands for what its journal was told by the steps that were
+/// begun, in order, and what was sent is theirs: the net goes on behind it.
+pub fn crashes_are_met<S: Site>()
+    ensures { CrashesAreMet S.told }
+{
+    are_apart();
     are_bodies();
     grows_by_one();
     restarts_on_records::<S>();
