@@ -349,8 +349,7 @@ longer xs ys (r, e) = let l = length-append xs r in let f = ap length e in omega
 pub up_same : (rs : List Record) (n : State) (s : Told) (c : Files) → IsUp rs n s → s.images c → StandForSame rs c
 up_same rs n s c u im =
     let bodies = u.holds.bodies in
-    let h = u.holds.keeps.stands.images c im in
-    (
+    let h = u.holds.keeps.stands.images c im in (
       u.records,
       record {
         texts = records_of bodies;

@@ -82,8 +82,7 @@ module _ {S : Type 0} (told : S → Told) where
       moment l c between h =
           let (before, after, was, is, (more, p), (left, q)) = between in
           let all : after ≡ before ++ quiet.made = some_is after (before ++ quiet.made) (sym is ∙ quiet.calls ∙ ap (option_map (λ z. z ++ quiet.made)) was) in
-          let sent : sent_by after ≡ sent_by before = ap sent_by all ∙ sent_append before quiet.made ∙ ap (λ z. sent_by before ++ z) quiet.silent ∙ append-nil (sent_by before) in
-          (
+          let sent : sent_by after ≡ sent_by before = ap sent_by all ∙ sent_append before quiet.made ∙ ap (λ z. sent_by before ++ z) quiet.silent ∙ append-nil (sent_by before) in (
             between,
             (
               before,

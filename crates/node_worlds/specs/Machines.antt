@@ -1,6 +1,6 @@
 -- Nets of nodes with the machines that they run on: each machine's files are touched by the calls of its own node alone, and a crash
 -- leaves of them what it may.
-use Rattle.std.specs.Prelude.{ℕ, List, [], ◌∷◌, ◌++◌, ◌≡◌, ◌<◌, ◌⊎◌, Option, Some, None, map}
+use Rattle.std.specs.Prelude.{ℕ, List, [], ◌∷◌, ◌++◌, ◌≡◌, ◌<◌, ◌^◌, ◌⊎◌, Some, None}
 use Rattle.at_base.specs.Numbers.{Numbers}
 use Rattle.at_base.specs.declared.event.Event.TheVariants as events
 use Rattle.at_base.specs.declared.event.Local.{Local}
@@ -8,7 +8,7 @@ use Rattle.at_base.specs.declared.outs.Post.{Post}
 use Rattle.at_base.specs.declared.record.Record.{Record}
 use Rattle.at_model.specs.Recover.{last_incarnation}
 use Rattle.at_model.specs.Step.{plan}
-use Rattle.at_model.specs.World.{base_of, nth}
+use Rattle.at_model.specs.World.{World, base_of, nth}
 use Rattle.site_model.specs.Told.{Told, Call, Files, Is, Made, Between, Within, sent_by}
 use Rattle.node_at.specs.Doings.{Doing}
 use Rattle.node_at.specs.Endings.{TakesTurn}
@@ -25,7 +25,8 @@ use Rattle.node_at.specs.declared.role.Role.{Role}
 use Rattle.node_at.specs.declared.shrink.Shrunk.{Shrunk}
 use Rattle.node_at.specs.declared.turn.Turned.{Turned}
 use Rattle.node_at.specs.declared.turn.Turned.TheVariants as turneds
-use Rattle.node_worlds.specs.Nets.{Brings, IsOpened, Net, Place, Runs, after, begun_in, broken, doings_in, new_net, rested, steps_in, with_start, with_started, without}
+use Rattle.node_worlds.specs.Agreement.{IsOneOutcome}
+use Rattle.node_worlds.specs.Nets.{Brings, IsOpened, IsWorldOf, Net, Place, Runs, after, begun_in, broken, doings_in, new_net, rested, steps_in, with_start, with_started, without}
 use Rattle.node_worlds.specs.Restarting.{StandsFor}
 use Rattle.node_worlds.specs.Sent.{AreSent, Sent, recorded, records_by}
 
@@ -112,3 +113,7 @@ pub data RunsOn {S : Type 0} (told : S → Told) (count : ℕ) : Net → (ℕ �
 -- They are nets as they are without machines: each start meets files that stand for what its journal was told to hold.
 abbrev pub RunsOnMachines : {S : Type 0} → (S → Told) → Type 0
 RunsOnMachines {S} told = (count : ℕ) (net : Net) (ms : ℕ → S) → RunsOn told count net ms → Runs told count net
+
+-- and so they agree
+abbrev pub MachinesAgree : {S : Type 0} → (S → Told) → Type 0
+MachinesAgree {S} told = (count : ℕ) (net : Net) (ms : ℕ → S) → count < 2 ^ 64 → RunsOn told count net ms → (w : World) × IsWorldOf net w × IsOneOutcome w

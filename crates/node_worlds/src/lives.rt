@@ -2,9 +2,9 @@
 
 ghost use Rattle.node_worlds.specs.Crashing.{CrashesAreMet};
 ghost use Rattle.node_worlds.specs.Lives.{StepsArePrefixed};
-ghost use Rattle.node_worlds.specs.Machines.{RunsOnMachines};
+ghost use Rattle.node_worlds.specs.Machines.{MachinesAgree, RunsOnMachines};
 
-use crate::laws::restarts_on_records;
+use crate::laws::{nets_agree, restarts_on_records};
 use decision_log::fold::grows_by_one;
 use decision_log::shrink::shrinks_the_same;
 use record_bytes::read::are_apart;
@@ -41,4 +41,12 @@ pub fn crashes_are_met<S: Site>()
     grows_by_one();
     restarts_on_records::<S>();
     shrinks_the_same();
+}
+
+/// Agreement among fewer than 2^64 nodes on such machines (WS-AtomicTransaction 1.2, section 1).
+pub fn machines_agree<S: Site>()
+    ensures { MachinesAgree S.told }
+{
+    nets_agree::<S>();
+    runs_on_machines::<S>();
 }
