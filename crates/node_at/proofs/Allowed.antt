@@ -13,7 +13,6 @@ use Rattle.interposition.specs.declared.plan.Plan.{Plan}
 use Rattle.interposition.specs.Doing.{recorded, sent}
 use Rattle.interposition.specs.Planning.{planned}
 use Rattle.interposition.specs.Whole.{StepsAsTheModel}
-use Rattle.model_laws.proofs.Deciding.{all_join}
 use Rattle.node_at.specs.Behind.{OutsMayLeave}
 use Rattle.node_at.specs.Promises.{PromisesStand}
 use Rattle.node_at.specs.Sends.{AllMayLeave, MayLeave, given}
@@ -21,6 +20,7 @@ use Rattle.node_at.specs.Steps.{if_landed}
 use Rattle.node_at.specs.Texts.{AreLeaving, Leaving}
 use Rattle.node_at.specs.Texts.AreLeaving.{none, leaves, stays}
 use Rattle.node_at.specs.TurnText.{answered}
+use Rattle.node_at.proofs.Plain.{all_join}
 
 all_front : {A : Type 0} (P : A → Type 0) (xs : List A) (y : A) → AllByRecursion P (xs ++ y ∷ []) → AllByRecursion P xs × P y
 all_front P [] y (h, k) = (tt, h)

@@ -19,7 +19,6 @@ use Rattle.journal_at.specs.Pairs.{Holds}
 use Rattle.journal_at.specs.Scanning.{records_in}
 use Rattle.journal_at.specs.Standing.{Counted}
 use Rattle.record_bytes.specs.Bytes.{bytes_of}
-use Rattle.site_model.proofs.Past.{weaker}
 use Rattle.site_model.specs.Counts.{capped}
 use Rattle.site_model.specs.Site.{Counts as Numbers}
 use Rattle.site_model.specs.Told.{Told, Files, done, sent_by}
@@ -31,6 +30,7 @@ use Rattle.node_at.specs.Starting.{Begins, CannotStart, Carries, Either, Ends, G
 use Rattle.node_at.proofs.Parts.{goes_no_further, goes_then}
 use Rattle.node_at.proofs.Silent.{disk_breaks, disk_silent, opening_disk}
 use Rattle.node_at.proofs.Sizing.{framed_append, start_long}
+use Rattle.node_at.proofs.Plain.{weaker}
 
 -- whether there is a next incarnation
 pub started_long : (version : Version) (rs : List Record) → size_of (started version rs) ≡ size_of (carried version rs) + 10

@@ -2,12 +2,12 @@
 use Rattle.std.proofs.Common.{ℕ, List, [], ◌∷◌, ◌++◌, ◌+◌, ◌-◌, ◌≡◌, Some, refl, sym, ◌∙◌, ap, subst, take, drop, option_map, length, zero, suc, arith}
 use Rattle.std.proofs.lemmas.List.{append_assoc, length-append, take-append-le, take-append-drop}
 use Rattle.std.proofs.Math.Seq.{take-append-add}
-use Rattle.site_model.proofs.Past.{and_then, weaker}
 use Rattle.site_model.specs.Told.{Told, Files, Made, Call, Elapses, IsPrefix, sent_by}
 use Rattle.journal_at.specs.Pairs.{Holds}
 use Rattle.node_at.specs.Moments.{AtMoment, Deed, Moments, landed_of, sent_of}
 use Rattle.node_at.proofs.Between.{after_that, option_map_is, through}
 use Rattle.node_at.proofs.Moving.{sent_append}
+use Rattle.node_at.proofs.Plain.{and_then, weaker}
 
 pub landed_append : (t u : List Deed) → landed_of (t ++ u) ≡ landed_of t ++ landed_of u
 landed_append [] u = refl

@@ -15,7 +15,6 @@ use Rattle.journal_at.specs.declared.journal.Journal.{Journal}
 use Rattle.journal_at.specs.Pairs.{Holds}
 use Rattle.journal_at.specs.Standing.{Counted, EitherHolds, Keeps, Makes, Spare, lay, raise}
 use Rattle.record_bytes.specs.Bytes.{bytes_of}
-use Rattle.site_model.proofs.Past.{weaker}
 use Rattle.site_model.specs.Counts.{Rose}
 use Rattle.site_model.specs.Site.{Counts as Numbers}
 use Rattle.site_model.specs.Told.{Told, Files, Made, Call, BreaksOff, done, sent_by}
@@ -25,6 +24,7 @@ use Rattle.node_at.specs.Steps.{Keeping, Stopped, Went}
 use Rattle.node_at.specs.Texts.{Leaving, call_by}
 use Rattle.node_at.proofs.Between.{grown_same, grown_then}
 use Rattle.node_at.proofs.Moving.{halted_moments, is_nil, sent_append, step_moments}
+use Rattle.node_at.proofs.Plain.{weaker}
 
 -- what stands stays while outs are sent
 spare_on : (unshut : Bool) (live : ℕ) (bodies : List (List ℕ)) (mid new : Told) → new.files ≡ mid.files → ((c : Files) → new.images c → mid.images c)
@@ -92,6 +92,7 @@ went_landed r n m b fx leaving old mid new h c k sure runs book effects kept =
       book = book;
       effects = effects;
       kept = kept;
+      formed = h.is;
       first = calls.made;
       fate = (calls.are, fits appends.Done n.journal.limit (n.journal.end + 6 + length (bytes_of r)) n.journal.unsure tt h.full sure);
       made = k.made;
@@ -123,6 +124,7 @@ module _ (r : Record) (n m : State) (b : Book) (fx : List Effect) (leaving : Lis
         book = book;
         effects = effects;
         kept = kept;
+        formed = h.is;
         first = calls.made;
         fate = inl (calls.are, fits appends.Refused n.journal.limit (n.journal.end + 6 + length (bytes_of r)) n.journal.unsure tt h.full sure, subst (Rose old.counts.disk) (sym (disk_on mid new k.others)) h.reason);
         made = k.made;
@@ -150,6 +152,7 @@ module _ (r : Record) (n m : State) (b : Book) (fx : List Effect) (leaving : Lis
         book = book;
         effects = effects;
         kept = kept;
+        formed = h.is;
         first = calls.made;
         fate = inr (calls.are, (h.full.0 refl).1);
         made = k.made;
@@ -180,6 +183,7 @@ went_plain n m b fx leaving old new k sure runs e =
       book = ap (λ (z : State). z.book) e;
       effects = ap (λ (z : State). z.effects) e;
       kept = ap (λ (z : State). z.kept) e;
+      formed = tt;
       first = [];
       fate = (refl, refl);
       made = k.made;
@@ -210,6 +214,7 @@ stopped r n m leaving old new h sure e =
     record {
       same = e;
       unsure = h.unsure.1 refl;
+      formed = h.is;
       first = calls.made;
       makes = calls.are;
       calls = calls.grown;

@@ -1,3 +1,4 @@
+mod Plain
 mod Leaving
 mod Between
 mod Standing
@@ -25,6 +26,7 @@ mod Turning
 mod Replying
 mod Unanswered
 mod Promising
+mod Apart
 mod Staying
 mod Restored
 mod Allowed

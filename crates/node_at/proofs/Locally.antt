@@ -17,7 +17,6 @@ use Rattle.interposition.specs.declared.plan.Part.TheVariants as parts
 use Rattle.interposition.specs.Planning.{planned, requested_part}
 use Rattle.journal_at.specs.declared.journal.Journal.{Journal}
 use Rattle.journal_at.specs.Standing.{Keeps}
-use Rattle.site_model.proofs.Past.{and_then, weaker}
 use Rattle.site_model.specs.Calls.{Reads}
 use Rattle.site_model.specs.Counts.{Rose}
 use Rattle.site_model.specs.Site.{Counts as Numerals}
@@ -32,6 +31,7 @@ use Rattle.node_at.specs.State.{IsNode, State}
 use Rattle.node_at.specs.Steps.{IsFate, Keeping, Steps, Stopped, Went}
 use Rattle.node_at.specs.Texts.{Leaving}
 use Rattle.node_at.proofs.Going.{keeps_on}
+use Rattle.node_at.proofs.Plain.{and_then, weaker}
 
 -- the id of the activity that is made
 begin_added : (m : Moment) (coordinator : List ℕ) (ms : ℕ) (o : Option Numbers) (id : Numbers) → added_in (parts.Activities (begin_asked m coordinator ms o)) ≡ Some id → o ≡ Some id
@@ -100,6 +100,7 @@ module _ (old mid new : Told) (u : Untouched old mid) where
     book = h.book;
     effects = h.effects;
     kept = h.kept;
+    formed = h.formed;
     first = h.first;
     fate = fate_on landed entry n.journal h.first h.fate;
     made = h.made;
@@ -119,6 +120,7 @@ module _ (old mid new : Told) (u : Untouched old mid) where
   stopped_on entry leaving n m h = record {
     same = h.same;
     unsure = h.unsure;
+    formed = h.formed;
     first = h.first;
     makes = h.makes;
     calls = subst (λ z. new.calls ≡ option_map (λ l. l ++ h.first) z) u.still.calls h.calls;

@@ -1,11 +1,11 @@
 -- What stands and what was sent at each moment of a step.
 use Rattle.std.proofs.Common.{ℕ, List, [], ◌∷◌, ◌++◌, ◌≡◌, ◌⊎◌, ⊎_elim, Some, refl, sym, ◌∙◌, ap, subst, option_map, arith}
 use Rattle.std.proofs.lemmas.List.{append_assoc, append-nil, append_cancel_left}
-use Rattle.site_model.proofs.Past.{and_then, weaker}
 use Rattle.site_model.specs.Told.{Told, Files, Made, Call, Between, Elapses, IsPrefix, sent_by, sent_if}
 use Rattle.journal_at.specs.Pairs.{Holds}
 use Rattle.node_at.specs.Moments.{AtMoment, Deed, Moments}
 use Rattle.node_at.proofs.Between.{after_that, inside, option_map_is, through}
+use Rattle.node_at.proofs.Plain.{and_then, weaker}
 
 pub sent_append : (l m : List Made) → sent_by (l ++ m) ≡ sent_by l ++ sent_by m
 sent_append [] m = refl

@@ -14,7 +14,6 @@ use Rattle.journal_at.specs.declared.version.Version.TheVariants.{Two}
 use Rattle.journal_at.specs.Format.{AreListed, head_of, mark_body, records_of}
 use Rattle.journal_at.specs.Pairs.{Holds}
 use Rattle.journal_at.specs.Standing.{Appended, Calls, Counted, HasReason, Keeps, lay, raise}
-use Rattle.site_model.proofs.Past.{weaker, and_then}
 use Rattle.site_model.specs.Counts.{Rose}
 use Rattle.site_model.specs.Site.{Counts as Numbers}
 use Rattle.site_model.specs.Told.{Told, Files, Made, Call, BreaksOff, done}
@@ -22,6 +21,7 @@ use Rattle.node_at.specs.declared.fault.StartFault.{StartFault}
 use Rattle.node_at.specs.declared.fault.StartFault.TheVariants.{NoMemory, Disk, Bad, Spent, Full}
 use Rattle.node_at.specs.Starting.{Either, Goes, IsDue, IsOpen, Ran, StandFor, append_calls, append_ended, compact_ended}
 use Rattle.node_at.proofs.Between.{after_that, grown_then, through}
+use Rattle.node_at.proofs.Plain.{and_then, weaker}
 
 -- what the live file holds, the files stand for
 pub holds_stand : (version : Version) (rs : List Record) (bodies : List (List ℕ)) (live : ℕ) (c : Files) → AreListed bodies → (head_of bodies).version ≡ version

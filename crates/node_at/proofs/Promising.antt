@@ -27,7 +27,6 @@ use Rattle.at_model.specs.Outcomes.{is_kept}
 use Rattle.at_model.specs.Leaves.{leaf_ended}
 use Rattle.at_model.specs.Step.{Outcome, is_decided_root, moment_of, plan, step, transaction_at}
 use Rattle.model_laws.specs.Agreement.{IsIn}
-use Rattle.model_laws.proofs.Recovering.{same_id}
 use Rattle.agreement.specs.ActivityDeeds.ActivitySays.{completing, tells_nothing as activity_silent}
 use Rattle.agreement.specs.Branches.{IsNoNotice}
 use Rattle.agreement.specs.Deeds.{How, IsCommit, StoodFor, WhyInitiator, WhySeat, WhySuperior, recorded, superior_at}
@@ -51,6 +50,7 @@ use Rattle.node_at.specs.Behind.{OutsMayLeave}
 use Rattle.node_at.specs.Promises.{ArePromised, IsLeafPromised, IsPromised, Stands}
 use Rattle.node_at.specs.Sends.{MayLeave, given}
 use Rattle.node_at.specs.Steps.{if_landed}
+use Rattle.node_at.proofs.Plain.{same_id}
 
 found_all : {A : Type 0} (P : A → Type 0) (key : A → Numbers) (id : Numbers) (xs : List A) (x : A) → find_by key id xs ≡ Some x → AllByRecursion P xs → P x × (key x ≡ id)
 found_all {A} P key id [] x e h = absurd (subst IsNone e tt) where

@@ -11,7 +11,6 @@ use Rattle.journal_at.specs.declared.version.Version.TheVariants.{Two}
 use Rattle.journal_at.specs.Format.{AreListed, mark_body}
 use Rattle.journal_at.specs.Standing.{Counted, Keeps}
 use Rattle.record_bytes.specs.Versions.{AreBodies as RecordsAreBodies}
-use Rattle.site_model.proofs.Past.{weaker}
 use Rattle.site_model.specs.Told.{Told, Files}
 use Rattle.node_at.specs.declared.shrink.Shrunk.{Shrunk}
 use Rattle.node_at.specs.Shrinking.{Anew, AreSame, IsDue, Shrinks, StandForSame, Stays, halted_by, shrunk_by}
@@ -19,6 +18,7 @@ use Rattle.node_at.specs.Starting.{Either, IsOpen}
 use Rattle.node_at.specs.State.{IsNode, State}
 use Rattle.node_at.proofs.Parts.{compact_goes, compact_holds, holds_stand, open_images}
 use Rattle.node_at.proofs.Recorded.{frames_long, new_listed}
+use Rattle.node_at.proofs.Plain.{weaker}
 
 anew_by : (r : Compact) (halted : Bool) (n m : State) (j : Journal) (old new : Told) → n.journal.unsure ≡ false → IsDue n → IsCompacted r (texts_of (shrunk n.kept)) n.journal j old new
     → AreRecords Two (shrunk n.kept) (texts_of (shrunk n.kept)) → m ≡ record n { journal = j; halted = halted } → j.limit ≡ n.journal.limit → Anew r halted n m old new

@@ -13,15 +13,13 @@ use Rattle.model_laws.specs.Agreement.{IsIn}
 use Rattle.model_laws.specs.Behind.{DecidesBehindEveryAnswer}
 use Rattle.model_laws.specs.Compacted.{record_id}
 use Rattle.model_laws.specs.Links.{AreLinked}
+use Rattle.model_laws.specs.Laws.{MakesUnderTheNextId}
 use Rattle.model_laws.specs.Order.{IdsRise, IsInOrder}
 use Rattle.model_laws.specs.Shapes.{StepsTouchOne}
-use Rattle.model_laws.proofs.Deciding.{all_more}
-use Rattle.model_laws.proofs.Recovering.{same_id, self_id}
 use Rattle.agreement.specs.ActivityDeeds.{ActivityStates}
 use Rattle.agreement.specs.Finished.{FinishesAll, NamesRising}
 use Rattle.agreement.specs.LeafDeeds.{LeafStates}
 use Rattle.agreement.specs.Recoveries.{RecoversEach, StandsFor, StandsForLeaf, leaf_from, transaction_from}
-use Rattle.agreement.proofs.Backing.{all_in}
 use Rattle.enlistments.specs.Moves.{StepsMove}
 use Rattle.owed.specs.Shape.{BooksAreShaped, IsShaped, NamesSomebody}
 use Rattle.decision_log.specs.Held.{IsAmong}
@@ -31,6 +29,7 @@ use Rattle.journal_at.specs.declared.version.Version.TheVariants.{Two}
 use Rattle.node_at.specs.Behind.{PromisesStay}
 use Rattle.node_at.specs.Promises.{IsLeafPromised, IsPromised, PromisesStand}
 use Rattle.node_at.proofs.Staying.{Holds, all_three, promised_of, steps_stay}
+use Rattle.node_at.proofs.Plain.{all_in, all_more, same_id, self_id}
 
 -- a record is among those in order
 itself_in : {A : Type 0} (key : A → Numbers) (x : A) (xs : List A) → IsIn x (insert_by key x xs)
@@ -238,8 +237,8 @@ recovered_stand each decides finishes leaf_states activity_states shapes base rs
       };
     }
 
-pub stay : StepsMove → StepsTouchOne → IdsRise → RecoversEach → DecidesBehindEveryAnswer → FinishesAll → LeafStates → ActivityStates → BooksAreShaped → PromisesStay
-stay moves touch rise each decides finishes leaf_states activity_states shapes = record {
-  steps = steps_stay moves touch rise decides finishes leaf_states activity_states shapes;
+pub stay : StepsMove → MakesUnderTheNextId → StepsTouchOne → IdsRise → RecoversEach → DecidesBehindEveryAnswer → FinishesAll → LeafStates → ActivityStates → BooksAreShaped → PromisesStay
+stay moves makes touch rise each decides finishes leaf_states activity_states shapes = record {
+  steps = steps_stay moves makes touch rise decides finishes leaf_states activity_states shapes;
   recovered = recovered_stand each decides finishes leaf_states activity_states shapes;
 }

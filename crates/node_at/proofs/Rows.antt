@@ -12,7 +12,6 @@ use Rattle.journal_at.specs.Standing.{Keeps}
 use Rattle.record_bytes.specs.Bytes.{bytes_of}
 use Rattle.site_model.specs.Site.{Counts as Numbers}
 use Rattle.site_model.specs.Told.{Told, Made, Still, sent_by}
-use Rattle.site_model.proofs.Past.{and_then, weaker}
 use Rattle.node_at.specs.Doings.{AreDoings, AreFates, Does, Doing, IsFateAt, NoLess, Ran, book_behind, calls_of, came_of, deed_of, deeds_of, kept_behind, lost_of, refused_of}
 use Rattle.node_at.specs.Moments.{Deed, Moments, landed_of, sent_of}
 use Rattle.node_at.specs.Refusing.{RanOne}
@@ -25,6 +24,7 @@ use Rattle.node_at.proofs.Between.{grown_same, grown_then, is_last, through}
 use Rattle.node_at.proofs.Composing.{deeds_sent_append, landed_append, moments_none, moments_then}
 use Rattle.node_at.proofs.Going.{keeps_on, makes_silent}
 use Rattle.node_at.proofs.Moving.{sending_moment, sent_append}
+use Rattle.node_at.proofs.Plain.{and_then, weaker}
 
 calls_append : (ds es : List Doing) → calls_of (ds ++ es) ≡ calls_of ds ++ calls_of es
 calls_append [] es = refl
@@ -192,7 +192,7 @@ ran_one s n m old new w k sure runs =
           stands = λ bodies keeps. subst (λ z. Keeps m.journal (bodies ++ z) new) (sym (append-nil (landed_by s.landed s.entry))) (w.stands bodies keeps);
           moments = w.moments;
         };
-        are = (record { landed = refl; tried = w.tried }, tt);
+        are = (record { formed = w.formed; landed = refl; tried = w.tried }, tt);
         fates = λ bodies keeps. (subst (λ e. IsFateAt s.landed s.entry n.journal.live n.journal.limit e w.first f.refused) keeps.end f.at, tt);
         lost = λ below. omega (arith, w.counted below);
         refused = λ below. omega (arith, f.counted below);

@@ -5,7 +5,6 @@ use Rattle.std.specs.Vec.Iter.{into_iter_items, into_iter_steps}
 use Rattle.std.specs.declared.vec.IntoIter.{IntoIter}
 use Rattle.at_base.specs.Numbers.{Numbers}
 use Rattle.decision_log.specs.Tokens.{Token}
-use Rattle.site_model.proofs.Past.{and_then, weaker}
 use Rattle.site_model.specs.Site.{Counts as Counted}
 use Rattle.site_model.specs.Calls.{Gave}
 use Rattle.site_model.specs.Told.{Told, Made, Call, BreaksOff, done, failed}
@@ -13,6 +12,7 @@ use Rattle.node_at.specs.Sends.{AllMayLeave, MayLeave, Sends, Tried}
 use Rattle.node_at.specs.Sends.Tried.{none, went, was_lost}
 use Rattle.node_at.specs.Texts.{Leaving}
 use Rattle.node_at.proofs.Between.{after_that, grown_same, grown_then, is_last, through}
+use Rattle.node_at.proofs.Plain.{and_then, weaker}
 
 pub tried_then : {ts : List Token} {ids : List Numbers} {xs ys : List Leaving} {made more : List Made} {n m : ℕ}
     → Tried ts ids xs made n → Tried ts ids ys more m → Tried ts ids (xs ++ ys) (made ++ more) (n + m)

@@ -3,7 +3,6 @@ use Rattle.std.proofs.Common.{List, [], ◌∷◌, ◌≡◌, inl, inr, Option, 
 use Rattle.std.specs.List.{AllByRecursion}
 use Rattle.at_base.specs.Numbers.{Numbers}
 use Rattle.at_model.specs.Book.{is_id}
-use Rattle.model_laws.proofs.Recovering.{same_id, self_id}
 use Rattle.decision_log.specs.declared.token.What.{What}
 use Rattle.decision_log.specs.Held.{IsAmong, IsFound}
 use Rattle.decision_log.specs.Tokens.{Token}
@@ -13,6 +12,7 @@ use Rattle.decision_log.specs.declared.ready.Leave.TheVariants as leaves
 use Rattle.decision_log.specs.Sending.{IsLeaveOf, IsTold, leave_of}
 use Rattle.node_at.specs.Sends.{MayLeave}
 use Rattle.node_at.specs.Standing.{IsStanding, Rules}
+use Rattle.node_at.proofs.Plain.{same_id, self_id}
 
 pub is_that : (t : Token) (id : Numbers) (what : What) → is_id t.id id ≡ true → t.what ≡ what → t ≡ record { id = id; what = what }
 is_that t id what e f = let g = same_id t.id id e in λ i. record { id = g i; what = f i }

@@ -15,7 +15,6 @@ use Rattle.journal_at.specs.Format.{records_of}
 use Rattle.journal_at.specs.Loading.{Lasts, shuts_if, syncs}
 use Rattle.model_laws.specs.Order.{IdsRise, IsInOrder}
 use Rattle.model_laws.specs.Sound.{IsSound, RecordsAreWellFormed}
-use Rattle.site_model.proofs.Past.{and_then, weaker}
 use Rattle.site_model.specs.Told.{Told, Call, Files, done}
 use Rattle.node_at.specs.declared.fault.StartFault.{StartFault}
 use Rattle.node_at.specs.declared.fault.StartFault.TheVariants as faults
@@ -31,6 +30,7 @@ use Rattle.node_at.proofs.Between.{after_that, grown_then, through}
 use Rattle.node_at.proofs.Parts.{breaks_behind, counted_then, due_then, open_images}
 use Rattle.node_at.proofs.Recorded.{are_formed, old_generation, open_end}
 use Rattle.node_at.proofs.Silent.{disk_breaks, disk_silent, disk_some, start_disk}
+use Rattle.node_at.proofs.Plain.{and_then, weaker}
 
 -- what an image stands for that stands for what the files did
 lasts_stand : (version : Version) (rs : List Record) (old : Told) (c : Files) → Found version rs old → Lasts old c → old.images c ⊎ OnTheWay version rs c

@@ -35,12 +35,10 @@ use Rattle.at_model.specs.Seats.{is_of, is_prepared_durable, prepared, seated}
 use Rattle.at_model.specs.Step.{Outcome, Plan, at_time, is_committing, moment_of, plan, plan_of, put_activity, put_leaf, put_transaction, step}
 use Rattle.model_laws.specs.Agreement.{IsIn}
 use Rattle.model_laws.specs.Behind.{DecidesBehindEveryAnswer}
+use Rattle.model_laws.specs.Laws.{MakesUnderTheNextId}
 use Rattle.model_laws.specs.Links.{AreLinked}
 use Rattle.model_laws.specs.Order.{AreRising, IdsRise}
 use Rattle.model_laws.specs.Shapes.{Shape, StepsTouchOne, nothing_moves, time_moves, time_passes, transaction_moves, leaf_moves, activity_moves, transaction_registers, transaction_made, leaf_made, activity_made}
-use Rattle.model_laws.proofs.Deciding.{IfThere, all_find, all_join}
-use Rattle.model_laws.proofs.Ordering.{unmapped}
-use Rattle.model_laws.proofs.Recovering.{same_id, self_id}
 use Rattle.agreement.specs.ActivityDeeds.{ActivityDeed, ActivityStates}
 use Rattle.agreement.specs.ActivityDeeds.ActivityDeed.{idles as activity_idles, tells as activity_tells}
 use Rattle.agreement.specs.Deeds.{Becomes, How, IsSame, IsSameIfLeft, StandsOn, StoodFor, recorded, superior_at}
@@ -49,9 +47,6 @@ use Rattle.agreement.specs.Finished.{FinishesAll}
 use Rattle.agreement.specs.LeafDeeds.{LeafDeed, LeafIdles, LeafStates, for_durable}
 use Rattle.agreement.specs.LeafDeeds.LeafDeed.{idles, aborts, prepares, leaves as leaves_early, dropped, commits, rolls_back}
 use Rattle.agreement.specs.LeafDeeds.LeafIdles.{rests, registered as has_registered, registers_again, votes_again}
-use Rattle.agreement.proofs.Backing.{all_in, is_other, step_apart}
-use Rattle.agreement.proofs.Journals.{both_ways}
-use Rattle.agreement.proofs.LeafWaiting.{found_in}
 use Rattle.enlistments.specs.Enrolling.{Enrolls, takes_seat, takes_completion, has_seat, has_completion, refuses}
 use Rattle.enlistments.specs.Moves.{IsReady, LeafDid, Moved, StepsMove, TransactionDid}
 use Rattle.enlistments.specs.Moves.Moved.{transaction_did, leaf_did, activity_did, registered, transaction_made as made_transaction, leaf_made as made_leaf, activity_made as made_activity, answered, rested}
@@ -64,6 +59,8 @@ use Rattle.decision_log.specs.declared.token.What.TheVariants as whats
 use Rattle.node_at.specs.Promises.{IsLeafPromised, IsPromised, PromisesStand, Stands}
 use Rattle.node_at.specs.Steps.{if_landed, kept_by}
 use Rattle.node_at.proofs.Promising.{is_some, same_entry}
+use Rattle.node_at.proofs.Apart.{moved_apart}
+use Rattle.node_at.proofs.Plain.{IfThere, all_find, all_in, all_join, both_ways, found_in, is_other, same_id, self_id, unmapped}
 
 -- What one record more leaves of the tokens.
 kept_among : (r : Record) (xs : List Record) (t : Token) → IsAmong t (tokens_of xs) → frees r t ≡ false → IsAmong t (tokens_of (freed r xs))
@@ -674,9 +671,9 @@ step_outcomes touch b k e now true h =
     (plan_outcomes b e now (plan b e now) (touch b e now)).landed ∙ ap (added (plan b e now).entry) h ∙ sym (kept_done (plan b e now).entry k)
 step_outcomes touch b k e now false h = (plan_outcomes b e now (plan b e now) (touch b e now)).absent ∙ h
 
-pub steps_stay : StepsMove → StepsTouchOne → IdsRise → DecidesBehindEveryAnswer → FinishesAll → LeafStates → ActivityStates → BooksAreShaped
+pub steps_stay : StepsMove → MakesUnderTheNextId → StepsTouchOne → IdsRise → DecidesBehindEveryAnswer → FinishesAll → LeafStates → ActivityStates → BooksAreShaped
     → (b : Book) (k : Known) (e : Event) (now : ℕ) (landed : Bool) → PromisesStand b k → PromisesStand (step b e now landed).book (kept_by (if_landed landed (plan b e now).entry) k)
-steps_stay moves touch rise decides finishes leaf_states activity_states shapes b k e now landed h =
+steps_stay moves makes touch rise decides finishes leaf_states activity_states shapes b k e now landed h =
     let after : Book = (step b e now landed).book in
     let entry : Option Record = if_landed landed (plan b e now).entry in
     let moved : Moved b e now entry (step b e now landed) = subst (λ z. Moved b e now z (step b e now landed)) (same_entry landed (plan b e now).entry) (moves.moved b e now landed h.ready) in
@@ -692,7 +689,7 @@ steps_stay moves touch rise decides finishes leaf_states activity_states shapes 
     record {
       ready = ready;
       shaped = shaped;
-      apart = step_apart b e now landed h.ready.order h.apart;
+      apart = moved_apart makes b e now entry (step b e now landed) h.ready.order h.apart moved;
       promised = record {
         transactions = all_three (Holds ts) IsShaped (λ t. AreLinked t.phase t.superior t.completion) (IsPromised ts) after.transactions (promised_of ts)
             (transactions_hold b e now entry (step b e now landed) k h moved) shaped ready.phases.links;

@@ -1,5 +1,5 @@
 -- What became of a row of steps: their records, their outs, and the calls of disk and network for them.
-use Rattle.std.specs.Prelude.{ℕ, List, [], ◌∷◌, ◌++◌, ◌+◌, ◌≡◌, ◌≤◌, ◌<◌, ◌⊎◌, Bool, true, false, Option, Some, None, map, option_map, length}
+use Rattle.std.specs.Prelude.{ℕ, List, [], ◌∷◌, ◌++◌, ◌+◌, ◌≡◌, ◌≤◌, ◌<◌, ◌⊎◌, Bool, true, false, Option, Some, None, IfSome, map, option_map, length}
 use Rattle.at_base.specs.declared.outs.Effect.{Effect}
 use Rattle.at_base.specs.declared.record.Record.{Record}
 use Rattle.at_model.specs.Book.{Book}
@@ -9,7 +9,9 @@ use Rattle.journal_at.specs.declared.journal.Append.TheVariants as appends
 use Rattle.journal_at.specs.declared.journal.Journal.{Journal}
 use Rattle.journal_at.specs.Format.{frames}
 use Rattle.journal_at.specs.Standing.{Keeps, Makes}
+use Rattle.journal_at.specs.declared.version.Version.TheVariants.{Two}
 use Rattle.record_bytes.specs.Bytes.{bytes_of}
+use Rattle.record_bytes.specs.Versions.{IsRecord}
 use Rattle.site_model.specs.Counts.{capped}
 use Rattle.site_model.specs.Site.{Counts as Numbers}
 use Rattle.site_model.specs.Told.{Told, Made, sent_by}
@@ -55,8 +57,9 @@ pub record Does (doings : List Doing) (j k : Journal) (old new : Told) : Type 0 
   pub stands : (bodies : List (List ℕ)) → Keeps j bodies old → Keeps k (bodies ++ landed_of (deeds_of doings)) new
   pub moments : (bodies : List (List ℕ)) → Keeps j bodies old → Moments j.live bodies (deeds_of doings) old new
 
--- the outs were tried one after the other, behind the record
+-- the outs were tried one after the other, behind the record, which is one of version 2
 pub record IsDoing (kept : Known) (s : TurnStep) (d : Doing) : Type 0 where
+  pub formed : IfSome s.entry (λ r. IsRecord Two r (bytes_of r))
   pub landed : d.landed ≡ landed_by s.landed s.entry
   pub tried : Tried (given (option_map token_of (if_landed s.landed s.entry)) kept) kept.done s.leaving d.made d.lost
 

@@ -1,5 +1,5 @@
 -- One step of a node: its record, its outs with their bytes, and what became of them.
-use Rattle.std.specs.Prelude.{ℕ, List, [], ◌∷◌, ◌++◌, ◌+◌, ◌≡◌, ◌≤◌, ◌<◌, ◌⊎◌, Bool, true, false, Option, Some, None, map, option_map, length}
+use Rattle.std.specs.Prelude.{ℕ, List, [], ◌∷◌, ◌++◌, ◌+◌, ◌≡◌, ◌≤◌, ◌<◌, ◌⊎◌, Bool, true, false, Option, Some, None, IfSome, map, option_map, length}
 use Rattle.at_base.specs.declared.event.Event.{Event}
 use Rattle.at_base.specs.declared.outs.Effect.{Effect}
 use Rattle.at_base.specs.declared.outs.Out.{Out}
@@ -14,7 +14,9 @@ use Rattle.decision_log.specs.Tokens.{token_of}
 use Rattle.journal_at.specs.declared.journal.Journal.{Journal}
 use Rattle.journal_at.specs.declared.journal.Append.TheVariants as appends
 use Rattle.journal_at.specs.Standing.{Keeps, Makes}
+use Rattle.journal_at.specs.declared.version.Version.TheVariants.{Two}
 use Rattle.record_bytes.specs.Bytes.{bytes_of}
+use Rattle.record_bytes.specs.Versions.{IsRecord}
 use Rattle.site_model.specs.Counts.{Rose}
 use Rattle.site_model.specs.Told.{Told, Made, Apart, sent_by}
 use Rattle.node_at.specs.State.{State}
@@ -65,13 +67,14 @@ pub record Keeping (old new : Told) : Type 0 where
 abbrev pub landed_by : Bool → Option Record → List (List ℕ)
 landed_by landed entry = bodies_by (if_landed landed entry)
 
--- A step that was done. Behind it stands this book, and these effects came; its record stands unless it was refused; its
--- calls are those of the append, and then one for each out, which was sent unless that failed; and at each moment journal,
+-- A step that was done. Behind it stands this book, and these effects came; its record is one of version 2, and stands unless
+-- it was refused; its calls are those of the append, and then one for each out, which was sent unless that failed; and at each moment journal,
 -- answers and posts were those of a prefix of the step.
 pub record Went (entry : Option Record) (landed : Bool) (behind : Book) (came : List Effect) (leaving : List Leaving) (n m : State) (old new : Told) : Type 0 where
   pub book : m.book ≡ behind
   pub effects : m.effects ≡ n.effects ++ came
   pub kept : m.kept ≡ kept_by (if_landed landed entry) n.kept
+  pub formed : IfSome entry (λ r. IsRecord Two r (bytes_of r))
   pub first : List Made
   pub fate : IsFate landed entry n.journal first old new
   pub made : List Made
@@ -92,6 +95,7 @@ pub record Went (entry : Option Record) (landed : Bool) (behind : Book) (came : 
 pub record Stopped (entry : Record) (leaving : List Leaving) (n m : State) (old new : Told) : Type 0 where
   pub same : m ≡ record n { journal = m.journal; halted = true }
   pub unsure : m.journal.unsure ≡ true
+  pub formed : IsRecord Two entry (bytes_of entry)
   pub first : List Made
   pub makes : Makes appends.Unsure n.journal.live n.journal.end (bytes_of entry) first
   pub calls : new.calls ≡ option_map (λ l. l ++ first) old.calls

@@ -9,7 +9,9 @@ use Rattle.http_post.specs.Conversations.{Waits, said, unsaid}
 use Rattle.journal_at.specs.declared.journal.Append.TheVariants as appends
 use Rattle.journal_at.specs.Format.{frames}
 use Rattle.journal_at.specs.Standing.{Keeps, Makes}
+use Rattle.journal_at.specs.declared.version.Version.TheVariants.{Two}
 use Rattle.record_bytes.specs.Bytes.{bytes_of}
+use Rattle.record_bytes.specs.Versions.{IsRecord}
 use Rattle.site_model.specs.Counts.{Rose}
 use Rattle.site_model.specs.Told.{Told, Made, Still}
 use Rattle.node_at.specs.Doings.{Doing, NoLess, Ran, calls_of, deeds_of}
@@ -84,6 +86,7 @@ pub record Halts (lines : List Doing) (meaning : Meaning) (now : ℕ) (n m : Sta
   pub is_first : IsFirst n.book now meaning step status
   pub entry : Record
   pub records : step.entry ≡ Some entry
+  pub formed : IsRecord Two entry (bytes_of entry)
   pub landed : step.landed ≡ true
   pub same : m ≡ record n { journal = m.journal; halted = true }
   pub unsure : m.journal.unsure ≡ true

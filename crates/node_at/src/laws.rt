@@ -5,7 +5,9 @@ ghost use Rattle.node_at.specs.Replies.{StepsReply};
 
 use agreement::laws::{activity_states, finishes_all, leaf_states, recovers_each};
 use enlistments::laws::{steps_move, steps_tell};
-use model_laws::rules::{decides_behind_every_answer, ids_rise, steps_touch_one};
+use model_laws::rules::{
+    decides_behind_every_answer, ids_rise, makes_under_the_next_id, steps_touch_one,
+};
 use owed::laws::books_are_shaped;
 
 /// A message is answered once on the connection, with 200, 202 or 500, and so is a tick; an item that is due answers nobody.
@@ -33,6 +35,7 @@ pub fn promises_stay()
     finishes_all();
     ids_rise();
     leaf_states();
+    makes_under_the_next_id();
     recovers_each();
     steps_move();
     steps_touch_one();

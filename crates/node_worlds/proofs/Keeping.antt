@@ -64,11 +64,11 @@ gone p n e f = let g : None ≡ Some n = sym e ∙ f in cc
 
 -- records, one behind the other
 module _ (grows : GrowsByOne) where
-  kept_one : (o : Option Record) (rs : List Record) → kept_by o (kept_of Two rs) ≡ kept_of Two (rs ++ records_by o)
+  pub kept_one : (o : Option Record) (rs : List Record) → kept_by o (kept_of Two rs) ≡ kept_of Two (rs ++ records_by o)
   kept_one None rs = ap (kept_of Two) (sym (append-nil rs))
   kept_one (Some r) rs = grows rs r
 
-  kept_row : (ss : List TurnStep) (rs : List Record) → kept_behind (kept_of Two rs) ss ≡ kept_of Two (rs ++ recorded ss)
+  pub kept_row : (ss : List TurnStep) (rs : List Record) → kept_behind (kept_of Two rs) ss ≡ kept_of Two (rs ++ recorded ss)
   kept_row [] rs = ap (kept_of Two) (sym (append-nil rs))
   kept_row (s ∷ ss) rs =
       ap (λ k. kept_behind k ss) (kept_one (if_landed s.landed s.entry) rs)
@@ -84,7 +84,7 @@ module _ (grows : GrowsByOne) where
   turn_kept turneds.Closed role n m old new t runs = ap (λ (z : State). z.kept) t.1.same
   turn_kept turneds.LinkDown role n m old new t runs = ap (λ (z : State). z.kept) t.1.same
 
-shrink_kept : (shrunk : Shrunk) (n m : State) (old new : Told) → Shrinks shrunk n m old new → m.kept ≡ n.kept
+pub shrink_kept : (shrunk : Shrunk) (n m : State) (old new : Told) → Shrinks shrunk n m old new → m.kept ≡ n.kept
 shrink_kept shrunks.NotDue n m old new (inl (due, e)) = ap (λ (z : State). z.kept) e
 shrink_kept shrunks.NotDue n m old new (inr (inl a)) = ap (λ (z : State). z.kept) a.same
 shrink_kept shrunks.NotDue n m old new (inr (inr a)) = ap (λ (z : State). z.kept) a.same
@@ -130,6 +130,8 @@ module _ (grows : GrowsByOne) (shrinks : ShrinksTheSame) where
       let q : Place = record { node = Some n; records = p.records ++ start_after p.records ∷ [] } in
       subst (λ (z : Net). Kept z.places) (sym is)
       (put_kept u.places i p q here (keeps told hosts u run) (λ k e. node_is n k e ∙ start.kept ∙ start_kept shrinks start.version start.rs p.records same))
+  keeps told hosts net (Runs.start_recorded u i p run here down small is) =
+      subst (λ (z : Net). Kept z.places) (sym is) (ended_kept u.places i p (p.records ++ start_after p.records ∷ []) here (keeps told hosts u run))
   keeps told hosts net (Runs.turned u i p n m result role shrunk s t ps run here up turn runs brings sent is) =
       let steps = steps_in turn.first role n turn.node (told s) (told turn.behind) turn.steps in
       let q : Place = record { node = Some m; records = p.records ++ recorded steps } in

@@ -76,7 +76,7 @@ found_one apart c v w rs ss h k =
     let texts : h.texts ≡ k.texts = sym h.is.all ∙ ap records_of (bodies_one c v w h.texts k.texts h.is k.is) ∙ k.is.all in
     records_one apart v w rs ss k.texts (subst (AreRecords v rs) texts h.are) k.are
 
-restarts : AreApart → (c : Files) (v : Version) (rs ps : List Record) → StandFor v rs c → StandsFor ps c → AreSame (carried v rs) ps
+pub restarts : AreApart → (c : Files) (v : Version) (rs ps : List Record) → StandFor v rs c → StandsFor ps c → AreSame (carried v rs) ps
 restarts apart c v rs ps h k =
     subst (λ z. AreSame z ps) (λ i. carried (version_one c k.version v k.found rs k.stands h i) (found_one apart c k.version v k.found rs k.stands h i)) k.same
 

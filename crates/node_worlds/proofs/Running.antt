@@ -45,7 +45,7 @@ use Rattle.node_at.specs.declared.shrink.Shrunk.TheVariants as shrunks
 use Rattle.node_at.specs.declared.turn.Turned.{Turned}
 use Rattle.node_at.specs.declared.turn.Turned.TheVariants as turneds
 use Rattle.node_worlds.specs.Leads.{IsHeard, IsUp, Leads, moved, posted_at}
-use Rattle.node_worlds.specs.Nets.{Brings, as_far, begun_in, broken, IsOpened, Net, NetsAreWorlds, Place, Runs, StandsAs, doings_in, new_net, new_place, new_places, rested, steps_in, with_started, without}
+use Rattle.node_worlds.specs.Nets.{Brings, as_far, begun_in, broken, IsOpened, Net, NetsAreWorlds, Place, Runs, StandsAs, doings_in, new_net, new_place, new_places, rested, steps_in, with_start, with_started, without}
 use Rattle.node_worlds.specs.Nets.{after as net_after}
 use Rattle.node_worlds.specs.Sent.{AreSent, Sent, recorded, records_by}
 use Rattle.node_worlds.proofs.Places.{nth_other, nth_this}
@@ -62,13 +62,13 @@ record Shown (hosts : Hosts) (net : Net) : Type 0 where
   happened : world.happened ≡ net.happened
 
 -- the places of a net that nobody has started in
-opens_at : (base_of : ℕ → List ℕ) (k m i : ℕ) (p : Place) → nth i (new_places k) ≡ Some p → (p ≡ new_place) × ((x : Node) × (nth i (new_nodes base_of k m) ≡ Some x))
-opens_at base_of zero m i p e = absurd cc
-opens_at base_of (suc k) m i p e = by_number (λ f. opens_at base_of k (m + 1) (i - 1) p f) (nat_eq i 1) e
+opens_at : (hosts.base_of : ℕ → List ℕ) (k m i : ℕ) (p : Place) → nth i (new_places k) ≡ Some p → (p ≡ new_place) × ((x : Node) × (nth i (new_nodes hosts.base_of k m) ≡ Some x))
+opens_at hosts.base_of zero m i p e = absurd cc
+opens_at hosts.base_of (suc k) m i p e = by_number (λ f. opens_at hosts.base_of k (m + 1) (i - 1) p f) (nat_eq i 1) e
   where
-    by_number : (nth (i - 1) (new_places k) ≡ Some p → (p ≡ new_place) × ((x : Node) × (nth (i - 1) (new_nodes base_of k (m + 1)) ≡ Some x))) → (c : Bool)
-        → (if c then Some new_place else nth (i - 1) (new_places k)) ≡ Some p → (p ≡ new_place) × ((x : Node) × ((if c then Some (new_node (base_of m)) else nth (i - 1) (new_nodes base_of k (m + 1))) ≡ Some x))
-    by_number rest true f = let same : new_place ≡ p = cc in (sym same, (new_node (base_of m), refl))
+    by_number : (nth (i - 1) (new_places k) ≡ Some p → (p ≡ new_place) × ((x : Node) × (nth (i - 1) (new_nodes hosts.base_of k (m + 1)) ≡ Some x))) → (c : Bool)
+        → (if c then Some new_place else nth (i - 1) (new_places k)) ≡ Some p → (p ≡ new_place) × ((x : Node) × ((if c then Some (new_node (hosts.base_of m)) else nth (i - 1) (new_nodes hosts.base_of k (m + 1))) ≡ Some x))
+    by_number rest true f = let same : new_place ≡ p = cc in (sym same, (new_node (hosts.base_of m), refl))
     by_number rest false f = rest f
 
 opens : (hosts : Hosts) → Shown hosts (new_net hosts)
@@ -325,6 +325,33 @@ started_shows recovers shrinks hosts i u p n limit old new h here down start sam
     book = (λ j. recover (stands.base j) (behind (stands.journal j)))
         ∙ same_book recovers (hosts.base_of i) (behind p.records) (carried start.version start.rs ++ start_after start.rs ∷ []) kept ∙ sym start.book
 
+-- a start of which the record alone stands
+start_shows : (hosts : Hosts) (i : ℕ) (u : Net) (p : Place) → Shown hosts u → nth i u.places ≡ Some p → p.node ≡ None → last_incarnation p.records < 4294967295 → Shown hosts (with_start i u p)
+start_shows hosts i u p h here down small = record {
+  world = record h.world { nodes = put_nth i y h.world.nodes };
+  reached = rose h.world i x true h.reached found (stands.book ∙ ap (option_map (λ (k : State). k.book)) down) (subst (λ k. k < last_counter) (sym (ap last_incarnation stands.journal)) small) refl;
+  nodes = places_put hosts u.places h.world.nodes i p (record { node = None; records = p.records ++ start_after p.records ∷ [] }) x y here found
+      (record { base = stands.base; book = refl; journal = ap (λ rs. rs ++ start_after rs ∷ []) stands.journal }) h.nodes;
+  bases = bases_put h.world.nodes (new_nodes hosts.base_of hosts.count 1) i x y found refl h.bases;
+  posted = h.posted;
+  happened = h.happened;
+}
+  where
+    at : (x : Node) × (nth i h.world.nodes ≡ Some x) × StandsAs hosts i p x
+    at = h.nodes i p here
+
+    x : Node
+    x = at.0
+
+    found : nth i h.world.nodes ≡ Some x
+    found = at.1
+
+    stands : StandsAs hosts i p x
+    stands = at.2
+
+    y : Node
+    y = up_after (node_started (last_incarnation x.journal + 1) x) true
+
 -- the end of a node
 ended_shows : (hosts : Hosts) (i : ℕ) (u : Net) (p : Place) (n : State) → Shown hosts u → nth i u.places ≡ Some p → p.node ≡ Some n → Shown hosts (without i u p n)
 ended_shows hosts i u p n h here up = record {
@@ -414,6 +441,8 @@ module _ (walks : WalksTheDue) (recovers : RecoversTheCompacted) (shrinks : Shri
   shows told hosts net (Runs.opened is) = subst (Shown hosts) (sym is) (opens hosts)
   shows told hosts net (Runs.started u i p n limit s t run here down start same is) =
       subst (Shown hosts) (sym is) (started_shows recovers shrinks hosts i u p n limit (told s) (told t) (shows told hosts u run) here down start same)
+  shows told hosts net (Runs.start_recorded u i p run here down small is) =
+      subst (Shown hosts) (sym is) (start_shows hosts i u p (shows told hosts u run) here down small)
   shows told hosts net (Runs.turned u i p n m result role shrunk s t ps run here up turn runs brings sent is) =
       let h = shows told hosts u run in
       let first = turn.first in

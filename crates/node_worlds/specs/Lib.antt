@@ -5,3 +5,7 @@ pub mod Keeping
 pub mod Agreement
 pub mod Restarting
 pub mod Delivered
+pub mod Acts
+pub mod Lives
+pub mod Machines
+pub mod Crashing

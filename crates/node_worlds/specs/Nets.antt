@@ -1,5 +1,5 @@
 -- Nets of nodes that serve and post to one another, and the worlds that they are.
-use Rattle.std.specs.Prelude.{ℕ, List, [], ◌∷◌, ◌++◌, ◌≡◌, Option, Some, None, map, option_map, zero, suc}
+use Rattle.std.specs.Prelude.{ℕ, List, [], ◌∷◌, ◌++◌, ◌≡◌, ◌<◌, Option, Some, None, map, option_map, zero, suc}
 use Rattle.std.proofs.Common.{inl, inr}
 use Rattle.at_base.specs.Numbers.{Numbers}
 use Rattle.at_base.specs.declared.event.Arrived.{Arrived}
@@ -7,6 +7,7 @@ use Rattle.at_base.specs.declared.event.Event.TheVariants as events
 use Rattle.at_base.specs.declared.event.Local.{Local}
 use Rattle.at_base.specs.declared.outs.Post.{Post}
 use Rattle.at_base.specs.declared.record.Record.{Record}
+use Rattle.at_model.specs.Recover.{last_incarnation}
 use Rattle.at_model.specs.Step.{plan}
 use Rattle.at_model.specs.World.{Happened, Node, Posted, World, decoded, happened_at, lost_in, new_nodes, nth, put_nth, Hosts}
 use Rattle.model_laws.specs.Agreement.{IsIn}
@@ -116,6 +117,10 @@ after hosts i u p m rs ps = record {
 abbrev pub with_started : ℕ → Net → Place → State → Net
 with_started i u p n = record u { places = put_nth i (record { node = Some n; records = p.records ++ start_after p.records ∷ [] }) u.places }
 
+-- the net behind a start that was cut off behind its record, or that failed there
+abbrev pub with_start : ℕ → Net → Place → Net
+with_start i u p = record u { places = put_nth i (record { node = None; records = p.records ++ start_after p.records ∷ [] }) u.places }
+
 -- the net behind the end of a node, and what that takes
 abbrev pub without : ℕ → Net → Place → State → Net
 without i u p n = record {
@@ -143,6 +148,9 @@ pub data Runs {S : Type 0} (told : S → Told) (hosts : Hosts) : Net → Type 0 
   -- A node starts, under its base, and on files that stand for what its journal was told to hold, or for what is left of that.
   started : {w : Net} (u : Net) (i : ℕ) (p : Place) (n : State) (limit : ℕ) (s t : S) → Runs told hosts u → nth i u.places ≡ Some p → p.node ≡ None
       → (start : IsStarted (hosts.base_of i) limit n (told s) (told t)) → AreSame (carried start.version start.rs) p.records → w ≡ with_started i u p n → Runs told hosts w
+  -- a start is cut off behind its record, or fails there
+  start_recorded : {w : Net} (u : Net) (i : ℕ) (p : Place) → Runs told hosts u → nth i u.places ≡ Some p → p.node ≡ None → last_incarnation p.records < 4294967295
+      → w ≡ with_start i u p → Runs told hosts w
   -- it takes a turn, and doesn't halt
   turned : {w : Net} (u : Net) (i : ℕ) (p : Place) (n m : State) (result : Turned) (role : Role) (shrunk : Shrunk) (s t : S) (ps : List Post) → Runs told hosts u
       → nth i u.places ≡ Some p → p.node ≡ Some n → (turn : TakesTurn told result role shrunk n m s t) → (result ≡ turneds.Halted → ⊥)
