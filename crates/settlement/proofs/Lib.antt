@@ -1,3 +1,4 @@
 mod Events
 mod Rounds
 mod Settled
+mod Few

@@ -2,5 +2,6 @@
 //! and the others post in answer is delivered.
 #![tactic(auto)]
 
+pub mod held;
 mod resting;
 pub mod settle;

@@ -3,6 +3,7 @@
 ghost use Rattle.std.specs.Prelude.{ℕ, ◌≡◌, ◌≤◌, ◌<◌, ◌+◌, ◌++◌, ◌∷◌, [], IfOk, IfSome, OnOk, Some, None, length, map, drop};
 ghost use Rattle.at_model.specs.World.{Deliver, Tick, Turn, Up, world_step};
 ghost use Rattle.model_laws.specs.Settle.{all_also, all_up, also, first_received, settle_rounds, ticks, up_if, ups};
+ghost use Rattle.settlement.specs.Held.{held_up};
 ghost use Rattle.settling.specs.Drains.{Delivers, IsDrained};
 ghost use Rattle.world_laws.specs.Events.{event_of, input_of};
 ghost use Rattle.world_laws.specs.Runs.{book_at, world_of};
@@ -237,4 +238,13 @@ pub fn settled(alloc: Global, world: &World) -> Result<Vec<WorldEvent>, AllocErr
     let risen = begun.all_up(alloc)?;
     let settled = risen.rounds(alloc)?;
     Ok(settled.events)
+}
+
+/// What the nodes hold once all are up.
+pub fn held_up(alloc: Global, world: &World) -> Result<u128, AllocError>
+    ensures { IfOk result (λ held. held ≡ held_up (world_of world.now)) }
+{
+    let begun = Settling::begin(alloc, world)?;
+    let risen = begun.all_up(alloc)?;
+    Ok(risen.world.held())
 }

@@ -4,6 +4,8 @@ ghost use Rattle.std.specs.List.{AllByRecursion};
 ghost use Rattle.std.specs.Prelude.{◌≡◌, ◌≤◌, IfOk, length, map, true};
 ghost use Rattle.at_model.specs.World.{run_on};
 ghost use Rattle.model_laws.specs.Settle.{MayStart, is_settled, settle, settle_bound};
+ghost use Rattle.settlement.specs.Held.{held_up, most_events};
+ghost use Rattle.std.specs.Prelude.{◌<◌, ◌-◌, ◌^◌};
 ghost use Rattle.world_laws.specs.Events.{event_of};
 ghost use Rattle.world_laws.specs.Runs.{world_of};
 
@@ -23,9 +25,14 @@ use world_laws::world::World;
 /// carried out, where no node has spent its incarnations (`rests`). They are few (`few`): at most N + 8 (N + 128 (K + 1)) for N
 /// nodes, which hold K seats, completion seats, links (two for each subordinate), leaves and activities once all are up. Want of
 /// memory is answered too where a world would have more than 4,294,967,295 events.
+///
+/// What they hold is what `World::held` counts then, and `held_once_up` says beforehand (`held`).
 pub fn settle(alloc: Global, world: &World) -> Result<Vec<WorldEvent>, AllocError>
     ensures is { IfOk result (λ events. map event_of events.items ≡ settle (world_of world.now)) }
     ensures few { length (settle (world_of world.now)) ≤ settle_bound (world_of world.now) }
+    ensures held { held_up (world_of world.now) < 2 ^ 64 - 1
+        → length (settle (world_of world.now))
+        ≤ most_events (length (world_of world.now).nodes) (held_up (world_of world.now)) }
     ensures rests { AllByRecursion MayStart (world_of world.now).nodes → is_settled (run_on (world_of world.now) (settle (world_of world.now))) ≡ true }
 {
     examples_are_apart();

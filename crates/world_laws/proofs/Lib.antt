@@ -4,6 +4,7 @@ pub mod Changing
 pub mod Fates
 pub mod Fitting
 pub mod Found
+pub mod Holding
 pub mod Inserting
 pub mod Named
 pub mod Nodes

@@ -1,4 +1,5 @@
 pub mod Events
+pub mod Held
 pub mod Left
 pub mod Moves
 pub mod Runs

@@ -3,6 +3,7 @@
 
 mod arrivals;
 pub mod event;
+mod held;
 pub mod laws;
 mod left;
 mod luck;

@@ -2,11 +2,14 @@
 
 ghost use Rattle.std.specs.Prelude.{◌≡◌, ◌≤◌, ◌<◌, ◌++◌, IfOk, OnOk, Some, map, length, option_copied, slice_get, slice_set};
 ghost use Rattle.at_model.specs.World.{Node as Known, happened_at, new_nodes, node_of, nth, opening, example_hosts, example_base};
+ghost use Rattle.std.specs.Prelude.{sum_by};
 ghost use Rattle.world_laws.specs.Events.{event_of};
+ghost use Rattle.world_laws.specs.Held.{node_held};
 ghost use Rattle.world_laws.specs.Runs.{AreReady, IsReady};
 ghost use Rattle.world_laws.specs.Moves.{after, counted_in, move_of, moved_by, moved_in, nodes_by, numbered, seen, steps_in, with_all, with_lost, with_nodes, with_taken};
 
 use crate::event::WorldEvent;
+use crate::held::all_held;
 use crate::node::Node;
 use crate::posted::{Counted, NodeEffect, Posted, Steps, posted_at};
 use crate::posting::{push_effects, push_posts};
@@ -200,6 +203,13 @@ impl Scene {
         ensures { OnOk result (self.new ≡ with_lost number lost.now self.old) }
     {
         push_effects(&mut self.happened, number, lost.as_slice())
+    }
+
+    /// What the books of its nodes hold.
+    pub fn held(&self) -> u128
+        ensures { result ≡ sum_by node_held self.now.nodes }
+    {
+        all_held(self.nodes.as_slice())
     }
 
     /// What an event makes of it, and what the event gave.

@@ -10,7 +10,10 @@ ghost use Rattle.model_laws.specs.Reached.{ExamplesAreApart};
 ghost use Rattle.model_laws.specs.Settle.{IsSettling, MayStart, Settles};
 ghost use Rattle.at_model.specs.World.{nth, opening, run_of, world_step, example_hosts};
 ghost use Rattle.completion_at.specs.Names.{refusal_of};
+ghost use Rattle.std.specs.Prelude.{◌-◌, ◌^◌};
+ghost use Rattle.model_laws.specs.Settle.{waiting};
 ghost use Rattle.world_laws.specs.Events.{event_of};
+ghost use Rattle.world_laws.specs.Held.{NodeHoldsFew, world_held};
 ghost use Rattle.world_laws.specs.Moves.{losses_of, steps_of};
 ghost use Rattle.world_laws.specs.Runs.{book_at, clock_at, incarnation_at, refused_at, world_of};
 
@@ -162,6 +165,20 @@ impl World {
         ensures { result ≡ incarnation_at (world_of self.now) node }
     {
         self.scene.node(node)?.incarnation()
+    }
+
+    /// How many seats, completion seats, links (two of each subordinate), leaves and activities the nodes that are up hold:
+    /// the sum of what their books hold (`Book::held`).
+    ///
+    /// It is all that waits in the world, where it is below the greatest number of 64 bits (`small`), or where each book holds
+    /// few (`few`). It takes no memory.
+    #[tactic(auto, using(crate::proofs::Holding::counts_all, crate::proofs::Holding::counts_few))]
+    pub fn held(&self) -> u128
+        ensures sum { result ≡ world_held (world_of self.now) }
+        ensures small { result < 2 ^ 64 - 1 → result ≡ waiting (world_of self.now) }
+        ensures few { AllByRecursion NodeHoldsFew (world_of self.now).nodes → result ≡ waiting (world_of self.now) }
+    {
+        self.scene.held()
     }
 
     /// Why a node that is up refuses a request: the first cause that holds.

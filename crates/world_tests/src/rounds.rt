@@ -2,6 +2,7 @@
 
 use crate::ends::at_rest;
 use crate::script::{Script, played};
+use settlement::held::held_once_up;
 use settlement::settle::settle;
 use std::alloc::{AllocError, Global};
 use std::test::Fail;
@@ -98,6 +99,23 @@ fn delivers(alloc: Global, leaves: u8, first: usize) -> Result<bool, AllocError>
 fn one_round_registers_and_commits(rt: HostRuntime) -> Result<(), Fail> {
     for (leaves, first) in ROUNDS {
         let right = delivers(rt.alloc(), *leaves, *first)?;
+        assert!(rt; right, "{leaves}");
+    }
+    Ok(())
+}
+
+/// Whether the activity, the completion seat and so many participants are what the nodes hold.
+fn holds(alloc: Global, leaves: u8) -> Result<bool, AllocError> {
+    let script = unregistered(alloc, leaves)?;
+    let wanted = u128::from(leaves) + 2;
+    let risen = held_once_up(alloc, script.world())?;
+    Ok(risen == wanted && script.world().held() == wanted)
+}
+
+#[test]
+fn nodes_hold_what_waits(rt: HostRuntime) -> Result<(), Fail> {
+    for (leaves, _first) in ROUNDS {
+        let right = holds(rt.alloc(), *leaves)?;
         assert!(rt; right, "{leaves}");
     }
     Ok(())

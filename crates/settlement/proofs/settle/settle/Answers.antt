@@ -1,6 +1,7 @@
 use Rattle.std.specs.Prelude.{◌≤◌, map}
 use Rattle.std.proofs.Common.{subst}
 use Rattle.world_laws.specs.Events.{event_of}
+use Rattle.settlement.proofs.Few.{few_held}
 use Rattle.settlement.proofs.Settled.{are_few, rests, settles}
 use Rattle.settlement.proofs.settle.settle.Goals as goal
 
@@ -20,3 +21,9 @@ returns-clause-few c = are_few c.args.world.now c.drains.ensures
 pub returns-clause-rests : goal.returns-clause-rests
 returns-clause-rests c =
     rests c.args.world.now c.examples_are_apart.ensures c.settles.ensures (subst (λ n. n ≤ 8) c.count-count.ensures.value c.count-count.ensures.nodes.1)
+
+pub returns-in_err-events-clause-held : goal.returns-in_err-events-clause-held
+returns-in_err-events-clause-held c = few_held c.args.world.now c.drains.ensures
+
+pub returns-clause-held : goal.returns-clause-held
+returns-clause-held c = few_held c.args.world.now c.drains.ensures

@@ -2,7 +2,6 @@ use Rattle.std.proofs.Common.{◌+◌, ◌-◌, ◌^◌, ap, ◌∙◌, length}
 use Rattle.std.specs.Prelude.{min}
 use Rattle.at_model.specs.Book.{Book}
 use Rattle.coordinator_at.specs.Held.{transactions_held}
-use Rattle.interposition.specs.Held.{held}
 use Rattle.interposition.proofs.Holding.{all_held, exactly_held}
 use Rattle.interposition.proofs.book.Book.held.Goals as goal
 

@@ -1,0 +1,24 @@
+-- The events that bring a world to rest are few by what its nodes hold.
+use Rattle.std.proofs.Common.{ℕ, ◌+◌, ◌-◌, ◌*◌, ◌^◌, ◌<◌, ◌≤◌, ◌≡◌, length, subst, sym, arith}
+use Rattle.at_model.specs.World.{World}
+use Rattle.model_laws.specs.Settle.{all_up, settle, settle_bound, waiting}
+use Rattle.settling.specs.Drains.{Drains}
+use Rattle.world_laws.proofs.Holding.{counts_all}
+use Rattle.world_laws.specs.Runs.{Run, world_of}
+use Rattle.settlement.proofs.Settled.{are_few}
+use Rattle.settlement.specs.Held.{held_up, most_events}
+
+by_held : (events nodes held count : ℕ) → held ≡ count → events ≤ most_events nodes count → events ≤ most_events nodes held
+by_held events nodes held count e h = subst (λ n. events ≤ most_events nodes n) (sym e) h
+
+pub few_held :
+    (r : Run) → Drains → held_up (world_of r) < 2 ^ 64 - 1
+    → length (settle (world_of r)) ≤ most_events (length (world_of r).nodes) (held_up (world_of r))
+few_held r d h = by_held _ _ _ (waiting (all_up (world_of r)).world) (counts_all (all_up (world_of r)).world h) (are_few r d)
+
+-- the same of a number that is what they hold
+pub few_counted :
+    (r : Run) → Drains → (held : ℕ) → held ≡ held_up (world_of r) → held < 2 ^ 64 - 1
+    → length (settle (world_of r)) ≤ most_events (length (world_of r).nodes) held
+few_counted r d held e h =
+    by_held _ _ held (held_up (world_of r)) e (few_held r d (subst (λ n. n < 2 ^ 64 - 1) e h))
