@@ -13,7 +13,7 @@ use std::test::Fail;
 const BUSY: &[u8] =
     b"HTTP/1.1 503 Service Unavailable\r\nContent-Length: 0\r\nConnection: close\r\n\r\n";
 
-/// What a node had answered, posted and recorded.
+/// What a node has answered, posted and recorded.
 #[derive(Drop)]
 struct Before {
     answers: usize,
@@ -21,7 +21,7 @@ struct Before {
     file: Vec<u8>,
 }
 
-fn before(alloc: Global, net: &Net, node: usize) -> Result<Before, AllocError> {
+fn stands(alloc: Global, net: &Net, node: usize) -> Result<Before, AllocError> {
     match net.peer(node) {
         Some(peer) => Ok(Before {
             answers: peer.answers(),
@@ -50,7 +50,7 @@ fn is_as_before(peer: &Peer, before: &Before) -> bool {
 /// Whether a row goes as it says, after one more try where the node was busy.
 fn goes(alloc: Global, net: &mut Net, row: &Row, busy: &mut bool) -> Result<bool, AllocError> {
     let (act, node, answer, effect, posts) = row;
-    let before = before(alloc, net, *node)?;
+    let before = stands(alloc, net, *node)?;
     let mut given = net.act(alloc, *act, *node)?;
     let Some(peer) = net.peer(*node) else {
         return Err(AllocError);
