@@ -130,7 +130,7 @@ const SEEN: &[Row] = &[
 ];
 
 /// A mark of version 2, and the first Start.
-pub const FRESH: &[u8] =
+const FRESH: &[u8] =
     b"\x01\x00\x00\x00\x05\x0b\x00\x00\x00\x00\x01\x00\x00\x00\x05\x01\x00\x00\x00\x01\x00";
 
 /// Behind them a second Start.
@@ -198,7 +198,7 @@ const PLAYS: &[(&str, &[&[Row]], &[u8], &[u8])] = &[
 ];
 
 /// The part and the row of it that doesn't go as it says, from 0, or how many parts there are.
-pub fn plays(alloc: Global, net: &mut Net, parts: &[&[Row]]) -> Result<(usize, usize), AllocError> {
+fn plays(alloc: Global, net: &mut Net, parts: &[&[Row]]) -> Result<(usize, usize), AllocError> {
     for part in 0..parts.len() {
         let rows = parts[part];
         let done = net.plays(alloc, rows)?;

@@ -192,6 +192,11 @@ impl Net {
         }
     }
 
+    /// A node on its machine.
+    pub fn peer(&self, node: usize) -> Option<&Peer> {
+        self.peers.get(node.saturating_sub(1))
+    }
+
     /// What happened for good at a node in its last call, and how many posts it has sent.
     pub fn shows(&self, node: usize, effect: &str, posts: usize) -> bool {
         match self.peers.get(node.saturating_sub(1)) {
@@ -221,14 +226,6 @@ impl Net {
     pub fn holds(&self, node: usize, file: &[u8]) -> bool {
         match self.peers.get(node.saturating_sub(1)) {
             Some(peer) => peer.holds(file),
-            None => false,
-        }
-    }
-
-    /// Whether a node's last answer is its n-th, from 1, and is this.
-    pub fn has_answered(&self, node: usize, n: usize, bytes: &[u8]) -> bool {
-        match self.peers.get(node.saturating_sub(1)) {
-            Some(peer) => peer.answers() == n && peer.has_answered(n, bytes),
             None => false,
         }
     }
