@@ -62,13 +62,13 @@ record Shown (hosts : Hosts) (net : Net) : Type 0 where
   happened : world.happened ≡ net.happened
 
 -- the places of a net that nobody has started in
-opens_at : (hosts.base_of : ℕ → List ℕ) (k m i : ℕ) (p : Place) → nth i (new_places k) ≡ Some p → (p ≡ new_place) × ((x : Node) × (nth i (new_nodes hosts.base_of k m) ≡ Some x))
-opens_at hosts.base_of zero m i p e = absurd cc
-opens_at hosts.base_of (suc k) m i p e = by_number (λ f. opens_at hosts.base_of k (m + 1) (i - 1) p f) (nat_eq i 1) e
+opens_at : (base_of : ℕ → List ℕ) (k m i : ℕ) (p : Place) → nth i (new_places k) ≡ Some p → (p ≡ new_place) × ((x : Node) × (nth i (new_nodes base_of k m) ≡ Some x))
+opens_at base_of zero m i p e = absurd cc
+opens_at base_of (suc k) m i p e = by_number (λ f. opens_at base_of k (m + 1) (i - 1) p f) (nat_eq i 1) e
   where
-    by_number : (nth (i - 1) (new_places k) ≡ Some p → (p ≡ new_place) × ((x : Node) × (nth (i - 1) (new_nodes hosts.base_of k (m + 1)) ≡ Some x))) → (c : Bool)
-        → (if c then Some new_place else nth (i - 1) (new_places k)) ≡ Some p → (p ≡ new_place) × ((x : Node) × ((if c then Some (new_node (hosts.base_of m)) else nth (i - 1) (new_nodes hosts.base_of k (m + 1))) ≡ Some x))
-    by_number rest true f = let same : new_place ≡ p = cc in (sym same, (new_node (hosts.base_of m), refl))
+    by_number : (nth (i - 1) (new_places k) ≡ Some p → (p ≡ new_place) × ((x : Node) × (nth (i - 1) (new_nodes base_of k (m + 1)) ≡ Some x))) → (c : Bool)
+        → (if c then Some new_place else nth (i - 1) (new_places k)) ≡ Some p → (p ≡ new_place) × ((x : Node) × ((if c then Some (new_node (base_of m)) else nth (i - 1) (new_nodes base_of k (m + 1))) ≡ Some x))
+    by_number rest true f = let same : new_place ≡ p = cc in (sym same, (new_node (base_of m), refl))
     by_number rest false f = rest f
 
 opens : (hosts : Hosts) → Shown hosts (new_net hosts)
