@@ -1,4 +1,5 @@
 mod Addresses
+mod Bases
 mod Examples
 mod Making
 mod Parsing

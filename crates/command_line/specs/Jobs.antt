@@ -3,6 +3,7 @@ use Rattle.std.specs.Prelude.{ℕ, List, [], ◌∷◌, ◌++◌, ◌-◌, ◌^�
 use Rattle.std.specs.List.{list_all}
 use Rattle.addressing.specs.Posting.{post_to_of}
 use Rattle.addressing.specs.declared.post_to.PostTo.{PostTo}
+use Rattle.arrivals.specs.Worlds.{IsBase}
 use Rattle.at_tables.specs.Texts.{state_name}
 use Rattle.at_tables.specs.declared.cells.State.{State}
 use Rattle.clap.specs.Faults.{fault_of}
@@ -95,6 +96,11 @@ is_delimiter b = b == 35 || b == 47 || b == 63 || b == 64
 -- an address has none of them
 abbrev pub IsNoDelimiter : ℕ → Type 0
 IsNoDelimiter b = is_delimiter b ≡ false
+
+-- Under `http://` and the address the addresses of a node's items are URLs with their paths. A URL names port 80 by no port (URL Standard,
+-- section 4.5), so of that port nothing is said.
+abbrev pub HasBase : List ℕ → Type 0
+HasBase listen = (to : PostTo) → post_to_of (codes "http://" ++ listen) ≡ Some to → (to.port ≡ 80 → ⊥) → IsBase (codes "http://" ++ listen)
 
 abbrev pub MeansServing : Text → List Row → Serving → Type 0
 MeansServing name rows s =

@@ -11,13 +11,14 @@ ghost use Rattle.clap.specs.Walk.{first_of, rows_of};
 ghost use Rattle.clap.specs.Matches.{found_of};
 ghost use Rattle.clap.specs.Values.{kind_of};
 ghost use Rattle.command_line.specs.Commands.{whole};
-ghost use Rattle.command_line.specs.Jobs.{Filter as MeantFilter, IsJobOf, IsNoDelimiter, Job as Meant, Means, MeansFilter, MeansMade, MeansServing, Role as MeantRole, Serving as MeantServing, flag_text, is_address, is_authority, is_visible, role_name, tick_to};
+ghost use Rattle.command_line.specs.Jobs.{Filter as MeantFilter, HasBase, IsJobOf, IsNoDelimiter, Job as Meant, Means, MeansFilter, MeansMade, MeansServing, Role as MeantRole, Serving as MeantServing, flag_text, is_address, is_authority, is_visible, role_name, tick_to};
 ghost use Rattle.command_line.specs.Views.{Says, SaysUnread, Tells, meant, meant_filter, meant_role, meant_serving};
 ghost use Rattle.url.specs.Host.{host_text};
 ghost use Rattle.url.specs.Parts.{IsValid, nonempty_host};
 
 use crate::commands::whole;
 use addressing::post_to::{PostTo, post_to};
+use arrivals::laws::heads_are_bases;
 use at_base::epr::Epr;
 use at_base::text::Text;
 use at_tables::cells::State;
@@ -212,15 +213,17 @@ fn is_authority(alloc: Global, listen: &str, url: &Url) -> Result<bool, AllocErr
     Ok(own.as_str() == listen)
 }
 
-/// Whether a node may listen there.
+/// Whether a node may listen there. It has a base then, and no part of a URL but host and port.
 #[tactic(auto, using(crate::proofs::Addresses::undelimited))]
-pub(crate) fn is_address(alloc: Global, listen: &str) -> Result<bool, AllocError>
+pub fn is_address(alloc: Global, listen: &str) -> Result<bool, AllocError>
     ensures is { IfOk result (λ is. is ≡ is_address listen.now) }
     ensures undelimited { IfOk result (λ is. IsTrue is → All IsNoDelimiter listen.now) }
+    ensures based { IfOk result (λ is. IsTrue is → HasBase listen.now) }
 {
     if listen.len() > LISTEN_BYTES || !are_visible(listen) {
         return Ok(false);
     }
+    heads_are_bases();
     let mut base = String::from_str(alloc, "http://")?;
     base.push_str(listen)?;
     match Url::parse(alloc, base.as_str()) {
