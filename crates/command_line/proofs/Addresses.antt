@@ -1,5 +1,5 @@
 -- An address of a node has none of the bytes that end the host and the port of a URL.
-use Rattle.std.proofs.Common.{◌≡◌, ℕ, true, false, ◌&&◌, List, [], ◌∷◌, ◌++◌, Option, Some, None, All, refl, sym, subst, lit<, arith}
+use Rattle.std.proofs.Common.{◌≡◌, ℕ, true, List, [], ◌∷◌, Option, Some, None, All, refl, subst, arith}
 use Rattle.std.specs.Fmt.{digits}
 use Rattle.std.specs.Prelude.{codes, decimal, option_map, unwrap_or, bytes_eq, nat_le}
 use Rattle.std.proofs.lemmas.Bool.{and_parts, cond_both}
@@ -14,7 +14,7 @@ use Rattle.url.proofs.InputLemmas.{Passes}
 use Rattle.url.proofs.TextLemmas.{is_host_byte, own_host_bytes, port_bytes}
 use Rattle.addressing.specs.Posting.{postable, with_query}
 use Rattle.addressing.specs.declared.post_to.PostTo.{PostTo}
-use Rattle.command_line.specs.Jobs.{IsNoDelimiter, authority, is_authority, is_delimiter}
+use Rattle.command_line.specs.Jobs.{IsNoDelimiter, authority, is_authority}
 
 part : (b : ℕ) → Passes is_host_byte b → IsNoDelimiter b
 part b passes = grind (arith, nat_tests)

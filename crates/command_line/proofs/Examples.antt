@@ -5,9 +5,9 @@ use Rattle.at_tables.specs.declared.cells.State.TheVariants as states
 use Rattle.clap.specs.Faults.{fault_of}
 use Rattle.clap.specs.declared.error.kind.ErrorKind.TheVariants.{InvalidSubcommand, MissingRequiredArgument, MissingSubcommand, UnknownArgument}
 use Rattle.clap.proofs.OnLiterals.{clap_on_literals}
+use Rattle.url.proofs.OnLiterals.{url_on_literals}
 use Rattle.command_line.specs.Commands.{whole}
-use Rattle.command_line.specs.Jobs.{IsJobOf, IsQuestion, Serving}
-use Rattle.command_line.specs.Jobs.Role.{Coordinator}
+use Rattle.command_line.specs.Jobs.{IsJobOf, IsQuestion, is_address}
 use Rattle.command_line.specs.Jobs.Filter.{Cell, Check, Replay}
 use Rattle.command_line.specs.Jobs.Job.{Filters, Make}
 
@@ -74,3 +74,27 @@ no_seed = refl
 no_url : fault_of whole (codes "tick" ∷ []) ≡ MissingRequiredArgument ∷ []
 unfolding clap_on_literals
 no_url = refl
+
+an_address : is_address (codes "127.0.0.1:9001") ≡ true
+unfolding url_on_literals
+an_address = refl
+
+an_address_in_brackets : is_address (codes "[::1]:9001") ≡ true
+unfolding url_on_literals
+an_address_in_brackets = refl
+
+the_port_of_http : is_address (codes "h:80") ≡ true
+unfolding url_on_literals
+the_port_of_http = refl
+
+no_port : is_address (codes "h") ≡ false
+unfolding url_on_literals
+no_port = refl
+
+port_0 : is_address (codes "h:0") ≡ false
+unfolding url_on_literals
+port_0 = refl
+
+a_path : is_address (codes "h/x:1") ≡ false
+unfolding url_on_literals
+a_path = refl

@@ -214,7 +214,7 @@ fn is_authority(alloc: Global, listen: &str, url: &Url) -> Result<bool, AllocErr
 
 /// Whether a node may listen there.
 #[tactic(auto, using(crate::proofs::Addresses::undelimited))]
-fn is_address(alloc: Global, listen: &str) -> Result<bool, AllocError>
+pub(crate) fn is_address(alloc: Global, listen: &str) -> Result<bool, AllocError>
     ensures is { IfOk result (λ is. is ≡ is_address listen.now) }
     ensures undelimited { IfOk result (λ is. IsTrue is → All IsNoDelimiter listen.now) }
 {
