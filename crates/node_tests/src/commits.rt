@@ -6,7 +6,7 @@ use std::alloc::{AllocError, Global};
 use std::test::Fail;
 
 /// Node 1 has an activity at node 2, in which node 3 works.
-const BEGUN: &[Row] = &[
+pub const BEGUN: &[Row] = &[
     (Act::Begin, 1, 0, "", 1),
     // CreateCoordinationContext and its answer
     (Act::Post(1, 1), 2, 202, "", 1),
@@ -23,13 +23,13 @@ const BEGUN: &[Row] = &[
 ];
 
 /// Node 2 is asked for the commit, and asks node 3 for its vote.
-const ENDING: &[Row] = &[(Act::Commit, 1, 0, "", 4), (Act::Post(1, 4), 2, 202, "", 4)];
+pub const ENDING: &[Row] = &[(Act::Commit, 1, 0, "", 4), (Act::Post(1, 4), 2, 202, "", 4)];
 
 /// Which it gives.
-const VOTED: &[Row] = &[(Act::Post(2, 4), 3, 202, "", 3)];
+pub const VOTED: &[Row] = &[(Act::Post(2, 4), 3, 202, "", 3)];
 
 /// Prepared, Commit to the participant, Committed to the initiator, Committed of the participant.
-const COMMITS: &[Row] = &[
+pub const COMMITS: &[Row] = &[
     (Act::Post(3, 3), 2, 202, "root committed", 6),
     (Act::Post(2, 5), 3, 202, "leaf committed", 4),
     (Act::Post(2, 6), 1, 202, "told committed", 4),
@@ -146,7 +146,7 @@ const DECIDED: &[u8] =
     b"\x01\x00\x00\x00\x05\x0b\x00\x00\x00\x00\x01\x00\x00\x00\x05\x01\x00\x00\x00\x01\x01\x00\x00\x00\x2a\x06\x00\x00\x00\x01\x00\x00\x00\x01\x00\x01\x00\x01\x00\x19http://n3.example/p/d/1-1\x00\x00\x00";
 
 /// And its end.
-const ENDED: &[u8] =
+pub const ENDED: &[u8] =
     b"\x01\x00\x00\x00\x05\x0b\x00\x00\x00\x00\x01\x00\x00\x00\x05\x01\x00\x00\x00\x01\x01\x00\x00\x00\x2a\x06\x00\x00\x00\x01\x00\x00\x00\x01\x00\x01\x00\x01\x00\x19http://n3.example/p/d/1-1\x00\x00\x01\x00\x00\x00\x09\x08\x00\x00\x00\x01\x00\x00\x00\x01\x00";
 
 /// The same with a second Start behind the decision.
@@ -158,7 +158,7 @@ const PREPARED: &[u8] =
     b"\x01\x00\x00\x00\x05\x0b\x00\x00\x00\x00\x01\x00\x00\x00\x05\x01\x00\x00\x00\x01\x01\x00\x00\x00\x2e\x02\x00\x00\x00\x01\x00\x00\x00\x01\x00\x1bhttp://n2.example/c/d/1-1/1\x00\x00\x00\x01k\x00\x01v\x00";
 
 /// And its commit.
-const COMMITTED: &[u8] =
+pub const COMMITTED: &[u8] =
     b"\x01\x00\x00\x00\x05\x0b\x00\x00\x00\x00\x01\x00\x00\x00\x05\x01\x00\x00\x00\x01\x01\x00\x00\x00\x2e\x02\x00\x00\x00\x01\x00\x00\x00\x01\x00\x1bhttp://n2.example/c/d/1-1/1\x00\x00\x00\x01k\x00\x01v\x01\x00\x00\x00\x09\x03\x00\x00\x00\x01\x00\x00\x00\x01\x00";
 
 /// Its abort.
@@ -209,7 +209,7 @@ fn plays(alloc: Global, net: &mut Net, parts: &[&[Row]]) -> Result<(usize, usize
     Ok((parts.len(), 0))
 }
 
-fn leaves(net: &Net, second: &[u8], third: &[u8]) -> bool {
+pub fn leaves(net: &Net, second: &[u8], third: &[u8]) -> bool {
     net.holds(1, FRESH) && net.holds(2, second) && net.holds(3, third)
 }
 

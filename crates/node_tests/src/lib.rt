@@ -8,6 +8,8 @@ mod hostile;
 #[cfg(test)]
 mod locals;
 #[cfg(test)]
+mod memory;
+#[cfg(test)]
 mod net;
 #[cfg(test)]
 mod peer;

@@ -183,7 +183,8 @@ impl Net {
         }
     }
 
-    fn act(&mut self, alloc: Global, act: Act, node: usize) -> Result<u16, AllocError> {
+    /// What this answers: 0 where it was done, else as `number` says it, or 9.
+    pub fn act(&mut self, alloc: Global, act: Act, node: usize) -> Result<u16, AllocError> {
         match act {
             Act::Post(sender, n) => self.carry(alloc, sender, n, node),
             Act::Begin | Act::Work | Act::Commit => self.request(alloc, act, node),
@@ -191,8 +192,13 @@ impl Net {
         }
     }
 
+    /// A node on its machine.
+    pub fn peer(&self, node: usize) -> Option<&Peer> {
+        self.peers.get(node.saturating_sub(1))
+    }
+
     /// What happened for good at a node in its last call, and how many posts it has sent.
-    fn shows(&self, node: usize, effect: &str, posts: usize) -> bool {
+    pub fn shows(&self, node: usize, effect: &str, posts: usize) -> bool {
         match self.peers.get(node.saturating_sub(1)) {
             Some(peer) => peer.effect() == effect && peer.posts() == posts,
             None => false,

@@ -127,6 +127,11 @@ impl Peer {
         }
     }
 
+    /// What stands in file 0.
+    pub fn file(&self) -> &[u8] {
+        self.site.file(0)
+    }
+
     /// Whether file 0 is this, and file 1 is empty.
     pub fn holds(&self, file: &[u8]) -> bool {
         self.site.file(0) == file && self.site.file(1).is_empty()
