@@ -47,21 +47,44 @@ fn is_as_before(peer: &Peer, before: &Before) -> bool {
     peer.effect() == "" && peer.posts() == before.posts && peer.holds(before.file.as_slice())
 }
 
+/// What a call left.
+enum Trace {
+    /// It wasn't refused for want of memory.
+    Done,
+    /// It was, and nothing came of it.
+    AsBefore,
+    /// It was, and something did.
+    Something,
+}
+
+fn left(net: &Net, node: usize, given: u16, before: &Before) -> Trace {
+    match net.peer(node) {
+        Some(peer) => {
+            if !is_busy(peer, given, before) {
+                Trace::Done
+            } else if is_as_before(peer, before) {
+                Trace::AsBefore
+            } else {
+                Trace::Something
+            }
+        }
+        None => Trace::Something,
+    }
+}
+
 /// Whether a row goes as it says, after one more try where the node was busy.
 fn goes(alloc: Global, net: &mut Net, row: &Row, busy: &mut bool) -> Result<bool, AllocError> {
     let (act, node, answer, effect, posts) = row;
     let before = stands(alloc, net, *node)?;
-    let mut given = net.act(alloc, *act, *node)?;
-    let Some(peer) = net.peer(*node) else {
-        return Err(AllocError);
-    };
-    if is_busy(peer, given, &before) {
-        *busy = true;
-        if !is_as_before(peer, &before) {
-            return Ok(false);
+    let first = net.act(alloc, *act, *node)?;
+    let given = match left(net, *node, first, &before) {
+        Trace::Done => first,
+        Trace::AsBefore => {
+            *busy = true;
+            net.act(alloc, *act, *node)?
         }
-        given = net.act(alloc, *act, *node)?;
-    }
+        Trace::Something => return Ok(false),
+    };
     if given == *answer && net.shows(*node, effect, *posts) {
         return Ok(true);
     }
