@@ -106,7 +106,7 @@ module _ (makes : MakesUnderTheNextId) (b : Book) (e : Event) (now : ℕ) (entry
   moved_apart (leaf_did d) i j k =
       apart i (subst (λ z. IsIn i (map transaction_id z)) d.items.transactions_are j)
       (put_in leaf_id d.old.id d.change.item b.leaves i (leaf_same (moment_of b now) e d.old entry d.change d.deed) (subst (λ z. IsIn i (map leaf_id z)) d.items.leaves_are k))
-  moved_apart (activity_did d) = as_before d.items.transactions_are d.items.leaves_are
+  moved_apart (activity_did d) i j k = as_before d.items.transactions_are d.items.leaves_are i j k
   moved_apart (registered d) i j k =
       apart i
       (put_in transaction_id d.gives.transaction.id (Some d.gives.transaction) b.transactions i refl (subst (λ (z : Outcome). IsIn i (map transaction_id z.book.transactions)) d.is j))
@@ -129,6 +129,6 @@ module _ (makes : MakesUnderTheNextId) (b : Book) (e : Event) (now : ℕ) (entry
       new : IsIn i (map transaction_id b.transactions) → IsIn i (map leaf_id b.leaves) ⊎ (i ≡ d.new.id) → ⊥
       new there (inl h) = apart i there h
       new there (inr same) = makes.next b d.id d.next (subst (IsDrawn b) (same ∙ own) (drawn_in (IsDrawn b) transaction_id b.transactions i order.drawn.transactions there))
-  moved_apart (made_activity d) = as_before (ap (λ (z : Outcome). z.book.transactions) d.is) (ap (λ (z : Outcome). z.book.leaves) d.is)
-  moved_apart (answered d) = as_before (ap (λ (z : Outcome). z.book.transactions) d.is) (ap (λ (z : Outcome). z.book.leaves) d.is)
-  moved_apart (rested d) = as_before (rested_transactions _ d.book refl) (rested_leaves _ d.book refl)
+  moved_apart (made_activity d) i j k = as_before (ap (λ (z : Outcome). z.book.transactions) d.is) (ap (λ (z : Outcome). z.book.leaves) d.is) i j k
+  moved_apart (answered d) i j k = as_before (ap (λ (z : Outcome). z.book.transactions) d.is) (ap (λ (z : Outcome). z.book.leaves) d.is) i j k
+  moved_apart (rested d) i j k = as_before (rested_transactions _ d.book refl) (rested_leaves _ d.book refl) i j k

@@ -1,5 +1,5 @@
 -- Small facts of ids, of lists by them, and of the past.
-use Rattle.std.specs.Prelude.{ℕ, List, [], ◌∷◌, ◌++◌, ◌≡◌, ◌<◌, ◌⊎◌, ◌&&◌, Option, Some, None, Bool, true, false, if◌then◌else◌, map, nat_eq, nat_lt, refl}
+use Rattle.std.specs.Prelude.{ℕ, List, [], ◌∷◌, ◌++◌, ◌≡◌, ◌&&◌, ◌||◌, Option, Some, None, Bool, true, false, if◌then◌else◌, map, nat_eq, nat_lt, refl}
 use Rattle.std.specs.List.{AllByRecursion}
 use Rattle.std.proofs.Common.{inl, inr, ⊎_elim, subst, true≢false, sym, ◌∙◌, arith}
 use Rattle.std.proofs.lemmas.Bool.{eq-eqb, eqb-true, ltb-true}

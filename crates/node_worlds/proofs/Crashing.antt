@@ -1,50 +1,31 @@
 -- How far a call came, by what a crash left.
-use Rattle.std.specs.Prelude.{ℕ, List, [], ◌∷◌, ◌++◌, ◌+◌, ◌-◌, ◌≡◌, ◌≤◌, ◌<◌, ◌⊎◌, Option, Some, None, Bool, true, false, length, map, take, zero, suc, refl}
+use Rattle.std.specs.Prelude.{ℕ, List, [], ◌∷◌, ◌++◌, ◌-◌, ◌≡◌, ◌≤◌, Option, Some, None, Bool, true, false, length, map, take, zero, suc, refl}
 use Rattle.std.specs.List.{AllByRecursion}
-use Rattle.std.proofs.Common.{inl, inr, ⊎_elim, sym, subst, ap, ◌∙◌, true≢false, arith, rules}
+use Rattle.std.proofs.Common.{inl, inr, ⊎_elim, sym, subst, ap, ◌∙◌, arith}
 use Rattle.std.proofs.lemmas.List.{append_assoc, append-nil, length-append}
-use Rattle.at_base.specs.declared.event.Event.TheVariants as events
-use Rattle.at_base.specs.declared.event.Local.{Local}
 use Rattle.at_base.specs.declared.outs.Post.{Post}
 use Rattle.at_base.specs.declared.record.Record.{Record}
-use Rattle.at_base.specs.declared.record.Record.TheVariants as records
 use Rattle.at_model.specs.Book.{Book}
-use Rattle.at_model.specs.Recover.{last_incarnation}
-use Rattle.at_model.specs.Step.{plan, step}
-use Rattle.at_model.specs.World.{Hosts, nth}
-use Rattle.decision_log.specs.Folding.{AreRecords}
-use Rattle.decision_log.specs.Keeping.{GrowsByOne, Known}
-use Rattle.decision_log.specs.Shrinking.{ShrinksTheSame}
+use Rattle.decision_log.specs.Keeping.{Known}
 use Rattle.at_base.specs.Numbers.{Numbers}
 use Rattle.decision_log.specs.Tokens.{Token}
-use Rattle.journal_at.specs.declared.version.Version.{Version}
 use Rattle.journal_at.specs.declared.version.Version.TheVariants.{Two}
 use Rattle.journal_at.specs.Format.{records_of}
-use Rattle.journal_at.specs.Loading.{Lasts}
-use Rattle.record_bytes.specs.Versions.{IsRecord}
-use Rattle.record_bytes.specs.Versions.{AreBodies as RecordsAreBodies}
-use Rattle.site_model.specs.Told.{Told, Between, Call, Files, Is, IsPrefix, Made, done, sent_by, sent_if}
-use Rattle.site_model.specs.Told.{sent_of as call_sent}
+use Rattle.site_model.specs.Told.{Told, Call, Files, IsPrefix, Made, done, sent_by, sent_if}
 use Rattle.node_at.specs.Doings.{AreDoings, Doing, deeds_of}
-use Rattle.node_at.specs.Endings.{TakesTurn}
 use Rattle.node_at.specs.Moments.{sent_of}
 use Rattle.node_at.specs.Sends.{Tried, none, went, was_lost}
-use Rattle.node_at.specs.Shrinking.{AreSame, StandForSame}
-use Rattle.node_at.specs.Started.{IsStarted}
-use Rattle.node_at.specs.Starting.{CannotStart, Found, MayBe, OnTheWay, StandFor, carried, start_after, started}
+use Rattle.node_at.specs.Shrinking.{StandForSame}
 use Rattle.node_at.specs.State.{State}
 use Rattle.node_at.specs.Steps.{if_landed, kept_by}
 use Rattle.node_at.specs.Texts.{Leaving, call_by}
-use Rattle.node_at.specs.TurnText.{IsStep, TurnStep, refusing}
+use Rattle.node_at.specs.TurnText.{TurnStep, refusing}
 use Rattle.node_at.specs.Turns.{IsLine, busy}
-use Rattle.node_worlds.specs.Acts.{Act, Did, IsSoFar, IsUp, acted, acts_of, records_in, sent_in, spoken}
+use Rattle.node_worlds.specs.Acts.{Act, IsSoFar, IsUp, acted, acts_of, records_in, sent_in, spoken}
 use Rattle.node_worlds.specs.Crashing.{IsCutOff, IsNoPost}
-use Rattle.node_worlds.specs.Machines.{IsLeft}
-use Rattle.node_worlds.specs.Restarting.{RestartsOnRecords, StandsFor}
+use Rattle.node_worlds.specs.Restarting.{StandsFor}
 use Rattle.node_worlds.specs.Sent.{AreSent, AreSome, Sent, posts_of, recorded, records_by}
-use Rattle.node_worlds.proofs.Acts.{early}
-use Rattle.node_worlds.proofs.Living.{quiet_so_far}
-use Rattle.node_worlds.proofs.Rows.{prefix_sent, prefix_then, sent_append, some_is}
+use Rattle.node_worlds.proofs.Rows.{sent_append}
 
 -- prefixes
 no_more : {A : Type 0} (x : A) (xs : List A) → x ∷ xs ≡ [] → ⊥

@@ -1,5 +1,5 @@
 -- What the calls of a node did.
-use Rattle.std.proofs.Common.{ℕ, List, Bool, Option, Some, None, true, false, true≢false, [], ◌∷◌, ◌++◌, ◌-◌, ◌≡◌, ⊎_elim, inl, inr, map, refl, sym, ◌∙◌, ap, subst, take, option_map, arith}
+use Rattle.std.proofs.Common.{ℕ, List, Option, Some, true, false, true≢false, [], ◌∷◌, ◌++◌, ◌≡◌, inl, inr, map, refl, sym, ◌∙◌, ap, subst, option_map, arith}
 use Rattle.std.proofs.lemmas.List.{append-nil}
 use Rattle.at_base.specs.declared.event.Event.TheVariants as events
 use Rattle.at_base.specs.declared.event.Local.{Local}
@@ -12,12 +12,12 @@ use Rattle.journal_at.specs.declared.version.Version.TheVariants.{Two}
 use Rattle.journal_at.specs.Standing.{Keeps}
 use Rattle.record_bytes.specs.Bytes.{bytes_of}
 use Rattle.record_bytes.specs.Versions.{AreBodies as RecordsAreBodies}
-use Rattle.site_model.specs.Told.{Told, Between, Files, Call, Made, IsPrefix, Still, sent_by}
+use Rattle.site_model.specs.Told.{Told, Between, Files, Made, IsPrefix, sent_by}
 use Rattle.node_at.specs.Doings.{Doing, Ran, calls_of, deeds_of, kept_behind}
 use Rattle.node_at.specs.Endings.{Ends, Renews, Rested, TakesTurn}
 use Rattle.node_at.specs.Locals.{Asked, cleared}
 use Rattle.node_at.specs.Meanings.{Meaning}
-use Rattle.node_at.specs.Moments.{Deed, landed_of}
+use Rattle.node_at.specs.Moments.{Deed}
 use Rattle.node_at.specs.Shrinking.{StandForSame, Stays}
 use Rattle.node_at.specs.Started.{IsStarted}
 use Rattle.node_at.specs.Starting.{started}

@@ -1,6 +1,6 @@
 -- What the files of a machine stand for whose node alone touches them.
-use Rattle.std.specs.Prelude.{ℕ, List, [], ◌∷◌, ◌++◌, ◌+◌, ◌-◌, ◌≡◌, ◌<◌, ◌⊎◌, Option, Some, None, Bool, true, false, nat_eq, if◌then◌else◌, zero, suc, refl}
-use Rattle.std.proofs.Common.{inl, inr, sym, subst, ap, ◌∙◌, true≢false, arith}
+use Rattle.std.specs.Prelude.{ℕ, List, [], ◌∷◌, ◌++◌, ◌+◌, ◌-◌, ◌≡◌, ◌⊎◌, Some, None, Bool, true, false, nat_eq, if◌then◌else◌, zero, suc, refl}
+use Rattle.std.proofs.Common.{inl, inr, sym, subst, ap, ◌∙◌, arith}
 use Rattle.std.proofs.lemmas.Bool.{cases_eq}
 use Rattle.std.proofs.lemmas.List.{append-nil}
 use Rattle.at_base.specs.declared.event.Event.TheVariants as events
@@ -14,11 +14,11 @@ use Rattle.decision_log.specs.Shrinking.{ShrinksTheSame}
 use Rattle.journal_at.specs.declared.version.Version.{Version}
 use Rattle.journal_at.specs.declared.version.Version.TheVariants.{One, Two}
 use Rattle.record_bytes.specs.Versions.{AreBodies as RecordsAreBodies}
-use Rattle.site_model.specs.Told.{Told, Files, Is, Within}
+use Rattle.site_model.specs.Told.{Told, Files, Is}
 use Rattle.node_at.specs.Endings.{Ends}
 use Rattle.node_at.specs.Shrinking.{AreSame}
 use Rattle.node_at.specs.Started.{IsStarted}
-use Rattle.node_at.specs.Starting.{StandFor, carried, start_after, started}
+use Rattle.node_at.specs.Starting.{carried, start_after, started}
 use Rattle.node_at.specs.State.{State}
 use Rattle.node_at.specs.Steps.{if_landed}
 use Rattle.node_at.specs.Turns.{Turns, busy}
@@ -27,9 +27,9 @@ use Rattle.node_at.specs.declared.role.Role.{Role}
 use Rattle.node_at.specs.declared.shrink.Shrunk.{Shrunk}
 use Rattle.node_at.specs.declared.turn.Turned.{Turned}
 use Rattle.node_at.specs.declared.turn.Turned.TheVariants as turneds
-use Rattle.node_worlds.specs.Acts.{IsUp, acts_for, acts_in, acts_of, records_in}
+use Rattle.node_worlds.specs.Acts.{IsUp, acts_in, records_in}
 use Rattle.node_worlds.specs.Machines.{Goes, IsLeftAlone, IsOn, RunsOn, RunsOnMachines}
-use Rattle.node_worlds.specs.Nets.{Net, Place, Runs, new_net, new_place, new_places, steps_in}
+use Rattle.node_worlds.specs.Nets.{Net, Place, Runs, new_place, new_places, steps_in}
 use Rattle.node_worlds.specs.Restarting.{RestartsOnRecords, StandsFor}
 use Rattle.node_worlds.specs.Sent.{recorded, records_by}
 use Rattle.node_worlds.proofs.Acts.{same_more, up_on}

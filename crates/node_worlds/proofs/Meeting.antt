@@ -1,15 +1,12 @@
 -- Behind each crash a net on machines goes on.
 use Rattle.std.specs.Prelude.{ℕ, List, [], ◌∷◌, ◌++◌, ◌+◌, ◌-◌, ◌^◌, ◌≡◌, ◌≤◌, ◌<◌, ◌⊎◌, Option, Some, None, true, false, length, map, option_map, take, zero, suc, refl}
 use Rattle.std.proofs.Common.{inl, inr, ⊎_elim, sym, subst, ap, ◌∙◌, true≢false, arith}
-use Rattle.std.proofs.lemmas.List.{append_assoc, append-nil}
+use Rattle.std.proofs.lemmas.List.{append-nil}
 use Rattle.at_base.specs.declared.event.Event.TheVariants as events
 use Rattle.at_base.specs.declared.event.Local.{Local}
 use Rattle.at_base.specs.declared.record.Record.{Record}
-use Rattle.at_base.specs.declared.record.Record.TheVariants as records
 use Rattle.at_model.specs.Recover.{last_incarnation}
 use Rattle.at_model.specs.Step.{plan, step}
-use Rattle.at_model.specs.World.{nth}
-use Rattle.completion_at.specs.declared.requests.Refusal.{Refusal}
 use Rattle.decision_log.specs.Folding.{AreRecords}
 use Rattle.decision_log.specs.Keeping.{GrowsByOne}
 use Rattle.decision_log.specs.Shrinking.{ShrinksTheSame}
@@ -22,7 +19,6 @@ use Rattle.record_bytes.specs.Bytes.{bytes_of}
 use Rattle.record_bytes.specs.Versions.{AreApart, IsTyped}
 use Rattle.record_bytes.specs.Versions.{AreBodies as RecordsAreBodies}
 use Rattle.site_model.specs.Told.{Told, Between, Call, Files, Is, IsPrefix, Made, sent_by}
-use Rattle.node_at.specs.declared.fault.StartFault.{StartFault}
 use Rattle.node_at.specs.declared.local.Locally.{Locally}
 use Rattle.node_at.specs.declared.local.Locally.TheVariants as answers
 use Rattle.node_at.specs.declared.role.Role.{Role}
@@ -34,24 +30,23 @@ use Rattle.node_at.specs.Endings.{Ends, TakesTurn}
 use Rattle.node_at.specs.Locals.{Asked}
 use Rattle.node_at.specs.Meanings.{Meaning}
 use Rattle.node_at.specs.Shrinking.{AreSame, StandForSame}
-use Rattle.node_at.specs.Started.{IsStarted}
-use Rattle.node_at.specs.Starting.{CannotStart, Found, MayBe, OnTheWay, StandFor, carried, start_after, started}
+use Rattle.node_at.specs.Starting.{Found, OnTheWay, carried, start_after, started}
 use Rattle.node_at.specs.State.{State}
 use Rattle.node_at.specs.Steps.{IsDone, IsStopped, if_landed}
 use Rattle.node_at.specs.Texts.{call_by}
 use Rattle.node_at.specs.TurnText.{TurnStep}
 use Rattle.node_at.specs.Turns.{Halts, Turns, busy, calm, is_heard, line_of}
-use Rattle.node_worlds.specs.Acts.{Act, Did, IsSoFar, IsUp, acted, acts_for, acts_in, acts_of, records_in, sent_in, spoken}
+use Rattle.node_worlds.specs.Acts.{Act, Did, IsSoFar, IsUp, acts_for, acts_in, records_in, sent_in}
 use Rattle.node_worlds.specs.Crashing.{CrashesAreMet, IsBegun, IsCutOff, IsUndone}
 use Rattle.node_worlds.specs.Lives.{Requests}
-use Rattle.node_worlds.specs.Machines.{Begins, IsLeft, RunsOn}
-use Rattle.node_worlds.specs.Nets.{Net, Place, begun_in}
+use Rattle.node_worlds.specs.Machines.{Begins, IsLeft}
+use Rattle.node_worlds.specs.Nets.{Place, begun_in}
 use Rattle.node_worlds.specs.Restarting.{RestartsOnRecords, StandsFor}
-use Rattle.node_worlds.specs.Sent.{recorded, records_by}
+use Rattle.node_worlds.specs.Sent.{records_by}
 use Rattle.node_worlds.proofs.Acts.{early}
-use Rattle.node_worlds.proofs.Crashing.{Came, Left, Moment, OnlyNow, Partly, came_cut, came_so_far, cancel_prefix, halted_by, left_of_none, line_answers, longer, none_came, none_taken, partly, stands_for, tried_left, unbusy, up_same}
+use Rattle.node_worlds.proofs.Crashing.{Moment, OnlyNow, came_cut, came_so_far, cancel_prefix, halted_by, left_of_none, line_answers, longer, none_came, none_taken, partly, stands_for, tried_left, unbusy, up_same}
 use Rattle.node_worlds.proofs.Living.{quiet_so_far, request_did, turn_did}
-use Rattle.node_worlds.proofs.Machines.{AllFit, Fits, IsDown, all_fit, same_started, start_same}
+use Rattle.node_worlds.proofs.Machines.{Fits, IsDown, all_fit, same_started}
 use Rattle.node_worlds.proofs.Quiet.{makes_silent}
 use Rattle.node_worlds.proofs.Restarting.{restarts as restarts_same}
 use Rattle.node_worlds.proofs.Rows.{prefix_sent, sent_append, some_is}

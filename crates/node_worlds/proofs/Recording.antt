@@ -1,12 +1,12 @@
 -- Records of acts, and the bodies that hold them.
-use Rattle.std.proofs.Common.{ℕ, List, Bool, Option, Some, None, IfSome, true, false, [], ◌∷◌, ◌++◌, ◌-◌, ◌≡◌, inr, refl, sym, ◌∙◌, ap, subst, take, length, zero, suc, rules, arith}
+use Rattle.std.proofs.Common.{ℕ, List, Bool, Option, Some, None, IfSome, true, false, [], ◌∷◌, ◌++◌, ◌-◌, ◌≡◌, inr, refl, sym, ap, subst, take, length, zero, suc, rules, arith}
 use Rattle.at_base.specs.declared.record.Record.{Record}
 use Rattle.decision_log.specs.Folding.{AreRecords}
 use Rattle.decision_log.specs.Keeping.{Known, kept_of}
 use Rattle.journal_at.specs.declared.journal.Journal.{Journal}
 use Rattle.journal_at.specs.declared.version.Version.TheVariants.{Two}
-use Rattle.journal_at.specs.Format.{AreBodies, AreListed, AreUnmarked, IsBody, Mark, head_of, mark_of, marked, records_of, without}
-use Rattle.journal_at.specs.Pairs.{FilesOf, Holds}
+use Rattle.journal_at.specs.Format.{AreBodies, AreListed, AreUnmarked, Mark, head_of, mark_of, records_of, without}
+use Rattle.journal_at.specs.Pairs.{Holds}
 use Rattle.journal_at.specs.Standing.{Keeps}
 use Rattle.record_bytes.specs.Bytes.{bytes_of}
 use Rattle.record_bytes.specs.Versions.{IsRecord}

@@ -1,5 +1,5 @@
 -- What the calls of a node do in a row, step by step, and what stands of it at each moment.
-use Rattle.std.specs.Prelude.{ℕ, List, [], ◌∷◌, ◌++◌, ◌-◌, ◌≡◌, ◌≤◌, ◌⊎◌, Option, Some, false, length, map, option_map, take}
+use Rattle.std.specs.Prelude.{ℕ, List, [], ◌∷◌, ◌++◌, ◌-◌, ◌≡◌, ◌≤◌, Some, false, length, map, option_map, take}
 use Rattle.std.proofs.Common.{inl, inr}
 use Rattle.at_base.specs.declared.event.Event.TheVariants as events
 use Rattle.at_base.specs.declared.event.Local.{Local}

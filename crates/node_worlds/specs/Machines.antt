@@ -5,11 +5,10 @@ use Rattle.at_base.specs.Numbers.{Numbers}
 use Rattle.at_base.specs.declared.event.Event.TheVariants as events
 use Rattle.at_base.specs.declared.event.Local.{Local}
 use Rattle.at_base.specs.declared.outs.Post.{Post}
-use Rattle.at_base.specs.declared.record.Record.{Record}
 use Rattle.at_model.specs.Recover.{last_incarnation}
 use Rattle.at_model.specs.Step.{plan}
 use Rattle.at_model.specs.World.{World, nth, Hosts, HaveOwnAddresses}
-use Rattle.site_model.specs.Told.{Told, Call, Files, Is, Made, Between, Within, sent_by}
+use Rattle.site_model.specs.Told.{Told, Files, Is, Made, Between, Within}
 use Rattle.node_at.specs.Doings.{Doing}
 use Rattle.node_at.specs.Endings.{TakesTurn}
 use Rattle.node_at.specs.Locals.{Asked}
