@@ -1,7 +1,6 @@
 -- The events that bring a world to rest are few by what its nodes hold.
-use Rattle.std.proofs.Common.{ℕ, ◌+◌, ◌-◌, ◌*◌, ◌^◌, ◌<◌, ◌≤◌, ◌≡◌, length, subst, sym, arith}
-use Rattle.at_model.specs.World.{World}
-use Rattle.model_laws.specs.Settle.{all_up, settle, settle_bound, waiting}
+use Rattle.std.proofs.Common.{ℕ, ◌-◌, ◌^◌, ◌<◌, ◌≤◌, ◌≡◌, length, subst, sym}
+use Rattle.model_laws.specs.Settle.{all_up, settle, waiting}
 use Rattle.settling.specs.Drains.{Drains}
 use Rattle.world_laws.proofs.Holding.{counts_all}
 use Rattle.world_laws.specs.Runs.{Run, world_of}
