@@ -1,5 +1,5 @@
 -- The lines and turns of a node that serves are calls in a row.
-use Rattle.std.proofs.Common.{ℕ, List, Bool, Option, Some, None, true, false, [], ◌∷◌, ◌++◌, ◌≡◌, if◌then◌else◌, refl, sym, ◌∙◌, ap, subst}
+use Rattle.std.proofs.Common.{ℕ, List, Bool, Option, Some, None, true, false, [], ◌++◌, ◌≡◌, if◌then◌else◌, refl, sym, ◌∙◌, ap, subst}
 use Rattle.at_base.specs.Numbers.{Numbers}
 use Rattle.node_at.specs.Endings.{Ends, TakesTurn}
 use Rattle.node_at.specs.State.{State}
@@ -21,7 +21,7 @@ use Rattle.serving.specs.declared.request.Request.{Request}
 use Rattle.serving.specs.declared.request.Request.TheVariants as requests
 use Rattle.serving.specs.Requests.{ended_by, request_of}
 use Rattle.serving.specs.Runs.{Attends, Comes, Does, Row, all_lines, journal_limit}
-use Rattle.serving.specs.Since.{Since, ServesStepByStep}
+use Rattle.serving.specs.Since.{ServesStepByStep}
 
 -- A node goes on behind its steps.
 steps_run : (first : Turned) (role : Role) (n m : State) (old new : Told) → Turns first role n m old new → (first ≡ turneds.Halted → ⊥) → n.halted ≡ false → m.halted ≡ false

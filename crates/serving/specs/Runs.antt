@@ -1,5 +1,5 @@
 -- A node that serves: its journal is opened and its listener, it comes up, and then it does line after line.
-use Rattle.std.specs.Prelude.{ℕ, List, [], ◌∷◌, ◌++◌, ◌≡◌, ◌≤◌, Option, Some, None, Ok, Err, length, replicate, take, zero, suc}
+use Rattle.std.specs.Prelude.{ℕ, List, [], ◌∷◌, ◌++◌, ◌≡◌, ◌≤◌, Option, Some, None, Ok, Err, length, replicate, take}
 use Rattle.std.specs.Io.KnownBytes.{Appends}
 use Rattle.at_base.specs.Numbers.{Numbers}
 use Rattle.node_at.specs.Endings.{TakesTurn}
