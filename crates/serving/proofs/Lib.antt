@@ -1,3 +1,4 @@
 pub mod Places
 pub mod Serving
 pub mod Telling
+pub mod Since

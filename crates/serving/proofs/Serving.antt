@@ -6,11 +6,13 @@ use Rattle.std.proofs.lemmas.List.{append-nil, append_assoc, length-append, leng
 use Rattle.std.proofs.Math.Seq.{take-append-add, take-length}
 use Rattle.at_base.specs.Numbers.{Numbers}
 use Rattle.at_base.specs.declared.event.Local.{Local}
+use Rattle.completion_at.specs.declared.requests.Refusal.{Refusal}
 use Rattle.node_at.specs.Endings.{TakesTurn}
 use Rattle.node_at.specs.Locals.{Asked}
 use Rattle.node_at.specs.State.{State}
 use Rattle.node_at.specs.Steps.{Keeping}
 use Rattle.node_at.specs.declared.local.Locally.{Locally}
+use Rattle.node_at.specs.declared.local.Locally.TheVariants as locally
 use Rattle.node_at.specs.declared.role.Role.{Role}
 use Rattle.node_at.specs.declared.shrink.Shrunk.{Shrunk}
 use Rattle.node_at.specs.declared.turn.Turned.{Turned}
@@ -30,8 +32,8 @@ use Rattle.serving.specs.declared.request.Request.TheVariants as requests
 use Rattle.serving.proofs.Places.{all_taken, around, rest_of, taken}
 
 pub asks : {S : Type 0} (told : S → Told) (role : Role) (r : Request) (l : Local) (a : Locally) (n m : State) (s t : S) → r ≡ requests.Local l → Asked a n m l (told s) (told t)
-    → Keeping (told s) (told t) → Does told role r (answers.Local a) n m s t
-asks told role r l a n m s t e h k = subst (λ x. Does told role x (answers.Local a) n m s t) (sym e) (h, k)
+    → ((why : Refusal) → a ≡ locally.Refused why → t ≡ s) → Keeping (told s) (told t) → Does told role r (answers.Local a) n m s t
+asks told role r l a n m s t e h same k = subst (λ x. Does told role x (answers.Local a) n m s t) (sym e) (record { asked = h; nothing = same }, k)
 
 pub turns : {S : Type 0} (told : S → Told) (role : Role) (r : Request) (turned : Turned) (shrunk : Shrunk) (n m : State) (s t : S) → r ≡ requests.Wait
     → TakesTurn told turned role shrunk n m s t → Does told role r (answers.Turn turned) n m s t

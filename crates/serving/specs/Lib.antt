@@ -3,3 +3,4 @@ pub mod Requests
 pub mod Runs
 pub mod Services
 pub mod Sessions
+pub mod Since

@@ -1,9 +1,8 @@
 -- A node that serves: its journal is opened and its listener, it comes up, and then it does line after line.
-use Rattle.std.specs.Prelude.{ℕ, List, [], ◌∷◌, ◌++◌, ◌≡◌, ◌≤◌, Option, Some, None, Ok, Err, length, replicate, take, zero, suc}
+use Rattle.std.specs.Prelude.{ℕ, List, [], ◌∷◌, ◌++◌, ◌≡◌, ◌≤◌, Option, Some, None, Ok, Err, length, replicate, take}
 use Rattle.std.specs.Io.KnownBytes.{Appends}
 use Rattle.at_base.specs.Numbers.{Numbers}
 use Rattle.node_at.specs.Endings.{TakesTurn}
-use Rattle.node_at.specs.Locals.{Asked}
 use Rattle.node_at.specs.Started.{IsStarted}
 use Rattle.node_at.specs.Starting.{CannotStart}
 use Rattle.node_at.specs.State.{State}
@@ -12,6 +11,7 @@ use Rattle.node_at.specs.declared.fault.StartFault.{StartFault}
 use Rattle.node_at.specs.declared.fault.StartFault.TheVariants as faults
 use Rattle.node_at.specs.declared.role.Role.{Role}
 use Rattle.node_at.specs.declared.shrink.Shrunk.{Shrunk}
+use Rattle.node_worlds.specs.Lives.{Requests}
 use Rattle.schedules.specs.declared.initiator_line.InitiatorLine.{InitiatorLine}
 use Rattle.schedules.specs.declared.initiator_line.InitiatorLine.TheVariants as lines
 use Rattle.site_model.specs.Calls.{Attaches}
@@ -30,7 +30,7 @@ use Rattle.serving.specs.Requests.{adds, ended_by, printed, request_of}
 -- What a node does for a line: a step for a request, a turn for a `wait`. A line on an activity whose own line was refused
 -- is refused, and nothing is done.
 abbrev pub Does : {S : Type 0} → (S → Told) → Role → Request → Answer → State → State → S → S → Type 0
-Does told role (requests.Local l) (answers.Local answer) n m s t = Asked answer n m l (told s) (told t) × Keeping (told s) (told t)
+Does told role (requests.Local l) (answers.Local answer) n m s t = Requests told answer n m l s t × Keeping (told s) (told t)
 Does told role requests.Stale answers.Stale n m s t = (m ≡ n) × (t ≡ s)
 Does told role requests.Wait (answers.Turn turned) n m s t = (shrunk : Shrunk) × TakesTurn told turned role shrunk n m s t
 Does told role request answer n m s t = ⊥

@@ -4,6 +4,7 @@
 
 pub mod answer;
 pub mod ended;
+pub mod laws;
 mod lines;
 pub mod request;
 pub mod serve;

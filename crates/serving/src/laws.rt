@@ -1,0 +1,14 @@
+//! A law of nodes that serve.
+
+ghost use Rattle.serving.specs.Since.{ServesStepByStep};
+
+use node_worlds::lives::steps_are_prefixed;
+use site_model::site::Site;
+
+/// At each moment since its start, whatever a crash leaves, the journal, the answers and the posts of a node that serves are those of a
+/// prefix of the steps of all its lines and turns, one after the other, also where the last was cut off.
+pub fn serves_step_by_step<S: Site>()
+    ensures { ServesStepByStep S.told }
+{
+    steps_are_prefixed::<S>();
+}
