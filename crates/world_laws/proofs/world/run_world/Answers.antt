@@ -31,3 +31,9 @@ pub returns-clause-settles : goal.returns-clause-settles
 returns-clause-settles c =
     subst (λ w. AllByRecursion MayStart w.nodes → IsSettling w) (sym c.in_ok-world.ensures.world)
     (c.laws.ensures.settling (example_hosts c.args.nodes) (map event_of c.args.events.now) (c.laws.ensures.apart c.args.nodes (omega (arith, c.requires.nodes.1))))
+
+pub returns-in_err-world-clause-ids : goal.returns-in_err-world-clause-ids
+returns-in_err-world-clause-ids c n = c.laws.ensures.ids.apart (example_hosts c.args.nodes) n (map event_of c.args.events.now)
+
+pub returns-clause-ids : goal.returns-clause-ids
+returns-clause-ids c n = c.laws.ensures.ids.apart (example_hosts c.args.nodes) n (map event_of c.args.events.now)
