@@ -125,7 +125,7 @@ module _ (grows : GrowsByOne) (shrinks : ShrinksTheSame) where
       by_number (inr f) = all j r n (sym (nth_other places j i q f) ∙ sym (nth_other (put_nth i q places) j i last f) ∙ e) up
 
   keeps : {S : Type 0} (told : S → Told) (hosts : Hosts) (net : Net) → Runs told hosts net → Kept net.places
-  keeps told hosts net (Runs.opened is) = subst (λ (z : Net). Kept z.places) (sym is) (none_kept hosts)
+  keeps told hosts net (Runs.opened is) = subst (λ (z : Net). Kept z.places) (sym is) (none_kept hosts.count)
   keeps told hosts net (Runs.started u i p n limit s t run here down start same is) =
       let q : Place = record { node = Some n; records = p.records ++ start_after p.records ∷ [] } in
       subst (λ (z : Net). Kept z.places) (sym is)

@@ -202,7 +202,7 @@ module _ (bodies : RecordsAreBodies) (grows : GrowsByOne) (shrinks : ShrinksTheS
   all_fit hosts net ms (RunsOn.opened is on) =
       subst (λ (z : Net). AllFit told z.places ms) (sym is)
       (λ i p e.
-      let new : new_place ≡ p = sym (new_at hosts i p e) in
+      let new : new_place ≡ p = sym (new_at hosts.count i p e) in
       subst (λ z. Fits z (told (ms i))) new (fits_down new_place (told (ms i)) refl (down_on [] empty (told (ms i)) (on i) empty_stands)))
   all_fit hosts net ms (RunsOn.waited ls run alike) = λ i p e. alone p (told (ls i)) (told (ms i)) (alike i) (all_fit hosts net ls run i p e)
   all_fit hosts net ms (RunsOn.started u ls i p n limit t f run here down is start goes e) =
