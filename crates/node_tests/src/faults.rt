@@ -35,6 +35,9 @@ const SETTLING: &[Line] = &[
     Line::Flush,
 ];
 
+/// Who never voted, and so waits for nobody's word, is lost.
+const DOWN: &[Line] = &[Line::Down(3), Line::Down(4)];
+
 /// Each node, and how many writes, syncs, answers and posts it makes while the commit goes undisturbed. A record takes four:
 /// its body is written and synced, and then its gate.
 ///
@@ -96,7 +99,10 @@ fn undisturbed(alloc: Global) -> Result<(Option<usize>, Ends), AllocError> {
 #[test]
 fn undisturbed_all_commit(rt: HostRuntime) -> Result<(), Fail> {
     let (posts, ends) = undisturbed(rt.alloc())?;
-    assert!(rt; posts == Some(26) && is_so(ends, (2, 0, 0)), "{posts:?} {ends:?}");
+    assert!(rt;
+        posts == Some(26) && is_so(ends, (2, 0, 0)),
+        "{posts:?} {ends:?}"
+    );
     Ok(())
 }
 
@@ -118,16 +124,25 @@ fn is_whole(ends: Ends) -> bool {
     ends.committed == 0 || (ends.aborted == 0 && ends.lost == 0)
 }
 
-/// Whether both end, and no node waits any more.
+/// Whether all posts came, and no record waits for anything.
 fn settles(alloc: Global, four: &mut Four) -> Result<bool, AllocError> {
+    four.plays(alloc, UP, 1)?;
     four.plays(alloc, SETTLING, 8)?;
-    let ends = four.ends();
-    let ended = ends
-        .committed
+    Ok(four.posts().is_some() && four.is_settled(alloc))
+}
+
+/// How many ended.
+fn all_of(ends: Ends) -> usize {
+    ends.committed
         .saturating_add(ends.aborted)
-        .saturating_add(ends.lost);
-    let settled = four.is_settled(alloc) && four.posts().is_some();
-    Ok(settled && ended == 2 && is_whole(ends))
+        .saturating_add(ends.lost)
+}
+
+/// Whether the subordinate and the participant end once each, and alike.
+fn both_end(alloc: Global, four: &mut Four) -> Result<bool, AllocError> {
+    four.plays(alloc, DOWN, 1)?;
+    let ends = four.ends();
+    Ok(all_of(ends) == 2 && is_whole(ends))
 }
 
 /// Whether a play ends as it may, and settles.
@@ -135,7 +150,8 @@ fn is_right(alloc: Global, node: usize, k: u32, fault: Fault) -> Result<bool, Al
     let mut four = played(alloc, node, k, fault)?;
     let whole = is_whole(four.ends());
     let settled = settles(alloc, &mut four)?;
-    Ok(whole && settled && four.is_right())
+    let ended = both_end(alloc, &mut four)?;
+    Ok(whole && settled && ended && four.is_right())
 }
 
 /// How many faults of a node's call end as they may.
@@ -178,11 +194,7 @@ const DECISIONS: &[(Fault, (usize, usize, usize))] = &[
     (Fault::Stop(Choice::Drop), (0, 2, 0)),
 ];
 
-fn decides(
-    alloc: Global,
-    fault: Fault,
-    counts: (usize, usize, usize),
-) -> Result<bool, AllocError> {
+fn decides(alloc: Global, fault: Fault, counts: (usize, usize, usize)) -> Result<bool, AllocError> {
     let four = played(alloc, 2, 8, fault)?;
     Ok(is_so(four.ends(), counts))
 }

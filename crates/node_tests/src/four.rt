@@ -6,6 +6,7 @@ use at_base::id::Id;
 use at_base::notice::{Kind, Vote};
 use at_base::outs::Ending;
 use at_base::text::Text;
+use site_memory::arm::Choice;
 use std::alloc::{AllocError, Global};
 
 /// What is done.
@@ -23,6 +24,8 @@ pub enum Line {
     Flush,
     /// A node comes up, if it is down.
     Up(usize),
+    /// A node goes down.
+    Down(usize),
     /// A node is asked for what is due 5,000 milliseconds later, if it is up.
     Tick(usize),
 }
@@ -70,19 +73,14 @@ fn host_of(node: usize) -> &'static str {
     }
 }
 
-/// The node of this host, or 0.
+/// The node of this host, or 9.
 fn node_of(host: &[u8]) -> usize {
     for node in 1..5 {
         if host == host_of(node).as_bytes() {
             return node;
         }
     }
-    0
-}
-
-/// Whether a node has the subordinate or the durable participant.
-fn has_item(node: usize) -> bool {
-    node == 3 || node == 4
+    9
 }
 
 fn begin(alloc: Global) -> Result<Local, AllocError> {
@@ -126,7 +124,7 @@ fn request(alloc: Global, line: Line) -> Result<Local, AllocError> {
 fn new_hosts(alloc: Global) -> Result<Vec<Host>, AllocError> {
     let mut hosts = Vec::new(alloc);
     for node in 1..5 {
-        let host = Host::new(alloc, base_of(node))?;
+        let host = Host::new(alloc, base_of(node), node > 2)?;
         hosts.push(host)?;
     }
     Ok(hosts)
@@ -203,7 +201,7 @@ impl Four {
     fn take(&mut self, alloc: Global, node: usize, bytes: &[u8]) -> Result<(), AllocError> {
         match self.hosts.get_mut(node.saturating_sub(1)) {
             Some(host) => {
-                host.take(alloc, bytes, has_item(node));
+                host.take(alloc, bytes);
                 self.gather(node)
             }
             None => Err(AllocError),
@@ -236,10 +234,16 @@ impl Four {
         }
     }
 
+    fn down(&mut self, alloc: Global, node: usize) {
+        if let Some(host) = self.hosts.get_mut(node.saturating_sub(1)) {
+            host.fall(alloc, Choice::Drop);
+        }
+    }
+
     fn tick(&mut self, alloc: Global, node: usize) -> Result<(), AllocError> {
         match self.hosts.get_mut(node.saturating_sub(1)) {
             Some(host) => {
-                host.tick(alloc, has_item(node));
+                host.tick(alloc);
                 self.gather(node)
             }
             None => Err(AllocError),
@@ -257,6 +261,10 @@ impl Four {
             Line::Flush => self.flush(alloc),
             Line::Up(node) => {
                 self.up(alloc, node);
+                Ok(())
+            }
+            Line::Down(node) => {
+                self.down(alloc, node);
                 Ok(())
             }
             Line::Tick(node) => self.tick(alloc, node),

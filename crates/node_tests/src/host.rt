@@ -34,6 +34,8 @@ enum Standing {
 pub struct Host {
     peer: Peer,
     base: &'static str,
+    /// Whether a subordinate or a durable participant is made there.
+    has_item: bool,
     is_up: bool,
     clock: u64,
     /// What its stop leaves.
@@ -51,6 +53,7 @@ impl Drop for Host {
         let Host {
             peer: _peer,
             base: _base,
+            has_item: _has_item,
             is_up: _is_up,
             clock: _clock,
             leaves: _leaves,
@@ -110,11 +113,12 @@ fn ending_in(standing: Standing) -> Option<Ending> {
 
 impl Host {
     /// A node that starts on an empty machine.
-    pub fn new(alloc: Global, base: &'static str) -> Result<Host, AllocError> {
+    pub fn new(alloc: Global, base: &'static str, has_item: bool) -> Result<Host, AllocError> {
         let peer = Peer::new(alloc, base)?;
         Ok(Host {
             peer,
             base,
+            has_item,
             is_up: true,
             clock: 0,
             leaves: Choice::Keep,
@@ -183,8 +187,8 @@ impl Host {
     }
 
     /// How an item ended that nobody has told of, by what its journal says once its node went down.
-    fn find(&mut self, alloc: Global, has_item: bool) {
-        if !has_item || self.ending.is_some() {
+    fn find(&mut self, alloc: Global) {
+        if !self.has_item || self.ending.is_some() {
             return;
         }
         match self.peer.records(alloc) {
@@ -193,40 +197,40 @@ impl Host {
         }
     }
 
-    /// Goes down, and leaves this.
-    fn fall(&mut self, alloc: Global, choice: Choice, has_item: bool) {
+    /// Goes down, and leaves this. An item that has no record is lost.
+    pub fn fall(&mut self, alloc: Global, choice: Choice) {
         self.peer.crash(choice);
         self.is_up = false;
-        self.find(alloc, has_item);
+        self.find(alloc);
     }
 
     /// What a turn came to. A node that halts goes down, and its files stay as they read.
-    fn end_turn(&mut self, alloc: Global, given: u16, has_item: bool) {
+    fn end_turn(&mut self, alloc: Global, given: u16) {
         self.see();
         if self.peer.has_stopped() {
-            self.fall(alloc, self.leaves, has_item);
+            self.fall(alloc, self.leaves);
         } else if given == 4 {
-            self.fall(alloc, Choice::Keep, has_item);
+            self.fall(alloc, Choice::Keep);
         } else if given != 202 && given != 1 {
             self.is_wrong = true;
         }
     }
 
     /// The turn of a connection that brings these bytes. To a node that is down they are lost.
-    pub fn take(&mut self, alloc: Global, bytes: &[u8], has_item: bool) {
+    pub fn take(&mut self, alloc: Global, bytes: &[u8]) {
         if self.is_up {
             let given = self.peer.take(alloc, bytes);
-            self.end_turn(alloc, given, has_item);
+            self.end_turn(alloc, given);
         }
     }
 
     /// 5,000 milliseconds later it is asked for what is due.
-    pub fn tick(&mut self, alloc: Global, has_item: bool) {
+    pub fn tick(&mut self, alloc: Global) {
         if self.is_up {
             self.clock = self.clock.saturating_add(5_000);
             self.peer.set_now(self.clock);
             let given = self.peer.tick(alloc);
-            self.end_turn(alloc, given, has_item);
+            self.end_turn(alloc, given);
         }
     }
 

@@ -8,9 +8,9 @@ mod faults;
 #[cfg(test)]
 mod four;
 #[cfg(test)]
-mod hostile;
-#[cfg(test)]
 mod host;
+#[cfg(test)]
+mod hostile;
 #[cfg(test)]
 mod links;
 #[cfg(test)]

@@ -83,7 +83,11 @@ fn commits(alloc: Global, most: usize) -> Result<Option<usize>, AllocError> {
             None => return Ok(None),
         }
     }
-    Ok(if leaves(&net, ENDED, COMMITTED) { Some(all) } else { None })
+    Ok(if leaves(&net, ENDED, COMMITTED) {
+        Some(all)
+    } else {
+        None
+    })
 }
 
 /// How many bytes a connection gives at once, where 0 says that it gives all that there is room for, and how many receives
