@@ -46,14 +46,6 @@ const DOWN: &[Line] = &[Line::Down(3), Line::Down(4)];
 /// the commit and the end. Node 4 answers Prepare and Commit, posts as often, and records its vote and the commit.
 const CALLS: &[(usize, u32)] = &[(2, 16), (3, 22), (4, 12)];
 
-const FAULTS: &[Fault] = &[
-    Fault::Fail,
-    Fault::Stop(Choice::Keep),
-    Fault::Stop(Choice::Drop),
-    Fault::Stop(Choice::Fill(0)),
-    Fault::Stop(Choice::Fill(1)),
-];
-
 /// The commit with a fault at a node's k-th call.
 fn disturbed(alloc: Global, node: usize, k: u32, fault: Fault) -> Result<Four, AllocError> {
     let mut four = Four::new(alloc)?;
@@ -154,35 +146,59 @@ fn is_right(alloc: Global, node: usize, k: u32, fault: Fault) -> Result<bool, Al
     Ok(whole && settled && ended && four.is_right())
 }
 
-/// How many faults of a node's call end as they may.
-fn right_at(alloc: Global, node: usize, k: u32) -> Result<usize, AllocError> {
+/// How many of a node's calls may meet the fault, and all ends as it may.
+fn right_at(alloc: Global, node: usize, calls: u32, fault: Fault) -> Result<usize, AllocError> {
     let mut count = 0usize;
-    for fault in FAULTS {
-        if is_right(alloc, node, k, *fault)? {
+    for k in 0..calls {
+        if is_right(alloc, node, k.saturating_add(1), fault)? {
             count = count.saturating_add(1);
         }
     }
     Ok(count)
 }
 
-/// How many faults of a node's calls end as they may.
-fn right_of(alloc: Global, node: usize, calls: u32) -> Result<usize, AllocError> {
-    let mut count = 0usize;
-    for k in 0..calls {
-        let right = right_at(alloc, node, k.saturating_add(1))?;
-        count = count.saturating_add(right);
+/// The same of all 50 calls.
+fn right_of(alloc: Global, fault: Fault) -> Result<usize, AllocError> {
+    let mut all = 0usize;
+    for (node, calls) in CALLS {
+        let right = right_at(alloc, *node, *calls, fault)?;
+        all = all.saturating_add(right);
     }
-    Ok(count)
+    Ok(all)
 }
 
 #[test]
-fn no_fault_splits_a_commit(rt: HostRuntime) -> Result<(), Fail> {
-    let mut all = 0usize;
-    for (node, calls) in CALLS {
-        let right = right_of(rt.alloc(), *node, *calls)?;
-        all = all.saturating_add(right);
-    }
-    assert!(rt; all == 250, "{all}");
+fn no_failure_splits_a_commit(rt: HostRuntime) -> Result<(), Fail> {
+    let right = right_of(rt.alloc(), Fault::Fail)?;
+    assert!(rt; right == 50, "{right}");
+    Ok(())
+}
+
+#[test]
+fn no_stop_with_all_kept_splits_it(rt: HostRuntime) -> Result<(), Fail> {
+    let right = right_of(rt.alloc(), Fault::Stop(Choice::Keep))?;
+    assert!(rt; right == 50, "{right}");
+    Ok(())
+}
+
+#[test]
+fn no_stop_with_all_dropped_splits_it(rt: HostRuntime) -> Result<(), Fail> {
+    let right = right_of(rt.alloc(), Fault::Stop(Choice::Drop))?;
+    assert!(rt; right == 50, "{right}");
+    Ok(())
+}
+
+#[test]
+fn no_stop_that_leaves_zeros_splits_it(rt: HostRuntime) -> Result<(), Fail> {
+    let right = right_of(rt.alloc(), Fault::Stop(Choice::Fill(0)))?;
+    assert!(rt; right == 50, "{right}");
+    Ok(())
+}
+
+#[test]
+fn no_stop_that_leaves_ones_splits_it(rt: HostRuntime) -> Result<(), Fail> {
+    let right = right_of(rt.alloc(), Fault::Stop(Choice::Fill(1)))?;
+    assert!(rt; right == 50, "{right}");
     Ok(())
 }
 
