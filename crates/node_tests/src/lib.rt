@@ -4,7 +4,15 @@
 #[cfg(test)]
 mod commits;
 #[cfg(test)]
+mod faults;
+#[cfg(test)]
+mod four;
+#[cfg(test)]
+mod host;
+#[cfg(test)]
 mod hostile;
+#[cfg(test)]
+mod links;
 #[cfg(test)]
 mod locals;
 #[cfg(test)]

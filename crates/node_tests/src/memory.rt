@@ -15,13 +15,20 @@ const BUSY: &[u8] =
 
 /// What a node has answered, posted and recorded.
 #[derive(Drop)]
-struct Before {
+pub struct Before {
     answers: usize,
     posts: usize,
     file: Vec<u8>,
 }
 
-fn stands(alloc: Global, net: &Net, node: usize) -> Result<Before, AllocError> {
+impl Before {
+    /// Whether nothing was answered since.
+    pub fn is_unanswered(&self, peer: &Peer) -> bool {
+        peer.answers() == self.answers
+    }
+}
+
+pub fn stands(alloc: Global, net: &Net, node: usize) -> Result<Before, AllocError> {
     match net.peer(node) {
         Some(peer) => Ok(Before {
             answers: peer.answers(),
@@ -43,7 +50,7 @@ fn is_busy(peer: &Peer, given: u16, before: &Before) -> bool {
 }
 
 /// Whether nothing came of it.
-fn is_as_before(peer: &Peer, before: &Before) -> bool {
+pub fn is_as_before(peer: &Peer, before: &Before) -> bool {
     peer.effect() == "" && peer.posts() == before.posts && peer.holds(before.file.as_slice())
 }
 

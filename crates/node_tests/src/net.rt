@@ -25,6 +25,10 @@ pub enum Act {
     Tick(u64),
     /// The k-th write, sync, answer or post from now fails.
     Fail(u32),
+    /// The k-th call of its listener and its connections from now fails; none where k is 0.
+    FailLink(u32),
+    /// Its connections give at most so many bytes at once, or as many as there is room for where that is 0.
+    GiveAtMost(usize),
     /// It goes down and comes up again.
     Again(Choice),
 }
@@ -110,6 +114,14 @@ fn set(alloc: Global, peer: &mut Peer, base: &str, act: Act) -> u16 {
         }
         Act::Fail(k) => {
             peer.fail(k);
+            0
+        }
+        Act::FailLink(k) => {
+            peer.fail_link(k);
+            0
+        }
+        Act::GiveAtMost(most) => {
+            peer.give_at_most(most);
             0
         }
         Act::Again(choice) => code(peer.again(alloc, base, choice)),

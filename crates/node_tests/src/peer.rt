@@ -3,10 +3,13 @@
 use crate::shared::{number, up};
 use at_base::event::Local;
 use at_base::outs::{Effect, Ending, Told};
+use journal_at::load::load;
+use journal_at::records::Records;
 use node_at::local::Locally;
 use node_at::node::Node;
 use node_at::role::Role;
 use site_memory::arm::Choice;
+use site_memory::bytes::Posted;
 use site_memory::machine::MemSite;
 use std::alloc::{AllocError, Global};
 use std::marker::Model;
@@ -75,9 +78,13 @@ impl Peer {
         }
     }
 
-    /// Goes down, and comes up again on what that leaves. Says whether it does.
-    pub fn again(&mut self, alloc: Global, base: &str, choice: Choice) -> bool {
+    /// Its machine goes down, and leaves what was chosen.
+    pub fn crash(&mut self, choice: Choice) {
         self.site.crash(choice);
+    }
+
+    /// Comes up on what a crash left. Says whether it does.
+    pub fn up(&mut self, alloc: Global, base: &str) -> bool {
         match up(alloc, &mut self.site, base, Role::All) {
             Some(node) => {
                 self.node = node;
@@ -85,6 +92,12 @@ impl Peer {
             }
             None => false,
         }
+    }
+
+    /// Goes down, and comes up again on what that leaves. Says whether it does.
+    pub fn again(&mut self, alloc: Global, base: &str, choice: Choice) -> bool {
+        self.crash(choice);
+        self.up(alloc, base)
     }
 
     /// A request of its own program. Says whether it was done.
@@ -116,6 +129,44 @@ impl Peer {
     /// The k-th write, sync, answer or post from now fails.
     pub fn fail(&mut self, k: u32) {
         self.site.fail(k);
+    }
+
+    /// At the k-th of these it stops, and leaves what was chosen.
+    pub fn stop(&mut self, k: u32, choice: Choice) {
+        self.site.stop(k, choice);
+    }
+
+    /// Whether it has stopped.
+    pub fn has_stopped(&self) -> bool {
+        self.site.stopped()
+    }
+
+    /// The k-th call of its listener and its connections from now fails; none where k is 0.
+    pub fn fail_link(&mut self, k: u32) {
+        self.site.fail_link(k);
+    }
+
+    /// Its connections give at most so many bytes at once, or as many as there is room for where that is 0.
+    pub fn give_at_most(&mut self, most: usize) {
+        self.site.give_at_most(most);
+    }
+
+    /// What happened for good in the last call, in order.
+    pub fn effects(&self) -> &[Effect] {
+        self.node.effects()
+    }
+
+    /// What its journal holds.
+    pub fn records(&mut self, alloc: Global) -> Option<Records> {
+        match load(alloc, &mut self.site, 1_000_000) {
+            Ok((_, records)) => Some(records),
+            Err(_) => None,
+        }
+    }
+
+    /// Its n-th post, from 1.
+    pub fn sent(&self, n: usize) -> Option<&Posted> {
+        self.site.posts().get(n.saturating_sub(1))
     }
 
     /// What happened for good in the last call.
