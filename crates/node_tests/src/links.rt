@@ -92,7 +92,7 @@ fn commits(alloc: Global, most: usize) -> Result<Option<usize>, AllocError> {
 
 /// How many bytes a connection gives at once, where 0 says that it gives all that there is room for, and how many receives
 /// the fourteen requests of a commit take.
-const RECEIVES: &[(usize, usize)] = &[(0, 14), (100, 99)];
+const RECEIVES: &[(usize, usize)] = &[(0, 19), (100, 128)];
 
 /// A turn whose connection fails is served, without a status and without an answer, and the post that is carried once more
 /// is taken as if it came for the first time.
