@@ -160,8 +160,11 @@ impl Four {
         let Some(host) = self.hosts.get_mut(node.saturating_sub(1)) else {
             return Ok(());
         };
-        while let Some(n) = host.gather() {
-            self.posts.push((node, n))?;
+        for _ in 0..u32::MAX {
+            match host.gather() {
+                Some(n) => self.posts.push((node, n))?,
+                None => break,
+            }
         }
         Ok(())
     }
