@@ -1,5 +1,5 @@
 -- What a node's machine counts, and which counts a call may raise.
-use Rattle.std.specs.Prelude.{ℕ, ◌≡◌, ◌≤◌, Result, Ok, Err}
+use Rattle.std.specs.Prelude.{ℕ, ◌≡◌, ◌≤◌, Result, Ok, Err, OnOk}
 use Rattle.site_model.specs.Counts.{HasCause, RisesBy, Rose}
 use Rattle.site_model.specs.declared.site.AttachFailed.{AttachFailed}
 use Rattle.site_model.specs.declared.site.AttachFailed.TheVariants.{Disk, Link}
@@ -24,8 +24,10 @@ pub record OnGate {T E : Type 0} (old new : Counts) (result : Result T E) : Type
   pub cause : HasCause old.gate new.gate result
   pub others : new ≡ record old { gate = new.gate }
 
+-- reading of a connection: only a failure is counted
 pub record OnReceive {T E : Type 0} (old new : Counts) (result : Result T E) : Type 0 where
   pub cause : HasCause old.receive new.receive result
+  pub quiet : OnOk result (new.receive ≡ old.receive)
   pub others : new ≡ record old { receive = new.receive }
 
 pub record OnLink {T E : Type 0} (old new : Counts) (result : Result T E) : Type 0 where

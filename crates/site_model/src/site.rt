@@ -36,7 +36,8 @@ pub enum Taken {
 ///
 /// A failure of a call has its cause in the count of its kind, which rose: `disk` for the files, `gate` for raising a
 /// gate, `accept` for the listener, `receive` and `link` for the connection and the posts. `taken` and `closings` count
-/// the connections that were opened and the times that none came. Counts never fall. `file` is 0 or 1.
+/// the connections that were opened and the times that none came. Counts never fall, and a `receive` that succeeds isn't
+/// counted. `file` is 0 or 1.
 pub trait Site {
     ghost told: { Self → Told };
 
