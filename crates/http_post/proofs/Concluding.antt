@@ -3,12 +3,11 @@ use Rattle.std.proofs.Common.{ℕ, List, Option, Some, [], ◌∷◌, ◌≡◌,
 use Rattle.std.specs.Prelude.{option_map}
 use Rattle.std.proofs.lemmas.Bool.{true≢false}
 use Rattle.httparse.specs.Grammar.{print_request}
-use Rattle.site_model.specs.Counts.{HasCause, Rose}
 use Rattle.site_model.specs.Site.{Counts}
 use Rattle.site_model.specs.Told.{Link, Made, Told}
 use Rattle.http_post.specs.Causes.{HasLinkCause}
 use Rattle.http_post.specs.Connections.{Stays, coming, left}
-use Rattle.http_post.specs.Conversations.{HasCauses, Hears, IsOfRequest, IsHeard, IsRefused, IsUnsaid, Says, SaysSo, Waits, said, unsaid, is_framed}
+use Rattle.http_post.specs.Conversations.{HasCauses, Hears, IsOfRequest, IsHeard, IsRefused, IsSaid, Says, Waits, said, unsaid, is_framed}
 use Rattle.http_post.specs.Raw.{IsFault, IsRaw}
 use Rattle.http_post.specs.Requests.{Asked, Asks, Body, asking, framed as asks_framed}
 use Rattle.http_post.specs.declared.framing.Framing.{Framing}
@@ -33,71 +32,44 @@ body_refused now after path rest framing waits e same fault =
     (λ r read input h.
     asks_framed h.head h.more framing h.reads h.framed (read (drop (length (print_request h.head)) input) (subst (λ z. IsRaw z rest (drop (length (print_request h.head)) input)) (sym same) h.raw)))
 
-not_unsaid : (waits : Bool) → said waits ≡ unsaid → ⊥
-not_unsaid true e = true≢false (ap first_done e)
-  where
-    first_done : List Made → Bool
-    first_done [] = true
-    first_done (m ∷ ms) = m.done
-not_unsaid false e = omega (arith, ap length e)
-
-said_on : {T : Type 0} (waits : Bool) (result : Result T HttpRefusal) (made : List Made) → made ≡ said waits → SaysSo waits result made
-said_on waits result made e = record {
-  once = once waits e;
-  asked = asked waits e;
-  exact = (λ answered. e);
-  failed = (λ is. absurd (not_unsaid waits (sym e ∙ is)));
-}
-  where
-    once : (waits : Bool) → made ≡ said waits → (made ≡ []) ⊎ ((made ≡ said true) ⊎ (made ≡ unsaid))
-    once true e = inr (inl e)
-    once false e = inl e
-
-    asked : (waits : Bool) → made ≡ said waits → (made ≡ []) ⊎ (waits ≡ true)
-    asked true e = inr refl
-    asked false e = inl e
-
-said_not : {T : Type 0} (waits : Bool) (made : List Made) → IsUnsaid waits made → SaysSo {T = T} waits (Err NoLink) made
-said_not true made h = record {
-  once = once h;
-  asked = inr refl;
-  exact = (λ answered. absurd answered);
-  failed = (λ is. refl);
-}
-  where
-    once : (made ≡ []) ⊎ (made ≡ unsaid) → (made ≡ []) ⊎ ((made ≡ said true) ⊎ (made ≡ unsaid))
-    once (inl none) = inl none
-    once (inr one) = inr (inr one)
-said_not false made h = absurd h
-
--- behind the line that wasn't said
-pub line_failed : {T : Type 0} (waits : Bool) (a b : Told) → (made : List Made) × (Hears made a b × IsUnsaid waits made)
-    → (made : List Made) × (Hears made a b × SaysSo {T = T} waits (Err NoLink) made)
-line_failed waits a b (made, (h, is)) = (made, (h, said_not waits made is))
-
-pub line_causes : {T V E : Type 0} (fault : E) (a b : Counts) → b.receive ≡ a.receive → HasCause {T = V} a.link b.link (Err fault) → HasCauses {T = T} a b (Err NoLink)
-line_causes fault a b same h = record { receive = omega (arith, same); link = h.later; failed = (λ is. inr h.failed) }
-
--- behind the body
-pub body_hears : {T : Type 0} (waits : Bool) (result : Result T HttpRefusal) (a b c : Told) → (made : List Made) × (Hears made a b × (made ≡ said waits)) → Stays b c
-    → (made : List Made) × (Hears made a c × SaysSo waits result made)
-body_hears waits result a b c (made, (h, is)) k = (made, (heard_between made a a b c (stays_same a) h k, said_on waits result made is))
-
 link_stays : (a b : Told) → Stays a b → b.counts.link ≡ a.counts.link
 link_stays a b h = ap {A = Counts} (λ z. z.link) h.counts
 
-rose_since : (a b c : ℕ) → a ≤ b → Rose b c → Rose a c
-rose_since a b c le h = omega (arith, le, h)
+-- behind the body
+pub body_hears : (waits : Bool) (a b c : Told) → (made : List Made) × (Hears made a b × IsSaid waits a.counts.link b.counts.link made) → Stays b c
+    → (made : List Made) × (Hears made a c × IsSaid waits a.counts.link c.counts.link made)
+body_hears waits a b c (made, (h, is)) k = (made, (heard_between made a a b c (stays_same a) h k, subst (λ n. IsSaid waits a.counts.link n made) (sym (link_stays b c k)) is))
+
+-- the same refusal
+refused_as : {T V : Type 0} (before now : ℕ) (e : HttpRefusal) → HasLinkCause {T = V} before now (Err e) → HasLinkCause {T = T} before now (Err e)
+refused_as {T} {V} before now e cause = record { later = cause.later; failed = (λ is. cause.failed (ap {B = Result V HttpRefusal} again is)); quiet = tt; refused = cause.refused }
+  where
+    again : Result T HttpRefusal → Result V HttpRefusal
+    again (Ok x) = Err e
+    again (Err r) = Err r
+
+taken_as : {T V : Type 0} (before now : ℕ) (x : T) (v : V) → HasLinkCause before now (Ok v) → HasLinkCause before now (Ok x)
+taken_as {T} {V} before now x v cause = record { later = cause.later; failed = (λ is. absurd (subst IsTaken is tt)); quiet = cause.quiet; refused = tt }
+  where
+    IsTaken : Result T HttpRefusal → Type 0
+    IsTaken (Ok x) = Unit {0}
+    IsTaken (Err e) = ⊥
+
+causes_since : {T : Type 0} (result : Result T HttpRefusal) (a b c : Told) → b.counts.receive ≡ a.counts.receive → a.counts.link ≤ b.counts.link → Stays b c
+    → HasLinkCause b.counts.receive c.counts.receive result → HasCauses a.counts c.counts result
+causes_since result a b c same link k cause = record {
+  receive = subst (λ n. HasLinkCause n c.counts.receive result) same cause;
+  link = omega (arith, link, link_stays b c k);
+}
 
 -- what failed while the body was read
-pub body_causes : {T V E W : Type 0} (ok : V) (r : Result W HttpRefusal) (result : Result T HttpRefusal) (a b c : Told)
-    → b.counts.receive ≡ a.counts.receive → HasCause {E = E} a.counts.link b.counts.link (Ok ok) → Stays b c → HasLinkCause b.counts.receive c.counts.receive r
-    → (result ≡ Err NoLink → r ≡ Err NoLink) → HasCauses a.counts c.counts result
-body_causes ok r result a b c same h k cause fails = record {
-  receive = omega (arith, same, cause.later);
-  link = omega (arith, h.later, link_stays b c k);
-  failed = (λ is. inl (rose_since a.counts.receive b.counts.receive c.counts.receive (omega (arith, same)) (cause.failed (fails is))));
-}
+pub body_causes : {T V : Type 0} (x : T) (v : V) (a b c : Told) → b.counts.receive ≡ a.counts.receive → a.counts.link ≤ b.counts.link → Stays b c
+    → HasLinkCause b.counts.receive c.counts.receive (Ok v) → HasCauses a.counts c.counts (Ok x)
+body_causes x v a b c same link k cause = causes_since (Ok x) a b c same link k (taken_as b.counts.receive c.counts.receive x v cause)
+
+pub body_fails : {T V : Type 0} (e : HttpRefusal) (a b c : Told) → b.counts.receive ≡ a.counts.receive → a.counts.link ≤ b.counts.link → Stays b c
+    → HasLinkCause {T = V} b.counts.receive c.counts.receive (Err e) → HasCauses {T = T} a.counts c.counts (Err e)
+body_fails e a b c same link k cause = causes_since (Err e) a b c same link k (refused_as b.counts.receive c.counts.receive e cause)
 
 told_left : (a : Told) (l : Link) → a.link ≡ Some l → left a ≡ Some l.open_bytes
 unfolding left
@@ -135,46 +107,48 @@ answered ContentTooLarge P h k = k
 answered UnsupportedMediaType P h k = k
 
 pub head_refused : {T : Type 0} (a b : Told) (e : HttpRefusal) → Stays a b → IsFault e (λ r. (input : List ℕ) → left a ≡ Some input → IsRefused input r)
-    → (made : List Made) × (Hears made a b × Says {T = T} (Err e) a.link made)
-head_refused {T} a b e h fault = (
+    → (made : List Made) × (Hears made a b × Says {T = T} (Err e) a b made)
+head_refused a b e h fault = (
   [],
   (
     stays_hears a b h,
     record {
       once = inl refl;
       asked = (λ l is. inl refl);
-      exact = (λ real l is. (false, ((answered e (λ r. (input : List ℕ) → left a ≡ Some input → IsRefused input r) real fault l.open_bytes (told_left a l is)).waits, refl)));
-      failed = (λ is. absurd (omega (arith, ap length is)));
+      exact = (λ real l is. (false, ((answered e (λ r. (input : List ℕ) → left a ≡ Some input → IsRefused input r) real fault l.open_bytes (told_left a l is)).waits, inl refl)));
     },
   ),
 )
 
 pub head_causes : {T V : Type 0} (a b : Told) (e : HttpRefusal) → Stays a b → HasLinkCause {T = V} a.counts.receive b.counts.receive (Err e) → HasCauses {T = T} a.counts b.counts (Err e)
-head_causes {T} {V} a b e h cause = record {
-  receive = cause.later;
-  link = omega (arith, link_stays a b h);
-  failed = (λ is. inl (cause.failed (ap {B = Result V HttpRefusal} again is)));
-}
-  where
-    again : Result T HttpRefusal → Result V HttpRefusal
-    again (Ok x) = Err e
-    again (Err r) = Err r
+head_causes a b e h cause = record { receive = refused_as a.counts.receive b.counts.receive e cause; link = omega (arith, link_stays a b h) }
 
 heard_waits : (input : List ℕ) (now : Option (List ℕ)) (path rest : List ℕ) (framing : Framing) (waits : Bool) → IsHeard input now path framing waits rest → Waits input waits
 heard_waits input now path rest framing waits h = subst (Waits input) (sym h.waiting) (is_framed h.head h.more framing h.reads h.framed)
 
+said_once : (waits : Bool) (before now : ℕ) (made : List Made) → IsSaid waits before now made → (made ≡ []) ⊎ ((made ≡ said true) ⊎ (made ≡ unsaid))
+said_once true before now made (inl e) = inr (inl e)
+said_once true before now made (inr (inl none, rose)) = inl none
+said_once true before now made (inr (inr one, rose)) = inr (inr one)
+said_once false before now made (inl e) = inl e
+said_once false before now made (inr (none, rose)) = absurd none
+
+said_asked : (waits : Bool) (before now : ℕ) (made : List Made) → IsSaid waits before now made → (made ≡ []) ⊎ (waits ≡ true)
+said_asked true before now made h = inr refl
+said_asked false before now made (inl e) = inl e
+said_asked false before now made (inr (none, rose)) = absurd none
+
 pub whole_hears : {T : Type 0} (result : Result T HttpRefusal) (a b c : Told) (path rest : List ℕ) (framing : Framing) (waits : Bool) → Stays a b
     → ((input : List ℕ) → left a ≡ Some input → IsHeard input (left b) path framing waits rest)
-    → (made : List Made) × (Hears made b c × SaysSo waits result made) → (made : List Made) × (Hears made a c × Says result a.link made)
+    → (made : List Made) × (Hears made b c × IsSaid waits b.counts.link c.counts.link made) → (made : List Made) × (Hears made a c × Says result a c made)
 whole_hears result a b c path rest framing waits h heard (made, (k, so)) = (
   made,
   (
     heard_between made a b c c h k (stays_same c),
     record {
-      once = so.once;
-      asked = (λ l is. asked l is so.asked);
-      exact = (λ real l is. (waits, (waits_so l is, so.exact real)));
-      failed = so.failed;
+      once = said_once waits b.counts.link c.counts.link made so;
+      asked = (λ l is. asked l is (said_asked waits b.counts.link c.counts.link made so));
+      exact = (λ real l is. (waits, (waits_so l is, subst (λ n. IsSaid waits n c.counts.link made) (link_stays a b h) so)));
     },
   ),
 )
@@ -186,14 +160,9 @@ whole_hears result a b c path rest framing waits h heard (made, (k, so)) = (
     asked l is (inl none) = inl none
     asked l is (inr awaited) = inr (subst (Waits l.open_bytes) awaited (waits_so l is))
 
-pub whole_causes : {T V : Type 0} (result : Result T HttpRefusal) (first : Result V HttpRefusal) (a b c : Told) → Stays a b → HasLinkCause a.counts.receive b.counts.receive first
+pub whole_causes : {T V : Type 0} (result : Result T HttpRefusal) (x : V) (a b c : Told) → Stays a b → HasLinkCause a.counts.receive b.counts.receive (Ok x)
     → HasCauses b.counts c.counts result → HasCauses a.counts c.counts result
-whole_causes result first a b c h cause k = record {
-  receive = omega (arith, cause.later, k.receive);
+whole_causes result x a b c h cause k = record {
+  receive = subst (λ n. HasLinkCause n c.counts.receive result) cause.quiet k.receive;
   link = omega (arith, k.link, link_stays a b h);
-  failed = (λ is. since (k.failed is));
 }
-  where
-    since : Rose b.counts.receive c.counts.receive ⊎ Rose b.counts.link c.counts.link → Rose a.counts.receive c.counts.receive ⊎ Rose a.counts.link c.counts.link
-    since (inl p) = inl (rose_since a.counts.receive b.counts.receive c.counts.receive cause.later p)
-    since (inr p) = inr (rose_since a.counts.link b.counts.link c.counts.link (omega (arith, link_stays a b h)) p)

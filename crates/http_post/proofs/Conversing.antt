@@ -1,6 +1,6 @@
 -- Taking a request: what was heard and said.
 use Rattle.std.proofs.Common.{ℕ, List, Option, Some, None, [], ◌∷◌, ◌++◌, ◌≡◌, ◌≢◌, ◌≤◌, ◌⊎◌, inl, inr, Bool, true, false, Result, Ok, Err, length, map, take, drop, refl, sym, ap, subst, ◌∙◌, arith, append-nil, if◌then◌else◌}
-use Rattle.std.specs.Prelude.{◌&&◌, codes, nat_le, not, option_map}
+use Rattle.std.specs.Prelude.{OnErr, ◌&&◌, codes, nat_le, not, option_map}
 use Rattle.std.specs.Io.KnownBytes.{Consumes}
 use Rattle.std.specs.List.{list_all}
 use Rattle.std.specs.Str.Parse.{digits_value}
@@ -11,6 +11,7 @@ use Rattle.httparse.specs.Grammar.{HasNoRequest, ReadsRequest, print_request}
 use Rattle.httparse.specs.declared.spans.HeaderSpan.{HeaderSpan}
 use Rattle.httparse.specs.declared.spans.RequestSpans.{RequestSpans}
 use Rattle.site_model.specs.Calls.{Gave, Outcome}
+use Rattle.site_model.specs.Counts.{Rose}
 use Rattle.site_model.specs.Site.{Counts}
 use Rattle.site_model.specs.Told.{BreaksOff, Call, Files, Made, Told, done, failed}
 use Rattle.site_model.specs.Told.Call.{Send}
@@ -142,8 +143,8 @@ stays_hears a b h = record {
     adds l c (inl p) = inl p
     adds l c (inr none) = absurd none
 
-pub silence : (waits : Bool) (a : Told) → waits ≡ false → (made : List Made) × (Hears made a a × (made ≡ said waits))
-silence waits a is = ([], (stays_hears a a (stays_same a), ap said (sym is)))
+pub silence : (waits : Bool) (a : Told) → waits ≡ false → (made : List Made) × (Hears made a a × IsSaid waits a.counts.link a.counts.link made)
+silence waits a is = ([], (stays_hears a a (stays_same a), inl (ap said (sym is))))
 
 -- the line was said, or sending it failed
 gave_hears : {T E : Type 0} (bytes : List ℕ) (result : Result T E) (a b : Told) (h : Gave (Send bytes) result a b) → Hears h.calls.made a b
@@ -177,19 +178,19 @@ broken call made b = at_front b.front b.split b.is
     at_front (x ∷ xs) e is = absurd (omega (arith, ap length e, length-append xs (b.call ∷ b.rest)))
 
 pub spoken : {T E : Type 0} (line : List ℕ) (waits : Bool) (result : Result T E) (a b : Told) → line ≡ interim → waits ≡ true → Gave (Send line) result a b
-    → (made : List Made) × (Hears made a b × IsSaid waits result made)
+    → (made : List Made) × (Hears made a b × IsSaid waits a.counts.link b.counts.link made)
 spoken line waits result a b is waiting h = (h.calls.made, (gave_hears line result a b h, so))
   where
-    outcome : {T E : Type 0} (r : Result T E) (made : List Made) → Outcome (Send line ∷ []) r made → IsSaid true r made
-    outcome (Ok x) made h = h ∙ ap (λ z. done (Send z) ∷ []) is
-    outcome (Err e) made h = on_broken (broken (Send line) made h)
+    outcome : {T E : Type 0} (r : Result T E) (made : List Made) → Outcome (Send line ∷ []) r made → OnErr r (Rose a.counts.link b.counts.link) → IsSaid true a.counts.link b.counts.link made
+    outcome (Ok x) made h rose = inl (h ∙ ap (λ z. done (Send z) ∷ []) is)
+    outcome (Err e) made h rose = inr (on_broken (broken (Send line) made h), rose)
       where
         on_broken : (made ≡ []) ⊎ (made ≡ failed (Send line) ∷ []) → (made ≡ []) ⊎ (made ≡ unsaid)
         on_broken (inl none) = inl none
         on_broken (inr one) = inr (one ∙ ap (λ z. failed (Send z) ∷ []) is)
 
-    so : IsSaid waits result h.calls.made
-    so = subst (λ w. IsSaid w result h.calls.made) (sym waiting) (outcome result h.calls.made h.calls.outcome)
+    so : IsSaid waits a.counts.link b.counts.link h.calls.made
+    so = subst (λ w. IsSaid w a.counts.link b.counts.link h.calls.made) (sym waiting) (outcome result h.calls.made h.calls.outcome h.counts.cause.failed)
 
 pub same_left : {T E : Type 0} (line : List ℕ) (result : Result T E) (a b : Told) → Gave (Send line) result a b → left b ≡ left a
 unfolding left

@@ -6,6 +6,7 @@ use Rattle.site_model.specs.Counts.{Rose}
 use Rattle.site_model.specs.Site.{Counts}
 use Rattle.site_model.specs.Told.{Elapses, Link, Made, Told, Within, done, failed}
 use Rattle.site_model.specs.Told.Call.{Send}
+use Rattle.http_post.specs.Causes.{HasLinkCause}
 use Rattle.http_post.specs.Connections.{Stays, left, waiting}
 use Rattle.http_post.specs.Heads.{expects, framing_of}
 use Rattle.http_post.specs.Raw.{IsRaw}
@@ -56,18 +57,26 @@ abbrev pub IsAnswered : {T : Type 0} → Result T HttpRefusal → Type 0
 IsAnswered (Ok x) = ⊤
 IsAnswered (Err refusal) = IsOfRequest refusal
 
--- The interim line was said where the client waits for it, and not elsewhere. Where the machine failed, perhaps it wasn't.
-pub record Says {T : Type 0} (result : Result T HttpRefusal) (link : Option Link) (made : List Made) : Type 0 where
-  pub once : (made ≡ []) ⊎ ((made ≡ said true) ⊎ (made ≡ unsaid))
-  pub asked : (l : Link) → link ≡ Some l → (made ≡ []) ⊎ Waits l.open_bytes true
-  pub exact : IsAnswered result → (l : Link) → link ≡ Some l → (waits : Bool) × (Waits l.open_bytes waits × (made ≡ said waits))
-  pub failed : made ≡ unsaid → result ≡ Err refusals.Link
+-- saying it failed, by a call or before one
+abbrev pub IsUnsaid : Bool → List Made → Type 0
+IsUnsaid false made = ⊥
+IsUnsaid true made = (made ≡ []) ⊎ (made ≡ unsaid)
 
--- the connection failed only where receiving or sending did
+-- what saying it came to: it was said where the client waits for it, unless sending failed, which is counted
+abbrev pub IsSaid : Bool → ℕ → ℕ → List Made → Type 0
+IsSaid waits before now made = (made ≡ said waits) ⊎ (IsUnsaid waits made × Rose before now)
+
+-- The interim line was said where the client waits for it, and not elsewhere, unless sending it failed. Where the machine
+-- failed in reading the head, or had no memory, perhaps it wasn't tried.
+pub record Says {T : Type 0} (result : Result T HttpRefusal) (old new : Told) (made : List Made) : Type 0 where
+  pub once : (made ≡ []) ⊎ ((made ≡ said true) ⊎ (made ≡ unsaid))
+  pub asked : (l : Link) → old.link ≡ Some l → (made ≡ []) ⊎ Waits l.open_bytes true
+  pub exact : IsAnswered result → (l : Link) → old.link ≡ Some l → (waits : Bool) × (Waits l.open_bytes waits × IsSaid waits old.counts.link new.counts.link made)
+
+-- the connection failed exactly where receiving did; the count of sends that failed doesn't fall
 pub record HasCauses {T : Type 0} (old new : Counts) (result : Result T HttpRefusal) : Type 0 where
-  pub receive : old.receive ≤ new.receive
+  pub receive : HasLinkCause old.receive new.receive result
   pub link : old.link ≤ new.link
-  pub failed : result ≡ Err refusals.Link → Rose old.receive new.receive ⊎ Rose old.link new.link
 
 -- no more was taken than a head may have
 abbrev pub TookHead : Option (List ℕ) → Option (List ℕ) → Type 0
@@ -102,20 +111,3 @@ pub record IsHeard (input : List ℕ) (now : Option (List ℕ)) (path : List ℕ
 pub record IsRefused (input : List ℕ) (refusal : HttpRefusal) : Type 0 where
   pub asks : Asks input (Err refusal)
   pub waits : Waits input false
-
--- saying it failed
-abbrev pub IsUnsaid : Bool → List Made → Type 0
-IsUnsaid false made = ⊥
-IsUnsaid true made = (made ≡ []) ⊎ (made ≡ unsaid)
-
--- what saying it came to
-abbrev pub IsSaid : {T E : Type 0} → Bool → Result T E → List Made → Type 0
-IsSaid waits (Ok x) made = made ≡ said waits
-IsSaid waits (Err e) made = IsUnsaid waits made
-
--- the same behind the body
-pub record SaysSo {T : Type 0} (waits : Bool) (result : Result T HttpRefusal) (made : List Made) : Type 0 where
-  pub once : (made ≡ []) ⊎ ((made ≡ said true) ⊎ (made ≡ unsaid))
-  pub asked : (made ≡ []) ⊎ (waits ≡ true)
-  pub exact : IsAnswered result → made ≡ said waits
-  pub failed : made ≡ unsaid → result ≡ Err refusals.Link

@@ -1,5 +1,6 @@
 //! The connection of a node's machine that is open.
 
+ghost use Rattle.std.specs.Prelude.{◌≡◌, OnOk};
 ghost use Rattle.std.specs.Io.{ReadsAtMost};
 ghost use Rattle.std.specs.Io.KnownBytes.{ReadConsumes};
 ghost use Rattle.site_model.specs.Counts.{HasCause};
@@ -14,6 +15,7 @@ pub fn receive<S: Site>(site: &mut S, buf: &mut [u8]) -> Result<usize, Failed>
     ensures bound { ReadsAtMost result buf.new }
     ensures bytes { ReadConsumes (left (S.told site.old)) (left (S.told site.new)) result buf.new }
     ensures cause { HasCause (S.told site.old).counts.receive (S.told site.new).counts.receive result }
+    ensures quiet { OnOk result ((S.told site.new).counts.receive ≡ (S.told site.old).counts.receive) }
     ensures leaves { Leaves S.told site.old site.new }
 {
     site.receive(buf)

@@ -1,10 +1,11 @@
 //! The head of a request, read piece by piece.
 
-ghost use Rattle.std.specs.Prelude.{◌≡◌, ◌<◌, ◌≤◌, IfErr, IfOk, IfSome, None, drop, length};
+ghost use Rattle.std.specs.Prelude.{◌≡◌, ◌<◌, ◌≤◌, IfErr, IfOk, IfSome, None, OnOk, drop, length};
 ghost use Rattle.std.specs.Io.KnownBytes.{Consumes};
 ghost use Rattle.httparse.specs.Grammar.{HasNoRequest};
 ghost use Rattle.httparse.specs.Spans.{IsRequestOf, IsRequestWithin};
 ghost use Rattle.site_model.specs.Counts.{Rose};
+ghost use Rattle.http_post.specs.Causes.{UnlessFailed};
 ghost use Rattle.http_post.specs.Connections.{Leaves, left};
 ghost use Rattle.http_post.specs.declared.head.HeadFault.TheVariants as faults;
 ghost use Rattle.http_post.specs.declared.head.PieceFault.TheVariants as pieces;
@@ -72,6 +73,8 @@ fn read_piece<S: Site>(site: &mut S, bytes: &mut Vec<u8>) -> Result<usize, Piece
     ensures later { (S.told site.old).counts.receive ≤ (S.told site.new).counts.receive }
     ensures leaves { Leaves S.told site.old site.new }
     ensures failed { IfErr result (λ e. e ≡ pieces.Failed → Rose ((S.told site.old).counts.receive) ((S.told site.new).counts.receive)) }
+    ensures quiet { OnOk result ((S.told site.new).counts.receive ≡ (S.told site.old).counts.receive) }
+    ensures lacking { IfErr result (λ e. e ≡ pieces.NoMemory → (S.told site.new).counts.receive ≡ (S.told site.old).counts.receive) }
 {
     let mut buf = [0u8; 1024];
     let room = (MOST_HEAD - bytes.len()).min(1024);
@@ -112,6 +115,8 @@ pub fn read_head<S: Site>(alloc: Global, site: &mut S) -> Result<Head, HeadFault
     ensures later { (S.told site.old).counts.receive ≤ (S.told site.new).counts.receive }
     ensures leaves { Leaves S.told site.old site.new }
     ensures failed { IfErr result (λ e. e ≡ faults.Failed → Rose ((S.told site.old).counts.receive) ((S.told site.new).counts.receive)) }
+    ensures quiet { OnOk result ((S.told site.new).counts.receive ≡ (S.told site.old).counts.receive) }
+    ensures refused { IfErr result (λ e. UnlessFailed e ((S.told site.new).counts.receive ≡ (S.told site.old).counts.receive)) }
     ensures none { IfErr result (λ e. IfNoHead e (HasNoHead (left (S.told site.old)))) }
 {
     let Ok(mut places) = Places::new(alloc) else {

@@ -1,11 +1,10 @@
 //! A whole request, taken of a node's machine.
 
-ghost use Rattle.std.specs.Prelude.{ℕ, List, ◌≡◌, ◌≢◌, ◌⊎◌, Err, IfErr, IfOk, Ok, OnOk, Some, drop};
-ghost use Rattle.site_model.specs.Counts.{HasCause};
+ghost use Rattle.std.specs.Prelude.{ℕ, List, ◌≡◌, ◌≢◌, ◌≤◌, ◌⊎◌, Err, IfErr, IfOk, Ok, OnOk, Some, drop};
 ghost use Rattle.site_model.specs.Told.{Link, Made};
 ghost use Rattle.http_post.specs.Causes.{HasLinkCause};
 ghost use Rattle.http_post.specs.Connections.{Leaves, left};
-ghost use Rattle.http_post.specs.Conversations.{HasCauses, Hears, InOrder, IsHeard, IsRefused, IsSaid, Says, SaysSo, Speaks, TookHead, interim};
+ghost use Rattle.http_post.specs.Conversations.{HasCauses, Hears, InOrder, IsHeard, IsRefused, IsSaid, Says, Speaks, TookHead, interim};
 ghost use Rattle.http_post.specs.Kept.{Draws, SaysOf};
 ghost use Rattle.http_post.specs.Known.{IsRead};
 ghost use Rattle.http_post.specs.Raw.{IsFault};
@@ -18,7 +17,6 @@ use crate::head::{Head, HeadFault, read_head};
 use crate::refusal::HttpRefusal;
 use at_base::text::Text;
 use site_model::site::Site;
-use site_model::source::Failed;
 use std::alloc::{AllocError, Global};
 
 /// A request: a post of this content to this path.
@@ -90,18 +88,18 @@ fn hear<S: Site>(alloc: Global, site: &mut S) -> Result<Heard, HttpRefusal>
     }
 }
 
-/// Says the interim line, if the client waits for it.
+/// Says the interim line, if the client waits for it. Where that fails, the body may come all the same.
 #[tactic(auto, using(crate::proofs::Conversing::silence, crate::proofs::Conversing::spoken))]
-fn go_on<S: Site>(site: &mut S, waits: bool) -> Result<(), Failed>
-    ensures hears { (made : List Made) × (Hears made (S.told site.old) (S.told site.new) × IsSaid waits result made) }
+fn go_on<S: Site>(site: &mut S, waits: bool)
+    ensures hears { (made : List Made) × (Hears made (S.told site.old) (S.told site.new) × IsSaid waits (S.told site.old).counts.link (S.told site.new).counts.link made) }
     ensures same { left (S.told site.new) ≡ left (S.told site.old) }
     ensures receive { (S.told site.new).counts.receive ≡ (S.told site.old).counts.receive }
-    ensures cause { HasCause (S.told site.old).counts.link (S.told site.new).counts.link result }
+    ensures link { (S.told site.old).counts.link ≤ (S.told site.new).counts.link }
 {
     if !waits {
-        return Ok(());
+        return;
     }
-    site.send(interim())
+    let _ = site.send(interim());
 }
 
 /// Reads the body that was asked for, behind the interim line.
@@ -109,14 +107,11 @@ fn hear_body<S: Site>(alloc: Global, site: &mut S, heard: Heard) -> Result<Reque
     ensures ok { IfOk result (λ r. (input : List ℕ) → IsHeard input (left (S.told site.old)) heard.asking.path heard.asking.framing heard.asking.waits heard.rest.items → Asks input (Ok (record { path = r.path; body = r.body.items }))) }
     ensures err { IfErr result (λ e. IsFault e (λ r. (input : List ℕ) → IsHeard input (left (S.told site.old)) heard.asking.path heard.asking.framing heard.asking.waits heard.rest.items → Asks input (Err r))) }
     ensures cause { HasCauses (S.told site.old).counts (S.told site.new).counts result }
-    ensures hears { (made : List Made) × (Hears made (S.told site.old) (S.told site.new) × SaysSo heard.asking.waits result made) }
+    ensures hears { (made : List Made) × (Hears made (S.told site.old) (S.told site.new) × IsSaid heard.asking.waits (S.told site.old).counts.link (S.told site.new).counts.link made) }
     ensures order { Speaks S.told site.old site.new }
 {
     let Heard { asking, mut rest } = heard;
-    match go_on(site, asking.waits) {
-        Ok(()) => {}
-        Err(Failed) => return Err(HttpRefusal::Link),
-    }
+    go_on(site, asking.waits);
     match read_body(alloc, site, &mut rest, asking.framing) {
         Ok(body) => Ok(Request {
             path: asking.into_path(),
@@ -132,7 +127,7 @@ pub fn take_request<S: Site>(alloc: Global, site: &mut S) -> Result<Request, Htt
     ensures ok { IfOk result (λ r. (link : Link) → (S.told site.old).link ≡ Some link → Asks link.open_bytes (Ok (record { path = r.path; body = r.body.items }))) }
     ensures err { IfErr result (λ e. IsFault e (λ r. (link : Link) → (S.told site.old).link ≡ Some link → Asks link.open_bytes (Err r))) }
     ensures cause { HasCauses (S.told site.old).counts (S.told site.new).counts result }
-    ensures hears { (made : List Made) × (Hears made (S.told site.old) (S.told site.new) × Says result (S.told site.old).link made) }
+    ensures hears { (made : List Made) × (Hears made (S.told site.old) (S.told site.new) × Says result (S.told site.old) (S.told site.new) made) }
     ensures order { ((S.told site.new).calls ≡ (S.told site.old).calls) ⊎ InOrder S.told site.old site.new }
 {
     let heard = match hear(alloc, site) {

@@ -2,14 +2,15 @@
 use Rattle.std.proofs.Common.{ℕ, List, [], ◌≡◌, ◌⊎◌, Bool, true, false, Option, Some, None, Result, Ok, Err, refl, sym, ◌∙◌, ap, subst, true≢false, if◌then◌else◌, IsTrue}
 use Rattle.at_base.specs.declared.event.Event.TheVariants as events
 use Rattle.arrivals.specs.Reaching.{reaches}
-use Rattle.http_post.specs.Conversations.{IsAnswered, Says as Speaks, Waits, said}
+use Rattle.http_post.specs.Causes.{UnlessLink}
+use Rattle.http_post.specs.Conversations.{IsAnswered, IsSaid, Says as Speaks, Waits}
 use Rattle.http_post.specs.Raw.{IsFault}
 use Rattle.http_post.specs.Requests.{Asks}
 use Rattle.http_post.specs.Written.{has_reason}
 use Rattle.http_post.specs.declared.refusal.HttpRefusal.{HttpRefusal}
 use Rattle.http_post.specs.declared.refusal.HttpRefusal.TheVariants as refusals
 use Rattle.model_laws.specs.Sound.{IsSoundEvent}
-use Rattle.site_model.specs.Told.{Link, Made}
+use Rattle.site_model.specs.Told.{Link, Made, Told}
 use Rattle.wire_msgs.specs.Arrivals.{Arrives, IsRefused}
 use Rattle.wire_msgs.specs.Whole.{IsWhole}
 use Rattle.wire_msgs.specs.declared.decode.Arrival.{Arrival}
@@ -154,20 +155,32 @@ lost_by {P} refusal result m e f k g = k (e ∙ ap Err (by refusal (sym f ∙ g)
   by refusals.UnsupportedMediaType h = absurd (subst IsLost (sym h) tt)
   by refusals.NoMemory h = absurd (subst IsLost (sym h) tt)
 
+-- where no receive failed
+pub received_by : {P : Type 0} (refusal : HttpRefusal) (m : Meaning) → m ≡ meaning_at refusal → UnlessLink refusal P → (m ≡ Lost → ⊥) → P
+received_by {P} refusal m e h not_so = by refusal e h where
+  by : (r : HttpRefusal) → m ≡ meaning_at r → UnlessLink r P → P
+  by refusals.Link f k = absurd (not_so f)
+  by refusals.BadRequest f k = k
+  by refusals.MethodNotAllowed f k = k
+  by refusals.LengthRequired f k = k
+  by refusals.ContentTooLarge f k = k
+  by refusals.UnsupportedMediaType f k = k
+  by refusals.NoMemory f k = k
+
 -- the interim line
-line_so : {T : Type 0} (result : Result T HttpRefusal) (link : Option Link) (made : List Made) (b : Bool) → (b ≡ true → IsAnswered result) → Speaks result link made → IsLine (open_input link) b made
-line_so result link made b answered h = record {
+line_so : {T : Type 0} (result : Result T HttpRefusal) (old new : Told) (made : List Made) (b : Bool) → (b ≡ true → IsAnswered result) → Speaks result old new made → IsLine (open_input old.link) b old new made
+line_so result old new made b answered h = record {
   once = h.once;
-  asked = λ bytes e. opened link bytes (λ z. (made ≡ []) ⊎ Waits z true) e h.asked;
-  exact = λ is bytes e. opened link bytes (λ z. (waits : Bool) × (Waits z waits × (made ≡ said waits))) e (h.exact (answered is));
+  asked = λ bytes e. opened old.link bytes (λ z. (made ≡ []) ⊎ Waits z true) e h.asked;
+  exact = λ is bytes e. opened old.link bytes (λ z. (waits : Bool) × (Waits z waits × IsSaid waits old.counts.link new.counts.link made)) e (h.exact (answered is));
 }
 
-pub line_request : {T : Type 0} (result : Result T HttpRefusal) (x : T) (link : Option Link) (made : List Made) (b : Bool) → result ≡ Ok x → Speaks result link made → IsLine (open_input link) b made
-line_request result x link made b e h = line_so result link made b (λ is. subst IsAnswered (sym e) tt) h
+pub line_request : {T : Type 0} (result : Result T HttpRefusal) (x : T) (old new : Told) (made : List Made) (b : Bool) → result ≡ Ok x → Speaks result old new made → IsLine (open_input old.link) b old new made
+line_request result x old new made b e h = line_so result old new made b (λ is. subst IsAnswered (sym e) tt) h
 
-pub line_fault : {T : Type 0} (result : Result T HttpRefusal) (refusal : HttpRefusal) (link : Option Link) (made : List Made) (m : Meaning) → result ≡ Err refusal → m ≡ meaning_at refusal
-    → Speaks result link made → IsLine (open_input link) (is_heard m) made
-line_fault result refusal link made m e f h = line_so result link made (is_heard m) (λ is. subst IsAnswered (sym e) (by refusal (ap is_heard (sym f) ∙ is))) h where
+pub line_fault : {T : Type 0} (result : Result T HttpRefusal) (refusal : HttpRefusal) (old new : Told) (made : List Made) (m : Meaning) → result ≡ Err refusal → m ≡ meaning_at refusal
+    → Speaks result old new made → IsLine (open_input old.link) (is_heard m) old new made
+line_fault result refusal old new made m e f h = line_so result old new made (is_heard m) (λ is. subst IsAnswered (sym e) (by refusal (ap is_heard (sym f) ∙ is))) h where
   by : (r : HttpRefusal) → is_heard (meaning_at r) ≡ true → IsAnswered {T = Unit {0}} (Err r)
   by refusals.BadRequest k = tt
   by refusals.MethodNotAllowed k = tt

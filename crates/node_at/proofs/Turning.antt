@@ -5,7 +5,7 @@ use Rattle.at_base.specs.declared.event.Event.{Event}
 use Rattle.at_base.specs.declared.event.Event.TheVariants as events
 use Rattle.at_model.specs.Book.{Book}
 use Rattle.at_model.specs.Step.{Outcome, plan, step}
-use Rattle.http_post.specs.Conversations.{Hears as Heard}
+use Rattle.http_post.specs.Conversations.{Hears as Heard, IsSaid}
 use Rattle.site_model.specs.Calls.{Closes, Reads, Takes}
 use Rattle.site_model.specs.Counts.{Rose}
 use Rattle.site_model.specs.Site.{Counts as Numbers, Took}
@@ -222,12 +222,27 @@ works_later turneds.LinkDown ls meaning now n m old new h = absurd h
 still_rose : (a b c : ℕ) → Rose a b → b ≤ c → Rose a c
 still_rose a b c h k = omega (arith, h, k)
 
+-- what was said stays so
+line_later : (input : Option (List ℕ)) (b : Bool) (old mid new : Told) (made : List Made) → IsLine input b old mid made → mid.counts.link ≤ new.counts.link → IsLine input b old new made
+line_later input b old mid new made h later = record {
+  once = h.once;
+  asked = h.asked;
+  exact = λ is bytes e. let (waits, (k, said)) = h.exact is bytes e in (waits, (k, ⊎_elim inl (λ u. inr (u.0, still_rose _ _ _ u.1 later)) said));
+}
+
+line_since : (input : Option (List ℕ)) (b : Bool) (old mid new : Told) (made : List Made) → IsLine input b mid new made → mid.counts.link ≡ old.counts.link → IsLine input b old new made
+line_since input b old mid new made h same = record {
+  once = h.once;
+  asked = h.asked;
+  exact = λ is bytes e. let (waits, (k, said)) = h.exact is bytes e in (waits, (k, subst (λ z. IsSaid waits z new.counts.link made) same said));
+}
+
 -- A connection that is open.
 pub serves_so : (result : Turned) (role : Role) (meaning : Meaning) (now : ℕ) (n m : State) (old heard timed done new : Told) → Hears role (open_input old.link) meaning → IsFit meaning
-    → (meaning ≡ Lost → Rose old.counts.receive heard.counts.receive ⊎ Rose old.counts.link heard.counts.link)
-    → (made : List Made) × (Heard made old heard × IsLine (open_input old.link) (is_heard meaning) made) → NoLess old.counts heard.counts → Reads now heard timed
-    → Works result [] meaning now n m timed done → Closes done new → Serves result role (open_input old.link) n m old new
-serves_so result role meaning now n m old heard timed done new h fit lost (made, (says, line)) later reads works closes =
+    → (meaning ≡ Lost → Rose old.counts.receive heard.counts.receive) → ((meaning ≡ Lost → ⊥) → heard.counts.receive ≡ old.counts.receive)
+    → (made : List Made) × (Heard made old heard × IsLine (open_input old.link) (is_heard meaning) old heard made) → NoLess old.counts heard.counts → Reads now heard timed
+    → Works result [] meaning now n m timed done → done.counts.receive ≡ timed.counts.receive → Closes done new → Serves result role (open_input old.link) n m old new
+serves_so result role meaning now n m old heard timed done new h fit lost received (made, (says, line)) later reads works none closes =
     let read = no_less_same heard.counts timed.counts reads.counts in
     let begun = no_less_then old.counts heard.counts timed.counts later read in
     let closed = no_less_same done.counts new.counts closes.counts in
@@ -240,8 +255,9 @@ serves_so result role meaning now n m old heard timed done new h fit lost (made,
       now = now;
       clock = λ t e. reads.is t (says.clock ∙ e);
       made = made;
-      line = line;
-      lost = λ e. ⊎_elim (λ r. inl (still_rose _ _ _ r rest.receive)) (λ r. inr (still_rose _ _ _ r rest.link)) (lost e);
+      line = line_later (open_input old.link) (is_heard meaning) old heard new made line rest.link;
+      lost = λ e. still_rose _ _ _ (lost e) rest.receive;
+      received = λ e. ap (λ (z : Numbers). z.receive) closes.counts ∙ none ∙ ap (λ (z : Numbers). z.receive) reads.counts ∙ received e;
       works = works_last result (line_of made) meaning now n m old done new
           (works_behind result made meaning now n m old timed done line_said begun works) closes.still closed;
       later = no_less_then old.counts heard.counts new.counts later rest;
@@ -302,8 +318,9 @@ opens_so result role n m old mid new takes h =
         now = h.now;
         clock = λ t e. h.clock t (takes.clock ∙ e);
         made = h.made;
-        line = subst (λ z. IsLine z (is_heard h.meaning) h.made) input h.line;
-        lost = λ e. ⊎_elim (λ r. inl (subst (λ z. Rose z new.counts.receive) same r)) (λ r. inr (subst (λ z. Rose z new.counts.link) kept r)) (h.lost e);
+        line = line_since (next_input old.link) (is_heard h.meaning) old mid new h.made (subst (λ z. IsLine z (is_heard h.meaning) mid new h.made) input h.line) kept;
+        lost = λ e. subst (λ z. Rose z new.counts.receive) same (h.lost e);
+        received = λ e. h.received e ∙ same;
         works = works_first result (line_of h.made) h.meaning h.now (calm n) m old mid new takes.still later h.works;
         later = no_less_then old.counts mid.counts new.counts later h.later;
       };

@@ -1,5 +1,5 @@
 -- Whatever is asked is answered.
-use Rattle.std.proofs.Common.{ℕ, List, [], ◌∷◌, ◌≡◌, ◌⊎◌, inl, inr, nat_eq, refl, sym, ◌∙◌, ap, subst, true≢false, if◌then◌else◌, Bool, true, false, ⊎_elim}
+use Rattle.std.proofs.Common.{ℕ, List, [], ◌∷◌, ◌≡◌, ◌⊎◌, inl, inr, nat_eq, refl, sym, ◌∙◌, ap, subst, true≢false, if◌then◌else◌, Bool, true, false}
 use Rattle.at_base.specs.declared.event.Event.TheVariants as events
 use Rattle.at_base.specs.declared.outs.Out.{Out}
 use Rattle.at_base.specs.declared.outs.Out.TheVariants as outs
@@ -20,7 +20,7 @@ use Rattle.node_at.specs.Meanings.Meaning.{Refused, Steps, Lost, Unread}
 use Rattle.node_at.specs.Replies.{IsReply, StepsReply}
 use Rattle.node_at.specs.State.{State}
 use Rattle.node_at.specs.Steps.{status_in}
-use Rattle.node_at.specs.Turns.{Turns}
+use Rattle.node_at.specs.Turns.{IsAnswer, Turns, is_tick}
 use Rattle.node_at.specs.TurnText.{IsFirst, Steppings, TurnStep}
 use Rattle.node_at.specs.TurnText.Steppings.{asked, unasked}
 
@@ -47,7 +47,7 @@ is_lost reply b now left meaning steps status fit (asked first rest is due all) 
 
 -- no answer only where the connection failed
 pub served_lost : (status : ℕ) (role : Role) (n m : State) (old new : Told) → StepsReply → Turns (turneds.Served status) role n m old new → status ≡ 0
-    → Rose old.counts.receive new.counts.receive ⊎ Rose old.counts.link new.counts.link
+    → Rose old.counts.receive new.counts.receive
 served_lost status role n m old new reply h z =
     let s = h.serves in
     s.lost (is_lost reply n.book s.now [] s.meaning s.works.0.steps status s.fit s.works.0.turns z)
@@ -61,7 +61,7 @@ IsServed (turneds.Served status) = Unit {0}
 IsServed other = ⊥
 
 pub turned_lost : (result : Turned) (role : Role) (n m : State) (old new : Told) → StepsReply → Turns result role n m old new → result ≡ turneds.Served 0
-    → Rose old.counts.receive new.counts.receive ⊎ Rose old.counts.link new.counts.link
+    → Rose old.counts.receive new.counts.receive
 turned_lost (turneds.Served status) role n m old new reply h e = served_lost status role n m old new reply h (ap status_of e)
 turned_lost turneds.Ticked role n m old new reply h e = absurd (subst IsServed (sym e) tt)
 turned_lost turneds.Closed role n m old new reply h e = absurd (subst IsServed (sym e) tt)
@@ -86,8 +86,40 @@ ended told turneds.LinkDown result shrunk n m old new h e = sym h.answers ∙ e
 
 pub turn_lost : {S : Type 0} (told : S → Told) (first result : Turned) (role : Role) (shrunk : Shrunk) (n k m : State) (old mid new : S) → StepsReply → Turns first role n k (told old) (told mid)
     → Ends told first result shrunk k m mid new → Counted (told mid) (told new) → result ≡ turneds.Served 0
-    → Rose (told old).counts.receive (told new).counts.receive ⊎ Rose (told old).counts.link (told new).counts.link
+    → Rose (told old).counts.receive (told new).counts.receive
 turn_lost told first result role shrunk n k m old mid new reply steps ends counted e =
     let rose = turned_lost first role n k (told old) (told mid) reply steps (ended told first result shrunk k m mid new ends e) in
-    ⊎_elim (λ r. inl (subst (Rose (told old).counts.receive) (sym (ap (λ (z : Numbers). z.receive) counted.others)) r))
-    (λ r. inr (subst (Rose (told old).counts.link) (sym (ap (λ (z : Numbers). z.link) counted.others)) r)) rose
+    subst (Rose (told old).counts.receive) (sym (ap (λ (z : Numbers). z.receive) counted.others)) rose
+
+-- where the connection failed, no status is answered
+no_status : (now : ℕ) (b : Book) (left : List Outcome) (steps : List TurnStep) (status : ℕ) → Steppings now b left Lost steps status → status ≡ 0
+no_status now b left steps status (unasked due) = refl
+no_status now b left steps status (asked first rest is due all) = absurd is
+
+turned_received : (result : Turned) (role : Role) (n m : State) (old new : Told) → Turns result role n m old new → IsAnswer result → new.counts.receive ≡ old.counts.receive
+turned_received (turneds.Served status) role n m old new h answered =
+    let s = h.serves in
+    s.received (λ e. answered (no_status s.now n.book [] s.works.0.steps status (subst (λ z. Steppings s.now n.book [] z s.works.0.steps status) e s.works.0.turns)))
+turned_received turneds.Ticked role n m old new h answered =
+    let s = h.serves in
+    s.received (λ e. true≢false (sym s.works.1 ∙ ap is_tick e))
+turned_received turneds.Closed role n m old new h answered = absurd answered
+turned_received turneds.NoRoom role n m old new h answered = absurd answered
+turned_received turneds.Halted role n m old new h answered = absurd answered
+turned_received turneds.LinkDown role n m old new h answered = absurd answered
+
+answered_first : {S : Type 0} (told : S → Told) (first result : Turned) (shrunk : Shrunk) (n m : State) (old new : S) → Ends told first result shrunk n m old new → IsAnswer result → IsAnswer first
+answered_first told (turneds.Served status) result shrunk n m old new h a = by m.halted (subst IsAnswer h.answers a) where
+  by : (halted : Bool) → IsAnswer (if halted then turneds.Halted else turneds.Served status) → status ≡ 0 → ⊥
+  by true k = absurd k
+  by false k = k
+answered_first told turneds.Ticked result shrunk n m old new h a = tt
+answered_first told turneds.Closed result shrunk n m old new h a = subst IsAnswer h.answers a
+answered_first told turneds.NoRoom result shrunk n m old new h a = subst IsAnswer h.answers a
+answered_first told turneds.Halted result shrunk n m old new h a = subst IsAnswer h.answers a
+answered_first told turneds.LinkDown result shrunk n m old new h a = subst IsAnswer h.answers a
+
+pub turn_received : {S : Type 0} (told : S → Told) (first result : Turned) (role : Role) (shrunk : Shrunk) (n k m : State) (old mid new : S) → Turns first role n k (told old) (told mid)
+    → Ends told first result shrunk k m mid new → Counted (told mid) (told new) → IsAnswer result → (told new).counts.receive ≡ (told old).counts.receive
+turn_received told first result role shrunk n k m old mid new steps ends counted answered =
+    ap (λ (z : Numbers). z.receive) counted.others ∙ turned_received first role n k (told old) (told mid) steps (answered_first told first result shrunk k m mid new ends answered)

@@ -5,7 +5,7 @@ use Rattle.at_base.specs.declared.event.Event.TheVariants as events
 use Rattle.at_base.specs.declared.record.Record.{Record}
 use Rattle.at_model.specs.Book.{Book}
 use Rattle.at_model.specs.Step.{Outcome}
-use Rattle.http_post.specs.Conversations.{Waits, said, unsaid}
+use Rattle.http_post.specs.Conversations.{IsSaid, Waits, said, unsaid}
 use Rattle.journal_at.specs.declared.journal.Append.TheVariants as appends
 use Rattle.journal_at.specs.Format.{frames}
 use Rattle.journal_at.specs.Standing.{Keeps, Makes}
@@ -44,12 +44,13 @@ is_tick (Steps event) = is_tick_event event
 is_tick Lost = false
 is_tick Unread = false
 
--- The interim line is said at most once, before the first step: where the client waits for it, and not elsewhere. Where the
--- machine failed, or had no memory, perhaps it wasn't (RFC 9110, section 10.1.1).
-pub record IsLine (input : Option (List ℕ)) (heard : Bool) (made : List Made) : Type 0 where
+-- The interim line is said at most once, before the first step: where the client waits for it, and not elsewhere, unless
+-- sending it failed, which is counted. Where the connection failed, or there was no memory, perhaps it wasn't tried
+-- (RFC 9110, section 10.1.1).
+pub record IsLine (input : Option (List ℕ)) (heard : Bool) (old new : Told) (made : List Made) : Type 0 where
   pub once : (made ≡ []) ⊎ ((made ≡ said true) ⊎ (made ≡ unsaid))
   pub asked : (bytes : List ℕ) → input ≡ Some bytes → (made ≡ []) ⊎ Waits bytes true
-  pub exact : heard ≡ true → (bytes : List ℕ) → input ≡ Some bytes → (waits : Bool) × (Waits bytes waits × (made ≡ said waits))
+  pub exact : heard ≡ true → (bytes : List ℕ) → input ≡ Some bytes → (waits : Bool) × (Waits bytes waits × IsSaid waits old.counts.link new.counts.link made)
 
 abbrev pub line_of : List Made → List Doing
 line_of made = record { landed = []; first = []; made = made; lost = 0; refused = 0 } ∷ []
@@ -122,10 +123,17 @@ pub record Serves (result : Turned) (role : Role) (input : Option (List ℕ)) (n
   pub now : ℕ
   pub clock : (t : ℕ) → old.clock ≡ Some t → now ≡ t
   pub made : List Made
-  pub line : IsLine input (is_heard meaning) made
-  pub lost : meaning ≡ Lost → Rose old.counts.receive new.counts.receive ⊎ Rose old.counts.link new.counts.link
+  pub line : IsLine input (is_heard meaning) old new made
+  pub lost : meaning ≡ Lost → Rose old.counts.receive new.counts.receive
+  pub received : (meaning ≡ Lost → ⊥) → new.counts.receive ≡ old.counts.receive
   pub works : Works result (line_of made) meaning now n m old new
   pub later : NoLess old.counts new.counts
+
+-- a request was there, and was answered
+abbrev pub IsAnswer : Turned → Type 0
+IsAnswer (turneds.Served status) = status ≡ 0 → ⊥
+IsAnswer turneds.Ticked = Unit {0}
+IsAnswer other = ⊥
 
 -- no effect yet
 abbrev pub calm : State → State

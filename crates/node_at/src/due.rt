@@ -32,6 +32,7 @@ impl Node {
         ensures step { IsDueStep result now item.now (seen self.old) (seen self.new) (S.told site.old) (S.told site.new) }
         ensures node { IsNode (seen self.new) }
         ensures runs { self.new.halted ≡ false }
+        ensures received { (S.told site.new).counts.receive ≡ (S.told site.old).counts.receive }
         ensures role { self.new.role ≡ self.old.role }
         ensures nothing { result ≡ false → site.new ≡ site.old }
     {
@@ -53,6 +54,7 @@ impl Node {
         ensures run { DueRun result now (seen self.old) (seen self.new) (S.told site.old) (S.told site.new) }
         ensures node { IsNode (seen self.new) }
         ensures runs { self.new.halted ≡ false }
+        ensures received { (S.told site.new).counts.receive ≡ (S.told site.old).counts.receive }
         ensures role { self.new.role ≡ self.old.role }
     {
         finds_the_due();

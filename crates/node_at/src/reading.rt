@@ -1,6 +1,6 @@
 //! What a connection asks of a node.
 
-ghost use Rattle.std.specs.Prelude.{◌≡◌, ◌⊎◌, IfOk, List};
+ghost use Rattle.std.specs.Prelude.{◌≡◌, IfOk, List};
 ghost use Rattle.http_post.specs.Conversations.{Hears as Heard};
 ghost use Rattle.site_model.specs.Counts.{Rose};
 ghost use Rattle.site_model.specs.Told.{Made};
@@ -111,14 +111,14 @@ fn said(alloc: Global, role: Role, path: &str, body: &[u8]) -> Result<Asked, All
 }
 
 /// Reads a request of the connection that is open, and what it asks of a node of this role.
-#[tactic(auto, using(crate::proofs::Heard::fault_heard, crate::proofs::Heard::request_heard, crate::proofs::Heard::line_request, crate::proofs::Heard::line_fault, crate::proofs::Heard::fit_fault, crate::proofs::Heard::lost_by, crate::proofs::Turning::no_less_heard, crate::proofs::Heard::not_lost))]
+#[tactic(auto, using(crate::proofs::Heard::fault_heard, crate::proofs::Heard::request_heard, crate::proofs::Heard::line_request, crate::proofs::Heard::line_fault, crate::proofs::Heard::fit_fault, crate::proofs::Heard::lost_by, crate::proofs::Heard::received_by, crate::proofs::Turning::no_less_heard, crate::proofs::Heard::not_lost))]
 pub fn read<S: Site>(alloc: Global, site: &mut S, role: Role) -> Asked
     ensures hears { Hears role (open_input (S.told site.old).link) (meaning_of result) }
     ensures fit { IsFit (meaning_of result) }
-    ensures lost { meaning_of result ≡ Lost
-        → Rose (S.told site.old).counts.receive (S.told site.new).counts.receive ⊎ Rose (S.told site.old).counts.link (S.told site.new).counts.link }
+    ensures lost { meaning_of result ≡ Lost → Rose (S.told site.old).counts.receive (S.told site.new).counts.receive }
+    ensures received { (meaning_of result ≡ Lost → ⊥) → (S.told site.new).counts.receive ≡ (S.told site.old).counts.receive }
     ensures counts { NoLess (S.told site.old).counts (S.told site.new).counts }
-    ensures line { (made : List Made) × (Heard made (S.told site.old) (S.told site.new) × IsLine (open_input (S.told site.old).link) (is_heard (meaning_of result)) made) }
+    ensures line { (made : List Made) × (Heard made (S.told site.old) (S.told site.new) × IsLine (open_input (S.told site.old).link) (is_heard (meaning_of result)) (S.told site.old) (S.told site.new) made) }
 {
     match take_request(alloc, site) {
         Ok(request) => match said(alloc, role, request.path.as_str(), request.body.as_slice()) {

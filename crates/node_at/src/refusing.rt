@@ -56,6 +56,7 @@ impl Node {
         requires runs { self.old.halted ≡ false }
         requires sure { self.old.journal.unsure ≡ false }
         ensures refuses { Refuses result status (option_map (λ bytes. bytes.items) text.now) (seen self.old) (seen self.new) (S.told site.old) (S.told site.new) }
+        ensures received { (S.told site.new).counts.receive ≡ (S.told site.old).counts.receive }
         ensures nothing { result ≡ false → site.new ≡ site.old }
         ensures role { self.new.role ≡ self.old.role }
     {
@@ -74,6 +75,7 @@ impl Node {
         requires runs { self.old.halted ≡ false }
         requires sure { self.old.journal.unsure ≡ false }
         ensures refuses { Refuses true 503 None (seen self.old) (seen self.new) (S.told site.old) (S.told site.new) }
+        ensures received { (S.told site.new).counts.receive ≡ (S.told site.old).counts.receive }
         ensures same { seen self.new ≡ seen self.old }
         ensures role { self.new.role ≡ self.old.role }
     {

@@ -1,6 +1,6 @@
 //! A node's turn: one connection.
 
-ghost use Rattle.std.specs.Prelude.{◌≡◌, ◌⊎◌, [], IsTrue, false, true, option_map};
+ghost use Rattle.std.specs.Prelude.{◌≡◌, [], IsTrue, false, true, option_map};
 ghost use Rattle.http_post.specs.Written.{has_reason};
 ghost use Rattle.model_laws.specs.Sound.{IsSoundEvent};
 ghost use Rattle.site_model.specs.Counts.{Rose};
@@ -10,7 +10,7 @@ ghost use Rattle.node_at.specs.Meanings.Meaning.{Lost, Refused, Steps};
 ghost use Rattle.journal_at.specs.Standing.{Counted};
 ghost use Rattle.node_at.specs.Endings.{Ends, TakesTurn};
 ghost use Rattle.node_at.specs.State.{IsNode, seen};
-ghost use Rattle.node_at.specs.Turns.{Serves, Turns, Works, turned_by};
+ghost use Rattle.node_at.specs.Turns.{IsAnswer, Serves, Turns, Works, turned_by};
 ghost use Rattle.node_at.specs.declared.turn.Turned.TheVariants.{Halted, Served};
 
 use crate::due::DueEnd;
@@ -29,8 +29,8 @@ use std::alloc::Global;
 /// What a turn came to.
 #[derive(Clone, Copy, Debug, PartialEq, Eq)]
 pub enum Turned {
-    /// The request was answered with this status, and what was due was done. The status is 0 where the connection failed
-    /// before a request was there.
+    /// The request was answered with this status, and what was due was done. The status is 0 exactly where a receive failed,
+    /// so that no request was there.
     Served { status: u16 },
     /// The request asked for what was due, and that was done. It was answered 202.
     Ticked,
@@ -69,6 +69,7 @@ impl Node {
         requires node { IsNode (seen self.old) }
         requires runs { self.old.halted ≡ false }
         ensures works { Works result [] (Refused status (option_map (λ bytes. bytes.items) text.now)) now (seen self.old) (seen self.new) (S.told site.old) (S.told site.new) }
+        ensures received { (S.told site.new).counts.receive ≡ (S.told site.old).counts.receive }
         ensures node { IsNode (seen self.new) }
         ensures role { self.new.role ≡ self.old.role }
     {
@@ -89,6 +90,7 @@ impl Node {
         requires node { IsNode (seen self.old) }
         requires runs { self.old.halted ≡ false }
         ensures works { Works result [] (Steps event.now) now (seen self.old) (seen self.new) (S.told site.old) (S.told site.new) }
+        ensures received { (S.told site.new).counts.receive ≡ (S.told site.old).counts.receive }
         ensures node { IsNode (seen self.new) }
         ensures role { self.new.role ≡ self.old.role }
     {
@@ -114,6 +116,7 @@ impl Node {
         requires node { IsNode (seen self.old) }
         requires runs { self.old.halted ≡ false }
         ensures works { Works result [] Lost now (seen self.old) (seen self.new) (S.told site.old) (S.told site.new) }
+        ensures received { (S.told site.new).counts.receive ≡ (S.told site.old).counts.receive }
         ensures node { IsNode (seen self.new) }
         ensures role { self.new.role ≡ self.old.role }
     {
@@ -135,6 +138,7 @@ impl Node {
         requires node { IsNode (seen self.old) }
         requires runs { self.old.halted ≡ false }
         ensures works { Works result [] (meaning_of asked.now) now (seen self.old) (seen self.new) (S.told site.old) (S.told site.new) }
+        ensures received { (S.told site.new).counts.receive ≡ (S.told site.old).counts.receive }
         ensures node { IsNode (seen self.new) }
         ensures role { self.new.role ≡ self.old.role }
     {
@@ -208,11 +212,12 @@ impl Node {
 
     /// Takes one connection: reads its request, does the step of it, answers and posts, and then does one step for each item
     /// that is due, at the time of one look at the clock. At its end the journal is written anew, if that is due.
-    #[tactic(auto, using(crate::proofs::Unanswered::turn_lost))]
+    #[tactic(auto, using(crate::proofs::Unanswered::turn_lost, crate::proofs::Unanswered::turn_received))]
     pub fn turn<S: Site>(&mut self, alloc: Global, site: &mut S) -> Turned
         requires { IsNode (seen self.old) }
         ensures turn { TakesTurn S.told result self.old.role self.new.shrunk (seen self.old) (seen self.new) site.old site.new }
-        ensures unanswered { result ≡ Served 0 → Rose (S.told site.old).counts.receive (S.told site.new).counts.receive ⊎ Rose (S.told site.old).counts.link (S.told site.new).counts.link }
+        ensures unanswered { result ≡ Served 0 → Rose (S.told site.old).counts.receive (S.told site.new).counts.receive }
+        ensures answered { IsAnswer result → (S.told site.new).counts.receive ≡ (S.told site.old).counts.receive }
         ensures halted { self.old.halted ≡ true → (result ≡ Halted) × (site.new ≡ site.old) }
         ensures node { IsNode (seen self.new) }
         ensures role { self.new.role ≡ self.old.role }

@@ -398,8 +398,8 @@ none_came rs steps start sent c h = by h.least where
       }
 
 -- the line that is said, and the answer of a node that is busy
-pub line_answers : (input : Option (List ℕ)) (heard : Bool) (made : List Made) → IsLine input heard made → AllByRecursion IsNoPost (sent_by made)
-line_answers input heard made h =
+pub line_answers : (input : Option (List ℕ)) (heard : Bool) (old new : Told) (made : List Made) → IsLine input heard old new made → AllByRecursion IsNoPost (sent_by made)
+line_answers input heard old new made h =
     ⊎_elim (λ e. subst (λ z. AllByRecursion IsNoPost (sent_by z)) (sym e) tt)
     (λ k. ⊎_elim (λ e. subst (λ z. AllByRecursion IsNoPost (sent_by z)) (sym e) (tt, tt)) (λ e. subst (λ z. AllByRecursion IsNoPost (sent_by z)) (sym e) tt) k) h.once
 

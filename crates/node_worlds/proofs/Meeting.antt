@@ -99,16 +99,16 @@ module _ (bodies : RecordsAreBodies) (grows : GrowsByOne) (shrinks : ShrinksTheS
       by (turneds.Served status) steps ends h =
           let w = steps.serves.works.0 in
           came_cut rs w.steps (told s) l c h.before h.was
-          (came_so_far rs w.steps w.doings n.kept w.ran.are steps.serves.made (line_answers _ (is_heard steps.serves.meaning) steps.serves.made steps.serves.line) (sent_by h.before) (sent_by l) c h.so_far)
+          (came_so_far rs w.steps w.doings n.kept w.ran.are steps.serves.made (line_answers _ (is_heard steps.serves.meaning) _ _ steps.serves.made steps.serves.line) (sent_by h.before) (sent_by l) c h.so_far)
       by turneds.Ticked steps ends h =
           let w = steps.serves.works.0 in
           came_cut rs w.steps (told s) l c h.before h.was
-          (came_so_far rs w.steps w.doings n.kept w.ran.are steps.serves.made (line_answers _ (is_heard steps.serves.meaning) steps.serves.made steps.serves.line) (sent_by h.before) (sent_by l) c h.so_far)
+          (came_so_far rs w.steps w.doings n.kept w.ran.are steps.serves.made (line_answers _ (is_heard steps.serves.meaning) _ _ steps.serves.made steps.serves.line) (sent_by h.before) (sent_by l) c h.so_far)
       by turneds.NoRoom steps ends h =
           let w = steps.serves.works in
           unbusy rs n.book w.steps (told s) l c
           (came_cut rs (w.steps ++ busy n.book w.steps) (told s) l c h.before h.was
-          (came_so_far rs (w.steps ++ busy n.book w.steps) w.doings n.kept w.ran.are steps.serves.made (line_answers _ (is_heard steps.serves.meaning) steps.serves.made steps.serves.line) (sent_by h.before) (sent_by l) c h.so_far))
+          (came_so_far rs (w.steps ++ busy n.book w.steps) w.doings n.kept w.ran.are steps.serves.made (line_answers _ (is_heard steps.serves.meaning) _ _ steps.serves.made steps.serves.line) (sent_by h.before) (sent_by l) c h.so_far))
       by turneds.Halted (inl steps) ends h = absurd (true≢false (sym steps.0 ∙ u.runs))
       by turneds.Halted (inr steps) ends h =
           let v = steps.1.serves in
@@ -117,7 +117,7 @@ module _ (bodies : RecordsAreBodies) (grows : GrowsByOne) (shrinks : ShrinksTheS
           let here : IsUp rs (calm n) (told s) = record { runs = u.runs; records = u.records; holds = u.holds; same = u.same; kept = u.kept } in
           let (from, most) = halted_sent rs v.made v.meaning v.now (calm n) k s mid l here v.works between h.before h.was in
           came_cut rs (v.works.step ∷ []) (told s) l c h.before h.was
-          (halted_by rs v.made (line_answers _ (is_heard v.meaning) v.made v.line) v.works.step (map call_by v.works.step.leaving) (sent_by h.before) (sent_by l) c from most h.so_far.k h.so_far.stands)
+          (halted_by rs v.made (line_answers _ (is_heard v.meaning) _ _ v.made v.line) v.works.step (map call_by v.works.step.leaving) (sent_by h.before) (sent_by l) c from most h.so_far.k h.so_far.stands)
       by turneds.Closed steps ends h = came_cut rs [] (told s) l c h.before h.was (none_came rs [] (sent_by h.before) (sent_by l) c h.so_far)
       by turneds.LinkDown steps ends h = came_cut rs [] (told s) l c h.before h.was (none_came rs [] (sent_by h.before) (sent_by l) c h.so_far)
 

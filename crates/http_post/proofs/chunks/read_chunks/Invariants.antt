@@ -1,4 +1,4 @@
-use Rattle.std.proofs.Common.{ℕ, List, Result, ◌-◌, ◌≤◌, drop, length, min}
+use Rattle.std.proofs.Common.{ℕ, List, Result, ◌-◌, ◌≤◌, drop, length, min, ◌≡◌}
 use Rattle.http_post.specs.Connections.{Leaves, left}
 use Rattle.http_post.specs.declared.refusal.HttpRefusal.{HttpRefusal}
 use Rattle.http_post.specs.Chunks.{Chunks, cut_at_end, prefixed}
@@ -13,7 +13,7 @@ invariant-loop-next g l =
     × ((length l.body.items ≤ 65536)
     × ((raw : List ℕ) → IsRaw (left (g.S.Site.told l.fn.site)) l.fn.bytes.items raw → (out : Result (List ℕ) HttpRefusal)
     → Chunks (cut_at_end raw) (length l.body.items) (drop l.at (seen raw)) out → Chunks (cut_at_end raw) 0 (seen raw) (prefixed l.body.items out)))))
-    × (((g.S.Site.told l.fn.site).counts.receive ≤ (g.S.Site.told l.site).counts.receive) × Leaves g.S.Site.told l.fn.site l.site))
+    × (((g.S.Site.told l.site).counts.receive ≡ (g.S.Site.told l.fn.site).counts.receive) × Leaves g.S.Site.told l.fn.site l.site))
 
 abbrev pub decreases-loop-next : goal.decreases-loop-next
 decreases-loop-next g l = 131072 - l.at

@@ -12,6 +12,6 @@ returns-clause-line g c =
       made,
       (
         heard,
-        line_fault c.take_request.result c.in-Err.refusal (g.S.Site.told c.args.site.now).link made (meaning_of c.without_request.result) c.in-Err.is c.without_request.ensures says,
+        line_fault c.take_request.result c.in-Err.refusal (g.S.Site.told c.args.site.now) (g.S.Site.told c.take_request.new.site) made (meaning_of c.without_request.result) c.in-Err.is c.without_request.ensures says,
       ),
     )

@@ -23,4 +23,5 @@ loop-item-preserved g c =
       c.due_step.ensures.node,
       c.due_step.ensures.runs,
       c.due_step.ensures.role ∙ c.loop-item.invariant.3,
+      c.due_step.ensures.received ∙ c.loop-item.invariant.4,
     )
