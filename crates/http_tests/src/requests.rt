@@ -274,11 +274,13 @@ fn faulty(alloc: Global, k: u32, most: usize) -> Result<String, AllocError> {
     taken(alloc, &mut site)
 }
 
-/// What is taken where the interim line isn't sent.
-fn unheard(alloc: Global) -> Result<String, AllocError> {
+/// What is taken where the interim line isn't sent, and then the k-th call of the connection fails, or none where that is 0.
+fn unheard(alloc: Global, k: u32) -> Result<String, AllocError> {
     let mut site = MemSite::new(alloc);
+    site.give_at_most(23);
     site.connect(WAITING)?;
     site.fail(1);
+    site.fail_link(k);
     taken(alloc, &mut site)
 }
 
@@ -291,8 +293,15 @@ fn a_failure_is_of_the_link(rt: HostRuntime) -> Result<(), Fail> {
     assert_eq!(rt; in_head.as_str(), "link");
     let in_body = faulty(alloc, 5, 23)?;
     assert_eq!(rt; in_body.as_str(), "100 link");
-    let line = unheard(alloc)?;
-    assert_eq!(rt; line.as_str(), "link");
+    let behind_it = unheard(alloc, 5)?;
+    assert_eq!(rt; behind_it.as_str(), "link");
+    Ok(())
+}
+
+#[test]
+fn a_body_is_read_without_the_interim_line(rt: HostRuntime) -> Result<(), Fail> {
+    let text = unheard(rt.alloc(), 0)?;
+    assert_eq!(rt; text.as_str(), "/ he");
     Ok(())
 }
 
