@@ -25,9 +25,13 @@ is_initiator Coordinator = false
 is_initiator Participant = false
 is_initiator Initiator = true
 
+-- the most bytes of a journal's file
+abbrev pub journal_limit : ℕ
+journal_limit = 4294967295
+
 -- its base is `http://` and its address
 abbrev pub service_of : Serving → List InitiatorLine → Serviced
-service_of s lines = record { base = codes "http://" ++ s.listen; role = role_of s.role; lines = lines; turns = s.turns }
+service_of s lines = record { base = codes "http://" ++ s.listen; role = role_of s.role; limit = journal_limit; lines = lines; turns = s.turns }
 
 -- the status that serving ends with
 abbrev pub status_by : Ended → ℕ

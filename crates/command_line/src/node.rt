@@ -81,6 +81,7 @@ pub(crate) fn attend<K: Sink, H: Site>(
         role: role_of(serving.role),
         listen: serving.listen,
         journal: serving.journal,
+        limit: u32::MAX,
         lines,
         turns: serving.turns,
     };

@@ -20,7 +20,7 @@ use Rattle.serving.specs.declared.ended.Ended.TheVariants as endings
 use Rattle.serving.specs.declared.request.Request.{Request}
 use Rattle.serving.specs.declared.request.Request.TheVariants as requests
 use Rattle.serving.specs.Requests.{ended_by, request_of}
-use Rattle.serving.specs.Runs.{Attends, Comes, Does, Row, all_lines, journal_limit}
+use Rattle.serving.specs.Runs.{Attends, Comes, Does, Row, all_lines}
 use Rattle.serving.specs.Since.{ServesStepByStep}
 
 -- A node goes on behind its steps.
@@ -119,6 +119,6 @@ module _ {S : Type 0} (told : S → Told) where
         acts = lived.0;
         node = m;
         lives = lived.1;
-        did = prefixed v.base journal_limit n m up.opened s new lived.0 up.starts lived.1;
+        did = prefixed v.base v.limit n m up.opened s new lived.0 up.starts lived.1;
         runs = runs;
       }

@@ -14,7 +14,7 @@ use Rattle.site_model.specs.Told.{Told}
 use Rattle.site_model.specs.declared.site.AttachFailed.{AttachFailed}
 use Rattle.site_model.specs.declared.site.AttachFailed.TheVariants as attaching
 use Rattle.serving.specs.Lines.{fault_text, up_line}
-use Rattle.serving.specs.Runs.{Attends, Comes, Course, IsCut, IsTold, IsUp, Prints, Row, Serviced, all_lines, attach_ended, journal_limit, start_ended}
+use Rattle.serving.specs.Runs.{Attends, Comes, Course, IsCut, IsTold, IsUp, Prints, Row, Serviced, all_lines, attach_ended, start_ended}
 use Rattle.serving.specs.Sessions.{Cut, Tells}
 use Rattle.serving.specs.declared.ended.Ended.{Ended}
 use Rattle.serving.specs.declared.ended.Ended.TheVariants as endings
@@ -109,7 +109,7 @@ module _ {S : Type 0} (told : S → Told) (v : Serviced) (old new : S) where
   pub opened : (x : Option (List ℕ)) → Attaches {T = Unit {0}} (Ok tt) (told old) (told new) → IsCut Courses x x
   opened x h = record { text = []; ended = None; is = Course.opened h; count = 0; within = omega arith; printed = appends_nothing x }
 
-  module _ (s : S) (fault : StartFault) (h : Attaches {T = Unit {0}} (Ok tt) (told old) (told s)) (c : CannotStart fault journal_limit (told s) (told new)) where
+  module _ (s : S) (fault : StartFault) (h : Attaches {T = Unit {0}} (Ok tt) (told old) (told s)) (c : CannotStart fault v.limit (told s) (told new)) where
     unstarted_cut : (x y : Option (List ℕ)) → Cut (fault_text fault) x y → IsCut Courses x y
     unstarted_cut x y (count, (within, printed)) = record {
       text = fault_text fault;
@@ -123,7 +123,7 @@ module _ {S : Type 0} (told : S → Told) (v : Serviced) (old new : S) where
     unstarted_told : (x y : Option (List ℕ)) → Appends x y (fault_text fault) → IsTold Courses (start_ended fault) x y
     unstarted_told x y printed = record { text = fault_text fault; is = Course.unstarted s fault h c; printed = printed }
 
-  whole_as : (s : S) (fault : StartFault) → Attaches {T = Unit {0}} (Ok tt) (told old) (told s) → CannotStart fault journal_limit (told s) (told new) → (x y : Option (List ℕ))
+  whole_as : (s : S) (fault : StartFault) → Attaches {T = Unit {0}} (Ok tt) (told old) (told s) → CannotStart fault v.limit (told s) (told new) → (x y : Option (List ℕ))
       → Appends x y (fault_text fault) → Prints Courses (start_ended fault) x y
   whole_as s faults.NoMemory h c x y p =
       unstarted_cut s faults.NoMemory h c x y (length {A = ℕ} [], (omega arith, subst (λ z. Appends x y z) (sym (take-length {A = ℕ} [])) p))
@@ -133,7 +133,7 @@ module _ {S : Type 0} (told : S → Told) (v : Serviced) (old new : S) where
   whole_as s faults.Full h c x y p = unstarted_told s faults.Full h c x y p
 
   pub unstarted : (s : S) (fault : StartFault) (e : Ended) (x y : Option (List ℕ)) → Attaches {T = Unit {0}} (Ok tt) (told old) (told s)
-      → CannotStart fault journal_limit (told s) (told new) → Tells (fault_text fault) (start_ended fault) e x y → Prints Courses e x y
+      → CannotStart fault v.limit (told s) (told new) → Tells (fault_text fault) (start_ended fault) e x y → Prints Courses e x y
   unstarted s fault e x y h c (inl (f, printed)) = subst (λ z. Prints Courses z x y) (sym f) (whole_as s fault h c x y printed)
   unstarted s fault e x y h c (inr (inl f, cut)) = subst (λ z. Prints Courses z x y) (sym f) (unstarted_cut s fault h c x y cut)
   unstarted s fault e x y h c (inr (inr f, cut)) = subst (λ z. Prints Courses z x y) (sym f) (unstarted_cut s fault h c x y cut)
@@ -160,11 +160,11 @@ module _ {S : Type 0} (told : S → Told) (v : Serviced) (old new : S) where
     came_up e x y c = came_as e x y (subst (λ z. Prints (Comes told z (all_lines v) n s new) e x y) same c)
 
 pub came_up_from : {S : Type 0} (told : S → Told) (v : Serviced) (old new opened s : S) (r : Result (Unit {0}) AttachFailed) (x : Unit {0}) (base : List ℕ) (node : Node)
-    → Attaches r (told old) (told opened) → r ≡ Ok x → base ≡ v.base → IsStarted base journal_limit (seen node) (told opened) (told s) × (node.role ≡ v.role)
+    → Attaches r (told old) (told opened) → r ≡ Ok x → base ≡ v.base → IsStarted base v.limit (seen node) (told opened) (told s) × (node.role ≡ v.role)
     → (e : Ended) (before after : Option (List ℕ)) → Prints (Comes told node.role (all_lines v) (seen node) s new) e before after → Prints (Course told v old new) e before after
 came_up_from told v old new opened s r x base node h is same (started, role) e before after c =
     came_up told v old new s (seen node) node.role role (record {
       opened = opened;
       attaches = subst (λ z. Attaches z (told old) (told opened)) is h;
-      starts = subst (λ z. IsStarted z journal_limit (seen node) (told opened) (told s)) same started;
+      starts = subst (λ z. IsStarted z v.limit (seen node) (told opened) (told s)) same started;
     }) e before after c

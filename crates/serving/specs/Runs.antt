@@ -56,10 +56,11 @@ pub data Attends {S : Type 0} (told : S → Told) (role : Role) (all : List Init
       → Row told role n s front made text m t → front ++ line ∷ rest ≡ all → Does told role (request_of made line) answer m k t new → ended_by answer ≡ ended
       → Attends told role all n s new (text ++ printed answer k.effects) ended
 
--- What is to be served: at this base, with these lines before so many turns.
+-- What is to be served: at this base, with a journal of at most so many bytes a file, with these lines before so many turns.
 pub record Serviced : Type 0 where
   pub base : List ℕ
   pub role : Role
+  pub limit : ℕ
   pub lines : List InitiatorLine
   pub turns : ℕ
 
@@ -67,15 +68,11 @@ pub record Serviced : Type 0 where
 abbrev pub all_lines : Serviced → List InitiatorLine
 all_lines v = v.lines ++ replicate v.turns lines.Wait
 
--- the most bytes of a journal's file
-abbrev pub journal_limit : ℕ
-journal_limit = 4294967295
-
 -- the node came up, on a machine whose files and listener were opened
 pub record IsUp {S : Type 0} (told : S → Told) (v : Serviced) (n : State) (old new : S) : Type 0 where
   pub opened : S
   pub attaches : Attaches {T = Unit {0}} (Ok tt) (told old) (told opened)
-  pub starts : IsStarted v.base journal_limit n (told opened) (told new)
+  pub starts : IsStarted v.base v.limit n (told opened) (told new)
 
 abbrev pub attach_ended : AttachFailed → Ended
 attach_ended attaching.Disk = endings.DiskFailed
@@ -100,7 +97,7 @@ pub data Course {S : Type 0} (told : S → Told) (v : Serviced) (old new : S) : 
   opened : Attaches {T = Unit {0}} (Ok tt) (told old) (told new) → Course told v old new [] None
   -- the node couldn't start
   unstarted : (opened : S) (fault : StartFault) → Attaches {T = Unit {0}} (Ok tt) (told old) (told opened)
-      → CannotStart fault journal_limit (told opened) (told new) → Course told v old new (fault_text fault) (Some (start_ended fault))
+      → CannotStart fault v.limit (told opened) (told new) → Course told v old new (fault_text fault) (Some (start_ended fault))
   -- it came up, and attends to its lines
   up : {n : State} {s : S} {text : List ℕ} {ended : Option Ended} → IsUp told v n old s → Comes told v.role (all_lines v) n s new text ended
       → Course told v old new text ended

@@ -93,7 +93,7 @@ pub fn serve<K: Sink, H: Site>(
         Ok(base) => base,
         Err(_) => return Ended::NoMemory,
     };
-    match start(alloc, site, &base, service.role, u32::MAX) {
+    match start(alloc, site, &base, service.role, service.limit) {
         Ok(node) => attend(node, alloc, service, sink, site),
         Err(fault) => tell_fault(alloc, &fault, sink),
     }

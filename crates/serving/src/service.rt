@@ -12,6 +12,8 @@ pub struct Service<'a> {
     pub listen: &'a str,
     /// The name of the journal's first file.
     pub journal: &'a str,
+    /// The most bytes of a journal's file.
+    pub limit: u32,
     /// What is done first, line after line.
     pub lines: &'a [InitiatorLine],
     /// How many connections are served behind the lines.

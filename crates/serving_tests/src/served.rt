@@ -19,10 +19,11 @@ const TICK: &[u8] = b"POST /tick HTTP/1.0\r\nContent-Length: 0\r\n\r\n";
 const CREATE: &[u8] =
     b"POST /activation HTTP/1.0\r\nContent-Length: 584\r\n\r\n<s:Envelope xmlns:s='http://schemas.xmlsoap.org/soap/envelope/' xmlns:a='http://www.w3.org/2005/08/addressing'><s:Header><a:Action>http://docs.oasis-open.org/ws-tx/wscoor/2006/06/CreateCoordinationContext</a:Action><a:MessageID>urn:m</a:MessageID><a:ReplyTo><a:Address>http://n1.example/i/1-1</a:Address></a:ReplyTo></s:Header><s:Body><c:CreateCoordinationContext xmlns:c='http://docs.oasis-open.org/ws-tx/wscoor/2006/06'><c:Expires>0</c:Expires><c:CoordinationType>http://docs.oasis-open.org/ws-tx/wsat/2006/06</c:CoordinationType></c:CreateCoordinationContext></s:Body></s:Envelope>";
 
-/// What a node prints, and how it ended.
-fn served<H: Site>(
+/// What a node prints whose journal may have so many bytes, and how it ended.
+fn served_within<H: Site>(
     alloc: Global,
     role: Role,
+    limit: u32,
     input: &[u8],
     turns: u32,
     site: &mut H,
@@ -35,12 +36,24 @@ fn served<H: Site>(
         role,
         listen: "127.0.0.1:9001",
         journal: "j",
+        limit,
         lines: lines.as_slice(),
         turns,
     };
     let mut sink = MemSink::new(alloc);
     let ended = serve(alloc, &service, &mut sink, site);
     Some((ended, sink))
+}
+
+/// What a node prints, and how it ended.
+fn served<H: Site>(
+    alloc: Global,
+    role: Role,
+    input: &[u8],
+    turns: u32,
+    site: &mut H,
+) -> Option<(Ended, MemSink)> {
+    served_within(alloc, role, u32::MAX, input, turns, site)
 }
 
 /// Whether a node over this machine ends so and prints this.
@@ -157,6 +170,21 @@ const FILES: &[(&[u8], &[u8], Ended, &str)] = &[
         "up 7\n",
     ),
 ];
+
+/// How serving ends where a journal may have so many bytes: the mark and the start of a fresh one have ten each.
+fn limited(alloc: Global, limit: u32) -> Option<Ended> {
+    let mut site = MemSite::new(alloc);
+    let (ended, _sink) = served_within(alloc, Role::Coordinator, limit, b"", 0, &mut site)?;
+    Some(ended)
+}
+
+#[test]
+fn a_journal_may_be_full(rt: HostRuntime) -> Result<(), Fail> {
+    let within = limited(rt.alloc(), 21);
+    let full = limited(rt.alloc(), 20);
+    assert!(rt; within == Some(Ended::Done) && full == Some(Ended::Full), "{within:?} {full:?}");
+    Ok(())
+}
 
 /// A machine with these files.
 fn holding(alloc: Global, first: &[u8], second: &[u8]) -> Option<MemSite> {
