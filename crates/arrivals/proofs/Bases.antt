@@ -25,9 +25,7 @@ use Rattle.url.proofs.HostRoundTrip.{All-decimal}
 use Rattle.url.proofs.InputLemmas.{rsplit_once_at}
 use Rattle.url.proofs.SetLemmas.{checked}
 use Rattle.url.proofs.Theorems.{parse_url-serialize_special}
-use Rattle.at_base.specs.declared.target.Target.{Target}
-use Rattle.at_model.specs.Addresses.{target_of}
-use Rattle.at_model.specs.World.{HaveOwnAddresses, Hosts, IsNumber, example_base}
+use Rattle.at_model.specs.World.{HaveOwnAddresses, Hosts, example_base}
 use Rattle.arrivals.specs.Worlds.{HaveOwnBases, IsBase, with_path}
 use Rattle.addressing.specs.Posting.{path_in}
 use Rattle.arrivals.proofs.Paths.{IsPath, named_path}

@@ -1,5 +1,5 @@
 -- A post reaches the book as the world says.
-use Rattle.std.proofs.Common.{◌≡◌, refl, sym, subst, ap, ◌∙◌, ℕ, ◌<◌, ◌^◌, List, ◌++◌, Bool, true, false, cond, ◌||◌, IfSome, Option, Some, None}
+use Rattle.std.proofs.Common.{◌≡◌, refl, sym, subst, ap, ◌∙◌, ℕ, List, ◌++◌, Bool, true, false, cond, ◌||◌, IfSome, Option, Some, None}
 use Rattle.std.specs.Option.{option_and_then, option_map}
 use Rattle.url.specs.Parser.{parse_url}
 use Rattle.xml_grammar.specs.Refusals.{IsShort}

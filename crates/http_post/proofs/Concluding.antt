@@ -1,7 +1,6 @@
 -- What taking a request came to.
-use Rattle.std.proofs.Common.{ℕ, List, Option, Some, [], ◌∷◌, ◌≡◌, ◌≤◌, ◌⊎◌, inl, inr, Bool, true, false, Result, Ok, Err, length, drop, refl, sym, ap, subst, ◌∙◌, arith}
+use Rattle.std.proofs.Common.{ℕ, List, Option, Some, [], ◌≡◌, ◌≤◌, ◌⊎◌, inl, inr, Bool, true, false, Result, Ok, Err, length, drop, refl, sym, ap, subst, ◌∙◌, arith}
 use Rattle.std.specs.Prelude.{option_map}
-use Rattle.std.proofs.lemmas.Bool.{true≢false}
 use Rattle.httparse.specs.Grammar.{print_request}
 use Rattle.site_model.specs.Site.{Counts}
 use Rattle.site_model.specs.Told.{Link, Made, Told}

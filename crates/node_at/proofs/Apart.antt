@@ -3,14 +3,11 @@ use Rattle.std.specs.Prelude.{ℕ, List, [], ◌∷◌, ◌++◌, ◌≡◌, ◌
 use Rattle.std.specs.List.{AllByRecursion}
 use Rattle.std.proofs.Common.{inl, inr, sym, subst, ap, ◌∙◌}
 use Rattle.at_base.specs.Numbers.{Numbers}
-use Rattle.at_base.specs.declared.event.Arrived.{Arrived}
 use Rattle.at_base.specs.declared.event.Event.{Event}
 use Rattle.at_base.specs.declared.event.Moment.{Moment}
-use Rattle.at_base.specs.declared.message.Register.{Register}
 use Rattle.at_base.specs.declared.record.Record.{Record}
 use Rattle.at_model.specs.Book.{Book, Leaf, Transaction, is_id, leaf_id, put_by, transaction_id}
 use Rattle.at_model.specs.Moves.{Change}
-use Rattle.at_model.specs.Register.{Registration}
 use Rattle.at_model.specs.Step.{Outcome, moment_of}
 use Rattle.model_laws.specs.Agreement.{IsIn}
 use Rattle.model_laws.specs.Laws.{HasId, HasLeafId, IsDrawn, MakesUnderTheNextId}
@@ -19,11 +16,10 @@ use Rattle.agreement.specs.Deeds.{IsSameIfLeft}
 use Rattle.agreement.specs.LeafDeeds.{LeafDeed, LeafIdles}
 use Rattle.agreement.specs.LeafDeeds.LeafDeed.{idles, aborts, prepares, leaves as leaves_early, dropped, commits, rolls_back}
 use Rattle.agreement.specs.LeafDeeds.LeafIdles.{rests, registered as has_registered, registers_again, votes_again}
-use Rattle.enlistments.specs.Enrolling.{Enrolls, takes_seat, takes_completion, has_seat, has_completion, refuses}
 use Rattle.enlistments.specs.Moves.{Moved}
 use Rattle.enlistments.specs.Moves.Moved.{transaction_did, leaf_did, activity_did, registered, transaction_made as made_transaction, leaf_made as made_leaf, activity_made as made_activity, answered, rested}
 use Rattle.node_at.specs.Promises.{AreApart}
-use Rattle.node_at.proofs.Plain.{IfThere, found_in, same_id}
+use Rattle.node_at.proofs.Plain.{IfThere, same_id}
 
 -- the ids of a list of which one item is given anew
 put_in : {A : Type 0} (key : A → Numbers) (id : Numbers) (new : Option A) (xs : List A) (i : Numbers) → IfThere (λ x. key x ≡ id) new → IsIn i (map key (put_by key id new xs)) → IsIn i (map key xs)

@@ -1,5 +1,5 @@
 -- Whatever is asked is answered.
-use Rattle.std.proofs.Common.{ℕ, List, [], ◌∷◌, ◌≡◌, ◌⊎◌, inl, inr, nat_eq, refl, sym, ◌∙◌, ap, subst, true≢false, if◌then◌else◌, Bool, true, false}
+use Rattle.std.proofs.Common.{ℕ, List, [], ◌∷◌, ◌≡◌, inl, inr, nat_eq, refl, sym, ◌∙◌, ap, subst, true≢false, if◌then◌else◌, Bool, true, false}
 use Rattle.at_base.specs.declared.event.Event.TheVariants as events
 use Rattle.at_base.specs.declared.outs.Out.{Out}
 use Rattle.at_base.specs.declared.outs.Out.TheVariants as outs

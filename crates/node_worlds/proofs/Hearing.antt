@@ -1,5 +1,5 @@
 -- What was posted is heard as it was posted.
-use Rattle.std.specs.Prelude.{ℕ, List, ◌≡◌, ◌<◌, ◌^◌, Option, Some, Result, Ok, Err}
+use Rattle.std.specs.Prelude.{ℕ, List, ◌≡◌, Option, Some, Result, Ok, Err}
 use Rattle.std.proofs.Common.{refl, sym, subst, ap, ◌∙◌}
 use Rattle.arrivals.specs.Reaching.{reaches}
 use Rattle.arrivals.specs.Worlds.{CanArrive, IsBase, IsProper, Reaches}

@@ -1,5 +1,4 @@
 -- Agreement of what served nodes do.
-use Rattle.std.specs.Prelude.{ℕ, ◌<◌, ◌^◌}
 use Rattle.at_model.specs.World.{World, Hosts, HaveOwnAddresses}
 use Rattle.model_laws.specs.Agreement.{IsAgreed, IsBehindAnswers, IsToldTruly}
 use Rattle.model_laws.specs.Reached.{Reached}

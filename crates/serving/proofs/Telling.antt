@@ -1,5 +1,5 @@
 -- What is printed before the lines, and where there are none.
-use Rattle.std.proofs.Common.{ℕ, List, [], ◌++◌, ◌≡◌, ◌≤◌, ◌+◌, take, length, Option, Some, None, Ok, Err, Result, inl, inr, ap, sym, ◌∙◌, subst, arith, refl}
+use Rattle.std.proofs.Common.{ℕ, List, [], ◌++◌, ◌≡◌, ◌≤◌, ◌+◌, take, length, Option, Some, None, Ok, Err, Result, inl, inr, sym, ◌∙◌, subst, arith, refl}
 use Rattle.std.specs.Io.KnownBytes.{Appends}
 use Rattle.node_at.specs.Started.{IsStarted}
 use Rattle.node_at.specs.Starting.{CannotStart}

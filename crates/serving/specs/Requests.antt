@@ -7,9 +7,7 @@ use Rattle.at_base.specs.declared.outs.Effect.{Effect}
 use Rattle.at_model.specs.World.{nth}
 use Rattle.completion_at.specs.Names.{refusal_of}
 use Rattle.effect_words.specs.Words.{refusal_word}
-use Rattle.node_at.specs.declared.local.Locally.{Locally}
 use Rattle.node_at.specs.declared.local.Locally.TheVariants as locally
-use Rattle.node_at.specs.declared.turn.Turned.{Turned}
 use Rattle.node_at.specs.declared.turn.Turned.TheVariants as turneds
 use Rattle.schedules.specs.declared.initiator_line.InitiatorLine.{InitiatorLine}
 use Rattle.schedules.specs.declared.initiator_line.InitiatorLine.TheVariants as lines

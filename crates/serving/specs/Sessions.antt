@@ -11,7 +11,7 @@ use Rattle.serving.specs.declared.answer.Answer.{Answer}
 use Rattle.serving.specs.declared.ended.Ended.{Ended}
 use Rattle.serving.specs.declared.ended.Ended.TheVariants as endings
 use Rattle.serving.specs.Requests.{adds, ended_by, made_by, printed, request_of}
-use Rattle.serving.specs.Runs.{Does, Row}
+use Rattle.serving.specs.Runs.{Does}
 
 -- the line of this place, from 0 on; behind the last there are turns
 abbrev pub line_at : ℕ → List InitiatorLine → InitiatorLine

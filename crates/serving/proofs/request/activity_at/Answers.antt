@@ -1,4 +1,4 @@
-use Rattle.std.proofs.Common.{sym, ap, ◌∙◌, subst, ℕ, ◌≡◌, None}
+use Rattle.std.proofs.Common.{sym, ap, ◌∙◌}
 use Rattle.std.specs.Prelude.{option_copied}
 use Rattle.serving.specs.Requests.{activity_at, joined}
 use Rattle.serving.proofs.Places.{activity_got, no_activity}

@@ -1,0 +1,45 @@
+//! Runs the lines of a schedule over nodes that serve, each on a machine in memory, and prints what they did, so that
+//! `bench/nodes.py` can compare it with the report of `replay`.
+//!
+//! `schedule_loop` reads the schedule from standard input. A turn's effects come behind its result, and a post is printed with
+//! its sender, its host and its bytes in hexadecimal. Of a turn at which the machine stopped no effects are printed.
+#![tactic(auto)]
+
+mod host;
+mod net;
+
+use crate::net::Net;
+use schedules::line::Line;
+use schedules::reader::read_schedule;
+use std::alloc::{AllocError, Global};
+use std::io::{Read, Write};
+
+fn count_of(lines: &[Line]) -> u8 {
+    match lines.first() {
+        Some(Line::Nodes { count }) => *count,
+        _ => 0,
+    }
+}
+
+/// What the nodes did.
+fn ran(alloc: Global, lines: &[Line]) -> Result<Net, AllocError> {
+    let mut net = Net::begin(alloc, count_of(lines))?;
+    for line in lines {
+        net.takes(alloc, line)?;
+    }
+    Ok(net)
+}
+
+fn main(rt: HostRuntime) -> anyhow::Result<()> {
+    let alloc = rt.alloc();
+    let mut input = Vec::new(alloc);
+    rt.stdin().read_to_end(&mut input)?;
+    let Ok(schedule) = read_schedule(alloc, input.as_slice()) else {
+        println!(rt; "no schedule")?;
+        return Ok(());
+    };
+    let net = ran(alloc, schedule.as_slice())?;
+    print!(rt; "{}", net.text())?;
+    rt.stdout().write_all(net.effects())?;
+    Ok(())
+}
