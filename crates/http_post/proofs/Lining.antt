@@ -1,6 +1,6 @@
 -- A chunk line that is found in what came is that of all that counts.
 use Rattle.std.proofs.Common.{ℕ, List, Option, Some, None, [], ◌∷◌, ◌++◌, ◌≡◌, ◌≤◌, ◌+◌, ◌-◌, inl, inr, min, zero, suc, length, take, drop, refl, sym, subst, ap, ◌∙◌, arith, append_assoc}
-use Rattle.std.proofs.Common.{true, false, Result, Ok, Err}
+use Rattle.std.proofs.Common.{Bool, true, false, Result, Ok, Err}
 use Rattle.std.specs.Prelude.{IfOk, IfErr, OnOk}
 use Rattle.std.proofs.lemmas.Bool.{true≢false}
 use Rattle.std.proofs.lemmas.List.{length-append, length-take, length-drop, drop-append-le}
@@ -8,6 +8,7 @@ use Rattle.httparse.specs.Grammar.{ChunkLine, HasNoChunkLine, MayBecomeChunkLine
 use Rattle.httparse.specs.Spans.{IsChunkLineAt}
 use Rattle.httparse.proofs.ChunkLemmas.{ReadsChunkLine-append}
 use Rattle.http_post.specs.declared.refusal.HttpRefusal.{HttpRefusal}
+use Rattle.http_post.specs.Causes.{HasLinkCause, UnlessLink}
 use Rattle.http_post.specs.Lines.{IsLast, IsNoLine}
 use Rattle.http_post.specs.declared.refusal.HttpRefusal.TheVariants.{BadRequest, ContentTooLarge, Link, LengthRequired, MethodNotAllowed, NoMemory, UnsupportedMediaType}
 use Rattle.http_post.specs.Chunks.{cut_at_end}
@@ -140,3 +141,46 @@ still_within old new at e le = omega (arith, le, ap length e, length-take 131072
 pub on_ok : {T E : Type 0} (r : Result T E) (P : T → Type 0) (Q : Type 0) → IfOk r P → ((x : T) → P x → Q) → OnOk r Q
 on_ok (Ok x) P Q h k = k x h
 on_ok (Err e) P Q h k = tt
+
+-- what failed where the body broke off in a line
+received : {P : Type 0} (r : HttpRefusal) → is_cut r ≡ true → UnlessLink r P → P
+received Link cut h = absurd (true≢false (sym cut))
+received NoMemory cut h = absurd (true≢false (sym cut))
+received BadRequest cut h = h
+received MethodNotAllowed cut h = h
+received LengthRequired cut h = h
+received ContentTooLarge cut h = h
+received UnsupportedMediaType cut h = h
+
+unless : {P : Type 0} (e : HttpRefusal) → P → UnlessLink e P
+unless Link h = tt
+unless NoMemory h = h
+unless BadRequest h = h
+unless MethodNotAllowed h = h
+unless LengthRequired h = h
+unless ContentTooLarge h = h
+unless UnsupportedMediaType h = h
+
+fault_or : {T : Type 0} → Result T HttpRefusal → HttpRefusal
+fault_or (Ok x) = NoMemory
+fault_or (Err e) = e
+
+still_cut : (rest : List ℕ) (refusal e : HttpRefusal) → is_cut refusal ≡ true → IsNoLine rest refusal e → is_cut e ≡ true
+still_cut rest refusal e cut (inl (never, is)) = ap is_cut is
+still_cut rest refusal e cut (inr (none, (may, is))) = ap is_cut is ∙ cut
+
+pub last_cause : {T V : Type 0} (before now : ℕ) (refusal : HttpRefusal) → HasLinkCause {T = V} before now (Err refusal) → (rest : List ℕ) (X : T → Type 0) (r : Result T HttpRefusal)
+    → IfOk r (λ line. (is_cut refusal ≡ true) × X line) → IfErr r (IsLast rest refusal) → HasLinkCause before now r
+unfolding fault_or
+last_cause {T} {V} before now refusal cause rest X (Ok x) (cut, line) last =
+    record { later = cause.later; failed = (λ is. absurd (true≢false (ap {A = Result T HttpRefusal} is_taken is))); quiet = received refusal cut cause.refused; refused = tt }
+  where
+    is_taken : Result T HttpRefusal → Bool
+    is_taken (Ok x) = true
+    is_taken (Err e) = false
+last_cause {T} {V} before now refusal cause rest X (Err e) line (inl (machine, is)) =
+    subst (λ z. HasLinkCause {T = T} before now (Err z)) (sym is)
+    (record { later = cause.later; failed = (λ same. cause.failed (ap {A = Result T HttpRefusal} {B = Result V HttpRefusal} (λ z. Err (fault_or z)) same)); quiet = tt; refused = cause.refused })
+last_cause {T} {V} before now refusal cause rest X (Err e) line (inr (cut, none)) =
+    let same : now ≡ before = received refusal cut cause.refused in
+    record { later = cause.later; failed = (λ is. absurd (true≢false (sym (still_cut rest refusal e cut none) ∙ ap {A = Result T HttpRefusal} (λ z. is_cut (fault_or z)) is))); quiet = tt; refused = unless e same }

@@ -1,4 +1,4 @@
-use Rattle.std.proofs.Common.{arith, ap, length, ◌<◌, min}
+use Rattle.std.proofs.Common.{◌∙◌, arith, ap, length, ◌<◌, min}
 use Rattle.http_post.proofs.Reading.{fill_fault}
 use Rattle.http_post.proofs.chunks.fill.Goals as goal
 
@@ -11,5 +11,5 @@ returns-in-Err-clause-fault g c =
 pub loop-site-preserved : goal.loop-site-preserved
 loop-site-preserved g c = (
   (λ raw k. c.in_default.ensures.kept raw (c.loop-site.invariant.0 raw k)),
-  (omega (arith, c.loop-site.invariant.1.0, c.more.ensures.cause.later), (λ first h. c.more.ensures.leaves first (c.loop-site.invariant.1.1 first h))),
+  (c.in_default.ensures.cause.quiet ∙ c.loop-site.invariant.1.0, (λ first h. c.more.ensures.leaves first (c.loop-site.invariant.1.1 first h))),
 )

@@ -1,5 +1,4 @@
-use Rattle.std.proofs.Common.{arith}
-use Rattle.std.proofs.Common.{Some, None}
+use Rattle.std.proofs.Common.{◌∙◌, Some, None}
 use Rattle.http_post.proofs.Chunking.{all_fault, all_read, one_further, place_is, step_is}
 use Rattle.http_post.proofs.chunks.read_chunks.Goals as goal
 
@@ -16,7 +15,7 @@ loop-next-preserved g c = (
       ),
     ),
   ),
-  (omega (arith, c.loop-next.invariant.1.0, c.read_chunk.ensures.cause.later), (λ first h. c.read_chunk.ensures.leaves first (c.loop-next.invariant.1.1 first h))),
+  (c.in-Ok.ensures.cause.quiet ∙ c.loop-next.invariant.1.0, (λ first h. c.read_chunk.ensures.leaves first (c.loop-next.invariant.1.1 first h))),
 )
 
 -- src/chunks.rt:193:21

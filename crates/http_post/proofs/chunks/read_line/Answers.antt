@@ -1,11 +1,12 @@
-use Rattle.std.proofs.Common.{ℕ, List, true, ◌≡◌, ◌+◌, arith, ap, length, ◌≤◌, min, drop, take}
+use Rattle.std.proofs.Common.{ℕ, List, Err, subst, true, ◌≡◌, ◌+◌, ◌∙◌, arith, ap, length, ◌≤◌, min, drop, take}
+use Rattle.http_post.specs.Causes.{HasLinkCause}
 use Rattle.http_post.specs.Connections.{left}
 use Rattle.http_post.specs.Chunks.{cut_at_end}
 use Rattle.http_post.specs.Lines.{IsLast, IsNoLine}
 use Rattle.http_post.specs.Raw.{IsFault, IsRaw, is_cut, seen}
 use Rattle.httparse.specs.Grammar.{ChunkLine}
 use Rattle.httparse.specs.Spans.{IsChunkLineAt}
-use Rattle.http_post.proofs.Lining.{if_err, if_ok, last_kept, on_ok, last_fault, last_of, last_seen, line_of, line_seen, line_within, never_of, never_seen, still_within}
+use Rattle.http_post.proofs.Lining.{if_err, if_ok, last_cause, last_kept, on_ok, last_fault, last_of, last_seen, line_of, line_seen, line_within, never_of, never_seen, still_within}
 use Rattle.http_post.proofs.chunks.read_line.Goals.{then-is_worth+in-More, else-is_worth}
 use Rattle.http_post.proofs.chunks.read_line.Goals as goal
 
@@ -70,5 +71,10 @@ loop-bytes-preserved g c =
         (λ raw k. c.in_default.ensures.kept raw (c.loop-bytes.invariant.0.0 raw k)),
         (tried, omega (arith, c.in_default.ensures.grown, c.loop-bytes.invariant.0.1.1)),
       ),
-      (omega (arith, c.loop-bytes.invariant.1.0, c.more.ensures.cause.later), (λ first h. c.more.ensures.leaves first (c.loop-bytes.invariant.1.1 first h))),
+      (c.in_default.ensures.cause.quiet ∙ c.loop-bytes.invariant.1.0, (λ first h. c.more.ensures.leaves first (c.loop-bytes.invariant.1.1 first h))),
     )
+
+pub returns-in-Err-clause-cause : goal.returns-in-Err-clause-cause
+returns-in-Err-clause-cause g c =
+    last_cause (g.S.Site.told c.args.site.now).counts.receive (g.S.Site.told c.more.new.site).counts.receive c.in-Err.refusal (subst (λ n. HasLinkCause {T = Unit {0}} n (g.S.Site.told c.more.new.site).counts.receive (Err c.in-Err.refusal)) c.loop-bytes.invariant.1.0 c.in-Err.ensures.cause) (drop c.args.at (take 131072 c.as_slice-in-Err.result.now)) _ c.last_line.result
+    c.last_line.ensures.line c.last_line.ensures.fault

@@ -1,4 +1,4 @@
-use Rattle.std.proofs.Common.{arith, None, Some}
+use Rattle.std.proofs.Common.{◌∙◌, arith, None, Some}
 use Rattle.http_post.specs.Connections.{left}
 use Rattle.http_post.proofs.Trailing.{after_byte, goes_on, goes_out, goes_short}
 use Rattle.http_post.proofs.trailers.read_trailers.Goals as goal
@@ -18,7 +18,7 @@ loop-refusal-preserved g c = (
       goes_on _ _ _ c.fill.new.bytes.items _ c.loop-refusal.at c.loop-refusal.line c.loop-refusal.invariant.0.1.1 (λ raw k. c.in-Ok.ensures.kept raw (c.loop-refusal.invariant.0.0 raw k)) c.in-Ok.ensures.full c.in-Some.next (after_byte _ _ _ c.index.result.now (Some c.in-Some.next) c.in-Ok.ensures.full c.index.ensures c.in-Some.ensures),
     ),
   ),
-  (omega (arith, c.loop-refusal.invariant.1.0, c.fill.ensures.cause.later), (λ first h. c.fill.ensures.leaves first (c.loop-refusal.invariant.1.1 first h))),
+  (c.in-Ok.ensures.cause.quiet ∙ c.loop-refusal.invariant.1.0, (λ first h. c.fill.ensures.leaves first (c.loop-refusal.invariant.1.1 first h))),
 )
 
 -- src/trailers.rt:55:29
