@@ -242,7 +242,7 @@ pub serves_so : (result : Turned) (role : Role) (meaning : Meaning) (now : ℕ) 
     → (meaning ≡ Lost → Rose old.counts.receive heard.counts.receive) → ((meaning ≡ Lost → ⊥) → heard.counts.receive ≡ old.counts.receive)
     → (made : List Made) × (Heard made old heard × IsLine (open_input old.link) (is_heard meaning) old heard made) → NoLess old.counts heard.counts → Reads now heard timed
     → Works result [] meaning now n m timed done → done.counts.receive ≡ timed.counts.receive → Closes done new → Serves result role (open_input old.link) n m old new
-serves_so result role meaning now n m old heard timed done new h fit lost received (made, (says, line)) later reads works none closes =
+serves_so result role meaning now n m old heard timed done new h fit lost received (made, (says, line)) later reads works since closes =
     let read = no_less_same heard.counts timed.counts reads.counts in
     let begun = no_less_then old.counts heard.counts timed.counts later read in
     let closed = no_less_same done.counts new.counts closes.counts in
@@ -257,7 +257,7 @@ serves_so result role meaning now n m old heard timed done new h fit lost receiv
       made = made;
       line = line_later (open_input old.link) (is_heard meaning) old heard new made line rest.link;
       lost = λ e. still_rose _ _ _ (lost e) rest.receive;
-      received = λ e. ap (λ (z : Numbers). z.receive) closes.counts ∙ none ∙ ap (λ (z : Numbers). z.receive) reads.counts ∙ received e;
+      received = λ e. ap (λ (z : Numbers). z.receive) closes.counts ∙ since ∙ ap (λ (z : Numbers). z.receive) reads.counts ∙ received e;
       works = works_last result (line_of made) meaning now n m old done new
           (works_behind result made meaning now n m old timed done line_said begun works) closes.still closed;
       later = no_less_then old.counts heard.counts new.counts later rest;

@@ -1,5 +1,6 @@
 use Rattle.node_at.specs.Asking.{meaning_of}
-use Rattle.node_at.proofs.Heard.{fault_heard, line_fault}
+use Rattle.node_at.specs.Turns.{is_heard}
+use Rattle.node_at.proofs.Heard.{fault_heard, line_fault, line_request}
 use Rattle.node_at.proofs.reading.read.Goals as goal
 
 pub returns-clause-hears : goal.returns-clause-hears
@@ -13,5 +14,15 @@ returns-clause-line g c =
       (
         heard,
         line_fault c.take_request.result c.in-Err.refusal (g.S.Site.told c.args.site.now) (g.S.Site.told c.take_request.new.site) made (meaning_of c.without_request.result) c.in-Err.is c.without_request.ensures says,
+      ),
+    )
+
+pub returns-in-Ok-said-clause-line : goal.returns-in-Ok-said-clause-line
+returns-in-Ok-said-clause-line g c =
+    let (made, (heard, says)) = c.take_request.ensures.hears in (
+      made,
+      (
+        heard,
+        line_request c.take_request.result c.in-Ok.request (g.S.Site.told c.args.site.now) (g.S.Site.told c.take_request.new.site) made (is_heard (meaning_of c.in-Ok-said.asked)) c.in-Ok.is says,
       ),
     )
