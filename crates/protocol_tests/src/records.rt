@@ -7,40 +7,55 @@ use at_base::well_formed::is_well_formed;
 use std::alloc::{AllocError, Global};
 use std::test::Fail;
 
-// The identifiers were computed by Python's uuid.uuid5(uuid.NAMESPACE_URL, name).
+/// Names, and the identifiers of messages that Python's uuid.uuid5(uuid.NAMESPACE_URL, name) gives.
+const MESSAGE_IDS: &[(&str, &str)] = &[
+    ("", "urn:uuid:1b4db7eb-4057-5ddf-91e0-36dec72071f5"),
+    (
+        "http://n1.example/i/1-1#create",
+        "urn:uuid:f3ce039b-8bc3-5b00-94b2-fe179860606f",
+    ),
+    (
+        "http://n1.example/i/1-1#work-1",
+        "urn:uuid:979edfd3-ad30-5c3d-991d-b0aff7640695",
+    ),
+    (
+        "http://n3.example/p/d/1-1#register",
+        "urn:uuid:b62e7280-0c3c-5e24-8cfd-269197d5ce42",
+    ),
+];
+
+fn has_message_id(alloc: Global, name: &str, id: &str) -> Result<bool, AllocError> {
+    let found = message_id(alloc, name.as_bytes())?;
+    Ok(found.as_str() == id)
+}
+
 #[test]
 fn message_ids(rt: HostRuntime) -> Result<(), Fail> {
-    let table = [
-        ("", "urn:uuid:1b4db7eb-4057-5ddf-91e0-36dec72071f5"),
-        (
-            "http://n1.example/i/1-1#create",
-            "urn:uuid:f3ce039b-8bc3-5b00-94b2-fe179860606f",
-        ),
-        (
-            "http://n1.example/i/1-1#work-1",
-            "urn:uuid:979edfd3-ad30-5c3d-991d-b0aff7640695",
-        ),
-        (
-            "http://n3.example/p/d/1-1#register",
-            "urn:uuid:b62e7280-0c3c-5e24-8cfd-269197d5ce42",
-        ),
-    ];
-    for (name, id) in table {
-        assert_eq!(rt;
-            message_id(rt.alloc(), name.as_bytes())?.as_str(),
-            id,
-            "at {name}"
-        );
+    for (name, id) in MESSAGE_IDS {
+        let same = has_message_id(rt.alloc(), name, id)?;
+        assert!(rt; same, "at {name}");
     }
     Ok(())
 }
 
-/// A shared text, a copy of it that is made longer, and the text behind that.
-fn shared_texts(alloc: Global) -> Result<bool, AllocError> {
-    let text = Text::copied(alloc, "ab")?.into_shared(alloc)?;
+fn shared(alloc: Global) -> Result<Text, AllocError> {
+    Text::copied(alloc, "ab")?.into_shared(alloc)
+}
+
+/// Whether a copy of the text that is made longer says ab and c.
+fn is_made_longer(text: &Text) -> Result<bool, AllocError> {
     let mut copy = text.clone()?;
     copy.push_str("c")?;
-    Ok(text.as_str() == "ab" && copy.as_str() == "abc" && text.into_shared(alloc)?.as_str() == "ab")
+    Ok(copy.as_str() == "abc")
+}
+
+/// A shared text, a copy of it that is made longer, and the text behind that.
+fn shared_texts(alloc: Global) -> Result<bool, AllocError> {
+    let text = shared(alloc)?;
+    let longer = is_made_longer(&text)?;
+    let same = text.as_str() == "ab";
+    let again = text.into_shared(alloc)?;
+    Ok(longer && same && again.as_str() == "ab")
 }
 
 #[test]
@@ -50,50 +65,76 @@ fn texts_that_share(rt: HostRuntime) -> Result<(), Fail> {
     Ok(())
 }
 
+const IDS: &[&str] = &["1-1", "1-4294967295", "4294967295-1", "10-20"];
+
+const NO_IDS: &[&str] = &[
+    "",
+    "-",
+    "1",
+    "1-",
+    "-1",
+    "0-1",
+    "1-0",
+    "01-1",
+    "1-01",
+    "+1-1",
+    "1-+1",
+    "1-1-1",
+    "1--1",
+    " 1-1",
+    "1-1 ",
+    "1_1",
+    "4294967296-1",
+    "1-4294967296",
+    "1-99999999999999999999",
+    "a-1",
+    "1-\u{661}",
+];
+
+/// Whether the id is put behind an x as this text.
+fn is_put(alloc: Global, id: Id, text: &str) -> Result<bool, AllocError> {
+    let mut out = Vec::new(alloc);
+    out.push(b'x')?;
+    id.put(alloc, &mut out)?;
+    Ok(out.as_slice().get(1..) == Some(text.as_bytes()))
+}
+
+/// Whether the text is that of an id, which is put as it was.
+fn is_id(alloc: Global, text: &str) -> Result<bool, AllocError> {
+    match Id::read(text.as_bytes()) {
+        Some(id) => is_put(alloc, id, text),
+        None => Ok(false),
+    }
+}
+
 #[test]
 fn ids_at_their_bounds(rt: HostRuntime) -> Result<(), Fail> {
-    for text in ["1-1", "1-4294967295", "4294967295-1", "10-20"] {
-        let Some(id) = Id::read(text.as_bytes()) else {
-            return Err(Fail::new("no id"));
-        };
-        let mut out = vec![in rt.alloc(); b'x']?;
-        id.put(rt.alloc(), &mut out)?;
-        assert!(rt; &out[1..] == text.as_bytes(), "at {text}");
+    for text in IDS {
+        let good = is_id(rt.alloc(), text)?;
+        assert!(rt; good, "at {text}");
     }
-    for text in [
-        "",
-        "-",
-        "1",
-        "1-",
-        "-1",
-        "0-1",
-        "1-0",
-        "01-1",
-        "1-01",
-        "+1-1",
-        "1-+1",
-        "1-1-1",
-        "1--1",
-        " 1-1",
-        "1-1 ",
-        "1_1",
-        "4294967296-1",
-        "1-4294967296",
-        "1-99999999999999999999",
-        "a-1",
-        "1-\u{661}",
-    ] {
-        assert!(rt; Id::read(text.as_bytes()).is_none(), "at {text}");
-    }
-    assert!(rt; Id::read(&[0x31, 0x2d, 0xff]).is_none());
     Ok(())
 }
 
+#[test]
+fn texts_of_no_id(rt: HostRuntime) -> Result<(), Fail> {
+    for text in NO_IDS {
+        let absent = Id::read(text.as_bytes()).is_none();
+        assert!(rt; absent, "at {text}");
+    }
+    let absent = Id::read(&[0x31, 0x2d, 0xff]).is_none();
+    assert!(rt; absent);
+    Ok(())
+}
+
+fn repeated(alloc: Global, letter: &str, count: usize) -> Result<Text, AllocError> {
+    Ok(Text::from_string(letter.repeat(alloc, count)?))
+}
+
 fn endpoint(alloc: Global, address: usize, params: usize) -> Result<Epr, AllocError> {
-    Ok(Epr {
-        address: Text::from_string("a".repeat(alloc, address)?),
-        params: Text::from_string("p".repeat(alloc, params)?),
-    })
+    let address = repeated(alloc, "a", address)?;
+    let params = repeated(alloc, "p", params)?;
+    Ok(Epr { address, params })
 }
 
 fn seats(alloc: Global, numbers: &[u16]) -> Result<Seats, AllocError> {
@@ -123,12 +164,19 @@ fn voted(alloc: Global, numbers: &[u16]) -> Result<Record, AllocError> {
     })
 }
 
-fn prepared(alloc: Global, epr: Epr, key: &str, value: usize) -> Result<Record, AllocError> {
+fn prepared(
+    alloc: Global,
+    coordinator: Epr,
+    key: &str,
+    value: usize,
+) -> Result<Record, AllocError> {
+    let key = Text::copied(alloc, key)?;
+    let value = repeated(alloc, "v", value)?;
     Ok(Record::LeafPrepared {
         id: Id::new(1, 1),
-        coordinator: epr,
-        key: Text::copied(alloc, key)?,
-        value: Text::from_string("v".repeat(alloc, value)?),
+        coordinator,
+        key,
+        value,
     })
 }
 
@@ -208,6 +256,11 @@ fn numbered(alloc: Global, first: u16, count: u16) -> Result<Vec<u16>, AllocErro
     Ok(numbers)
 }
 
+fn has_run(alloc: Global, first: u16, count: u16) -> Result<bool, AllocError> {
+    let numbers = numbered(alloc, first, count)?;
+    has_seats(alloc, numbers.as_slice())
+}
+
 /// The first number and how many there are, and whether a decision may have them.
 const RUNS: &[(u16, u16, bool)] = &[
     (1, 512, true),
@@ -222,10 +275,14 @@ const DISORDERED: &[[u16; 2]] = &[[0, 1], [1, 1], [2, 1]];
 #[test]
 fn seats_at_their_bounds(rt: HostRuntime) -> Result<(), Fail> {
     for (first, count, good) in RUNS {
-        let numbers = numbered(rt.alloc(), *first, *count)?;
-        let found = has_seats(rt.alloc(), numbers.as_slice())?;
+        let found = has_run(rt.alloc(), *first, *count)?;
         assert!(rt; found == *good, "at {first} and {count}");
     }
+    Ok(())
+}
+
+#[test]
+fn seats_in_disorder(rt: HostRuntime) -> Result<(), Fail> {
     for numbers in DISORDERED {
         let found = has_seats(rt.alloc(), numbers.as_slice())?;
         assert!(rt; !found);
