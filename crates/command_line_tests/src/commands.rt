@@ -15,14 +15,30 @@ xmlns:wsat=\"http://docs.oasis-open.org/ws-tx/wsat/2006/06\">\
 <wsa:ReplyTo><wsa:Address>http://www.w3.org/2005/08/addressing/none</wsa:Address></wsa:ReplyTo></s:Header>\
 <s:Body><wsat:Rollback/></s:Body></s:Envelope>\n";
 
-const FAULT_HEADER: &str = "fault UnknownTransaction -> None\n\
+const UNKNOWN: &str = "fault UnknownTransaction -> None\n\
 <s:Envelope xmlns:s=\"http://schemas.xmlsoap.org/soap/envelope/\" \
 xmlns:wsa=\"http://www.w3.org/2005/08/addressing\" \
 xmlns:wsat=\"http://docs.oasis-open.org/ws-tx/wsat/2006/06\">\
 <s:Header><wsa:To>http://n3.example/p/v/1-1</wsa:To>\
-<wsa:Action>http://docs.oasis-open.org/ws-tx/wsat/2006/06/fault</wsa:Action>";
+<wsa:Action>http://docs.oasis-open.org/ws-tx/wsat/2006/06/fault</wsa:Action></s:Header>\
+<s:Body><s:Fault><faultcode>wsat:UnknownTransaction</faultcode><faultstring>unknown transaction</faultstring>\
+<detail><wsat:UnknownTransaction/></detail></s:Fault></s:Body></s:Envelope>\n";
 
-const FAULT_BODY: &str = "</s:Header>\
+const UNKNOWN_NAMED: &str = "fault UnknownTransaction -> None\n\
+<s:Envelope xmlns:s=\"http://schemas.xmlsoap.org/soap/envelope/\" \
+xmlns:wsa=\"http://www.w3.org/2005/08/addressing\" \
+xmlns:wsat=\"http://docs.oasis-open.org/ws-tx/wsat/2006/06\">\
+<s:Header><wsa:To>http://n3.example/p/v/1-1</wsa:To>\
+<wsa:Action>http://docs.oasis-open.org/ws-tx/wsat/2006/06/fault</wsa:Action><wsa:RelatesTo>urn:a</wsa:RelatesTo></s:Header>\
+<s:Body><s:Fault><faultcode>wsat:UnknownTransaction</faultcode><faultstring>unknown transaction</faultstring>\
+<detail><wsat:UnknownTransaction/></detail></s:Fault></s:Body></s:Envelope>\n";
+
+const UNKNOWN_UNNAMED: &str = "fault UnknownTransaction -> None\n\
+<s:Envelope xmlns:s=\"http://schemas.xmlsoap.org/soap/envelope/\" \
+xmlns:wsa=\"http://www.w3.org/2005/08/addressing\" \
+xmlns:wsat=\"http://docs.oasis-open.org/ws-tx/wsat/2006/06\">\
+<s:Header><wsa:To>http://n3.example/p/v/1-1</wsa:To>\
+<wsa:Action>http://docs.oasis-open.org/ws-tx/wsat/2006/06/fault</wsa:Action><wsa:RelatesTo/></s:Header>\
 <s:Body><s:Fault><faultcode>wsat:UnknownTransaction</faultcode><faultstring>unknown transaction</faultstring>\
 <detail><wsat:UnknownTransaction/></detail></s:Fault></s:Body></s:Envelope>\n";
 
@@ -35,8 +51,8 @@ xmlns=\"http://www.w3.org/2005/08/addressing\"><e:Header>{headers}</e:Header><e:
     )
 }
 
-/// A notification to a path from a path, with more header blocks behind the From.
-fn notice(
+/// A notification to a path from an address, with more header blocks behind the From.
+pub fn notice(
     alloc: Global,
     to: &str,
     from: &str,
@@ -49,50 +65,6 @@ fn notice(
     )?;
     let body = format!(in alloc; "<t:{name}/>")?;
     sealed(alloc, headers.as_str(), body.as_str())
-}
-
-/// A Prepared of a participant of this kind.
-pub fn prepared(alloc: Global, kind: &str, more: &str) -> Result<String, AllocError> {
-    let to = format!(in alloc; "/c/{kind}/1-1/1")?;
-    let from = format!(in alloc; "http://n3.example/p/{kind}/1-1")?;
-    notice(alloc, to.as_str(), from.as_str(), "Prepared", more)
-}
-
-/// A message with this action and body, and other header blocks.
-fn message(alloc: Global, action: &str, more: &str, body: &str) -> Result<String, AllocError> {
-    let headers = format!(in alloc;
-        "<Action>http://docs.oasis-open.org/ws-tx/{action}</Action>{more}"
-    )?;
-    sealed(alloc, headers.as_str(), body)
-}
-
-#[test]
-fn worked_cells(rt: HostRuntime) -> Result<(), Fail> {
-    let durable = prepared(rt.alloc(), "d", "")?;
-    let volatile = prepared(rt.alloc(), "v", "")?;
-    let named = prepared(rt.alloc(), "v", "<MessageID> urn:a </MessageID>")?;
-    let unnamed = prepared(rt.alloc(), "v", "<MessageID> </MessageID>")?;
-    let fault = format!(in rt.alloc(); "{FAULT_HEADER}{FAULT_BODY}")?;
-    let named_fault = format!(in rt.alloc();
-        "{FAULT_HEADER}<wsa:RelatesTo>urn:a</wsa:RelatesTo>{FAULT_BODY}"
-    )?;
-    let unnamed_fault = format!(in rt.alloc(); "{FAULT_HEADER}<wsa:RelatesTo/>{FAULT_BODY}")?;
-    for (line, input, status, printed) in [
-        ("cell --state None", &durable, 0, ROLLBACK),
-        ("cell --state None", &volatile, 0, fault.as_str()),
-        ("cell --state None", &named, 0, named_fault.as_str()),
-        ("cell --state None", &unnamed, 0, unnamed_fault.as_str()),
-        ("cell --state Preparing", &durable, 0, "vote -> Prepared\n"),
-        (
-            "cell --state Registering",
-            &durable,
-            3,
-            "refused 15 NoState\n",
-        ),
-    ] {
-        assert!(rt; prints(rt, line, input.as_bytes(), printed)? == (status, true));
-    }
-    Ok(())
 }
 
 const COMMITTED: &str = "send Committed -> Done\n\
@@ -113,19 +85,226 @@ xmlns:wscoor=\"http://docs.oasis-open.org/ws-tx/wscoor/2006/06\">\
 <s:Body><s:Fault><faultcode>wscoor:InvalidState</faultcode><faultstring>invalid state</faultstring>\
 <detail><wscoor:InvalidState/></detail></s:Fault></s:Body></s:Envelope>\n";
 
-/// A transaction that committed says so again, and can't be rolled back.
-#[test]
-fn cells_of_what_is_done(rt: HostRuntime) -> Result<(), Fail> {
-    for (name, printed) in [("Commit", COMMITTED), ("Rollback", INVALID_STATE)] {
-        let input = notice(
-            rt.alloc(),
-            "/completion/1-1",
-            "http://n1.example/i/1-1",
-            name,
+/// Commands, notifications (the path that they go to, their sender, their name, more header blocks), the status, and what is
+/// printed.
+const NOTICES: &[(&str, [&str; 4], u8, &str)] = &[
+    (
+        "cell --state None",
+        ["/c/d/1-1/1", "http://n3.example/p/d/1-1", "Prepared", ""],
+        0,
+        ROLLBACK,
+    ),
+    (
+        "cell --state None",
+        ["/c/v/1-1/1", "http://n3.example/p/v/1-1", "Prepared", ""],
+        0,
+        UNKNOWN,
+    ),
+    (
+        "cell --state None",
+        [
+            "/c/v/1-1/1",
+            "http://n3.example/p/v/1-1",
+            "Prepared",
+            "<MessageID> urn:a </MessageID>",
+        ],
+        0,
+        UNKNOWN_NAMED,
+    ),
+    (
+        "cell --state None",
+        [
+            "/c/v/1-1/1",
+            "http://n3.example/p/v/1-1",
+            "Prepared",
+            "<MessageID> </MessageID>",
+        ],
+        0,
+        UNKNOWN_UNNAMED,
+    ),
+    (
+        "cell --state Preparing",
+        ["/c/d/1-1/1", "http://n3.example/p/d/1-1", "Prepared", ""],
+        0,
+        "vote -> Prepared\n",
+    ),
+    (
+        "cell --state Registering",
+        ["/c/d/1-1/1", "http://n3.example/p/d/1-1", "Prepared", ""],
+        3,
+        "refused 15 NoState\n",
+    ),
+    // a transaction that committed says so again, and can't be rolled back
+    (
+        "cell --state Done",
+        ["/completion/1-1", "http://n1.example/i/1-1", "Commit", ""],
+        0,
+        COMMITTED,
+    ),
+    (
+        "cell --state Done",
+        ["/completion/1-1", "http://n1.example/i/1-1", "Rollback", ""],
+        0,
+        INVALID_STATE,
+    ),
+    // each table
+    (
+        "cell --state Committing",
+        ["/c/d/1-1/65535", "http://n3.example/", "Committed", ""],
+        0,
+        "leave -> None\n",
+    ),
+    (
+        "cell --state Active",
+        ["/p/v/1-1", "http://n3.example/", "Prepare", ""],
+        0,
+        "gather -> Preparing\n",
+    ),
+    (
+        "cell --state PreparedSuccess",
+        ["/p/d/1-1", "http://n3.example/", "Commit", ""],
+        0,
+        "commit -> Committing\n",
+    ),
+    (
+        "cell --state Active",
+        ["/completion/1-1", "http://n3.example/", "Commit", ""],
+        0,
+        "complete -> Completing\n",
+    ),
+    (
+        "cell --state Completing",
+        ["/i/1-1", "http://n3.example/", "Committed", ""],
+        0,
+        "told committed -> None\n",
+    ),
+    // senders to whom nothing can be posted
+    (
+        "cell --state None",
+        ["/c/d/1-1/1", "https://n3.example/p/d/1-1", "Prepared", ""],
+        0,
+        "send Rollback -> None\n",
+    ),
+    (
+        "cell --state None",
+        ["/c/d/1-1/1", "n3.example", "Prepared", ""],
+        0,
+        "send Rollback -> None\n",
+    ),
+    (
+        "cell --state None",
+        [
+            "/c/d/1-1/1",
+            "http://www.w3.org/2005/08/addressing/anonymous",
+            "Prepared",
             "",
-        )?;
-        let found = prints(rt, "cell --state Done", input.as_bytes(), printed)?;
-        assert!(rt; found == (0, true), "{name}: {found:?}");
+        ],
+        0,
+        "send Rollback -> None\n",
+    ),
+    // refusals
+    (
+        "cell --state Completing",
+        [
+            "/c/d/1-1/1",
+            "http://n3.example/",
+            "Prepared",
+            "<Action>a</Action>",
+        ],
+        3,
+        "refused 10 InvalidHeader\n",
+    ),
+    (
+        "cell --state Completing",
+        ["/c/d/1-1/1", "http://n3.example/", "Prepared", "<ReplyTo/>"],
+        3,
+        "refused 10 InvalidHeader\n",
+    ),
+    (
+        "cell --state Completing",
+        ["/c/d/1-1/0", "http://n3.example/", "Prepared", ""],
+        3,
+        "refused 11 NoTarget\n",
+    ),
+    (
+        "cell --state Completing",
+        ["/c/d/1-1/1", "http://n3.example/", "Prepare", ""],
+        3,
+        "refused 12 Action\n",
+    ),
+    (
+        "cell --state Completing",
+        ["/c/d/1-1/1", "http://n3.example/", "Prepared", ""],
+        3,
+        "refused 15 NoState\n",
+    ),
+    // what each notification says
+    (
+        "check --path /work",
+        ["/p/v/1-1", "http://n3.example/", "Prepare", ""],
+        0,
+        "message Prepare\ntarget participant volatile 1-1\nfrom http://n3.example/\n",
+    ),
+    (
+        "check --path /work",
+        [
+            "/completion/4294967295-1",
+            "http://n3.example/",
+            "Commit",
+            "",
+        ],
+        0,
+        "message Commit\ntarget completion 4294967295-1\nfrom http://n3.example/\n",
+    ),
+    (
+        "check --path /work",
+        ["/p/d/1-1", "http://n3.example/", "Rollback", ""],
+        0,
+        "message Rollback\ntarget participant durable 1-1\nfrom http://n3.example/\n",
+    ),
+    (
+        "check --path /work",
+        ["/c/d/1-1/1", "http://n3.example/", "Prepared", ""],
+        0,
+        "message Prepared\ntarget coordinator durable 1-1 1\nfrom http://n3.example/\n",
+    ),
+    (
+        "check --path /work",
+        ["/c/v/1-1/65535", "http://n3.example/", "ReadOnly", ""],
+        0,
+        "message ReadOnly\ntarget coordinator volatile 1-1 65535\nfrom http://n3.example/\n",
+    ),
+    (
+        "check --path /work",
+        ["/i/1-1", "http://n3.example/", "Aborted", ""],
+        0,
+        "message Aborted\ntarget initiator 1-1\nfrom http://n3.example/\n",
+    ),
+    (
+        "check --path /work",
+        ["/c/d/1-1/1", "http://n3.example/", "Committed", ""],
+        0,
+        "message Committed\ntarget coordinator durable 1-1 1\nfrom http://n3.example/\n",
+    ),
+];
+
+/// What a command makes of a notification.
+fn notice_prints(
+    rt: HostRuntime,
+    line: &str,
+    parts: [&str; 4],
+    printed: &str,
+) -> Result<(u8, bool), Fail> {
+    let [to, from, name, more] = parts;
+    let input = notice(rt.alloc(), to, from, name, more)?;
+    prints(rt, line, input.as_bytes(), printed)
+}
+
+#[test]
+fn worked_notifications(rt: HostRuntime) -> Result<(), Fail> {
+    for (line, parts, status, printed) in NOTICES {
+        let found = notice_prints(rt, line, *parts, printed)?;
+        assert!(rt; found == (*status, true), "{line}: {}", parts[2]);
     }
     Ok(())
 }
@@ -206,11 +385,16 @@ const CHECK_HELP: &str =
 --path <PATH>  The path of the request that brought the envelope [default: /]\n  \
 -h, --help         Print help\n";
 
+/// What a command without an input prints, where this ends it.
+fn ends(rt: HostRuntime, line: &str, said: &str, end: &str) -> Result<(u8, bool), Fail> {
+    let text = format!(in rt.alloc(); "{said}{end}")?;
+    prints(rt, line, b"", text.as_str())
+}
+
 #[test]
 fn words_that_are_no_job(rt: HostRuntime) -> Result<(), Fail> {
     for (line, said) in FAULTY {
-        let text = format!(in rt.alloc(); "{said}{TRY}")?;
-        let outcome = prints(rt, line, b"", text.as_str())?;
+        let outcome = ends(rt, line, said, TRY)?;
         assert!(rt; outcome == (2, true));
     }
     let outcome = prints(rt, "cell --state none", b"", UNKNOWN_STATE)?;
@@ -235,90 +419,125 @@ fn questions(rt: HostRuntime) -> Result<(), Fail> {
     Ok(())
 }
 
-#[test]
-fn cells_of_each_table(rt: HostRuntime) -> Result<(), Fail> {
-    for (state, to, name, printed) in [
-        (
-            "Committing",
-            "/c/d/1-1/65535",
-            "Committed",
-            "leave -> None\n",
-        ),
-        ("Active", "/p/v/1-1", "Prepare", "gather -> Preparing\n"),
-        (
-            "PreparedSuccess",
-            "/p/d/1-1",
-            "Commit",
-            "commit -> Committing\n",
-        ),
-        (
-            "Active",
-            "/completion/1-1",
-            "Commit",
-            "complete -> Completing\n",
-        ),
-        (
-            "Completing",
-            "/i/1-1",
-            "Committed",
-            "told committed -> None\n",
-        ),
-    ] {
-        let input = notice(rt.alloc(), to, "http://n3.example/", name, "")?;
-        let line = format!(in rt.alloc(); "cell --state {state}")?;
-        assert!(rt; prints(rt, line.as_str(), input.as_bytes(), printed)? == (0, true));
-    }
-    Ok(())
-}
-
-#[test]
-fn a_cell_without_a_sender_that_can_be_posted_to(rt: HostRuntime) -> Result<(), Fail> {
-    for from in [
-        "https://n3.example/p/d/1-1",
-        "n3.example",
-        "http://www.w3.org/2005/08/addressing/anonymous",
-    ] {
-        let input = notice(rt.alloc(), "/c/d/1-1/1", from, "Prepared", "")?;
-        assert!(rt;
-            prints(
-                rt,
-                "cell --state None",
-                input.as_bytes(),
-                "send Rollback -> None\n"
-            )? == (0, true)
-        );
-    }
-    Ok(())
-}
-
-#[test]
-fn the_sender_is_answered_with_its_reference_parameters(rt: HostRuntime) -> Result<(), Fail> {
-    let input = message(
-        rt.alloc(),
-        "wsat/2006/06/Commit",
-        "<To>http://n2.example/p/d/1-1</To><From><Address>http://n3.example/</Address>\
+/// Commands, header blocks, bodies, the status, and what is printed.
+const MESSAGES: &[(&str, &str, &str, u8, &str)] = &[
+    // the sender is answered with its reference parameters
+    (
+        "cell --state None",
+        "<Action>http://docs.oasis-open.org/ws-tx/wsat/2006/06/Commit</Action><To>http://n2.example/p/d/1-1</To><From><Address>http://n3.example/</Address>\
 <ReferenceParameters><x:a xmlns:x=\"urn:x\">1</x:a></ReferenceParameters></From>",
         "<t:Commit/>",
-    )?;
-    let printed = "send Committed -> None\n\
+        0,
+        "send Committed -> None\n\
 <s:Envelope xmlns:s=\"http://schemas.xmlsoap.org/soap/envelope/\" xmlns:wsa=\"http://www.w3.org/2005/08/addressing\" \
 xmlns:n1=\"urn:x\" xmlns:wsat=\"http://docs.oasis-open.org/ws-tx/wsat/2006/06\"><s:Header>\
 <wsa:To>http://n3.example/</wsa:To><wsa:Action>http://docs.oasis-open.org/ws-tx/wsat/2006/06/Committed</wsa:Action>\
 <wsa:ReplyTo><wsa:Address>http://www.w3.org/2005/08/addressing/none</wsa:Address></wsa:ReplyTo>\
-<n1:a wsa:IsReferenceParameter=\"true\">1</n1:a></s:Header><s:Body><wsat:Committed/></s:Body></s:Envelope>\n";
-    assert!(rt; prints(rt, "cell --state None", input.as_bytes(), printed)? == (0, true));
-    Ok(())
+<n1:a wsa:IsReferenceParameter=\"true\">1</n1:a></s:Header><s:Body><wsat:Committed/></s:Body></s:Envelope>\n",
+    ),
+    (
+        "cell --state None",
+        "<Action>http://docs.oasis-open.org/ws-tx/wsat/2006/06/Prepare</Action><To>http://n2.example/p/d/1-1</To>",
+        "<t:Commit/>",
+        3,
+        "refused 13 Parameters\n",
+    ),
+    // no cell comes before no state
+    (
+        "cell --state Completing",
+        "<Action>http://docs.oasis-open.org/ws-tx/wsat/2006/06/fault</Action><To>http://n2.example/c/d/1-1/1</To>",
+        "<e:Fault><faultcode xmlns=\"\">a</faultcode><faultstring xmlns=\"\">b</faultstring></e:Fault>",
+        3,
+        "refused 14 NoCell\n",
+    ),
+    // what each other message says
+    (
+        "check --path /activation",
+        "<Action>http://docs.oasis-open.org/ws-tx/wscoor/2006/06/CreateCoordinationContext</Action>\
+<MessageID>urn:a&amp;b</MessageID><ReplyTo><Address>http://n1.example/i/1-1</Address></ReplyTo>\
+<FaultTo><Address>http://www.w3.org/2005/08/addressing/none</Address></FaultTo>",
+        "<c:CreateCoordinationContext><c:CurrentContext><c:Identifier>urn:i</c:Identifier><c:Expires>+07</c:Expires>\
+<c:CoordinationType>urn:type</c:CoordinationType>\
+<c:RegistrationService><Address>http://n2.example/registration/1-1</Address></c:RegistrationService></c:CurrentContext>\
+<c:Expires>60000</c:Expires><c:CoordinationType>urn:&quot;&#10;own</c:CoordinationType></c:CreateCoordinationContext>",
+        0,
+        "message CreateCoordinationContext\ntarget activation\nid urn:a&amp;b\nreply http://n1.example/i/1-1\n\
+fault http://www.w3.org/2005/08/addressing/none\nexpires 60000\nidentifier urn:i\ntype urn:&quot;&#10;own\n\
+registration http://n2.example/registration/1-1\n",
+    ),
+    (
+        "check --path /i/1-1",
+        "<Action>http://docs.oasis-open.org/ws-tx/wscoor/2006/06/CreateCoordinationContextResponse</Action><RelatesTo>urn:a</RelatesTo>",
+        "<c:CreateCoordinationContextResponse><c:CoordinationContext><c:Identifier>urn:i</c:Identifier><c:Expires>+07</c:Expires>\
+<c:CoordinationType>urn:type</c:CoordinationType>\
+<c:RegistrationService><Address>http://n2.example/registration/1-1</Address></c:RegistrationService></c:CoordinationContext>\
+</c:CreateCoordinationContextResponse>",
+        0,
+        "message CreateCoordinationContextResponse\ntarget initiator 1-1\nrelates urn:a\nexpires 7\n\
+identifier urn:i\ntype urn:type\nregistration http://n2.example/registration/1-1\n",
+    ),
+    (
+        "check --path /registration/1-1",
+        "<Action>http://docs.oasis-open.org/ws-tx/wscoor/2006/06/Register</Action><MessageID>urn:a</MessageID>",
+        "<c:Register><c:ProtocolIdentifier>urn:p</c:ProtocolIdentifier>\
+<c:ParticipantProtocolService><Address>http://n3.example/p/d/1-1</Address></c:ParticipantProtocolService></c:Register>",
+        0,
+        "message Register\ntarget registration 1-1\nid urn:a\nprotocol urn:p\nservice http://n3.example/p/d/1-1\n",
+    ),
+    (
+        "check --path /p/v/1-1",
+        "<Action>http://docs.oasis-open.org/ws-tx/wscoor/2006/06/RegisterResponse</Action><RelatesTo>urn:a</RelatesTo>",
+        "<c:RegisterResponse><c:CoordinatorProtocolService><Address>http://n2.example/c/d/1-1/1</Address>\
+</c:CoordinatorProtocolService></c:RegisterResponse>",
+        0,
+        "message RegisterResponse\ntarget participant volatile 1-1\nrelates urn:a\nservice http://n2.example/c/d/1-1/1\n",
+    ),
+    (
+        "check --path /work",
+        "<Action>http://example.org/atx/work/1/Work</Action><MessageID>urn:a</MessageID>\
+<c:CoordinationContext e:mustUnderstand=\"1\"><c:Identifier>urn:i</c:Identifier><c:Expires>+07</c:Expires>\
+<c:CoordinationType>urn:type</c:CoordinationType>\
+<c:RegistrationService><Address>http://n2.example/registration/1-1</Address></c:RegistrationService></c:CoordinationContext>",
+        "<w:Work><w:Key>k</w:Key><w:Value>a&#9;b</w:Value><w:Kind>volatile</w:Kind><w:Vote>readonly</w:Vote></w:Work>",
+        0,
+        "message Work\ntarget work\nid urn:a\nexpires 7\n\
+identifier urn:i\ntype urn:type\nregistration http://n2.example/registration/1-1\n\
+key k\nvalue a&#9;b\nkind volatile\nvote readonly\n",
+    ),
+    (
+        "check --path /i/1-1?q",
+        "<Action>http://example.org/atx/work/1/WorkDone</Action><RelatesTo>urn:a</RelatesTo>",
+        "<w:WorkDone/>",
+        0,
+        "message WorkDone\ntarget initiator 1-1\nrelates urn:a\n",
+    ),
+    (
+        "check --path /i/1-1?q",
+        "<Action>http://example.org/atx/work/1/WorkRefused</Action><RelatesTo>urn:a</RelatesTo>",
+        "<w:WorkRefused/>",
+        0,
+        "message WorkRefused\ntarget initiator 1-1\nrelates urn:a\n",
+    ),
+];
+
+/// What a command makes of a message.
+fn message_prints(
+    rt: HostRuntime,
+    line: &str,
+    headers: &str,
+    body: &str,
+    printed: &str,
+) -> Result<(u8, bool), Fail> {
+    let input = sealed(rt.alloc(), headers, body)?;
+    prints(rt, line, input.as_bytes(), printed)
 }
 
 #[test]
-fn spelled_otherwise(rt: HostRuntime) -> Result<(), Fail> {
-    let input = "<e:Envelope xmlns:e='http://schemas.xmlsoap.org/soap/envelope/'>\
-<e:Header xmlns:w='http://www.w3.org/2005/08/addressing'>\
-<w:Action><![CDATA[http://docs.oasis-open.org/ws-tx/wsat/2006/06/Prepare]]></w:Action>\
-<w:To>http://n2.example/p/d/1-1</w:To></e:Header><!-- x -->\
-<e:Body><Prepare xmlns='http://docs.oasis-open.org/ws-tx/wsat/2006/06'/></e:Body></e:Envelope>";
-    let printed = "message Prepare\ntarget participant durable 1-1\n";
-    assert!(rt; prints(rt, "check", input.as_bytes(), printed)? == (0, true));
+fn worked_messages(rt: HostRuntime) -> Result<(), Fail> {
+    for (line, headers, body, status, printed) in MESSAGES {
+        let found = message_prints(rt, line, headers, body, printed)?;
+        assert!(rt; found == (*status, true), "{line}: {body}");
+    }
     Ok(())
 }
 
@@ -331,53 +550,68 @@ const FAULT_WITHOUT_HEADER: &str =
     "<s:Envelope xmlns:s=\"http://schemas.xmlsoap.org/soap/envelope/\">\
 <s:Body><s:Fault><faultcode>x:InvalidState</faultcode><faultstring>a</faultstring></s:Fault></s:Body></s:Envelope>";
 
-#[test]
-fn a_fault_at_a_path(rt: HostRuntime) -> Result<(), Fail> {
-    for (line, input, status, printed) in [
-        (
-            "check --path /i/1-1",
-            FAULT,
-            0,
-            "message Fault\ntarget initiator 1-1\nname InvalidState\n",
-        ),
-        (
-            "check --path /i/1-1",
-            FAULT_WITHOUT_HEADER,
-            3,
-            "refused 9 MissingHeader\n",
-        ),
-        ("check", FAULT, 3, "refused 11 NoTarget\n"),
-        ("cell --state None", FAULT, 3, "refused 11 NoTarget\n"),
-    ] {
-        assert!(rt; prints(rt, line, input.as_bytes(), printed)? == (status, true));
-    }
-    Ok(())
-}
+/// Commands, inputs, the status, and what is printed.
+const TEXTS: &[(&str, &str, u8, &str)] = &[
+    // an envelope that is spelled otherwise
+    (
+        "check",
+        "<e:Envelope xmlns:e='http://schemas.xmlsoap.org/soap/envelope/'>\
+<e:Header xmlns:w='http://www.w3.org/2005/08/addressing'>\
+<w:Action><![CDATA[http://docs.oasis-open.org/ws-tx/wsat/2006/06/Prepare]]></w:Action>\
+<w:To>http://n2.example/p/d/1-1</w:To></e:Header><!-- x -->\
+<e:Body><Prepare xmlns='http://docs.oasis-open.org/ws-tx/wsat/2006/06'/></e:Body></e:Envelope>",
+        0,
+        "message Prepare\ntarget participant durable 1-1\n",
+    ),
+    // a fault at a path
+    (
+        "check --path /i/1-1",
+        FAULT,
+        0,
+        "message Fault\ntarget initiator 1-1\nname InvalidState\n",
+    ),
+    (
+        "check --path /i/1-1",
+        FAULT_WITHOUT_HEADER,
+        3,
+        "refused 9 MissingHeader\n",
+    ),
+    ("check", FAULT, 3, "refused 11 NoTarget\n"),
+    ("cell --state None", FAULT, 3, "refused 11 NoTarget\n"),
+    // refusals
+    ("check", "", 3, "refused 3 NotSpelled\n"),
+    ("check", "<a>", 3, "refused 3 NotSpelled\n"),
+    ("check", "<!DOCTYPE a><a/>", 3, "refused 3 NotSpelled\n"),
+    ("check", "<s:Envelope/>", 3, "refused 3 NotSpelled\n"),
+    ("check", "<a/>", 3, "refused 7 NotEnvelope\n"),
+    (
+        "check",
+        "<Envelope xmlns=\"http://www.w3.org/2003/05/soap-envelope\"/>",
+        3,
+        "refused 6 VersionMismatch\n",
+    ),
+    (
+        "check",
+        "<s:Envelope xmlns:s=\"http://schemas.xmlsoap.org/soap/envelope/\"><s:Body><x/></s:Body></s:Envelope>",
+        3,
+        "refused 9 MissingHeader\n",
+    ),
+    (
+        "check",
+        "<s:Envelope xmlns:s=\"http://schemas.xmlsoap.org/soap/envelope/\"><s:Header><x s:mustUnderstand=\"1\"/></s:Header><s:Body><x/></s:Body></s:Envelope>",
+        3,
+        "refused 8 MustUnderstand\n",
+    ),
+];
 
 #[test]
-fn refusals_of_texts(rt: HostRuntime) -> Result<(), Fail> {
-    for (input, printed) in [
-        ("", "refused 3 NotSpelled\n"),
-        ("<a>", "refused 3 NotSpelled\n"),
-        ("<!DOCTYPE a><a/>", "refused 3 NotSpelled\n"),
-        ("<s:Envelope/>", "refused 3 NotSpelled\n"),
-        ("<a/>", "refused 7 NotEnvelope\n"),
-        (
-            "<Envelope xmlns=\"http://www.w3.org/2003/05/soap-envelope\"/>",
-            "refused 6 VersionMismatch\n",
-        ),
-        (
-            "<s:Envelope xmlns:s=\"http://schemas.xmlsoap.org/soap/envelope/\"><s:Body><x/></s:Body></s:Envelope>",
-            "refused 9 MissingHeader\n",
-        ),
-        (
-            "<s:Envelope xmlns:s=\"http://schemas.xmlsoap.org/soap/envelope/\"><s:Header><x s:mustUnderstand=\"1\"/></s:Header><s:Body><x/></s:Body></s:Envelope>",
-            "refused 8 MustUnderstand\n",
-        ),
-    ] {
-        assert!(rt; prints(rt, "check", input.as_bytes(), printed)? == (3, true));
+fn worked_texts(rt: HostRuntime) -> Result<(), Fail> {
+    for (line, input, status, printed) in TEXTS {
+        let found = prints(rt, line, input.as_bytes(), printed)?;
+        assert!(rt; found == (*status, true), "{line}: {input}");
     }
-    assert!(rt; prints(rt, "check", b"\xff", "refused 2 NotUtf8\n")? == (3, true));
+    let found = prints(rt, "check", b"\xff", "refused 2 NotUtf8\n")?;
+    assert!(rt; found == (3, true));
     Ok(())
 }
 
@@ -394,235 +628,29 @@ fn elements(alloc: Global, count: usize, nested: bool) -> Result<String, AllocEr
     Ok(text)
 }
 
-#[test]
-fn refusals_at_limits(rt: HostRuntime) -> Result<(), Fail> {
-    for (count, nested, printed) in [
-        (32, true, "refused 7 NotEnvelope\n"),
-        (33, true, "refused 4 TooDeep\n"),
-        (4096, false, "refused 7 NotEnvelope\n"),
-        (4097, false, "refused 5 TooMany\n"),
-    ] {
-        let input = elements(rt.alloc(), count, nested)?;
-        assert!(rt; prints(rt, "check", input.as_bytes(), printed)? == (3, true));
-    }
-    Ok(())
-}
+/// How many elements, whether one stands in another, and what is printed.
+const LIMITS: &[(usize, bool, &str)] = &[
+    (32, true, "refused 7 NotEnvelope\n"),
+    (33, true, "refused 4 TooDeep\n"),
+    (4096, false, "refused 7 NotEnvelope\n"),
+    (4097, false, "refused 5 TooMany\n"),
+];
 
-#[test]
-fn refusals_of_messages(rt: HostRuntime) -> Result<(), Fail> {
-    for (to, name, more, printed) in [
-        (
-            "/c/d/1-1/1",
-            "Prepared",
-            "<Action>a</Action>",
-            "refused 10 InvalidHeader\n",
-        ),
-        (
-            "/c/d/1-1/1",
-            "Prepared",
-            "<ReplyTo/>",
-            "refused 10 InvalidHeader\n",
-        ),
-        ("/c/d/1-1/0", "Prepared", "", "refused 11 NoTarget\n"),
-        ("/c/d/1-1/1", "Prepare", "", "refused 12 Action\n"),
-        ("/c/d/1-1/1", "Prepared", "", "refused 15 NoState\n"),
-    ] {
-        let input = notice(rt.alloc(), to, "http://n3.example/", name, more)?;
-        assert!(rt; prints(rt, "cell --state Completing", input.as_bytes(), printed)? == (3, true));
-    }
-    let other = message(
-        rt.alloc(),
-        "wsat/2006/06/Prepare",
-        "<To>http://n2.example/p/d/1-1</To>",
-        "<t:Commit/>",
-    )?;
-    assert!(rt;
-        prints(
-            rt,
-            "cell --state None",
-            other.as_bytes(),
-            "refused 13 Parameters\n"
-        )? == (3, true)
-    );
-    Ok(())
-}
-
-#[test]
-fn no_cell_comes_before_no_state(rt: HostRuntime) -> Result<(), Fail> {
-    let input = message(
-        rt.alloc(),
-        "wsat/2006/06/fault",
-        "<To>http://n2.example/c/d/1-1/1</To>",
-        "<e:Fault><faultcode xmlns=\"\">a</faultcode><faultstring xmlns=\"\">b</faultstring></e:Fault>",
-    )?;
-    assert!(rt;
-        prints(
-            rt,
-            "cell --state Completing",
-            input.as_bytes(),
-            "refused 14 NoCell\n"
-        )? == (3, true)
-    );
-    Ok(())
-}
-
-/// What `check` prints of a message for this path.
-fn says(
+fn elements_print(
     rt: HostRuntime,
-    path: &str,
-    input: Result<String, AllocError>,
+    count: usize,
+    nested: bool,
     printed: &str,
 ) -> Result<(u8, bool), Fail> {
-    let line = format!(in rt.alloc(); "check --path {path}")?;
-    let input = input?;
-    prints(rt, line.as_str(), input.as_bytes(), printed)
-}
-
-const CONTEXT: &str = "<c:Identifier>urn:i</c:Identifier><c:Expires>+07</c:Expires>\
-<c:CoordinationType>urn:type</c:CoordinationType>\
-<c:RegistrationService><Address>http://n2.example/registration/1-1</Address></c:RegistrationService>";
-
-const CONTEXT_LINES: &str =
-    "identifier urn:i\ntype urn:type\nregistration http://n2.example/registration/1-1\n";
-
-#[test]
-fn check_of_create(rt: HostRuntime) -> Result<(), Fail> {
-    let body = format!(in rt.alloc();
-        "<c:CreateCoordinationContext><c:CurrentContext>{CONTEXT}</c:CurrentContext>\
-<c:Expires>60000</c:Expires><c:CoordinationType>urn:&quot;&#10;own</c:CoordinationType></c:CreateCoordinationContext>"
-    )?;
-    let input = message(
-        rt.alloc(),
-        "wscoor/2006/06/CreateCoordinationContext",
-        "<MessageID>urn:a&amp;b</MessageID><ReplyTo><Address>http://n1.example/i/1-1</Address></ReplyTo>\
-<FaultTo><Address>http://www.w3.org/2005/08/addressing/none</Address></FaultTo>",
-        body.as_str(),
-    );
-    let printed =
-        "message CreateCoordinationContext\ntarget activation\nid urn:a&amp;b\nreply http://n1.example/i/1-1\n\
-fault http://www.w3.org/2005/08/addressing/none\nexpires 60000\nidentifier urn:i\ntype urn:&quot;&#10;own\n\
-registration http://n2.example/registration/1-1\n";
-    assert!(rt; says(rt, "/activation", input, printed)? == (0, true));
-    Ok(())
+    let input = elements(rt.alloc(), count, nested)?;
+    prints(rt, "check", input.as_bytes(), printed)
 }
 
 #[test]
-fn check_of_create_response(rt: HostRuntime) -> Result<(), Fail> {
-    let body = format!(in rt.alloc();
-        "<c:CreateCoordinationContextResponse><c:CoordinationContext>{CONTEXT}</c:CoordinationContext>\
-</c:CreateCoordinationContextResponse>"
-    )?;
-    let input = message(
-        rt.alloc(),
-        "wscoor/2006/06/CreateCoordinationContextResponse",
-        "<RelatesTo>urn:a</RelatesTo>",
-        body.as_str(),
-    );
-    let printed = format!(in rt.alloc();
-        "message CreateCoordinationContextResponse\ntarget initiator 1-1\nrelates urn:a\nexpires 7\n{CONTEXT_LINES}"
-    )?;
-    assert!(rt; says(rt, "/i/1-1", input, printed.as_str())? == (0, true));
-    Ok(())
-}
-
-#[test]
-fn check_of_register(rt: HostRuntime) -> Result<(), Fail> {
-    let input = message(
-        rt.alloc(),
-        "wscoor/2006/06/Register",
-        "<MessageID>urn:a</MessageID>",
-        "<c:Register><c:ProtocolIdentifier>urn:p</c:ProtocolIdentifier>\
-<c:ParticipantProtocolService><Address>http://n3.example/p/d/1-1</Address></c:ParticipantProtocolService></c:Register>",
-    );
-    let printed =
-        "message Register\ntarget registration 1-1\nid urn:a\nprotocol urn:p\nservice http://n3.example/p/d/1-1\n";
-    assert!(rt; says(rt, "/registration/1-1", input, printed)? == (0, true));
-    Ok(())
-}
-
-#[test]
-fn check_of_register_response(rt: HostRuntime) -> Result<(), Fail> {
-    let input = message(
-        rt.alloc(),
-        "wscoor/2006/06/RegisterResponse",
-        "<RelatesTo>urn:a</RelatesTo>",
-        "<c:RegisterResponse><c:CoordinatorProtocolService><Address>http://n2.example/c/d/1-1/1</Address>\
-</c:CoordinatorProtocolService></c:RegisterResponse>",
-    );
-    let printed =
-        "message RegisterResponse\ntarget participant volatile 1-1\nrelates urn:a\nservice http://n2.example/c/d/1-1/1\n";
-    assert!(rt; says(rt, "/p/v/1-1", input, printed)? == (0, true));
-    Ok(())
-}
-
-/// An envelope with a message of this project's own namespace.
-fn work(alloc: Global, name: &str, headers: &str, body: &str) -> Result<String, AllocError> {
-    let headers = format!(in alloc;
-        "<Action>http://example.org/atx/work/1/{name}</Action>{headers}"
-    )?;
-    sealed(alloc, headers.as_str(), body)
-}
-
-#[test]
-fn check_of_work(rt: HostRuntime) -> Result<(), Fail> {
-    let headers = format!(in rt.alloc();
-        "<MessageID>urn:a</MessageID><c:CoordinationContext e:mustUnderstand=\"1\">{CONTEXT}</c:CoordinationContext>"
-    )?;
-    let input = work(
-        rt.alloc(),
-        "Work",
-        headers.as_str(),
-        "<w:Work><w:Key>k</w:Key><w:Value>a&#9;b</w:Value><w:Kind>volatile</w:Kind><w:Vote>readonly</w:Vote></w:Work>",
-    );
-    let printed = format!(in rt.alloc();
-        "message Work\ntarget work\nid urn:a\nexpires 7\n{CONTEXT_LINES}key k\nvalue a&#9;b\nkind volatile\nvote readonly\n"
-    )?;
-    assert!(rt; says(rt, "/work", input, printed.as_str())? == (0, true));
-    Ok(())
-}
-
-#[test]
-fn check_of_the_answers_to_work(rt: HostRuntime) -> Result<(), Fail> {
-    for name in ["WorkDone", "WorkRefused"] {
-        let body = format!(in rt.alloc(); "<w:{name}/>")?;
-        let input = work(
-            rt.alloc(),
-            name,
-            "<RelatesTo>urn:a</RelatesTo>",
-            body.as_str(),
-        );
-        let printed = format!(in rt.alloc();
-            "message {name}\ntarget initiator 1-1\nrelates urn:a\n"
-        )?;
-        assert!(rt; says(rt, "/i/1-1?q", input, printed.as_str())? == (0, true));
-    }
-    Ok(())
-}
-
-#[test]
-fn check_of_each_notification(rt: HostRuntime) -> Result<(), Fail> {
-    for (name, to, target) in [
-        ("Prepare", "/p/v/1-1", "participant volatile 1-1"),
-        (
-            "Commit",
-            "/completion/4294967295-1",
-            "completion 4294967295-1",
-        ),
-        ("Rollback", "/p/d/1-1", "participant durable 1-1"),
-        ("Prepared", "/c/d/1-1/1", "coordinator durable 1-1 1"),
-        (
-            "ReadOnly",
-            "/c/v/1-1/65535",
-            "coordinator volatile 1-1 65535",
-        ),
-        ("Aborted", "/i/1-1", "initiator 1-1"),
-        ("Committed", "/c/d/1-1/1", "coordinator durable 1-1 1"),
-    ] {
-        let input = notice(rt.alloc(), to, "http://n3.example/", name, "");
-        let printed = format!(in rt.alloc();
-            "message {name}\ntarget {target}\nfrom http://n3.example/\n"
-        )?;
-        assert!(rt; says(rt, "/work", input, printed.as_str())? == (0, true));
+fn refusals_at_limits(rt: HostRuntime) -> Result<(), Fail> {
+    for (count, nested, printed) in LIMITS {
+        let found = elements_print(rt, *count, *nested, printed)?;
+        assert!(rt; found == (3, true), "{count}");
     }
     Ok(())
 }

@@ -1,6 +1,6 @@
 //! Sources and sinks that fail, and the limits of a source.
 
-use crate::commands::prepared;
+use crate::commands::notice;
 use crate::reports::PLAIN;
 use crate::shared::{prints, words_of};
 use command_line::run::run;
@@ -8,6 +8,7 @@ use site_model::memory::{MemSink, MemSource};
 use site_model::sink::Sink;
 use site_model::source::Failed;
 use site_model::sure::SureSite;
+use std::alloc::{AllocError, Global};
 use std::test::Fail;
 
 /// A sink with room for so many bytes.
@@ -36,24 +37,36 @@ impl Sink for ShortSink {
     }
 }
 
-#[test]
-fn a_sink_that_stops_in_a_line(rt: HostRuntime) -> Result<(), Fail> {
-    let words = words_of(rt.alloc(), "cell --state None")?;
-    let input = prepared(rt.alloc(), "d", "")?;
-    let mut source = MemSource::new(rt.alloc(), input.as_bytes())?;
+/// The status where a sink has room for so many bytes of what a cell prints, and whether it has these.
+fn cut_off(alloc: Global, room: usize, left: &[u8]) -> Result<(u8, bool), AllocError> {
+    let words = words_of(alloc, "cell --state None")?;
+    let input = notice(
+        alloc,
+        "/c/d/1-1/1",
+        "http://n3.example/p/d/1-1",
+        "Prepared",
+        "",
+    )?;
+    let mut source = MemSource::new(alloc, input.as_bytes())?;
     let mut sink = ShortSink {
-        bytes: Vec::new(rt.alloc()),
-        room: 8,
+        bytes: Vec::new(alloc),
+        room,
         faults: 0,
     };
     let status = run(
-        rt.alloc(),
+        alloc,
         words.as_slice(),
         &mut source,
         &mut sink,
         &mut SureSite::new(),
     );
-    assert!(rt; status == 5 && sink.bytes.as_slice() == b"send Rol".as_slice());
+    Ok((status, sink.bytes.as_slice() == left))
+}
+
+#[test]
+fn a_sink_that_stops_in_a_line(rt: HostRuntime) -> Result<(), Fail> {
+    let found = cut_off(rt.alloc(), 8, b"send Rol")?;
+    assert!(rt; found == (5, true));
     Ok(())
 }
 
@@ -115,15 +128,19 @@ fn prints_of_spaces(rt: HostRuntime, count: usize, printed: &str) -> Result<(u8,
     prints(rt, "check", input.as_slice(), printed)
 }
 
+/// How many spaces, the status, and what is printed.
+const SPACES: &[(usize, u8, &str)] = &[
+    (65_536, 3, "refused 3 NotSpelled\n"),
+    (65_537, 3, "refused 1 TooLong\n"),
+    (1_048_576, 3, "refused 1 TooLong\n"),
+    (1_048_577, 10, ""),
+];
+
 #[test]
 fn limits_of_the_source(rt: HostRuntime) -> Result<(), Fail> {
-    for (count, status, printed) in [
-        (65_536, 3, "refused 3 NotSpelled\n"),
-        (65_537, 3, "refused 1 TooLong\n"),
-        (1_048_576, 3, "refused 1 TooLong\n"),
-        (1_048_577, 10, ""),
-    ] {
-        assert!(rt; prints_of_spaces(rt, count, printed)? == (status, true));
+    for (count, status, printed) in SPACES {
+        let found = prints_of_spaces(rt, *count, printed)?;
+        assert!(rt; found == (*status, true), "{count}");
     }
     Ok(())
 }

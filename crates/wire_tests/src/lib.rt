@@ -1,5 +1,5 @@
-//! Tests of envelopes, headers, bodies, requests, arrivals, posts and reports. They stand apart, since a crate with tests
-//! is proved twice.
+//! Tests of envelopes, headers, bodies, requests, arrivals, posts and reports, and of the spellings of each message. They
+//! stand apart, since a crate with tests is proved twice.
 #![tactic(auto)]
 
 #[cfg(test)]
@@ -16,3 +16,5 @@ mod posts;
 mod reports;
 #[cfg(test)]
 mod requests;
+#[cfg(test)]
+mod spellings;
