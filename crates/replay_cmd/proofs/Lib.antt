@@ -1,3 +1,4 @@
+pub mod Arming
 pub mod Loops
 pub mod Marks
 pub mod Reading

@@ -1,7 +1,7 @@
 -- What a schedule that was read says of its nodes, and what world a report is of.
-use Rattle.std.specs.Prelude.{ℕ, List, [], Option, None, Bool, true, false, not, ◌&&◌, ◌≡◌, ◌≤◌, Ok}
+use Rattle.std.specs.Prelude.{ℕ, List, Bool, true, ◌≡◌, ◌≤◌, Ok}
 use Rattle.std.specs.List.{AllByRecursion}
-use Rattle.at_model.specs.World.{World, WorldEvent, Deliver, Tick, Raw, Turn, Ask, Crash, Up, opening, run_of, example_hosts}
+use Rattle.at_model.specs.World.{World, WorldEvent, opening, run_of, example_hosts}
 use Rattle.model_laws.specs.Agreement.{HasOneSuperior, IsAgreed, IsBehindAnswers, IsToldTruly}
 use Rattle.model_laws.specs.Drawn.{AreApart}
 use Rattle.model_laws.specs.Made.{made_on}
@@ -19,26 +19,9 @@ pub record IsReplayable (lines : List Line) : Type 0 where
 abbrev pub ReadIsReplayable : Type 0
 ReadIsReplayable = (text : List ℕ) (lines : List Line) → schedule_of text ≡ Ok lines → IsReplayable lines
 
--- No call of a node's site fails; a node goes down at rest alone.
-abbrev pub is_whole : List Bool → Option ℕ → Bool
-is_whole [] None = true
-is_whole fates until = false
-
-abbrev pub is_smooth : WorldEvent → Bool
-is_smooth (Turn n (Deliver k) fates until) = is_whole fates until
-is_smooth (Turn n (Tick ms) fates until) = is_whole fates until
-is_smooth (Turn n Raw fates until) = false
-is_smooth (Ask n l fates until) = is_whole fates until
-is_smooth (Crash n) = true
-is_smooth (Up n landed stop) = landed && not stop
-
-abbrev pub IsSmooth : WorldEvent → Type 0
-IsSmooth e = is_smooth e ≡ true
-
--- The world of a run of so many nodes in which no call fails.
+-- The world of a run of so many nodes.
 pub record IsOfRun (count : ℕ) (w : World) : Type 0 where
   pub events : List WorldEvent
-  pub smooth : AllByRecursion IsSmooth events
   pub run : w ≡ run_of (example_hosts count) events
 
 -- A report is that of a run, also where its world is brought to rest.

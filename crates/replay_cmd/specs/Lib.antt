@@ -1,5 +1,6 @@
 pub mod Delivered
 pub mod Examples
+pub mod Faults
 pub mod Laws
 pub mod Lines
 pub mod ReportOf

@@ -9,19 +9,26 @@ use Rattle.at_base.specs.declared.outs.Ending.{Ending}
 use Rattle.at_model.specs.Addresses.{kind_letter}
 use Rattle.at_model.specs.Views.{Line}
 use Rattle.effect_words.specs.Words.{ending_word, told_word}
+use Rattle.replay_cmd.specs.declared.lines.Outcome.{Outcome}
+use Rattle.replay_cmd.specs.declared.lines.Outcome.TheVariants as outcomes
+use Rattle.replay_cmd.specs.declared.lines.Started.{Started}
+use Rattle.replay_cmd.specs.declared.lines.Started.TheVariants as starts
 
 -- a node came up in this incarnation, or not at all
-abbrev pub start_word : Option ℕ → List ℕ
-start_word None = codes "failed"
-start_word (Some incarnation) = decimal incarnation
+abbrev pub start_word : Started → List ℕ
+start_word (starts.Up incarnation) = decimal incarnation
+start_word starts.Stopped = codes "stopped"
+start_word starts.Failed = codes "failed"
 
--- the HTTP status that a turn answered; a node that is down takes no turn
-abbrev pub answer_word : Option ℕ → List ℕ
-answer_word None = codes "down"
-answer_word (Some status) = decimal status
+-- the HTTP status that a turn answered, or how it ended before
+abbrev pub outcome_word : Outcome → List ℕ
+outcome_word (outcomes.Answered status) = decimal status
+outcome_word outcomes.Stopped = codes "stopped"
+outcome_word outcomes.Halted = codes "halted"
+outcome_word outcomes.Down = codes "down"
 
-unfoldable pub up_line : ℕ → Option ℕ → List ℕ
-up_line node incarnation = codes "up " ++ (decimal node ++ (codes " " ++ (start_word incarnation ++ codes "\n")))
+unfoldable pub up_line : ℕ → Started → List ℕ
+up_line node started = codes "up " ++ (decimal node ++ (codes " " ++ (start_word started ++ codes "\n")))
 
 -- it was up, and stayed so
 unfoldable pub up_already_line : ℕ → List ℕ
@@ -35,19 +42,19 @@ down_word (Some incarnation) = codes "\n"
 unfoldable pub down_line : ℕ → Option ℕ → List ℕ
 down_line node before = codes "down " ++ (decimal node ++ down_word before)
 
-unfoldable pub deliver_line : ℕ → ℕ → Option ℕ → List ℕ
-deliver_line number node answer =
+unfoldable pub deliver_line : ℕ → ℕ → Outcome → List ℕ
+deliver_line number node outcome =
     codes "deliver "
-    ++ (decimal number ++ (codes " " ++ (decimal node ++ (codes " " ++ (answer_word answer ++ codes "\n")))))
+    ++ (decimal number ++ (codes " " ++ (decimal node ++ (codes " " ++ (outcome_word outcome ++ codes "\n")))))
 
 -- there is no such message, or no node has its address
 unfoldable pub no_message_line : ℕ → List ℕ
 no_message_line number = codes "deliver " ++ (decimal number ++ codes " none\n")
 
-unfoldable pub tick_line : ℕ → ℕ → Option ℕ → List ℕ
-tick_line node clock answer =
+unfoldable pub tick_line : ℕ → ℕ → Outcome → List ℕ
+tick_line node clock outcome =
     codes "tick "
-    ++ (decimal node ++ (codes " " ++ (decimal clock ++ (codes " " ++ (answer_word answer ++ codes "\n")))))
+    ++ (decimal node ++ (codes " " ++ (decimal clock ++ (codes " " ++ (outcome_word outcome ++ codes "\n")))))
 
 unfoldable pub refused_line : List ℕ → List ℕ
 refused_line word = codes "refused " ++ (word ++ codes "\n")

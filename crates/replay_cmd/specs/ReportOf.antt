@@ -1,5 +1,5 @@
 -- The report of a schedule: what its lines do to a world, and what is printed of that.
-use Rattle.std.specs.Prelude.{ℕ, List, [], ◌∷◌, ◌++◌, Option, Some, None, Bool, true, false, ◌&&◌, ◌+◌, ◌-◌, zero, suc, length, min, take, drop, filter, option_map, codes}
+use Rattle.std.specs.Prelude.{ℕ, List, [], ◌∷◌, ◌++◌, Option, Some, None, Bool, true, false, ◌&&◌, ◌+◌, ◌-◌, zero, suc, length, min, take, drop, filter, is_some, option_and_then, option_map, replicate, slice_get, slice_set, codes}
 use Rattle.at_base.specs.declared.event.Local.{Local}
 use Rattle.at_base.specs.declared.event.Local.TheVariants as locals
 use Rattle.at_base.specs.declared.notice.Kind.TheVariants as kinds
@@ -17,13 +17,22 @@ use Rattle.model_laws.specs.Settle.{settle}
 use Rattle.schedules.specs.Generator.{made}
 use Rattle.schedules.specs.declared.line.Line.{Line}
 use Rattle.schedules.specs.declared.line.Line.TheVariants as lines
+use Rattle.world_laws.specs.Firsts.{first_records}
 use Rattle.world_laws.specs.Runs.{clock_at, book_at, incarnation_at}
-use Rattle.world_laws.specs.Moves.{losses_of, steps_of}
+use Rattle.world_laws.specs.Moves.{left_of, losses_of, steps_of}
 use Rattle.world_laws.specs.declared.posted.Counted.{Counted}
 use Rattle.world_laws.specs.declared.taken.Answer.{Answer}
 use Rattle.replay_cmd.specs.declared.course.Behind.{Behind}
 use Rattle.replay_cmd.specs.declared.course.Behind.TheVariants as behinds
+use Rattle.replay_cmd.specs.declared.fault.Armed.{Armed}
+use Rattle.replay_cmd.specs.declared.fault.Fault.{Fault}
+use Rattle.replay_cmd.specs.declared.fault.Fault.TheVariants as faults
+use Rattle.replay_cmd.specs.declared.lines.Outcome.{Outcome}
+use Rattle.replay_cmd.specs.declared.lines.Outcome.TheVariants as outcomes
+use Rattle.replay_cmd.specs.declared.lines.Started.{Started}
+use Rattle.replay_cmd.specs.declared.lines.Started.TheVariants as starts
 use Rattle.replay_cmd.specs.Delivered.{yes_at, lowest}
+use Rattle.replay_cmd.specs.Faults.{armed_behind, struck}
 use Rattle.effect_words.specs.Words.{refusal_word}
 use Rattle.replay_cmd.specs.Lines.{up_line, up_already_line, down_line, deliver_line, no_message_line, tick_line, refused_line, effect_line, message_line, end_line, summary_line}
 
@@ -32,10 +41,35 @@ abbrev pub status_of : Option Answer → ℕ
 status_of None = 0
 status_of (Some a) = a.status
 
--- What a turn of these steps answers; a node that is down takes no step.
-abbrev pub answer_of : List Counted → Option ℕ
-answer_of [] = None
-answer_of (first ∷ rest) = Some (status_of first.answer)
+-- What a turn of these steps answers, also where the call for it failed.
+abbrev pub status_in : List Counted → ℕ
+status_in [] = 0
+status_in (first ∷ rest) = status_of first.answer
+
+-- How a turn ended that a fault took down.
+abbrev pub cut_by : Option Fault → Outcome
+cut_by None = outcomes.Down
+cut_by (Some faults.Fail) = outcomes.Halted
+cut_by (Some (faults.Stop left)) = outcomes.Stopped
+
+-- How a turn came out at a node that was up in this incarnation before, and is up in that one behind it; a node that is down
+-- takes no turn.
+abbrev pub outcome_of : Option Fault → Option ℕ → Option ℕ → List Counted → Outcome
+outcome_of f None behind steps = outcomes.Down
+outcome_of f (Some was) None steps = cut_by f
+outcome_of f (Some was) (Some is) steps = outcomes.Answered (status_in steps)
+
+-- How a start ended at which a fault came.
+abbrev pub start_cut_by : Option Fault → Started
+start_cut_by None = starts.Failed
+start_cut_by (Some faults.Fail) = starts.Failed
+start_cut_by (Some (faults.Stop left)) = starts.Stopped
+
+-- How a start came out at which a fault came or none.
+abbrev pub started_by : Option Fault → Bool → Option ℕ → Started
+started_by f true behind = start_cut_by f
+started_by f false None = starts.Failed
+started_by f false (Some incarnation) = starts.Up incarnation
 
 abbrev pub or_zero : Option ℕ → ℕ
 or_zero None = 0
@@ -51,18 +85,23 @@ request_result l None = refused_line (codes "down")
 request_result l (Some b) = unless_taken (refuses b l)
 
 -- A node that is up stays as it is; any other comes up in a new incarnation, or doesn't.
-abbrev pub up_result : ℕ → Option ℕ → Option ℕ → List ℕ
-up_result n None behind = up_line n behind
-up_result n (Some before) behind = up_already_line n
+abbrev pub start_result : Started → ℕ → Option ℕ → List ℕ
+start_result started n None = up_line n started
+start_result started n (Some before) = up_already_line n
 
--- The line of an event's result, from the world before it and the one behind it.
-abbrev pub result_line : WorldEvent → World → World → List Counted → List ℕ
-result_line (Up n landed stop) before behind steps = up_result n (incarnation_at before n) (incarnation_at behind n)
-result_line (Crash n) before behind steps = down_line n (incarnation_at before n)
-result_line (Turn n (Deliver k) fates until) before behind steps = deliver_line k n (answer_of steps)
-result_line (Turn n (Tick ms) fates until) before behind steps = tick_line n (or_zero (clock_at behind n)) (answer_of steps)
-result_line (Ask n l fates until) before behind steps = request_result l (book_at before n)
-result_line other before behind steps = []
+abbrev pub up_result : Option Fault → Bool → ℕ → Option ℕ → Option ℕ → List ℕ
+up_result f cut n before behind = start_result (started_by f cut behind) n before
+
+-- The line of an event's result, from the world before it and the one behind it, and from the fault that it may have met.
+abbrev pub result_line : Option Fault → WorldEvent → World → World → List Counted → List ℕ
+result_line f (Up n landed stop) before behind steps = up_result f stop n (incarnation_at before n) (incarnation_at behind n)
+result_line f (Crash n) before behind steps = down_line n (incarnation_at before n)
+result_line f (Turn n (Deliver k) fates until) before behind steps =
+    deliver_line k n (outcome_of f (incarnation_at before n) (incarnation_at behind n) steps)
+result_line f (Turn n (Tick ms) fates until) before behind steps =
+    tick_line n (or_zero (clock_at behind n)) (outcome_of f (incarnation_at before n) (incarnation_at behind n) steps)
+result_line f (Ask n l fates until) before behind steps = request_result l (book_at before n)
+result_line f other before behind steps = []
 
 -- The same in two parts: what is seen before the event, and what is seen behind it.
 abbrev pub line_before : WorldEvent → World → List ℕ
@@ -71,16 +110,17 @@ line_before (Crash n) before = down_line n (incarnation_at before n)
 line_before other before = []
 
 abbrev pub behind_of : World → WorldEvent → Behind
-behind_of before (Up n landed stop) = behinds.Up (incarnation_at before n)
-behind_of before (Turn n (Tick ms) fates until) = behinds.Tick
-behind_of before (Turn n (Deliver k) fates until) = behinds.Deliver k
+behind_of before (Up n landed stop) = behinds.Up (incarnation_at before n) stop
+behind_of before (Turn n (Tick ms) fates until) = behinds.Tick (incarnation_at before n)
+behind_of before (Turn n (Deliver k) fates until) = behinds.Deliver k (incarnation_at before n)
 behind_of before other = behinds.Nothing
 
-abbrev pub line_behind : ℕ → Behind → World → List Counted → List ℕ
-line_behind n (behinds.Up was) behind steps = up_result n was (incarnation_at behind n)
-line_behind n behinds.Tick behind steps = tick_line n (or_zero (clock_at behind n)) (answer_of steps)
-line_behind n (behinds.Deliver k) behind steps = deliver_line k n (answer_of steps)
-line_behind n behinds.Nothing behind steps = []
+abbrev pub line_behind : Option Fault → ℕ → Behind → World → List Counted → List ℕ
+line_behind f n (behinds.Up was stop) behind steps = up_result f stop n was (incarnation_at behind n)
+line_behind f n (behinds.Tick was) behind steps =
+    tick_line n (or_zero (clock_at behind n)) (outcome_of f was (incarnation_at behind n) steps)
+line_behind f n (behinds.Deliver k was) behind steps = deliver_line k n (outcome_of f was (incarnation_at behind n) steps)
+line_behind f n behinds.Nothing behind steps = []
 
 -- The lines of a step's effects.
 abbrev pub effect_lines : ℕ → List Effect → List ℕ
@@ -105,21 +145,49 @@ step_lines n k messages (o ∷ rest) =
     ++ step_lines n (k + own_count o messages) (drop (own_count o messages) messages) rest)
 
 -- What is printed of an event in a world: its result, then its steps, then what going down lost.
-abbrev pub event_lines : World → WorldEvent → List ℕ
-event_lines w e =
-    result_line e w (world_step w e) (steps_of w e)
+abbrev pub event_lines : Option Fault → World → WorldEvent → List ℕ
+event_lines f w e =
+    result_line f e w (world_step w e) (steps_of w e)
     ++ (step_lines (node_of e) (length w.posted + 1) (drop (length w.posted) (world_step w e).posted) (steps_of w e)
     ++ effect_lines (node_of e) (losses_of w e))
 
 -- How far a replay has come: the world, for each message from the first on whether it was delivered (those behind the
--- list weren't), and what was printed.
+-- list weren't), which call is armed at each node, and what was printed.
 pub record Course : Type 0 where
   pub world : World
   pub delivered : List Bool
+  pub armed : List (Option Armed)
   pub text : List ℕ
 
-abbrev pub happens : WorldEvent → Course → Course
-happens e c = record c { world = world_step c.world e; text = c.text ++ event_lines c.world e }
+-- An event happens, which met this fault or none.
+abbrev pub happens : Option Fault → WorldEvent → Course → Course
+happens f e c = record c { world = world_step c.world e; text = c.text ++ event_lines f c.world e }
+
+-- there are at most 8 nodes
+abbrev pub nobody_armed : List (Option Armed)
+nobody_armed = replicate 8 None
+
+abbrev pub armed_at : ℕ → List (Option Armed) → Option Armed
+armed_at n armed = option_and_then (λ a. a) (slice_get armed (n - 1))
+
+-- A node has one call armed; the next takes its place.
+abbrev pub with_armed : ℕ → Option Armed → Course → Course
+with_armed n a c = record c { armed = slice_set c.armed (n - 1) a }
+
+-- An event happens as far as the call that is armed at its node lets it.
+abbrev pub meets : Armed → Option Bool → WorldEvent → Course → Course
+meets a first e c =
+    with_armed (node_of e)
+    (armed_behind a (is_some (incarnation_at c.world (node_of e))) first (length (left_of c.world (struck a first e)).fates) e)
+    (happens (Some a.fault) (struck a first e) c)
+
+abbrev pub comes_to : Option Armed → WorldEvent → Course → Course
+comes_to None e c = happens None e c
+comes_to (Some a) e c = meets a (first_records c.world e) e c
+
+-- An event that a line asks for.
+abbrev pub comes : WorldEvent → Course → Course
+comes e c = comes_to (armed_at (node_of e) c.armed) e c
 
 abbrev pub printed : List ℕ → Course → Course
 printed line c = record c { text = c.text ++ line }
@@ -127,7 +195,7 @@ printed line c = record c { text = c.text ++ line }
 -- A message goes to its node, whether it did before or not.
 abbrev pub goes_to : ℕ → Option ℕ → Course → Course
 goes_to k None c = printed (no_message_line k) c
-goes_to k (Some n) c = happens (deliver_to n k) c
+goes_to k (Some n) c = comes (deliver_to n k) c
 
 abbrev pub receiver_in : Posted → Option ℕ
 receiver_in p = p.receiver
@@ -154,16 +222,18 @@ flushes (suc most) c = flushes most (delivers_lowest c)
 -- What a line does. How many nodes there are is known from the start.
 abbrev pub taken : Line → Course → Course
 taken (lines.Nodes count) c = c
-taken (lines.Begin n coordinator ms) c = happens (begin_at n coordinator ms) c
-taken (lines.Interpose n activity coordinator) c = happens (interpose_at n activity coordinator) c
-taken (lines.Work n activity service kind vote) c = happens (work_at n activity service kind vote) c
-taken (lines.Commit n activity) c = happens (commit_at n activity) c
-taken (lines.Rollback n activity) c = happens (request n (locals.Rollback activity)) c
+taken (lines.Begin n coordinator ms) c = comes (begin_at n coordinator ms) c
+taken (lines.Interpose n activity coordinator) c = comes (interpose_at n activity coordinator) c
+taken (lines.Work n activity service kind vote) c = comes (work_at n activity service kind vote) c
+taken (lines.Commit n activity) c = comes (commit_at n activity) c
+taken (lines.Rollback n activity) c = comes (request n (locals.Rollback activity)) c
 taken (lines.Deliver k) c = delivers k c
 taken (lines.Flush most) c = flushes most c
-taken (lines.Tick n ms) c = happens (tick_at n ms) c
-taken (lines.Crash n) c = happens (Crash n) c
-taken (lines.Up n) c = happens (up n) c
+taken (lines.Tick n ms) c = comes (tick_at n ms) c
+taken (lines.Crash n) c = comes (Crash n) c
+taken (lines.Up n) c = comes (up n) c
+taken (lines.Stop n call left) c = with_armed n (Some (record { call = call; fault = faults.Stop left })) c
+taken (lines.Fail n call) c = with_armed n (Some (record { call = call; fault = faults.Fail })) c
 
 abbrev pub all_taken : List Line → Course → Course
 all_taken [] c = c
@@ -172,11 +242,12 @@ all_taken (line ∷ rest) c = all_taken rest (taken line c)
 -- so many nodes come up, numbered from this one on
 abbrev pub all_up : ℕ → ℕ → Course → Course
 all_up zero n c = c
-all_up (suc count) n c = all_up count (n + 1) (happens (up n) c)
+all_up (suc count) n c = all_up count (n + 1) (happens None (up n) c)
 
 -- Every node comes up, in a world where nothing happened before.
 abbrev pub begun : ℕ → Course
-begun count = all_up count 1 (record { world = opening (example_hosts count); delivered = []; text = [] })
+begun count =
+    all_up count 1 (record { world = opening (example_hosts count); delivered = []; armed = nobody_armed; text = [] })
 
 abbrev pub is_ending : Ending → Ending → Bool
 is_ending endings.Committed endings.Committed = true
@@ -232,9 +303,9 @@ report_of all = whole (course_of all)
 -- These events happen, one after another.
 abbrev pub all_happen : List WorldEvent → Course → Course
 all_happen [] c = c
-all_happen (e ∷ es) c = all_happen es (happens e c)
+all_happen (e ∷ es) c = all_happen es (happens None e c)
 
--- The events that bring its world to rest happen behind all that happened.
+-- The events that bring its world to rest happen behind all that happened. What was armed is no more.
 abbrev pub comes_to_rest : Course → Course
 comes_to_rest c = all_happen (settle c.world) c
 

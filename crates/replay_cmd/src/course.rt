@@ -1,19 +1,23 @@
 //! A replay on its way.
 
-ghost use Rattle.std.specs.Prelude.{◌≡◌, ◌≤◌, ◌<◌, ◌+◌, ◌-◌, ◌^◌, ◌++◌, [], IfOk, OnOk, None, length, drop, map, option_map, option_copied};
+ghost use Rattle.std.specs.Prelude.{◌≡◌, ◌≤◌, ◌<◌, ◌+◌, ◌-◌, ◌^◌, ◌++◌, [], IfOk, OnOk, None, Some, length, drop, map, option_map, option_copied};
 ghost use Rattle.at_model.specs.Views.{deliver_to, request, tick_at, up};
 ghost use Rattle.at_model.specs.World.{Turn, Ask, Crash, nth, opening, world_step, example_hosts};
 ghost use Rattle.world_laws.specs.Events.{event_of, input_of};
 ghost use Rattle.world_laws.specs.Runs.{book_at, world_of};
-ghost use Rattle.world_laws.specs.Moves.{losses_of, steps_of};
+ghost use Rattle.world_laws.specs.Firsts.{first_records};
+ghost use Rattle.world_laws.specs.Moves.{left_of, losses_of, steps_of};
 ghost use Rattle.replay_cmd.specs.Delivered.{lowest, yes_at};
 ghost use Rattle.replay_cmd.specs.Lines.{no_message_line};
-ghost use Rattle.replay_cmd.specs.ReportOf.{all_happen, all_up, comes_to_rest, delivers, effect_lines, flushes, goes_to, happens, line_before, line_behind, behind_of, printed, receiver_in, request_result, step_lines, summed, up_result, whole, begun};
+ghost use Rattle.replay_cmd.specs.ReportOf.{all_happen, all_up, comes, comes_to, comes_to_rest, delivers, effect_lines, flushes, goes_to, happens, line_before, line_behind, behind_of, meets, nobody_armed, printed, receiver_in, request_result, start_result, step_lines, summed, whole, with_armed, begun};
 
+use crate::arms::{Arms, known_rest};
 use crate::delivered::Delivered;
 use crate::endings::{push_ended, push_summed};
-use crate::lines::Lines;
-use crate::steps::{answer_of, push_effects, push_steps};
+use crate::fault::{Armed, Fault};
+use crate::lines::{Lines, Started};
+use crate::met::strike;
+use crate::steps::{outcome_of, push_effects, push_steps, started_by};
 use at_base::event::Local;
 use at_base::outs::Effects;
 use effect_words::refusal_word;
@@ -32,6 +36,7 @@ const MOST: usize = 4_294_967_295;
 pub struct Course {
     world: World,
     delivered: Delivered,
+    armed: Arms,
     lines: Lines,
 }
 
@@ -41,13 +46,14 @@ impl Model for Course {
 
     ghost Value = { Known };
 
-    ghost view = { λ c. record { world = world_of c.world; delivered = c.delivered; text = c.lines } };
+    ghost view = { λ c. record { world = world_of c.world; delivered = c.delivered; armed = c.armed; text = c.lines } };
 }
 
 fn stepped(world: World, alloc: Global, event: WorldEvent) -> Result<Stepped, AllocError>
     ensures world { IfOk result (λ s. world_of s.world ≡ world_step (world_of world) (event_of event)) }
     ensures steps { IfOk result (λ s. s.steps ≡ steps_of (world_of world) (event_of event)) }
     ensures lost { IfOk result (λ s. s.lost ≡ losses_of (world_of world) (event_of event)) }
+    ensures left { IfOk result (λ s. s.left ≡ left_of (world_of world) (event_of event)) }
 {
     if world.events().len() >= MOST {
         return Err(AllocError);
@@ -62,6 +68,16 @@ fn opened(alloc: Global, count: u8) -> Result<World, AllocError>
 {
     let world = World::new(alloc, count)?;
     Ok(world)
+}
+
+fn coming_up(node: u8) -> WorldEvent
+    ensures { event_of result ≡ up node }
+{
+    WorldEvent::Up {
+        node,
+        landed: true,
+        stop: false,
+    }
 }
 
 fn turn(alloc: Global, node: u8, input: Input) -> WorldEvent
@@ -113,14 +129,14 @@ fn push_start(
     alloc: Global,
     lines: &mut Lines,
     node: u8,
+    started: Started,
     before: Option<u32>,
-    behind: Option<u32>,
 ) -> Result<(), AllocError>
-    ensures { OnOk result (lines.new ≡ lines.old ++ up_result node before behind) }
+    ensures { OnOk result (lines.new ≡ lines.old ++ start_result started node before) }
 {
     match before {
         Some(_) => lines.push_up_already(alloc, node),
-        None => lines.push_up(alloc, node, behind),
+        None => lines.push_up(alloc, node, started),
     }
 }
 
@@ -162,12 +178,12 @@ fn push_before(
 /// What of an event's result is seen once it has happened.
 #[derive(Clone, Copy, Debug)]
 pub enum Behind {
-    /// The node came up; it was up in this incarnation before, or down.
-    Up { was: Option<u32> },
-    /// The time that a node's clock shows, and its answer.
-    Tick,
-    /// The answer to this message.
-    Deliver { number: u64 },
+    /// The node came up; it was up in this incarnation before, or down. Whether a fault came in it.
+    Up { was: Option<u32>, cut: bool },
+    /// The time that a node's clock shows, and how its turn came out.
+    Tick { was: Option<u32> },
+    /// How the turn of this message came out.
+    Deliver { number: u64, was: Option<u32> },
     /// Nothing.
     Nothing,
 }
@@ -176,17 +192,25 @@ fn behind_of(world: &World, event: &WorldEvent) -> Behind
     ensures { result ≡ behind_of (world_of world.now) (event_of event.now) }
 {
     match event {
-        WorldEvent::Up { node, .. } => Behind::Up {
+        WorldEvent::Up { node, stop, .. } => Behind::Up {
+            was: world.incarnation(*node),
+            cut: *stop,
+        },
+        WorldEvent::Turn {
+            node,
+            input: Input::Tick(_),
+            ..
+        } => Behind::Tick {
             was: world.incarnation(*node),
         },
         WorldEvent::Turn {
-            input: Input::Tick(_),
-            ..
-        } => Behind::Tick,
-        WorldEvent::Turn {
+            node,
             input: Input::Deliver(number),
             ..
-        } => Behind::Deliver { number: *number },
+        } => Behind::Deliver {
+            number: *number,
+            was: world.incarnation(*node),
+        },
         WorldEvent::Turn {
             input: Input::Raw,
             ..
@@ -201,20 +225,34 @@ fn push_result(
     alloc: Global,
     lines: &mut Lines,
     node: u8,
+    fault: Option<Fault>,
     behind: Behind,
     world: &World,
     steps: &Steps,
 ) -> Result<(), AllocError>
-    ensures { OnOk result (lines.new ≡ lines.old ++ line_behind node behind (world_of world.now) steps.now) }
+    ensures { OnOk result (lines.new ≡ lines.old ++ line_behind fault node behind (world_of world.now) steps.now) }
 {
+    let is = world.incarnation(node);
     match behind {
-        Behind::Up { was } => push_start(alloc, lines, node, was, world.incarnation(node)),
-        Behind::Tick => {
-            let clock = world.clock(node).unwrap_or(0);
-            lines.push_tick(alloc, node, clock, answer_of(steps.as_slice()))
+        Behind::Up { was, cut } => {
+            push_start(alloc, lines, node, started_by(fault, cut, is), was)
         }
-        Behind::Deliver { number } => {
-            lines.push_deliver(alloc, number, node, answer_of(steps.as_slice()))
+        Behind::Tick { was } => {
+            let clock = world.clock(node).unwrap_or(0);
+            lines.push_tick(
+                alloc,
+                node,
+                clock,
+                outcome_of(fault, was, is, steps.as_slice()),
+            )
+        }
+        Behind::Deliver { number, was } => {
+            lines.push_deliver(
+                alloc,
+                number,
+                node,
+                outcome_of(fault, was, is, steps.as_slice()),
+            )
         }
         Behind::Nothing => Ok(()),
     }
@@ -225,16 +263,25 @@ fn push_event(
     alloc: Global,
     lines: &mut Lines,
     node: u8,
+    fault: Option<Fault>,
     behind: Behind,
     before: usize,
     stepped: &Stepped,
 ) -> Result<(), AllocError>
     requires { before < 2 ^ 63 }
     ensures { OnOk result
-        (lines.new ≡ lines.old ++ (line_behind node behind (world_of stepped.now.world) stepped.now.steps
+        (lines.new ≡ lines.old ++ (line_behind fault node behind (world_of stepped.now.world) stepped.now.steps
         ++ (step_lines node (before + 1) (drop before (world_of stepped.now.world).posted) stepped.now.steps ++ effect_lines node stepped.now.lost))) }
 {
-    push_result(alloc, lines, node, behind, &stepped.world, &stepped.steps)?;
+    push_result(
+        alloc,
+        lines,
+        node,
+        fault,
+        behind,
+        &stepped.world,
+        &stepped.steps,
+    )?;
     push_behind(
         alloc,
         lines,
@@ -250,23 +297,31 @@ impl Course {
     /// A world of so many nodes, each of which is down.
     fn opening(alloc: Global, count: u8) -> Result<Course, AllocError>
         requires { (1 ≤ count) × (count ≤ 8) }
-        ensures { IfOk result (λ c. c ≡ record { world = opening (example_hosts count); delivered = []; text = [] }) }
+        ensures { IfOk result (λ c. c ≡ record { world = opening (example_hosts count); delivered = []; armed = nobody_armed; text = [] }) }
     {
         Ok(Course {
             world: opened(alloc, count)?,
             delivered: Delivered::new(alloc),
+            armed: Arms::new(alloc)?,
             lines: Lines::new(alloc),
         })
     }
 
-    /// An event happens.
+    /// An event happens, which met this fault or none; and how many of its fates it left.
     #[tactic(auto, using(crate::proofs::Printing::happened))]
-    pub fn happen(self, alloc: Global, event: WorldEvent) -> Result<Course, AllocError>
-        ensures { IfOk result (λ c. c ≡ happens (event_of event) self) }
+    fn happen(
+        self,
+        alloc: Global,
+        fault: Option<Fault>,
+        event: WorldEvent,
+    ) -> Result<(Course, usize), AllocError>
+        ensures course { IfOk result (λ p. p.0 ≡ happens fault (event_of event) self) }
+        ensures left { IfOk result (λ p. p.1 ≡ length (left_of self.world (event_of event)).fates) }
     {
         let Course {
             world,
             delivered,
+            armed,
             mut lines,
         } = self;
         let before = world.all_posted().len();
@@ -274,33 +329,98 @@ impl Course {
         let behind = behind_of(&world, &event);
         push_before(alloc, &mut lines, &world, &event)?;
         let stepped = stepped(world, alloc, event)?;
-        push_event(alloc, &mut lines, node, behind, before, &stepped)?;
-        Ok(Course {
+        push_event(alloc, &mut lines, node, fault, behind, before, &stepped)?;
+        let left = stepped.left.left();
+        let course = Course {
             world: stepped.world,
             delivered,
+            armed,
             lines,
-        })
+        };
+        Ok((course, left))
+    }
+
+    /// An event happens as it is.
+    fn happen_whole(self, alloc: Global, event: WorldEvent) -> Result<Course, AllocError>
+        ensures { IfOk result (λ c. c ≡ happens None (event_of event) self) }
+    {
+        let (course, _left) = self.happen(alloc, None, event)?;
+        Ok(course)
+    }
+
+    /// Arms a call of a node in place of the one that is armed.
+    pub fn arm(self, node: u8, armed: Option<Armed>) -> Course
+        ensures { result ≡ with_armed node armed self }
+    {
+        let mut course = self;
+        course.armed.set(node, armed);
+        course
+    }
+
+    /// Whether the first step of an event has a record; none where it takes no step.
+    fn first_records(
+        &mut self,
+        alloc: Global,
+        event: &WorldEvent,
+    ) -> Result<Option<bool>, AllocError>
+        ensures records { IfOk result (λ r. r ≡ first_records self.old.world (event_of event.now)) }
+        ensures same { self.new ≡ self.old }
+    {
+        if self.world.events().len() >= MOST {
+            return Err(AllocError);
+        }
+        self.world.records(alloc, event)
+    }
+
+    /// An event happens as far as the armed call lets it; whether its first step has a record.
+    fn meet_at(
+        self,
+        alloc: Global,
+        armed: Armed,
+        first: Option<bool>,
+        event: WorldEvent,
+    ) -> Result<Course, AllocError>
+        ensures { IfOk result (λ c. c ≡ meets armed first (event_of event) self) }
+    {
+        let node = event.node();
+        let was_up = self.world.incarnation(node).is_some();
+        let rest = known_rest(armed, was_up, first, &event);
+        let mut event = event;
+        strike(alloc, armed, first, &mut event)?;
+        let (course, left) = self.happen(alloc, Some(armed.fault), event)?;
+        Ok(course.arm(node, rest.behind(armed, left)))
+    }
+
+    fn meet(self, alloc: Global, armed: Armed, event: WorldEvent) -> Result<Course, AllocError>
+        ensures { IfOk result (λ c. c ≡ comes_to (Some armed) (event_of event) self) }
+    {
+        let mut course = self;
+        let first = course.first_records(alloc, &event)?;
+        course.meet_at(alloc, armed, first, event)
+    }
+
+    /// An event that a line asks for.
+    pub fn come(self, alloc: Global, event: WorldEvent) -> Result<Course, AllocError>
+        ensures { IfOk result (λ c. c ≡ comes (event_of event) self) }
+    {
+        match self.armed.at(event.node()) {
+            None => self.happen_whole(alloc, event),
+            Some(armed) => self.meet(alloc, armed, event),
+        }
     }
 
     /// A node comes up, where it is down.
     pub fn up(self, alloc: Global, node: u8) -> Result<Course, AllocError>
-        ensures { IfOk result (λ c. c ≡ happens (up node) self) }
+        ensures { IfOk result (λ c. c ≡ comes (up node) self) }
     {
-        self.happen(
-            alloc,
-            WorldEvent::Up {
-                node,
-                landed: true,
-                stop: false,
-            },
-        )
+        self.come(alloc, coming_up(node))
     }
 
     /// A node goes down at rest.
     pub fn crash(self, alloc: Global, node: u8) -> Result<Course, AllocError>
-        ensures { IfOk result (λ c. c ≡ happens (Crash node) self) }
+        ensures { IfOk result (λ c. c ≡ comes (Crash node) self) }
     {
-        self.happen(alloc, WorldEvent::Crash { node })
+        self.come(alloc, WorldEvent::Crash { node })
     }
 
     /// So many nodes come up.
@@ -310,29 +430,29 @@ impl Course {
     {
         let mut course = self;
         for place in 0..count {
-            course = course.up(alloc, place + 1)?;
+            course = course.happen_whole(alloc, coming_up(place + 1))?;
         }
         Ok(course)
     }
 
     /// A node is asked by its own program.
     pub fn ask(self, alloc: Global, node: u8, local: Local) -> Result<Course, AllocError>
-        ensures { IfOk result (λ c. c ≡ happens (request node local) self) }
+        ensures { IfOk result (λ c. c ≡ comes (request node local) self) }
     {
-        self.happen(alloc, asking(alloc, node, local))
+        self.come(alloc, asking(alloc, node, local))
     }
 
     /// So many milliseconds go by at a node.
     pub fn tick(self, alloc: Global, node: u8, ms: u32) -> Result<Course, AllocError>
-        ensures { IfOk result (λ c. c ≡ happens (tick_at node ms) self) }
+        ensures { IfOk result (λ c. c ≡ comes (tick_at node ms) self) }
     {
-        self.happen(alloc, turn(alloc, node, Input::Tick(ms)))
+        self.come(alloc, turn(alloc, node, Input::Tick(ms)))
     }
 
     fn deliver_to(self, alloc: Global, number: u64, node: u8) -> Result<Course, AllocError>
-        ensures { IfOk result (λ c. c ≡ happens (deliver_to node number) self) }
+        ensures { IfOk result (λ c. c ≡ comes (deliver_to node number) self) }
     {
-        self.happen(alloc, turn(alloc, node, Input::Deliver(number)))
+        self.come(alloc, turn(alloc, node, Input::Deliver(number)))
     }
 
     fn no_message(self, alloc: Global, number: u64) -> Result<Course, AllocError>
@@ -419,7 +539,7 @@ impl Course {
     {
         let mut course = self;
         for event in events {
-            course = course.happen(alloc, event.clone()?)?;
+            course = course.happen_whole(alloc, event.clone()?)?;
         }
         Ok(course)
     }
@@ -439,6 +559,7 @@ impl Course {
         let Course {
             world,
             delivered: _delivered,
+            armed: _armed,
             mut lines,
         } = self;
         push_ended(alloc, &mut lines, &world)?;

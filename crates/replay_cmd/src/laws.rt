@@ -12,7 +12,7 @@ pub fn what_is_read_is_replayable()
     ensures { ReadIsReplayable }
 {}
 
-/// The world of a report is that of a run of its nodes in which no call of a node's site fails.
+/// The world of a report is that of a run of its nodes.
 #[tactic(auto, using(crate::proofs::Resting::reports_runs))]
 pub fn a_report_is_that_of_a_run()
     ensures { ReportsRuns }

@@ -15,6 +15,30 @@ use std::alloc::{AllocError, Global};
 use std::marker::Model;
 use world_laws::posted::Posted;
 
+/// How a start came out.
+#[derive(Clone, Copy, Debug, PartialEq, Eq)]
+pub enum Started {
+    /// The node is up in this incarnation.
+    Up { incarnation: u32 },
+    /// It stopped in it.
+    Stopped,
+    /// It stayed down.
+    Failed,
+}
+
+/// How a turn came out.
+#[derive(Clone, Copy, Debug, PartialEq, Eq)]
+pub enum Outcome {
+    /// It answered with this HTTP status.
+    Answered { status: u16 },
+    /// The node stopped in it.
+    Stopped,
+    /// The node halted, since a record may stand or not.
+    Halted,
+    /// The node was down.
+    Down,
+}
+
 /// What was printed, byte by byte.
 #[derive(Debug, Drop)]
 pub struct Lines {
@@ -124,19 +148,15 @@ impl Lines {
         self.bytes.extend_from_slice(bytes)
     }
 
-    /// A node came up in this incarnation, or not at all.
+    /// How a node's start came out.
     #[tactic(auto, unfolding(crate::specs::Lines::up_line))]
-    pub fn push_up(
-        &mut self,
-        alloc: Global,
-        node: u8,
-        incarnation: Option<u32>,
-    ) -> Result<(), AllocError>
-        ensures { OnOk result (self.new ≡ self.old ++ up_line node incarnation) }
+    pub fn push_up(&mut self, alloc: Global, node: u8, started: Started) -> Result<(), AllocError>
+        ensures { OnOk result (self.new ≡ self.old ++ up_line node started) }
     {
-        let line = match incarnation {
-            Some(incarnation) => format!(in alloc; "up {} {}\n", node, incarnation)?,
-            None => format!(in alloc; "up {} failed\n", node)?,
+        let line = match started {
+            Started::Up { incarnation } => format!(in alloc; "up {} {}\n", node, incarnation)?,
+            Started::Stopped => format!(in alloc; "up {} stopped\n", node)?,
+            Started::Failed => format!(in alloc; "up {} failed\n", node)?,
         };
         self.push(line.as_str())
     }
@@ -167,20 +187,24 @@ impl Lines {
         self.push(line.as_str())
     }
 
-    /// A message went to a node, which answered so; none where it is down.
+    /// A message went to a node, whose turn came out so.
     #[tactic(auto, unfolding(crate::specs::Lines::deliver_line))]
     pub fn push_deliver(
         &mut self,
         alloc: Global,
         number: u64,
         node: u8,
-        answer: Option<u16>,
+        outcome: Outcome,
     ) -> Result<(), AllocError>
-        ensures { OnOk result (self.new ≡ self.old ++ deliver_line number node answer) }
+        ensures { OnOk result (self.new ≡ self.old ++ deliver_line number node outcome) }
     {
-        let line = match answer {
-            Some(status) => format!(in alloc; "deliver {} {} {}\n", number, node, status)?,
-            None => format!(in alloc; "deliver {} {} down\n", number, node)?,
+        let line = match outcome {
+            Outcome::Answered { status } => {
+                format!(in alloc; "deliver {} {} {}\n", number, node, status)?
+            }
+            Outcome::Stopped => format!(in alloc; "deliver {} {} stopped\n", number, node)?,
+            Outcome::Halted => format!(in alloc; "deliver {} {} halted\n", number, node)?,
+            Outcome::Down => format!(in alloc; "deliver {} {} down\n", number, node)?,
         };
         self.push(line.as_str())
     }
@@ -194,20 +218,24 @@ impl Lines {
         self.push(line.as_str())
     }
 
-    /// The clock of a node came to this, in milliseconds, and the node answered so; none where it is down.
+    /// The clock of a node came to this, in milliseconds, and its turn came out so.
     #[tactic(auto, unfolding(crate::specs::Lines::tick_line))]
     pub fn push_tick(
         &mut self,
         alloc: Global,
         node: u8,
         clock: u64,
-        answer: Option<u16>,
+        outcome: Outcome,
     ) -> Result<(), AllocError>
-        ensures { OnOk result (self.new ≡ self.old ++ tick_line node clock answer) }
+        ensures { OnOk result (self.new ≡ self.old ++ tick_line node clock outcome) }
     {
-        let line = match answer {
-            Some(status) => format!(in alloc; "tick {} {} {}\n", node, clock, status)?,
-            None => format!(in alloc; "tick {} {} down\n", node, clock)?,
+        let line = match outcome {
+            Outcome::Answered { status } => {
+                format!(in alloc; "tick {} {} {}\n", node, clock, status)?
+            }
+            Outcome::Stopped => format!(in alloc; "tick {} {} stopped\n", node, clock)?,
+            Outcome::Halted => format!(in alloc; "tick {} {} halted\n", node, clock)?,
+            Outcome::Down => format!(in alloc; "tick {} {} down\n", node, clock)?,
         };
         self.push(line.as_str())
     }

@@ -2,18 +2,40 @@
 
 ghost use Rattle.std.specs.Prelude.{◌≡◌, ◌≤◌, IfOk};
 ghost use Rattle.at_base.specs.declared.event.Local.TheVariants as locals;
+ghost use Rattle.replay_cmd.specs.declared.fault.Fault.TheVariants as faults;
 ghost use Rattle.replay_cmd.specs.Laws.{ComesToRest, IsReplayable, IsSafe};
 ghost use Rattle.replay_cmd.specs.ReportOf.{all_taken, course_of, course_with, nodes_of, report_with, summary_of, taken, world_of, world_with};
 ghost use Rattle.schedules.specs.Generator.{made};
 
 use crate::course::Course;
+use crate::fault::{Armed, Fault};
 use crate::laws::{reports_are_safe, reports_come_to_rest};
 use crate::lines::Lines;
 use crate::requests::{begin, interpose, work};
 use at_base::event::Local;
 use schedules::generator::make;
-use schedules::line::{Line, Schedule};
+use schedules::line::{Leaves, Line, Schedule};
 use std::alloc::{AllocError, Global};
+
+/// A call at which a node stops.
+fn stop(call: u32, leaves: Leaves) -> Armed
+    ensures { result ≡ record { call = call; fault = faults.Stop leaves } }
+{
+    Armed {
+        call,
+        fault: Fault::Stop { leaves },
+    }
+}
+
+/// A call that fails.
+fn failure(call: u32) -> Armed
+    ensures { result ≡ record { call = call; fault = faults.Fail } }
+{
+    Armed {
+        call,
+        fault: Fault::Fail,
+    }
+}
 
 fn take_line(course: Course, alloc: Global, line: &Line) -> Result<Course, AllocError>
     ensures { IfOk result (λ c. c ≡ taken line.now course) }
@@ -65,6 +87,8 @@ fn take_line(course: Course, alloc: Global, line: &Line) -> Result<Course, Alloc
         Line::Tick { node, ms } => course.tick(alloc, *node, *ms),
         Line::Crash { node } => course.crash(alloc, *node),
         Line::Up { node } => course.up(alloc, *node),
+        Line::Stop { node, call, leaves } => Ok(course.arm(*node, Some(stop(*call, *leaves)))),
+        Line::Fail { node, call } => Ok(course.arm(*node, Some(failure(*call)))),
     }
 }
 

@@ -1,9 +1,10 @@
 //! The lines of an event's steps: of each its effects, and then its posts.
 
 ghost use Rattle.std.specs.Prelude.{◌≡◌, ◌≤◌, ◌<◌, ◌+◌, ◌^◌, ◌++◌, OnOk, length, take};
-ghost use Rattle.replay_cmd.specs.ReportOf.{answer_of, effect_lines, message_lines, own_count, status_of, step_lines};
+ghost use Rattle.replay_cmd.specs.ReportOf.{cut_by, effect_lines, message_lines, outcome_of, own_count, start_cut_by, started_by, status_in, status_of, step_lines};
 
-use crate::lines::Lines;
+use crate::fault::Fault;
+use crate::lines::{Lines, Outcome, Started};
 use at_base::outs::Effect;
 use std::alloc::{AllocError, Global};
 use world_laws::posted::{Counted, Posted};
@@ -19,13 +20,65 @@ fn status_of(answer: &Option<Answer>) -> u16
     }
 }
 
-/// The HTTP status that a turn of these steps answers; none where the node is down.
-pub fn answer_of(steps: &[Counted]) -> Option<u16>
-    ensures { result ≡ answer_of steps.now }
+/// The HTTP status that a turn of these steps answers.
+fn status_in(steps: &[Counted]) -> u16
+    ensures { result ≡ status_in steps.now }
 {
     match steps.first() {
-        Some(first) => Some(status_of(&first.answer)),
-        None => None,
+        Some(first) => status_of(&first.answer),
+        None => 0,
+    }
+}
+
+/// How a turn ended that a fault took down.
+fn cut_by(fault: Option<Fault>) -> Outcome
+    ensures { result ≡ cut_by fault }
+{
+    match fault {
+        None => Outcome::Down,
+        Some(Fault::Fail) => Outcome::Halted,
+        Some(Fault::Stop { .. }) => Outcome::Stopped,
+    }
+}
+
+/// How a turn of these steps came out at a node that was up in this incarnation before, and is in that one behind it.
+pub fn outcome_of(
+    fault: Option<Fault>,
+    was: Option<u32>,
+    is: Option<u32>,
+    steps: &[Counted],
+) -> Outcome
+    ensures { result ≡ outcome_of fault was is steps.now }
+{
+    match (was, is) {
+        (None, _) => Outcome::Down,
+        (Some(_), None) => cut_by(fault),
+        (Some(_), Some(_)) => Outcome::Answered {
+            status: status_in(steps),
+        },
+    }
+}
+
+/// How a start ended at which a fault came.
+fn start_cut_by(fault: Option<Fault>) -> Started
+    ensures { result ≡ start_cut_by fault }
+{
+    match fault {
+        None | Some(Fault::Fail) => Started::Failed,
+        Some(Fault::Stop { .. }) => Started::Stopped,
+    }
+}
+
+/// How a start came out, at which a fault came or none, of a node that is up in this incarnation behind it.
+pub fn started_by(fault: Option<Fault>, cut: bool, is: Option<u32>) -> Started
+    ensures { result ≡ started_by fault cut is }
+{
+    if cut {
+        return start_cut_by(fault);
+    }
+    match is {
+        Some(incarnation) => Started::Up { incarnation },
+        None => Started::Failed,
     }
 }
 

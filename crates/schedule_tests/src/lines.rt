@@ -2,14 +2,14 @@
 
 use at_base::id::Id;
 use at_base::notice::{Kind, Vote};
-use schedules::line::{Line, ScheduleError};
+use schedules::line::{Leaves, Line, ScheduleError};
 use schedules::reader::read_schedule;
 use std::alloc::{AllocError, Global};
 use std::test::Fail;
 
 /// A line of each word, each number at a bound, the last line without its line feed.
 const EACH: &[u8] =
-    b"nodes 8\nbegin 1 8 4294967295\ninterpose 8 1-1 1\nwork 1 4294967295-1 8 d prepared\nwork 2 1-2 3 v readonly\nwork 3 1-3 1 v aborted\ncommit 1 1-1\nrollback 8 2-10\ndeliver 1\ndeliver 1000000\nflush 0\nflush 10000\ntick 8 0\ntick 1 4294967295\ncrash 8\nup 1";
+    b"nodes 8\nbegin 1 8 4294967295\ninterpose 8 1-1 1\nwork 1 4294967295-1 8 d prepared\nwork 2 1-2 3 v readonly\nwork 3 1-3 1 v aborted\ncommit 1 1-1\nrollback 8 2-10\ndeliver 1\ndeliver 1000000\nflush 0\nflush 10000\ntick 8 0\ntick 1 4294967295\ncrash 8\nup 1\nstop 1 1 keep\nstop 8 1000000 drop\nstop 1 2 fill 0\nstop 1 2 fill 255\nfail 8 1000000";
 
 /// Texts with their first bad line and its cause; line 0 where there is none.
 const ROWS: &[(&[u8], u32, u8)] = &[
@@ -26,6 +26,16 @@ const ROWS: &[(&[u8], u32, u8)] = &[
     (b"nodes 1\ncommit 1 1-0", 2, 4),
     (b"nodes 1\nwork 1 1-1 1 x prepared", 2, 5),
     (b"nodes 1\nwork 1 1-1 1 d x", 2, 5),
+    (b"nodes 1\nstop 1 1", 2, 2),
+    (b"nodes 1\nstop 1 1 fill", 2, 2),
+    (b"nodes 1\nstop 1 1 keep 3", 2, 2),
+    (b"nodes 1\nstop 1 1 drop 3", 2, 2),
+    (b"nodes 1\nstop 1 1 fill 1 1", 2, 2),
+    (b"nodes 1\nfail 1", 2, 2),
+    (b"nodes 1\nfail 1 1 1", 2, 2),
+    (b"nodes 1\nstop 1 1 foo", 2, 5),
+    (b"nodes 1\nstop 1 1 foo 3", 2, 5),
+    (b"nodes 1\nstop 1 1 foo x", 2, 5),
     (b"", 1, 7),
     (b"flush 1", 1, 7),
     (b"nodes 1\nflush 1\nnodes 1", 3, 7),
@@ -42,6 +52,10 @@ const ROWS: &[(&[u8], u32, u8)] = &[
     (b"nodes 3\nwork 1 1-0 4 x y", 2, 3),
     (b"nodes 3\nwork 1 1-0 3 x y", 2, 4),
     (b"nodes 3\ninterpose 1 1-0 4", 2, 3),
+    (b"nodes 1\nstop 2 1 fill", 2, 2),
+    (b"nodes 1\nstop 2 1 keep 3", 2, 2),
+    (b"nodes 1\nstop 1 0 foo", 2, 3),
+    (b"nodes 1\nstop 2 1 foo 3", 2, 3),
     // the first bad line goes before a later one
     (b"nodes 1\nflush 01\nflush \x80\n", 2, 3),
     // bounds
@@ -63,6 +77,13 @@ const ROWS: &[(&[u8], u32, u8)] = &[
         2,
         3,
     ),
+    (b"nodes 1\nstop 2 1 keep", 2, 3),
+    (b"nodes 1\nstop 1 0 keep", 2, 3),
+    (b"nodes 1\nstop 1 1000001 keep", 2, 3),
+    (b"nodes 1\nstop 1 1 fill 256", 2, 3),
+    (b"nodes 1\nfail 0 1", 2, 3),
+    (b"nodes 1\nfail 1 0", 2, 3),
+    (b"nodes 1\nfail 1 1000001", 2, 3),
     (b"nodes 1\ncommit 1 1-4294967296", 2, 4),
     (b"nodes 1\nflush 1~", 2, 3),
     // numbers and ids in other forms
@@ -133,6 +154,10 @@ fn ten_thousand_lines_are_taken(rt: HostRuntime) -> Result<(), Fail> {
     Ok(())
 }
 
+fn stop(node: u8, call: u32, leaves: Leaves) -> Line {
+    Line::Stop { node, call, leaves }
+}
+
 fn each_line(alloc: Global) -> Result<Vec<Line>, AllocError> {
     let mut lines = Vec::new(alloc);
     lines.push(Line::Nodes { count: 8 })?;
@@ -186,6 +211,14 @@ fn each_line(alloc: Global) -> Result<Vec<Line>, AllocError> {
     })?;
     lines.push(Line::Crash { node: 8 })?;
     lines.push(Line::Up { node: 1 })?;
+    lines.push(stop(1, 1, Leaves::Keep))?;
+    lines.push(stop(8, 1_000_000, Leaves::Drop))?;
+    lines.push(stop(1, 2, Leaves::Fill { byte: 0 }))?;
+    lines.push(stop(1, 2, Leaves::Fill { byte: 255 }))?;
+    lines.push(Line::Fail {
+        node: 8,
+        call: 1_000_000,
+    })?;
     Ok(lines)
 }
 

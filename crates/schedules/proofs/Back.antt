@@ -13,13 +13,14 @@ use Rattle.at_base.specs.declared.notice.Kind.{Kind}
 use Rattle.at_base.specs.declared.notice.Kind.TheVariants as kinds
 use Rattle.at_base.specs.declared.notice.Vote.{Vote}
 use Rattle.at_base.specs.declared.notice.Vote.TheVariants as votes
+use Rattle.schedules.specs.declared.line.Leaves.TheVariants as leaves
 use Rattle.schedules.specs.declared.line.Line.{Line}
 use Rattle.schedules.specs.declared.line.Line.TheVariants as lines
 use Rattle.schedules.specs.Meanings.{◌>>=◌}
 use Rattle.schedules.specs.Schedules.{at_line, first_line, first_words, lines_from, next_line, next_words, schedule_in, schedule_of}
-use Rattle.schedules.specs.Values.{decimal_of, within, number_in, node_in, id_in, kind_in, vote_in, largest}
+use Rattle.schedules.specs.Values.{decimal_of, within, number_in, node_in, call_in, id_in, kind_in, vote_in, largest}
 use Rattle.schedules.specs.Words.{unless_empty, is_plain, is_printable, lines_of, words_of}
-use Rattle.schedules.specs.Written.{IsNext, IsNode, IsSchedule, kind_word, line_text, vote_word, words_in, written}
+use Rattle.schedules.specs.Written.{IsCall, IsNext, IsNode, IsSchedule, kind_word, line_text, vote_word, words_in, written}
 use Rattle.schedules.specs.InitiatorWritten.{are_visible, is_visible}
 use Rattle.schedules.proofs.Decimals.{own, valued}
 use Rattle.schedules.proofs.Ids.{id_there}
@@ -116,6 +117,9 @@ node_back nodes n few h = (number_there 1 nodes n h.0 h.1 (omega (arith, h.1)), 
 pub ms_back : (n : ℕ) → n ≤ largest → (number_in 0 largest (decimal n) ≡ Ok n) × (are_visible (decimal n) ≡ true)
 ms_back n h = (number_there 0 largest n (omega arith) h (omega (arith, h)), decimal_visible n (omega (arith, h)))
 
+call_back : (k : ℕ) → IsCall k → (call_in (decimal k) ≡ Ok k) × (are_visible (decimal k) ≡ true)
+call_back k h = (number_there 1 1000000 k h.0 h.1 (omega (arith, h.1)), decimal_visible k (omega (arith, h.1)))
+
 next_back : (nodes : ℕ) (l : Line) → nodes ≤ 8 → IsNext nodes l → IsBack nodes l
 next_back nodes (lines.Nodes count) few h = absurd h
 next_back nodes (lines.Begin i c ms) few (a, b, d) =
@@ -182,6 +186,35 @@ next_back nodes (lines.Up n) few h =
       visible = rw p.1 refl;
       read = then_ (node_in nodes (decimal n)) _ n _ p.0 refl;
     }
+next_back nodes (lines.Stop n k leaves.Keep) few (h, m, t) =
+    let p = node_back nodes n few h in
+    let q = call_back k m in
+    record {
+      visible = rw p.1 (rw q.1 refl);
+      read = then_ (node_in nodes (decimal n)) _ n _ p.0 (then_ (call_in (decimal k)) _ k _ q.0 refl);
+    }
+next_back nodes (lines.Stop n k leaves.Drop) few (h, m, t) =
+    let p = node_back nodes n few h in
+    let q = call_back k m in
+    record {
+      visible = rw p.1 (rw q.1 refl);
+      read = then_ (node_in nodes (decimal n)) _ n _ p.0 (then_ (call_in (decimal k)) _ k _ q.0 refl);
+    }
+next_back nodes (lines.Stop n k (leaves.Fill b)) few (h, m, t) =
+    let p = node_back nodes n few h in
+    let q = call_back k m in
+    record {
+      visible = rw p.1 (rw q.1 (rw (decimal_visible b (omega (arith, t))) refl));
+      read = then_ (node_in nodes (decimal n)) _ n _ p.0 (then_ (call_in (decimal k)) _ k _ q.0
+          (then_ (number_in 0 255 (decimal b)) _ b _ (number_there 0 255 b (omega arith) t (omega (arith, t))) refl));
+    }
+next_back nodes (lines.Fail n k) few (h, m) =
+    let p = node_back nodes n few h in
+    let q = call_back k m in
+    record {
+      visible = rw p.1 (rw q.1 refl);
+      read = then_ (node_in nodes (decimal n)) _ n _ p.0 (then_ (call_in (decimal k)) _ k _ q.0 refl);
+    }
 
 -- the words of a line, and that its text isn't empty
 record HasWords (l : Line) : Type 0 where
@@ -202,6 +235,8 @@ has_words (lines.Flush m) = record { word = _; more = _; are = refl; kept = refl
 has_words (lines.Tick n ms) = record { word = _; more = _; are = refl; kept = refl }
 has_words (lines.Crash n) = record { word = _; more = _; are = refl; kept = refl }
 has_words (lines.Up n) = record { word = _; more = _; are = refl; kept = refl }
+has_words (lines.Stop n k left) = record { word = _; more = _; are = refl; kept = refl }
+has_words (lines.Fail n k) = record { word = _; more = _; are = refl; kept = refl }
 
 plain_line : (l : Line) → list_all are_visible (words_in l) ≡ true → is_plain (line_text l) ≡ true
 plain_line l e =
@@ -249,6 +284,8 @@ schedule_back (lines.Flush m ∷ rest) h = absurd h
 schedule_back (lines.Tick n ms ∷ rest) h = absurd h
 schedule_back (lines.Crash n ∷ rest) h = absurd h
 schedule_back (lines.Up n ∷ rest) h = absurd h
+schedule_back (lines.Stop n k left ∷ rest) h = absurd h
+schedule_back (lines.Fail n k ∷ rest) h = absurd h
 
 abbrev pub IsPlainLine : Line → Type 0
 IsPlainLine l = IsPlain (line_text l)
@@ -270,6 +307,8 @@ all_plain (lines.Flush m ∷ rest) h = absurd h
 all_plain (lines.Tick n ms ∷ rest) h = absurd h
 all_plain (lines.Crash n ∷ rest) h = absurd h
 all_plain (lines.Up n ∷ rest) h = absurd h
+all_plain (lines.Stop n k left ∷ rest) h = absurd h
+all_plain (lines.Fail n k ∷ rest) h = absurd h
 
 all_kept : (ls : List Line) → AllByRecursion (λ l. IsKept (line_text l)) ls
 all_kept [] = tt

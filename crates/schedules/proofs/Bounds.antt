@@ -1,5 +1,5 @@
 -- What is read is within its bounds, and was written so.
-use Rattle.std.proofs.Common.{ℕ, List, [], ◌∷◌, ◌≡◌, ◌≤◌, ◌&&◌, nat_le, Bool, true, false, cond, Option, Some, None, Result, Ok, Err, sym, ◌∙◌, ap, arith, refl, subst, bytes_eq, codes}
+use Rattle.std.proofs.Common.{ℕ, List, [], ◌∷◌, ◌≡◌, ◌≤◌, ◌&&◌, ◌||◌, nat_le, Bool, true, false, cond, Option, Some, None, Result, Ok, Err, sym, ◌∙◌, ap, arith, refl, subst, bytes_eq, codes}
 use Rattle.std.specs.Fmt.{decimal}
 use Rattle.std.proofs.lemmas.Slice.Eq.{bytes_eq-Decides}
 use Rattle.std.proofs.lemmas.Bool.Decides.{nat_tests}
@@ -11,10 +11,13 @@ use Rattle.at_base.specs.declared.notice.Vote.{Vote}
 use Rattle.at_base.specs.declared.notice.Vote.TheVariants as votes
 use Rattle.schedules.specs.declared.line.Cause.{Cause}
 use Rattle.schedules.specs.declared.line.Cause.TheVariants as causes
+use Rattle.schedules.specs.declared.line.Leaves.{Leaves}
+use Rattle.schedules.specs.declared.line.Leaves.TheVariants as leaves
 use Rattle.schedules.specs.declared.line.Line.{Line}
-use Rattle.schedules.specs.Meanings.{◌>>=◌, count_of, begin_line, interpose_line, work_line, commit_line, rollback_line, deliver_line, flush_line, tick_line, crash_line, up_line, meaning}
-use Rattle.schedules.specs.Values.{decimal_of, within, number_in, node_in, id_in, numbers_of, is_part, kind_in, vote_in, largest}
-use Rattle.schedules.specs.Written.{kind_word, vote_word, words_in, IsNode, IsNext}
+use Rattle.schedules.specs.declared.line.Line.TheVariants as lines
+use Rattle.schedules.specs.Meanings.{◌>>=◌, count_of, begin_line, interpose_line, work_line, commit_line, rollback_line, deliver_line, flush_line, tick_line, crash_line, up_line, stop_so, filled, stop_filled, stop_line, fail_line, meaning}
+use Rattle.schedules.specs.Values.{decimal_of, within, number_in, node_in, call_in, id_in, numbers_of, is_part, kind_in, vote_in, leaves_in, largest}
+use Rattle.schedules.specs.Written.{kind_word, vote_word, leaves_words, words_in, IsNode, IsNext, IsLeft}
 use Rattle.schedules.proofs.Decimals.{spelled}
 use Rattle.schedules.proofs.Ids.{is_id}
 
@@ -77,6 +80,20 @@ vote w k e = by_case (bytes_eq w (codes "prepared")) (bytes_eq w (codes "readonl
     by_case false true c p q r e = (bytes_eq-Decides w (codes "readonly")).0 q ∙ ap vote_word (same votes.ReadOnly k e)
     by_case false false true p q r e = (bytes_eq-Decides w (codes "aborted")).0 r ∙ ap vote_word (same votes.Aborted k e)
     by_case false false false p q r e = absurd cc
+
+-- one word that says what a stop leaves
+pub record IsOneWord (w : List ℕ) (l : Leaves) : Type 0 where
+  pub left : IsLeft l
+  pub word : w ∷ [] ≡ leaves_words l
+
+pub one_word : (w : List ℕ) (l : Leaves) → leaves_in w ≡ Ok l → IsOneWord w l
+one_word w l e = by_case (bytes_eq w (codes "keep")) (bytes_eq w (codes "drop")) refl refl e
+  where
+    by_case : (a b : Bool) → bytes_eq w (codes "keep") ≡ a → bytes_eq w (codes "drop") ≡ b
+        → cond a (Ok leaves.Keep) (cond b (Ok leaves.Drop) (Err causes.Keyword)) ≡ Ok l → IsOneWord w l
+    by_case true b p q e = subst (IsOneWord w) (same leaves.Keep l e) (record { left = tt; word = ap (λ x. x ∷ []) ((bytes_eq-Decides w (codes "keep")).0 p) })
+    by_case false true p q e = subst (IsOneWord w) (same leaves.Drop l e) (record { left = tt; word = ap (λ x. x ∷ []) ((bytes_eq-Decides w (codes "drop")).0 q) })
+    by_case false false p q e = absurd cc
 
 -- a line that is read of these words behind the first
 pub record IsRead (nodes : ℕ) (word : List ℕ) (rest : List (List ℕ)) (line : Line) : Type 0 where
@@ -225,6 +242,74 @@ up_read nodes (i ∷ []) l e =
 up_read nodes [] l e = absurd cc
 up_read nodes (i ∷ x ∷ more) l e = absurd cc
 
+so_read : (nodes : ℕ) (n k w : List ℕ) (l : Line) → stop_so nodes n k w ≡ Ok l → IsRead nodes (codes "stop") (n ∷ k ∷ w ∷ []) l
+so_read nodes n k w l e = by_case (bytes_eq w (codes "fill")) e
+  where
+    by_case : (t : Bool)
+        → cond t (Err causes.WordCount) (node_in nodes n >>= (λ node. call_in k >>= (λ call. leaves_in w >>= (λ left. Ok (lines.Stop node call left))))) ≡ Ok l
+        → IsRead nodes (codes "stop") (n ∷ k ∷ w ∷ []) l
+    by_case true e = absurd cc
+    by_case false e =
+        let b = bound (node_in nodes n) _ l e in
+        let d = bound (call_in k) _ l b.rest in
+        let f = bound (leaves_in w) _ l d.rest in
+        let i = number 1 nodes n b.value b.read in
+        let j = number 1 1000000 k d.value d.read in
+        let o = one_word w f.value f.read in
+        subst (IsRead nodes (codes "stop") (n ∷ k ∷ w ∷ [])) (same _ l f.rest) (record {
+          next = ((i.0, i.1), (j.0, j.1), o.left);
+          text = λ t. codes "stop" ∷ i.2 t ∷ j.2 t ∷ o.word t;
+        })
+
+filled_read : (nodes : ℕ) (n k w b : List ℕ) (l : Line) → stop_filled nodes n k w b ≡ Ok l → IsRead nodes (codes "stop") (n ∷ k ∷ w ∷ b ∷ []) l
+filled_read nodes n k w b l e = by_case (bytes_eq w (codes "keep")) (bytes_eq w (codes "drop")) (bytes_eq w (codes "fill")) refl e
+  where
+    by_case : (s t u : Bool) → bytes_eq w (codes "fill") ≡ u
+        → cond (s || t) (Err causes.WordCount) (node_in nodes n >>= (λ node. call_in k >>= (λ call. cond u (filled node call b) (Err causes.Keyword)))) ≡ Ok l
+        → IsRead nodes (codes "stop") (n ∷ k ∷ w ∷ b ∷ []) l
+    by_case true t u p e = absurd cc
+    by_case false true u p e = absurd cc
+    by_case false false false p e =
+        let c = bound (node_in nodes n) _ l e in
+        let d = bound (call_in k) _ l c.rest in
+        absurd (never d.rest)
+      where
+        never : ◌≡◌ {A = Result Line Cause} (Err causes.Keyword) (Ok l) → ⊥
+        never e = cc
+    by_case false false true p e =
+        let c = bound (node_in nodes n) _ l e in
+        let d = bound (call_in k) _ l c.rest in
+        let f = bound (number_in 0 255 b) _ l d.rest in
+        let i = number 1 nodes n c.value c.read in
+        let j = number 1 1000000 k d.value d.read in
+        let m = number 0 255 b f.value f.read in
+        subst (IsRead nodes (codes "stop") (n ∷ k ∷ w ∷ b ∷ [])) (same _ l f.rest) (record {
+          next = ((i.0, i.1), (j.0, j.1), m.1);
+          text = λ t. codes "stop" ∷ i.2 t ∷ j.2 t ∷ (bytes_eq-Decides w (codes "fill")).0 p t ∷ m.2 t ∷ [];
+        })
+
+stop_read : (nodes : ℕ) (ws : List (List ℕ)) (l : Line) → stop_line nodes ws ≡ Ok l → IsRead nodes (codes "stop") ws l
+stop_read nodes [] l e = absurd cc
+stop_read nodes (n ∷ []) l e = absurd cc
+stop_read nodes (n ∷ k ∷ []) l e = absurd cc
+stop_read nodes (n ∷ k ∷ w ∷ []) l e = so_read nodes n k w l e
+stop_read nodes (n ∷ k ∷ w ∷ b ∷ []) l e = filled_read nodes n k w b l e
+stop_read nodes (n ∷ k ∷ w ∷ b ∷ x ∷ more) l e = absurd cc
+
+fail_read : (nodes : ℕ) (ws : List (List ℕ)) (l : Line) → fail_line nodes ws ≡ Ok l → IsRead nodes (codes "fail") ws l
+fail_read nodes (n ∷ k ∷ []) l e =
+    let b = bound (node_in nodes n) _ l e in
+    let d = bound (call_in k) _ l b.rest in
+    let i = number 1 nodes n b.value b.read in
+    let j = number 1 1000000 k d.value d.read in
+    subst (IsRead nodes (codes "fail") (n ∷ k ∷ [])) (same _ l d.rest) (record {
+      next = ((i.0, i.1), (j.0, j.1));
+      text = λ t. codes "fail" ∷ i.2 t ∷ j.2 t ∷ [];
+    })
+fail_read nodes [] l e = absurd cc
+fail_read nodes (n ∷ []) l e = absurd cc
+fail_read nodes (n ∷ k ∷ x ∷ more) l e = absurd cc
+
 -- a word that is tested for
 pub arm : {A : Type 0} (w name : List ℕ) (here else_ : A) (P : List ℕ → A → Type 0) → P name here → P w else_
     → P w (cond (bytes_eq w name) here else_)
@@ -249,4 +334,6 @@ meaning_read nodes w ws l =
     arm w (codes "flush") _ _ (Reads nodes ws l) (flush_read nodes ws l) (
     arm w (codes "tick") _ _ (Reads nodes ws l) (tick_read nodes ws l) (
     arm w (codes "crash") _ _ (Reads nodes ws l) (crash_read nodes ws l) (
-    arm w (codes "up") _ _ (Reads nodes ws l) (up_read nodes ws l) (λ e. absurd cc))))))))))
+    arm w (codes "up") _ _ (Reads nodes ws l) (up_read nodes ws l) (
+    arm w (codes "stop") _ _ (Reads nodes ws l) (stop_read nodes ws l) (
+    arm w (codes "fail") _ _ (Reads nodes ws l) (fail_read nodes ws l) (λ e. absurd cc))))))))))))

@@ -4,6 +4,7 @@ use Rattle.std.specs.Fmt.{digits}
 use Rattle.at_base.specs.declared.notice.Kind.TheVariants as kinds
 use Rattle.at_base.specs.declared.notice.Vote.TheVariants as votes
 use Rattle.schedules.specs.declared.line.Cause.TheVariants as causes
+use Rattle.schedules.specs.declared.line.Leaves.TheVariants as leaves
 use Rattle.schedules.specs.declared.line.Line.TheVariants as lines
 use Rattle.schedules.specs.Generator.{drawn, made, next}
 use Rattle.schedules.specs.Schedules.{schedule_of}
@@ -36,6 +37,20 @@ one_node = refl
 pub empty_text : schedule_of [] ≡ Err (record { line = 1; cause = causes.Nodes })
 unfolding digits
 empty_text = refl
+
+pub faults_read : schedule_of (codes "nodes 2\nstop 2 3 fill 1\nstop 1 1 keep\nfail 2 4") ≡ Ok (
+    lines.Nodes 2
+    ∷ lines.Stop 2 3 (leaves.Fill 1)
+    ∷ lines.Stop 1 1 leaves.Keep
+    ∷ lines.Fail 2 4
+    ∷ [])
+unfolding digits
+faults_read = refl
+
+-- a byte stands behind `fill`, and behind nothing else
+pub no_byte : schedule_of (codes "nodes 1\nstop 1 1 fill") ≡ Err (record { line = 2; cause = causes.WordCount })
+unfolding digits
+no_byte = refl
 
 pub unknown_word : schedule_of (codes "nodes 1\nflush 1\nfoo") ≡ Err (record { line = 3; cause = causes.UnknownWord })
 unfolding digits

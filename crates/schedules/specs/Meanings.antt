@@ -1,10 +1,11 @@
 -- The meaning of a line, given the number of nodes: its causes in their order, numbers before ids before keywords.
-use Rattle.std.specs.Prelude.{ℕ, List, [], ◌∷◌, Result, Ok, Err, if◌then◌else◌, bytes_eq, codes}
+use Rattle.std.specs.Prelude.{ℕ, List, [], ◌∷◌, ◌||◌, Result, Ok, Err, if◌then◌else◌, bytes_eq, codes}
 use Rattle.schedules.specs.declared.line.Cause.{Cause}
-use Rattle.schedules.specs.declared.line.Cause.TheVariants.{UnknownWord, WordCount}
+use Rattle.schedules.specs.declared.line.Cause.TheVariants.{UnknownWord, WordCount, Keyword}
+use Rattle.schedules.specs.declared.line.Leaves.TheVariants as leaves
 use Rattle.schedules.specs.declared.line.Line.{Line}
 use Rattle.schedules.specs.declared.line.Line.TheVariants as lines
-use Rattle.schedules.specs.Values.{number_in, node_in, id_in, kind_in, vote_in, largest}
+use Rattle.schedules.specs.Values.{number_in, node_in, call_in, id_in, kind_in, vote_in, leaves_in, largest}
 
 infixl 10 ◌>>=◌
 abbrev pub ◌>>=◌ : {A B E : Type 0} → Result A E → (A → Result B E) → Result B E
@@ -91,6 +92,42 @@ up_line nodes (n ∷ []) = do
   Ok (lines.Up node)
 up_line nodes _ = Err WordCount
 
+-- what is left is said by one word, which isn't `fill`
+abbrev pub stop_so : ℕ → List ℕ → List ℕ → List ℕ → Result Line Cause
+stop_so nodes n k w =
+    if bytes_eq w (codes "fill") then Err WordCount
+    else do
+      node ← node_in nodes n
+      call ← call_in k
+      left ← leaves_in w
+      Ok (lines.Stop node call left)
+
+-- or by `fill` and a byte
+abbrev pub filled : ℕ → ℕ → List ℕ → Result Line Cause
+filled node call b = do
+  byte ← number_in 0 255 b
+  Ok (lines.Stop node call (leaves.Fill byte))
+
+abbrev pub stop_filled : ℕ → List ℕ → List ℕ → List ℕ → List ℕ → Result Line Cause
+stop_filled nodes n k w b =
+    if bytes_eq w (codes "keep") || bytes_eq w (codes "drop") then Err WordCount
+    else do
+      node ← node_in nodes n
+      call ← call_in k
+      if bytes_eq w (codes "fill") then filled node call b else Err Keyword
+
+abbrev pub stop_line : ℕ → List (List ℕ) → Result Line Cause
+stop_line nodes (n ∷ k ∷ w ∷ []) = stop_so nodes n k w
+stop_line nodes (n ∷ k ∷ w ∷ b ∷ []) = stop_filled nodes n k w b
+stop_line nodes _ = Err WordCount
+
+abbrev pub fail_line : ℕ → List (List ℕ) → Result Line Cause
+fail_line nodes (n ∷ k ∷ []) = do
+  node ← node_in nodes n
+  call ← call_in k
+  Ok (lines.Fail node call)
+fail_line nodes _ = Err WordCount
+
 -- `nodes` stands on the first line alone, and so isn't among these
 abbrev pub meaning : ℕ → List ℕ → List (List ℕ) → Result Line Cause
 meaning nodes word rest =
@@ -104,4 +141,6 @@ meaning nodes word rest =
     else if bytes_eq word (codes "tick") then tick_line nodes rest
     else if bytes_eq word (codes "crash") then crash_line nodes rest
     else if bytes_eq word (codes "up") then up_line nodes rest
+    else if bytes_eq word (codes "stop") then stop_line nodes rest
+    else if bytes_eq word (codes "fail") then fail_line nodes rest
     else Err UnknownWord

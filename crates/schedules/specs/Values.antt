@@ -10,6 +10,8 @@ use Rattle.at_base.specs.declared.notice.Vote.{Vote}
 use Rattle.at_base.specs.declared.notice.Vote.TheVariants as votes
 use Rattle.schedules.specs.declared.line.Cause.{Cause}
 use Rattle.schedules.specs.declared.line.Cause.TheVariants.{Number, Identifier, Keyword}
+use Rattle.schedules.specs.declared.line.Leaves.{Leaves}
+use Rattle.schedules.specs.declared.line.Leaves.TheVariants as leaves
 
 -- the number whose decimal text the word is: digits alone, without sign or leading zeros
 abbrev pub decimal_of : List ℕ → Option ℕ
@@ -25,6 +27,10 @@ number_in least most word = within least most (decimal_of word)
 -- nodes are numbered from 1
 abbrev pub node_in : ℕ → List ℕ → Result ℕ Cause
 node_in nodes word = number_in 1 nodes word
+
+-- calls are numbered from 1
+abbrev pub call_in : List ℕ → Result ℕ Cause
+call_in word = number_in 1 1000000 word
 
 abbrev pub largest : ℕ
 largest = 2 ^ 32 - 1
@@ -58,4 +64,11 @@ vote_in word =
     if bytes_eq word (codes "prepared") then Ok votes.Prepared
     else if bytes_eq word (codes "readonly") then Ok votes.ReadOnly
     else if bytes_eq word (codes "aborted") then Ok votes.Aborted
+    else Err Keyword
+
+-- what a stop leaves, where one word says it
+abbrev pub leaves_in : List ℕ → Result Leaves Cause
+leaves_in word =
+    if bytes_eq word (codes "keep") then Ok leaves.Keep
+    else if bytes_eq word (codes "drop") then Ok leaves.Drop
     else Err Keyword

@@ -6,6 +6,8 @@ use Rattle.at_base.specs.declared.notice.Kind.{Kind}
 use Rattle.at_base.specs.declared.notice.Kind.TheVariants as kinds
 use Rattle.at_base.specs.declared.notice.Vote.{Vote}
 use Rattle.at_base.specs.declared.notice.Vote.TheVariants as votes
+use Rattle.schedules.specs.declared.line.Leaves.{Leaves}
+use Rattle.schedules.specs.declared.line.Leaves.TheVariants as leaves
 use Rattle.schedules.specs.declared.line.Line.{Line}
 use Rattle.schedules.specs.declared.line.Line.TheVariants as lines
 use Rattle.schedules.specs.Values.{largest}
@@ -18,6 +20,11 @@ abbrev pub vote_word : Vote → List ℕ
 vote_word votes.Prepared = codes "prepared"
 vote_word votes.ReadOnly = codes "readonly"
 vote_word votes.Aborted = codes "aborted"
+
+abbrev pub leaves_words : Leaves → List (List ℕ)
+leaves_words leaves.Keep = codes "keep" ∷ []
+leaves_words leaves.Drop = codes "drop" ∷ []
+leaves_words (leaves.Fill byte) = codes "fill" ∷ decimal byte ∷ []
 
 abbrev pub words_in : Line → List (List ℕ)
 words_in (lines.Nodes count) = codes "nodes" ∷ decimal count ∷ []
@@ -33,6 +40,8 @@ words_in (lines.Flush most) = codes "flush" ∷ decimal most ∷ []
 words_in (lines.Tick node ms) = codes "tick" ∷ decimal node ∷ decimal ms ∷ []
 words_in (lines.Crash node) = codes "crash" ∷ decimal node ∷ []
 words_in (lines.Up node) = codes "up" ∷ decimal node ∷ []
+words_in (lines.Stop node call left) = codes "stop" ∷ decimal node ∷ decimal call ∷ leaves_words left
+words_in (lines.Fail node call) = codes "fail" ∷ decimal node ∷ decimal call ∷ []
 
 -- the words, separated by one space
 abbrev pub line_text : Line → List ℕ
@@ -44,6 +53,14 @@ written all = flat_map (λ line. line_text line ++ 10 ∷ []) all
 
 abbrev pub IsNode : ℕ → ℕ → Type 0
 IsNode nodes n = (1 ≤ n) × (n ≤ nodes)
+
+abbrev pub IsCall : ℕ → Type 0
+IsCall k = (1 ≤ k) × (k ≤ 1000000)
+
+abbrev pub IsLeft : Leaves → Type 0
+IsLeft leaves.Keep = Unit {0}
+IsLeft leaves.Drop = Unit {0}
+IsLeft (leaves.Fill byte) = byte ≤ 255
 
 -- a line behind the first, where there are so many nodes
 abbrev pub IsNext : ℕ → Line → Type 0
@@ -58,6 +75,8 @@ IsNext nodes (lines.Flush most) = most ≤ 10000
 IsNext nodes (lines.Tick node ms) = IsNode nodes node × (ms ≤ largest)
 IsNext nodes (lines.Crash node) = IsNode nodes node
 IsNext nodes (lines.Up node) = IsNode nodes node
+IsNext nodes (lines.Stop node call left) = IsNode nodes node × IsCall call × IsLeft left
+IsNext nodes (lines.Fail node call) = IsNode nodes node × IsCall call
 
 -- `nodes` stands first and once, all numbers are within their bounds, and there are at most 10,000 lines
 abbrev pub IsSchedule : List Line → Type 0

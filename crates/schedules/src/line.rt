@@ -67,6 +67,29 @@ pub enum Line {
     Up {
         node: u8,
     },
+    /// `stop NODE CALL keep|drop|fill BYTE`: the node stops at this write, sync, answer or post from now, numbered from 1, and
+    /// goes down. 1 to 1,000,000.
+    Stop {
+        node: u8,
+        call: u32,
+        leaves: Leaves,
+    },
+    /// `fail NODE CALL`: this write, sync, answer or post of the node from now fails. 1 to 1,000,000.
+    Fail {
+        node: u8,
+        call: u32,
+    },
+}
+
+/// What a stop leaves of the bytes that are pending on the disk, and of the call at which it comes.
+#[derive(Clone, Copy, Debug, PartialEq, Eq)]
+pub enum Leaves {
+    /// The call is done, and all bytes land.
+    Keep,
+    /// The call isn't done, and none lands.
+    Drop,
+    /// The call isn't done, and each byte is this one.
+    Fill { byte: u8 },
 }
 
 /// The lines of a schedule, in order.

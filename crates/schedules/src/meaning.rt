@@ -1,10 +1,13 @@
 //! The meaning of a line's words, given the number of nodes.
 
 ghost use Rattle.std.specs.Prelude.{◌≡◌, map};
-ghost use Rattle.schedules.specs.Meanings.{count_of, begin_line, interpose_line, work_line, task, commit_line, rollback_line, deliver_line, flush_line, tick_line, crash_line, up_line, meaning};
+ghost use Rattle.schedules.specs.Meanings.{count_of, begin_line, interpose_line, work_line, task, commit_line, rollback_line, deliver_line, flush_line, tick_line, crash_line, up_line, stop_line, fail_line, stop_so, stop_filled, meaning};
 
-use crate::line::{Cause, Line};
-use crate::values::{read_id, read_kind, read_node, read_number, read_small, read_vote};
+use crate::line::{Cause, Leaves, Line};
+use crate::values::{
+    read_byte, read_call, read_id, read_kind, read_leaves, read_node, read_number, read_small,
+    read_vote,
+};
 
 /// The greatest message that a line may name.
 const MOST_MESSAGES: u32 = 1_000_000;
@@ -154,6 +157,64 @@ fn read_up(nodes: u8, words: &[&str]) -> Result<Line, Cause>
     Ok(Line::Up { node })
 }
 
+fn read_stop_so(nodes: u8, node: &str, call: &str, word: &str) -> Result<Line, Cause>
+    ensures { result ≡ stop_so nodes node.now call.now word.now }
+{
+    if word == "fill" {
+        return Err(Cause::WordCount);
+    }
+    let node = read_node(nodes, node)?;
+    let call = read_call(call)?;
+    let leaves = read_leaves(word)?;
+    Ok(Line::Stop { node, call, leaves })
+}
+
+fn read_stop_filled(
+    nodes: u8,
+    node: &str,
+    call: &str,
+    word: &str,
+    byte: &str,
+) -> Result<Line, Cause>
+    ensures { result ≡ stop_filled nodes node.now call.now word.now byte.now }
+{
+    if word == "keep" || word == "drop" {
+        return Err(Cause::WordCount);
+    }
+    let node = read_node(nodes, node)?;
+    let call = read_call(call)?;
+    if word != "fill" {
+        return Err(Cause::Keyword);
+    }
+    let byte = read_byte(byte)?;
+    Ok(Line::Stop {
+        node,
+        call,
+        leaves: Leaves::Fill { byte },
+    })
+}
+
+fn read_stop(nodes: u8, words: &[&str]) -> Result<Line, Cause>
+    ensures { result ≡ stop_line nodes (map (λ w. w.now) words.now) }
+{
+    match words {
+        [node, call, word] => read_stop_so(nodes, node, call, word),
+        [node, call, word, byte] => read_stop_filled(nodes, node, call, word, byte),
+        _ => Err(Cause::WordCount),
+    }
+}
+
+fn read_fail(nodes: u8, words: &[&str]) -> Result<Line, Cause>
+    ensures { result ≡ fail_line nodes (map (λ w. w.now) words.now) }
+{
+    let [node, call] = words else {
+        return Err(Cause::WordCount);
+    };
+    let node = read_node(nodes, node)?;
+    let call = read_call(call)?;
+    Ok(Line::Fail { node, call })
+}
+
 /// The line of this first word, which isn't `nodes`, and the words behind it.
 pub fn read_meaning(nodes: u8, word: &str, words: &[&str]) -> Result<Line, Cause>
     ensures { result ≡ meaning nodes word.now (map (λ w. w.now) words.now) }
@@ -169,6 +230,8 @@ pub fn read_meaning(nodes: u8, word: &str, words: &[&str]) -> Result<Line, Cause
         "tick" => read_tick(nodes, words),
         "crash" => read_crash(nodes, words),
         "up" => read_up(nodes, words),
+        "stop" => read_stop(nodes, words),
+        "fail" => read_fail(nodes, words),
         _ => Err(Cause::UnknownWord),
     }
 }

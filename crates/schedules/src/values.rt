@@ -1,9 +1,9 @@
 //! What one word says: a number, an id, a kind or a vote.
 
 ghost use Rattle.std.specs.Prelude.{ℕ, ◌≡◌, ◌<◌, ◌^◌, IfSome, Some};
-ghost use Rattle.schedules.specs.Values.{decimal_of, number_in, node_in, id_in, kind_in, vote_in};
+ghost use Rattle.schedules.specs.Values.{decimal_of, number_in, node_in, call_in, id_in, kind_in, vote_in, leaves_in};
 
-use crate::line::Cause;
+use crate::line::{Cause, Leaves};
 use at_base::id::Id;
 use at_base::notice::{Kind, Vote};
 
@@ -56,6 +56,21 @@ pub fn read_node(nodes: u8, word: &str) -> Result<u8, Cause>
     Ok(number as u8)
 }
 
+/// A number of a device call.
+pub fn read_call(word: &str) -> Result<u32, Cause>
+    ensures { result ≡ call_in word.now }
+{
+    read_number(word, 1, 1_000_000)
+}
+
+/// A byte.
+pub fn read_byte(word: &str) -> Result<u8, Cause>
+    ensures { result ≡ number_in 0 255 word.now }
+{
+    let number = read_number(word, 0, 255)?;
+    Ok(number as u8)
+}
+
 pub fn read_id(word: &str) -> Result<Id, Cause>
     ensures { result ≡ id_in word.now }
 {
@@ -82,6 +97,17 @@ pub fn read_vote(word: &str) -> Result<Vote, Cause>
         "prepared" => Ok(Vote::Prepared),
         "readonly" => Ok(Vote::ReadOnly),
         "aborted" => Ok(Vote::Aborted),
+        _ => Err(Cause::Keyword),
+    }
+}
+
+/// What a stop leaves, in one word.
+pub fn read_leaves(word: &str) -> Result<Leaves, Cause>
+    ensures { result ≡ leaves_in word.now }
+{
+    match word {
+        "keep" => Ok(Leaves::Keep),
+        "drop" => Ok(Leaves::Drop),
         _ => Err(Cause::Keyword),
     }
 }

@@ -137,6 +137,7 @@ fn stepped(world: World, alloc: Global, event: WorldEvent) -> Result<World, Allo
         world,
         steps: _steps,
         lost: _lost,
+        left: _left,
     } = world.step(alloc, event)?;
     Ok(world)
 }

@@ -22,8 +22,8 @@ either_move P false m k h i = i
 ended_base : (x : Node) (w : Walk) → x.base ≡ (ended x w).node.base
 ended_base x w =
     either_move (λ y. x.base ≡ y.base) (is_over w.luck)
-    (record { node = record x { book = None; journal = w.journal }; moved = record { taken = w.taken; lost = lost_of w.book } })
-    (record { node = record x { book = Some w.book; journal = w.journal }; moved = record { taken = w.taken; lost = [] } })
+    (record { node = record x { book = None; journal = w.journal }; moved = record { taken = w.taken; lost = lost_of w.book; left = w.luck } })
+    (record { node = record x { book = Some w.book; journal = w.journal }; moved = record { taken = w.taken; lost = []; left = w.luck } })
     refl refl
 
 arrived_base : (a : Option Arrived) (l : Luck) (x : Node) (o : Option Book) → x.base ≡ (arrival_move a l x o).node.base

@@ -70,8 +70,8 @@ later ticks x h = record { order = h.order; clock = let within = h.clock in omeg
 ended_node : (ticks : ℕ) (x : Node) (w : Walk) → x.clock ≤ (ticks + 1) * 4294967295 → IsInOrder w.book → IsNode (ticks + 1) (ended x w).node
 ended_node ticks x w within h =
     either_move (IsNode (ticks + 1)) (is_over w.luck)
-    (record { node = record x { book = None; journal = w.journal }; moved = record { taken = w.taken; lost = lost_of w.book } })
-    (record { node = record x { book = Some w.book; journal = w.journal }; moved = record { taken = w.taken; lost = [] } })
+    (record { node = record x { book = None; journal = w.journal }; moved = record { taken = w.taken; lost = lost_of w.book; left = w.luck } })
+    (record { node = record x { book = Some w.book; journal = w.journal }; moved = record { taken = w.taken; lost = []; left = w.luck } })
     (record { order = λ b e. absurd (none_some b e); clock = within })
     (record { order = λ b e. subst IsInOrder (some_is w.book b e) h; clock = within })
 

@@ -1,6 +1,6 @@
 -- A run with one event more, and what the steps of a scene come to.
 use Rattle.std.proofs.Common.{ℕ, zero, suc, List, [], ◌∷◌, ◌++◌, ◌≡◌, ◌+◌, ◌-◌, ◌<◌, ◌≤◌, drop, length, length-append, Some, None, Result, Ok, Err, IfOk, ap, sym, subst, ◌∙◌, arith, refl}
-use Rattle.std.specs.Prelude.{map, slice_get, slice_set}
+use Rattle.std.specs.Prelude.{Bool, Option, map, option_and_then, slice_get, slice_set}
 use Rattle.std.proofs.lemmas.List.{append-nil, append_assoc, drop_all, map-append}
 use Rattle.std.proofs.lemmas.Option.{slice_get_past}
 use Rattle.at_base.specs.declared.outs.Effect.{Effect}
@@ -8,11 +8,13 @@ use Rattle.model_laws.specs.Order.{IdsRise}
 use Rattle.at_model.specs.World.{World, Node, Posted, WorldEvent, nth, new_node, new_nodes, node_of, put_nth, run_of, run_on, opening, world_step, example_hosts, example_base}
 use Rattle.world_laws.specs.declared.event.WorldEvent.{WorldEvent as Given}
 use Rattle.world_laws.specs.Events.{event_of, ms_of}
+use Rattle.world_laws.specs.Firsts.{node_records}
 use Rattle.world_laws.specs.declared.posted.Counted.{Counted}
 use Rattle.world_laws.specs.declared.taken.Moved.{Moved}
 use Rattle.world_laws.specs.declared.taken.Taken.{Taken}
 use Rattle.world_laws.specs.Runs.{IsFit, IsRun, Run, world_of}
 use Rattle.world_laws.specs.Moves.{ChangesByMoves, Scene, after, move_of, moved_by, moved_in, nodes_by, nothing, numbered, seen, steps_in, with_all, with_lost, with_nodes}
+use Rattle.world_laws.specs.Walks.{Luck}
 use Rattle.world_laws.proofs.Fitting.{fit_after, opening_fits}
 use Rattle.world_laws.proofs.Found.{nth_back, put_back}
 use Rattle.world_laws.proofs.Nodes.{nodes_length}
@@ -54,27 +56,40 @@ pub one_steps : (e : WorldEvent) (posted : List Posted) (n : ℕ) (nodes : List 
     → m ≡ moved_by e posted (nth n nodes)
 one_steps e posted n nodes x m some h g = rw (nth_back n nodes some ∙ h) g
 
--- A scene behind an event: its node moves, and then what its steps gave and what it lost is kept.
-parts_of : (s : Scene) (e : WorldEvent) (m : Moved) (p : List Taken × List Effect) → p ≡ (m.taken, m.lost)
-    → m ≡ moved_by e s.posted (nth (node_of e) s.nodes) → p ≡ ((moved_in s e).taken, (moved_in s e).lost)
-unfolding moved_in
-parts_of s e m p parts is = parts ∙ (λ i. ((is i).taken, (is i).lost))
+-- whether the first step of an event has a record
+pub no_record : (e : WorldEvent) (posted : List Posted) (n : ℕ) (nodes : List Node) → nth n nodes ≡ None
+    → None ≡ option_and_then (node_records e posted) (nth n nodes)
+no_record e posted n nodes h = rw h refl
 
-pub kept_after : (s t u v : Scene) (e : WorldEvent) (n k : ℕ) (m : Moved) (p : List Taken × List Effect) → t ≡ with_nodes s e
-    → m ≡ moved_by e s.posted (nth (node_of e) s.nodes) → p ≡ (m.taken, m.lost) → n ≡ node_of e → k ≡ node_of e
+pub one_record : (e : WorldEvent) (posted : List Posted) (n : ℕ) (nodes : List Node) (x : Node) (r : Option Bool) → (n ≡ 0 → ⊥)
+    → slice_get nodes (n - 1) ≡ Some x → r ≡ node_records e posted x → r ≡ option_and_then (node_records e posted) (nth n nodes)
+one_record e posted n nodes x r some h g = rw (nth_back n nodes some ∙ h) g
+
+-- A scene behind an event: its node moves, and then what its steps gave and what it lost is kept.
+parts_of : (s : Scene) (e : WorldEvent) (m : Moved) (p : List Taken × List Effect × Luck) → p ≡ (m.taken, m.lost, m.left)
+    → m ≡ moved_by e s.posted (nth (node_of e) s.nodes) → p ≡ ((moved_in s e).taken, (moved_in s e).lost, (moved_in s e).left)
+unfolding moved_in
+parts_of s e m p parts is = parts ∙ (λ i. ((is i).taken, (is i).lost, (is i).left))
+
+pub kept_after : (s t u v : Scene) (e : WorldEvent) (n k : ℕ) (m : Moved) (p : List Taken × List Effect × Luck) → t ≡ with_nodes s e
+    → m ≡ moved_by e s.posted (nth (node_of e) s.nodes) → p ≡ (m.taken, m.lost, m.left) → n ≡ node_of e → k ≡ node_of e
     → u ≡ with_all n p.0 t → v ≡ with_lost k p.1 u → v ≡ after s e
 unfolding after
 kept_after s t u v e n k m p moved is parts at again kept lost =
     lost ∙ ap (with_lost k p.1) kept
     ∙ (λ i. with_lost (again i) (parts_of s e m p parts is i).1 (with_all (at i) (parts_of s e m p parts is i).0 (moved i)))
 
-pub steps_after : (s t : Scene) (e : WorldEvent) (m : Moved) (p : List Taken × List Effect) (steps : List Counted) → t ≡ with_nodes s e
-    → m ≡ moved_by e s.posted (nth (node_of e) s.nodes) → p ≡ (m.taken, m.lost) → steps ≡ numbered (length t.posted) p.0 → steps ≡ steps_in s e
+pub steps_after : (s t : Scene) (e : WorldEvent) (m : Moved) (p : List Taken × List Effect × Luck) (steps : List Counted) → t ≡ with_nodes s e
+    → m ≡ moved_by e s.posted (nth (node_of e) s.nodes) → p ≡ (m.taken, m.lost, m.left) → steps ≡ numbered (length t.posted) p.0 → steps ≡ steps_in s e
 steps_after s t e m p steps moved is parts gave = gave ∙ (λ i. numbered (length (moved i).posted) (parts_of s e m p parts is i).0)
 
-pub lost_after : (s : Scene) (e : WorldEvent) (m : Moved) (p : List Taken × List Effect) → m ≡ moved_by e s.posted (nth (node_of e) s.nodes)
-    → p ≡ (m.taken, m.lost) → p.1 ≡ (moved_in s e).lost
-lost_after s e m p is parts = ap (λ (q : List Taken × List Effect). q.1) (parts_of s e m p parts is)
+pub lost_after : (s : Scene) (e : WorldEvent) (m : Moved) (p : List Taken × List Effect × Luck) → m ≡ moved_by e s.posted (nth (node_of e) s.nodes)
+    → p ≡ (m.taken, m.lost, m.left) → p.1 ≡ (moved_in s e).lost
+lost_after s e m p is parts = ap (λ (q : List Taken × List Effect × Luck). q.1) (parts_of s e m p parts is)
+
+pub left_after : (s : Scene) (e : WorldEvent) (m : Moved) (p : List Taken × List Effect × Luck) → m ≡ moved_by e s.posted (nth (node_of e) s.nodes)
+    → p ≡ (m.taken, m.lost, m.left) → p.2 ≡ (moved_in s e).left
+left_after s e m p is parts = ap (λ (q : List Taken × List Effect × Luck). q.2) (parts_of s e m p parts is)
 
 pub few_after : (s t : Scene) (e : WorldEvent) → t ≡ with_nodes s e → length s.nodes ≤ 8 → length t.nodes ≤ 8
 few_after s t e moved few =

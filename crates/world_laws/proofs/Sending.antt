@@ -42,7 +42,8 @@ over_sends (out ∷ rest) s h =
 one_sent : (n : ℕ) (a : Amid) (f : Bool) (out : Out) (s : Sending)
     → record (after_fate (amid n a s)) { world = sent n f out (amid n a s).world }
     ≡ amid n a (record { luck = used s.luck; taken = with_fate f out s.taken })
-one_sent n a false out s = refl
+one_sent n a false (outs.Post p) s = refl
+one_sent n a false (outs.Answer status reply) s = refl
 one_sent n a true (outs.Answer status reply) s = refl
 one_sent n a true (outs.Post p) s =
     ap (λ ps. record {
@@ -71,7 +72,8 @@ one_effects : (out : Out) (s : Sending) → (sent_one out s).taken.effects ≡ s
 one_effects out s = at (is_over s.luck)
   where
     by_fate : (f : Bool) (out : Out) → (with_fate f out s.taken).effects ≡ s.taken.effects
-    by_fate false out = refl
+    by_fate false (outs.Post p) = refl
+    by_fate false (outs.Answer status reply) = refl
     by_fate true (outs.Post p) = refl
     by_fate true (outs.Answer status reply) = refl
 

@@ -247,10 +247,10 @@ module _ (n : ℕ) (w : World) (x : Node) (there : nth n w.nodes ≡ Some x) whe
       placed book = put_put n w.nodes z (record z { book = book })
 
       down : Move
-      down = record { node = record x { book = None; journal = v.journal }; moved = record { taken = v.taken; lost = lost_of v.book } }
+      down = record { node = record x { book = None; journal = v.journal }; moved = record { taken = v.taken; lost = lost_of v.book; left = v.luck } }
 
       stays : Move
-      stays = record { node = record x { book = Some v.book; journal = v.journal }; moved = record { taken = v.taken; lost = [] } }
+      stays = record { node = record x { book = Some v.book; journal = v.journal }; moved = record { taken = v.taken; lost = []; left = v.luck } }
 
       at : (b : Bool)
           → seen (if b then goes_down n v.book r.world else put_book n (Some v.book) r.world (nth n (nodes_of v)))

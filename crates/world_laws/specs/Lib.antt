@@ -1,4 +1,6 @@
 pub mod Events
+pub mod Fates
+pub mod Firsts
 pub mod Held
 pub mod Left
 pub mod Moves

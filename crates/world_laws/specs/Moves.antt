@@ -25,13 +25,14 @@ pub record Scene : Type 0 where
 abbrev pub seen : World → Scene
 seen w = record { nodes = w.nodes; posted = w.posted; happened = w.happened }
 
--- What an event makes of its node: the node, what each step that counted gave, and then what going down lost.
+-- What an event makes of its node: the node, what each step that counted gave, and then what going down lost; and what is
+-- left of its luck.
 pub record Move : Type 0 where
   pub node : Node
   pub moved : Moved
 
 abbrev pub nothing : Moved
-nothing = record { taken = []; lost = [] }
+nothing = record { taken = []; lost = []; left = record { fates = []; until = None } }
 
 -- no step
 abbrev pub quiet : Node → Move
@@ -48,8 +49,8 @@ lost_of b = transactions_lost b.transactions ++ leaves_lost b.leaves
 abbrev pub ended : Node → Walk → Move
 ended x w =
     if is_over w.luck
-    then record { node = record x { book = None; journal = w.journal }; moved = record { taken = w.taken; lost = lost_of w.book } }
-    else record { node = record x { book = Some w.book; journal = w.journal }; moved = record { taken = w.taken; lost = [] } }
+    then record { node = record x { book = None; journal = w.journal }; moved = record { taken = w.taken; lost = lost_of w.book; left = w.luck } }
+    else record { node = record x { book = Some w.book; journal = w.journal }; moved = record { taken = w.taken; lost = []; left = w.luck } }
 
 abbrev pub later_at : ℕ → Node → Node
 later_at now x = record x { clock = now }
@@ -88,7 +89,7 @@ request_move r l x (Some b) = ended x (stepped (plan b (events.Local r) x.clock)
 
 abbrev pub crash_move : Node → Option Book → Move
 crash_move x None = quiet x
-crash_move x (Some b) = record { node = record x { book = None }; moved = record { taken = []; lost = lost_of b } }
+crash_move x (Some b) = record { node = record x { book = None }; moved = record nothing { lost = lost_of b } }
 
 -- A node that starts: where its Start record landed and no stop comes, it has the book of its records.
 abbrev pub begun : Bool → Bool → Node → Node
@@ -162,6 +163,10 @@ steps_of w e = steps_in (seen w) e
 
 abbrev pub losses_of : World → WorldEvent → List Effect
 losses_of w e = (moved_in (seen w) e).lost
+
+-- What an event doesn't use of its fates, and how many of them stand before its stop.
+abbrev pub left_of : World → WorldEvent → Luck
+left_of w e = (moved_in (seen w) e).left
 
 -- An event changes a world by the moves of its node, and by nothing else.
 abbrev pub ChangesByMoves : Type 0

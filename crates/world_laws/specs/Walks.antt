@@ -26,7 +26,7 @@ is_over l = stops l.until
 abbrev pub used : Luck → Luck
 used l = record { fates = fates_left l.fates; until = one_nearer l.until }
 
--- What was sent of a step: at most one answer, and posts.
+-- What a step gives: at most one answer, which counts whether its call is done or fails, and the posts that were sent.
 abbrev pub first_answer : Option Answer → Answer → Option Answer
 first_answer None a = Some a
 first_answer (Some first) a = Some first
@@ -37,7 +37,8 @@ with_out (outs.Answer status reply) t = record t { answer = first_answer t.answe
 
 abbrev pub with_fate : Bool → Out → Taken → Taken
 with_fate true out t = with_out out t
-with_fate false out t = t
+with_fate false (outs.Post p) t = t
+with_fate false (outs.Answer status reply) t = with_out (outs.Answer status reply) t
 
 pub record Sending : Type 0 where
   pub luck : Luck

@@ -1,7 +1,8 @@
 //! What happens to a world.
 
-ghost use Rattle.std.specs.Prelude.{◌≡◌, ◌≤◌};
-ghost use Rattle.at_model.specs.World.{node_of};
+ghost use Rattle.std.specs.Prelude.{◌≡◌, ◌≤◌, drop, length};
+ghost use Rattle.at_model.specs.World.{fate, node_of};
+ghost use Rattle.world_laws.specs.Fates.{behind_done};
 ghost use Rattle.world_laws.specs.Events.{event_of, ms_of};
 
 use at_base::event::Local;
@@ -19,33 +20,67 @@ pub enum Input {
     Raw,
 }
 
+/// The fate at this place; one behind the last is yes.
+#[tactic(auto, using(crate::proofs::Fates::fate_at, crate::proofs::Fates::fate_past))]
+fn fate_at(fates: &[bool], place: usize) -> bool
+    ensures { result ≡ fate (drop place fates.now) }
+{
+    match fates.get(place) {
+        Some(fate) => *fate,
+        None => true,
+    }
+}
+
 /// For each call of a node's site, whether it succeeds; each call behind the last does.
 #[derive(Debug, Drop)]
 pub struct Fates {
+    /// So many succeed before those of the list.
+    done: u32,
     items: Vec<bool>,
 }
 
 impl Model for Fates {
     ghost use Rattle.std.specs.Prelude.{List, Bool};
+    ghost use Rattle.world_laws.specs.Fates.{behind_done};
 
     ghost Value = { List Bool };
 
-    ghost view = { λ f. f.items.items };
+    ghost view = { λ f. behind_done f.done f.items.items };
 }
 
 impl Fates {
     /// The list of a `Vec`, without a copy.
+    #[tactic(auto, using(crate::proofs::Fates::none_done))]
     pub fn from_vec(items: Vec<bool>) -> Fates
         ensures { result ≡ items.items }
     {
-        Fates { items }
+        Fates { done: 0, items }
     }
 
-    /// The list as a slice.
-    pub fn as_slice(&self) -> &[bool]
-        ensures { result.now ≡ self.now }
+    /// So many calls that succeed, and then those of the `Vec`.
+    pub fn behind(done: u32, items: Vec<bool>) -> Fates
+        ensures { result ≡ behind_done done items.items }
     {
-        self.items.as_slice()
+        Fates { done, items }
+    }
+
+    /// How many calls it has.
+    #[tactic(auto, using(crate::proofs::Fates::length_behind))]
+    pub fn len(&self) -> usize
+        ensures { result ≡ length self.now }
+    {
+        self.done as usize + self.items.len()
+    }
+
+    /// Whether the call at this place succeeds; one behind the last does.
+    #[tactic(auto, using(crate::proofs::Fates::fate_before, crate::proofs::Fates::fate_behind))]
+    pub fn at(&self, place: usize) -> bool
+        ensures { result ≡ fate (drop place self.now) }
+    {
+        if place < self.done as usize {
+            return true;
+        }
+        fate_at(self.items.as_slice(), place - self.done as usize)
     }
 }
 
@@ -54,6 +89,7 @@ impl Clone for Fates {
 
     fn clone(&self) -> Result<Fates, AllocError> {
         Ok(Fates {
+            done: self.done,
             items: self.items.clone()?,
         })
     }

@@ -6,7 +6,7 @@ pub mod event;
 mod held;
 pub mod laws;
 mod left;
-mod luck;
+pub mod luck;
 mod node;
 mod places;
 pub mod posted;

@@ -1,15 +1,15 @@
 //! The fates of a site's calls, and the stop, as an event uses them up.
 
-ghost use Rattle.std.specs.Prelude.{◌≡◌, IfOk, drop};
+ghost use Rattle.std.specs.Prelude.{◌≡◌, [], None, IfOk, drop, length};
 ghost use Rattle.at_model.specs.World.{fate};
 ghost use Rattle.world_laws.specs.Walks.{is_over, used};
 
 use crate::event::Fates;
-use std::alloc::AllocError;
+use std::alloc::{AllocError, Global};
 use std::marker::Model;
 
 /// The fates that are left, and how many stand before the stop.
-#[derive(Drop)]
+#[derive(Debug, Drop)]
 pub struct Luck {
     fates: Fates,
     /// So many are used up.
@@ -26,17 +26,6 @@ impl Model for Luck {
     ghost view = { λ l. record { fates = drop l.used l.fates; until = l.until } };
 }
 
-/// The fate at this place; one behind the last is yes.
-#[tactic(auto, using(crate::proofs::Fates::fate_at, crate::proofs::Fates::fate_past))]
-fn fate_at(fates: &[bool], place: usize) -> bool
-    ensures { result ≡ fate (drop place fates.now) }
-{
-    match fates.get(place) {
-        Some(fate) => *fate,
-        None => true,
-    }
-}
-
 impl Luck {
     /// All of an event's fates.
     pub fn new(fates: &Fates, until: Option<u64>) -> Result<Luck, AllocError>
@@ -47,6 +36,25 @@ impl Luck {
             used: 0,
             until,
         })
+    }
+
+    /// No fate, and no stop.
+    pub fn none(alloc: Global) -> Luck
+        ensures { result ≡ record { fates = []; until = None } }
+    {
+        Luck {
+            fates: Fates::from_vec(Vec::new(alloc)),
+            used: 0,
+            until: None,
+        }
+    }
+
+    /// How many fates are left.
+    #[tactic(auto, using(crate::proofs::Fates::length_left))]
+    pub fn left(&self) -> usize
+        ensures { result ≡ length self.now.fates }
+    {
+        self.fates.len().saturating_sub(self.used)
     }
 
     /// Whether the stop has come.
@@ -65,8 +73,8 @@ impl Luck {
         ensures fate { result ≡ fate self.old.fates }
         ensures left { self.new ≡ used self.old }
     {
-        let fate = fate_at(self.fates.as_slice(), self.used);
-        if self.used < self.fates.as_slice().len() {
+        let fate = self.fates.at(self.used);
+        if self.used < self.fates.len() {
             self.used += 1;
         }
         self.until = match self.until {

@@ -1,10 +1,12 @@
 //! A node of a world: its book where it is up, the records of its journal, and its clock.
 
 ghost use Rattle.std.specs.Prelude.{ℕ, List, ◌≡◌, ◌≤◌, [], IfOk, OnOk, None, map, option_map, option_copied, option_and_then};
-ghost use Rattle.at_model.specs.Step.{refuses};
-ghost use Rattle.at_model.specs.World.{new_node, started, up_after, example_base};
+ghost use Rattle.at_base.specs.declared.event.Event.TheVariants as events;
+ghost use Rattle.at_model.specs.Step.{plan, refuses};
+ghost use Rattle.at_model.specs.World.{answer_plan, arrival_plan, new_node, started, up_after, example_base};
 ghost use Rattle.completion_at.specs.Names.{refusal_of};
 ghost use Rattle.world_laws.specs.Events.{event_of, input_of};
+ghost use Rattle.world_laws.specs.Firsts.{delivery_plan, has_record, input_plan, node_records};
 ghost use Rattle.world_laws.specs.Moves.{arrival_move, crash_move, delivery_move, ended, input_move, move_of, raw_move, request_move, start_move, tick_move};
 ghost use Rattle.world_laws.specs.Runs.{IsReady, incarnation_of};
 ghost use Rattle.world_laws.specs.Walks.{begin};
@@ -22,10 +24,20 @@ use at_base::record::Record;
 use at_base::text::Text;
 use completion_at::activities::refuses_as_the_model;
 use completion_at::requests::Refusal;
-use interposition::book::Book;
+use interposition::book::{Book, steps_as_the_model};
 use std::alloc::{AllocError, Global};
 use std::marker::Model;
 use std::mem::replace;
+
+/// Whether the step of an event has a record.
+fn has_record(alloc: Global, book: &mut Book, event: &Event, now: u64) -> Result<bool, AllocError>
+    ensures record { IfOk result (λ r. r ≡ has_record (plan book.old event.now now)) }
+    ensures same { book.new ≡ book.old }
+{
+    steps_as_the_model();
+    let plan = book.plan(alloc, event, now)?;
+    Ok(plan.entry().is_some())
+}
 
 /// A node.
 #[derive(Drop)]
@@ -119,12 +131,17 @@ impl Node {
         if luck.is_over() {
             let lost = book.lost(alloc)?;
             self.book = None;
-            return Ok(Moved { taken, lost });
+            return Ok(Moved {
+                taken,
+                lost,
+                left: luck,
+            });
         }
         self.book = Some(book);
         Ok(Moved {
             taken,
             lost: Effects::from_vec(Vec::new(alloc)),
+            left: luck,
         })
     }
 
@@ -233,6 +250,7 @@ impl Node {
                 Ok(Moved {
                     taken: TakenList::new(alloc),
                     lost,
+                    left: Luck::none(alloc),
                 })
             }
         }
@@ -328,6 +346,123 @@ impl Node {
                 self.start(alloc, *landed, *stop)?;
                 Ok(Moved::nothing(alloc))
             }
+        }
+    }
+
+    /// Whether the step of an event has a record, where it is up.
+    fn event_records(
+        &mut self,
+        alloc: Global,
+        event: &Event,
+        now: u64,
+    ) -> Result<Option<bool>, AllocError>
+        ensures record { IfOk result
+            (λ r. r ≡ option_map has_record (option_map (λ b. plan b event.now now) self.old.book)) }
+        ensures same { self.new ≡ self.old }
+    {
+        match &mut self.book {
+            None => Ok(None),
+            Some(book) => Ok(Some(has_record(alloc, book, event, now)?)),
+        }
+    }
+
+    /// What changes nothing but for this answer has no record.
+    fn no_record(&self, _status: u16) -> Option<bool>
+        ensures { result ≡ option_map has_record (option_map (λ b. answer_plan b _status) self.now.book) }
+    {
+        match self.book {
+            None => None,
+            Some(_) => Some(false),
+        }
+    }
+
+    fn arrival_records(
+        &mut self,
+        alloc: Global,
+        arrived: Option<Arrived>,
+    ) -> Result<Option<bool>, AllocError>
+        ensures record { IfOk result
+            (λ r. r ≡ option_map has_record (option_map (λ b. arrival_plan b self.old.clock arrived) self.old.book)) }
+        ensures same { self.new ≡ self.old }
+    {
+        let now = self.clock;
+        match arrived {
+            None => Ok(self.no_record(500)),
+            Some(arrived) => self.event_records(alloc, &Event::Arrived(arrived), now),
+        }
+    }
+
+    fn delivery_records(
+        &mut self,
+        alloc: Global,
+        number: u8,
+        found: Option<&Posted>,
+    ) -> Result<Option<bool>, AllocError>
+        ensures record { IfOk result
+            (λ r. r ≡ option_map has_record (delivery_plan number (option_copied found.entry) self.old self.old.book)) }
+        ensures same { self.new ≡ self.old }
+    {
+        match found {
+            Some(posted) if posted.receiver == Some(number) => {
+                let arrived = decoded(&self.base, &posted.content)?;
+                self.arrival_records(alloc, arrived)
+            }
+            _ => Ok(None),
+        }
+    }
+
+    /// Whether the first step of a turn has a record.
+    fn turn_records(
+        &mut self,
+        alloc: Global,
+        number: u8,
+        input: Input,
+        posted: &[Posted],
+    ) -> Result<Option<bool>, AllocError>
+        requires { IsReady self.old }
+        ensures record { IfOk result
+            (λ r. r ≡ option_map has_record (input_plan number (input_of input) posted.now self.old self.old.book)) }
+        ensures same { self.new ≡ self.old }
+    {
+        match input {
+            Input::Deliver(wanted) => {
+                self.delivery_records(alloc, number, posted_at(posted, wanted))
+            }
+            Input::Tick(ms) => {
+                let now = self.clock + ms as u64;
+                self.event_records(alloc, &Event::Tick, now)
+            }
+            Input::Raw => Ok(self.no_record(400)),
+        }
+    }
+
+    fn request_records(&mut self, alloc: Global, local: &Local) -> Result<Option<bool>, AllocError>
+        ensures record { IfOk result
+            (λ r. r ≡ option_map has_record (option_map (λ b. plan b (events.Local local.now) self.old.clock) self.old.book)) }
+        ensures same { self.new ≡ self.old }
+    {
+        let now = self.clock;
+        let event = Event::Local(local.clone()?);
+        self.event_records(alloc, &event, now)
+    }
+
+    /// Whether the first step of an event has a record; none where it takes no step.
+    pub fn records(
+        &mut self,
+        alloc: Global,
+        event: &WorldEvent,
+        posted: &[Posted],
+    ) -> Result<Option<bool>, AllocError>
+        requires { IsReady self.old }
+        ensures record { IfOk result (λ r. r ≡ node_records (event_of event.now) posted.now self.old) }
+        ensures same { self.new ≡ self.old }
+    {
+        match event {
+            WorldEvent::Turn { node, input, .. } => {
+                self.turn_records(alloc, *node, *input, posted)
+            }
+            WorldEvent::Ask { local, .. } => self.request_records(alloc, local),
+            WorldEvent::Crash { .. } | WorldEvent::Up { .. } => Ok(None),
         }
     }
 }

@@ -57,7 +57,7 @@ impl Model for NodeEffect {
 #[derive(Debug)]
 pub struct Counted {
     pub effects: Effects,
-    /// The answer on the connection, where it was sent.
+    /// The answer on the connection, whether its call was done or failed.
     pub answer: Option<Answer>,
     /// The number of the first message that it posted, if it posted one.
     pub first: usize,

@@ -1,15 +1,17 @@
 //! The nodes of a world, the messages that they posted, and what happened to them.
 
-ghost use Rattle.std.specs.Prelude.{◌≡◌, ◌≤◌, ◌<◌, ◌++◌, IfOk, OnOk, Some, map, length, option_copied, slice_get, slice_set};
+ghost use Rattle.std.specs.Prelude.{◌≡◌, ◌≤◌, ◌<◌, ◌++◌, IfOk, OnOk, Some, map, length, option_and_then, option_copied, slice_get, slice_set};
 ghost use Rattle.at_model.specs.World.{Node as Known, happened_at, new_nodes, node_of, nth, opening, example_hosts, example_base};
 ghost use Rattle.std.specs.Prelude.{sum_by};
 ghost use Rattle.world_laws.specs.Events.{event_of};
+ghost use Rattle.world_laws.specs.Firsts.{node_records};
 ghost use Rattle.world_laws.specs.Held.{node_held};
 ghost use Rattle.world_laws.specs.Runs.{AreReady, IsReady};
 ghost use Rattle.world_laws.specs.Moves.{after, counted_in, move_of, moved_by, moved_in, nodes_by, numbered, seen, steps_in, with_all, with_lost, with_nodes, with_taken};
 
 use crate::event::WorldEvent;
 use crate::held::all_held;
+use crate::luck::Luck;
 use crate::node::Node;
 use crate::posted::{Counted, NodeEffect, Posted, Steps, posted_at};
 use crate::posting::{push_effects, push_posts};
@@ -90,6 +92,43 @@ fn happen_at(
     happen_in(alloc, nodes, number as usize - 1, event, posted)
 }
 
+/// Whether the first step of an event at the node at this place has a record.
+#[tactic(auto, using(crate::proofs::Found::set_same))]
+fn records_in(
+    alloc: Global,
+    nodes: &mut Vec<Node>,
+    place: usize,
+    event: &WorldEvent,
+    posted: &[Posted],
+) -> Result<Option<bool>, AllocError>
+    requires place { place < length nodes.old.items }
+    requires ready { (x : Known) → slice_get nodes.old.items place ≡ Some x → IsReady x }
+    ensures records { (x : Known) → slice_get nodes.old.items place ≡ Some x
+        → IfOk result (λ r. r ≡ node_records (event_of event.now) posted.now x) }
+    ensures same { nodes.new.items ≡ nodes.old.items }
+{
+    nodes[place].records(alloc, event, posted)
+}
+
+/// Whether the first step of an event at the node of this number has a record; none where there is no such node.
+fn records_at(
+    alloc: Global,
+    nodes: &mut Vec<Node>,
+    number: u8,
+    event: &WorldEvent,
+    posted: &[Posted],
+) -> Result<Option<bool>, AllocError>
+    requires { AreReady nodes.old.items }
+    ensures records { IfOk result
+        (λ r. r ≡ option_and_then (node_records (event_of event.now) posted.now) (nth number nodes.old.items)) }
+    ensures same { nodes.new.items ≡ nodes.old.items }
+{
+    if number == 0 || nodes.as_slice().len() < number as usize {
+        return Ok(None);
+    }
+    records_in(alloc, nodes, number as usize - 1, event, posted)
+}
+
 /// What an event gave.
 #[derive(Debug, Drop)]
 pub struct Happening {
@@ -97,6 +136,8 @@ pub struct Happening {
     pub steps: Steps,
     /// What going down lost.
     pub lost: Effects,
+    /// What the event left of its luck.
+    pub left: Luck,
 }
 
 impl Scene {
@@ -212,6 +253,22 @@ impl Scene {
         all_held(self.nodes.as_slice())
     }
 
+    /// Whether the first step of an event has a record; none where it takes no step.
+    pub fn records(&mut self, alloc: Global, event: &WorldEvent) -> Result<Option<bool>, AllocError>
+        requires { AreReady self.old.nodes }
+        ensures records { IfOk result
+            (λ r. r ≡ option_and_then (node_records (event_of event.now) self.old.posted) (nth (node_of (event_of event.now)) self.old.nodes)) }
+        ensures same { self.new ≡ self.old }
+    {
+        records_at(
+            alloc,
+            &mut self.nodes,
+            event.node(),
+            event,
+            self.posted.as_slice(),
+        )
+    }
+
     /// What an event makes of it, and what the event gave.
     pub fn step(&mut self, alloc: Global, event: &WorldEvent) -> Result<Happening, AllocError>
         requires ready { AreReady self.old.nodes }
@@ -219,10 +276,11 @@ impl Scene {
         ensures scene { OnOk result (self.new ≡ after self.old (event_of event.now)) }
         ensures steps { IfOk result (λ h. h.steps ≡ steps_in self.old (event_of event.now)) }
         ensures lost { IfOk result (λ h. h.lost ≡ (moved_in self.old (event_of event.now)).lost) }
+        ensures left { IfOk result (λ h. h.left ≡ (moved_in self.old (event_of event.now)).left) }
     {
-        let (taken, lost) = self.happen(alloc, event)?.into_parts();
+        let (taken, lost, left) = self.happen(alloc, event)?.into_parts();
         let steps = self.keep_all(alloc, event.node(), taken)?;
         self.keep_lost(event.node(), &lost)?;
-        Ok(Happening { steps, lost })
+        Ok(Happening { steps, lost, left })
     }
 }

@@ -1,9 +1,11 @@
 //! What the steps of a node give.
 
-ghost use Rattle.std.specs.Prelude.{◌≡◌, ◌++◌, ◌∷◌, [], None, OnOk, length};
+ghost use Rattle.std.specs.Prelude.{◌≡◌, ◌++◌, ◌∷◌, [], None, OnOk, false, length};
+ghost use Rattle.at_base.specs.declared.outs.Out.TheVariants as outs;
 ghost use Rattle.world_laws.specs.Moves.{nothing};
-ghost use Rattle.world_laws.specs.Walks.{with_out};
+ghost use Rattle.world_laws.specs.Walks.{with_fate, with_out};
 
+use crate::luck::Luck;
 use at_base::message::Message;
 use at_base::outs::{Effects, Out, Post};
 use std::alloc::{AllocError, Global};
@@ -93,7 +95,7 @@ impl Posts {
 #[derive(Debug)]
 pub struct Taken {
     pub effects: Effects,
-    /// The answer, where it was sent.
+    /// The answer, whether its call was done or failed.
     pub answer: Option<Answer>,
     /// The posts that were sent.
     pub posts: Posts,
@@ -133,6 +135,15 @@ impl Taken {
         }
     }
 
+    /// The answer, unless there is one.
+    fn answer_with(&mut self, status: u16, reply: Option<Post>)
+        ensures { self.new ≡ with_out (outs.Answer status reply) self.old }
+    {
+        if self.answer.is_none() {
+            self.answer = Some(Answer { status, reply });
+        }
+    }
+
     /// One more is sent.
     pub fn add(&mut self, out: Out) -> Result<(), AllocError>
         ensures { OnOk result (self.new ≡ with_out out self.old) }
@@ -141,14 +152,20 @@ impl Taken {
         match &mut out {
             Out::Post(post) => self.posts.push(replace(post, no_post())),
             Out::Answer { status, reply } => {
-                if self.answer.is_none() {
-                    self.answer = Some(Answer {
-                        status: *status,
-                        reply: reply.take(),
-                    });
-                }
+                self.answer_with(*status, reply.take());
                 Ok(())
             }
+        }
+    }
+
+    /// The call of one more fails.
+    pub fn lose(&mut self, out: Out)
+        ensures { self.new ≡ with_fate false out self.old }
+    {
+        let mut out = out;
+        match &mut out {
+            Out::Post(_) => {}
+            Out::Answer { status, reply } => self.answer_with(*status, reply.take()),
         }
     }
 }
@@ -194,11 +211,13 @@ impl TakenList {
     }
 }
 
-/// What an event gives at its node: what each step that counted gave, and then what going down lost.
+/// What an event gives at its node: what each step that counted gave, and then what going down lost; and what it left of its
+/// luck.
 #[derive(Debug)]
 pub struct Moved {
     pub taken: TakenList,
     pub lost: Effects,
+    pub left: Luck,
 }
 
 impl Drop for Moved {
@@ -206,17 +225,18 @@ impl Drop for Moved {
         let Moved {
             taken: _taken,
             lost: _lost,
+            left: _left,
         } = self;
     }
 }
 
 impl Moved {
     /// Its parts.
-    pub fn into_parts(self) -> (TakenList, Effects)
-        ensures { result ≡ (self.taken, self.lost) }
+    pub fn into_parts(self) -> (TakenList, Effects, Luck)
+        ensures { result ≡ (self.taken, self.lost, self.left) }
     {
-        let Moved { taken, lost } = self;
-        (taken, lost)
+        let Moved { taken, lost, left } = self;
+        (taken, lost, left)
     }
 
     /// No step.
@@ -226,6 +246,7 @@ impl Moved {
         Moved {
             taken: TakenList::new(alloc),
             lost: Effects::from_vec(Vec::new(alloc)),
+            left: Luck::none(alloc),
         }
     }
 }

@@ -63,8 +63,9 @@ fn send_one(luck: &mut Luck, taken: &mut Taken, out: Out) -> Result<(), AllocErr
         return Ok(());
     }
     if luck.next() {
-        taken.add(out)?;
+        return taken.add(out);
     }
+    taken.lose(out);
     Ok(())
 }
 

@@ -13,12 +13,14 @@ ghost use Rattle.completion_at.specs.Names.{refusal_of};
 ghost use Rattle.std.specs.Prelude.{◌-◌, ◌^◌};
 ghost use Rattle.model_laws.specs.Settle.{waiting};
 ghost use Rattle.world_laws.specs.Events.{event_of};
+ghost use Rattle.world_laws.specs.Firsts.{first_records};
 ghost use Rattle.world_laws.specs.Held.{NodeHoldsFew, world_held};
-ghost use Rattle.world_laws.specs.Moves.{losses_of, steps_of};
+ghost use Rattle.world_laws.specs.Moves.{left_of, losses_of, steps_of};
 ghost use Rattle.world_laws.specs.Runs.{book_at, clock_at, incarnation_at, refused_at, world_of};
 
 use crate::event::WorldEvent;
 use crate::laws::changes_by_moves;
+use crate::luck::Luck;
 use crate::posted::{NodeEffect, Posted, Steps};
 use crate::scene::{Happening, Scene};
 use at_base::event::Local;
@@ -57,6 +59,8 @@ pub struct Stepped {
     pub steps: Steps,
     /// And then what going down lost.
     pub lost: Effects,
+    /// What the event left of its fates, and how many of them stand before its stop.
+    pub left: Luck,
 }
 
 impl World {
@@ -80,6 +84,7 @@ impl World {
         ensures world { IfOk result (λ s. world_of s.world ≡ world_step (world_of self) (event_of event)) }
         ensures steps { IfOk result (λ s. s.steps ≡ steps_of (world_of self) (event_of event)) }
         ensures lost { IfOk result (λ s. s.lost ≡ losses_of (world_of self) (event_of event)) }
+        ensures left { IfOk result (λ s. s.left ≡ left_of (world_of self) (event_of event)) }
     {
         ids_rise();
         changes_by_moves();
@@ -89,7 +94,7 @@ impl World {
             mut events,
         } = self;
         let _ms = event.ms();
-        let Happening { steps, lost } = scene.step(alloc, &event)?;
+        let Happening { steps, lost, left } = scene.step(alloc, &event)?;
         events.push(event)?;
         Ok(Stepped {
             world: World {
@@ -99,7 +104,17 @@ impl World {
             },
             steps,
             lost,
+            left,
         })
+    }
+
+    /// Whether the first step of an event has a record; none where it takes no step.
+    pub fn records(&mut self, alloc: Global, event: &WorldEvent) -> Result<Option<bool>, AllocError>
+        requires { length self.old.events < 4294967295 }
+        ensures records { IfOk result (λ r. r ≡ first_records (world_of self.old) (event_of event.now)) }
+        ensures same { self.new ≡ self.old }
+    {
+        self.scene.records(alloc, event)
     }
 
     /// How many nodes there are.
@@ -201,6 +216,7 @@ fn ran(alloc: Global, nodes: u8, events: &[WorldEvent]) -> Result<World, AllocEr
             world: next,
             steps: _steps,
             lost: _lost,
+            left: _left,
         } = world.step(alloc, event.clone()?)?;
         world = next;
     }

@@ -114,7 +114,12 @@ impl Script {
             mut lines,
         } = self;
         let node = event.node();
-        let Stepped { world, steps, lost } = stepped(alloc, world, event)?;
+        let Stepped {
+            world,
+            steps,
+            lost,
+            left: _left,
+        } = stepped(alloc, world, event)?;
         push_steps(alloc, &mut lines, node, &world, steps.as_slice())?;
         push_effects(alloc, &mut lines, node, lost.as_slice())?;
         Ok(Script {

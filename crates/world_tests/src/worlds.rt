@@ -35,8 +35,14 @@ fn shown(alloc: Global) -> Result<bool, AllocError> {
         world,
         steps: _steps,
         lost: _lost,
+        left: _left,
     } = world.step(alloc, up(1))?;
-    let Stepped { world, steps, lost } = world.step(alloc, tick(alloc, 1, 5000))?;
+    let Stepped {
+        world,
+        steps,
+        lost,
+        left: _left,
+    } = world.step(alloc, tick(alloc, 1, 5000))?;
     let unknown = Local::Commit {
         activity: Id::new(1, 1),
     };

@@ -1,5 +1,5 @@
 use Rattle.world_laws.specs.Events.{event_of}
-use Rattle.world_laws.proofs.Running.{few_after, kept_after, lost_after, steps_after}
+use Rattle.world_laws.proofs.Running.{few_after, kept_after, left_after, lost_after, steps_after}
 use Rattle.world_laws.proofs.scene.Scene.step.Goals as goal
 
 pub keep_all-requires : goal.keep_all-requires
@@ -19,4 +19,9 @@ returns-clause-steps c =
 pub returns-clause-lost : goal.returns-clause-lost
 returns-clause-lost c =
     lost_after c.args.self.now (event_of c.args.event.now) c.in_ok-happen.field-0 c.into_parts-taken.result c.in_ok-happen.ensures.moved
+    c.into_parts-taken.ensures
+
+pub returns-clause-left : goal.returns-clause-left
+returns-clause-left c =
+    left_after c.args.self.now (event_of c.args.event.now) c.in_ok-happen.field-0 c.into_parts-taken.result c.in_ok-happen.ensures.moved
     c.into_parts-taken.ensures

@@ -1,0 +1,37 @@
+use Rattle.std.proofs.Common.{◌≡◌, None, ap, arith, length, ◌-◌, ◌<◌, inl, inr, refl}
+use Rattle.std.proofs.lemmas.Option.{slice_get_cases}
+use Rattle.at_model.specs.World.{nth}
+use Rattle.world_laws.specs.Events.{event_of}
+use Rattle.world_laws.specs.Runs.{IsReady}
+use Rattle.world_laws.proofs.Fitting.{all_at}
+use Rattle.world_laws.proofs.Found.{nth_none}
+use Rattle.world_laws.proofs.Running.{no_record, nth_past, ok_more, one_record}
+use Rattle.world_laws.proofs.scene.records_at.Goals as goal
+use Rattle.world_laws.proofs.scene.records_at.Goals.{then-number-eq0-via-then-number-eq0, then-number-eq0-via-else-number-eq0+then-as_slice-number}
+
+pub returns-then-number-eq0-clause-records : goal.returns-then-number-eq0-clause-records
+returns-then-number-eq0-clause-records c =
+    no_record (event_of c.args.event.now) c.args.posted.now c.args.number c.args.nodes.now.items
+    (elim c.then-number-eq0.branch [
+      | then-number-eq0-via-then-number-eq0 w ↦ rw w.if-number-eq0.true (nth_none c.args.nodes.now.items)
+      | then-number-eq0-via-else-number-eq0+then-as_slice-number w ↦
+          nth_past c.args.number c.args.nodes.now.items
+          (let few = w.if-as_slice-number.true in let same = ap length w.as_slice.ensures.value in omega (arith, few, same))
+    ])
+
+pub records_in-requires-clause-ready : goal.records_in-requires-clause-ready
+records_in-requires-clause-ready c = λ x e. all_at IsReady c.args.nodes.now.items (c.args.number - 1) x c.requires e
+
+inside : (c : goal.After-records_in) → c.args.number - 1 < length c.args.nodes.now.items
+inside c =
+    let enough = c.if-as_slice-number.false in let same = ap length c.as_slice.ensures.value in
+    let some : c.args.number ≡ 0 → ⊥ = c.if-number-eq0.false in grind (arith, enough, same, some)
+
+pub returns-clause-records : goal.returns-clause-records
+returns-clause-records c = elim (slice_get_cases c.args.nodes.now.items (c.args.number - 1)).1 [
+  | inl p ↦ ok_more _ _ c.records_in.result
+      (λ m h. one_record (event_of c.args.event.now) c.args.posted.now c.args.number c.args.nodes.now.items p.0 m
+      c.if-number-eq0.false p.2 h)
+      (c.records_in.ensures.records p.0 p.2)
+  | inr p ↦ let within = inside c in let past = p.0 in absurd (omega (arith, within, past))
+]
