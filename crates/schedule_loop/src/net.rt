@@ -42,10 +42,7 @@ impl Drop for Net {
 fn node_of(host: &[u8]) -> u8 {
     match host {
         [b'n', digit, b'.', b'e', b'x', b'a', b'm', b'p', b'l', b'e']
-            if *digit > b'0' && *digit < b'9' =>
-        {
-            digit.saturating_sub(b'0')
-        }
+            if *digit > b'0' && *digit < b'9' => { digit.saturating_sub(b'0') }
         _ => 0,
     }
 }
@@ -69,10 +66,7 @@ fn request(alloc: Global, line: &Line) -> Result<Option<(u8, Local)>, AllocError
             service,
             kind,
             vote,
-        } => Ok(Some((
-            *node,
-            work(alloc, *activity, *service, *kind, *vote)?,
-        ))),
+        } => Ok(Some((*node, work(alloc, *activity, *service, *kind, *vote)?))),
         Line::Commit { node, activity } => Ok(Some((
             *node,
             Local::Commit {
@@ -278,10 +272,13 @@ impl Net {
 
     /// The number of the first letter that wasn't carried.
     fn next(&mut self) -> Option<usize> {
-        while self.letters.get(self.first)?.carried {
+        for _ in 0..u32::MAX {
+            if !self.letters.get(self.first)?.carried {
+                return Some(self.first.saturating_add(1));
+            }
             self.first = self.first.saturating_add(1);
         }
-        Some(self.first.saturating_add(1))
+        None
     }
 
     fn flush(&mut self, alloc: Global, most: u16) -> Result<(), AllocError> {

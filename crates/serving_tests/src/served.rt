@@ -182,7 +182,10 @@ fn limited(alloc: Global, limit: u32) -> Option<Ended> {
 fn a_journal_may_be_full(rt: HostRuntime) -> Result<(), Fail> {
     let within = limited(rt.alloc(), 21);
     let full = limited(rt.alloc(), 20);
-    assert!(rt; within == Some(Ended::Done) && full == Some(Ended::Full), "{within:?} {full:?}");
+    assert!(rt;
+        within == Some(Ended::Done) && full == Some(Ended::Full),
+        "{within:?} {full:?}"
+    );
     Ok(())
 }
 
