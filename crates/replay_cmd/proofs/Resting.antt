@@ -1,5 +1,5 @@
 -- The events that bring the world of a report to rest, and what holds of it with them and without.
-use Rattle.std.proofs.Common.{ℕ, ◌≡◌, ◌<◌, ◌^◌, refl, Bool, true, false, List, [], ◌∷◌, length, ap, ◌∙◌, sym, arith, subst}
+use Rattle.std.proofs.Common.{ℕ, ◌≡◌, refl, true, false, List, [], ◌∷◌, ap, ◌∙◌, sym, arith, subst}
 use Rattle.std.specs.Prelude.{None}
 use Rattle.std.specs.List.{AllByRecursion}
 use Rattle.at_model.specs.World.{World, WorldEvent, run_on, HaveOwnAddresses, example_hosts}
@@ -8,7 +8,6 @@ use Rattle.model_laws.specs.Agreement.{Agrees, HasOneSuperior, IsAgreed, IsBehin
 use Rattle.model_laws.specs.Enlisted.{EnlistsUnderOne}
 use Rattle.model_laws.specs.Made.{MakesNoIdTwice}
 use Rattle.model_laws.specs.Settle.{MayStart, Settles, is_settled, settle}
-use Rattle.schedules.specs.declared.line.Line.{Line}
 use Rattle.replay_cmd.specs.ReportOf.{Course, all_happen, course_of, happens, nodes_of, world_of, world_with}
 use Rattle.replay_cmd.specs.Laws.{IsOfRun, IsSafe, ReportsAreSafe, ReportsComeToRest, ReportsRuns}
 use Rattle.replay_cmd.proofs.Running.{report_run, step_on}

@@ -1,5 +1,5 @@
 -- The world of a replay is that of a run, line by line.
-use Rattle.std.proofs.Common.{ℕ, zero, suc, ◌+◌, ◌≡◌, ◌<◌, ◌^◌, refl, List, [], ◌∷◌, ◌++◌, length, ap, ◌∙◌, arith, subst, sym}
+use Rattle.std.proofs.Common.{ℕ, zero, suc, ◌+◌, ◌-◌, ◌≡◌, refl, List, [], ◌∷◌, ◌++◌, length, ap, ◌∙◌, arith, subst, sym}
 use Rattle.std.specs.Prelude.{Option, Some, None, option_map}
 use Rattle.at_base.specs.declared.event.Local.TheVariants as locals
 use Rattle.at_model.specs.Views.{up, deliver_to, tick_at, request, begin_at, interpose_at, work_at, commit_at}
@@ -9,7 +9,7 @@ use Rattle.schedules.specs.declared.line.Line.{Line}
 use Rattle.schedules.specs.declared.line.Line.TheVariants as lines
 use Rattle.world_laws.specs.Firsts.{first_records}
 use Rattle.replay_cmd.specs.declared.fault.Armed.{Armed}
-use Rattle.replay_cmd.specs.Delivered.{lowest}
+use Rattle.replay_cmd.specs.Delivered.{lowest, yes_at}
 use Rattle.replay_cmd.specs.Faults.{struck}
 use Rattle.replay_cmd.specs.ReportOf.{Course, all_taken, all_up, armed_at, begun, comes, comes_to, delivered_to, delivers_lowest, delivers_where, flushes, happens, nobody_armed, nodes_of, receiver_in, taken, world_of}
 use Rattle.replay_cmd.specs.Laws.{IsOfRun, IsReplayable}
@@ -37,7 +37,7 @@ deliver_on :
     → IsOfRun count (delivered_to k receiver c).world
 deliver_on count k None c r = r
 deliver_on count k (Some None) c r = r
-deliver_on count k (Some (Some n)) c r = comes_on count (deliver_to n k) c r
+deliver_on count k (Some (Some n)) c r = comes_on count (deliver_to n k) (record c { delivered = yes_at (k - 1) c.delivered }) r
 
 where_on :
     (count : ℕ) (number : Option ℕ) (c : Course) → IsOfRun count c.world → IsOfRun count (delivers_where number c).world

@@ -136,6 +136,21 @@ impl Met {
     }
 }
 
+/// Gives a turn or a request these fates.
+fn meet(
+    alloc: Global,
+    met: Met,
+    fates: &mut Fates,
+    until: &mut Option<u64>,
+) -> Result<(), AllocError>
+    ensures fates { OnOk result (fates.new ≡ fates_of met) }
+    ensures until { OnOk result (until.new ≡ until_of met) }
+{
+    *fates = met.fates(alloc)?;
+    *until = met.until();
+    Ok(())
+}
+
 /// Makes of an event at whose node a call is armed what that call lets happen. `first` is whether its first step has a record,
 /// none where it takes no step.
 pub fn strike(
@@ -147,20 +162,21 @@ pub fn strike(
     ensures { OnOk result (event_of event.new ≡ struck armed first (event_of event.old)) }
 {
     match event {
-        WorldEvent::Turn { fates, until, .. } | WorldEvent::Ask { fates, until, .. } => {
-            if let Some(first) = first {
-                let met = where_met(first, armed);
-                *fates = met.fates(alloc)?;
-                *until = met.until();
-            }
-        }
-        WorldEvent::Crash { .. } => {}
+        WorldEvent::Turn { fates, until, .. } => match first {
+            Some(first) => meet(alloc, where_met(first, armed), fates, until),
+            None => Ok(()),
+        },
+        WorldEvent::Ask { fates, until, .. } => match first {
+            Some(first) => meet(alloc, where_met(first, armed), fates, until),
+            None => Ok(()),
+        },
+        WorldEvent::Crash { .. } => Ok(()),
         WorldEvent::Up { landed, stop, .. } => {
             if armed.call <= START_CALLS {
                 *landed = record_stands(armed.call.saturating_sub(2), armed.fault);
                 *stop = true;
             }
+            Ok(())
         }
     }
-    Ok(())
 }

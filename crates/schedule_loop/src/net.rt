@@ -4,7 +4,7 @@ use crate::host::{Given, Host, Started};
 use at_base::event::Local;
 use replay_cmd::lines::Lines;
 use replay_cmd::requests::{begin, interpose, work};
-use schedules::line::Line;
+use schedules::line::{Leaves, Line};
 use site_memory::arm::Choice;
 use std::alloc::{AllocError, Global};
 
@@ -92,6 +92,15 @@ fn word_of(alloc: Global, given: Given) -> Result<String, AllocError> {
         Given::Stopped => String::from_str(alloc, "stopped"),
         Given::Halted => String::from_str(alloc, "halted"),
         Given::Odd => String::from_str(alloc, "odd"),
+    }
+}
+
+/// What a stop leaves of a machine's files.
+fn choice_of(leaves: Leaves) -> Choice {
+    match leaves {
+        Leaves::Keep => Choice::Keep,
+        Leaves::Drop => Choice::Drop,
+        Leaves::Fill { byte } => Choice::Fill(byte),
     }
 }
 
@@ -291,6 +300,18 @@ impl Net {
         Ok(())
     }
 
+    fn fail(&mut self, number: u8, call: u32) {
+        if let Some(host) = self.host(number) {
+            host.fail(call);
+        }
+    }
+
+    fn stop(&mut self, number: u8, call: u32, leaves: Leaves) {
+        if let Some(host) = self.host(number) {
+            host.stop(call, choice_of(leaves));
+        }
+    }
+
     /// What a line says is done.
     pub fn takes(&mut self, alloc: Global, line: &Line) -> Result<(), AllocError> {
         match line {
@@ -299,6 +320,14 @@ impl Net {
             Line::Tick { node, ms } => self.tick(alloc, *node, *ms),
             Line::Crash { node } => self.crash(alloc, *node),
             Line::Up { node } => self.start(alloc, *node),
+            Line::Fail { node, call } => {
+                self.fail(*node, *call);
+                Ok(())
+            }
+            Line::Stop { node, call, leaves } => {
+                self.stop(*node, *call, *leaves);
+                Ok(())
+            }
             _ => match request(alloc, line)? {
                 Some((node, local)) => self.ask(alloc, node, &local),
                 None => Ok(()),
