@@ -4,11 +4,11 @@
     bench/nodes.py [COUNT] [SEED] [LINES]
 
 Each of COUNT rounds (200) makes a schedule of LINES lines (60) for up to five nodes, of requests, deliveries (also of what
-was delivered before), ticks, crashes and starts, has `replay` report it, and has `schedule_loop` run it over nodes on
-machines in memory, which post to one another the bytes that they post to anybody. Results, effects and posts (sender,
-receiver, name and path, in order) must be the same; what is lost on going down is known to the world alone. It says how
-many lines, messages and effects were compared, and ends with status 1 at the first schedule that comes out otherwise,
-which it prints.
+was delivered before), ticks, crashes, starts, and device calls that fail or at which a node stops, has `replay` report it,
+and has `schedule_loop` run it over nodes on machines in memory, which post to one another the bytes that they post to
+anybody. Results, effects and posts (sender, receiver, name and path, in order) must be the same, but for the effects of
+turns in which a node went down: those, and what is lost then, are known to the world alone. It says how many were compared,
+and ends with status 1 at the first schedule that comes out otherwise, which it prints.
 
 It stands outside the gate, and wants `atx` and `schedule_loop` built.
 """
@@ -21,7 +21,6 @@ import sys
 TOP = os.path.dirname(os.path.dirname(os.path.abspath(__file__)))
 ATX = os.path.join(TOP, "atx")
 LOOP = os.environ.get("SCHEDULE_LOOP", os.path.join(TOP, "crates", "schedule_loop", "out", "schedule_loop"))
-FAULTS = ["InvalidState", "InvalidProtocol", "InvalidParameters", "CannotRegisterParticipant", "CannotCreateContext", "InconsistentInternalState", "UnknownTransaction"]
 
 
 def schedule(dice, count):
@@ -55,8 +54,11 @@ def schedule(dice, count):
             lines.append(f"deliver {dice.randint(1, 40)}")
         elif kind < 0.88:
             lines.append(f"tick {at} {dice.choice([0, 1000, 5000, 5000, 60000])}")
-        elif kind < 0.93:
+        elif kind < 0.90:
             lines.append(f"crash {at}")
+        elif kind < 0.93:
+            leaves = dice.choice(["keep", "drop", "fill 0", "fill 1", "fill 7"])
+            lines.append(dice.choice([f"fail {at} {dice.randint(1, 12)}", f"stop {at} {dice.randint(1, 12)} {leaves}"]))
         else:
             lines.append(f"up {at}")
     return lines
@@ -70,13 +72,13 @@ def named(data):
     name = action.rsplit("/", 1)[-1]
     if name == "fault":
         code = re.search(rb"<faultcode>(?:\w+:)?(\w+)</faultcode>", body).group(1).decode()
-        name = code if code in FAULTS else code
+        name = code
     return name, path
 
 
 def reported(text):
     """Results, effects and posts of a report."""
-    results, effects, posts = [], [], []
+    results, effects, posts, is_cut = [], [], [], False
     for line in text.splitlines():
         word = line.split(" ")[0]
         if word == "msg":
@@ -84,10 +86,11 @@ def reported(text):
             sender, receiver = way.split(">")
             posts.append((sender, receiver, name, path))
         elif word in ("root", "sub", "leaf", "told"):
-            if not line.endswith(" lost"):
+            if not line.endswith(" lost") and not is_cut:
                 effects.append(line)
         elif word != "end":
             results.append(line)
+            is_cut = line.endswith((" stopped", " halted"))
     return results, effects, posts
 
 

@@ -179,11 +179,16 @@ end messages 14 committed 1 aborted 0 lost 0\n\
 /// What stands in a text behind the line that begins so.
 fn behind<'a>(text: &'a str, start: &str) -> &'a str {
     let mut rest = text;
-    while let Some((line, more)) = rest.split_once('\n') {
-        if line.starts_with(start) {
-            return more;
+    for _ in 0..u32::MAX {
+        match rest.split_once('\n') {
+            Some((line, more)) => {
+                if line.starts_with(start) {
+                    return more;
+                }
+                rest = more;
+            }
+            None => return "",
         }
-        rest = more;
     }
     ""
 }
