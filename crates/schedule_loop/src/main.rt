@@ -1,8 +1,9 @@
 //! Runs the lines of a schedule over nodes that serve, each on a machine in memory, and prints what they did, so that
 //! `bench/nodes.py` can compare it with the report of `replay`.
 //!
-//! `schedule_loop` reads the schedule from standard input. A turn's effects come behind its result, and a post is printed with
-//! its sender, its host and its bytes in hexadecimal. Of a turn at which the machine stopped no effects are printed.
+//! `schedule_loop` reads the schedule from standard input. It prints results and posts in order, a post with the numbers of its
+//! sender and its receiver and its bytes in hexadecimal, and then all effects in order, but for those of turns in which a
+//! node went down.
 #![tactic(auto)]
 
 mod host;
