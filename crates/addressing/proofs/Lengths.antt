@@ -5,7 +5,7 @@ use Rattle.std.proofs.lemmas.List.{length-append}
 use Rattle.std.proofs.lemmas.List.Folds.{list_any-append}
 use Rattle.std.proofs.lemmas.Slice.Eq.{bytes_eq-Decides}
 use Rattle.std.specs.List.{flat_map, list_all, list_any}
-use Rattle.std.specs.Str.{bytes_eq, is_utf8}
+use Rattle.std.specs.Str.{bytes_eq}
 use Rattle.soap_profile.specs.Values.{is_empty}
 use Rattle.xml_profile.specs.Canonical.{attribute_text, canonical_text, content_text, declaration_text, declared_by, end_text, equals_text, is_end, name_text, numbered_by, prefix_of, spaces_at, spaces_in, spaces_of, start_text, text_byte, value_byte, value_text}
 use Rattle.xml_profile.specs.Declaring.{is_declared}
@@ -152,12 +152,12 @@ is_longer t false h e k = absurd cc
 too_many : (n : ℕ) (address : List ℕ) → 2048 < n → nat_le (length address + n) 2048 ≡ false
 too_many n address h = grind (arith, nat_tests, h)
 
-no_room : (b c : Bool) → (b && (false && c)) ≡ false
-no_room true c = refl
-no_room false c = refl
+no_room : (b : Bool) → (b && false) ≡ false
+no_room true = refl
+no_room false = refl
 
 pub no_endpoint : (address params : List ℕ) → 2048 < length params → bounded address params ≡ None
 no_endpoint address params h =
     let outside : is_within address params ≡ false =
-    ap (λ b. not (is_empty address) && (b && is_utf8 params)) (too_many (length params) address h) ∙ no_room (not (is_empty address)) (is_utf8 params) in
+    ap (λ b. not (is_empty address) && b) (too_many (length params) address h) ∙ no_room (not (is_empty address)) in
     ap (λ b. cond b (Some (record { address = address; params = params })) None) outside

@@ -5,6 +5,6 @@ pub mod Reread
 pub mod Returned
 pub mod Spelled
 pub mod Understood
-pub mod Utf8
 pub mod Lengths
 pub mod Repeated
+mod Encoded

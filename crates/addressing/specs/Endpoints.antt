@@ -1,6 +1,6 @@
 -- What endpoint an element spells (WS-Addressing 1.0 Core, section 2).
 use Rattle.std.specs.Prelude.{ℕ, List, [], ◌+◌, Bool, ◌&&◌, nat_le, not, Option, Some, None, if◌then◌else◌, codes, length}
-use Rattle.std.specs.Str.{bytes_eq, is_utf8}
+use Rattle.std.specs.Str.{bytes_eq}
 use Rattle.xml_profile.specs.declared.tree.Tree.{Tree}
 use Rattle.xml_profile.specs.Canonical.{canonical_text}
 use Rattle.xml_profile.specs.Prefixes.{addressing}
@@ -20,7 +20,7 @@ params_of (Some t) = canonical_text t
 
 -- an address isn't empty, and address and parameters have at most 2,048 bytes together
 abbrev pub is_within : List ℕ → List ℕ → Bool
-is_within address params = not (is_empty address) && (nat_le (length address + length params) 2048 && is_utf8 params)
+is_within address params = not (is_empty address) && nat_le (length address + length params) 2048
 
 abbrev pub bounded : List ℕ → List ℕ → Option Epr
 bounded address params = if is_within address params then Some (record { address = address; params = params }) else None

@@ -1,6 +1,6 @@
 //! Endpoints (WS-Addressing 1.0 Core, section 2).
 
-ghost use Rattle.std.specs.Prelude.{◌≡◌, ◌<◌, IfOk, IsTrue, Some, length};
+ghost use Rattle.std.specs.Prelude.{◌≡◌, ◌<◌, IfOk, IsTrue, IsUtf8, Some, length};
 ghost use Rattle.std.specs.Option.{option_copied, option_map};
 ghost use Rattle.soap_profile.specs.Values.{text_value};
 ghost use Rattle.addressing.specs.Endpoints.{bounded, epr_of, fault_of, is_anonymous, is_nobody, joined, params_of, reply_at, reply_of};
@@ -78,8 +78,10 @@ fn are_too_long(params: Option<&Tree>) -> bool
     }
 }
 
+#[tactic(auto, using(crate::proofs::Encoded::nothing, crate::proofs::Encoded::alone))]
 fn canonical_params(alloc: Global, params: Option<&Tree>) -> Result<Vec<u8>, AllocError>
-    ensures { IfOk result (λ bytes. bytes.items ≡ params_of (option_copied params.entry)) }
+    ensures is { IfOk result (λ bytes. bytes.items ≡ params_of (option_copied params.entry)) }
+    ensures utf8 { IfOk result (λ bytes. IsUtf8 bytes.items) }
 {
     let mut bytes = Vec::new(alloc);
     if let Some(tree) = params {
@@ -88,21 +90,16 @@ fn canonical_params(alloc: Global, params: Option<&Tree>) -> Result<Vec<u8>, All
     Ok(bytes)
 }
 
-#[tactic(auto, using(crate::proofs::Utf8::is_text, crate::proofs::Utf8::is_no_text))]
 fn bounded(alloc: Global, address: Text, params: &[u8]) -> Result<Option<Epr>, AllocError>
+    requires { IsUtf8 params.now }
     ensures { IfOk result (λ epr. epr ≡ bounded address params.now) }
 {
     let length = address.as_str().len();
     if length == 0 || length > MOST_BYTES || params.len() > MOST_BYTES - length {
         return Ok(None);
     }
-    match str::from_utf8(params) {
-        Ok(params) => {
-            let params = Text::copied(alloc, params)?;
-            Ok(Some(Epr { address, params }))
-        }
-        Err(_) => Ok(None),
-    }
+    let params = Text::copied(alloc, unsafe { str::from_utf8_unchecked(params) })?;
+    Ok(Some(Epr { address, params }))
 }
 
 /// Whether an endpoint is the connection that the request came on.

@@ -35,11 +35,10 @@ some_byte (c ∷ cs) h = omega arith
 
 endpoint_sound : (epr : Epr) → IsWholeEndpoint epr → IsEndpoint epr
 endpoint_sound epr w =
-    let bound = and_true (not (is_empty epr.address)) (nat_le (length epr.address + length epr.params) 2048 && is_utf8 epr.params) w.kept.within in
-    let few = and_true (nat_le (length epr.address + length epr.params) 2048) (is_utf8 epr.params) bound.1 in
+    let bound = and_true (not (is_empty epr.address)) (nat_le (length epr.address + length epr.params) 2048) w.kept.within in
     record {
       some = some_byte epr.address bound.0;
-      fits = leb-true (length epr.address + length epr.params) 2048 few.0;
+      fits = leb-true (length epr.address + length epr.params) 2048 bound.1;
       address = text_characters epr.address w.spelled;
       params = params_characters epr.params w.kept.params;
     }

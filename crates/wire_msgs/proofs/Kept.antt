@@ -1,7 +1,7 @@
 -- What is read of trees that fit is whole.
 use Rattle.std.proofs.Common.{inl, inr, ◌≡◌, refl, arith, ℕ, ◌≤◌, ◌<◌, ◌^◌, ◌+◌, List, [], length, Bool, true, false, cond, ◌&&◌, nat_le, not, IfOk, IfSome, Option, Some, None, Result, Ok, Err}
 use Rattle.std.specs.Prelude.{codes, ◌⊎◌}
-use Rattle.std.specs.Str.{all_ascii_digits, is_utf8}
+use Rattle.std.specs.Str.{all_ascii_digits}
 use Rattle.std.specs.Str.Parse.{digits_value, without_leading_plus}
 use Rattle.std.proofs.lemmas.Bool.{leb-true}
 use Rattle.xml_profile.specs.declared.tree.Tree.{Tree}
@@ -32,8 +32,7 @@ few a p h = let l = leb-true (a + p) 2048 h in omega (arith, l)
 
 short_params : (address params : List ℕ) → is_within address params ≡ true → length params ≤ 65536
 short_params address params w =
-    let bound = and_true (not (is_empty address)) (nat_le (length address + length params) 2048 && is_utf8 params) w in
-    few (length address) (length params) (and_true (nat_le (length address + length params) 2048) (is_utf8 params) bound.1).0
+    few (length address) (length params) (and_true (not (is_empty address)) (nat_le (length address + length params) 2048) w).1
 
 params_kept : (address : List ℕ) (params : Option Tree) → IfSome params (FitNamed addressing_space (codes "ReferenceParameters"))
     → is_within address (params_of params) ≡ true → KeptParams (params_of params)

@@ -5,3 +5,5 @@ mod Ends
 mod Apart
 pub mod Declaring
 pub mod Distinct
+mod Encoded
+mod Contents
