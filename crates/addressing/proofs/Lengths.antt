@@ -7,8 +7,8 @@ use Rattle.std.proofs.lemmas.Slice.Eq.{bytes_eq-Decides}
 use Rattle.std.specs.List.{flat_map, list_all, list_any}
 use Rattle.std.specs.Str.{bytes_eq}
 use Rattle.soap_profile.specs.Values.{is_empty}
-use Rattle.xml_profile.specs.Canonical.{attribute_text, canonical_text, content_text, declaration_text, declared_by, end_text, equals_text, is_end, name_text, numbered_by, prefix_of, spaces_at, spaces_in, spaces_of, start_text, text_byte, value_byte, value_text}
-use Rattle.xml_profile.specs.Declaring.{is_declared}
+use Rattle.xml_profile.specs.CanonicalText.{attribute_text, canonical_text, content_text, declaration_text, declared_by, end_text, equals_text, is_end, name_text, numbered_by, prefix_of, spaces_at, spaces_in, spaces_of, start_text, text_byte, value_byte, value_text}
+use Rattle.xml_profile.specs.Declarations.{is_declared}
 use Rattle.xml_profile.specs.Forest.{Forest}
 use Rattle.xml_profile.specs.Prefixes.{xml}
 use Rattle.xml_profile.specs.declared.name.Attribute.{Attribute}

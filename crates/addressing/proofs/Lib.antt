@@ -1,10 +1,10 @@
-pub mod Kept
-pub mod LookedUp
+pub mod ParameterNames
+pub mod Lookups
 pub mod Marks
-pub mod Reread
-pub mod Returned
-pub mod Spelled
-pub mod Understood
+pub mod HeaderRoundtrip
+pub mod EndpointRoundtrip
+pub mod EndpointParts
+pub mod UnderstoodBlocks
 pub mod Lengths
-pub mod Repeated
-mod Encoded
+pub mod RepeatedHeaders
+mod Utf8

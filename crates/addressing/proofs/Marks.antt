@@ -12,7 +12,7 @@ use Rattle.addressing.specs.declared.writer.Endpoint.{Endpoint}
 use Rattle.addressing.specs.declared.writer.OutgoingHeaders.{OutgoingHeaders}
 use Rattle.addressing.specs.Endpoints.{anonymous}
 use Rattle.addressing.specs.Headers.{own_blocks}
-use Rattle.addressing.specs.Writing.{blocks_of, context_blocks, endpoint_blocks, is_mark, mark, marked, marked_attributes, parameters_in, parameters_of, text_blocks, text_element, to_blocks, with_mark}
+use Rattle.addressing.specs.OutgoingHeaders.{blocks_of, context_blocks, endpoint_blocks, is_mark, mark, marked, marked_attributes, parameters_in, parameters_of, text_blocks, text_element, to_blocks, with_mark}
 
 abbrev told : List Attribute → Option (List ℕ)
 told attributes = attribute attributes addressing (codes "IsReferenceParameter")

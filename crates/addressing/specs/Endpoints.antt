@@ -2,7 +2,7 @@
 use Rattle.std.specs.Prelude.{ℕ, List, [], ◌+◌, Bool, ◌&&◌, nat_le, not, Option, Some, None, if◌then◌else◌, codes, length}
 use Rattle.std.specs.Str.{bytes_eq}
 use Rattle.xml_profile.specs.declared.tree.Tree.{Tree}
-use Rattle.xml_profile.specs.Canonical.{canonical_text}
+use Rattle.xml_profile.specs.CanonicalText.{canonical_text}
 use Rattle.xml_profile.specs.Prefixes.{addressing}
 use Rattle.soap_profile.specs.Children.{child_of}
 use Rattle.soap_profile.specs.Values.{is_empty, text_value}

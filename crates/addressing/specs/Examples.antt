@@ -2,11 +2,11 @@
 use Rattle.std.specs.Prelude.{ℕ, List, [], ◌∷◌, ◌≡◌, refl, Ok, Err, Some, None, codes}
 use Rattle.xml_profile.specs.declared.tree.Tree.{Tree}
 use Rattle.xml_profile.specs.Prefixes.{addressing}
-use Rattle.soap_profile.specs.Building.{element, qualified, text_children, unqualified}
+use Rattle.soap_profile.specs.BuiltElements.{element, qualified, text_children, unqualified}
 use Rattle.addressing.specs.declared.headers.AddressingRefusal.TheVariants.{MissingHeader, InvalidHeader}
 use Rattle.addressing.specs.declared.headers.Header.TheVariants.{Action, ReplyTo}
 use Rattle.addressing.specs.Headers.{headers_of, relates_of, source_of}
-use Rattle.addressing.specs.Writing.{marked}
+use Rattle.addressing.specs.OutgoingHeaders.{marked}
 
 abbrev block : List ℕ → List ℕ → Tree
 block local text = element (qualified addressing local) (text_children text)

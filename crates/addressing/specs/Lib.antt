@@ -2,8 +2,8 @@ pub mod Endpoints
 pub mod Examples
 pub mod Headers
 pub mod Message
-pub mod Posting
+pub mod PostAddresses
 pub mod Requests
-pub mod Stored
-pub mod Writing
+pub mod StoredEndpoints
+pub mod OutgoingHeaders
 pub mod Lengths

@@ -10,8 +10,8 @@ use Rattle.addressing.specs.declared.headers.AddressingRefusal.{AddressingRefusa
 use Rattle.addressing.specs.declared.headers.AddressingRefusal.TheVariants.{MissingHeader, InvalidHeader}
 use Rattle.addressing.specs.Endpoints.{is_anonymous, is_nobody}
 use Rattle.addressing.specs.Message.{Headers}
+use Rattle.addressing.specs.PostAddresses.{post_to_of}
 use Rattle.addressing.specs.Headers.{◌>>=◌}
-use Rattle.addressing.specs.Posting.{post_to_of}
 
 -- the actions of the messages that ask for an answer (WS-Coordination 1.2, sections 3.1 and 3.2), and of this project's Work
 abbrev pub create_action : List ℕ

@@ -3,7 +3,7 @@
 ghost use Rattle.std.specs.Prelude.{◌≡◌, None, Some, IfOk};
 ghost use Rattle.url.specs.Parser.{parse_url};
 ghost use Rattle.addressing.specs.Headers.{url_text};
-ghost use Rattle.addressing.specs.Posting.{path_in};
+ghost use Rattle.addressing.specs.PostAddresses.{path_in};
 
 use at_base::text::Text;
 use std::alloc::{AllocError, Global};
@@ -20,7 +20,7 @@ pub struct Destination {
 impl Model for Destination {
     ghost use Rattle.std.specs.Prelude.{◌≡◌, ℕ, List, None, Some};
     ghost use Rattle.url.specs.Parser.{parse_url};
-    ghost use Rattle.addressing.specs.Posting.{path_in};
+    ghost use Rattle.addressing.specs.PostAddresses.{path_in};
 
     ghost Value = { List ℕ };
 

@@ -5,7 +5,7 @@ ghost use Rattle.std.specs.Option.{option_copied, option_map};
 ghost use Rattle.soap_profile.specs.Values.{text_value};
 ghost use Rattle.addressing.specs.Endpoints.{bounded, epr_of, fault_of, is_anonymous, is_nobody, joined, params_of, reply_at, reply_of};
 
-use crate::long::has_long_space;
+use crate::long_space::has_long_space;
 use at_base::epr::{Epr, Reply};
 use at_base::text::Text;
 use soap_profile::elements::child;
@@ -78,7 +78,7 @@ fn are_too_long(params: Option<&Tree>) -> bool
     }
 }
 
-#[tactic(auto, using(crate::proofs::Encoded::nothing, crate::proofs::Encoded::alone))]
+#[tactic(auto, using(crate::proofs::Utf8::nothing, crate::proofs::Utf8::alone))]
 fn canonical_params(alloc: Global, params: Option<&Tree>) -> Result<Vec<u8>, AllocError>
     ensures is { IfOk result (λ bytes. bytes.items ≡ params_of (option_copied params.entry)) }
     ensures utf8 { IfOk result (λ bytes. IsUtf8 bytes.items) }

@@ -4,8 +4,8 @@
 pub mod destination;
 pub mod endpoint;
 pub mod headers;
-mod long;
+mod long_space;
 pub mod post_to;
 pub mod request;
-pub mod stored;
+pub mod stored_endpoint;
 pub mod writer;

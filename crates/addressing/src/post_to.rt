@@ -1,7 +1,7 @@
 //! Where a post to an endpoint goes.
 
 ghost use Rattle.std.specs.Prelude.{◌≡◌, IfOk, is_some};
-ghost use Rattle.addressing.specs.Posting.{post_to_of, postable};
+ghost use Rattle.addressing.specs.PostAddresses.{post_to_of, postable};
 
 use at_base::epr::Epr;
 use at_base::text::Text;

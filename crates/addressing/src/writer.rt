@@ -1,13 +1,13 @@
 //! The header blocks of a message that is sent (WS-Addressing 1.0 Core, sections 2.2 and 3.3, SOAP Binding section 3).
 
-ghost use Rattle.std.specs.Prelude.{◌≡◌, ◌++◌, ◌∷◌, [], map, IfOk, IfSome, None, Ok, OnOk, Some};
+ghost use Rattle.std.specs.Prelude.{◌≡◌, ◌++◌, IfOk, IfSome, None, Ok, OnOk, Some};
 ghost use Rattle.std.specs.List.{list_any};
 ghost use Rattle.xml_profile.specs.Prefixes.{addressing};
-ghost use Rattle.soap_profile.specs.Building.{qualified};
+ghost use Rattle.soap_profile.specs.BuiltElements.{qualified};
 ghost use Rattle.soap_profile.specs.Envelopes.{not_understood};
 ghost use Rattle.addressing.specs.Endpoints.{epr_of};
 ghost use Rattle.addressing.specs.Headers.{headers_of};
-ghost use Rattle.addressing.specs.Writing.{AreLegible, IsContext, IsLegible, IsParameters, added_mark, blocks_of, context_block, context_blocks, endpoint_blocks, endpoint_tree, endpoint_with, epr_in, headers_in, is_mark, kept_params, mark, marked, marked_attributes, message_blocks, parameters_in, parameters_of, text_blocks, text_element, to_blocks, with_mark};
+ghost use Rattle.addressing.specs.OutgoingHeaders.{AreLegible, IsContext, IsLegible, IsParameters, added_mark, blocks_of, context_block, context_blocks, endpoint_blocks, endpoint_tree, endpoint_with, epr_in, headers_in, is_mark, kept_params, mark, marked, marked_attributes, message_blocks, parameters_in, parameters_of, text_blocks, text_element, to_blocks, with_mark};
 
 use crate::endpoint::ANONYMOUS;
 use at_base::text::Text;
@@ -29,7 +29,7 @@ pub struct Endpoint {
 impl Endpoint {
     /// The endpoint with this address, and with this element as its reference parameters where it is a
     /// `wsa:ReferenceParameters`; any other element is left out.
-    #[tactic(auto, using(crate::proofs::Kept::are_parameters))]
+    #[tactic(auto, using(crate::proofs::ParameterNames::are_parameters))]
     pub fn new(address: Text, params: Option<Tree>) -> Endpoint
         ensures endpoint { result ≡ endpoint_with address params }
         ensures params { IsParameters result.params }
@@ -69,7 +69,7 @@ pub struct OutgoingHeaders {
 
 /// The header blocks of a message: To, Action, MessageID, RelatesTo, From, ReplyTo, the reference parameters of where
 /// it goes, and the context. They are read as what they were made of, where that can be read.
-#[tactic(auto, using(crate::proofs::Reread::headers_return, crate::proofs::Understood::all_understood))]
+#[tactic(auto, using(crate::proofs::HeaderRoundtrip::headers_return, crate::proofs::UnderstoodBlocks::all_understood))]
 pub fn header_blocks(alloc: Global, out: OutgoingHeaders) -> Result<Trees, AllocError>
     ensures blocks { IfOk result (λ blocks. blocks ≡ blocks_of out) }
     ensures reads { IfOk result (λ blocks. AreLegible out → headers_of blocks ≡ Ok (headers_in out)) }
@@ -212,7 +212,7 @@ fn text_element(alloc: Global, local: &str, text: &str) -> Result<Tree, AllocErr
 
 /// The element of an endpoint (WS-Addressing 1.0 Core, section 2.2). It is read as what it was made of, where it can be
 /// read.
-#[tactic(auto, using(crate::proofs::Returned::endpoint_returns))]
+#[tactic(auto, using(crate::proofs::EndpointRoundtrip::endpoint_returns))]
 pub fn endpoint_tree(alloc: Global, endpoint: Endpoint, name: QName) -> Result<Tree, AllocError>
     ensures tree { IfOk result (λ t. t ≡ endpoint_tree endpoint name) }
     ensures reads { IfOk result (λ t. IsLegible endpoint → epr_of t ≡ Some (epr_in endpoint)) }

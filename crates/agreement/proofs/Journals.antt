@@ -10,11 +10,11 @@ use Rattle.at_base.specs.declared.record.Seated.{Seated}
 use Rattle.at_base.specs.declared.record.Record.{Record}
 use Rattle.at_base.specs.declared.record.Record.TheVariants as records
 use Rattle.at_model.specs.Book.{is_id}
-use Rattle.at_model.specs.Recover.{ends_leaf, ends_transaction, in_order, insert_by, is_before, is_leaf_ended, is_leaf_prepared, is_promise, is_sub_committed, is_voted, kept, live, no_seats}
+use Rattle.at_model.specs.Recovery.{ends_leaf, ends_transaction, in_order, insert_by, is_before, is_leaf_ended, is_leaf_prepared, is_promise, is_sub_committed, is_voted, kept, live, no_seats}
 use Rattle.model_laws.specs.Agreement.{IsIn}
-use Rattle.model_laws.proofs.Deciding.{in_front}
-use Rattle.model_laws.proofs.Recovering.{or_false, same_id, self_id}
-use Rattle.model_laws.proofs.Seating.{in_back}
+use Rattle.model_laws.proofs.DecisionLaws.{in_front}
+use Rattle.model_laws.proofs.RecoveryLaws.{or_false, same_id, self_id}
+use Rattle.model_laws.proofs.SeatRegistrations.{in_back}
 use Rattle.agreement.specs.Journals.{drops, is_of_transaction, IsNoSubCommit, Confirms, JournalsLive}
 
 -- tests of one more

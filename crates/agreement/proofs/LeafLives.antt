@@ -19,14 +19,14 @@ use Rattle.at_tables.specs.declared.cells.State.TheVariants as states
 use Rattle.at_model.specs.Book.{Leaf, Transaction}
 use Rattle.at_model.specs.Leaves.{leaf_ended}
 use Rattle.at_model.specs.Moves.{Change}
-use Rattle.at_model.specs.Recover.{is_promise, kept, live}
+use Rattle.at_model.specs.Recovery.{is_promise, kept, live}
 use Rattle.model_laws.specs.Agreement.{IsIn}
-use Rattle.model_laws.proofs.Recovering.{self_id}
+use Rattle.model_laws.proofs.RecoveryLaws.{self_id}
 use Rattle.agreement.specs.Branches.{recorded as written}
 use Rattle.agreement.specs.Journals.{IsNoSubCommit, drops}
 use Rattle.agreement.specs.LeafDeeds.{LeafDeed, LeafIdles, aborts, commits, dropped, for_durable, idles, leaves, prepares, registered, registers_again, rests, rolls_back, votes_again}
 use Rattle.agreement.specs.Lives.{IsUnrecorded, Life, PromisesNothing, ends, has_aborted, has_committed, has_decided, has_voted, is_gone, is_undecided, waits, works}
-use Rattle.agreement.proofs.Still.{ends_first, nothing_live}
+use Rattle.agreement.proofs.OtherIds.{ends_first, nothing_live}
 use Rattle.agreement.proofs.TransactionLives.{IsGone, ended_by, gone_ended, gone_unended, promise_is_live}
 
 pub data LeafLife (rs : List Record) (fx : List Effect) (id : Numbers) (l : Leaf) : Type 0 where

@@ -10,30 +10,30 @@ use Rattle.at_model.specs.Book.{Book, Leaf, Transaction, leaf_id, transaction_id
 use Rattle.at_model.specs.Arrivals.{with_answer}
 use Rattle.at_model.specs.Posts.{accepted}
 use Rattle.at_model.specs.Register.{on_register}
-use Rattle.at_model.specs.Recover.{is_promise, live, recover, recovered_leaf}
+use Rattle.at_model.specs.Recovery.{is_promise, live, recover, recovered_leaf}
 use Rattle.at_model.specs.Step.{Plan, activity_plan, at_time, leaf_plan, make_activity, make_leaf, make_transaction, moment_of, plain, plan, put_activity, put_transaction, registration_outcome, step, still, transaction_plan}
 use Rattle.at_model.specs.World.{Node, WorldEvent, nth, run_of, Hosts}
 use Rattle.model_laws.specs.Agreement.{IsIn}
-use Rattle.model_laws.specs.Drawn.{IsDrawnRecord, restarted, with_entry}
+use Rattle.model_laws.specs.DrawnIds.{IsDrawnRecord, restarted, with_entry}
 use Rattle.model_laws.specs.Laws.{KeepsPlace}
 use Rattle.model_laws.specs.Order.{IsInOrder}
 use Rattle.model_laws.specs.Shapes.{Shape, nothing_moves, time_moves, time_passes, transaction_moves, leaf_moves, activity_moves, transaction_registers, transaction_made, leaf_made, activity_made}
-use Rattle.model_laws.proofs.Deciding.{decision_both, decided_entry, IfThere, all_find, all_join, all_more, in_front}
-use Rattle.model_laws.proofs.Drawing.{moved_kept, activity_moved_kept}
-use Rattle.model_laws.proofs.Keeping.{IsOfTransaction, HasBoth, Names, NoRecord, with_answer_kept}
+use Rattle.model_laws.proofs.DecisionLaws.{decision_both, decided_entry, IfThere, all_find, all_join, all_more, in_front}
+use Rattle.model_laws.proofs.DrawnItems.{moved_kept, activity_moved_kept}
+use Rattle.model_laws.proofs.ItemIds.{IsOfTransaction, HasBoth, Names, NoRecord, with_answer_kept}
 use Rattle.model_laws.specs.Laws.{HasId}
-use Rattle.model_laws.proofs.Living.{drawn_on, ids_stay_drawn}
-use Rattle.model_laws.proofs.Ordering.{ids_rise}
-use Rattle.model_laws.proofs.Reaching.{NodeLaw, nodes_hold, run_reached}
-use Rattle.model_laws.proofs.Shaping.{steps_keep_place, steps_touch_one}
-use Rattle.agreement.specs.Backed.{LeafBacked, LeavesAreBacked}
+use Rattle.model_laws.proofs.DrawnIds.{drawn_on, ids_stay_drawn}
+use Rattle.model_laws.proofs.Order.{ids_rise}
+use Rattle.model_laws.proofs.ReachedWorlds.{NodeLaw, nodes_hold, run_reached}
+use Rattle.model_laws.proofs.StepShapes.{steps_keep_place, steps_touch_one}
+use Rattle.agreement.specs.LeafRecords.{LeafBacked, LeavesAreBacked}
 use Rattle.agreement.specs.LeafDeeds.{LeafStands, LeavesStand}
 use Rattle.agreement.specs.Recoveries.{StandsFor, StandsForLeaf, transaction_from, leaf_from}
-use Rattle.agreement.proofs.LeafStanding.{leaf_states}
-use Rattle.agreement.proofs.LeavesDo.{leaves_do}
+use Rattle.agreement.proofs.LeafStates.{leaf_states}
+use Rattle.agreement.proofs.LeafRules.{leaves_do}
 use Rattle.agreement.proofs.Recoveries.{from_promise, from_leaf_promise, recovers_each}
-use Rattle.agreement.proofs.Backing.{AboutOther, of_transaction, AreApart, step_apart, SameLeaves, Backs, by_same, plain_backs, apart_from, became_backed, made_backed, all_in}
-use Rattle.agreement.proofs.LeafWaiting.{AllWait, no_leaf_record, Waits, same_wait, plain_waits, became_waits, found_in}
+use Rattle.agreement.proofs.LeafRecords.{AboutOther, of_transaction, AreApart, step_apart, SameLeaves, Backs, by_same, plain_backs, apart_from, became_backed, made_backed, all_in}
+use Rattle.agreement.proofs.WaitingLeaves.{AllWait, no_leaf_record, Waits, same_wait, plain_waits, became_waits, found_in}
 
 -- a book and its journal
 record IsSafe (rs : List Record) (b : Book) : Type 0 where

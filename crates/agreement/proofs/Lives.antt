@@ -15,33 +15,33 @@ use Rattle.at_base.specs.declared.outs.Ending.{Ending}
 use Rattle.at_base.specs.declared.outs.Ending.TheVariants as endings
 use Rattle.at_base.specs.declared.outs.Post.{Post}
 use Rattle.at_model.specs.Book.{Book, Leaf, Transaction, leaf_id, transaction_id}
-use Rattle.at_model.specs.Recover.{incarnation_of, is_promise, last_incarnation, recover}
+use Rattle.at_model.specs.Recovery.{incarnation_of, is_promise, last_incarnation, recover}
 use Rattle.at_model.specs.Leaves.{leaf_ended}
 use Rattle.at_model.specs.Seats.{ending}
 use Rattle.at_model.specs.Step.{leaf_at, plan, step, transaction_at}
 use Rattle.at_model.specs.World.{Happened, Node, World, WorldEvent, goes_down, happened_at, is_lost_leaf, is_lost_root, is_lost_subordinate, lost_in, nth, put_book, put_nth, run_of, started, up_after, with_post, Hosts}
 use Rattle.model_laws.specs.Agreement.{HasAborted, HasCommitted, HasEnded, IsIn, ends_as}
-use Rattle.model_laws.specs.Drawn.{restarted, with_entry}
+use Rattle.model_laws.specs.DrawnIds.{restarted, with_entry}
 use Rattle.model_laws.specs.Laws.{IsDrawn}
-use Rattle.model_laws.specs.Reached.{Reached, counts, fell, opened, post_all, rose, stepped, waited}
-use Rattle.model_laws.proofs.Deciding.{all_join}
-use Rattle.model_laws.proofs.Living.{ids_stay_drawn}
+use Rattle.model_laws.specs.ReachedWorlds.{Reached, counts, fell, opened, post_all, rose, stepped, waited}
+use Rattle.model_laws.proofs.DecisionLaws.{all_join}
+use Rattle.model_laws.proofs.DrawnIds.{ids_stay_drawn}
 use Rattle.model_laws.proofs.Nodes.{each_put}
-use Rattle.model_laws.proofs.Ordering.{ids_rise}
-use Rattle.model_laws.proofs.Reaching.{run_reached}
-use Rattle.model_laws.proofs.Recovering.{incarnations_rise, self_id}
-use Rattle.model_laws.proofs.Running.{opening_node}
-use Rattle.model_laws.proofs.Shaping.{steps_keep_place}
-use Rattle.model_laws.proofs.Standing.{decides_behind_every_answer}
-use Rattle.agreement.specs.Finished.{NamesRising}
+use Rattle.model_laws.proofs.Order.{ids_rise}
+use Rattle.model_laws.proofs.ReachedWorlds.{run_reached}
+use Rattle.model_laws.proofs.RecoveryLaws.{incarnations_rise, self_id}
+use Rattle.model_laws.proofs.NodeLives.{opening_node}
+use Rattle.model_laws.proofs.StepShapes.{steps_keep_place}
+use Rattle.model_laws.proofs.PhaseAnswers.{decides_behind_every_answer}
+use Rattle.agreement.specs.FinishedTransactions.{NamesRising}
 use Rattle.agreement.specs.Lives.{Life, LivesAgree, PromisesNothing, book_of, ends, happened_on, has_aborted, has_committed, has_decided, has_voted, is_gone, is_undecided, standing, waits, works}
-use Rattle.agreement.proofs.ActivityStanding.{activity_states}
-use Rattle.agreement.proofs.Falling.{Recovered, ends_lost, falls_as, lost, lost_as, rises_as, start_same}
-use Rattle.agreement.proofs.Finishing.{finishes_all}
+use Rattle.agreement.proofs.ActivityStates.{activity_states}
+use Rattle.agreement.proofs.Crashes.{Recovered, ends_lost, falls_as, lost, lost_as, rises_as, start_same}
+use Rattle.agreement.proofs.FinishedTransactions.{finishes_all}
 use Rattle.agreement.proofs.Journals.{in_either}
-use Rattle.agreement.proofs.LeafStanding.{leaf_states}
-use Rattle.agreement.proofs.LivesOn.{IsFresh, IsGood, StepsOn, steps_on, unfound}
-use Rattle.agreement.proofs.Still.{Same, ends_join}
+use Rattle.agreement.proofs.LeafStates.{leaf_states}
+use Rattle.agreement.proofs.LifeSteps.{IsFresh, IsGood, StepsOn, steps_on, unfound}
+use Rattle.agreement.proofs.OtherIds.{Same, ends_join}
 
 -- a node that is up, and one that is down
 pub record IsUp (b : Book) (rs : List Record) (fx : List Effect) : Type 0 where

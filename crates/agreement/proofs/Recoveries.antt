@@ -6,12 +6,12 @@ use Rattle.at_base.specs.Numbers.{Numbers}
 use Rattle.at_base.specs.declared.record.Record.{Record}
 use Rattle.at_base.specs.declared.record.Record.TheVariants as records
 use Rattle.at_model.specs.Book.{Leaf, Transaction, find_by, is_id, leaf_id, transaction_id}
-use Rattle.at_model.specs.Recover.{ends_leaf, ends_transaction, is_promise, is_sub_committed, is_voted, kept, leaves_of, live, no_seats, recover, recovered_decided, recovered_leaf, recovered_voted, transactions_of, with_commit}
+use Rattle.at_model.specs.Recovery.{ends_leaf, ends_transaction, is_promise, is_sub_committed, is_voted, kept, leaves_of, live, no_seats, recover, recovered_decided, recovered_leaf, recovered_voted, transactions_of, with_commit}
 use Rattle.at_model.specs.Step.{leaf_at, transaction_at}
 use Rattle.model_laws.specs.Agreement.{IsIn}
-use Rattle.model_laws.proofs.Deciding.{in_front}
-use Rattle.model_laws.proofs.Recovering.{none_live, or_false, same_id, self_id}
-use Rattle.model_laws.proofs.Seating.{in_back}
+use Rattle.model_laws.proofs.DecisionLaws.{in_front}
+use Rattle.model_laws.proofs.RecoveryLaws.{none_live, or_false, same_id, self_id}
+use Rattle.model_laws.proofs.SeatRegistrations.{in_back}
 use Rattle.agreement.specs.Recoveries.{transaction_from, leaf_from, StandsFor, StandsForLeaf, RecoversEach}
 use Rattle.agreement.proofs.Journals.{unless, vote, or_nothing, both_ways, in_either, any_front, any_back, in_ordered, ordered_in}
 

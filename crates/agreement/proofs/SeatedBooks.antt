@@ -13,29 +13,29 @@ use Rattle.at_base.specs.declared.record.Record.{Record}
 use Rattle.at_base.specs.declared.record.Record.TheVariants as records
 use Rattle.at_model.specs.Book.{Book, Enlistment, Phase, Transaction, find_by, transaction_id}
 use Rattle.at_model.specs.Due.{may_expire}
-use Rattle.at_model.specs.Recover.{is_before, last_incarnation}
+use Rattle.at_model.specs.Recovery.{is_before, last_incarnation}
 use Rattle.at_model.specs.Register.{Registration, accept, accepts, held_seat, may_register, on_register, protocol_named, register_again, register_new}
 use Rattle.at_model.specs.Step.{Outcome, moment_of, plan, step, transaction_at}
 use Rattle.at_model.specs.World.{Node, World, nth, Hosts}
-use Rattle.model_laws.specs.Behind.{IsInPhase}
-use Rattle.model_laws.specs.Drawn.{restarted, with_entry}
+use Rattle.model_laws.specs.PhaseAnswers.{IsInPhase}
+use Rattle.model_laws.specs.DrawnIds.{restarted, with_entry}
 use Rattle.model_laws.specs.Laws.{HasId, IsDrawn}
 use Rattle.model_laws.specs.Order.{AreRising, IsInOrder}
-use Rattle.model_laws.specs.Reached.{Reached}
-use Rattle.model_laws.proofs.Deciding.{IfThere, all_join, all_more, all_put, either_of}
-use Rattle.model_laws.proofs.Making.{makes_under_the_next_id}
-use Rattle.model_laws.proofs.Once.{entry_rises}
-use Rattle.model_laws.proofs.Ordering.{ids_rise, other_id, unmapped}
-use Rattle.model_laws.proofs.Reaching.{NodeLaw, nodes_hold}
-use Rattle.model_laws.proofs.Recovering.{self_id}
-use Rattle.model_laws.proofs.Shaping.{steps_keep_place}
-use Rattle.model_laws.proofs.Standing.{decides_behind_every_answer, then_accepts}
+use Rattle.model_laws.specs.ReachedWorlds.{Reached}
+use Rattle.model_laws.proofs.DecisionLaws.{IfThere, all_join, all_more, all_put, either_of}
+use Rattle.model_laws.proofs.NextIds.{makes_under_the_next_id}
+use Rattle.model_laws.proofs.MadeIds.{entry_rises}
+use Rattle.model_laws.proofs.Order.{ids_rise, other_id, unmapped}
+use Rattle.model_laws.proofs.ReachedWorlds.{NodeLaw, nodes_hold}
+use Rattle.model_laws.proofs.RecoveryLaws.{self_id}
+use Rattle.model_laws.proofs.StepShapes.{steps_keep_place}
+use Rattle.model_laws.proofs.PhaseAnswers.{decides_behind_every_answer, then_accepts}
 use Rattle.agreement.specs.Deeds.{AreSeatsAfter, AreSeatsIfLeft, Becomes, How, IsSameIfLeft, StoodFor}
-use Rattle.agreement.specs.Done.{Done, did, elsewhere, made, registered, standing, undone}
-use Rattle.agreement.specs.Finished.{AreFinished, NamesRising}
-use Rattle.agreement.proofs.Finishing.{finishes_all}
+use Rattle.agreement.specs.StepDeeds.{Done, did, elsewhere, made, registered, standing, undone}
+use Rattle.agreement.specs.FinishedTransactions.{AreFinished, NamesRising}
+use Rattle.agreement.proofs.FinishedTransactions.{finishes_all}
 use Rattle.agreement.proofs.Seats.{deeds_move_seats}
-use Rattle.agreement.proofs.Stepping.{steps_do}
+use Rattle.agreement.proofs.StepDeeds.{steps_do}
 
 -- a book in a world that is reached
 pub record IsSoundBook (rs : List Record) (b : Book) : Type 0 where

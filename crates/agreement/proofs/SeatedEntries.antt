@@ -9,11 +9,11 @@ use Rattle.at_model.specs.Book.{Book, Completion, Enlistment, Transaction}
 use Rattle.at_model.specs.Step.{transaction_at}
 use Rattle.at_model.specs.World.{Accepted, Node, accepted_by, accepted_completion, accepted_in, accepted_seat, who_of, Hosts}
 use Rattle.model_laws.specs.Agreement.{IsIn}
-use Rattle.model_laws.specs.Behind.{Accepted as Seating, accepted_as}
-use Rattle.model_laws.specs.Sound.{AreNumbered}
-use Rattle.model_laws.proofs.Deciding.{all_more, in_front}
-use Rattle.model_laws.proofs.Enrolled.{nodes_of}
-use Rattle.model_laws.proofs.Seating.{in_back}
+use Rattle.model_laws.specs.PhaseAnswers.{Accepted as Seating, accepted_as}
+use Rattle.model_laws.specs.BookBounds.{AreNumbered}
+use Rattle.model_laws.proofs.DecisionLaws.{all_more, in_front}
+use Rattle.model_laws.proofs.Registrations.{nodes_of}
+use Rattle.model_laws.proofs.SeatRegistrations.{in_back}
 
 -- lists
 pub all_mapped : {A B : Type 0} (P : B → Type 0) (f : A → B) (xs : List A) → AllByRecursion P (map f xs) → AllByRecursion (λ x. P (f x)) xs

@@ -15,17 +15,17 @@ use Rattle.at_tables.specs.declared.cells.State.TheVariants as states
 use Rattle.at_tables.specs.Names.{is_kind, is_state}
 use Rattle.at_model.specs.Book.{Book, Enlistment, Transaction, transaction_id}
 use Rattle.at_model.specs.Due.{may_expire}
-use Rattle.at_model.specs.Recover.{is_sub_committed, last_incarnation, live, recover, recovered_seat, recovered_voted, transactions_of}
+use Rattle.at_model.specs.Recovery.{is_sub_committed, last_incarnation, live, recover, recovered_seat, recovered_voted, transactions_of}
 use Rattle.at_model.specs.Seats.{is_prepared_durable, prepared, seated}
 use Rattle.at_model.specs.Step.{plan, transaction_at}
 use Rattle.at_model.specs.World.{Accepted, who_of, Hosts}
 use Rattle.model_laws.specs.Agreement.{IsIn}
-use Rattle.model_laws.specs.Behind.{Accepted as Seating, AreAnswered, HasDecided, HasVoted, IsInPhase, Passed, accepted_as}
-use Rattle.model_laws.specs.Drawn.{restarted, with_entry}
-use Rattle.model_laws.proofs.Deciding.{all_find, all_join, all_more, found_id}
-use Rattle.model_laws.proofs.Enrolled.{nodes_of}
-use Rattle.model_laws.proofs.Living.{all_in_order, all_live}
-use Rattle.model_laws.proofs.Standing.{decides_behind_every_answer}
+use Rattle.model_laws.specs.PhaseAnswers.{Accepted as Seating, AreAnswered, HasDecided, HasVoted, IsInPhase, Passed, accepted_as}
+use Rattle.model_laws.specs.DrawnIds.{restarted, with_entry}
+use Rattle.model_laws.proofs.DecisionLaws.{all_find, all_join, all_more, found_id}
+use Rattle.model_laws.proofs.Registrations.{nodes_of}
+use Rattle.model_laws.proofs.DrawnIds.{all_in_order, all_live}
+use Rattle.model_laws.proofs.PhaseAnswers.{decides_behind_every_answer}
 use Rattle.agreement.proofs.SeatedEntries.{entry}
 
 abbrev pub AreEntered : Hosts → List Accepted → ℕ → Numbers → List Seating → Type 0

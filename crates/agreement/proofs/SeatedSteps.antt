@@ -9,15 +9,15 @@ use Rattle.at_model.specs.Due.{may_expire}
 use Rattle.at_model.specs.Step.{transaction_at}
 use Rattle.at_model.specs.World.{Accepted, Node, Who, accepted_by, accepted_completion, accepted_in, accepted_seat, who_of, Hosts}
 use Rattle.model_laws.specs.Agreement.{IsIn}
-use Rattle.model_laws.specs.Behind.{accepted_as}
+use Rattle.model_laws.specs.PhaseAnswers.{accepted_as}
 use Rattle.model_laws.specs.Laws.{IsDrawn}
 use Rattle.model_laws.specs.Order.{IsInOrder}
-use Rattle.model_laws.specs.Sound.{AreNumbered, SeatsRise}
-use Rattle.model_laws.proofs.Deciding.{all_find, all_join, all_map, all_more, found_id, in_front}
-use Rattle.model_laws.proofs.Enlisting.{AreGrown, Grown, HasInitiator, dropped}
-use Rattle.model_laws.proofs.Enrolled.{nodes_of}
-use Rattle.model_laws.proofs.Seating.{in_back}
-use Rattle.agreement.specs.Finished.{IsFinished}
+use Rattle.model_laws.specs.BookBounds.{AreNumbered, SeatsRise}
+use Rattle.model_laws.proofs.DecisionLaws.{all_find, all_join, all_map, all_more, found_id, in_front}
+use Rattle.model_laws.proofs.StepRegistrations.{AreGrown, Grown, HasInitiator, dropped}
+use Rattle.model_laws.proofs.Registrations.{nodes_of}
+use Rattle.model_laws.proofs.SeatRegistrations.{in_back}
+use Rattle.agreement.specs.FinishedTransactions.{IsFinished}
 use Rattle.agreement.proofs.SeatedBooks.{Came, fresh, stood}
 use Rattle.agreement.proofs.SeatedEntries.{IsNew, all_mapped, all_of, at_further_seat, entries, entry, further_seat_in, grown_entries, in_either, is_new, new_in, numbered_once, of_transaction, one_of}
 use Rattle.agreement.proofs.SeatedNames.{AreEntered, IsEntered, entered_on}

@@ -8,9 +8,9 @@ use Rattle.at_tables.specs.declared.cells.State.{State}
 use Rattle.at_tables.specs.declared.cells.State.TheVariants as states
 use Rattle.at_model.specs.Book.{Enlistment, Transaction}
 use Rattle.at_model.specs.Seats.{in_state, is_open}
-use Rattle.model_laws.specs.Behind.{IsUnanswered}
+use Rattle.model_laws.specs.PhaseAnswers.{IsUnanswered}
 use Rattle.agreement.specs.Deeds.{How, AreCounted, AreSeatsAfter, AreSeatsIfLeft, Becomes, Counted, DeedsMoveSeats, IsAbort, IsCommit, IsCounted, IsSeatAfter, IsWhy, WhyAfter, has_said, is_asked, is_still, rolled_back, told_to_commit}
-use Rattle.agreement.proofs.Doing.{only_prepared}
+use Rattle.agreement.proofs.TransactionRules.{only_prepared}
 
 -- a message puts a seat into Prepared or None
 said_states : (n : Notice) (before after : State) → IsCounted n before after → (after ≡ states.Prepared) ⊎ (after ≡ states.None)

@@ -14,17 +14,17 @@ use Rattle.at_base.specs.declared.outs.Effect.{Effect}
 use Rattle.at_base.specs.declared.outs.Effect.TheVariants as effects
 use Rattle.at_model.specs.Book.{Enlistment, Leaf, Phase, Superior, Transaction}
 use Rattle.at_model.specs.Due.{may_expire}
-use Rattle.at_model.specs.Recover.{is_promise, is_voted, kept, live, no_seats}
+use Rattle.at_model.specs.Recovery.{is_promise, is_voted, kept, live, no_seats}
 use Rattle.at_model.specs.Seats.{ending, ending_of, is_prepared_durable, prepared, seated}
 use Rattle.model_laws.specs.Agreement.{IsIn, ends_as}
-use Rattle.model_laws.proofs.Recovering.{self_id}
+use Rattle.model_laws.proofs.RecoveryLaws.{self_id}
 use Rattle.agreement.specs.Branches.{recorded as written}
 use Rattle.agreement.specs.Deeds.{Becomes, How, IsSame, IsSameIfLeft, KeepsOn, StandsOn, StoodFor, happens, recorded, superior_at}
 use Rattle.agreement.specs.Journals.{Confirms, IsNoSubCommit, drops}
 use Rattle.agreement.specs.Lives.{Life, PromisesNothing, ends, has_aborted, has_committed, has_decided, has_voted, is_gone, is_undecided, waits, works}
 use Rattle.agreement.proofs.Journals.{both_ways, in_either, journals_live}
 use Rattle.agreement.proofs.Recoveries.{recovers_each}
-use Rattle.agreement.proofs.Still.{any_in, ending_as, ends_first, none_any, nothing_live, promised_nothing}
+use Rattle.agreement.proofs.OtherIds.{any_in, ending_as, ends_first, none_any, nothing_live, promised_nothing}
 
 -- the same of a transaction that is there, and of an item that is forgotten
 pub data TransactionLife (rs : List Record) (fx : List Effect) (id : Numbers) (t : Transaction) : Type 0 where

@@ -30,7 +30,7 @@ use Rattle.at_model.specs.Moves.{Change, Decision}
 use Rattle.at_model.specs.Arrivals.{relates_to}
 use Rattle.at_model.specs.Activities.{activity_target, completion_register, is_begun, work_post}
 use Rattle.at_model.specs.Due.{has_come}
-use Rattle.at_model.specs.Recover.{recover}
+use Rattle.at_model.specs.Recovery.{recover}
 use Rattle.at_model.specs.Step.{activity_at, activity_plan, at_time, moment_of, put_activity, refuses, step}
 use Rattle.at_model.specs.World.{Node, WorldEvent, nth, run_of, Hosts}
 use Rattle.model_laws.specs.Shapes.{MovesActivity}

@@ -9,7 +9,7 @@ use Rattle.at_model.specs.Book.{Book}
 use Rattle.at_model.specs.Moves.{Change, Decision, Goes, Records}
 use Rattle.at_model.specs.Outcomes.{noted}
 use Rattle.at_model.specs.Step.{Plan, branch, still}
-use Rattle.model_laws.specs.Drawn.{with_entry}
+use Rattle.model_laws.specs.DrawnIds.{with_entry}
 
 -- P of what happens, and of the record that stands behind it: none where it happens at once, and none where the record is absent. Where
 -- nothing happens without the record, Undoes says that this record may be asked again.

@@ -26,11 +26,11 @@ use Rattle.at_model.specs.Seats.{all_left, answered, ending, in_state, is_open, 
 use Rattle.at_model.specs.Arrivals.{with_answer}
 use Rattle.at_model.specs.Due.{may_expire}
 use Rattle.at_model.specs.Step.{moment_of, transaction_at}
-use Rattle.model_laws.specs.Behind.{IsInPhase, IsUnanswered, accepted_as}
+use Rattle.model_laws.specs.PhaseAnswers.{IsInPhase, IsUnanswered, accepted_as}
 use Rattle.model_laws.specs.Agreement.{IsIn}
 use Rattle.model_laws.specs.Shapes.{MovesTransaction}
 use Rattle.agreement.specs.Branches.{IsNoNotice}
-use Rattle.agreement.specs.Finished.{AreFinished}
+use Rattle.agreement.specs.FinishedTransactions.{AreFinished}
 
 -- A transaction is undecided in Registering, Active, Volatile and Durable, as `may_expire` says. One step lets it
 pub data How : Type 0 where

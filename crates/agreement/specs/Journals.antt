@@ -4,7 +4,7 @@ use Rattle.std.specs.List.{list_any}
 use Rattle.at_base.specs.Numbers.{Numbers}
 use Rattle.at_base.specs.declared.record.Record.{Record}
 use Rattle.at_base.specs.declared.record.Record.TheVariants as records
-use Rattle.at_model.specs.Recover.{ends_leaf, ends_transaction, is_decided, is_leaf_ended, is_leaf_prepared, is_promise, is_sub_committed, is_voted, kept, live}
+use Rattle.at_model.specs.Recovery.{ends_leaf, ends_transaction, is_decided, is_leaf_ended, is_leaf_prepared, is_promise, is_sub_committed, is_voted, kept, live}
 use Rattle.model_laws.specs.Agreement.{IsIn}
 
 -- The further record r ends this live one: it is the end of its id, or another promise of it.

@@ -26,7 +26,7 @@ use Rattle.at_model.specs.Posts.{fault_post, notice_post, reply_post, stored_or,
 use Rattle.at_model.specs.Moves.{Change, Decision}
 use Rattle.at_model.specs.Leaves.{answers_leaf, leaf_ended, leaf_register, leaf_target}
 use Rattle.at_model.specs.Due.{has_come}
-use Rattle.at_model.specs.Recover.{recover}
+use Rattle.at_model.specs.Recovery.{recover}
 use Rattle.at_model.specs.Step.{at_time, leaf_plan, moment_of, put_leaf, step}
 use Rattle.at_model.specs.World.{Node, WorldEvent, nth, run_of, Hosts}
 use Rattle.model_laws.specs.Shapes.{MovesLeaf}

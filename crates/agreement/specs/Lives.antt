@@ -13,7 +13,7 @@ use Rattle.at_base.specs.declared.outs.Effect.TheVariants as effects
 use Rattle.at_tables.specs.declared.cells.State.TheVariants as states
 use Rattle.at_model.specs.Book.{Book, Leaf, Phase, Transaction}
 use Rattle.at_model.specs.Due.{may_expire}
-use Rattle.at_model.specs.Recover.{is_promise, live, recover}
+use Rattle.at_model.specs.Recovery.{is_promise, live, recover}
 use Rattle.at_model.specs.Seats.{ending}
 use Rattle.at_model.specs.Step.{leaf_at, transaction_at}
 use Rattle.at_model.specs.World.{Happened, Node, WorldEvent, nth, run_of, Hosts}

@@ -5,7 +5,7 @@ use Rattle.at_base.specs.Numbers.{Numbers}
 use Rattle.at_base.specs.declared.record.Record.{Record}
 use Rattle.at_base.specs.declared.record.Record.TheVariants as records
 use Rattle.at_model.specs.Book.{Leaf, Transaction}
-use Rattle.at_model.specs.Recover.{is_promise, is_sub_committed, is_voted, live, recover, recovered_decided, recovered_leaf, recovered_voted}
+use Rattle.at_model.specs.Recovery.{is_promise, is_sub_committed, is_voted, live, recover, recovered_decided, recovered_leaf, recovered_voted}
 use Rattle.at_model.specs.Step.{leaf_at, transaction_at}
 use Rattle.model_laws.specs.Agreement.{IsIn}
 

@@ -1,5 +1,5 @@
 -- Whose the Registers are that are posted.
-use Rattle.std.specs.Prelude.{ℕ, List, Option, Some, None, ◌^◌, ◌≡◌, ◌<◌, ◌≤◌}
+use Rattle.std.specs.Prelude.{ℕ, List, Option, Some, None, ◌≡◌, ◌≤◌}
 use Rattle.at_base.specs.Numbers.{Numbers}
 use Rattle.at_base.specs.IdText.{IsId}
 use Rattle.at_base.specs.declared.epr.Epr.{Epr}
@@ -14,7 +14,7 @@ use Rattle.at_base.specs.declared.outs.Post.{Post}
 use Rattle.at_model.specs.Book.{Book}
 use Rattle.at_model.specs.Addresses.{endpoint_of, protocol_of, completion_protocol}
 use Rattle.at_model.specs.Posts.{register_post}
-use Rattle.at_model.specs.Recover.{last_incarnation}
+use Rattle.at_model.specs.Recovery.{last_incarnation}
 use Rattle.at_model.specs.World.{Node, Posted, World, WorldEvent, nth, run_of, Hosts, HaveOwnAddresses}
 use Rattle.model_laws.specs.Agreement.{IsIn}
 use Rattle.model_laws.specs.Laws.{IsDrawn}

@@ -1,5 +1,5 @@
 -- Each id names an item of one sort.
-use Rattle.std.specs.Prelude.{ℕ, List, Option, Some, None, ◌^◌, ◌≡◌, ◌<◌, ◌⊎◌}
+use Rattle.std.specs.Prelude.{ℕ, List, Option, Some, None, ◌≡◌, ◌⊎◌}
 use Rattle.std.specs.List.{AllByRecursion}
 use Rattle.at_base.specs.Numbers.{Numbers}
 use Rattle.at_base.specs.declared.notice.Kind.{Kind}

@@ -8,11 +8,11 @@ use Rattle.at_base.specs.declared.outs.Out.{Out}
 use Rattle.at_model.specs.Book.{Book, Transaction}
 use Rattle.at_model.specs.Moves.{Decision}
 use Rattle.at_model.specs.Step.{at_time, put_transaction, transaction_at, transaction_plan}
-use Rattle.model_laws.specs.Behind.{IsInPhase}
+use Rattle.model_laws.specs.PhaseAnswers.{IsInPhase}
 use Rattle.model_laws.specs.Shapes.{MovesTransaction}
 use Rattle.agreement.specs.Branches.{Became}
 use Rattle.agreement.specs.Deeds.{Deed}
-use Rattle.agreement.specs.Finished.{AreFinished}
+use Rattle.agreement.specs.FinishedTransactions.{AreFinished}
 
 -- A subordinate's outcome, or an end, that isn't recorded is waited for as before: the superior, or a participant, says
 -- so again (WS-AtomicTransaction 1.2, section 3.3.3).

@@ -1,50 +1,50 @@
 //! What leads to agreement.
 
 ghost use Rattle.agreement.specs.ActivityDeeds.{ActivitiesDo, ActivityStates};
-ghost use Rattle.agreement.specs.Backed.{LeavesAreBacked};
+ghost use Rattle.agreement.specs.LeafRecords.{LeavesAreBacked};
 ghost use Rattle.agreement.specs.Deeds.{DeedsMoveSeats, TransactionsDo};
-ghost use Rattle.agreement.specs.Done.{StepsDo};
-ghost use Rattle.agreement.specs.Finished.{FinishesAll};
+ghost use Rattle.agreement.specs.StepDeeds.{StepsDo};
+ghost use Rattle.agreement.specs.FinishedTransactions.{FinishesAll};
 ghost use Rattle.agreement.specs.Journals.{JournalsLive};
 ghost use Rattle.agreement.specs.LeafDeeds.{LeafStates, LeavesDo};
 ghost use Rattle.agreement.specs.Lives.{LivesAgree};
 ghost use Rattle.agreement.specs.Places.{AddressesLeadHome};
 ghost use Rattle.agreement.specs.Recoveries.{RecoversEach};
 ghost use Rattle.agreement.specs.Registers.{RegistersNameTheirSender};
-ghost use Rattle.agreement.specs.Seated.{SeatsAreRegistered};
+ghost use Rattle.agreement.specs.SeatRegistrations.{SeatsAreRegistered};
 ghost use Rattle.agreement.specs.Sorts.{SortsAgree};
 ghost use Rattle.agreement.specs.TransactionSteps.{TransactionsStep};
 
 /// In every run a transaction that aborts asks nobody any more, one that is decided has no initiator that may still ask, and
 /// participants keep their numbers, in the book and in its records.
-#[tactic(auto, using(crate::proofs::Finishing::finishes_all))]
+#[tactic(auto, using(crate::proofs::FinishedTransactions::finishes_all))]
 pub fn finishes_all()
     ensures { FinishesAll }
 {}
 
 /// In every run a participant that does work of its own registers, works under a coordinator that it knows, or has voted
 /// Prepared to it.
-#[tactic(auto, using(crate::proofs::LeafStanding::leaf_states))]
+#[tactic(auto, using(crate::proofs::LeafStates::leaf_states))]
 pub fn leaf_states()
     ensures { LeafStates }
 {}
 
 /// Whatever comes to a participant that does work of its own, and whenever it is due, its step is one of a few deeds, each
 /// with its record, its effect, its messages and what is left of it.
-#[tactic(auto, using(crate::proofs::LeavesDo::leaves_do))]
+#[tactic(auto, using(crate::proofs::LeafRules::leaves_do))]
 pub fn leaves_do()
     ensures { LeavesDo }
 {}
 
 /// In every run an activity waits for its context, registers, runs or completes, and knows what it needs for that.
-#[tactic(auto, using(crate::proofs::ActivityStanding::activity_states))]
+#[tactic(auto, using(crate::proofs::ActivityStates::activity_states))]
 pub fn activity_states()
     ensures { ActivityStates }
 {}
 
 /// Whatever comes to an initiator's activity, whenever it is due, and whatever its program asks that isn't refused, it goes on
 /// and posts one message at most, or is told how it ended.
-#[tactic(auto, using(crate::proofs::ActivitiesDo::activities_do))]
+#[tactic(auto, using(crate::proofs::ActivityRules::activities_do))]
 pub fn activities_do()
     ensures { ActivitiesDo }
 {}
@@ -71,14 +71,14 @@ pub fn leaves_are_backed()
 /// Whatever moves a transaction, where its record landed and where it didn't, does one deed of a short table: it stays
 /// undecided or in its phase, aborts while it is undecided, votes or decides behind every answer, ends as its superior said
 /// behind its vote, or is over.
-#[tactic(auto, using(crate::proofs::Acting::transactions_do))]
+#[tactic(auto, using(crate::proofs::TransactionEvents::transactions_do))]
 pub fn transactions_do()
     ensures { TransactionsDo }
 {}
 
 /// Each step of a book does one such deed to one transaction, is undone since its record is absent, takes a registration,
 /// makes a transaction, or leaves the transactions as they were.
-#[tactic(auto, using(crate::proofs::Stepping::steps_do))]
+#[tactic(auto, using(crate::proofs::StepDeeds::steps_do))]
 pub fn steps_do()
     ensures { StepsDo }
 {}
@@ -92,21 +92,21 @@ pub fn deeds_move_seats()
 
 /// In every run a seat is the registration of one participant: no two registrations of a transaction have one number, an
 /// undecided transaction has a seat for each, and its votes and decisions name such participants alone.
-#[tactic(auto, using(crate::proofs::Seated::seats_are_registered))]
+#[tactic(auto, using(crate::proofs::SeatRegistrations::seats_are_registered))]
 pub fn seats_are_registered()
     ensures { SeatsAreRegistered }
 {}
 
 /// In every run each Register that was posted is one of an item of its sender: it names that item's own endpoint, as the
 /// participant and for the answer, and asks for the protocol of a participant of its kind, or an initiator's.
-#[tactic(auto, using(crate::proofs::Registered::registers_name_their_sender))]
+#[tactic(auto, using(crate::proofs::Registers::registers_name_their_sender))]
 pub fn registers_name_their_sender()
     ensures { RegistersNameTheirSender }
 {}
 
 /// Where an endpoint that a node writes leads anywhere, it leads to that node and to the target that it was written for: to no
 /// other node, and to no other of the seven kinds of target, item or seat.
-#[tactic(auto, using(crate::proofs::Placing::addresses_lead_home))]
+#[tactic(auto, using(crate::proofs::Places::addresses_lead_home))]
 pub fn addresses_lead_home()
     ensures { AddressesLeadHome }
 {}
@@ -114,14 +114,14 @@ pub fn addresses_lead_home()
 /// In every run each id names an item of one sort: a root, a subordinate, a participant of one kind that does work of
 /// its own, or an activity. What is in the books and in the records, what happened, who registers, and who was accepted, agrees
 /// with it: an accepted participant is a subordinate, or does work of the kind of its seat, and an initiator is an activity.
-#[tactic(auto, using(crate::proofs::Sorted::sorts_agree))]
+#[tactic(auto, using(crate::proofs::Sorts::sorts_agree))]
 pub fn sorts_agree()
     ensures { SortsAgree }
 {}
 
 /// Each step that moves a transaction is one of those deeds; or it is undone, where a subordinate's outcome or an end isn't
 /// recorded, which is waited for as before.
-#[tactic(auto, using(crate::proofs::Undoing::transactions_step))]
+#[tactic(auto, using(crate::proofs::TransactionSteps::transactions_step))]
 pub fn transactions_step()
     ensures { TransactionsStep }
 {}

@@ -4,8 +4,8 @@
 //! were done. A journal with no bodies is given the mark of version 2 first.
 #![tactic(auto)]
 
-ghost use Rattle.std.specs.Prelude.{◌≡◌, ◌≤◌, length, IfOk, IfSome, replicate};
-ghost use Rattle.journal_at.specs.Format.{IsBody, mark_body};
+ghost use Rattle.std.specs.Prelude.{◌≡◌, ◌≤◌, IfOk, IfSome, replicate};
+ghost use Rattle.journal_at.specs.Format.{IsBody};
 
 use atx_sites::file_site::FileSite;
 use journal_at::journal::{Append, Journal};

@@ -27,7 +27,7 @@ use Rattle.url.proofs.SetLemmas.{checked}
 use Rattle.url.proofs.Theorems.{parse_url-serialize_special}
 use Rattle.at_model.specs.World.{HaveOwnAddresses, Hosts, example_base}
 use Rattle.arrivals.specs.Worlds.{HaveOwnBases, IsBase, with_path}
-use Rattle.addressing.specs.Posting.{path_in}
+use Rattle.addressing.specs.PostAddresses.{path_in}
 use Rattle.arrivals.proofs.Paths.{IsPath, named_path}
 
 -- a byte that stands for itself in a domain

@@ -1,5 +1,5 @@
-pub mod Again
+pub mod ArrivalReturns
 pub mod Soundness
-pub mod Worldly
+pub mod WorldArrivals
 pub mod Paths
 pub mod Bases

@@ -1,5 +1,5 @@
 -- What is whole keeps the bounds of a record.
-use Rattle.std.proofs.Common.{inl, inr, ◌≡◌, refl, sym, subst, arith, ℕ, ◌+◌, ◌≤◌, List, [], ◌∷◌, length, true, ◌&&◌, not, nat_le}
+use Rattle.std.proofs.Common.{inl, inr, ◌≡◌, refl, sym, subst, arith, ℕ, ◌+◌, ◌≤◌, List, [], ◌∷◌, length, true, not, nat_le}
 use Rattle.std.specs.Prelude.{◌⊎◌}
 use Rattle.std.specs.List.{list_all}
 use Rattle.std.specs.Str.{chars, is_utf8}
@@ -10,13 +10,13 @@ use Rattle.at_base.specs.declared.epr.Epr.{Epr}
 use Rattle.at_base.specs.declared.message.Message.{Message}
 use Rattle.at_base.specs.declared.message.Message.TheVariants as messages
 use Rattle.xml_profile.specs.declared.tree.Tree.{Tree}
-use Rattle.xml_profile.specs.Spellable.{is_text}
+use Rattle.xml_profile.specs.SpellableTrees.{is_text}
 use Rattle.xml_roundtrip.proofs.Bools.{and_true}
 use Rattle.soap_profile.specs.Values.{is_empty}
-use Rattle.addressing.specs.Stored.{AreKept}
-use Rattle.model_laws.specs.Sound.{IsSoundMessage}
+use Rattle.addressing.specs.StoredEndpoints.{AreKept}
+use Rattle.model_laws.specs.BookBounds.{IsSoundMessage}
 use Rattle.wire_msgs.specs.declared.decode.Arrival.{Arrival}
-use Rattle.wire_msgs.specs.Whole.{IsClean, IsWhole, IsWholeEndpoint, IsWholeMessage}
+use Rattle.wire_msgs.specs.WholeMessages.{IsClean, IsWhole, IsWholeEndpoint, IsWholeMessage}
 
 text_characters : (text : List ℕ) → is_text text ≡ true → IsXmlText text
 text_characters text h = (and_true (is_utf8 text) (list_all is_xml_char (chars text)) h).1

@@ -1,2 +1,2 @@
-pub mod Reaching
+pub mod BookArrivals
 pub mod Worlds

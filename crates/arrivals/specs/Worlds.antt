@@ -15,10 +15,10 @@ use Rattle.at_model.specs.World.{Hosts, IsNumber}
 use Rattle.addressing.specs.Endpoints.{is_anonymous, is_nobody}
 use Rattle.wire_msgs.specs.declared.decode.Arrival.{Arrival}
 use Rattle.wire_msgs.specs.Arrivals.{Arrives}
-use Rattle.addressing.specs.Posting.{path_in}
-use Rattle.wire_msgs.specs.Whole.{IsClean, IsSource}
-use Rattle.wire_posts.specs.Returning.{CanBeWritten, IsProtocolFault, IsRequest, IsWholeReply}
-use Rattle.arrivals.specs.Reaching.{has_postable, is_postable, reaches}
+use Rattle.addressing.specs.PostAddresses.{path_in}
+use Rattle.wire_msgs.specs.WholeMessages.{IsClean, IsSource}
+use Rattle.wire_posts.specs.Returns.{CanBeWritten, IsProtocolFault, IsRequest, IsWholeReply}
+use Rattle.arrivals.specs.BookArrivals.{has_postable, is_postable, reaches}
 
 -- an endpoint that is named isn't one of the predefined ones, which have variants of their own
 abbrev pub IsProperReply : Reply → Type 0

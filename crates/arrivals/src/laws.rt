@@ -8,13 +8,13 @@ ghost use Rattle.at_base.specs.declared.event.Event.TheVariants.{Arrived as AsEv
 ghost use Rattle.at_base.specs.declared.outs.Post.{Post};
 ghost use Rattle.at_base.specs.declared.target.Target.{Target};
 ghost use Rattle.at_model.specs.World.{HaveOwnAddresses, Hosts, decoded, example_base};
-ghost use Rattle.model_laws.specs.Sound.{IsSoundEvent, IsSoundMessage};
+ghost use Rattle.model_laws.specs.BookBounds.{IsSoundEvent, IsSoundMessage};
 ghost use Rattle.wire_msgs.specs.declared.decode.Arrival.{Arrival};
 ghost use Rattle.wire_msgs.specs.Arrivals.{Arrives};
-ghost use Rattle.wire_msgs.specs.Whole.{IsWhole};
+ghost use Rattle.wire_msgs.specs.WholeMessages.{IsWhole};
 ghost use Rattle.wire_posts.specs.Envelopes.{IsTextOf};
-ghost use Rattle.wire_posts.specs.Returning.{CanReturn, IsInLimits, returned};
-ghost use Rattle.arrivals.specs.Reaching.{reaches};
+ghost use Rattle.wire_posts.specs.Returns.{CanReturn, IsInLimits, returned};
+ghost use Rattle.arrivals.specs.BookArrivals.{reaches};
 ghost use Rattle.arrivals.specs.Worlds.{CanArrive, HasProtocolFault, HaveOwnBases, IsBase, IsProper, Reaches, with_path};
 
 /// A whole arrival keeps the bounds of what a node's book steps on, so that its records are well-formed.
@@ -45,7 +45,7 @@ pub fn bases_are_apart()
 
 /// A post whose endpoints can be posted to reaches the book as the world of the model says: where it can be read at the
 /// target that the world has for it, and at any path where the node has a base.
-#[tactic(auto, using(crate::proofs::Worldly::post_reaches, crate::proofs::Worldly::node_reaches))]
+#[tactic(auto, using(crate::proofs::WorldArrivals::post_reaches, crate::proofs::WorldArrivals::node_reaches))]
 pub fn what_is_posted_reaches_the_book()
     ensures at { (base : List ℕ) → (post : Post) → (arrived : Arrived) → (text : List ℕ) → (path : List ℕ) → decoded base post ≡ Some arrived → IsTextOf post text → CanReturn post path arrived.target → IsInLimits post → IsShort text → IsProper post → Reaches text path arrived }
     ensures addressed { (base : List ℕ) → (post : Post) → (arrived : Arrived) → (text : List ℕ) → (path : List ℕ) → IsBase base → decoded base post ≡ Some arrived → IsTextOf post text → CanArrive post → IsInLimits post → IsShort text → IsProper post → Reaches text path arrived }

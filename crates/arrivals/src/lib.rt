@@ -1,5 +1,5 @@
 //! From the message that a request's bytes mean to what a node's book steps on.
 #![tactic(auto)]
 
+pub mod book_arrival;
 pub mod laws;
-pub mod reach;

@@ -1,5 +1,5 @@
 -- Numbers of 1 to 4,294,967,295 in decimal.
-use Rattle.std.proofs.Common.{ℕ, List, [], ◌∷◌, ◌≡◌, ◌<◌, ◌≤◌, ◌+◌, ◌^◌, length, get_or, Bool, true, Result, Ok, Err, Option, Some, None, IfSome, sym, ◌∙◌, ap, arith, rules, refl, subst}
+use Rattle.std.proofs.Common.{ℕ, List, [], ◌∷◌, ◌≡◌, ◌<◌, ◌≤◌, ◌+◌, ◌^◌, length, get_or, true, Result, Ok, Err, Option, Some, IfSome, sym, ◌∙◌, ap, arith, rules, refl, subst}
 use Rattle.std.specs.Fmt.{decimal}
 use Rattle.std.specs.Result.{OkIff, result_ok}
 use Rattle.std.specs.Str.{all_ascii_digits}

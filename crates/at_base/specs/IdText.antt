@@ -1,5 +1,5 @@
 -- The text of an id, as `1-7`: both numbers in decimal, without sign or leading zeros, joined by a hyphen.
-use Rattle.std.specs.Prelude.{ℕ, List, ◌∷◌, ◌++◌, ◌≡◌, ◌≤◌, ◌<◌, ◌^◌, codes, refl}
+use Rattle.std.specs.Prelude.{ℕ, List, ◌∷◌, ◌++◌, ◌≡◌, ◌≤◌, ◌<◌, ◌^◌}
 use Rattle.std.specs.Fmt.{decimal}
 use Rattle.at_base.specs.Numbers.{Numbers}
 

@@ -1,4 +1,4 @@
-pub mod Held
+pub mod TextBytes
 pub mod Chars
 pub mod IdText
 pub mod MessageId

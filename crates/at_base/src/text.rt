@@ -22,7 +22,7 @@ enum Held {
 
 impl Model for Text {
     ghost use Rattle.std.specs.Prelude.{ℕ, List};
-    ghost use Rattle.at_base.specs.Held.{bytes_of};
+    ghost use Rattle.at_base.specs.TextBytes.{bytes_of};
 
     ghost Value = { List ℕ };
 

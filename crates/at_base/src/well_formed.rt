@@ -1,7 +1,6 @@
 //! Which records a journal holds.
 
 ghost use Rattle.std.specs.Prelude.{◌≡◌, ◌↔◌, IsTrue};
-ghost use Rattle.std.specs.List.{All};
 ghost use Rattle.at_base.specs.Chars.{is_xml_char, IsXmlText};
 ghost use Rattle.at_base.specs.IdText.{IsId};
 ghost use Rattle.at_base.specs.WellFormed.{IsEndpoint, IsField, Rises, AreSeats, IsWellFormed};

@@ -10,7 +10,7 @@ pub mod Moves
 pub mod Outcomes
 pub mod Phases
 pub mod Posts
-pub mod Recover
+pub mod Recovery
 pub mod Register
 pub mod Seats
 pub mod Step

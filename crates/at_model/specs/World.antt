@@ -29,7 +29,7 @@ use Rattle.at_model.specs.Seats.{ending}
 use Rattle.at_model.specs.Leaves.{leaf_ended}
 use Rattle.at_model.specs.Due.{may_expire}
 use Rattle.at_model.specs.Step.{Outcome, Plan, plain, still, transaction_at, plan, is_due, items_of}
-use Rattle.at_model.specs.Recover.{last_incarnation, recover}
+use Rattle.at_model.specs.Recovery.{last_incarnation, recover}
 
 -- A node: its base, its book where it is up, the records of its journal, and its clock in milliseconds.
 pub record Node : Type 0 where

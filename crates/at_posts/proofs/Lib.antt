@@ -1,1 +1,1 @@
-mod Naming
+mod MessageIds

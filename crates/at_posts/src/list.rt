@@ -1,6 +1,6 @@
 //! Lists of messages that are sent.
 
-ghost use Rattle.std.specs.Prelude.{◌≡◌, ◌++◌, ◌∷◌, [], OnOk, OnErr, map};
+ghost use Rattle.std.specs.Prelude.{◌≡◌, ◌++◌, ◌∷◌, [], OnOk, OnErr};
 ghost use Rattle.at_base.specs.declared.outs.Out.TheVariants as out;
 
 use at_base::outs::{Out, OutList, Post};

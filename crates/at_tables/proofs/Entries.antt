@@ -1,5 +1,5 @@
 -- The laws of the tables. Each is a test that is computed over all entries of a table, and then read back as an equation.
-use Rattle.std.proofs.Common.{ℕ, Option, Some, None, Bool, true, false, ◌≡◌, ◌&&◌, ◌||◌, nat_eq, refl, sym, ◌∙◌, ap, subst, ◌⊎◌, inl, inr}
+use Rattle.std.proofs.Common.{Option, Some, None, Bool, true, false, ◌≡◌, ◌&&◌, ◌||◌, refl, sym, subst, ◌⊎◌, inl, inr}
 use Rattle.at_base.specs.declared.notice.Kind.{Kind}
 use Rattle.at_base.specs.declared.notice.Notice.{Notice}
 use Rattle.at_base.specs.declared.notice.Kind.TheVariants as kinds
@@ -9,7 +9,7 @@ use Rattle.at_tables.specs.declared.cells.Act.{Act}
 use Rattle.at_tables.specs.declared.cells.Cell.{Cell}
 use Rattle.at_tables.specs.declared.cells.State.TheVariants as states
 use Rattle.at_tables.specs.declared.cells.Act.TheVariants as acts
-use Rattle.at_tables.specs.Names.{is_state, is_notice, is_act, state_place, notice_place, act_place}
+use Rattle.at_tables.specs.Names.{is_state, is_notice, is_act}
 use Rattle.at_tables.specs.Tables.{coordinator_of, participant_of, completion_of, initiator_of}
 use Rattle.at_tables.specs.Laws.{NoMessageCommits, VotesAtPreparing, CommittedEnds, DecisionStands, CommitAfterDecision, PresumesAbort, NothingBegins, PreparedAfterVote, CommitsWhenTold, StaysInDoubt, CommittedWhenDone, CommitIsFinal, ToldCommittedWhenAsked, CompletesOnce, OutcomeStays, FaultKeepsState}
 

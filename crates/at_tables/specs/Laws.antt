@@ -1,5 +1,5 @@
 -- What the state tables of WS-AtomicTransaction 1.2 (sections 3 and 10) promise in words, cell by cell.
-use Rattle.std.specs.Prelude.{ℕ, Option, Some, None, Bool, true, ◌≡◌, ◌⊎◌}
+use Rattle.std.specs.Prelude.{Some, None, ◌≡◌, ◌⊎◌}
 use Rattle.at_base.specs.declared.notice.Kind.{Kind}
 use Rattle.at_base.specs.declared.notice.Notice.{Notice}
 use Rattle.at_base.specs.declared.notice.Kind.TheVariants as kinds

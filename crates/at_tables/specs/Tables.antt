@@ -1,6 +1,6 @@
 -- The four state tables of WS-AtomicTransaction 1.2 (section 10) in this project's profile, a row for each cell: the kind
 -- of participant that it is for, the state, the message, the act and the next state.
-use Rattle.std.specs.Prelude.{Option, Some, None, List, ◌∷◌, [], Bool, true, ◌&&◌, nat_eq, if◌then◌else◌}
+use Rattle.std.specs.Prelude.{Option, Some, None, List, ◌∷◌, [], Bool, true, ◌&&◌, if◌then◌else◌}
 use Rattle.at_base.specs.declared.notice.Kind.{Kind}
 use Rattle.at_base.specs.declared.notice.Notice.{Notice}
 use Rattle.at_base.specs.declared.notice.Kind.TheVariants as kinds

@@ -1,3 +1,3 @@
 pub mod Numbers
-pub mod Splitting
+pub mod TextSplits
 pub mod Forms

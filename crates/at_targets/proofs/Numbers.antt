@@ -17,7 +17,7 @@ use Rattle.std.proofs.lemmas.Fmt.{decimal-digits_value, decimal_digit, decimal_i
 use Rattle.at_base.specs.Numbers.{Numbers}
 use Rattle.at_base.specs.IdText.{SpellsId, hyphen}
 use Rattle.at_model.specs.Addresses.{digits_value, number_of, id_of, split_at}
-use Rattle.at_targets.proofs.Splitting.{Lacks, split_first, split_whole}
+use Rattle.at_targets.proofs.TextSplits.{Lacks, split_first, split_whole}
 
 pub same_option : {A : Type 0} (o p : Option A) → ((x : A) → o ≡ Some x → p ≡ Some x) → ((x : A) → p ≡ Some x → o ≡ Some x) → o ≡ p
 same_option None None f g = refl

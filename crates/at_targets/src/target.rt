@@ -85,7 +85,7 @@ fn seat_behind(prefix: &str, kind: Kind, path: &str) -> Option<Target>
     read_seat(kind, behind(prefix, path)?)
 }
 
-#[tactic(auto, using(crate::proofs::Splitting::stripped))]
+#[tactic(auto, using(crate::proofs::TextSplits::stripped))]
 fn behind<'a>(prefix: &str, path: &'a str) -> Option<&'a str>
     ensures { option_map (λ rest. rest.now) result ≡ after_prefix prefix.now path.now }
 {

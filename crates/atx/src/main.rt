@@ -1,10 +1,10 @@
 //! atx: atomic transactions between web services (WS-Coordination 1.2, WS-AtomicTransaction 1.2).
 #![tactic(auto)]
 
-mod outside;
+mod standard_streams;
 mod words;
 
-use crate::outside::{Reading, Writing};
+use crate::standard_streams::{Reading, Writing};
 use crate::words::behind_name;
 use atx_sites::node_site::NodeSite;
 use command_line::run::{NO_JOB, NO_MEMORY, run};

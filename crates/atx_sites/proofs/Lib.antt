@@ -1,1 +1,1 @@
-pub mod Silent
+pub mod SilentMachines

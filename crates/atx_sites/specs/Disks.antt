@@ -3,7 +3,7 @@ use Rattle.std.specs.Prelude.{ℕ, Bool, Option, Result, Some, None, Ok, Err, ze
 use Rattle.site_model.specs.Counts.{capped}
 use Rattle.site_model.specs.Told.{Told, silent}
 use Rattle.atx_sites.specs.declared.disk.Disk.{Disk}
-use Rattle.atx_sites.specs.declared.held.Held.{Held}
+use Rattle.atx_sites.specs.declared.open_file.Held.{Held}
 
 -- a sync of it failed, or it isn't open: no sync of it succeeds
 abbrev pub is_lost : Option Held → Bool

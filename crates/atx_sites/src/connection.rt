@@ -1,10 +1,10 @@
 //! The listener of a node, and the connection that is served.
 
-ghost use Rattle.std.specs.Prelude.{◌≡◌, length, None, IsErr, IsOk};
+ghost use Rattle.std.specs.Prelude.{◌≡◌, None, IsErr};
 ghost use Rattle.std.specs.Io.{ReadsAtMost};
 
 use crate::deadlines::{in_seconds, left, write_by};
-use crate::idle::Idle;
+use crate::idle_connections::Idle;
 use std::io::{self, ErrorKind, Read};
 use std::net::{Net, Shutdown, TcpListener, TcpStream};
 use std::rt::Clock;

@@ -5,8 +5,8 @@ ghost use Rattle.site_model.specs.Counts.{HasCause};
 ghost use Rattle.atx_sites.specs.Disks.{Tallied, file_at, is_lost, other_at};
 
 use crate::faults::counted;
-use crate::held::{Held, open_alone, raise_gate, read, size, sync, write};
 use crate::names::{folder_of, second_name};
+use crate::open_file::{Held, open_alone, raise_gate, read, size, sync, write};
 use site_model::source::Failed;
 use std::fs::File;
 use std::io::{self, ErrorKind};

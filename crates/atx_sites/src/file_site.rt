@@ -77,7 +77,7 @@ impl<R: Files<File = File> + Clock + Drop> Site for FileSite<R> {
         self.disk.read(file, at, buf)
     }
 
-    #[tactic(auto, using(crate::proofs::Silent::wrote))]
+    #[tactic(auto, using(crate::proofs::SilentMachines::wrote))]
     fn write_at(&mut self, file: u8, at: u64, bytes: &[u8]) -> Result<(), Failed>
         ensures shut { file_at file self.old.disk ≡ None → IsErr result }
         ensures call { Wrote file at bytes.now result (told_of self.old.disk self.old.accept self.old.receive self.old.link) (told_of self.new.disk self.new.accept self.new.receive self.new.link) }
@@ -85,7 +85,7 @@ impl<R: Files<File = File> + Clock + Drop> Site for FileSite<R> {
         self.disk.write_at(file, at, bytes)
     }
 
-    #[tactic(auto, using(crate::proofs::Silent::synced))]
+    #[tactic(auto, using(crate::proofs::SilentMachines::synced))]
     fn sync(&mut self, file: u8) -> Result<(), Failed>
         ensures lost { is_lost (file_at file self.old.disk) ≡ true → IsErr result }
         ensures failed { OnErr result (is_lost (file_at file self.new.disk) ≡ true) }
@@ -95,7 +95,7 @@ impl<R: Files<File = File> + Clock + Drop> Site for FileSite<R> {
         self.disk.sync(file)
     }
 
-    #[tactic(auto, using(crate::proofs::Silent::raised))]
+    #[tactic(auto, using(crate::proofs::SilentMachines::raised))]
     fn raise_gate(&mut self, file: u8, at: u64) -> Result<(), Failed>
         ensures lost { is_lost (file_at file self.old.disk) ≡ true → IsErr result }
         ensures other { other_at file self.new.disk ≡ other_at file self.old.disk }
@@ -119,7 +119,7 @@ impl<R: Files<File = File> + Clock + Drop> Site for FileSite<R> {
         refused(&mut self.receive)
     }
 
-    #[tactic(auto, using(crate::proofs::Silent::gave))]
+    #[tactic(auto, using(crate::proofs::SilentMachines::gave))]
     fn send(&mut self, _bytes: &[u8]) -> Result<(), Failed>
         ensures fails { IsErr result }
         ensures call { Gave (Send _bytes.now) result (told_of self.old.disk self.old.accept self.old.receive self.old.link) (told_of self.new.disk self.new.accept self.new.receive self.new.link) }
@@ -129,7 +129,7 @@ impl<R: Files<File = File> + Clock + Drop> Site for FileSite<R> {
 
     fn close(&mut self) {}
 
-    #[tactic(auto, using(crate::proofs::Silent::gave))]
+    #[tactic(auto, using(crate::proofs::SilentMachines::gave))]
     fn post(&mut self, _host: &str, _port: u16, _bytes: &[u8]) -> Result<(), Failed>
         ensures fails { IsErr result }
         ensures call { Gave (Post _host.now _port _bytes.now) result (told_of self.old.disk self.old.accept self.old.receive self.old.link) (told_of self.new.disk self.new.accept self.new.receive self.new.link) }

@@ -12,7 +12,7 @@ ghost use Rattle.atx_sites.specs.Networks.{Attempted, told_with};
 use crate::connection::Connection;
 use crate::disk::Disk;
 use crate::faults::counted;
-use crate::posted::Posted;
+use crate::posts::Posted;
 use site_model::site::{AttachFailed, Site, Taken};
 use site_model::source::Failed;
 use std::fs::File;
@@ -106,7 +106,7 @@ impl<R: Files<File = File> + Net<Listener = TcpListener, Stream = TcpStream> + C
         self.disk.read(file, at, buf)
     }
 
-    #[tactic(auto, using(crate::proofs::Silent::wrote))]
+    #[tactic(auto, using(crate::proofs::SilentMachines::wrote))]
     fn write_at(&mut self, file: u8, at: u64, bytes: &[u8]) -> Result<(), Failed>
         ensures shut { file_at file self.old.disk ≡ None → IsErr result }
         ensures tallied { Tallied self.old.disk.disk self.new.disk.disk result }
@@ -115,7 +115,7 @@ impl<R: Files<File = File> + Net<Listener = TcpListener, Stream = TcpStream> + C
         self.disk.write_at(file, at, bytes)
     }
 
-    #[tactic(auto, using(crate::proofs::Silent::synced))]
+    #[tactic(auto, using(crate::proofs::SilentMachines::synced))]
     fn sync(&mut self, file: u8) -> Result<(), Failed>
         ensures lost { is_lost (file_at file self.old.disk) ≡ true → IsErr result }
         ensures failed { OnErr result (is_lost (file_at file self.new.disk) ≡ true) }
@@ -126,7 +126,7 @@ impl<R: Files<File = File> + Net<Listener = TcpListener, Stream = TcpStream> + C
         self.disk.sync(file)
     }
 
-    #[tactic(auto, using(crate::proofs::Silent::raised))]
+    #[tactic(auto, using(crate::proofs::SilentMachines::raised))]
     fn raise_gate(&mut self, file: u8, at: u64) -> Result<(), Failed>
         ensures lost { is_lost (file_at file self.old.disk) ≡ true → IsErr result }
         ensures other { other_at file self.new.disk ≡ other_at file self.old.disk }
@@ -163,7 +163,7 @@ impl<R: Files<File = File> + Net<Listener = TcpListener, Stream = TcpStream> + C
         counted(&mut self.receive, self.connection.receive(&self.rt, buf))
     }
 
-    #[tactic(auto, using(crate::proofs::Silent::gave))]
+    #[tactic(auto, using(crate::proofs::SilentMachines::gave))]
     fn send(&mut self, bytes: &[u8]) -> Result<(), Failed>
         ensures shut { self.old.connection.served ≡ None → IsErr result }
         ensures tallied { Tallied self.old.link self.new.link result }
@@ -180,7 +180,7 @@ impl<R: Files<File = File> + Net<Listener = TcpListener, Stream = TcpStream> + C
         self.connection.close(&self.rt);
     }
 
-    #[tactic(auto, using(crate::proofs::Silent::gave))]
+    #[tactic(auto, using(crate::proofs::SilentMachines::gave))]
     fn post(&mut self, host: &str, port: u16, bytes: &[u8]) -> Result<(), Failed>
         ensures tallied { Tallied self.old.link self.new.link result }
         ensures call { Gave (Post host.now port bytes.now) result (told_with self.old.disk self.old.accept self.old.receive self.old.link self.old.taken) (told_with self.new.disk self.new.accept self.new.receive self.new.link self.new.taken) }

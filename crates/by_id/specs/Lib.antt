@@ -1,3 +1,3 @@
 pub mod Lists
 pub mod Plans
-pub mod Decided
+pub mod Decisions

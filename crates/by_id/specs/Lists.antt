@@ -2,7 +2,7 @@
 use Rattle.std.specs.Prelude.{ℕ, List, [], ◌∷◌, ◌++◌, Option, Some, None, Bool, true, nat_lt, ◌&&◌, if◌then◌else◌, length, suc}
 use Rattle.at_base.specs.Numbers.{Numbers}
 use Rattle.at_model.specs.Book.{is_id, put_by}
-use Rattle.at_model.specs.Recover.{is_before}
+use Rattle.at_model.specs.Recovery.{is_before}
 use Rattle.by_id.specs.declared.list.Alteration.{Alteration}
 use Rattle.by_id.specs.declared.list.Alteration.TheVariants as alterations
 

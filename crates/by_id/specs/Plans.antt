@@ -1,5 +1,5 @@
 -- What a core decided, as the model's decision on one item, or as one item more.
-use Rattle.std.specs.Prelude.{List, [], ◌∷◌, ◌++◌, Option, Some, None, Bool, if◌then◌else◌, map}
+use Rattle.std.specs.Prelude.{List, [], ◌++◌, Option, Some, None, Bool, if◌then◌else◌, map}
 use Rattle.at_base.specs.Numbers.{Numbers}
 use Rattle.at_base.specs.declared.record.Record.{Record}
 use Rattle.at_base.specs.declared.outs.Out.{Out}

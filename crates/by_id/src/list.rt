@@ -1,12 +1,12 @@
 //! A list of live items, with room for as many as a node takes.
 
-ghost use Rattle.std.specs.Prelude.{ℕ, Bool, ◌≡◌, IfOk, [], option_copied, length, Some, None};
+ghost use Rattle.std.specs.Prelude.{Bool, ◌≡◌, IfOk, [], option_copied, length, Some, None};
 ghost use Rattle.std.specs.Fn.{CalledAt};
 ghost use Rattle.std.specs.List.Retain.{IsFiltered};
 ghost use Rattle.at_base.specs.Numbers.{Numbers};
 ghost use Rattle.at_base.specs.declared.event.Moment.{Moment};
 ghost use Rattle.at_model.specs.Book.{is_id, find_by, put_by};
-ghost use Rattle.at_model.specs.Recover.{is_before};
+ghost use Rattle.at_model.specs.Recovery.{is_before};
 ghost use Rattle.by_id.specs.Lists.{place_by, add_to, altered, is_behind, next_due};
 
 use at_base::event::Moment;

@@ -3,7 +3,7 @@
 ghost use Rattle.std.specs.Prelude.{◌≡◌, ◌++◌, IfOk, OnOk, map};
 ghost use Rattle.at_base.specs.declared.outs.Out.TheVariants as out;
 ghost use Rattle.at_model.specs.Moves.{begin, post, effect, stays, forgotten, ignored};
-ghost use Rattle.by_id.specs.Decided.{decision_of};
+ghost use Rattle.by_id.specs.Decisions.{decision_of};
 ghost use Rattle.by_id.specs.Plans.{unchanged, changed, if_absent, decided};
 
 use crate::list::Alteration;

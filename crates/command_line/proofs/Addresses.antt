@@ -12,7 +12,7 @@ use Rattle.url.specs.declared.host.Host.TheVariants.{Domain}
 use Rattle.url.specs.Parts.{IsPortOf, IsValid, Parts, has_host, nonempty_host}
 use Rattle.url.proofs.InputLemmas.{Passes}
 use Rattle.url.proofs.TextLemmas.{is_host_byte, own_host_bytes, port_bytes}
-use Rattle.addressing.specs.Posting.{postable, with_query}
+use Rattle.addressing.specs.PostAddresses.{postable, with_query}
 use Rattle.addressing.specs.declared.post_to.PostTo.{PostTo}
 use Rattle.command_line.specs.Jobs.{IsNoDelimiter, authority, is_authority}
 

@@ -10,7 +10,7 @@ use Rattle.url.specs.declared.host.Host.TheVariants.{Domain, Ipv4, Ipv6}
 use Rattle.url.specs.Parser.{parse_url}
 use Rattle.url.specs.Parts.{IsValid, IsValidHead, Parts, kind_of, nonempty_host, serialize}
 use Rattle.url.specs.Scheme.{default_port, is_special, scheme_type}
-use Rattle.addressing.specs.Posting.{of_parsed, postable, with_query}
+use Rattle.addressing.specs.PostAddresses.{of_parsed, postable, with_query}
 use Rattle.addressing.specs.declared.post_to.PostTo.{PostTo}
 use Rattle.arrivals.specs.Worlds.{IsBase, with_path}
 use Rattle.command_line.specs.Jobs.{HasBase, authority, is_authority}

@@ -1,11 +1,11 @@
 mod Addresses
 mod Bases
 mod Examples
-mod Making
-mod Parsing
-mod Printing
+mod Summaries
+mod ClapAnswers
+mod Reports
 mod Purity
 mod Rows
-mod Served
-mod Ticking
+mod Servings
+mod Ticks
 mod Words

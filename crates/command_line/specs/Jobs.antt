@@ -1,7 +1,7 @@
 -- What the words are: a job, a question for the help or the version, or faulty.
 use Rattle.std.specs.Prelude.{ℕ, List, [], ◌∷◌, ◌++◌, ◌-◌, ◌^◌, ◌≡◌, Bool, true, false, ◌&&◌, ◌||◌, ◌==◌, bytes_eq, decimal, nat_le, length, if◌then◌else◌, Option, Some, None, Ok, codes, IsSomeAnd, IsTrue}
 use Rattle.std.specs.List.{list_all}
-use Rattle.addressing.specs.Posting.{post_to_of}
+use Rattle.addressing.specs.PostAddresses.{post_to_of}
 use Rattle.addressing.specs.declared.post_to.PostTo.{PostTo}
 use Rattle.arrivals.specs.Worlds.{IsBase}
 use Rattle.at_tables.specs.Texts.{state_name}

@@ -6,8 +6,8 @@ use Rattle.schedules.specs.InitiatorLines.{initiator_lines_of}
 use Rattle.schedules.specs.declared.initiator_line.InitiatorLine.{InitiatorLine}
 use Rattle.schedules.specs.declared.line.BadLine.{BadLine}
 use Rattle.serving.specs.Runs.{Serves, Serviced}
-use Rattle.serving.specs.declared.ended.Ended.{Ended}
-use Rattle.serving.specs.declared.ended.Ended.TheVariants as endings
+use Rattle.serving.specs.declared.service_end.Ended.{Ended}
+use Rattle.serving.specs.declared.service_end.Ended.TheVariants as endings
 use Rattle.node_at.specs.declared.role.Role.{Role as Served}
 use Rattle.node_at.specs.declared.role.Role.TheVariants as roles
 use Rattle.site_model.specs.Told.{Told}

@@ -1,7 +1,7 @@
 -- What a tick does to the machine.
 use Rattle.std.specs.Prelude.{List, [], ◌∷◌, ◌++◌, ◌≡◌, Result, Ok, Err, Some}
 use Rattle.addressing.specs.declared.post_to.PostTo.{PostTo}
-use Rattle.http_post.specs.Written.{tick_of}
+use Rattle.http_post.specs.OutBytes.{tick_of}
 use Rattle.site_model.specs.Calls.{Gave}
 use Rattle.site_model.specs.Told.{Call, Made, Told, sent_by}
 use Rattle.site_model.specs.Told.Call.{Post}

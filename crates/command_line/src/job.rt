@@ -2,7 +2,7 @@
 
 ghost use Rattle.std.specs.List.{list_all};
 ghost use Rattle.std.specs.Prelude.{ℕ, ◌≡◌, ◌≢◌, ◌++◌, [], All, Bool, IfOk, IfErr, IfSome, IsSomeAnd, IsTrue, Some, codes, decimal, map, option_map, string_bytes, unwrap_or};
-ghost use Rattle.addressing.specs.Posting.{postable};
+ghost use Rattle.addressing.specs.PostAddresses.{postable};
 ghost use Rattle.addressing.specs.declared.post_to.PostTo.{PostTo as MeantTo};
 ghost use Rattle.clap.specs.Faults.{fault_of};
 ghost use Rattle.clap.specs.Kinds.{HasKind};

@@ -12,7 +12,7 @@ use site_model::sink::{Sink, write_all};
 use std::alloc::Global;
 
 /// Prints how so many lines that are made of a seed come out, and gives the status.
-#[tactic(auto, using(crate::proofs::Making::is_summed, crate::proofs::Making::is_summed_in_part))]
+#[tactic(auto, using(crate::proofs::Summaries::is_summed, crate::proofs::Summaries::is_summed_in_part))]
 pub(crate) fn make<K: Sink>(alloc: Global, seed: u64, steps: u16, sink: &mut K) -> u8
     requires { steps ≤ 9999 }
     ensures statuses { IsTrue (list_any (nat_eq result) (0 ∷ 5 ∷ 9 ∷ [])) }

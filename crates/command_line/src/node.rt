@@ -13,9 +13,9 @@ use node_at::role::Role as Served;
 use schedules::initiator_line::InitiatorLine;
 use schedules::initiator_reader::read_initiator_lines;
 use schedules::line::{BadLine, ScheduleError};
-use serving::ended::Ended;
 use serving::serve::serve;
 use serving::service::Service;
+use serving::service_end::Ended;
 use site_model::sink::Sink;
 use site_model::site::Site;
 use site_model::source::{ReadFault, Source, read_all};
@@ -65,7 +65,7 @@ fn role_of(role: Role) -> Served
 }
 
 /// Serves these lines and so many turns, and gives the status.
-#[tactic(auto, using(crate::proofs::Served::sink_failed))]
+#[tactic(auto, using(crate::proofs::Servings::sink_failed))]
 pub(crate) fn attend<K: Sink, H: Site>(
     alloc: Global,
     serving: &Serving<'_>,
@@ -90,7 +90,7 @@ pub(crate) fn attend<K: Sink, H: Site>(
 }
 
 /// Says which line is bad, and gives the status.
-#[tactic(auto, using(crate::proofs::Served::refuses))]
+#[tactic(auto, using(crate::proofs::Servings::refuses))]
 fn refuse<K: Sink>(alloc: Global, bad: BadLine, sink: &mut K) -> u8
     ensures refuses { Refuses bad result (K.contents sink.old) (K.contents sink.new) }
     ensures cause { result ≡ 5 → Rose (K.faults sink.old) (K.faults sink.new) }
@@ -103,7 +103,7 @@ fn refuse<K: Sink>(alloc: Global, bad: BadLine, sink: &mut K) -> u8
 }
 
 /// Reads the lines of an initiator, all of them, and serves them.
-#[tactic(auto, using(crate::proofs::Served::initiated, crate::proofs::Served::refused, crate::proofs::Served::unread))]
+#[tactic(auto, using(crate::proofs::Servings::initiated, crate::proofs::Servings::refused, crate::proofs::Servings::unread))]
 pub(crate) fn initiate<S: Source, K: Sink, H: Site>(
     alloc: Global,
     serving: &Serving<'_>,

@@ -7,7 +7,7 @@ ghost use Rattle.replay_cmd.specs.ReportOf.{report_with};
 ghost use Rattle.schedules.specs.Schedules.{schedule_of};
 ghost use Rattle.command_line.specs.Reports.{IsReplayOf, bad_line, replayed};
 
-use envelope_cmd::printed::Printed;
+use envelope_cmd::output::Printed;
 use replay_cmd::laws::{reports_are_safe, reports_come_to_rest, what_is_read_is_replayable};
 use replay_cmd::replay::replay;
 use schedules::line::{BadLine, Schedule, ScheduleError};
@@ -45,7 +45,7 @@ fn printed(alloc: Global, input: &[u8], settle: bool) -> Result<Printed, AllocEr
 /// The report of the schedule that the bytes are, whose world is brought to rest behind it where that is asked, or the line of
 /// their first bad line. In the world of the report no two participants of one transaction ended differently
 /// (WS-AtomicTransaction 1.2, section 1).
-#[tactic(auto, using(crate::proofs::Printing::replay_of))]
+#[tactic(auto, using(crate::proofs::Reports::replay_of))]
 pub fn replayed(alloc: Global, input: &[u8], settle: bool) -> Result<Printed, AllocError>
     ensures { IfOk result (λ printed. IsReplayOf settle input.now printed) }
 {

@@ -23,7 +23,7 @@ use crate::replay::replayed;
 use crate::tick::tick;
 use envelope_cmd::cell::cell;
 use envelope_cmd::check::check;
-use envelope_cmd::printed::Printed;
+use envelope_cmd::output::Printed;
 use site_model::sink::{Sink, write_all};
 use site_model::site::Site;
 use site_model::source::{ReadFault, Source, read_all};
@@ -187,7 +187,7 @@ fn filter<S: Source, K: Sink>(
 /// the source, and so are words that clap refuses: it says why. A value that doesn't read is answered with what it may be.
 /// `coordinator`, `participant` and `initiator` serve a node (`serving`), the last after it has read its lines from the source.
 /// But for these and for `tick` the site stays as it is.
-#[tactic(auto, using(crate::proofs::Words::unknown_said, crate::proofs::Making::few_steps, crate::proofs::Served::unread_by))]
+#[tactic(auto, using(crate::proofs::Words::unknown_said, crate::proofs::Summaries::few_steps, crate::proofs::Servings::unread_by))]
 pub fn run<S: Source, K: Sink, H: Site>(
     alloc: Global,
     words: &[String],

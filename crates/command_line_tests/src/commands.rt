@@ -1,7 +1,7 @@
 //! Worked envelopes through the top call, and words that are no job.
 
 use crate::reports::NO_NUMBERS;
-use crate::shared::prints;
+use crate::top_call::prints;
 use std::alloc::{AllocError, Global};
 use std::test::Fail;
 

@@ -2,12 +2,12 @@
 
 use crate::commands::notice;
 use crate::reports::PLAIN;
-use crate::shared::{prints, words_of};
+use crate::top_call::{prints, words_of};
 use command_line::run::run;
 use site_model::memory::{MemSink, MemSource};
 use site_model::sink::Sink;
 use site_model::source::Failed;
-use site_model::sure::SureSite;
+use site_model::sure_site::SureSite;
 use std::alloc::{AllocError, Global};
 use std::test::Fail;
 

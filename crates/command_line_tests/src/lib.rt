@@ -8,8 +8,8 @@ mod faults;
 #[cfg(test)]
 mod reports;
 #[cfg(test)]
-mod serves;
-#[cfg(test)]
-mod shared;
+mod servings;
 #[cfg(test)]
 mod ticks;
+#[cfg(test)]
+mod top_call;

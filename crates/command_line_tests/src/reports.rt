@@ -1,6 +1,6 @@
 //! Schedules through the top call: those that are read, and those that are made.
 
-use crate::shared::prints;
+use crate::top_call::prints;
 use std::test::Fail;
 
 pub const PLAIN: &str = "\

@@ -1,5 +1,5 @@
-mod Asking
-mod Ending
-mod Following
-mod Modelled
+mod WorkPosts
+mod ListEnds
+mod EqualAnswers
+mod PlanLaws
 mod Slashes

@@ -1,4 +1,4 @@
 pub mod Branches
 pub mod Names
-pub mod Planning
-pub mod Whole
+pub mod ActivityPlans
+pub mod BookPlans

@@ -7,8 +7,8 @@ ghost use Rattle.at_model.specs.Step.{is_reached, is_under, put_activities};
 ghost use Rattle.by_id.specs.Lists.{next_due};
 ghost use Rattle.by_id.specs.Plans.{branch_of};
 ghost use Rattle.completion_at.specs.Names.{refusal_of};
-ghost use Rattle.completion_at.specs.Planning.{settled, activity_arrived, arrived_at, activity_asked, item_asked, refused_at, requested, activities_plan};
-ghost use Rattle.completion_at.specs.Whole.{PlansAsTheModel, RefusesAsTheModel, LeavesTheBook};
+ghost use Rattle.completion_at.specs.ActivityPlans.{settled, activity_arrived, arrived_at, activity_asked, item_asked, refused_at, requested, activities_plan};
+ghost use Rattle.completion_at.specs.BookPlans.{PlansAsTheModel, RefusesAsTheModel, LeavesTheBook};
 
 use crate::activity::Activity;
 use crate::due::on_due;
@@ -29,19 +29,19 @@ use std::alloc::{AllocError, Global};
 use std::marker::Model;
 
 /// At each event that moves an activity, the plan of the activities is the model's plan of the book that holds them.
-#[tactic(auto, using(crate::proofs::Modelled::plans_as_the_model))]
+#[tactic(auto, using(crate::proofs::PlanLaws::plans_as_the_model))]
 pub fn plans_as_the_model()
     ensures { PlansAsTheModel }
 {}
 
 /// A request is refused as the model refuses it.
-#[tactic(auto, using(crate::proofs::Modelled::refuses_as_the_model))]
+#[tactic(auto, using(crate::proofs::PlanLaws::refuses_as_the_model))]
 pub fn refuses_as_the_model()
     ensures { RefusesAsTheModel }
 {}
 
 /// In the model, a request that is refused leaves the book as it is, and sends nothing.
-#[tactic(auto, using(crate::proofs::Modelled::leaves_the_book))]
+#[tactic(auto, using(crate::proofs::PlanLaws::leaves_the_book))]
 pub fn leaves_the_book()
     ensures { LeavesTheBook }
 {}

@@ -1,7 +1,7 @@
 //! What an activity does by itself: it expires, and it sends again (WS-Coordination 1.2, section 2.1; this project's
 //! profile).
 
-ghost use Rattle.std.specs.Prelude.{ℕ, List, ◌≡◌, ◌&&◌, ◌++◌, IfOk, OnOk, [], Some, None, map};
+ghost use Rattle.std.specs.Prelude.{ℕ, List, ◌≡◌, ◌&&◌, ◌++◌, IfOk, OnOk, Some, None, map};
 ghost use Rattle.at_base.specs.declared.outs.Out.TheVariants as outcome;
 ghost use Rattle.at_model.specs.Activities.{is_begun};
 ghost use Rattle.at_model.specs.Due.{has_come, is_quiet, is_some_post, before_active, activity_again, activity_due, activity_reached, completion_register_again};

@@ -12,7 +12,7 @@ ghost use Rattle.by_id.specs.declared.plan.Plan.TheVariants as plans;
 ghost use Rattle.by_id.specs.Plans.{decided};
 ghost use Rattle.completion_at.specs.Branches.{kept};
 ghost use Rattle.completion_at.specs.Names.{progress_of, refusal_of};
-ghost use Rattle.completion_at.specs.Planning.{nothing, no_room, unless, begun, nth_work, begin_asked, interpose_asked, asked_of};
+ghost use Rattle.completion_at.specs.ActivityPlans.{nothing, no_room, unless, begun, nth_work, begin_asked, interpose_asked, asked_of};
 
 use crate::activity::{Activity, Progress};
 use crate::posts::{push_completion, target_of};

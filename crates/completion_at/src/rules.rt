@@ -80,7 +80,7 @@ fn ended(
 }
 
 /// The activity ends, and is told how.
-#[tactic(auto, using(crate::proofs::Ending::nothing_more))]
+#[tactic(auto, using(crate::proofs::ListEnds::nothing_more))]
 pub fn told(
     alloc: Global,
     outs: OutList,
@@ -93,7 +93,7 @@ pub fn told(
 }
 
 /// Nothing happens to the activity.
-#[tactic(auto, using(crate::proofs::Ending::nothing_more))]
+#[tactic(auto, using(crate::proofs::ListEnds::nothing_more))]
 pub fn ignores(
     alloc: Global,
     outs: OutList,
@@ -287,7 +287,7 @@ fn registers(
 }
 
 /// An activity has its context: a begun one registers for Completion, and an interposed one is Active.
-#[tactic(auto, using(crate::proofs::Ending::nothing_more))]
+#[tactic(auto, using(crate::proofs::ListEnds::nothing_more))]
 fn with_context(
     alloc: Global,
     outs: OutList,
@@ -349,7 +349,7 @@ fn registered_at(activity: &Activity, coordinator: &Epr) -> Result<Activity, All
 }
 
 /// The activity is registered at this endpoint, where the message answers its Register.
-#[tactic(auto, using(crate::proofs::Ending::nothing_more))]
+#[tactic(auto, using(crate::proofs::ListEnds::nothing_more))]
 fn registers_at(
     alloc: Global,
     outs: OutList,

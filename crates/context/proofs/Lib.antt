@@ -1,3 +1,3 @@
 pub mod Numbers
 pub mod Order
-pub mod Returned
+pub mod BodyRoundtrip

@@ -11,7 +11,7 @@ use Rattle.std.proofs.lemmas.Bool.{le-leb, leb-true}
 use Rattle.std.proofs.lemmas.Str.Parse.{IsNumeralModel, not_in_digits, numerals_by_value, without_leading_plus_none}
 use Rattle.std.proofs.lemmas.Fmt.{decimal_is_IsNumeral, decimal_nonempty, digits_decimal}
 use Rattle.soap_profile.specs.Values.{is_white, trim, trim_end, trim_start}
-use Rattle.context.specs.Reading.{are_digits, digits_number, number_of}
+use Rattle.context.specs.Bodies.{are_digits, digits_number, number_of}
 
 own : IsNumeralModel (λ ds. all_ascii_digits ds ≡ true) (digits_value 10)
 own = numerals_by_value _ (search rules)

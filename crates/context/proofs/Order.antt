@@ -18,7 +18,7 @@ use Rattle.context.specs.declared.parameter.Parameter.{Parameter}
 use Rattle.context.specs.declared.parameter.Parameter.TheVariants.{Identifier, Expires, CoordinationType, RegistrationService, CurrentContext, CoordinationContext, ProtocolIdentifier, ParticipantProtocolService, CoordinatorProtocolService}
 use Rattle.context.specs.Order.{HaveSame, SayTheSame, context_children, create_children, create_response_children, is_one_of, register_children, register_response_children}
 use Rattle.context.specs.Parameters.{child_in, local_name}
-use Rattle.context.specs.Reading.{◌>>=◌, context_of, create_of, create_response_of, register_of, endpoint_in, expires_in, identifier, identifier_in, current_in, optional, readable, required, said_current, said_expires, text_in}
+use Rattle.context.specs.Bodies.{◌>>=◌, context_of, create_of, create_response_of, register_of, endpoint_in, expires_in, identifier, identifier_in, current_in, optional, readable, required, said_current, said_expires, text_in}
 
 -- how many have a name
 abbrev one_if : List ℕ → List ℕ → Tree → ℕ

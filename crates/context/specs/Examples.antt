@@ -2,10 +2,10 @@
 use Rattle.std.specs.Prelude.{ℕ, List, [], ◌∷◌, ◌≡◌, refl, Ok, Err, Some, None, codes}
 use Rattle.xml_profile.specs.declared.tree.Tree.{Tree}
 use Rattle.xml_profile.specs.Prefixes.{coordination}
-use Rattle.soap_profile.specs.Building.{children_of, element, qualified, text_children, unqualified}
+use Rattle.soap_profile.specs.BuiltElements.{children_of, element, qualified, text_children, unqualified}
 use Rattle.context.specs.declared.parameter.Parameter.TheVariants.{Identifier, Expires, CoordinationType, ParticipantProtocolService}
 use Rattle.context.specs.declared.parameter.ContextFault.TheVariants.{Parameters}
-use Rattle.context.specs.Reading.{create_of, expires_in, number_of, register_of}
+use Rattle.context.specs.Bodies.{create_of, expires_in, number_of, register_of}
 
 abbrev child : List ℕ → List ℕ → Tree
 child local text = element (qualified coordination local) (text_children text)

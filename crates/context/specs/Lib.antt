@@ -1,5 +1,5 @@
 pub mod Examples
 pub mod Order
 pub mod Parameters
-pub mod Reading
-pub mod Writing
+pub mod Bodies
+pub mod BodyTrees

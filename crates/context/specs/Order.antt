@@ -8,7 +8,7 @@ use Rattle.soap_profile.specs.Values.{elements, is_named}
 use Rattle.context.specs.declared.parameter.Parameter.{Parameter}
 use Rattle.context.specs.declared.parameter.Parameter.TheVariants.{Identifier, Expires, CoordinationType, RegistrationService, CurrentContext, CoordinationContext, ProtocolIdentifier, ParticipantProtocolService, CoordinatorProtocolService}
 use Rattle.context.specs.Parameters.{local_name}
-use Rattle.context.specs.Reading.{context_of, create_of, create_response_of, register_of, register_response_of}
+use Rattle.context.specs.Bodies.{context_of, create_of, create_response_of, register_of, register_response_of}
 
 -- section 2
 abbrev pub context_children : List Parameter

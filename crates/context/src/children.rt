@@ -4,7 +4,7 @@ ghost use Rattle.std.specs.Prelude.{◌≡◌};
 ghost use Rattle.std.specs.Option.{option_copied, option_map};
 ghost use Rattle.std.specs.Result.{result_map_both};
 ghost use Rattle.context.specs.Parameters.{child_in};
-ghost use Rattle.context.specs.Reading.{optional, required};
+ghost use Rattle.context.specs.Bodies.{optional, required};
 
 use crate::parameter::{ContextFault, Parameter};
 use soap_profile::elements::child;

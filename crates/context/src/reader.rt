@@ -1,7 +1,7 @@
 //! Bodies that are read (WS-Coordination 1.2, sections 2 and 3). The children stand in any order, others are skipped.
 
 ghost use Rattle.std.specs.Prelude.{◌≡◌};
-ghost use Rattle.context.specs.Reading.{Answers, context_of, create_of, create_response_of, current_in, endpoint_in, expires_in, identifier_in, number_of, register_of, register_response_of, text_in};
+ghost use Rattle.context.specs.Bodies.{Answers, context_of, create_of, create_response_of, current_in, endpoint_in, expires_in, identifier_in, number_of, register_of, register_response_of, text_in};
 
 use crate::children::{optional, required};
 use crate::parameter::{ContextFault, Parameter};

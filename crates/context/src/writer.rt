@@ -2,9 +2,9 @@
 
 ghost use Rattle.std.specs.Prelude.{◌≡◌, ◌++◌, IfOk, Ok, OnOk, Some};
 ghost use Rattle.addressing.specs.Endpoints.{epr_of};
-ghost use Rattle.addressing.specs.Writing.{IsLegible, epr_in};
-ghost use Rattle.context.specs.Reading.{context_of, create_of, create_response_of, register_of, register_response_of};
-ghost use Rattle.context.specs.Writing.{IsLegibleContext, IsLegibleCreate, IsLegibleRegister, IsNarrow, CurrentReturns, body_tree, context_in, context_tree, create_in, create_response_tree, create_tree, current_parameter, endpoint_parameter, expires_parameter, parameter_name, register_in, register_response_tree, register_tree, text_parameter};
+ghost use Rattle.addressing.specs.OutgoingHeaders.{IsLegible, epr_in};
+ghost use Rattle.context.specs.Bodies.{context_of, create_of, create_response_of, register_of, register_response_of};
+ghost use Rattle.context.specs.BodyTrees.{IsLegibleContext, IsLegibleCreate, IsLegibleRegister, IsNarrow, CurrentReturns, body_tree, context_in, context_tree, create_in, create_response_tree, create_tree, current_parameter, endpoint_parameter, expires_parameter, parameter_name, register_in, register_response_tree, register_tree, text_parameter};
 
 use crate::parameter::Parameter;
 use addressing::writer::{Endpoint, endpoint_tree};

@@ -1,1 +1,1 @@
-mod Modelled
+mod PlanLaws

@@ -1,6 +1,6 @@
-pub mod Creating
-pub mod Held
-pub mod Planning
-pub mod Recovering
-pub mod Registering
-pub mod Whole
+pub mod Creations
+pub mod Holdings
+pub mod TransactionPlans
+pub mod Recoveries
+pub mod Registrations
+pub mod BookPlans

@@ -9,7 +9,7 @@ ghost use Rattle.at_model.specs.Create.{deadline_of, identifier_of, new_root, ex
 ghost use Rattle.at_model.specs.Posts.{accepted, replied};
 ghost use Rattle.by_id.specs.Plans.{added};
 ghost use Rattle.by_id.specs.declared.plan.Plan.TheVariants as plans;
-ghost use Rattle.coordinator_at.specs.Creating.{created};
+ghost use Rattle.coordinator_at.specs.Creations.{created};
 
 use at_base::epr::{Epr, Reply};
 use at_base::event::{Arrived, Moment};

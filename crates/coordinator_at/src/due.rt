@@ -6,7 +6,7 @@ ghost use Rattle.at_model.specs.Abort.{abort, Alone};
 ghost use Rattle.at_model.specs.Due.{seat_again, seats_again, unanswered_seat, register_again_at, link_again, links_again, transaction_again, transaction_due, transaction_reached};
 ghost use Rattle.at_model.specs.Moves.{begin, posts, stays};
 ghost use Rattle.at_model.specs.Seats.{sent_now};
-ghost use Rattle.by_id.specs.Decided.{decision_of};
+ghost use Rattle.by_id.specs.Decisions.{decision_of};
 ghost use Rattle.transaction_at.specs.Causes.{reached_of};
 
 use at_base::event::Moment;

@@ -4,7 +4,7 @@
 
 pub mod create;
 pub mod due;
-mod held;
+mod holdings;
 mod recover;
 pub mod register;
 pub mod transactions;

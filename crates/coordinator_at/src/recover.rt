@@ -1,8 +1,8 @@
 //! Transactions that a node's records keep alive.
 
-ghost use Rattle.std.specs.Prelude.{◌≡◌, ◌∷◌, ◌++◌, IfOk, OnOk, [], map, option_copied};
-ghost use Rattle.at_model.specs.Recover.{is_sub_committed, recovered_decided, recovered_seat, recovered_superior, recovered_transaction, recovered_voted};
-ghost use Rattle.coordinator_at.specs.Recovering.{commits, promised, transactions_in};
+ghost use Rattle.std.specs.Prelude.{◌≡◌, ◌++◌, IfOk, OnOk, map, option_copied};
+ghost use Rattle.at_model.specs.Recovery.{recovered_decided, recovered_seat, recovered_superior, recovered_transaction, recovered_voted};
+ghost use Rattle.coordinator_at.specs.Recoveries.{commits, promised, transactions_in};
 ghost use Rattle.transaction_at.specs.PhaseNames.{phase_of};
 
 use crate::create::identifier_of;

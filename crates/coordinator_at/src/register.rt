@@ -7,7 +7,7 @@ ghost use Rattle.at_model.specs.Posts.{invalid_protocol, invalid_parameters, can
 ghost use Rattle.at_model.specs.Register.{protocol_named, seat_endpoint, completion_endpoint, seat_for, accepts, may_complete, may_register, registered_reply, is_late, new_seat, late_prepare, with_seat, accept_seat, accept, refuse_register, register_new, register_again, held_seat, on_register, register_unknown};
 ghost use Rattle.at_tables.specs.Names.{is_kind};
 ghost use Rattle.at_tables.specs.declared.cells.State.TheVariants as states;
-ghost use Rattle.coordinator_at.specs.Registering.{given_anew, registered};
+ghost use Rattle.coordinator_at.specs.Registrations.{given_anew, registered};
 ghost use Rattle.transaction_at.specs.PhaseNames.{phase_of};
 
 use at_base::epr::Epr;

@@ -5,16 +5,16 @@ ghost use Rattle.at_model.specs.Book.{find_by, transaction_id};
 ghost use Rattle.at_model.specs.Due.{transaction_due};
 ghost use Rattle.at_model.specs.Step.{find_seat, is_reached};
 ghost use Rattle.at_tables.specs.Names.{is_kind};
-ghost use Rattle.by_id.specs.Decided.{decision_of};
+ghost use Rattle.by_id.specs.Decisions.{decision_of};
 ghost use Rattle.by_id.specs.Lists.{altered, next_due};
 ghost use Rattle.by_id.specs.Plans.{branch_of};
-ghost use Rattle.coordinator_at.specs.Held.{transactions_held};
-ghost use Rattle.coordinator_at.specs.Whole.{PlansAsTheModel};
-ghost use Rattle.coordinator_at.specs.Planning.{nothing, moved, creation_arrived, register_at, registration_arrived, completion_arrived, completion_at, seat_arrived, seat_at, link_arrived, link_at, arrived_at, transaction_asked, item_asked, transactions_plan, roots_lost, subordinates_lost, transactions_lost, has_initiator, has_seat, has_superior};
+ghost use Rattle.coordinator_at.specs.Holdings.{transactions_held};
+ghost use Rattle.coordinator_at.specs.BookPlans.{PlansAsTheModel};
+ghost use Rattle.coordinator_at.specs.TransactionPlans.{nothing, moved, creation_arrived, register_at, registration_arrived, completion_arrived, completion_at, seat_arrived, seat_at, link_arrived, link_at, arrived_at, transaction_asked, item_asked, transactions_plan, roots_lost, subordinates_lost, transactions_lost, has_initiator, has_seat, has_superior};
 
 use crate::create::on_create;
 use crate::due::on_due;
-use crate::held::all_held;
+use crate::holdings::all_held;
 use crate::register::on_register;
 use at_base::event::{Arrived, Event, Item, Moment};
 use at_base::id::Id;
@@ -39,7 +39,7 @@ use transaction_at::transaction::{Enlistment, Transaction};
 
 /// At each event that moves or makes a transaction, the plan of the transactions is the model's plan of the book that
 /// holds them.
-#[tactic(auto, using(crate::proofs::Modelled::plans_as_the_model))]
+#[tactic(auto, using(crate::proofs::PlanLaws::plans_as_the_model))]
 pub fn plans_as_the_model()
     ensures { PlansAsTheModel }
 {}

@@ -6,22 +6,22 @@ use Rattle.at_base.specs.Numbers.{Numbers}
 use Rattle.at_base.specs.WellFormed.{IsWellFormed}
 use Rattle.at_base.specs.declared.record.Record.{Record}
 use Rattle.at_base.specs.declared.record.Record.TheVariants as records
-use Rattle.at_model.specs.Recover.{live}
-use Rattle.model_laws.specs.Compacted.{record_id}
-use Rattle.model_laws.proofs.Living.{all_live}
+use Rattle.at_model.specs.Recovery.{live}
+use Rattle.model_laws.specs.Compactions.{record_id}
+use Rattle.model_laws.proofs.DrawnIds.{all_live}
 use Rattle.journal_at.specs.Format.{AreBodies, AreUnmarked}
-use Rattle.journal_at.specs.Compacting.{text_in, texts_in}
+use Rattle.journal_at.specs.Compactions.{text_in, texts_in}
 use Rattle.journal_at.specs.declared.body.Body.{Body}
 use Rattle.journal_at.specs.declared.journal.Compact.{Compact}
 use Rattle.journal_at.specs.declared.journal.Journal.{Journal}
 use Rattle.site_model.specs.Told.{Told}
 use Rattle.journal_at.specs.declared.version.Version.TheVariants.{Two}
 use Rattle.record_bytes.specs.Versions.{AreBodies as RecordBodies, IsRecord}
-use Rattle.decision_log.specs.Folding.{AreRecords}
-use Rattle.decision_log.specs.Keeping.{IsKept, Known}
-use Rattle.decision_log.specs.Shrinking.{Adds, AreTexts, IsCompacted, shrunk, start_of, texts_of}
+use Rattle.decision_log.specs.Folds.{AreRecords}
+use Rattle.decision_log.specs.KeptRecords.{IsKept, Known}
+use Rattle.decision_log.specs.ShrunkJournals.{Adds, AreTexts, IsCompacted, shrunk, start_of, texts_of}
 use Rattle.decision_log.proofs.Order.{all_in_order}
-use Rattle.decision_log.proofs.Taking.{records_push}
+use Rattle.decision_log.proofs.FoldedBodies.{records_push}
 
 pub one_more : (r : Record) (old new : List Body) (b : Body) → IsRecord Two r (text_in b) → new ≡ old ++ b ∷ [] → Adds (r ∷ []) old new
 one_more r old new b h e = record {

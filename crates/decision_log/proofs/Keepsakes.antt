@@ -5,10 +5,10 @@ use Rattle.at_base.specs.WellFormed.{IsWellFormed}
 use Rattle.at_base.specs.declared.record.Record.{Record}
 use Rattle.journal_at.specs.declared.version.Version.{Version}
 use Rattle.journal_at.specs.declared.version.Version.TheVariants.{One, Two}
-use Rattle.decision_log.specs.Folding.{AreRecords, IsFolded}
-use Rattle.decision_log.specs.Keeping.{IsKept, KeepsOn, Known, after}
-use Rattle.decision_log.proofs.Grown.{grows_by_one}
-use Rattle.decision_log.proofs.Moving.{moved, moved_formed, moves}
+use Rattle.decision_log.specs.Folds.{AreRecords, IsFolded}
+use Rattle.decision_log.specs.KeptRecords.{IsKept, KeepsOn, Known, after}
+use Rattle.decision_log.proofs.RecordFolds.{grows_by_one}
+use Rattle.decision_log.proofs.Migrations.{moved, moved_formed, moves}
 
 formed_push : (rs : List Record) (r : Record) → AllByRecursion IsWellFormed rs → IsWellFormed r → AllByRecursion IsWellFormed (rs ++ r ∷ [])
 formed_push [] r h k = (k, tt)

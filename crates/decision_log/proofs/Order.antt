@@ -3,10 +3,10 @@ use Rattle.std.proofs.Common.{List, [], ◌∷◌, ◌≡◌, ◌++◌, ◌||◌
 use Rattle.std.specs.List.{AllByRecursion, filter, list_any}
 use Rattle.at_base.specs.Numbers.{Numbers}
 use Rattle.at_model.specs.Book.{is_id}
-use Rattle.at_model.specs.Recover.{in_order, insert_by, is_before}
-use Rattle.model_laws.proofs.Ordering.{before_further, one_before, other_id}
-use Rattle.model_laws.proofs.Recovering.{same_id, self_id}
-use Rattle.decision_log.specs.Keeping.{insert_last}
+use Rattle.at_model.specs.Recovery.{in_order, insert_by, is_before}
+use Rattle.model_laws.proofs.Order.{before_further, one_before, other_id}
+use Rattle.model_laws.proofs.RecoveryLaws.{same_id, self_id}
+use Rattle.decision_log.specs.KeptRecords.{insert_last}
 
 -- ids
 pub not_true : (b : Bool) → (b ≡ true → ⊥) → b ≡ false

@@ -1,8 +1,8 @@
 pub mod Tokens
-pub mod Keeping
-pub mod Held
+pub mod KeptRecords
+pub mod KeptState
 pub mod Places
-pub mod Recording
-pub mod Sending
-pub mod Folding
-pub mod Shrinking
+pub mod AppendedRecords
+pub mod OutConditions
+pub mod Folds
+pub mod ShrunkJournals

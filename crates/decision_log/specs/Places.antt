@@ -1,7 +1,7 @@
 -- Where one more stands.
 use Rattle.std.specs.Prelude.{ℕ, List, [], ◌∷◌, ◌+◌, if◌then◌else◌}
 use Rattle.at_base.specs.Numbers.{Numbers}
-use Rattle.at_model.specs.Recover.{is_before}
+use Rattle.at_model.specs.Recovery.{is_before}
 use Rattle.decision_log.specs.Tokens.{Token}
 
 abbrev pub token_id : Token → Numbers

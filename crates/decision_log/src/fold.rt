@@ -1,12 +1,12 @@
 //! A journal that was read.
 
 ghost use Rattle.std.specs.Prelude.{◌≡◌, ◌++◌, IfOk, OnOk};
-ghost use Rattle.decision_log.specs.Folding.{Finishes, Folds, FoldsAll, TakesOne, decided_after, newly_decided, still_decided};
-ghost use Rattle.decision_log.specs.Held.{known};
-ghost use Rattle.decision_log.specs.Keeping.{GrowsByOne, IsKept, KeepsOn, after};
+ghost use Rattle.decision_log.specs.Folds.{Finishes, Folds, FoldsAll, TakesOne, decided_after, newly_decided, still_decided};
+ghost use Rattle.decision_log.specs.KeptState.{known};
+ghost use Rattle.decision_log.specs.KeptRecords.{GrowsByOne, IsKept, KeepsOn, after};
 ghost use Rattle.decision_log.specs.declared.fold.FoldFault.TheVariants.{NoMemory};
 
-use crate::keeping::ends_transaction;
+use crate::further_record::ends_transaction;
 use crate::kept::Kept;
 use at_base::id::Id;
 use at_base::record::Record;
@@ -100,7 +100,7 @@ impl Folding {
 }
 
 /// All bodies.
-#[tactic(auto, using(crate::proofs::Taking::none_taken, crate::proofs::Taking::one_more_taken, crate::proofs::Taking::all_taken, crate::proofs::Taking::refused))]
+#[tactic(auto, using(crate::proofs::FoldedBodies::none_taken, crate::proofs::FoldedBodies::one_more_taken, crate::proofs::FoldedBodies::all_taken, crate::proofs::FoldedBodies::refused))]
 fn fold_all(alloc: Global, version: Version, items: &[Placed]) -> Result<Folding, FoldFault>
     ensures { FoldsAll result version items.now }
 {
@@ -136,7 +136,7 @@ fn finish(alloc: Global, version: Version, folding: Folding) -> Result<Kept, All
 /// What is kept of a journal that was read.
 ///
 /// A body that is no record of the journal's version is refused.
-#[tactic(auto, using(crate::proofs::Taking::finished, crate::proofs::Taking::bad, crate::proofs::Keepsakes::is_kept))]
+#[tactic(auto, using(crate::proofs::FoldedBodies::finished, crate::proofs::FoldedBodies::bad, crate::proofs::Keepsakes::is_kept))]
 pub fn fold(alloc: Global, records: &Records) -> Result<Kept, FoldFault>
     ensures folds { Folds result records.now }
     ensures kept { IfOk result (λ k. IsKept (known k)) }

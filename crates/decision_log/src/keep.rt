@@ -2,10 +2,10 @@
 
 ghost use Rattle.std.specs.Prelude.{◌≡◌, Err, Some, true, IfOk, IfSome};
 ghost use Rattle.at_base.specs.WellFormed.{IsWellFormed};
-ghost use Rattle.decision_log.specs.Recording.{IsAppended, ending};
+ghost use Rattle.decision_log.specs.AppendedRecords.{IsAppended, ending};
 ghost use Rattle.decision_log.specs.Tokens.{token_of};
 ghost use Rattle.decision_log.specs.declared.keep.KeepFault.TheVariants.{NoMemory};
-ghost use Rattle.journal_at.specs.Standing.{Counted};
+ghost use Rattle.journal_at.specs.StandingBodies.{Counted};
 ghost use Rattle.journal_at.specs.declared.version.Version.TheVariants.{Two};
 ghost use Rattle.record_bytes.specs.Bytes.{bytes_of};
 ghost use Rattle.record_bytes.specs.Versions.{IsRecord};
@@ -59,7 +59,7 @@ fn append<S: Site>(journal: &mut Journal, site: &mut S, entry: &Record, body: &[
 ///
 /// Memory is taken before the first call of the device, and where there is none, nothing is done. Nothing is done either once
 /// the journal was unsure.
-#[tactic(auto, using(crate::proofs::Following::of_its_bytes))]
+#[tactic(auto, using(crate::proofs::NextRecords::of_its_bytes))]
 pub fn keep<S: Site>(
     alloc: Global,
     journal: &mut Journal,

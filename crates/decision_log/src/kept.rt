@@ -1,7 +1,7 @@
 //! What a node keeps of its journal.
 
 ghost use Rattle.std.specs.Prelude.{◌≡◌};
-ghost use Rattle.decision_log.specs.Keeping.{tokens_of};
+ghost use Rattle.decision_log.specs.KeptRecords.{tokens_of};
 
 use crate::token::Durable;
 use at_base::record::Record;

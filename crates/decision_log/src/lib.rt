@@ -2,10 +2,10 @@
 #![tactic(auto)]
 
 pub mod fold;
-pub mod holding;
+pub mod further_record;
 pub mod keep;
-pub mod keeping;
 pub mod kept;
+pub mod kept_plan;
 pub mod ready;
 pub mod shrink;
 pub mod token;

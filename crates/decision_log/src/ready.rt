@@ -1,12 +1,12 @@
 //! What may be sent.
 
 ghost use Rattle.std.specs.Prelude.{◌≡◌, true, false};
-ghost use Rattle.decision_log.specs.Held.{known};
-ghost use Rattle.decision_log.specs.Sending.{IsLeaveOf, IsTold, Matches, completion_leave, if_durable, leave_of, notice_leave, own_leave, participant_leave, seat_leave, stranger_leave};
+ghost use Rattle.decision_log.specs.KeptState.{known};
+ghost use Rattle.decision_log.specs.OutConditions.{IsLeaveOf, IsTold, Matches, completion_leave, if_durable, leave_of, notice_leave, own_leave, participant_leave, seat_leave, stranger_leave};
 ghost use Rattle.decision_log.specs.declared.ready.Leave.TheVariants.{Echo, Free, Record};
 
-use crate::holding::is_of;
 use crate::kept::Kept;
+use crate::kept_plan::is_of;
 use crate::token::{Durable, What};
 use at_base::id::Id;
 use at_base::message::Message;
@@ -135,7 +135,7 @@ pub fn leave_of(out: &Out) -> Leave
 }
 
 /// Whether the token is of a record that lets the out leave.
-#[tactic(auto, using(crate::proofs::Leaving::of_one, crate::proofs::Leaving::of_other, crate::proofs::Leaving::of_neither))]
+#[tactic(auto, using(crate::proofs::TokenKinds::of_one, crate::proofs::TokenKinds::of_other, crate::proofs::TokenKinds::of_neither))]
 fn lets(id: Id, one: What, other: What, token: &Durable) -> bool
     ensures yes { result ≡ true → IsLeaveOf (Record id one other) token.now }
     ensures no { result ≡ false → IsLeaveOf (Record id one other) token.now → ⊥ }

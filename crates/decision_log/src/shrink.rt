@@ -1,16 +1,16 @@
 //! A journal without its dead records.
 
-ghost use Rattle.std.specs.Prelude.{ℕ, List, ◌≡◌, ◌<◌, ◌++◌, ◌∷◌, [], Ok, true, IfOk, OnOk, IsErr, map};
+ghost use Rattle.std.specs.Prelude.{◌≡◌, ◌<◌, ◌++◌, ◌∷◌, [], Ok, true, IfOk, OnOk, IsErr, map};
 ghost use Rattle.std.specs.List.{AllByRecursion};
 ghost use Rattle.at_base.specs.WellFormed.{IsWellFormed};
 ghost use Rattle.at_base.specs.declared.record.Record.TheVariants as records;
-ghost use Rattle.decision_log.specs.Folding.{AreRecords};
-ghost use Rattle.decision_log.specs.Held.{known};
-ghost use Rattle.decision_log.specs.Keeping.{IsKept};
-ghost use Rattle.decision_log.specs.Shrinking.{Adds, AreTexts, IsCompacted, ShrinksTheSame, shrunk, start_of, texts_of};
-ghost use Rattle.journal_at.specs.Compacting.{text_in, texts_in};
+ghost use Rattle.decision_log.specs.Folds.{AreRecords};
+ghost use Rattle.decision_log.specs.KeptState.{known};
+ghost use Rattle.decision_log.specs.KeptRecords.{IsKept};
+ghost use Rattle.decision_log.specs.ShrunkJournals.{Adds, AreTexts, IsCompacted, ShrinksTheSame, shrunk, start_of, texts_of};
+ghost use Rattle.journal_at.specs.Compactions.{text_in, texts_in};
 ghost use Rattle.journal_at.specs.Format.{AreBodies, AreUnmarked};
-ghost use Rattle.journal_at.specs.Standing.{Counted};
+ghost use Rattle.journal_at.specs.StandingBodies.{Counted};
 ghost use Rattle.journal_at.specs.declared.version.Version.TheVariants.{Two};
 ghost use Rattle.record_bytes.specs.Versions.{IsRecord};
 ghost use Rattle.at_base.specs.declared.record.Record.{Record};

@@ -41,7 +41,7 @@ impl Model for Durable {
 
 impl Durable {
     /// The record's id.
-    #[tactic(auto, using(crate::proofs::Order::in_order_left, crate::proofs::Grown::grows_by_one))]
+    #[tactic(auto, using(crate::proofs::Order::in_order_left, crate::proofs::RecordFolds::grows_by_one))]
     pub fn id(&self) -> Id
         ensures { result ≡ self.now.id }
     {

@@ -1,5 +1,5 @@
 -- A RegisterResponse names the seat, or the completion seat, at which who gets it was accepted.
-use Rattle.std.specs.Prelude.{ℕ, Some, Bool, ◌^◌, ◌≡◌, ◌<◌, refl}
+use Rattle.std.specs.Prelude.{ℕ, Some, Bool, ◌≡◌, refl}
 use Rattle.std.specs.List.{AllByRecursion}
 use Rattle.std.proofs.Common.{sym, subst, ap, ◌∙◌}
 use Rattle.at_base.specs.declared.epr.Epr.{Epr}
@@ -18,19 +18,19 @@ use Rattle.at_model.specs.Seats.{seat_target}
 use Rattle.at_model.specs.Step.{Outcome, moment_of, plan, step}
 use Rattle.at_model.specs.World.{Node, Posted, World, Hosts, HaveOwnAddresses}
 use Rattle.model_laws.specs.Agreement.{IsIn}
-use Rattle.model_laws.specs.Drawn.{with_entry}
-use Rattle.model_laws.specs.Grows.{Grows}
-use Rattle.model_laws.specs.Reached.{Reached, counts}
-use Rattle.model_laws.proofs.Running.{put_this}
-use Rattle.agreement.specs.Done.{standing}
-use Rattle.enlistments.specs.Enrolling.{Enrolls, has_completion, has_seat, refuses, takes_completion, takes_seat}
-use Rattle.enlistments.specs.Knowing.{AnswersName, NamesSeatOf}
+use Rattle.model_laws.specs.DrawnIds.{with_entry}
+use Rattle.model_laws.specs.Growth.{Grows}
+use Rattle.model_laws.specs.ReachedWorlds.{Reached, counts}
+use Rattle.model_laws.proofs.NodeLives.{put_this}
+use Rattle.agreement.specs.StepDeeds.{standing}
+use Rattle.enlistments.specs.Registrations.{Enrolls, has_completion, has_seat, refuses, takes_completion, takes_seat}
+use Rattle.enlistments.specs.KnownCoordinators.{AnswersName, NamesSeatOf}
 use Rattle.enlistments.specs.Leads.{Completes, Enlists, LeadsTo}
 use Rattle.enlistments.specs.Moves.{Registered}
-use Rattle.enlistments.specs.Telling.{IsReply, Responds, names_completion, names_seat}
-use Rattle.enlistments.proofs.Answering.{steps_tell}
-use Rattle.enlistments.proofs.Arriving.{Stepping, step_ready, then_reached, up_known}
-use Rattle.enlistments.proofs.Lasting.{Held, completes_on, completion_completes, enlists_on, put_stands, seat_enlists}
+use Rattle.enlistments.specs.NoticeOrigins.{IsReply, Responds, names_completion, names_seat}
+use Rattle.enlistments.proofs.StepNotices.{steps_tell}
+use Rattle.enlistments.proofs.Arrivals.{Stepping, step_ready, then_reached, up_known}
+use Rattle.enlistments.proofs.LastingLeads.{Held, completes_on, completion_completes, enlists_on, put_stands, seat_enlists}
 use Rattle.enlistments.proofs.Posts.{PostLaw, one_has, posts_have}
 use Rattle.enlistments.proofs.Registers.{IsRegisterOf, for_completion, for_kind, register_of}
 

@@ -1,5 +1,5 @@
 -- The coordinators that items know, and that records name, are the seats at which the items were accepted.
-use Rattle.std.specs.Prelude.{ℕ, List, Option, Some, None, Bool, true, false, option_map, ◌^◌, ◌≡◌, ◌<◌}
+use Rattle.std.specs.Prelude.{ℕ, List, Option, Some, None, Bool, true, false, option_map, ◌≡◌}
 use Rattle.std.specs.List.{AllByRecursion}
 use Rattle.std.proofs.Common.{inl, inr, sym, subst, ◌∙◌}
 use Rattle.at_base.specs.Numbers.{Numbers}
@@ -18,25 +18,25 @@ use Rattle.at_base.specs.declared.record.Record.TheVariants as records
 use Rattle.at_base.specs.declared.record.Seated.{Seated}
 use Rattle.at_model.specs.Book.{Activity, Book, Enlistment, Leaf, Transaction}
 use Rattle.at_model.specs.Moves.{Change}
-use Rattle.at_model.specs.Recover.{recovered_voted}
+use Rattle.at_model.specs.Recovery.{recovered_voted}
 use Rattle.at_model.specs.Register.{Registration}
 use Rattle.at_model.specs.Seats.{prepared}
 use Rattle.at_model.specs.Step.{moment_of}
 use Rattle.at_model.specs.World.{Node, World, nth, Hosts, HaveOwnAddresses}
-use Rattle.model_laws.specs.Grows.{Grows}
-use Rattle.model_laws.specs.Reached.{Reached, counts}
-use Rattle.model_laws.proofs.Deciding.{IfThere}
-use Rattle.model_laws.proofs.Lasting.{grows_counts}
+use Rattle.model_laws.specs.Growth.{Grows}
+use Rattle.model_laws.specs.ReachedWorlds.{Reached, counts}
+use Rattle.model_laws.proofs.DecisionLaws.{IfThere}
+use Rattle.model_laws.proofs.Growth.{grows_counts}
 use Rattle.agreement.specs.ActivityDeeds.{ActivityDeed, ActivityIdles, asks, asks_again, created, idles as activity_idles, interposed, misled as activity_misled, registered as activity_registered, registers_again as activity_registers_again, rests as activity_rests, tells, works}
 use Rattle.agreement.specs.Deeds.{Deed, How, IsSameIfLeft, KeepsLink, KeepsLinksIfLeft, coordinator_at, recorded, superior_at}
 use Rattle.agreement.specs.LeafDeeds.{LeafDeed, LeafIdles, aborts, commits, dropped, for_durable, idles, leaves, prepares, registered, registers_again, rests, rolls_back, votes_again}
-use Rattle.enlistments.specs.Enrolling.{Enrolls, has_completion, has_seat, refuses, takes_completion, takes_seat}
-use Rattle.enlistments.specs.Knowing.{ActivityKnows, BookKnows, LeafKnows, NamesSeatOf, RecordKnows, TransactionKnows}
+use Rattle.enlistments.specs.Registrations.{Enrolls, has_completion, has_seat, refuses, takes_completion, takes_seat}
+use Rattle.enlistments.specs.KnownCoordinators.{ActivityKnows, BookKnows, LeafKnows, NamesSeatOf, RecordKnows, TransactionKnows}
 use Rattle.enlistments.specs.Leads.{CompletesIfKnown, Enlists, EnlistsIfKnown}
 use Rattle.enlistments.proofs.Answers.{answer_names, names_on}
-use Rattle.enlistments.proofs.Arriving.{HasCome, Stepping, has_come}
-use Rattle.enlistments.proofs.Fresh.{activity_fresh, leaf_fresh, made_fresh}
-use Rattle.enlistments.proofs.Lasting.{enlists_on, if_completes_on, if_enlists_on}
+use Rattle.enlistments.proofs.Arrivals.{HasCome, Stepping, has_come}
+use Rattle.enlistments.proofs.NewItems.{activity_fresh, leaf_fresh, made_fresh}
+use Rattle.enlistments.proofs.LastingLeads.{enlists_on, if_completes_on, if_enlists_on}
 use Rattle.enlistments.proofs.Nodes.{BookHas, NodeHas, NodesLaw, books_have, nodes_have}
 
 -- a RegisterResponse that came to an item names its seat

@@ -1,6 +1,6 @@
 -- A law of the items of books and of records, of which each holds for good: what a step leaves, makes and records has it,
 -- and what a start recovers.
-use Rattle.std.specs.Prelude.{ℕ, List, [], ◌∷◌, ◌++◌, Option, Some, None, Bool, true, false, ◌+◌, ◌^◌, ◌≡◌, ◌<◌, refl}
+use Rattle.std.specs.Prelude.{ℕ, List, [], ◌∷◌, ◌++◌, Option, Some, None, Bool, true, false, ◌+◌, ◌≡◌, refl}
 use Rattle.std.specs.List.{list_any, AllByRecursion}
 use Rattle.std.proofs.Common.{sym, subst, ap, ◌∙◌}
 use Rattle.at_base.specs.Numbers.{Numbers}
@@ -10,23 +10,23 @@ use Rattle.at_base.specs.declared.record.Record.{Record}
 use Rattle.at_base.specs.declared.record.Record.TheVariants as records
 use Rattle.at_base.specs.declared.record.Seated.{Seated}
 use Rattle.at_model.specs.Book.{Activity, Book, Leaf, Transaction, activity_id, leaf_id, transaction_id}
-use Rattle.at_model.specs.Recover.{is_sub_committed, last_incarnation, leaves_of, live, recover, recovered_decided, recovered_leaf, recovered_voted, transactions_of}
+use Rattle.at_model.specs.Recovery.{is_sub_committed, last_incarnation, leaves_of, live, recover, recovered_decided, recovered_leaf, recovered_voted, transactions_of}
 use Rattle.at_model.specs.Step.{plan, step}
 use Rattle.at_model.specs.World.{Node, World, lost_in, nth, opening, put_book, put_nth, started, up_after, with_post, Hosts, HaveOwnAddresses}
-use Rattle.model_laws.specs.Drawn.{restarted, with_entry}
-use Rattle.model_laws.specs.Grows.{Grows}
-use Rattle.model_laws.specs.Reached.{Reached, counts}
-use Rattle.model_laws.proofs.Deciding.{IfThere, all_find, all_join, all_more}
-use Rattle.model_laws.proofs.Holding.{Law, holds}
-use Rattle.model_laws.proofs.Lasting.{grows_counts, grows_falls, grows_posts, grows_rises, grows_waits}
-use Rattle.model_laws.proofs.Living.{all_in_order, all_live}
+use Rattle.model_laws.specs.DrawnIds.{restarted, with_entry}
+use Rattle.model_laws.specs.Growth.{Grows}
+use Rattle.model_laws.specs.ReachedWorlds.{Reached, counts}
+use Rattle.model_laws.proofs.DecisionLaws.{IfThere, all_find, all_join, all_more}
+use Rattle.model_laws.proofs.WorldInvariants.{Law, holds}
+use Rattle.model_laws.proofs.Growth.{grows_counts, grows_falls, grows_posts, grows_rises, grows_waits}
+use Rattle.model_laws.proofs.DrawnIds.{all_in_order, all_live}
 use Rattle.model_laws.proofs.Nodes.{each_put}
-use Rattle.model_laws.proofs.Running.{opening_node}
-use Rattle.agreement.specs.Done.{standing}
+use Rattle.model_laws.proofs.NodeLives.{opening_node}
+use Rattle.agreement.specs.StepDeeds.{standing}
 use Rattle.enlistments.specs.Moves.{ActivityDid, ActivityMade, LeafDid, LeafMade, Moved, Registered, TransactionDid, TransactionMade}
-use Rattle.enlistments.proofs.After.{activities_after, entry_of, leaves_after, records_after, transactions_after}
-use Rattle.enlistments.proofs.Arriving.{Stepping, out_unit, step_ready}
-use Rattle.enlistments.proofs.Moving.{step_moves}
+use Rattle.enlistments.proofs.StepItems.{activities_after, entry_of, leaves_after, records_after, transactions_after}
+use Rattle.enlistments.proofs.Arrivals.{Stepping, out_unit, step_ready}
+use Rattle.enlistments.proofs.StepMoves.{step_moves}
 
 pub record NodesLaw (hosts : Hosts) : Type 1 where
   pub OfTransaction : World → ℕ → Transaction → Type 0

@@ -10,7 +10,7 @@ use Rattle.at_base.specs.declared.target.Target.{Target}
 use Rattle.at_base.specs.declared.target.Target.TheVariants as targets
 use Rattle.at_model.specs.Addresses.{after_prefix, behind, digits_value, id_of, number_of, or_else, seat_of, slash, split_at, target_of}
 use Rattle.at_model.specs.World.{target_at}
-use Rattle.model_laws.proofs.Deciding.{IfThere}
+use Rattle.model_laws.proofs.DecisionLaws.{IfThere}
 use Rattle.agreement.specs.Places.{HasPath}
 
 or_there : {A : Type 0} (P : A → Type 0) (a b : Option A) → IfThere P a → IfThere P b → IfThere P (or_else a b)

@@ -20,25 +20,25 @@ use Rattle.at_tables.specs.declared.cells.State.TheVariants as states
 use Rattle.at_tables.specs.Names.{is_kind, is_state}
 use Rattle.at_model.specs.Book.{Book, Enlistment, Leaf, Transaction, next_id}
 use Rattle.at_model.specs.Moves.{Change}
-use Rattle.at_model.specs.Recover.{recovered_seat, recovered_voted}
+use Rattle.at_model.specs.Recovery.{recovered_seat, recovered_voted}
 use Rattle.at_model.specs.Register.{accepts, may_complete, new_seat}
 use Rattle.at_model.specs.Seats.{is_prepared_durable, prepared, seated}
 use Rattle.at_model.specs.Step.{moment_of, plan, step}
 use Rattle.at_model.specs.World.{Node, World, nth, Hosts, HaveOwnAddresses}
-use Rattle.model_laws.specs.Behind.{Accepted as Seating, accepted_as}
-use Rattle.model_laws.specs.Reached.{Reached}
-use Rattle.model_laws.proofs.Deciding.{IfThere, all_join}
+use Rattle.model_laws.specs.PhaseAnswers.{Accepted as Seating, accepted_as}
+use Rattle.model_laws.specs.ReachedWorlds.{Reached}
+use Rattle.model_laws.proofs.DecisionLaws.{IfThere, all_join}
 use Rattle.agreement.specs.Deeds.{AreCounted, AreSeatsAfter, AreSeatsIfLeft, Deed, How, IsSameIfLeft, recorded, superior_at}
-use Rattle.agreement.specs.Done.{standing}
+use Rattle.agreement.specs.StepDeeds.{standing}
 use Rattle.agreement.specs.LeafDeeds.{LeafDeed, LeafIdles, aborts, commits, dropped, for_durable, idles, leaves, prepares, registered, registers_again, rests, rolls_back, votes_again}
-use Rattle.agreement.proofs.Registered.{next_small}
+use Rattle.agreement.proofs.Registers.{next_small}
 use Rattle.agreement.proofs.SeatedNames.{named_as}
 use Rattle.agreement.proofs.Seats.{deeds_move_seats}
-use Rattle.enlistments.specs.Enrolling.{Enrolls, has_completion, has_seat, refuses, takes_completion, takes_seat}
+use Rattle.enlistments.specs.Registrations.{Enrolls, has_completion, has_seat, refuses, takes_completion, takes_seat}
 use Rattle.enlistments.specs.Leads.{IsOfKind}
 use Rattle.enlistments.specs.Moves.{Registered}
-use Rattle.enlistments.proofs.Arriving.{Stepping, up_known}
-use Rattle.enlistments.proofs.Fresh.{IsFresh, leaf_fresh, made_fresh}
+use Rattle.enlistments.proofs.Arrivals.{Stepping, up_known}
+use Rattle.enlistments.proofs.NewItems.{IsFresh, leaf_fresh, made_fresh}
 use Rattle.enlistments.proofs.Nodes.{NodesLaw, books_have}
 use Rattle.enlistments.proofs.Registers.{IsRegisterOf, for_kind, register_of}
 

@@ -1,5 +1,5 @@
 -- A law of posted messages, of which each holds for good: a step has to show it of its own posts.
-use Rattle.std.specs.Prelude.{ℕ, List, [], ◌∷◌, ◌++◌, Option, None, Bool, ◌+◌, ◌^◌, ◌≡◌, ◌<◌, refl}
+use Rattle.std.specs.Prelude.{ℕ, List, [], ◌∷◌, ◌++◌, Option, None, Bool, ◌+◌, ◌≡◌, refl}
 use Rattle.std.specs.List.{AllByRecursion}
 use Rattle.std.proofs.Common.{inl, inr, sym, subst, ap}
 use Rattle.at_base.specs.declared.event.Event.{Event}
@@ -7,17 +7,17 @@ use Rattle.at_base.specs.declared.outs.Out.{Out}
 use Rattle.at_base.specs.declared.outs.Out.TheVariants as outs
 use Rattle.at_base.specs.declared.outs.Post.{Post}
 use Rattle.at_model.specs.Book.{Book}
-use Rattle.at_model.specs.Recover.{last_incarnation}
+use Rattle.at_model.specs.Recovery.{last_incarnation}
 use Rattle.at_model.specs.Step.{step}
 use Rattle.at_model.specs.World.{Node, Posted, World, goes_down, lost_in, put_book, put_nth, started, up_after, with_post, Hosts, HaveOwnAddresses}
 use Rattle.model_laws.specs.Agreement.{IsIn}
-use Rattle.model_laws.specs.Grows.{Grows}
-use Rattle.model_laws.specs.Reached.{Reached, counts}
-use Rattle.model_laws.proofs.Deciding.{all_join, all_more}
-use Rattle.model_laws.proofs.Holding.{Law, OutFine, holds}
-use Rattle.model_laws.proofs.Lasting.{grows_counts, grows_falls, grows_posts, grows_rises, grows_waits}
+use Rattle.model_laws.specs.Growth.{Grows}
+use Rattle.model_laws.specs.ReachedWorlds.{Reached, counts}
+use Rattle.model_laws.proofs.DecisionLaws.{all_join, all_more}
+use Rattle.model_laws.proofs.WorldInvariants.{Law, OutFine, holds}
+use Rattle.model_laws.proofs.Growth.{grows_counts, grows_falls, grows_posts, grows_rises, grows_waits}
 use Rattle.agreement.proofs.SeatedEntries.{one_of}
-use Rattle.enlistments.proofs.Arriving.{Stepping}
+use Rattle.enlistments.proofs.Arrivals.{Stepping}
 
 pub record PostLaw (hosts : Hosts) : Type 1 where
   pub Of : World → Posted → Type 0

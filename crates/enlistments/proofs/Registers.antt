@@ -1,5 +1,5 @@
 -- A Register that arrives is one of an item of its sender, and names it.
-use Rattle.std.specs.Prelude.{ℕ, List, Option, Some, None, Bool, ◌^◌, ◌≡◌, ◌<◌, refl}
+use Rattle.std.specs.Prelude.{ℕ, List, Option, Some, None, Bool, ◌≡◌, refl}
 use Rattle.std.proofs.Common.{sym, subst, ap, ◌∙◌}
 use Rattle.at_base.specs.Numbers.{Numbers}
 use Rattle.at_base.specs.IdText.{IsId}
@@ -21,11 +21,11 @@ use Rattle.at_model.specs.World.{Node, Posted, World, new_nodes, place_of, reply
 use Rattle.agreement.specs.Places.{HasPath}
 use Rattle.agreement.specs.Registers.{IsOwnRegister, IsWhose, RegistersFor, Whose}
 use Rattle.agreement.specs.Sorts.{AreSorted, FitsTarget}
-use Rattle.agreement.proofs.Placing.{addresses_lead_home}
+use Rattle.agreement.proofs.Places.{addresses_lead_home}
 use Rattle.agreement.proofs.SeatedEntries.{one_of}
-use Rattle.agreement.proofs.Sorted.{world_sorted}
+use Rattle.agreement.proofs.Sorts.{world_sorted}
 use Rattle.enlistments.specs.Leads.{LeadsTo}
-use Rattle.enlistments.proofs.Arriving.{HasCome, Stepping, has_come}
+use Rattle.enlistments.proofs.Arrivals.{HasCome, Stepping, has_come}
 
 pub record IsRegisterOf (hosts : Hosts) (a : Arrived) (r : Register) : Type 0 where
   pub sender : ℕ

@@ -1,6 +1,6 @@
-pub mod Enrolling
-pub mod Knowing
+pub mod Registrations
+pub mod KnownCoordinators
 pub mod Leads
 pub mod Moves
 pub mod Senses
-pub mod Telling
+pub mod NoticeOrigins

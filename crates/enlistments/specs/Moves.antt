@@ -29,16 +29,16 @@ use Rattle.at_model.specs.Posts.{from_on}
 use Rattle.at_model.specs.Register.{Registration, on_register}
 use Rattle.at_model.specs.Step.{Outcome, activity_at, at_time, leaf_at, make_activity, make_leaf, make_transaction, moment_of, plan, put_activities, registration_outcome, step, still, transaction_at}
 use Rattle.at_model.specs.World.{Node, World, nth, Hosts}
-use Rattle.model_laws.specs.Behind.{IsInPhase}
+use Rattle.model_laws.specs.PhaseAnswers.{IsInPhase}
 use Rattle.model_laws.specs.Order.{IsInOrder}
-use Rattle.model_laws.specs.Reached.{Reached}
+use Rattle.model_laws.specs.ReachedWorlds.{Reached}
 use Rattle.model_laws.specs.Shapes.{Answers, IsAnswer, MakesActivity}
 use Rattle.agreement.specs.ActivityDeeds.{ActivitiesStand, ActivityDeed}
 use Rattle.agreement.specs.Deeds.{Deed, coordinator_at}
-use Rattle.agreement.specs.Done.{standing}
-use Rattle.agreement.specs.Finished.{AreFinished}
+use Rattle.agreement.specs.StepDeeds.{standing}
+use Rattle.agreement.specs.FinishedTransactions.{AreFinished}
 use Rattle.agreement.specs.LeafDeeds.{LeafDeed, LeavesStand}
-use Rattle.enlistments.specs.Enrolling.{Enrolls}
+use Rattle.enlistments.specs.Registrations.{Enrolls}
 
 -- the items of a book
 pub record HasItems (b : Book) (transactions : List Transaction) (leaves : List Leaf) (activities : List Activity) : Type 0 where

@@ -24,10 +24,10 @@ use Rattle.model_laws.specs.Agreement.{IsIn}
 use Rattle.model_laws.specs.Shapes.{IsUnknownAt}
 use Rattle.agreement.specs.ActivityDeeds.{Completes}
 use Rattle.agreement.specs.Deeds.{ParticipantSaid, WhySeat, WhySuperior, coordinator_at}
-use Rattle.agreement.specs.Done.{standing}
+use Rattle.agreement.specs.StepDeeds.{standing}
 use Rattle.agreement.specs.LeafDeeds.{LeafSays, leaf_notice_to}
 use Rattle.enlistments.specs.Moves.{ActivityDid, Answered, IsReady, LeafDid, Registered, TransactionDid}
-use Rattle.enlistments.specs.Telling.{IsAnswerFrom, IsFrom}
+use Rattle.enlistments.specs.NoticeOrigins.{IsAnswerFrom, IsFrom}
 
 pub data Sense : Type 0 where
   Vote : Sense

@@ -1,2 +1,2 @@
-mod Telling
-mod Unique
+mod EnvelopeReports
+mod Uniqueness

@@ -18,16 +18,16 @@ use Rattle.at_tables.specs.declared.cells.Cell.{Cell}
 use Rattle.at_tables.specs.declared.cells.State.{State}
 use Rattle.at_tables.specs.Tables.{completion_of, coordinator_of, initiator_of, participant_of}
 use Rattle.at_tables.specs.Texts.{act_text, state_name}
-use Rattle.addressing.specs.Posting.{post_to_of}
-use Rattle.xml_grammar.specs.Characters.{◌>>=◌}
+use Rattle.addressing.specs.PostAddresses.{post_to_of}
 use Rattle.wire_msgs.specs.declared.decode.Arrival.{Arrival}
 use Rattle.wire_msgs.specs.declared.refusal.Refusal.{Refusal}
 use Rattle.wire_posts.specs.Envelopes.{IsTextOf}
 use Rattle.envelope_cmd.specs.declared.table.NoRow.{NoRow}
 use Rattle.envelope_cmd.specs.declared.table.NoRow.TheVariants.{NoCell, NoState}
 use Rattle.envelope_cmd.specs.Output.{Output, accepted, refused}
-use Rattle.envelope_cmd.specs.Says.{Says}
+use Rattle.envelope_cmd.specs.RequestMeanings.{Says}
 use Rattle.envelope_cmd.specs.Refusals.{refusal_line}
+use Rattle.xml_grammar.specs.Characters.{◌>>=◌}
 
 -- the cell of the table that a target chooses (WS-AtomicTransaction 1.2, section 10); services have none
 abbrev pub cell_at : Target → State → Notice → Option Cell

@@ -12,7 +12,7 @@ use Rattle.wire_msgs.specs.declared.refusal.Refusal.{Refusal}
 use Rattle.envelope_cmd.specs.Lines.{address_line, line, text_line, where_some}
 use Rattle.envelope_cmd.specs.Names.{kind_name, message_name, printed_target, vote_name}
 use Rattle.envelope_cmd.specs.Output.{Output, accepted, refused}
-use Rattle.envelope_cmd.specs.Says.{Says}
+use Rattle.envelope_cmd.specs.RequestMeanings.{Says}
 use Rattle.envelope_cmd.specs.Refusals.{refusal_line}
 
 -- the message addressing headers that stood, but To and Action (WS-Addressing 1.0 Core, section 3.1)

@@ -4,4 +4,4 @@ pub mod Lines
 pub mod Names
 pub mod Output
 pub mod Refusals
-pub mod Says
+pub mod RequestMeanings

@@ -1,6 +1,6 @@
 -- The lines of a report: a name, a space and a word, ended by LF.
 use Rattle.std.specs.Prelude.{ℕ, List, [], ◌++◌, Option, Some, None, codes}
-use Rattle.xml_profile.specs.Canonical.{value_text}
+use Rattle.xml_profile.specs.CanonicalText.{value_text}
 use Rattle.at_base.specs.declared.epr.Epr.{Epr}
 
 unfoldable pub line : List ℕ → List ℕ → List ℕ

@@ -7,7 +7,7 @@ ghost use Rattle.envelope_cmd.specs.Cells.{IsCellOf, IsCellPrinted, IsMetPrinted
 use crate::check::refused;
 use crate::laws::one_report_is_printed;
 use crate::lines::push;
-use crate::printed::Printed;
+use crate::output::Printed;
 use crate::table::{meets, posted};
 use at_base::outs::Post;
 use at_tables::cells::{Act, Cell, State};

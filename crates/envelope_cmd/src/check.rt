@@ -11,7 +11,7 @@ ghost use Rattle.envelope_cmd.specs.Refusals.{refusal_line};
 use crate::laws::one_report_is_printed;
 use crate::lines::{push, push_address, push_address_if, push_line, push_text, push_text_if};
 use crate::names::{kind_name, message_name, push_target, vote_name};
-use crate::printed::Printed;
+use crate::output::Printed;
 use crate::refusals::refusal_line;
 use at_base::message::{Context, Create, Message, Register, Work};
 use at_base::notice::{Kind, Vote};

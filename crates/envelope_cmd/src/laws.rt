@@ -10,7 +10,7 @@ use wire_posts::laws::what_is_posted_arrives;
 use xml_grammar::laws::one_text_spells_one_tree;
 
 /// Of one envelope one report is printed.
-#[tactic(auto, using(crate::proofs::Unique::checks_one))]
+#[tactic(auto, using(crate::proofs::Uniqueness::checks_one))]
 pub fn one_report_is_printed()
     ensures checks { (bytes : List ℕ) → (path : List ℕ) → (p : Output) → (q : Output) → IsCheckOf bytes path p → IsCheckOf bytes path q → p ≡ q }
     ensures cells { (bytes : List ℕ) → (state : State) → (p : Output) → (q : Output) → IsCellOf bytes state p → IsCellOf bytes state q → p ≡ q }

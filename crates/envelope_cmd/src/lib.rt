@@ -6,6 +6,6 @@ pub mod check;
 pub mod laws;
 mod lines;
 mod names;
-pub mod printed;
+pub mod output;
 mod refusals;
 mod table;

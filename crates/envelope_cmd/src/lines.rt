@@ -1,7 +1,7 @@
 //! The lines of a report.
 
 ghost use Rattle.std.specs.Prelude.{◌≡◌, ◌++◌, OnOk};
-ghost use Rattle.xml_profile.specs.Canonical.{text_byte, value_byte, value_text};
+ghost use Rattle.xml_profile.specs.CanonicalText.{text_byte, value_byte, value_text};
 ghost use Rattle.envelope_cmd.specs.Lines.{address_line, line, text_line, where_some};
 
 use at_base::epr::Epr;

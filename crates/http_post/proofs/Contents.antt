@@ -5,9 +5,9 @@ use Rattle.http_post.specs.declared.refusal.HttpRefusal.{HttpRefusal}
 use Rattle.http_post.specs.declared.refusal.HttpRefusal.TheVariants.{BadRequest}
 use Rattle.http_post.specs.Chunks.{cut_at_end, IsCutShort, in_data, before_return, before_feed, IsUnended, no_return, no_feed}
 use Rattle.http_post.specs.Lines.{IsBadContent}
-use Rattle.http_post.specs.Raw.{EndsBefore, IsFault, IsRaw, seen}
-use Rattle.http_post.proofs.Lining.{seen_front}
-use Rattle.http_post.proofs.Reading.{fault_on}
+use Rattle.http_post.specs.RawBytes.{EndsBefore, IsFault, IsRaw, seen}
+use Rattle.http_post.proofs.ChunkLines.{seen_front}
+use Rattle.http_post.proofs.RawBytes.{fault_on}
 
 -- what counts of the bytes that are held is seen
 pub seen_long : (left : Option (List ℕ)) (bytes raw : List ℕ) → IsRaw left bytes raw → min (length bytes) 131072 ≤ length (seen raw)

@@ -7,7 +7,7 @@ use Rattle.std.proofs.lemmas.List.Elements.{All-tail, All-head}
 use Rattle.httparse.specs.Grammar.{Field, IsField, LineEnd, crlf, lf, RequestHead, print_blank, print_version, print_end, print_field, print_section, print_request}
 use Rattle.httparse.specs.Spans.{RequestOverflows}
 use Rattle.httparse.proofs.GrammarLemmas.{print_request-append}
-use Rattle.http_post.specs.Known.{NeverHasHead}
+use Rattle.http_post.specs.PartialHeads.{NeverHasHead}
 
 end_long : (e : LineEnd) → 1 ≤ length (print_end e)
 end_long crlf = omega arith

@@ -9,7 +9,7 @@ use Rattle.site_model.specs.Told.Call.{Send}
 use Rattle.http_post.specs.Causes.{HasLinkCause}
 use Rattle.http_post.specs.Connections.{Stays, left, waiting}
 use Rattle.http_post.specs.Heads.{expects, framing_of}
-use Rattle.http_post.specs.Raw.{IsRaw}
+use Rattle.http_post.specs.RawBytes.{IsRaw}
 use Rattle.http_post.specs.Requests.{Asks, most_head, path_of}
 use Rattle.http_post.specs.declared.framing.Framing.{Framing}
 use Rattle.http_post.specs.declared.refusal.HttpRefusal.{HttpRefusal}

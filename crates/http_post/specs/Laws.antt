@@ -3,9 +3,9 @@ use Rattle.std.specs.Prelude.{ℕ, List, Bool, Result, Ok, ◌≡◌}
 use Rattle.addressing.specs.declared.post_to.PostTo.{PostTo}
 use Rattle.http_post.specs.declared.refusal.HttpRefusal.{HttpRefusal}
 use Rattle.http_post.specs.Conversations.{Waits}
-use Rattle.http_post.specs.Readable.{CanBeRead}
+use Rattle.http_post.specs.ReadablePosts.{CanBeRead}
 use Rattle.http_post.specs.Requests.{Asked, Asks, without_query}
-use Rattle.http_post.specs.Written.{authority, post_of}
+use Rattle.http_post.specs.OutBytes.{authority, post_of}
 
 abbrev pub AskOneThing : Type 0
 AskOneThing = (input : List ℕ) (a b : Result Asked HttpRefusal) → Asks input a → Asks input b → a ≡ b

@@ -6,7 +6,7 @@ use Rattle.http_post.specs.declared.refusal.HttpRefusal.{HttpRefusal}
 use Rattle.http_post.specs.declared.refusal.HttpRefusal.TheVariants.{BadRequest}
 use Rattle.http_post.specs.declared.trailers.Line.{Line}
 use Rattle.http_post.specs.Chunks.{Chunks, has_empty_line, IsCutShort, IsUnended, prefixed}
-use Rattle.http_post.specs.Raw.{is_cut}
+use Rattle.http_post.specs.RawBytes.{is_cut}
 use Rattle.http_post.specs.declared.chunks.LineStep.{LineStep}
 use Rattle.http_post.specs.declared.chunks.LineStep.TheVariants.{Whole, More, Never}
 

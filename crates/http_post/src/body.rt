@@ -1,15 +1,15 @@
 //! The body of a request (RFC 9112, section 6).
 
-ghost use Rattle.std.specs.Prelude.{ℕ, List, ◌≡◌, ◌<◌, ◌≤◌, Err, IfErr, IfOk, Ok, length, take};
+ghost use Rattle.std.specs.Prelude.{ℕ, List, ◌<◌, Err, IfErr, IfOk, Ok};
 ghost use Rattle.http_post.specs.Connections.{Leaves, left};
 ghost use Rattle.http_post.specs.declared.framing.Framing.TheVariants.{Chunked, Sized};
 ghost use Rattle.http_post.specs.Causes.{HasLinkCause};
-ghost use Rattle.http_post.specs.Raw.{IsFault, IsRaw};
+ghost use Rattle.http_post.specs.RawBytes.{IsFault, IsRaw};
 ghost use Rattle.http_post.specs.Requests.{Body};
 
 use crate::chunks::read_chunks;
 use crate::framing::Framing;
-use crate::raw::read_on;
+use crate::raw_bytes::read_on;
 use crate::refusal::HttpRefusal;
 use site_model::site::Site;
 use std::alloc::{AllocError, Global};

@@ -3,14 +3,14 @@
 ghost use Rattle.std.specs.Prelude.{ℕ, List, ◌≡◌, ◌+◌, ◌<◌, ◌≤◌, Err, Ok, IfErr, IfOk, IfSome, OnOk, length, min, drop, take, true};
 ghost use Rattle.http_post.specs.Connections.{Leaves, left};
 ghost use Rattle.http_post.specs.Causes.{HasLinkCause};
-ghost use Rattle.http_post.specs.Raw.{EndsBefore, IsFault, IsRaw, is_cut, seen};
+ghost use Rattle.http_post.specs.RawBytes.{EndsBefore, IsFault, IsRaw, is_cut, seen};
 ghost use Rattle.httparse.specs.Grammar.{ChunkLine};
 ghost use Rattle.httparse.specs.Spans.{IsChunkLineAt};
 ghost use Rattle.http_post.specs.Chunks.{Chunks, cut_at_end};
 ghost use Rattle.http_post.specs.Lines.{IsChunkStep, IsLast, IsLineStep, IsNoLine};
 
 use crate::content::read_content;
-use crate::raw::{counted, counting, more};
+use crate::raw_bytes::{counted, counting, more};
 use crate::refusal::HttpRefusal;
 use crate::trailers::read_trailers;
 use httparse::{InvalidChunkSize, Status, parse_chunk_size};

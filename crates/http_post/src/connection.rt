@@ -9,7 +9,7 @@ ghost use Rattle.http_post.specs.Connections.{Leaves, left};
 use site_model::site::Site;
 use site_model::source::Failed;
 
-#[tactic(auto, using(crate::proofs::Receiving::consumes, crate::proofs::Receiving::received))]
+#[tactic(auto, using(crate::proofs::Receives::consumes, crate::proofs::Receives::received))]
 /// Reads from the connection, and says how many bytes. Zero into a nonempty buffer ends the input.
 pub fn receive<S: Site>(site: &mut S, buf: &mut [u8]) -> Result<usize, Failed>
     ensures bound { ReadsAtMost result buf.new }

@@ -1,11 +1,11 @@
 //! The data of a chunk, which end in CR LF (RFC 9112, section 7.1).
 
-ghost use Rattle.std.specs.Prelude.{ℕ, List, [], ◌∷◌, ◌++◌, ◌≡◌, ◌+◌, ◌≤◌, IfErr, IfOk, OnOk, drop, length, min, take};
+ghost use Rattle.std.specs.Prelude.{ℕ, List, ◌∷◌, ◌++◌, ◌≡◌, ◌+◌, ◌≤◌, IfErr, IfOk, OnOk, drop, length, min, take};
 ghost use Rattle.http_post.specs.Connections.{Leaves, left};
 ghost use Rattle.http_post.specs.Chunks.{cut_at_end};
 ghost use Rattle.http_post.specs.Lines.{IsBadContent};
 ghost use Rattle.http_post.specs.Causes.{HasLinkCause};
-ghost use Rattle.http_post.specs.Raw.{EndsBefore, IsFault, IsRaw, seen};
+ghost use Rattle.http_post.specs.RawBytes.{EndsBefore, IsFault, IsRaw, seen};
 
 use crate::chunks::fill;
 use crate::refusal::HttpRefusal;

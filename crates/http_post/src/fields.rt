@@ -1,12 +1,12 @@
 //! The fields of a head, found by their names (RFC 9110, section 5).
 
-ghost use Rattle.std.specs.Prelude.{ℕ, List, ◌≡◌, ◌≤◌, All, IfOk, OnOk, length, map};
+ghost use Rattle.std.specs.Prelude.{ℕ, List, ◌≡◌, All, IfOk, OnOk, map};
 ghost use Rattle.http_header.specs.FieldName.{IsFieldName};
 ghost use Rattle.http_header.specs.FieldValue.{IsFieldValue, plain_value};
 ghost use Rattle.http_header.specs.HeaderMap.{append, get_all};
 ghost use Rattle.http_header.specs.Token.{lowercase};
 ghost use Rattle.httparse.specs.Spans.{header_bytes};
-ghost use Rattle.http_post.specs.Kept.{CanBeKept, named};
+ghost use Rattle.http_post.specs.FieldMaps.{CanBeKept, named};
 
 use http_header::{HeaderMap, HeaderName, HeaderNameError, HeaderValue, HeaderValueError};
 use httparse::spans::HeaderSpan;

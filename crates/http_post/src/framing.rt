@@ -1,10 +1,10 @@
 //! What the fields of a head say of the body (RFC 9110, sections 7.2, 8.4, 8.6 and 10.1.1; RFC 9112, section 6).
 
-ghost use Rattle.std.specs.Prelude.{ℕ, List, [], ◌∷◌, ◌≡◌, codes, length, nat_eq, true, ◌↔◌, IsTrue};
+ghost use Rattle.std.specs.Prelude.{ℕ, List, ◌∷◌, ◌≡◌, codes, length, nat_eq, true, ◌↔◌, IsTrue};
 ghost use Rattle.http_header.specs.HeaderMap.{get_all};
 ghost use Rattle.std.specs.List.{list_all, list_any};
 ghost use Rattle.http_post.specs.Heads.{agrees, expects_in, framed, framed_by, framing_in, is_decimal, is_none, is_word, lacks_host, sized};
-ghost use Rattle.http_post.specs.Kept.{values_under};
+ghost use Rattle.http_post.specs.FieldMaps.{values_under};
 
 use crate::lengths::{agrees, is_decimal, number};
 use crate::refusal::HttpRefusal;

@@ -9,8 +9,8 @@ ghost use Rattle.http_post.specs.Causes.{UnlessFailed};
 ghost use Rattle.http_post.specs.Connections.{Leaves, left};
 ghost use Rattle.http_post.specs.declared.head.HeadFault.TheVariants as faults;
 ghost use Rattle.http_post.specs.declared.head.PieceFault.TheVariants as pieces;
-ghost use Rattle.http_post.specs.Known.{HasNoHead, HoldsHead, IsPiece, IsRead};
-ghost use Rattle.http_post.specs.Reading.{IfNoHead};
+ghost use Rattle.http_post.specs.PartialHeads.{HasNoHead, HoldsHead, IsPiece, IsRead};
+ghost use Rattle.http_post.specs.ReadFaults.{IfNoHead};
 
 use crate::connection::receive;
 use crate::places::{Places, Step};
@@ -89,7 +89,7 @@ fn read_piece<S: Site>(site: &mut S, bytes: &mut Vec<u8>) -> Result<usize, Piece
 }
 
 /// The head that the bytes begin with, of which no more are wanted.
-#[tactic(auto, using(crate::proofs::Growing::none_now))]
+#[tactic(auto, using(crate::proofs::PartialHeads::none_now))]
 fn last_head(mut places: Places, bytes: Vec<u8>) -> Option<Head>
     requires { length bytes.items ≤ 8192 }
     ensures some { IfSome result (λ h. (h.bytes.items ≡ bytes.items) × (IsRequestOf h.bytes.items h.places h.spans × IsRequestWithin h.bytes.items h.places h.spans)) }
@@ -107,7 +107,7 @@ fn last_head(mut places: Places, bytes: Vec<u8>) -> Option<Head>
 
 /// The head that the connection begins with, and what came with it. The bytes are parsed again only where an empty line
 /// ended, where they have doubled, and where no more are wanted: so a head that comes byte by byte is parsed a few times.
-#[tactic(auto, using(crate::proofs::Growing::nothing_yet, crate::proofs::Growing::grown, crate::proofs::Growing::not_shorter))]
+#[tactic(auto, using(crate::proofs::PartialHeads::nothing_yet, crate::proofs::PartialHeads::grown, crate::proofs::PartialHeads::not_shorter))]
 pub fn read_head<S: Site>(alloc: Global, site: &mut S) -> Result<Head, HeadFault>
     ensures head { IfOk result (λ h. HoldsHead (left (S.told site.old)) h.bytes.items h.places h.spans) }
     ensures read { IfOk result (λ h. IsRead h.bytes.items h.places h.spans) }

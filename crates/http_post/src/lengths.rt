@@ -1,6 +1,6 @@
 //! Lengths in decimal, of any number of digits (RFC 9110, section 8.6).
 
-ghost use Rattle.std.specs.Prelude.{ℕ, List, ◌≡◌, ◌≤◌, ◌<◌, min, nat_eq, true, take, length};
+ghost use Rattle.std.specs.Prelude.{◌≡◌, ◌≤◌, min, nat_eq, true, length};
 ghost use Rattle.std.specs.List.{list_all};
 ghost use Rattle.std.specs.Char.{is_ascii_digit};
 ghost use Rattle.std.specs.Str.Parse.{digits_value};

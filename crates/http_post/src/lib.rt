@@ -2,7 +2,6 @@
 //! that it draws; its body, of a known length or in chunks; and the bytes of answers and posts.
 #![tactic(auto)]
 
-mod asking;
 mod body;
 mod chunks;
 mod connection;
@@ -10,10 +9,11 @@ mod content;
 mod fields;
 mod framing;
 mod head;
+mod head_request;
 pub mod laws;
 mod lengths;
 mod places;
-mod raw;
+mod raw_bytes;
 pub mod refusal;
 pub mod request;
 mod tail;

@@ -1,7 +1,7 @@
 //! Room for where the fields of a head stand.
 
-ghost use Rattle.std.specs.Prelude.{◌≡◌, IfOk, length};
-ghost use Rattle.http_post.specs.Known.{IsStep};
+ghost use Rattle.std.specs.Prelude.{◌≡◌, length};
+ghost use Rattle.http_post.specs.PartialHeads.{IsStep};
 
 use httparse::Status;
 use httparse::spans::{EMPTY_HEADER_SPAN, HeaderSpan, RequestSpans, parse_request};

@@ -5,15 +5,15 @@ ghost use Rattle.site_model.specs.Told.{Link, Made};
 ghost use Rattle.http_post.specs.Causes.{HasLinkCause};
 ghost use Rattle.http_post.specs.Connections.{Leaves, left};
 ghost use Rattle.http_post.specs.Conversations.{HasCauses, Hears, InOrder, IsHeard, IsRefused, IsSaid, Says, Speaks, TookHead, interim};
-ghost use Rattle.http_post.specs.Kept.{Draws, SaysOf};
-ghost use Rattle.http_post.specs.Known.{IsRead};
-ghost use Rattle.http_post.specs.Raw.{IsFault};
+ghost use Rattle.http_post.specs.FieldMaps.{Draws, SaysOf};
+ghost use Rattle.http_post.specs.PartialHeads.{IsRead};
+ghost use Rattle.http_post.specs.RawBytes.{IsFault};
 ghost use Rattle.http_post.specs.Requests.{Asks};
 ghost use Rattle.http_post.specs.declared.refusal.HttpRefusal.TheVariants as refusals;
 
-use crate::asking::{Asking, judge};
 use crate::body::read_body;
 use crate::head::{Head, HeadFault, read_head};
+use crate::head_request::{Asking, judge};
 use crate::refusal::HttpRefusal;
 use at_base::text::Text;
 use site_model::site::Site;
@@ -49,7 +49,7 @@ fn interim() -> &'static [u8]
 }
 
 /// What a head asks, with what came behind it.
-#[tactic(auto, using(crate::proofs::Conversing::never_link))]
+#[tactic(auto, using(crate::proofs::Conversations::never_link))]
 fn judged(alloc: Global, head: &Head) -> Result<Heard, HttpRefusal>
     requires { IsRead head.now.bytes.items head.now.places head.now.spans }
     ensures ok { IfOk result (λ h. SaysOf head.now.bytes.items head.now.places head.now.spans h.asking.path h.asking.framing h.asking.waits) }
@@ -68,7 +68,7 @@ fn judged(alloc: Global, head: &Head) -> Result<Heard, HttpRefusal>
 }
 
 /// Hears a head out, and judges it.
-#[tactic(auto, using(crate::proofs::Conversing::heard, crate::proofs::Conversing::drawn, crate::proofs::Conversing::nothing_heard))]
+#[tactic(auto, using(crate::proofs::Conversations::heard, crate::proofs::Conversations::drawn, crate::proofs::Conversations::nothing_heard))]
 fn hear<S: Site>(alloc: Global, site: &mut S) -> Result<Heard, HttpRefusal>
     ensures ok { IfOk result (λ h. (input : List ℕ) → left (S.told site.old) ≡ Some input → IsHeard input (left (S.told site.new)) h.asking.path h.asking.framing h.asking.waits h.rest.items) }
     ensures err { IfErr result (λ e. IsFault e (λ r. (input : List ℕ) → left (S.told site.old) ≡ Some input → IsRefused input r)) }
@@ -89,7 +89,7 @@ fn hear<S: Site>(alloc: Global, site: &mut S) -> Result<Heard, HttpRefusal>
 }
 
 /// Says the interim line, if the client waits for it. Where that fails, the body may come all the same.
-#[tactic(auto, using(crate::proofs::Conversing::silence, crate::proofs::Conversing::spoken))]
+#[tactic(auto, using(crate::proofs::Conversations::silence, crate::proofs::Conversations::spoken))]
 fn go_on<S: Site>(site: &mut S, waits: bool)
     ensures hears { (made : List Made) × (Hears made (S.told site.old) (S.told site.new) × IsSaid waits (S.told site.old).counts.link (S.told site.new).counts.link made) }
     ensures same { left (S.told site.new) ≡ left (S.told site.old) }

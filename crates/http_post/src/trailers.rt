@@ -1,11 +1,11 @@
 //! The trailers behind the last chunk (RFC 9112, section 7.1.2), which aren't looked at.
 
-ghost use Rattle.std.specs.Prelude.{ℕ, List, ◌≡◌, ◌+◌, ◌≤◌, IfErr, OnOk, drop, length, min, true, false};
+ghost use Rattle.std.specs.Prelude.{ℕ, List, ◌≡◌, ◌+◌, ◌≤◌, IfErr, OnOk, drop, true, false};
 ghost use Rattle.http_post.specs.Connections.{Leaves, left};
 ghost use Rattle.http_post.specs.Chunks.{cut_at_end, ends_trailers};
 ghost use Rattle.http_post.specs.Lines.{IsAfter};
 ghost use Rattle.http_post.specs.Causes.{HasLinkCause};
-ghost use Rattle.http_post.specs.Raw.{IsFault, IsRaw, seen};
+ghost use Rattle.http_post.specs.RawBytes.{IsFault, IsRaw, seen};
 
 use crate::chunks::fill;
 use crate::refusal::HttpRefusal;

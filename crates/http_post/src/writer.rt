@@ -2,7 +2,7 @@
 
 ghost use Rattle.std.specs.Prelude.{◌≡◌, ◌++◌, IfOk, IsTrue, OnOk, Some, None, codes, decimal, length};
 ghost use Rattle.std.specs.Option.{option_map};
-ghost use Rattle.http_post.specs.Written.{action_field, allow_field, answer_of, authority, field, has_reason, head_end, line, post_of, reason_of, request_line, status_line, tick_of, type_field};
+ghost use Rattle.http_post.specs.OutBytes.{action_field, allow_field, answer_of, authority, field, has_reason, head_end, line, post_of, reason_of, request_line, status_line, tick_of, type_field};
 
 use addressing::post_to::PostTo;
 use itoa::Buffer;
@@ -86,7 +86,7 @@ fn push(bytes: &[u8], out: &mut Vec<u8>) -> Result<(), AllocError>
 }
 
 /// A field whose value is one text.
-#[tactic(auto, unfolding(crate::specs::Written::line, crate::specs::Written::field))]
+#[tactic(auto, unfolding(crate::specs::OutBytes::line, crate::specs::OutBytes::field))]
 fn push_field(name: &str, value: &str, out: &mut Vec<u8>) -> Result<(), AllocError>
     ensures { OnOk result (out.new.items ≡ out.old.items ++ field name.now value.now) }
 {
@@ -104,14 +104,14 @@ fn push_number_field(name: &str, number: usize, out: &mut Vec<u8>) -> Result<(),
     push_field(name, buffer.format(number), out)
 }
 
-#[tactic(auto, unfolding(crate::specs::Written::type_field))]
+#[tactic(auto, unfolding(crate::specs::OutBytes::type_field))]
 fn push_type(out: &mut Vec<u8>) -> Result<(), AllocError>
     ensures { OnOk result (out.new.items ≡ out.old.items ++ type_field) }
 {
     push_field("Content-Type", "text/xml; charset=utf-8", out)
 }
 
-#[tactic(auto, unfolding(crate::specs::Written::line, crate::specs::Written::head_end))]
+#[tactic(auto, unfolding(crate::specs::OutBytes::line, crate::specs::OutBytes::head_end))]
 fn push_head_end(count: usize, out: &mut Vec<u8>) -> Result<(), AllocError>
     ensures { OnOk result (out.new.items ≡ out.old.items ++ head_end count) }
 {
@@ -134,7 +134,7 @@ fn push_envelope(action: &str, body: &[u8], out: &mut Vec<u8>) -> Result<(), All
     push_content(body, out)
 }
 
-#[tactic(auto, unfolding(crate::specs::Written::line, crate::specs::Written::field, crate::specs::Written::action_field))]
+#[tactic(auto, unfolding(crate::specs::OutBytes::line, crate::specs::OutBytes::field, crate::specs::OutBytes::action_field))]
 fn push_action(action: &str, out: &mut Vec<u8>) -> Result<(), AllocError>
     ensures { OnOk result (out.new.items ≡ out.old.items ++ action_field action.now) }
 {
@@ -152,7 +152,7 @@ fn push_quoted(text: &str, out: &mut Vec<u8>) -> Result<(), AllocError>
     push(b"\"", out)
 }
 
-#[tactic(auto, unfolding(crate::specs::Written::line, crate::specs::Written::request_line))]
+#[tactic(auto, unfolding(crate::specs::OutBytes::line, crate::specs::OutBytes::request_line))]
 fn push_request_line(path: &str, out: &mut Vec<u8>) -> Result<(), AllocError>
     ensures { OnOk result (out.new.items ≡ out.old.items ++ request_line path.now) }
 {
@@ -171,7 +171,7 @@ fn push_host(to: &PostTo, out: &mut Vec<u8>) -> Result<(), AllocError>
     push_host_and_port(to.host.as_str(), to.port, out)
 }
 
-#[tactic(auto, unfolding(crate::specs::Written::line, crate::specs::Written::field))]
+#[tactic(auto, unfolding(crate::specs::OutBytes::line, crate::specs::OutBytes::field))]
 fn push_host_and_port(host: &str, port: u16, out: &mut Vec<u8>) -> Result<(), AllocError>
     ensures { OnOk result (out.new.items ≡ out.old.items ++ field (codes "Host") (host.now ++ codes ":" ++ decimal port)) }
 {
@@ -190,7 +190,7 @@ fn push_authority(host: &str, port: &str, out: &mut Vec<u8>) -> Result<(), Alloc
     push(port.as_bytes(), out)
 }
 
-#[tactic(auto, unfolding(crate::specs::Written::line))]
+#[tactic(auto, unfolding(crate::specs::OutBytes::line))]
 fn push_status_line(status: u16, out: &mut Vec<u8>) -> Result<(), AllocError>
     requires { IsTrue (has_reason status) }
     ensures { OnOk result (out.new.items ≡ out.old.items ++ status_line status) }

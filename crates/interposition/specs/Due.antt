@@ -8,7 +8,7 @@ use Rattle.at_model.specs.Book.{Book, transaction_id, leaf_id, activity_id}
 use Rattle.at_model.specs.Addresses.{or_else}
 use Rattle.at_model.specs.Due.{transaction_due, leaf_due, activity_due}
 use Rattle.model_laws.specs.Order.{IsRising}
-use Rattle.at_model.specs.Recover.{is_before}
+use Rattle.at_model.specs.Recovery.{is_before}
 use Rattle.at_model.specs.Step.{Outcome, moment_of, is_reached, is_due, items_of, plan, step}
 use Rattle.at_model.specs.World.{Turning, due_step, due_steps}
 use Rattle.by_id.specs.Lists.{next_due}

@@ -1,6 +1,6 @@
-pub mod Doing
+pub mod PlanResults
 pub mod Due
-pub mod Held
-pub mod Planning
-pub mod Recovered
-pub mod Whole
+pub mod Holdings
+pub mod Plans
+pub mod Recoveries
+pub mod ModelSteps

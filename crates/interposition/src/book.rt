@@ -1,24 +1,24 @@
 //! A node's book: planned first, and then done.
 
-ghost use Rattle.std.specs.Prelude.{ℕ, List, ◌≡◌, ◌≤◌, ◌++◌, ◌∷◌, ◌-◌, ◌^◌, [], IfOk, OnOk, Option, Some, None, min, option_copied, option_map};
+ghost use Rattle.std.specs.Prelude.{ℕ, List, ◌≡◌, ◌≤◌, ◌++◌, ◌-◌, ◌^◌, IfOk, OnOk, Option, Some, None, min, option_copied, option_map};
 ghost use Rattle.at_base.specs.declared.event.Event.TheVariants as events;
 ghost use Rattle.at_base.specs.declared.record.Record.{Record};
 ghost use Rattle.at_base.specs.declared.target.Target.TheVariants as targets;
 ghost use Rattle.at_model.specs.Book.{next_id};
-ghost use Rattle.at_model.specs.Recover.{recover};
+ghost use Rattle.at_model.specs.Recovery.{recover};
 ghost use Rattle.at_model.specs.Step.{has_committed, is_committing, is_decided_root, moment_of, transaction_at};
 ghost use Rattle.completion_at.specs.Names.{refusal_of};
-ghost use Rattle.completion_at.specs.Planning.{activities_plan, refused_at};
-ghost use Rattle.coordinator_at.specs.Planning.{has_initiator, transactions_lost, transactions_plan};
-ghost use Rattle.participant_at.specs.Planning.{leaves_lost, leaves_plan};
-ghost use Rattle.interposition.specs.Doing.{done, drawn, kept, noted, outcomes_by, sent};
+ghost use Rattle.completion_at.specs.ActivityPlans.{activities_plan, refused_at};
+ghost use Rattle.coordinator_at.specs.TransactionPlans.{has_initiator, transactions_lost, transactions_plan};
+ghost use Rattle.participant_at.specs.LeafPlans.{leaves_lost, leaves_plan};
+ghost use Rattle.interposition.specs.PlanResults.{done, drawn, kept, noted, outcomes_by, sent};
 ghost use Rattle.interposition.specs.Due.{FindsTheDue, WalksTheDue, next_item, next_transaction, next_leaf, next_activity};
-ghost use Rattle.interposition.specs.Held.{HoldsFew, held};
-ghost use Rattle.interposition.specs.Recovered.{RecoversAsTheModel, StandFor, recovered};
-ghost use Rattle.interposition.specs.Planning.{arrived_part, at_activation, at_activity, at_completion, at_leaf, at_participant, at_registration, at_transaction, at_work, due_part, part_of, planned, requested_part};
+ghost use Rattle.interposition.specs.Holdings.{HoldsFew, held};
+ghost use Rattle.interposition.specs.Recoveries.{RecoversAsTheModel, StandFor, recovered};
+ghost use Rattle.interposition.specs.Plans.{arrived_part, at_activation, at_activity, at_completion, at_leaf, at_participant, at_registration, at_transaction, at_work, due_part, part_of, planned, requested_part};
 ghost use Rattle.interposition.specs.declared.plan.Part.TheVariants as parts;
 ghost use Rattle.transaction_at.specs.PhaseNames.{phase_of};
-ghost use Rattle.interposition.specs.Whole.{KeepsBounds, LosesAsTheModel, StepsAsTheModel};
+ghost use Rattle.interposition.specs.ModelSteps.{KeepsBounds, LosesAsTheModel, StepsAsTheModel};
 
 use crate::plan::{Part, Plan, draws, notes_time};
 use crate::strangers::{answered, committed, ignored, nothing, stranger};
@@ -46,7 +46,7 @@ use std::marker::Model;
 use transaction_at::transaction::{Phase, Transaction};
 
 /// What a book loses where its node goes down is what the model says that the node loses.
-#[tactic(auto, using(crate::proofs::Losing::loses_as_the_model))]
+#[tactic(auto, using(crate::proofs::Losses::loses_as_the_model))]
 pub fn loses_as_the_model()
     ensures { LosesAsTheModel }
 {}
@@ -70,7 +70,7 @@ pub fn keeps_bounds()
 }
 
 /// The item that is asked next is the first that is due of those that come behind.
-#[tactic(auto, using(crate::proofs::Finding::finds_the_due))]
+#[tactic(auto, using(crate::proofs::DueItems::finds_the_due))]
 pub fn finds_the_due()
     ensures { FindsTheDue }
 {}

@@ -1,7 +1,7 @@
 //! What an event does to a book, before it is done.
 
 ghost use Rattle.std.specs.Prelude.{◌≡◌, option_copied};
-ghost use Rattle.interposition.specs.Doing.{draws, is_addition, is_change, notes_time, part_entry, part_outs, recorded, sent};
+ghost use Rattle.interposition.specs.PlanResults.{draws, is_addition, is_change, notes_time, part_entry, part_outs, recorded, sent};
 
 use at_base::outs::Outs;
 use at_base::record::Record;

@@ -1,10 +1,10 @@
 //! How a message at what isn't known is answered: its state is None (WS-AtomicTransaction 1.2, section 3.3.4).
 
-ghost use Rattle.std.specs.Prelude.{◌≡◌, ◌++◌, [], IfOk, OnOk, map};
+ghost use Rattle.std.specs.Prelude.{◌≡◌, ◌++◌, IfOk, OnOk, map};
 ghost use Rattle.at_base.specs.declared.outs.Out.TheVariants as out;
 ghost use Rattle.at_model.specs.Posts.{accepted};
 ghost use Rattle.at_model.specs.Step.{outcome_act, outcome_cell, stranger_act, stranger_cell};
-ghost use Rattle.interposition.specs.Planning.{answered, cell_of_none, committed, nothing, stranger};
+ghost use Rattle.interposition.specs.Plans.{answered, cell_of_none, committed, nothing, stranger};
 
 use crate::plan::Part;
 use at_base::epr::Epr;

@@ -4,12 +4,12 @@ use Rattle.std.specs.Int.{from_be_bytes, to_be_bytes, w32}
 use Rattle.std.proofs.lemmas.List.{append_assoc, append-nil, length-append, take_at, drop_at}
 use Rattle.std.proofs.lemmas.Nat.{from_be_bytes-to_be_bytes_4}
 use Rattle.journal_at.specs.Format.{AreBodies, AreInPlace, AreUnmarked, Closed, FileOf, IsBody, behind, frames, mark_of}
-use Rattle.journal_at.specs.Reading.{ArePlaced, Begins, Framed, IsBadAt, IsMisplaced, IsRead, IsShut, IsStray, IsWhy, NoFrame, bodies_of, body_of}
+use Rattle.journal_at.specs.Frames.{ArePlaced, Begins, Framed, IsBadAt, IsMisplaced, IsRead, IsShut, IsStray, IsWhy, NoFrame, bodies_of, body_of}
 use Rattle.journal_at.specs.declared.read.BodiesFault.{BodiesFault}
 use Rattle.journal_at.specs.declared.read.Placed.{Placed}
 use Rattle.journal_at.specs.declared.read.BodiesFault.TheVariants.{NoMemory, Bad as BadAt}
-use Rattle.journal_at.proofs.Framing.{four, head_of_list, tail_of}
-use Rattle.journal_at.proofs.Torn.{frames_push}
+use Rattle.journal_at.proofs.Frames.{four, head_of_list, tail_of}
+use Rattle.journal_at.proofs.TornWrites.{frames_push}
 
 pub start : (whole : List ℕ) → IsRead whole [] whole
 start whole = record { sized = tt; is = refl; on = λ bodies h. (bodies, refl, h); back = λ more h. h; placed = tt }

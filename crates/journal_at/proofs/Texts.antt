@@ -2,9 +2,9 @@
 use Rattle.std.proofs.Common.{ℕ, List, zero, suc, [], ◌∷◌, length, ◌≡◌, ◌++◌, ◌+◌, ◌<◌, ◌≤◌, sym, ◌∙◌, ap, subst, take, get_or, arith}
 use Rattle.std.proofs.lemmas.List.{append_assoc, append-nil, map-append, take_all, take_more}
 use Rattle.journal_at.specs.declared.body.Body.{Body}
-use Rattle.journal_at.specs.Compacting.{text_in, text_of, texts_in}
+use Rattle.journal_at.specs.Compactions.{text_in, text_of, texts_in}
 use Rattle.journal_at.specs.Format.{AreBodies, IsBody, behind, frames, mark_body}
-use Rattle.journal_at.proofs.Torn.{frames_push}
+use Rattle.journal_at.proofs.TornWrites.{frames_push}
 
 pub sized_at : (bodies : List Body) (i : ℕ) (d : Body) → i < length bodies → AreBodies (texts_in bodies) → IsBody (text_in (get_or bodies i d))
 sized_at [] i d l h = absurd (omega (arith, l))

@@ -1,7 +1,7 @@
 pub mod Format
 pub mod Pairs
-pub mod Standing
-pub mod Reading
-pub mod Scanning
-pub mod Loading
-pub mod Compacting
+pub mod StandingBodies
+pub mod Frames
+pub mod Scans
+pub mod Loads
+pub mod Compactions

@@ -1,10 +1,9 @@
 //! Bodies that are appended.
 
-ghost use Rattle.std.specs.Prelude.{ℕ, List, ◌≡◌, ◌≤◌, ◌<◌, ◌+◌, ◌++◌, ◌∷◌, ◌↔◌, [], true, false, length};
-ghost use Rattle.site_model.specs.Told.{Apart};
+ghost use Rattle.std.specs.Prelude.{ℕ, List, ◌≡◌, ◌<◌, ◌+◌, ◌↔◌, true, false, length};
 ghost use Rattle.journal_at.specs.declared.journal.Append.TheVariants.{Full, Unsure};
 ghost use Rattle.journal_at.specs.Format.{IsBody};
-ghost use Rattle.journal_at.specs.Standing.{Appended, Calls, Counted, HasReason, Keeps, Laid, MayFollow};
+ghost use Rattle.journal_at.specs.StandingBodies.{Appended, Calls, Counted, HasReason, Keeps, Laid, MayFollow};
 
 use crate::frame::frame;
 use crate::journal::{Append, Journal};

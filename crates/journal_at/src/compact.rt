@@ -1,10 +1,10 @@
 //! A journal that is written anew into its other file.
 
-ghost use Rattle.std.specs.Prelude.{ℕ, List, ◌≡◌, ◌≤◌, ◌<◌, ◌+◌, ◌-◌, ◌++◌, ◌∷◌, ◌↔◌, [], Ok, true, false, length, IfOk, OnOk, IsErr};
+ghost use Rattle.std.specs.Prelude.{ℕ, List, ◌≡◌, ◌≤◌, ◌<◌, ◌+◌, ◌-◌, ◌++◌, ◌∷◌, ◌↔◌, Ok, true, false, length, IfOk, OnOk, IsErr};
 ghost use Rattle.journal_at.specs.declared.journal.Compact.TheVariants.{Full, Unsure};
 ghost use Rattle.journal_at.specs.Format.{AreBodies, AreUnmarked, IsBody, behind, frames, mark_body};
-ghost use Rattle.journal_at.specs.Compacting.{Compacted, HasGround, Moves, text_of, texts_in};
-ghost use Rattle.journal_at.specs.Standing.{Counted, Keeps};
+ghost use Rattle.journal_at.specs.Compactions.{Compacted, HasGround, Moves, text_of, texts_in};
+ghost use Rattle.journal_at.specs.StandingBodies.{Counted, Keeps};
 
 use crate::body::Body;
 use crate::journal::{Compact, Journal};

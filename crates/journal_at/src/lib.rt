@@ -4,9 +4,9 @@
 pub mod append;
 pub mod body;
 pub mod compact;
+pub mod file_bodies;
 pub mod frame;
 pub mod journal;
-pub mod listed;
 pub mod load;
 pub mod read;
 pub mod records;

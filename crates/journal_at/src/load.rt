@@ -1,9 +1,9 @@
 //! A journal that is read.
 
-ghost use Rattle.std.specs.Prelude.{ℕ, List, ◌≡◌, ◌≤◌, IfOk, OnErr, IsErr};
+ghost use Rattle.std.specs.Prelude.{◌≡◌, IfOk};
 ghost use Rattle.site_model.specs.Told.{Files, Is, file_of};
-ghost use Rattle.journal_at.specs.Loading.{Quiet, LoadCause, LookCause, Loads, Settles, Surveys};
-ghost use Rattle.journal_at.specs.Scanning.{IsSeen};
+ghost use Rattle.journal_at.specs.Loads.{Quiet, LoadCause, LookCause, Loads, Settles, Surveys};
+ghost use Rattle.journal_at.specs.Scans.{IsSeen};
 ghost use Rattle.journal_at.specs.declared.load.LoadFault.TheVariants.{NoMemory, Disk};
 
 use crate::append::stage;

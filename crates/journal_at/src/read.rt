@@ -1,12 +1,12 @@
 //! Bodies that are read.
 
-ghost use Rattle.std.specs.Prelude.{◌≡◌, ◌≢◌, ◌⊎◌, ◌++◌, ◌∷◌, [], length, None, IfOk, IfErr, OnOk, is_some};
+ghost use Rattle.std.specs.Prelude.{◌≡◌, ◌⊎◌, ◌++◌, ◌∷◌, [], length, None, IfOk, IfErr, OnOk, is_some};
 ghost use Rattle.journal_at.specs.declared.read.BodiesFault.TheVariants.{NoMemory};
 ghost use Rattle.journal_at.specs.Format.{FileOf, frames, mark_of};
 ghost use Rattle.std.specs.Int.{from_be_bytes, to_be_bytes, w32};
-ghost use Rattle.journal_at.specs.Reading.{ArePlaced, Says, IsMisplaced, IsWhy, bodies_of, body_of, listed_in};
+ghost use Rattle.journal_at.specs.Frames.{ArePlaced, Says, IsMisplaced, IsWhy, bodies_of, body_of, listed_in};
 
-use crate::listed::Bodies;
+use crate::file_bodies::Bodies;
 use std::alloc::{AllocError, Global};
 
 /// How the bytes of a file begin: with a gate that is shut, with a body and what stands behind it, or with neither.

@@ -1,8 +1,8 @@
 //! The records of a journal.
 
 ghost use Rattle.std.specs.Prelude.{◌≡◌, drop};
-ghost use Rattle.journal_at.specs.Reading.{bodies_of};
-ghost use Rattle.journal_at.specs.Scanning.{records_in};
+ghost use Rattle.journal_at.specs.Frames.{bodies_of};
+ghost use Rattle.journal_at.specs.Scans.{records_in};
 
 use crate::read::Placed;
 use crate::version::Version;

@@ -1,12 +1,12 @@
 //! What each file says by itself.
 
-ghost use Rattle.std.specs.Prelude.{◌≡◌, ◌≤◌, IfOk, IfErr, OnOk, nat_lt, vec_capacity};
+ghost use Rattle.std.specs.Prelude.{◌≡◌, ◌≤◌, IfOk, IfErr, vec_capacity};
 ghost use Rattle.journal_at.specs.Format.{mark_of};
-ghost use Rattle.journal_at.specs.Reading.{IsWhy, bodies_of};
-ghost use Rattle.journal_at.specs.Scanning.{IsGate, IsHead, IsOpened, IsPicked, IsScan, is_bare, mark_in, second_lives};
+ghost use Rattle.journal_at.specs.Frames.{IsWhy, bodies_of};
+ghost use Rattle.journal_at.specs.Scans.{IsGate, IsHead, IsOpened, IsPicked, IsScan, is_bare, mark_in, second_lives};
 
+use crate::file_bodies::Bodies;
 use crate::journal::Journal;
-use crate::listed::Bodies;
 use crate::read::{BodiesFault, Placed, number, read_bodies};
 use crate::records::Records;
 use crate::version::Version;

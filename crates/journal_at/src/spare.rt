@@ -1,7 +1,7 @@
 //! The file that isn't live, made ready for a compaction.
 
 ghost use Rattle.std.specs.Prelude.{ℕ, List, ◌≡◌, OnOk, false};
-ghost use Rattle.journal_at.specs.Compacting.{Acts, Flips, IsShutIn, Prepares, Safe, Saved, gate_calls, prepare_calls, shut_calls};
+ghost use Rattle.journal_at.specs.Compactions.{Acts, Flips, IsShutIn, Prepares, Safe, Saved, gate_calls, prepare_calls, shut_calls};
 ghost use Rattle.journal_at.specs.Pairs.{Holds};
 ghost use Rattle.site_model.specs.Told.{Elapses, Between};
 

@@ -1,6 +1,6 @@
 //! What becomes of a body, for a failure at each call, at a limit, and behind a crash.
 
-use crate::shared::{letters, opened};
+use crate::letter_journals::{letters, opened};
 use journal_at::journal::Append;
 use site_memory::arm::Choice;
 use site_memory::machine::MemSite;

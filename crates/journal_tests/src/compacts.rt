@@ -2,7 +2,7 @@
 
 ghost use Rattle.std.specs.Prelude.{◌≡◌, ◌∷◌, [], IfOk};
 
-use crate::shared::{letters, opened};
+use crate::letter_journals::{letters, opened};
 use journal_at::body::Body;
 use journal_at::journal::{Append, Compact, Journal};
 use site_memory::arm::Choice;

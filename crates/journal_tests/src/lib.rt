@@ -13,6 +13,6 @@ mod files;
 #[cfg(test)]
 mod journals;
 #[cfg(test)]
-mod loads;
+mod letter_journals;
 #[cfg(test)]
-mod shared;
+mod loads;

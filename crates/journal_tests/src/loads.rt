@@ -1,6 +1,6 @@
 //! What two files stand for.
 
-use crate::shared::spelled;
+use crate::letter_journals::spelled;
 use journal_at::load::{LoadFault, load};
 use journal_at::version::Version;
 use site_memory::machine::MemSite;

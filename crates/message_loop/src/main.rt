@@ -4,8 +4,6 @@
 //! from standard input, as of a request at the path `/`.
 #![tactic(auto)]
 
-ghost use Rattle.std.specs.Prelude.{◌≡◌, IfOk};
-
 use addressing::endpoint::reply_to;
 use at_base::epr::{Epr, Reply};
 use at_base::message::cloned_option;

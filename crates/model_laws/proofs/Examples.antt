@@ -1,6 +1,6 @@
 -- The worked examples, by computation.
 use Rattle.std.specs.Prelude.{refl}
-use Rattle.model_laws.specs.Settle.{deliveries_from, settle_round, settle_rounds, settle_from, settled, settle}
+use Rattle.model_laws.specs.Settlement.{deliveries_from, settle_round, settle_rounds, settle_from, settled, settle}
 use Rattle.model_laws.specs.Examples.{WaitsForAllMessages, PlainPathMessages, PlainPathEffects, NoParticipantMessages, NoParticipantEffects, VolatileFirstMessages, VolatileFirstEffects, ReadOnlyMessages, ReadOnlyEffects, OneAbortsMessages, OneAbortsEffects, LateRegisterMessages, LateRegisterEffects, RegisterTwiceMessages, RegisterTwiceEffects, NewIncarnationMessages, NewIncarnationEffects, PrepareAgainMessages, PrepareAgainEffects, StopBeforeVoteMessages, StopBeforeVoteEffects, StopBehindVoteMessages, StopBehindVoteEffects, DecisionRefusedMessages, DecisionRefusedEffects, HaltBehindDecisionMessages, HaltBehindDecisionEffects, ExpiryMessages, ExpiryEffects, NoExpiryBehindDecisionMessages, NoExpiryBehindDecisionEffects, EndStandsMessages, EndStandsEffects, RollbackOnVolatileLinkMessages, RollbackOnVolatileLinkEffects, InterpositionMessages, InterpositionEffects, SubordinateCrashesMessages, SubordinateCrashesEffects, RegisterTwiceSeats, PlainPathJournals, DecidesWithoutSeats, CommitsAgain, HalfToldSettles, StillRegisteringSettles}
 use Rattle.at_model.specs.Abort.{abort}
 use Rattle.at_model.specs.Phases.{decided, committed, root_answered, voted, sub_answered, go_durable, volatile_answered, all_committed, advance_in, go_volatile}

@@ -1,6 +1,6 @@
 -- The kept outcomes of a journal, and of what it comes to when its dead records are left out.
 use Rattle.std.specs.Prelude.{ℕ, List, [], ◌∷◌, ◌++◌, Bool, true, false, not, ◌||◌, if◌then◌else◌, map, filter, drop, length, zero, suc, nat_lt, ◌+◌, ◌-◌, ◌<◌, ◌≤◌, ◌≡◌, ◌⊎◌, refl}
-use Rattle.std.specs.List.{list_any, AllByRecursion}
+use Rattle.std.specs.List.{AllByRecursion}
 use Rattle.std.proofs.Common.{inl, inr, sym, ap, subst, arith, ◌∙◌}
 use Rattle.std.proofs.lemmas.Bool.{ltb-true, ltb-false}
 use Rattle.std.proofs.lemmas.List.{length-append, length-drop, append-nil, append_assoc, drop-append-le}
@@ -10,11 +10,11 @@ use Rattle.at_base.specs.declared.record.Record.{Record}
 use Rattle.at_base.specs.declared.record.Record.TheVariants as records
 use Rattle.at_model.specs.Book.{is_id}
 use Rattle.at_model.specs.Outcomes.{outcomes_after, with_outcome, put_last, is_kept}
-use Rattle.at_model.specs.Recover.{in_order, incarnation_of, last_incarnation, live}
-use Rattle.model_laws.specs.Compacted.{record_id}
-use Rattle.model_laws.proofs.Deciding.{all_filter, all_join, all_map, all_more}
-use Rattle.model_laws.proofs.Living.{all_in_order, all_live}
-use Rattle.model_laws.proofs.Recovering.{incarnations_rise, or_false, same_id, self_id}
+use Rattle.at_model.specs.Recovery.{in_order, incarnation_of, last_incarnation, live}
+use Rattle.model_laws.specs.Compactions.{record_id}
+use Rattle.model_laws.proofs.DecisionLaws.{all_filter, all_join, all_map, all_more}
+use Rattle.model_laws.proofs.DrawnIds.{all_in_order, all_live}
+use Rattle.model_laws.proofs.RecoveryLaws.{incarnations_rise, or_false, same_id, self_id}
 
 -- the other ids, and the id behind them
 abbrev without : Numbers → List Numbers → List Numbers

@@ -7,8 +7,8 @@ use Rattle.at_base.specs.declared.epr.Epr.{Epr}
 use Rattle.at_model.specs.Book.{Book, Transaction, Enlistment, Completion}
 use Rattle.at_model.specs.Step.{transaction_at}
 use Rattle.at_model.specs.World.{Node, nth, put_nth, receiver_of, who_at, who_of, accepted_seat, accepted_completion, accepted_by, accepted_in}
-use Rattle.model_laws.proofs.Naming.{HaveBases, same_place}
-use Rattle.model_laws.proofs.Running.{put_this, put_other}
+use Rattle.model_laws.proofs.Addresses.{HaveBases, same_place}
+use Rattle.model_laws.proofs.NodeLives.{put_this, put_other}
 
 pub put_put : (n : ℕ) (y z : Node) (xs : List Node) → put_nth n z (put_nth n y xs) ≡ put_nth n z xs
 put_put n y z [] = refl

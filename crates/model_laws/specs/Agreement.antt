@@ -1,5 +1,5 @@
 -- Agreement: what holds of every world, whatever is delivered, lost, repeated, reordered, timed out or crashed.
-use Rattle.std.specs.Prelude.{ℕ, List, [], ◌∷◌, Option, Some, None, Bool, false, nat_eq, ◌&&◌, length, filter, ◌≡◌, ◌⊎◌, ◌≤◌, ◌<◌, ◌^◌}
+use Rattle.std.specs.Prelude.{ℕ, List, [], ◌∷◌, Option, Some, None, Bool, false, nat_eq, ◌&&◌, length, filter, ◌≡◌, ◌⊎◌, ◌≤◌}
 use Rattle.at_base.specs.Numbers.{Numbers}
 use Rattle.at_base.specs.declared.epr.Epr.{Epr}
 use Rattle.at_base.specs.declared.notice.Kind.{Kind}

@@ -8,7 +8,7 @@ use Rattle.at_base.specs.declared.outs.Out.{Out}
 use Rattle.at_base.specs.declared.outs.Out.TheVariants as outs
 use Rattle.at_model.specs.Book.{Book}
 use Rattle.at_model.specs.Step.{step}
-use Rattle.at_model.specs.Recover.{live, incarnation_of, last_incarnation, recovered_transactions, recovered_leaves}
+use Rattle.at_model.specs.Recovery.{live, incarnation_of, last_incarnation, recovered_transactions, recovered_leaves}
 use Rattle.std.specs.Prelude.{Option, None, Some, ◌⊎◌}
 use Rattle.at_base.specs.Numbers.{Numbers}
 use Rattle.at_base.specs.declared.event.Moment.{Moment}

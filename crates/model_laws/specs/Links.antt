@@ -7,7 +7,7 @@ use Rattle.at_tables.specs.declared.cells.State.{State}
 use Rattle.at_tables.specs.declared.cells.State.TheVariants as states
 use Rattle.at_model.specs.Book.{Book, Completion, Superior, Phase}
 use Rattle.at_model.specs.Step.{step}
-use Rattle.at_model.specs.Recover.{recover}
+use Rattle.at_model.specs.Recovery.{recover}
 
 -- it registers, or has registered
 abbrev pub IsJoining : State → Type 0

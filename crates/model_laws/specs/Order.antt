@@ -7,9 +7,9 @@ use Rattle.at_base.specs.declared.event.Item.{Item}
 use Rattle.at_base.specs.declared.event.Event.{Event}
 use Rattle.at_base.specs.declared.event.Event.TheVariants as events
 use Rattle.at_model.specs.Book.{Book, transaction_id, leaf_id, activity_id}
-use Rattle.at_model.specs.Recover.{is_before, recover}
+use Rattle.at_model.specs.Recovery.{is_before, recover}
 use Rattle.at_model.specs.Step.{plan, step}
-use Rattle.model_laws.specs.Drawn.{HoldsDrawn, restarted, LifeEvent, newborn, life_of}
+use Rattle.model_laws.specs.DrawnIds.{HoldsDrawn, restarted, LifeEvent, newborn, life_of}
 
 -- Each id is before all that stand behind it.
 abbrev pub AreRising : List Numbers → Type 0

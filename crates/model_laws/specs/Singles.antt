@@ -21,7 +21,7 @@ use Rattle.at_tables.specs.declared.cells.State.TheVariants as states
 use Rattle.at_model.specs.Book.{Book, Enlistment, Phase}
 use Rattle.at_model.specs.Addresses.{endpoint_of}
 use Rattle.at_model.specs.Step.{step}
-use Rattle.at_model.specs.Recover.{recover}
+use Rattle.at_model.specs.Recovery.{recover}
 use Rattle.at_model.specs.World.{example_base}
 use Rattle.at_model.specs.Views.{message_name, path_in, id_at}
 use Rattle.model_laws.specs.Examples.{first}

@@ -2,15 +2,15 @@
 use Rattle.std.proofs.Common.{ℕ, List, ◌++◌, ◌≡◌, inl, inr, true, false, Some, None, Result, sym, ◌∙◌, ap, subst}
 use Rattle.at_base.specs.declared.record.Record.{Record}
 use Rattle.decision_log.specs.declared.keep.KeepFault.{KeepFault}
-use Rattle.decision_log.specs.Keeping.{after}
-use Rattle.decision_log.specs.Recording.{IsAppended, ending}
+use Rattle.decision_log.specs.KeptRecords.{after}
+use Rattle.decision_log.specs.AppendedRecords.{IsAppended, ending}
 use Rattle.decision_log.specs.Tokens.{Token, token_of}
 use Rattle.interposition.specs.declared.plan.Plan.{Plan}
-use Rattle.interposition.specs.Doing.{done, sent}
+use Rattle.interposition.specs.PlanResults.{done, sent}
 use Rattle.journal_at.specs.declared.journal.Append.{Append}
 use Rattle.journal_at.specs.declared.journal.Append.TheVariants as appends
 use Rattle.journal_at.specs.declared.journal.Journal.{Journal}
-use Rattle.journal_at.specs.Standing.{Counted}
+use Rattle.journal_at.specs.StandingBodies.{Counted}
 use Rattle.record_bytes.specs.Bytes.{bytes_of}
 use Rattle.site_model.specs.Told.{Told}
 use Rattle.std.specs.Prelude.{IfSome}
@@ -19,7 +19,7 @@ use Rattle.node_at.specs.Sends.{Sends, given}
 use Rattle.node_at.specs.State.{State}
 use Rattle.node_at.specs.Steps.{Acts, status_in}
 use Rattle.node_at.specs.Texts.{Leaving}
-use Rattle.node_at.proofs.Going.{stopped, went_full, went_landed, went_refused}
+use Rattle.node_at.proofs.StepRecords.{stopped, went_full, went_landed, went_refused}
 
 -- how the append ended
 pub ended : {T : Type 0} (result : Result T KeepFault) (a : Append) (q r : Record) (j k : Journal) (old mid : Told) → q ≡ r → ending result ≡ Some a

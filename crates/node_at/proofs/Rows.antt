@@ -3,28 +3,28 @@ use Rattle.std.proofs.Common.{ℕ, List, [], ◌∷◌, ◌++◌, ◌+◌, ◌�
 use Rattle.std.proofs.lemmas.List.{append_assoc, append-nil, map-append}
 use Rattle.at_base.specs.declared.record.Record.{Record}
 use Rattle.at_model.specs.Book.{Book}
-use Rattle.decision_log.specs.Keeping.{Known}
+use Rattle.decision_log.specs.KeptRecords.{Known}
 use Rattle.http_post.specs.Conversations.{Hears}
 use Rattle.journal_at.specs.declared.journal.Append.TheVariants as appends
 use Rattle.journal_at.specs.declared.journal.Journal.{Journal}
 use Rattle.journal_at.specs.Pairs.{Holds}
-use Rattle.journal_at.specs.Standing.{Keeps}
+use Rattle.journal_at.specs.StandingBodies.{Keeps}
 use Rattle.record_bytes.specs.Bytes.{bytes_of}
 use Rattle.site_model.specs.Site.{Counts as Numbers}
 use Rattle.site_model.specs.Told.{Told, Made, Still, sent_by}
 use Rattle.node_at.specs.Doings.{AreDoings, AreFates, Does, Doing, IsFateAt, NoLess, Ran, book_behind, calls_of, came_of, deed_of, deeds_of, kept_behind, lost_of, refused_of}
 use Rattle.node_at.specs.Moments.{Deed, Moments, landed_of, sent_of}
-use Rattle.node_at.specs.Refusing.{RanOne}
+use Rattle.node_at.specs.Refusals.{RanOne}
 use Rattle.node_at.specs.Sends.{Counts}
 use Rattle.node_at.specs.State.{State}
 use Rattle.node_at.specs.Steps.{IsFate, Keeping, Went, if_landed, kept_by, landed_by}
 use Rattle.node_at.specs.Turns.{line_of}
 use Rattle.node_at.specs.TurnText.{TurnStep}
-use Rattle.node_at.proofs.Between.{grown_same, grown_then, is_last, through}
-use Rattle.node_at.proofs.Composing.{deeds_sent_append, landed_append, moments_none, moments_then}
-use Rattle.node_at.proofs.Going.{keeps_on, makes_silent}
-use Rattle.node_at.proofs.Moving.{sending_moment, sent_append}
-use Rattle.node_at.proofs.Plain.{and_then, weaker}
+use Rattle.node_at.proofs.CallRows.{grown_same, grown_then, is_last, through}
+use Rattle.node_at.proofs.DeedRows.{deeds_sent_append, landed_append, moments_none, moments_then}
+use Rattle.node_at.proofs.StepRecords.{keeps_on, makes_silent}
+use Rattle.node_at.proofs.StepMoments.{sending_moment, sent_append}
+use Rattle.node_at.proofs.IdFacts.{and_then, weaker}
 
 calls_append : (ds es : List Doing) → calls_of (ds ++ es) ≡ calls_of ds ++ calls_of es
 calls_append [] es = refl

@@ -3,12 +3,12 @@ use Rattle.std.specs.Prelude.{ℕ, List, [], ◌∷◌, ◌++◌, ◌+◌, ◌�
 use Rattle.at_base.specs.declared.outs.Effect.{Effect}
 use Rattle.at_base.specs.declared.record.Record.{Record}
 use Rattle.at_model.specs.Book.{Book}
-use Rattle.decision_log.specs.Keeping.{Known}
+use Rattle.decision_log.specs.KeptRecords.{Known}
 use Rattle.decision_log.specs.Tokens.{token_of}
 use Rattle.journal_at.specs.declared.journal.Append.TheVariants as appends
 use Rattle.journal_at.specs.declared.journal.Journal.{Journal}
 use Rattle.journal_at.specs.Format.{frames}
-use Rattle.journal_at.specs.Standing.{Keeps, Makes}
+use Rattle.journal_at.specs.StandingBodies.{Keeps, Makes}
 use Rattle.journal_at.specs.declared.version.Version.TheVariants.{Two}
 use Rattle.record_bytes.specs.Bytes.{bytes_of}
 use Rattle.record_bytes.specs.Versions.{IsRecord}

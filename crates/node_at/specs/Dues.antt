@@ -5,7 +5,7 @@ use Rattle.at_model.specs.Step.{Outcome, items_of}
 use Rattle.interposition.specs.Due.{due_outcome, due_outcomes, items_behind}
 use Rattle.site_model.specs.Told.{Told}
 use Rattle.node_at.specs.Doings.{Doing, Ran}
-use Rattle.node_at.specs.Refusing.{RanOne}
+use Rattle.node_at.specs.Refusals.{RanOne}
 use Rattle.node_at.specs.State.{State}
 use Rattle.node_at.specs.TurnText.{AreDue, DueSteps, IsOutcome, TurnStep}
 use Rattle.node_at.specs.declared.due.DueEnd.{DueEnd}

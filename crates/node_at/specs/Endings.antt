@@ -1,8 +1,8 @@
 -- A whole turn: its steps, and then its journal is written anew, where all steps were done and that is due.
 use Rattle.std.specs.Prelude.{List, ◌≡◌, if◌then◌else◌}
 use Rattle.at_base.specs.declared.record.Record.{Record}
-use Rattle.decision_log.specs.Keeping.{kept_of}
-use Rattle.journal_at.specs.Standing.{Counted}
+use Rattle.decision_log.specs.KeptRecords.{kept_of}
+use Rattle.journal_at.specs.StandingBodies.{Counted}
 use Rattle.journal_at.specs.declared.version.Version.TheVariants.{Two}
 use Rattle.site_model.specs.Told.{Told}
 use Rattle.node_at.specs.declared.role.Role.{Role}
@@ -10,8 +10,8 @@ use Rattle.node_at.specs.declared.shrink.Shrunk.{Shrunk}
 use Rattle.node_at.specs.declared.shrink.Shrunk.TheVariants.{NoMemory, NotDue}
 use Rattle.node_at.specs.declared.turn.Turned.{Turned}
 use Rattle.node_at.specs.declared.turn.Turned.TheVariants as turneds
-use Rattle.node_at.specs.Shrinking.{IsDue, Shrinks, Stays}
-use Rattle.node_at.specs.Starting.{IsOpen}
+use Rattle.node_at.specs.ShrunkJournals.{IsDue, Shrinks, Stays}
+use Rattle.node_at.specs.Starts.{IsOpen}
 use Rattle.node_at.specs.State.{State}
 use Rattle.node_at.specs.Turns.{Turns}
 

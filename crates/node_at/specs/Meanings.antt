@@ -2,19 +2,19 @@
 use Rattle.std.specs.Prelude.{ℕ, List, [], ◌∷◌, ◌≡◌, Option, Some, None, Bool, true, false, Result, Ok, Err, IsTrue, codes}
 use Rattle.at_base.specs.declared.event.Event.{Event}
 use Rattle.at_base.specs.declared.event.Event.TheVariants as events
-use Rattle.arrivals.specs.Reaching.{reaches}
+use Rattle.arrivals.specs.BookArrivals.{reaches}
 use Rattle.http_post.specs.Requests.{Asked, Asks}
-use Rattle.http_post.specs.Written.{has_reason}
+use Rattle.http_post.specs.OutBytes.{has_reason}
 use Rattle.http_post.specs.declared.refusal.HttpRefusal.{HttpRefusal}
 use Rattle.http_post.specs.declared.refusal.HttpRefusal.TheVariants as refusals
-use Rattle.model_laws.specs.Sound.{IsSoundEvent}
+use Rattle.model_laws.specs.BookBounds.{IsSoundEvent}
 use Rattle.site_model.specs.Told.{Link}
 use Rattle.wire_msgs.specs.Arrivals.{Arrives, IsRefused}
 use Rattle.wire_msgs.specs.declared.decode.Arrival.{Arrival}
 use Rattle.wire_msgs.specs.declared.refusal.Refusal.{Refusal}
 use Rattle.wire_msgs.specs.declared.refusal.Refusal.TheVariants as faults
 use Rattle.wire_posts.specs.Faults.{refusal_status, refusal_text}
-use Rattle.node_at.specs.Serving.{serves}
+use Rattle.node_at.specs.Roles.{serves}
 use Rattle.node_at.specs.declared.role.Role.{Role}
 
 pub data Meaning : Type 0 where

@@ -9,8 +9,8 @@ use Rattle.at_model.specs.Step.{is_decided_root}
 use Rattle.model_laws.specs.Agreement.{IsIn}
 use Rattle.enlistments.specs.Moves.{IsReady}
 use Rattle.owed.specs.Shape.{AreShaped}
-use Rattle.decision_log.specs.Held.{IsAmong}
-use Rattle.decision_log.specs.Keeping.{Known, tokens_of}
+use Rattle.decision_log.specs.KeptState.{IsAmong}
+use Rattle.decision_log.specs.KeptRecords.{Known, tokens_of}
 use Rattle.decision_log.specs.Tokens.{Token}
 use Rattle.decision_log.specs.declared.token.What.{What}
 use Rattle.decision_log.specs.declared.token.What.TheVariants as whats

@@ -4,9 +4,9 @@ use Rattle.std.specs.List.{AllByRecursion}
 use Rattle.at_base.specs.Numbers.{Numbers}
 use Rattle.at_base.specs.declared.outs.Out.{Out}
 use Rattle.decision_log.specs.declared.ready.Leave.TheVariants.{Free, Echo}
-use Rattle.decision_log.specs.Held.{IsAmong}
-use Rattle.decision_log.specs.Keeping.{Known, tokens_of}
-use Rattle.decision_log.specs.Sending.{IsTold, Matches, leave_of}
+use Rattle.decision_log.specs.KeptState.{IsAmong}
+use Rattle.decision_log.specs.KeptRecords.{Known, tokens_of}
+use Rattle.decision_log.specs.OutConditions.{IsTold, Matches, leave_of}
 use Rattle.decision_log.specs.Tokens.{Token}
 use Rattle.site_model.specs.Told.{Told, Made, Apart, Between, Elapses, Within, done, failed}
 use Rattle.node_at.specs.Texts.{Leaving}

@@ -2,10 +2,10 @@
 use Rattle.std.specs.Prelude.{List, Bool, ◌≡◌}
 use Rattle.at_base.specs.declared.outs.Effect.{Effect}
 use Rattle.at_model.specs.Book.{Book}
-use Rattle.decision_log.specs.Held.{known}
-use Rattle.decision_log.specs.Keeping.{IsKept, Known}
+use Rattle.decision_log.specs.KeptState.{known}
+use Rattle.decision_log.specs.KeptRecords.{IsKept, Known}
 use Rattle.journal_at.specs.declared.journal.Journal.{Journal}
-use Rattle.model_laws.specs.Sound.{IsSound}
+use Rattle.model_laws.specs.BookBounds.{IsSound}
 use Rattle.node_at.specs.declared.node.Node.{Node}
 use Rattle.node_at.specs.Promises.{PromisesStand}
 

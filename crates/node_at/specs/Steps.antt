@@ -8,12 +8,12 @@ use Rattle.at_base.specs.declared.record.Record.{Record}
 use Rattle.at_model.specs.Book.{Book}
 use Rattle.at_model.specs.Step.{plan, step}
 use Rattle.interposition.specs.declared.plan.Plan.{Plan}
-use Rattle.interposition.specs.Doing.{done, sent}
-use Rattle.decision_log.specs.Keeping.{Known, after}
+use Rattle.interposition.specs.PlanResults.{done, sent}
+use Rattle.decision_log.specs.KeptRecords.{Known, after}
 use Rattle.decision_log.specs.Tokens.{token_of}
 use Rattle.journal_at.specs.declared.journal.Journal.{Journal}
 use Rattle.journal_at.specs.declared.journal.Append.TheVariants as appends
-use Rattle.journal_at.specs.Standing.{Keeps, Makes}
+use Rattle.journal_at.specs.StandingBodies.{Keeps, Makes}
 use Rattle.journal_at.specs.declared.version.Version.TheVariants.{Two}
 use Rattle.record_bytes.specs.Bytes.{bytes_of}
 use Rattle.record_bytes.specs.Versions.{IsRecord}

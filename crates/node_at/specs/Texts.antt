@@ -1,12 +1,12 @@
 -- The calls by which a step's outs leave: its answer on the connection, and its posts (SOAP 1.1, section 6).
 use Rattle.std.specs.Prelude.{ℕ, List, [], ◌∷◌, ◌++◌, ◌≡◌, Bool, true, false, Option, Some, None}
 use Rattle.addressing.specs.declared.post_to.PostTo.{PostTo}
-use Rattle.addressing.specs.Posting.{post_to_of}
+use Rattle.addressing.specs.PostAddresses.{post_to_of}
 use Rattle.at_base.specs.declared.epr.Epr.{Epr}
 use Rattle.at_base.specs.declared.outs.Out.{Out}
 use Rattle.at_base.specs.declared.outs.Out.TheVariants as outs
 use Rattle.at_base.specs.declared.outs.Post.{Post}
-use Rattle.http_post.specs.Written.{answer_of, has_reason, post_of}
+use Rattle.http_post.specs.OutBytes.{answer_of, has_reason, post_of}
 use Rattle.site_model.specs.Told.{Call}
 use Rattle.wire_posts.specs.Envelopes.{AreBoth, IsTextOf, action_in}
 use Rattle.node_at.specs.declared.text.Sending.{Sending}

@@ -6,7 +6,7 @@ use Rattle.at_base.specs.declared.outs.Out.TheVariants as outs
 use Rattle.at_base.specs.declared.record.Record.{Record}
 use Rattle.at_model.specs.Book.{Book}
 use Rattle.at_model.specs.Step.{Outcome, items_of, plan, step}
-use Rattle.http_post.specs.Written.{answer_of}
+use Rattle.http_post.specs.OutBytes.{answer_of}
 use Rattle.interposition.specs.Due.{due_outcomes}
 use Rattle.site_model.specs.Told.{Call}
 use Rattle.node_at.specs.Meanings.{Hears, Meaning}

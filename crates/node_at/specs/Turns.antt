@@ -8,7 +8,7 @@ use Rattle.at_model.specs.Step.{Outcome}
 use Rattle.http_post.specs.Conversations.{IsSaid, Waits, said, unsaid}
 use Rattle.journal_at.specs.declared.journal.Append.TheVariants as appends
 use Rattle.journal_at.specs.Format.{frames}
-use Rattle.journal_at.specs.Standing.{Keeps, Makes}
+use Rattle.journal_at.specs.StandingBodies.{Keeps, Makes}
 use Rattle.journal_at.specs.declared.version.Version.TheVariants.{Two}
 use Rattle.record_bytes.specs.Bytes.{bytes_of}
 use Rattle.record_bytes.specs.Versions.{IsRecord}

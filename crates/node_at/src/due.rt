@@ -25,7 +25,7 @@ pub enum DueEnd {
 
 impl Node {
     /// The step of an item that is due. It has no record, so a node never halts in it. Nothing is done where there is no memory.
-    #[tactic(auto, using(crate::proofs::Asking::due_done, crate::proofs::Asking::due_not, crate::proofs::Asking::due_never, crate::proofs::Asking::node_after))]
+    #[tactic(auto, using(crate::proofs::DueItems::due_done, crate::proofs::DueItems::due_not, crate::proofs::DueItems::due_never, crate::proofs::DueItems::node_after))]
     fn due_step<S: Site>(&mut self, alloc: Global, site: &mut S, item: &Item, now: u64) -> bool
         requires node { IsNode (seen self.old) }
         requires runs { self.old.halted ≡ false }
@@ -47,7 +47,7 @@ impl Node {
     }
 
     /// One step for each item that is due, each asked when its place comes.
-    #[tactic(auto, using(crate::proofs::Asking::far_begin, crate::proofs::Asking::far_more, crate::proofs::Asking::far_all, crate::proofs::Asking::far_cut))]
+    #[tactic(auto, using(crate::proofs::DueItems::far_begin, crate::proofs::DueItems::far_more, crate::proofs::DueItems::far_all, crate::proofs::DueItems::far_cut))]
     pub(crate) fn due<S: Site>(&mut self, alloc: Global, site: &mut S, now: u64) -> DueEnd
         requires node { IsNode (seen self.old) }
         requires runs { self.old.halted ≡ false }

@@ -1,6 +1,6 @@
 //! Laws of what a step sends.
 
-ghost use Rattle.node_at.specs.Behind.{OutsMayLeave, PromisesStay};
+ghost use Rattle.node_at.specs.PromiseLaws.{OutsMayLeave, PromisesStay};
 ghost use Rattle.node_at.specs.Replies.{StepsReply};
 
 use agreement::laws::{activity_states, finishes_all, leaf_states, recovers_each};
@@ -11,7 +11,7 @@ use model_laws::rules::{
 use owed::laws::books_are_shaped;
 
 /// A message is answered once on the connection, with 200, 202 or 500, and so is a tick; an item that is due answers nobody.
-#[tactic(auto, using(crate::proofs::Replying::steps_reply))]
+#[tactic(auto, using(crate::proofs::Replies::steps_reply))]
 pub fn steps_reply()
     ensures { StepsReply }
 {}
@@ -25,7 +25,7 @@ pub fn outs_may_leave()
 
 /// The promises of a book that are live stay so over each step, with what is kept behind its record; and those of a book that
 /// is recovered are live.
-#[tactic(auto, using(crate::proofs::Restored::stay))]
+#[tactic(auto, using(crate::proofs::RecoveredPromises::stay))]
 pub fn promises_stay()
     ensures { PromisesStay }
 {

@@ -1,12 +1,10 @@
 //! Requests of the program that runs a node.
 
-ghost use Rattle.std.specs.Prelude.{◌≡◌, [], Some, None, IfOk, IfSome, option_map, option_copied, false, true};
+ghost use Rattle.std.specs.Prelude.{◌≡◌, [], Some, None, IfOk, IfSome, false, true};
 ghost use Rattle.at_base.specs.declared.event.Event.TheVariants as events;
 ghost use Rattle.at_base.specs.declared.event.Local.{Local};
-ghost use Rattle.at_model.specs.Book.{next_id};
 ghost use Rattle.at_model.specs.Step.{refuses};
-ghost use Rattle.completion_at.specs.Names.{refusal_of};
-ghost use Rattle.interposition.specs.Planning.{planned};
+ghost use Rattle.interposition.specs.Plans.{planned};
 ghost use Rattle.node_at.specs.Locals.{Asked, added_by, added_in, answered_id, named_by};
 ghost use Rattle.node_at.specs.State.{IsNode, seen};
 ghost use Rattle.node_at.specs.Steps.{Keeping};

@@ -1,7 +1,7 @@
 //! What a node serves.
 
 ghost use Rattle.std.specs.Prelude.{◌≡◌};
-ghost use Rattle.node_at.specs.Serving.{serves};
+ghost use Rattle.node_at.specs.Roles.{serves};
 
 use at_base::target::Target;
 

@@ -1,11 +1,11 @@
 //! Answers and posts, each by what lets it leave.
 
 ghost use Rattle.std.specs.Prelude.{◌≡◌, ◌∷◌, [], true, false, IfSome, is_some, option_copied};
-ghost use Rattle.decision_log.specs.Held.{IsAmong, IsFound, known};
-ghost use Rattle.decision_log.specs.Sending.{IsTold};
+ghost use Rattle.decision_log.specs.KeptState.{IsFound, known};
+ghost use Rattle.decision_log.specs.OutConditions.{IsTold};
 ghost use Rattle.site_model.specs.Calls.{Gave};
 ghost use Rattle.node_at.specs.Sends.{AllMayLeave, MayLeave, Sends, given};
-ghost use Rattle.node_at.specs.Standing.{IsStanding, Rules};
+ghost use Rattle.node_at.specs.StandingTokens.{IsStanding, Rules};
 ghost use Rattle.at_model.specs.Outcomes.{is_kept};
 ghost use Rattle.node_at.specs.Texts.{call_of};
 
@@ -23,7 +23,7 @@ use site_model::site::Site;
 use site_model::source::Failed;
 
 /// Whether a token is that of this id and kind.
-#[tactic(auto, using(crate::proofs::Standing::is_that, crate::proofs::Standing::other_id, crate::proofs::Standing::other_kind))]
+#[tactic(auto, using(crate::proofs::StandingTokens::is_that, crate::proofs::StandingTokens::other_id, crate::proofs::StandingTokens::other_kind))]
 fn is_of(token: &Durable, id: Id, what: What) -> bool
     ensures yes { result ≡ true → token.now ≡ record { id = id; what = what } }
     ensures no { result ≡ false → token.now ≡ record { id = id; what = what } → ⊥ }
@@ -47,7 +47,7 @@ fn find<'a>(fresh: Option<&'a Durable>, kept: &'a Kept, id: Id, what: What) -> O
 }
 
 /// The token of this id and of one of these kinds.
-#[tactic(auto, using(crate::proofs::Standing::first_stands, crate::proofs::Standing::other_stands, crate::proofs::Standing::none_stands))]
+#[tactic(auto, using(crate::proofs::StandingTokens::first_stands, crate::proofs::StandingTokens::other_stands, crate::proofs::StandingTokens::none_stands))]
 fn standing<'a>(
     fresh: Option<&'a Durable>,
     kept: &'a Kept,
@@ -125,7 +125,7 @@ fn give<S: Site>(site: &mut S, _ready: Ready, sending: &Sending) -> Result<(), F
 }
 
 /// Sends an out, which may leave.
-#[tactic(auto, using(crate::proofs::Sending::sends_given))]
+#[tactic(auto, using(crate::proofs::Sends::sends_given))]
 fn send<S: Site>(site: &mut S, encoded: Encoded, fresh: Option<&Durable>, kept: &Kept)
     requires { MayLeave (given (option_copied fresh) (known kept.now)) (known kept.now).done encoded.out }
     ensures { Sends (given (option_copied fresh.entry) (known kept.now)) (known kept.now).done (encoded ∷ []) (S.told site.old) (S.told site.new) }
@@ -140,7 +140,7 @@ fn send<S: Site>(site: &mut S, encoded: Encoded, fresh: Option<&Durable>, kept: 
 }
 
 /// Sends outs in order, each once. Each of them may leave.
-#[tactic(auto, using(crate::proofs::Sending::sends_none, crate::proofs::Sending::sends_then, crate::proofs::Moving::step_moments))]
+#[tactic(auto, using(crate::proofs::Sends::sends_none, crate::proofs::Sends::sends_then, crate::proofs::StepMoments::step_moments))]
 pub fn send_all<S: Site>(site: &mut S, all: Vec<Encoded>, fresh: Option<&Durable>, kept: &Kept)
     requires { AllMayLeave (given (option_copied fresh) (known kept.now)) (known kept.now).done all.items }
     ensures { Sends (given (option_copied fresh.entry) (known kept.now)) (known kept.now).done all.items (S.told site.old) (S.told site.new) }

@@ -2,12 +2,12 @@
 
 ghost use Rattle.std.specs.Prelude.{List, ◌≡◌, true, false};
 ghost use Rattle.at_base.specs.declared.record.Record.{Record};
-ghost use Rattle.decision_log.specs.Held.{known};
-ghost use Rattle.decision_log.specs.Keeping.{kept_of};
+ghost use Rattle.decision_log.specs.KeptState.{known};
+ghost use Rattle.decision_log.specs.KeptRecords.{kept_of};
 ghost use Rattle.journal_at.specs.declared.version.Version.TheVariants.{Two};
-ghost use Rattle.journal_at.specs.Standing.{Counted};
-ghost use Rattle.node_at.specs.Shrinking.{IsDue, Shrinks, Stays, halted_by, shrunk_by};
-ghost use Rattle.node_at.specs.Starting.{IsOpen};
+ghost use Rattle.journal_at.specs.StandingBodies.{Counted};
+ghost use Rattle.node_at.specs.ShrunkJournals.{IsDue, Shrinks, Stays, halted_by, shrunk_by};
+ghost use Rattle.node_at.specs.Starts.{IsOpen};
 ghost use Rattle.node_at.specs.State.{IsNode, seen};
 ghost use Rattle.node_at.specs.declared.shrink.Shrunk.TheVariants.{NoMemory};
 

@@ -4,8 +4,8 @@ ghost use Rattle.std.specs.Prelude.{◌≡◌, ◌+◌, length, map};
 ghost use Rattle.record_bytes.specs.Bytes.{bytes_of, endpoint_bytes, seat_bytes, seats_bytes, text_bytes};
 ghost use Rattle.site_model.specs.Counts.{capped};
 ghost use Rattle.at_base.specs.declared.record.Record.TheVariants as records;
-ghost use Rattle.decision_log.specs.Held.{known};
-ghost use Rattle.decision_log.specs.Shrinking.{shrunk, start_of};
+ghost use Rattle.decision_log.specs.KeptState.{known};
+ghost use Rattle.decision_log.specs.ShrunkJournals.{shrunk, start_of};
 ghost use Rattle.node_at.specs.Sizes.{framed, framed_all, size_of};
 
 use at_base::epr::Epr;
@@ -15,7 +15,7 @@ use at_base::text::Text;
 use decision_log::kept::Kept;
 
 /// With a text and its length.
-#[tactic(auto, using(crate::proofs::Sizing::text_long))]
+#[tactic(auto, using(crate::proofs::Sizes::text_long))]
 fn with_text(size: u64, text: &Text) -> u64
     ensures { result ≡ capped (size + length (text_bytes text.now)) }
 {
@@ -24,7 +24,7 @@ fn with_text(size: u64, text: &Text) -> u64
 }
 
 /// With an endpoint.
-#[tactic(auto, using(crate::proofs::Sizing::endpoint_long))]
+#[tactic(auto, using(crate::proofs::Sizes::endpoint_long))]
 fn with_endpoint(size: u64, endpoint: &Epr) -> u64
     ensures { result ≡ capped (size + length (endpoint_bytes endpoint.now)) }
 {
@@ -32,7 +32,7 @@ fn with_endpoint(size: u64, endpoint: &Epr) -> u64
     with_text(size, &endpoint.params)
 }
 
-#[tactic(auto, using(crate::proofs::Sizing::seat_long))]
+#[tactic(auto, using(crate::proofs::Sizes::seat_long))]
 fn with_seat(size: u64, seated: &Seated) -> u64
     ensures { result ≡ capped (size + length (seat_bytes seated.now)) }
 {
@@ -40,7 +40,7 @@ fn with_seat(size: u64, seated: &Seated) -> u64
     with_endpoint(size, &seated.endpoint)
 }
 
-#[tactic(auto, using(crate::proofs::Sizing::seats_long, crate::proofs::Sizing::more_seats, crate::proofs::Sizing::all_seats))]
+#[tactic(auto, using(crate::proofs::Sizes::seats_long, crate::proofs::Sizes::more_seats, crate::proofs::Sizes::all_seats))]
 fn with_seats(size: u64, seats: &Seats) -> u64
     ensures { result ≡ capped (size + length (seats_bytes seats.now)) }
 {
@@ -62,7 +62,7 @@ fn with_leaf(size: u64, coordinator: &Epr, key: &Text, value: &Text) -> u64
 }
 
 /// With a record's bytes.
-#[tactic(auto, using(crate::proofs::Sizing::start_long, crate::proofs::Sizing::leaf_long, crate::proofs::Sizing::vote_long, crate::proofs::Sizing::decision_long, crate::proofs::Sizing::named_long))]
+#[tactic(auto, using(crate::proofs::Sizes::start_long, crate::proofs::Sizes::leaf_long, crate::proofs::Sizes::vote_long, crate::proofs::Sizes::decision_long, crate::proofs::Sizes::named_long))]
 fn with_bytes(size: u64, entry: &Record) -> u64
     ensures { result ≡ capped (size + length (bytes_of entry.now)) }
 {
@@ -96,7 +96,7 @@ fn with_record(size: u64, entry: &Record) -> u64
 }
 
 /// With records.
-#[tactic(auto, using(crate::proofs::Sizing::more_records, crate::proofs::Sizing::all_records))]
+#[tactic(auto, using(crate::proofs::Sizes::more_records, crate::proofs::Sizes::all_records))]
 pub fn with_records(size: u64, entries: &[Record]) -> u64
     ensures { result ≡ capped (size + framed_all entries.now) }
 {
@@ -108,7 +108,7 @@ pub fn with_records(size: u64, entries: &[Record]) -> u64
 }
 
 /// With a Start, where there is one.
-#[tactic(auto, using(crate::proofs::Sizing::no_start, crate::proofs::Sizing::a_start))]
+#[tactic(auto, using(crate::proofs::Sizes::no_start, crate::proofs::Sizes::a_start))]
 fn with_start(size: u64, start: u32) -> u64
     ensures { result ≡ capped (size + framed_all (start_of start)) }
 {
@@ -120,7 +120,7 @@ fn with_start(size: u64, start: u32) -> u64
 }
 
 /// With outcomes.
-#[tactic(auto, using(crate::proofs::Sizing::outcomes_long))]
+#[tactic(auto, using(crate::proofs::Sizes::outcomes_long))]
 fn with_outcomes(size: u64, ids: &[Id]) -> u64
     ensures { result ≡ capped (size + framed_all (map records.Done ids.now)) }
 {

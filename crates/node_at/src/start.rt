@@ -1,15 +1,15 @@
 //! How a node starts.
 
 ghost use Rattle.std.specs.Prelude.{◌≡◌, [], false, IfOk};
-ghost use Rattle.decision_log.specs.Held.{known};
-ghost use Rattle.node_at.specs.Started.{Starts};
+ghost use Rattle.decision_log.specs.KeptState.{known};
+ghost use Rattle.node_at.specs.StartedNodes.{Starts};
 ghost use Rattle.node_at.specs.State.{IsNode, seen};
 ghost use Rattle.node_at.specs.declared.shrink.Shrunk.TheVariants.{NotDue};
 
 use crate::fault::StartFault;
 use crate::laws::promises_stay;
 use crate::node::Node;
-use crate::opening::{Opened, open};
+use crate::opened_journal::{Opened, open};
 use crate::role::Role;
 use crate::shrink::Shrunk;
 use at_base::text::Text;

@@ -1,13 +1,13 @@
 //! One step.
 
-ghost use Rattle.std.specs.Prelude.{◌≡◌, ◌≤◌, ◌+◌, ◌++◌, ◌∷◌, [], Bool, true, false, IfOk, OnOk, length, vec_capacity, Some, None, option_copied, ℕ};
+ghost use Rattle.std.specs.Prelude.{◌≡◌, ◌≤◌, ◌+◌, ◌++◌, Bool, true, false, IfOk, OnOk, length, vec_capacity, Some, None, option_copied};
 ghost use Rattle.at_base.specs.WellFormed.{IsWellFormed};
-ghost use Rattle.decision_log.specs.Held.{HasRoom, known};
+ghost use Rattle.decision_log.specs.KeptState.{HasRoom, known};
 ghost use Rattle.decision_log.specs.Tokens.{token_of};
-ghost use Rattle.interposition.specs.Doing.{done, recorded, sent};
-ghost use Rattle.interposition.specs.Planning.{planned};
-ghost use Rattle.model_laws.specs.Sound.{IsSound, IsSoundEvent};
-ghost use Rattle.node_at.specs.Planned.{AreTexts, HasRoomFor};
+ghost use Rattle.interposition.specs.PlanResults.{done, recorded, sent};
+ghost use Rattle.interposition.specs.Plans.{planned};
+ghost use Rattle.model_laws.specs.BookBounds.{IsSound, IsSoundEvent};
+ghost use Rattle.node_at.specs.StepMemory.{AreTexts, HasRoomFor};
 ghost use Rattle.node_at.specs.Promises.{PromisesStand};
 ghost use Rattle.node_at.specs.Sends.{AllMayLeave, Sends, given};
 ghost use Rattle.node_at.specs.State.{seen};
@@ -20,9 +20,9 @@ use crate::send::send_all;
 use crate::text::{Encoded, encode_outs};
 use at_base::event::Event;
 use at_base::outs::{Effect, Effects, Out, Outs};
-use decision_log::holding::KeptPlan;
 use decision_log::keep::{KeepFault, keep};
 use decision_log::kept::Kept;
+use decision_log::kept_plan::KeptPlan;
 use decision_log::token::Durable;
 use interposition::book::{keeps_bounds, steps_as_the_model};
 use interposition::plan::Plan;
@@ -158,7 +158,7 @@ impl Node {
     }
 
     /// Appends the record, and does what was planned by what became of it.
-    #[tactic(auto, using(crate::proofs::Going::stopped, crate::proofs::Going::keeping_both, crate::proofs::Going::keeping_counted, crate::proofs::Allowed::given_as))]
+    #[tactic(auto, using(crate::proofs::StepRecords::stopped, crate::proofs::StepRecords::keeping_both, crate::proofs::StepRecords::keeping_counted, crate::proofs::AllowedOuts::given_as))]
     fn recorded<S: Site>(
         &mut self,
         alloc: Global,
@@ -206,7 +206,7 @@ impl Node {
     /// One step: its record, if it has one, then its answer and its posts.
     ///
     /// All memory is taken before the first call of the disk.
-    #[tactic(auto, using(crate::proofs::Modelled::plain_exit, crate::proofs::Modelled::recorded_steps, crate::proofs::Modelled::sound_after, crate::proofs::Modelled::formed))]
+    #[tactic(auto, using(crate::proofs::ModelSteps::plain_exit, crate::proofs::ModelSteps::recorded_steps, crate::proofs::ModelSteps::sound_after, crate::proofs::ModelSteps::formed))]
     pub(crate) fn step<S: Site>(
         &mut self,
         alloc: Global,

@@ -2,7 +2,7 @@
 
 ghost use Rattle.std.specs.Prelude.{◌≡◌, ◌++◌, ◌∷◌, [], IfOk, OnOk, Option, Some};
 ghost use Rattle.std.specs.Option.{option_map};
-ghost use Rattle.http_post.specs.Written.{has_reason};
+ghost use Rattle.http_post.specs.OutBytes.{has_reason};
 ghost use Rattle.wire_posts.specs.Envelopes.{AreBoth, IsTextOf, action_in};
 ghost use Rattle.node_at.specs.Texts.{AreLeaving, IsAnswerOf, IsCallOf, IsPostOf, IsPosted, call_of, goes_to};
 
@@ -150,7 +150,7 @@ fn push(all: &mut Vec<Encoded>, out: &Out, sending: Sending) -> Result<(), Alloc
 }
 
 /// The outs in order, each with the call by which it leaves. Those that go nowhere are left out.
-#[tactic(auto, using(crate::proofs::Leaving::put_more, crate::proofs::Leaving::left_out, crate::proofs::Leaving::all_left))]
+#[tactic(auto, using(crate::proofs::LeavingOuts::put_more, crate::proofs::LeavingOuts::left_out, crate::proofs::LeavingOuts::all_left))]
 pub fn encode_outs(alloc: Global, outs: &[Out]) -> Result<Vec<Encoded>, AllocError>
     ensures { IfOk result (λ all. AreLeaving outs.now all.items) }
 {

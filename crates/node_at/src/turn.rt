@@ -1,22 +1,22 @@
 //! A node's turn: one connection.
 
 ghost use Rattle.std.specs.Prelude.{◌≡◌, [], IsTrue, false, true, option_map};
-ghost use Rattle.http_post.specs.Written.{has_reason};
-ghost use Rattle.model_laws.specs.Sound.{IsSoundEvent};
+ghost use Rattle.http_post.specs.OutBytes.{has_reason};
+ghost use Rattle.model_laws.specs.BookBounds.{IsSoundEvent};
 ghost use Rattle.site_model.specs.Counts.{Rose};
-ghost use Rattle.node_at.specs.Asking.{meaning_of};
+ghost use Rattle.node_at.specs.ConnectionRequests.{meaning_of};
 ghost use Rattle.node_at.specs.Meanings.{IsFit, open_input};
 ghost use Rattle.node_at.specs.Meanings.Meaning.{Lost, Refused, Steps};
-ghost use Rattle.journal_at.specs.Standing.{Counted};
+ghost use Rattle.journal_at.specs.StandingBodies.{Counted};
 ghost use Rattle.node_at.specs.Endings.{Ends, TakesTurn};
 ghost use Rattle.node_at.specs.State.{IsNode, seen};
 ghost use Rattle.node_at.specs.Turns.{IsAnswer, Serves, Turns, Works, turned_by};
 ghost use Rattle.node_at.specs.declared.turn.Turned.TheVariants.{Halted, Served};
 
+use crate::connection_request::{Asked, read};
 use crate::due::DueEnd;
 use crate::laws::{promises_stay, steps_reply};
 use crate::node::Node;
-use crate::reading::{Asked, read};
 use crate::shrink::Shrunk;
 use crate::step::Stepped;
 use at_base::event::Event;
@@ -56,7 +56,7 @@ fn turned_by(event: &Event, status: u16) -> Turned
 
 impl Node {
     /// The turn of a request that is refused.
-    #[tactic(auto, using(crate::proofs::Turning::refused_whole, crate::proofs::Turning::refused_cut, crate::proofs::Turning::cut_first))]
+    #[tactic(auto, using(crate::proofs::Turns::refused_whole, crate::proofs::Turns::refused_cut, crate::proofs::Turns::cut_first))]
     fn run_refused<S: Site>(
         &mut self,
         alloc: Global,
@@ -84,7 +84,7 @@ impl Node {
     }
 
     /// The turn of an event.
-    #[tactic(auto, using(crate::proofs::Turning::event_whole, crate::proofs::Turning::event_cut, crate::proofs::Turning::event_halted, crate::proofs::Turning::cut_first, crate::proofs::Asking::node_after))]
+    #[tactic(auto, using(crate::proofs::Turns::event_whole, crate::proofs::Turns::event_cut, crate::proofs::Turns::event_halted, crate::proofs::Turns::cut_first, crate::proofs::DueItems::node_after))]
     fn run_event<S: Site>(&mut self, alloc: Global, site: &mut S, event: &Event, now: u64) -> Turned
         requires event { IsSoundEvent event.now }
         requires node { IsNode (seen self.old) }
@@ -111,7 +111,7 @@ impl Node {
     }
 
     /// The turn of a connection that failed: what is due is done.
-    #[tactic(auto, using(crate::proofs::Turning::lost_whole, crate::proofs::Turning::lost_cut, crate::proofs::Turning::lost_busy))]
+    #[tactic(auto, using(crate::proofs::Turns::lost_whole, crate::proofs::Turns::lost_cut, crate::proofs::Turns::lost_busy))]
     fn run_lost<S: Site>(&mut self, alloc: Global, site: &mut S, now: u64) -> Turned
         requires node { IsNode (seen self.old) }
         requires runs { self.old.halted ≡ false }
@@ -132,7 +132,7 @@ impl Node {
     }
 
     /// The turn of a connection that asks this, at a time in milliseconds.
-    #[tactic(auto, using(crate::proofs::Turning::cut_first))]
+    #[tactic(auto, using(crate::proofs::Turns::cut_first))]
     fn run<S: Site>(&mut self, alloc: Global, site: &mut S, asked: &Asked, now: u64) -> Turned
         requires fit { IsFit (meaning_of asked.now) }
         requires node { IsNode (seen self.old) }
@@ -154,7 +154,7 @@ impl Node {
     }
 
     /// The turn of the connection that is open. The clock is asked once, when the request is read.
-    #[tactic(auto, using(crate::proofs::Turning::serves_so))]
+    #[tactic(auto, using(crate::proofs::Turns::serves_so))]
     fn serve<S: Site>(&mut self, alloc: Global, site: &mut S) -> Turned
         requires node { IsNode (seen self.old) }
         requires runs { self.old.halted ≡ false }
@@ -170,7 +170,7 @@ impl Node {
     }
 
     /// Opens a connection, and serves it.
-    #[tactic(auto, using(crate::proofs::Turning::turns_opened, crate::proofs::Turning::turns_closed, crate::proofs::Turning::turns_down, crate::proofs::Turning::turns_halted))]
+    #[tactic(auto, using(crate::proofs::Turns::turns_opened, crate::proofs::Turns::turns_closed, crate::proofs::Turns::turns_down, crate::proofs::Turns::turns_halted))]
     fn take_turn<S: Site>(&mut self, alloc: Global, site: &mut S) -> Turned
         requires { IsNode (seen self.old) }
         ensures turns { Turns result self.old.role (seen self.old) (seen self.new) (S.told site.old) (S.told site.new) }
@@ -190,7 +190,7 @@ impl Node {
     }
 
     /// Where all steps were done, writes the journal anew, if that is due.
-    #[tactic(auto, using(crate::proofs::Going::counted_none))]
+    #[tactic(auto, using(crate::proofs::StepRecords::counted_none))]
     fn end_turn<S: Site>(&mut self, alloc: Global, site: &mut S, turned: Turned) -> Turned
         requires { IsNode (seen self.old) }
         ensures ends { Ends S.told turned result self.new.shrunk (seen self.old) (seen self.new) site.old site.new }
@@ -212,7 +212,7 @@ impl Node {
 
     /// Takes one connection: reads its request, does the step of it, answers and posts, and then does one step for each item
     /// that is due, at the time of one look at the clock. At its end the journal is written anew, if that is due.
-    #[tactic(auto, using(crate::proofs::Unanswered::turn_lost, crate::proofs::Unanswered::turn_received))]
+    #[tactic(auto, using(crate::proofs::TurnAnswers::turn_lost, crate::proofs::TurnAnswers::turn_received))]
     pub fn turn<S: Site>(&mut self, alloc: Global, site: &mut S) -> Turned
         requires { IsNode (seen self.old) }
         ensures turn { TakesTurn S.told result self.old.role self.new.shrunk (seen self.old) (seen self.new) site.old site.new }

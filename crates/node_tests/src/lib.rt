@@ -10,7 +10,7 @@ mod four;
 #[cfg(test)]
 mod host;
 #[cfg(test)]
-mod hostile;
+mod hostile_requests;
 #[cfg(test)]
 mod links;
 #[cfg(test)]
@@ -20,11 +20,11 @@ mod memory;
 #[cfg(test)]
 mod net;
 #[cfg(test)]
+mod nodes;
+#[cfg(test)]
 mod peer;
 #[cfg(test)]
 mod replies;
-#[cfg(test)]
-mod shared;
 #[cfg(test)]
 mod shrinks;
 #[cfg(test)]

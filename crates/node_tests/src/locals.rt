@@ -2,7 +2,7 @@
 
 ghost use Rattle.node_at.specs.State.{IsNode, seen};
 
-use crate::shared::started;
+use crate::nodes::started;
 use at_base::event::Local;
 use at_base::id::Id;
 use at_base::text::Text;

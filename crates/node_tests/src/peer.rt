@@ -1,6 +1,6 @@
 //! A node on its machine.
 
-use crate::shared::{number, up};
+use crate::nodes::{number, up};
 use at_base::event::Local;
 use at_base::outs::{Effect, Ending, Told};
 use journal_at::load::load;

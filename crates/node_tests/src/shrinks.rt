@@ -3,7 +3,7 @@
 ghost use Rattle.std.specs.Prelude.{IfSome};
 ghost use Rattle.node_at.specs.State.{IsNode, seen};
 
-use crate::shared::{holding, started};
+use crate::nodes::{holding, started};
 use node_at::node::Node;
 use node_at::shrink::Shrunk;
 use node_at::turn::Turned;

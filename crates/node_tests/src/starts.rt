@@ -1,6 +1,6 @@
 //! What a start leaves in the files, or why there is none.
 
-use crate::shared::{holding, started};
+use crate::nodes::{holding, started};
 use node_at::fault::StartFault;
 use site_memory::arm::Choice;
 use site_memory::machine::MemSite;

@@ -1,6 +1,6 @@
 //! What a turn answers: each answer once, and requests that are refused beside their neighbours that aren't.
 
-use crate::shared::{number, up};
+use crate::nodes::{number, up};
 use node_at::role::Role;
 use site_memory::machine::MemSite;
 use std::alloc::Global;

@@ -3,12 +3,12 @@ use Rattle.std.proofs.Common.{ℕ, List, Some, [], ◌∷◌, ◌++◌, ◌+◌,
 use Rattle.std.proofs.lemmas.List.{append_assoc, append-nil, length-append, take-append-le, take-append-drop}
 use Rattle.std.proofs.Math.Seq.{take-append-add}
 use Rattle.at_base.specs.declared.record.Record.{Record}
-use Rattle.decision_log.specs.Keeping.{kept_of}
+use Rattle.decision_log.specs.KeptRecords.{kept_of}
 use Rattle.journal_at.specs.declared.journal.Journal.{Journal}
 use Rattle.journal_at.specs.declared.version.Version.TheVariants.{Two}
-use Rattle.journal_at.specs.Standing.{Keeps, Spare}
+use Rattle.journal_at.specs.StandingBodies.{Keeps, Spare}
 use Rattle.site_model.specs.Told.{Told, Files, Made, Call, IsPrefix, Still, sent_by}
-use Rattle.node_at.specs.Shrinking.{AreSame, StandForSame}
+use Rattle.node_at.specs.ShrunkJournals.{AreSame, StandForSame}
 use Rattle.node_at.specs.State.{State}
 use Rattle.node_worlds.specs.Acts.{Act, Did, IsSoFar, IsUp, records_in, sent_in}
 use Rattle.node_worlds.proofs.Rows.{after_that, and_then, grown_same, grown_then, no_time, option_map_is, prefix_then, sent_append, through, weaker}

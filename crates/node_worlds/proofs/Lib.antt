@@ -1,17 +1,17 @@
 pub mod Places
-pub mod Stepping
-pub mod Turning
-pub mod Running
-pub mod Keeping
-pub mod Restarting
-pub mod Agreeing
-pub mod Hearing
-pub mod Calling
+pub mod StepLeads
+pub mod TurnLeads
+pub mod NetWorlds
+pub mod KeptRecords
+pub mod Restarts
+pub mod Agreement
+pub mod HeardPosts
+pub mod PostCalls
 mod Rows
 mod Acts
-mod Recording
-mod Quiet
-mod Living
+mod ActRecords
+mod DiskCalls
+mod LifeLaws
 mod Machines
-mod Crashing
-mod Meeting
+mod Crashes
+mod CrashedNets

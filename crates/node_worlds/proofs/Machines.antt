@@ -6,19 +6,19 @@ use Rattle.std.proofs.lemmas.List.{append-nil}
 use Rattle.at_base.specs.declared.event.Event.TheVariants as events
 use Rattle.at_base.specs.declared.record.Record.{Record}
 use Rattle.at_base.specs.declared.record.Record.TheVariants as records
-use Rattle.at_model.specs.Recover.{last_incarnation}
+use Rattle.at_model.specs.Recovery.{last_incarnation}
 use Rattle.at_model.specs.Step.{plan}
 use Rattle.at_model.specs.World.{nth, put_nth, Hosts}
-use Rattle.decision_log.specs.Keeping.{GrowsByOne, kept_of}
-use Rattle.decision_log.specs.Shrinking.{ShrinksTheSame}
+use Rattle.decision_log.specs.KeptRecords.{GrowsByOne, kept_of}
+use Rattle.decision_log.specs.ShrunkJournals.{ShrinksTheSame}
 use Rattle.journal_at.specs.declared.version.Version.{Version}
 use Rattle.journal_at.specs.declared.version.Version.TheVariants.{One, Two}
 use Rattle.record_bytes.specs.Versions.{AreBodies as RecordsAreBodies}
 use Rattle.site_model.specs.Told.{Told, Files, Is}
 use Rattle.node_at.specs.Endings.{Ends}
-use Rattle.node_at.specs.Shrinking.{AreSame}
-use Rattle.node_at.specs.Started.{IsStarted}
-use Rattle.node_at.specs.Starting.{carried, start_after, started}
+use Rattle.node_at.specs.ShrunkJournals.{AreSame}
+use Rattle.node_at.specs.StartedNodes.{IsStarted}
+use Rattle.node_at.specs.Starts.{carried, start_after, started}
 use Rattle.node_at.specs.State.{State}
 use Rattle.node_at.specs.Steps.{if_landed}
 use Rattle.node_at.specs.Turns.{Turns, busy}
@@ -30,14 +30,14 @@ use Rattle.node_at.specs.declared.turn.Turned.TheVariants as turneds
 use Rattle.node_worlds.specs.Acts.{IsUp, acts_in, records_in}
 use Rattle.node_worlds.specs.Machines.{Goes, IsLeftAlone, IsOn, RunsOn, RunsOnMachines}
 use Rattle.node_worlds.specs.Nets.{Net, Place, Runs, new_place, new_places, steps_in}
-use Rattle.node_worlds.specs.Restarting.{RestartsOnRecords, StandsFor}
-use Rattle.node_worlds.specs.Sent.{recorded, records_by}
+use Rattle.node_worlds.specs.Restarts.{RestartsOnRecords, StandsFor}
+use Rattle.node_worlds.specs.SentPosts.{recorded, records_by}
 use Rattle.node_worlds.proofs.Acts.{same_more, up_on}
-use Rattle.node_worlds.proofs.Living.{request_did, turn_did}
+use Rattle.node_worlds.proofs.LifeLaws.{request_did, turn_did}
 use Rattle.node_worlds.proofs.Places.{nth_other, nth_this}
-use Rattle.node_worlds.proofs.Recording.{acts_recorded}
+use Rattle.node_worlds.proofs.ActRecords.{acts_recorded}
 use Rattle.node_worlds.proofs.Rows.{some_is}
-use Rattle.node_worlds.proofs.Running.{carried_last, same_last}
+use Rattle.node_worlds.proofs.NetWorlds.{carried_last, same_last}
 
 pub record IsDown (rs : List Record) (s : Told) : Type 0 where
   pub files : (f : Files) → Is s.files f → StandsFor rs f

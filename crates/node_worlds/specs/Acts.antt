@@ -5,13 +5,13 @@ use Rattle.at_base.specs.declared.event.Event.TheVariants as events
 use Rattle.at_base.specs.declared.event.Local.{Local}
 use Rattle.at_base.specs.declared.record.Record.{Record}
 use Rattle.at_model.specs.Step.{plan}
-use Rattle.decision_log.specs.Keeping.{kept_of}
+use Rattle.decision_log.specs.KeptRecords.{kept_of}
 use Rattle.journal_at.specs.declared.version.Version.TheVariants.{Two}
 use Rattle.site_model.specs.Told.{Told, Made, Call, Files, Between, Elapses, IsPrefix, sent_by}
 use Rattle.node_at.specs.Doings.{Doing}
 use Rattle.node_at.specs.Locals.{Asked}
-use Rattle.node_at.specs.Shrinking.{AreSame, StandForSame}
-use Rattle.node_at.specs.Starting.{IsOpen}
+use Rattle.node_at.specs.ShrunkJournals.{AreSame, StandForSame}
+use Rattle.node_at.specs.Starts.{IsOpen}
 use Rattle.node_at.specs.State.{State}
 use Rattle.node_at.specs.Steps.{if_landed}
 use Rattle.node_at.specs.Texts.{call_by}
@@ -22,7 +22,7 @@ use Rattle.node_at.specs.declared.local.Locally.TheVariants as answers
 use Rattle.node_at.specs.declared.role.Role.{Role}
 use Rattle.node_at.specs.declared.turn.Turned.{Turned}
 use Rattle.node_at.specs.declared.turn.Turned.TheVariants as turneds
-use Rattle.node_worlds.specs.Sent.{records_by}
+use Rattle.node_worlds.specs.SentPosts.{records_by}
 
 -- what a step recorded, and the answers and posts that it sent
 pub record Act : Type 0 where

@@ -1,7 +1,7 @@
 -- Agreement of what served nodes do.
 use Rattle.at_model.specs.World.{World, Hosts, HaveOwnAddresses}
 use Rattle.model_laws.specs.Agreement.{IsAgreed, IsBehindAnswers, IsToldTruly}
-use Rattle.model_laws.specs.Reached.{Reached}
+use Rattle.model_laws.specs.ReachedWorlds.{Reached}
 use Rattle.site_model.specs.Told.{Told}
 use Rattle.node_worlds.specs.Nets.{IsWorldOf, Net, Runs}
 

@@ -7,13 +7,13 @@ use Rattle.at_base.specs.declared.record.Record.{Record}
 use Rattle.at_model.specs.Book.{Book}
 use Rattle.at_model.specs.Step.{Outcome}
 use Rattle.at_model.specs.World.{Node, Posted, World, nth, put_nth, receiver_of, happened_at, Hosts}
-use Rattle.model_laws.specs.Reached.{Heard, Reached}
+use Rattle.model_laws.specs.ReachedWorlds.{Heard, Reached}
 use Rattle.node_at.specs.Doings.{Doing, book_behind, came_of}
 use Rattle.node_at.specs.Meanings.{Meaning}
 use Rattle.node_at.specs.Meanings.Meaning.{Steps}
 use Rattle.node_at.specs.TurnText.{IsStep, Steppings, TurnStep}
 use Rattle.node_at.specs.Steps.{if_landed}
-use Rattle.node_worlds.specs.Sent.{AreSent, Sent, recorded, records_by}
+use Rattle.node_worlds.specs.SentPosts.{AreSent, Sent, recorded, records_by}
 
 -- a post of a node, with the receiver that it has among these nodes
 abbrev pub posted_at : ℕ → List Node → Post → Posted

@@ -1,11 +1,11 @@
-pub mod Sent
+pub mod SentPosts
 pub mod Leads
 pub mod Nets
-pub mod Keeping
+pub mod KeptRecords
 pub mod Agreement
-pub mod Restarting
-pub mod Delivered
+pub mod Restarts
+pub mod Deliveries
 pub mod Acts
 pub mod Lives
 pub mod Machines
-pub mod Crashing
+pub mod Crashes

@@ -5,8 +5,8 @@ use Rattle.completion_at.specs.declared.requests.Refusal.{Refusal}
 use Rattle.site_model.specs.Told.{Told, Still}
 use Rattle.node_at.specs.Endings.{TakesTurn}
 use Rattle.node_at.specs.Locals.{Asked}
-use Rattle.node_at.specs.Started.{IsStarted}
-use Rattle.node_at.specs.Starting.{started}
+use Rattle.node_at.specs.StartedNodes.{IsStarted}
+use Rattle.node_at.specs.Starts.{started}
 use Rattle.node_at.specs.State.{State}
 use Rattle.node_at.specs.declared.local.Locally.{Locally}
 use Rattle.node_at.specs.declared.local.Locally.TheVariants as answers

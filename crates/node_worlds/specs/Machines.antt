@@ -5,15 +5,15 @@ use Rattle.at_base.specs.Numbers.{Numbers}
 use Rattle.at_base.specs.declared.event.Event.TheVariants as events
 use Rattle.at_base.specs.declared.event.Local.{Local}
 use Rattle.at_base.specs.declared.outs.Post.{Post}
-use Rattle.at_model.specs.Recover.{last_incarnation}
+use Rattle.at_model.specs.Recovery.{last_incarnation}
 use Rattle.at_model.specs.Step.{plan}
 use Rattle.at_model.specs.World.{World, nth, Hosts, HaveOwnAddresses}
 use Rattle.site_model.specs.Told.{Told, Files, Is, Made, Between, Within}
 use Rattle.node_at.specs.Doings.{Doing}
 use Rattle.node_at.specs.Endings.{TakesTurn}
 use Rattle.node_at.specs.Locals.{Asked}
-use Rattle.node_at.specs.Started.{IsStarted}
-use Rattle.node_at.specs.Starting.{CannotStart, start_after}
+use Rattle.node_at.specs.StartedNodes.{IsStarted}
+use Rattle.node_at.specs.Starts.{CannotStart, start_after}
 use Rattle.node_at.specs.State.{State}
 use Rattle.node_at.specs.Steps.{if_landed}
 use Rattle.node_at.specs.TurnText.{IsStep, TurnStep}
@@ -26,8 +26,8 @@ use Rattle.node_at.specs.declared.turn.Turned.{Turned}
 use Rattle.node_at.specs.declared.turn.Turned.TheVariants as turneds
 use Rattle.node_worlds.specs.Agreement.{IsOneOutcome}
 use Rattle.node_worlds.specs.Nets.{Brings, IsOpened, IsWorldOf, Net, Place, Runs, after, begun_in, broken, doings_in, new_net, rested, steps_in, with_start, with_started, without}
-use Rattle.node_worlds.specs.Restarting.{StandsFor}
-use Rattle.node_worlds.specs.Sent.{AreSent, Sent, recorded, records_by}
+use Rattle.node_worlds.specs.Restarts.{StandsFor}
+use Rattle.node_worlds.specs.SentPosts.{AreSent, Sent, recorded, records_by}
 
 -- a machine that comes up on these files: reads give them, and a crash leaves them
 pub record IsOn (c : Files) (s : Told) : Type 0 where

@@ -7,20 +7,20 @@ use Rattle.at_base.specs.declared.event.Event.TheVariants as events
 use Rattle.at_base.specs.declared.event.Local.{Local}
 use Rattle.at_base.specs.declared.outs.Post.{Post}
 use Rattle.at_base.specs.declared.record.Record.{Record}
-use Rattle.at_model.specs.Recover.{last_incarnation}
+use Rattle.at_model.specs.Recovery.{last_incarnation}
 use Rattle.at_model.specs.Step.{plan}
 use Rattle.at_model.specs.World.{Happened, Node, Posted, World, decoded, happened_at, lost_in, new_nodes, nth, put_nth, Hosts}
 use Rattle.model_laws.specs.Agreement.{IsIn}
-use Rattle.model_laws.specs.Reached.{Reached}
+use Rattle.model_laws.specs.ReachedWorlds.{Reached}
 use Rattle.site_model.specs.Told.{Told}
 use Rattle.node_at.specs.Doings.{Doing, book_behind, came_of}
 use Rattle.node_at.specs.Endings.{TakesTurn}
 use Rattle.node_at.specs.Locals.{Asked}
 use Rattle.node_at.specs.Meanings.{Means, next_input}
 use Rattle.node_at.specs.Meanings.Meaning.{Steps}
-use Rattle.node_at.specs.Shrinking.{AreSame}
-use Rattle.node_at.specs.Started.{IsStarted}
-use Rattle.node_at.specs.Starting.{carried, start_after}
+use Rattle.node_at.specs.ShrunkJournals.{AreSame}
+use Rattle.node_at.specs.StartedNodes.{IsStarted}
+use Rattle.node_at.specs.Starts.{carried, start_after}
 use Rattle.node_at.specs.State.{State}
 use Rattle.node_at.specs.Steps.{if_landed}
 use Rattle.node_at.specs.TurnText.{IsStep, TurnStep}
@@ -31,7 +31,7 @@ use Rattle.node_at.specs.declared.shrink.Shrunk.{Shrunk}
 use Rattle.node_at.specs.declared.turn.Turned.{Turned}
 use Rattle.node_at.specs.declared.turn.Turned.TheVariants as turneds
 use Rattle.node_worlds.specs.Leads.{posted_at}
-use Rattle.node_worlds.specs.Sent.{AreSent, Sent, recorded, records_by}
+use Rattle.node_worlds.specs.SentPosts.{AreSent, Sent, recorded, records_by}
 
 -- The place of a node: the node, where one runs there, and the records that its journal was told to hold, in order.
 pub record Place : Type 0 where

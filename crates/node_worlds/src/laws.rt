@@ -1,11 +1,11 @@
 //! Laws of nodes that serve.
 
 ghost use Rattle.node_worlds.specs.Agreement.{AgreesWherever, NetsAgree};
-ghost use Rattle.node_worlds.specs.Delivered.{CallsArePosts, PostsAreBrought, PostsAreHeard};
-ghost use Rattle.node_worlds.specs.Keeping.{NetsKeep};
+ghost use Rattle.node_worlds.specs.Deliveries.{CallsArePosts, PostsAreBrought, PostsAreHeard};
+ghost use Rattle.node_worlds.specs.KeptRecords.{NetsKeep};
 ghost use Rattle.node_worlds.specs.Leads.{StepsLead, TurnsLead};
 ghost use Rattle.node_worlds.specs.Nets.{NetsAreWorlds};
-ghost use Rattle.node_worlds.specs.Restarting.{RestartsOnRecords};
+ghost use Rattle.node_worlds.specs.Restarts.{RestartsOnRecords};
 
 use arrivals::laws::what_is_posted_reaches_the_book;
 use decision_log::fold::grows_by_one;
@@ -80,7 +80,7 @@ pub fn calls_are_posts()
 {}
 
 /// Agreement in every world of nodes with addresses of their own that is reached step by step.
-#[tactic(auto, using(crate::proofs::Agreeing::agrees_wherever))]
+#[tactic(auto, using(crate::proofs::Agreement::agrees_wherever))]
 pub fn agrees_wherever()
     ensures { AgreesWherever }
 {}

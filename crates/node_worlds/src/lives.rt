@@ -1,6 +1,6 @@
 //! Laws of nodes on their machines, through all their calls and crashes.
 
-ghost use Rattle.node_worlds.specs.Crashing.{CrashesAreMet};
+ghost use Rattle.node_worlds.specs.Crashes.{CrashesAreMet};
 ghost use Rattle.node_worlds.specs.Lives.{StepsArePrefixed};
 ghost use Rattle.node_worlds.specs.Machines.{MachinesAgree, RunsOnMachines};
 

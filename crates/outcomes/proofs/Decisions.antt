@@ -1,5 +1,5 @@
 -- A decision that is recorded, or kept, has been committed.
-use Rattle.std.specs.Prelude.{ℕ, List, [], ◌∷◌, Option, Some, None, Bool, true, option_map, ◌^◌, ◌≡◌, ◌<◌, refl}
+use Rattle.std.specs.Prelude.{ℕ, List, [], ◌∷◌, Option, Some, None, Bool, true, option_map, ◌≡◌, refl}
 use Rattle.std.proofs.Common.{inl, sym, subst, ◌∙◌}
 use Rattle.at_base.specs.Numbers.{Numbers}
 use Rattle.at_base.specs.declared.epr.Epr.{Epr}
@@ -19,16 +19,16 @@ use Rattle.at_model.specs.Seats.{ending, ending_of, prepared}
 use Rattle.at_model.specs.Step.{moment_of, plan, step}
 use Rattle.at_model.specs.World.{Node, World, happened_at, nth, Hosts, HaveOwnAddresses}
 use Rattle.model_laws.specs.Agreement.{IsIn}
-use Rattle.model_laws.specs.Grows.{Grows}
-use Rattle.model_laws.specs.Reached.{Reached, counts}
-use Rattle.model_laws.proofs.Deciding.{IfThere, in_front}
+use Rattle.model_laws.specs.Growth.{Grows}
+use Rattle.model_laws.specs.ReachedWorlds.{Reached, counts}
+use Rattle.model_laws.proofs.DecisionLaws.{IfThere, in_front}
 use Rattle.agreement.specs.Deeds.{How, StoodFor, happens, recorded, superior_at}
-use Rattle.agreement.specs.Done.{standing}
+use Rattle.agreement.specs.StepDeeds.{standing}
 use Rattle.agreement.specs.LeafDeeds.{LeafDeed, aborts, commits, dropped, for_durable, idles, leaves, prepares, rolls_back}
 use Rattle.agreement.proofs.SeatedEntries.{one_of}
 use Rattle.enlistments.proofs.Nodes.{NodesLaw, nodes_have}
-use Rattle.votes.proofs.Known.{effect_there}
-use Rattle.outcomes.proofs.Kept.{Adds, IsAdded, kept_added}
+use Rattle.votes.proofs.StepItems.{effect_there}
+use Rattle.outcomes.proofs.KeptOutcomes.{Adds, IsAdded, kept_added}
 
 -- the root of a decision has committed
 abbrev pub IsCommittedRoot : World → ℕ → Numbers → Type 0

@@ -11,10 +11,10 @@ use Rattle.at_model.specs.World.{Happened, Who, World}
 use Rattle.model_laws.specs.Agreement.{HasAborted, HasCommitted, HasPosted, IsAnswered, IsBehindAnswers, IsIn, IsOf, IsSplit, Stands, below, itself}
 use Rattle.agreement.proofs.SeatedEntries.{one_of}
 use Rattle.agreement.specs.Sorts.{FitsAccepted, FitsEffect, FitsRecord, IsParticipant, IsTransaction, LeafOf, Root, Sort, Subordinate}
-use Rattle.agreement.proofs.Still.{id_of, promise_id}
-use Rattle.votes.specs.Voting.{HasVoted, is_vote}
-use Rattle.votes.proofs.Gone.{is_promised}
-use Rattle.outcomes.specs.Bound.{CommittedBelow, IsBound, IsUnder, IsUnderOne}
+use Rattle.agreement.proofs.OtherIds.{id_of, promise_id}
+use Rattle.votes.specs.DurableVotes.{HasVoted, is_vote}
+use Rattle.votes.proofs.SingleVotes.{is_promised}
+use Rattle.outcomes.specs.Bonds.{CommittedBelow, IsBound, IsUnder, IsUnderOne}
 
 -- sorts
 abbrev sort_of : (w : World) → IsBound w → Who → Sort

@@ -1,15 +1,15 @@
 -- What is known of each step of a reached world.
-use Rattle.std.specs.Prelude.{ℕ, Some, ◌^◌, ◌≡◌, ◌<◌}
+use Rattle.std.specs.Prelude.{ℕ, Some, ◌≡◌}
 use Rattle.at_base.specs.declared.event.Event.{Event}
 use Rattle.at_model.specs.Book.{Book}
 use Rattle.at_model.specs.World.{Node, World, nth, Hosts, HaveOwnAddresses}
-use Rattle.model_laws.specs.Reached.{Heard, Reached}
-use Rattle.enlistments.specs.Knowing.{CoordinatorsAreKnown}
+use Rattle.model_laws.specs.ReachedWorlds.{Heard, Reached}
+use Rattle.enlistments.specs.KnownCoordinators.{CoordinatorsAreKnown}
 use Rattle.enlistments.specs.Moves.{StepsMove}
-use Rattle.enlistments.specs.Telling.{StepsTell}
-use Rattle.votes.specs.Joint.{OutcomesAreBacked}
-use Rattle.votes.specs.Voting.{VotesAreKept}
-use Rattle.votes.proofs.Living.{world_laws}
+use Rattle.enlistments.specs.NoticeOrigins.{StepsTell}
+use Rattle.votes.specs.VotesAndOutcomes.{OutcomesAreBacked}
+use Rattle.votes.specs.DurableVotes.{VotesAreKept}
+use Rattle.votes.proofs.Lives.{world_laws}
 use Rattle.votes.proofs.Premises.{StepPremises, WorldPremises}
 
 pub record Layers : Type 0 where

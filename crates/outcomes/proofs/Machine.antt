@@ -1,5 +1,5 @@
 -- The machine of atomic commit is consistent.
-use Rattle.std.specs.Prelude.{ℕ, ◌≡◌, ◌⊎◌}
+use Rattle.std.specs.Prelude.{◌≡◌, ◌⊎◌}
 use Rattle.std.proofs.Common.{inl, inr, sym, subst, ◌∙◌}
 use Rattle.at_model.specs.World.{Who, World, Hosts}
 use Rattle.model_laws.specs.Agreement.{IsOf}

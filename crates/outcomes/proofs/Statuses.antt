@@ -19,9 +19,9 @@ use Rattle.at_tables.specs.Names.{is_notice}
 use Rattle.at_model.specs.Book.{is_id}
 use Rattle.at_model.specs.World.{Happened, Node, Posted, Who, World, happened_at, nth}
 use Rattle.model_laws.specs.Agreement.{HasAborted, HasCommitted, HasEnded, HasPosted, IsIn}
-use Rattle.model_laws.proofs.Deciding.{first_true, second_true}
-use Rattle.model_laws.proofs.Recovering.{same_id, self_id}
-use Rattle.votes.specs.Voting.{HasVoted, is_vote}
+use Rattle.model_laws.proofs.DecisionLaws.{first_true, second_true}
+use Rattle.model_laws.proofs.RecoveryLaws.{same_id, self_id}
+use Rattle.votes.specs.DurableVotes.{HasVoted, is_vote}
 use Rattle.votes.proofs.SeatsAt.{any_of}
 use Rattle.outcomes.specs.AtomicCommit.{Status}
 use Rattle.outcomes.specs.Statuses.{has_ended, has_left, is_ending, is_own, says_end, says_read_only, status_of, votes_in}

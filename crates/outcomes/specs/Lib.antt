@@ -1,5 +1,5 @@
 pub mod AtomicCommit
-pub mod Bound
+pub mod Bonds
 pub mod Examples
-pub mod Founded
+pub mod Foundations
 pub mod Statuses

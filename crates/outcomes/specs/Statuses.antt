@@ -1,5 +1,5 @@
 -- How a run of the model is seen as one of the machine of atomic commit.
-use Rattle.std.specs.Prelude.{ℕ, List, Option, Some, None, Bool, true, false, if◌then◌else◌, nat_eq, ◌&&◌, ◌||◌, ◌≡◌, ◌^◌, ◌<◌}
+use Rattle.std.specs.Prelude.{List, Option, Some, None, Bool, true, false, if◌then◌else◌, nat_eq, ◌&&◌, ◌||◌, ◌≡◌}
 use Rattle.std.specs.List.{list_any}
 use Rattle.at_base.specs.Numbers.{Numbers}
 use Rattle.at_base.specs.declared.notice.Kind.TheVariants as kinds
@@ -16,7 +16,7 @@ use Rattle.at_tables.specs.Names.{is_notice}
 use Rattle.at_model.specs.Book.{is_id}
 use Rattle.at_model.specs.World.{Node, Who, World, WorldEvent, nth, run_of, Hosts, HaveOwnAddresses}
 use Rattle.model_laws.specs.Agreement.{IsOf}
-use Rattle.votes.specs.Voting.{is_vote}
+use Rattle.votes.specs.DurableVotes.{is_vote}
 use Rattle.outcomes.specs.AtomicCommit.{Status, Step}
 
 -- what an effect says of the item: it ended so

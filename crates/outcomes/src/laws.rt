@@ -3,11 +3,11 @@
 ghost use Rattle.model_laws.specs.Agreement.{Agrees};
 ghost use Rattle.outcomes.specs.Statuses.{RunsCommitAtomically};
 ghost use Rattle.outcomes.specs.Examples.{StatusesAreSeen};
-ghost use Rattle.outcomes.specs.Founded.{OutcomesAreFounded};
+ghost use Rattle.outcomes.specs.Foundations.{OutcomesAreFounded};
 
 /// In every run a root commits behind its recorded decision, a subordinate behind its recorded vote, and a participant under
 /// a transaction that has committed; and what an initiator is told of the outcome is what its root did.
-#[tactic(auto, using(crate::proofs::Agreeing::outcomes_are_founded))]
+#[tactic(auto, using(crate::proofs::Agreement::outcomes_are_founded))]
 pub fn outcomes_are_founded()
     ensures { OutcomesAreFounded }
 {}
@@ -15,7 +15,7 @@ pub fn outcomes_are_founded()
 /// Agreement: in every run of nodes with addresses of their own, whatever is delivered, lost, repeated, reordered, stopped or crashed, and
 /// through any depth of subordinates, no activity is split and nothing ends twice; a root's commit and a subordinate's vote stand
 /// behind every answer; and an activity is told what its root did (WS-AtomicTransaction 1.2, section 1).
-#[tactic(auto, using(crate::proofs::Agreeing::agrees))]
+#[tactic(auto, using(crate::proofs::Agreement::agrees))]
 pub fn agrees()
     ensures { Agrees }
 {}
@@ -23,7 +23,7 @@ pub fn agrees()
 /// Every run, seen at one root, is a run of a small machine of atomic commit, and that machine is consistent: a member votes;
 /// it commits where everybody is ready, the root by its decision and any other behind its vote; it aborts where nobody has
 /// committed; nothing is undone, and nobody joins once one has committed.
-#[tactic(auto, using(crate::proofs::Unfolding::runs_commit_atomically))]
+#[tactic(auto, using(crate::proofs::AtomicCommitRuns::runs_commit_atomically))]
 pub fn runs_commit_atomically()
     ensures { RunsCommitAtomically }
 {}

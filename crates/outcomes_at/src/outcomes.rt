@@ -1,6 +1,6 @@
 //! The outcomes that a node keeps: its last roots that committed, for initiators that ask again.
 
-ghost use Rattle.std.specs.Prelude.{◌≡◌, ◌++◌, ◌∷◌, ◌≤◌, ◌-◌, [], IfOk, drop, filter, length, not, vec_capacity};
+ghost use Rattle.std.specs.Prelude.{◌≡◌, ◌++◌, ◌∷◌, ◌≤◌, ◌-◌, [], IfOk, filter, length, not, vec_capacity};
 ghost use Rattle.at_base.specs.declared.limits.TheConstants.{MOST_OUTCOMES};
 ghost use Rattle.at_model.specs.Book.{is_id};
 ghost use Rattle.at_model.specs.Outcomes.{is_kept, newest, put_last, with_outcome};

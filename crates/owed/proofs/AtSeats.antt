@@ -24,7 +24,7 @@ use Rattle.model_laws.specs.Agreement.{IsIn}
 use Rattle.agreement.specs.Deeds.{ParticipantSaid}
 use Rattle.owed.specs.Seats.{AnswersSeat, HasAnswered, IsAsked, IsKept, IsOwed, IsTold, Pairs, SaysPrepared}
 use Rattle.owed.specs.Shape.{IsShaped, suits}
-use Rattle.owed.proofs.Along.{IsOpened}
+use Rattle.owed.proofs.StepSeats.{IsOpened}
 use Rattle.owed.proofs.Rules.{Along, Left}
 use Rattle.owed.proofs.Tables.{Are}
 

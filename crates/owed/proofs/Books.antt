@@ -16,23 +16,23 @@ use Rattle.at_model.specs.Book.{Book, Phase, Transaction, transaction_id}
 use Rattle.at_model.specs.Arrivals.{with_answer}
 use Rattle.at_model.specs.Register.{on_register}
 use Rattle.at_model.specs.Step.{Outcome, Plan, still, at_time, moment_of, put_transaction, put_leaf, put_activity, make_transaction, make_leaf, make_activity, registration_outcome, plan, step}
-use Rattle.at_model.specs.Recover.{ends_transaction, is_sub_committed, kept, live, no_seats, recover, recovered_decided, recovered_seat, recovered_voted, transactions_of, with_commit}
+use Rattle.at_model.specs.Recovery.{ends_transaction, is_sub_committed, kept, live, no_seats, recover, recovered_decided, recovered_seat, recovered_voted, transactions_of, with_commit}
 use Rattle.at_model.specs.World.{Node, World, nth, run_of, Hosts}
-use Rattle.model_laws.specs.Behind.{IsInPhase}
-use Rattle.model_laws.specs.Drawn.{restarted, with_entry}
+use Rattle.model_laws.specs.PhaseAnswers.{IsInPhase}
+use Rattle.model_laws.specs.DrawnIds.{restarted, with_entry}
 use Rattle.model_laws.specs.Laws.{HasLeafId}
-use Rattle.model_laws.specs.Reached.{Reached}
+use Rattle.model_laws.specs.ReachedWorlds.{Reached}
 use Rattle.model_laws.specs.Shapes.{Shape, nothing_moves, time_moves, time_passes, transaction_moves, leaf_moves, activity_moves, transaction_registers, transaction_made, leaf_made, activity_made}
-use Rattle.model_laws.proofs.Deciding.{Both, in_branch, plain_both, decision_both, IfThere, decided_says, decided_entry, says_entry, all_find, all_put, all_join}
-use Rattle.model_laws.proofs.Drawing.{leaf_moved_kept, activity_moved_kept}
-use Rattle.model_laws.proofs.Keeping.{IsOfLeaf, NamesLeaf, HasBoth, NoRecord}
-use Rattle.model_laws.proofs.Linking.{Linked}
-use Rattle.model_laws.proofs.Living.{all_in_order, no_entry}
-use Rattle.model_laws.proofs.Reaching.{NodeLaw, nodes_hold, run_reached}
-use Rattle.model_laws.proofs.Shaping.{steps_touch_one}
-use Rattle.model_laws.proofs.Standing.{decides_behind_every_answer}
-use Rattle.agreement.specs.Finished.{IsFinished, AreFinished, NamesRising}
-use Rattle.agreement.proofs.Finishing.{finishes_all}
+use Rattle.model_laws.proofs.DecisionLaws.{Both, in_branch, plain_both, decision_both, IfThere, decided_says, decided_entry, says_entry, all_find, all_put, all_join}
+use Rattle.model_laws.proofs.DrawnItems.{leaf_moved_kept, activity_moved_kept}
+use Rattle.model_laws.proofs.ItemIds.{IsOfLeaf, NamesLeaf, HasBoth, NoRecord}
+use Rattle.model_laws.proofs.LinkDecisions.{Linked}
+use Rattle.model_laws.proofs.DrawnIds.{all_in_order, no_entry}
+use Rattle.model_laws.proofs.ReachedWorlds.{NodeLaw, nodes_hold, run_reached}
+use Rattle.model_laws.proofs.StepShapes.{steps_touch_one}
+use Rattle.model_laws.proofs.PhaseAnswers.{decides_behind_every_answer}
+use Rattle.agreement.specs.FinishedTransactions.{IsFinished, AreFinished, NamesRising}
+use Rattle.agreement.proofs.FinishedTransactions.{finishes_all}
 use Rattle.owed.specs.Shape.{AreShaped, AreSuited, BooksAreShaped, IsShaped, NamesSomebody, suits}
 use Rattle.owed.proofs.Rules.{Left, LeftIn}
 use Rattle.owed.proofs.Steps.{created_shaped, moved_owes, register_shaped}

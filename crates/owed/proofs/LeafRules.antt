@@ -23,12 +23,12 @@ use Rattle.at_model.specs.Leaves.{leaf_aborts, leaf_commit, leaf_commits, leaf_p
 use Rattle.at_model.specs.Moves.{Change, Decision}
 use Rattle.at_model.specs.Posts.{notice_post, stored_or, to_each}
 use Rattle.model_laws.specs.Agreement.{IsIn}
-use Rattle.model_laws.proofs.Deciding.{DecisionSays}
+use Rattle.model_laws.proofs.DecisionLaws.{DecisionSays}
 use Rattle.agreement.specs.LeafDeeds.{CameTo, Notified}
 use Rattle.owed.specs.Leaves.{AnswersRegister, IsRegistered, KeepsLeafVote, LeafOwed, RegistersStill}
 use Rattle.owed.specs.Seats.{Tells}
-use Rattle.owed.specs.Upwards.{TellsAnswer}
-use Rattle.owed.proofs.UpActs.{one_post}
+use Rattle.owed.specs.Links.{TellsAnswer}
+use Rattle.owed.proofs.LinkActs.{one_post}
 
 abbrev pub LeafChange : List ℕ → Event → Leaf → Change Leaf → Type 0
 LeafChange base e l c = LeafOwed base e l c.posts c.item
@@ -96,7 +96,7 @@ says_in m n l c e = subst (λ x. IsIn (notice_post m.base (leaf_target l) c n) (
 
 -- the leaf's states
 pub is_not : (l : Leaf) (x y : State) → l.state ≡ x → is_state x y ≡ false → l.state ≡ y → ⊥
-is_not l x y e f g = Rattle.owed.proofs.Upwards.differs l.state x y e f g
+is_not l x y e f g = Rattle.owed.proofs.LinkRules.differs l.state x y e f g
 
 -- it votes
 prepares : (m : Moment) (e : Event) (l : Leaf) (n : Notice) (h : Notified e l n) (c : Epr) → n ≡ notices.Prepare → l.coordinator ≡ Some c → LeafChange m.base e l (leaf_prepares m l)

@@ -27,7 +27,7 @@ use Rattle.at_model.specs.Due.{Reached, Expired, Over, Unanswered, Nothing, leaf
 use Rattle.at_model.specs.Leaves.{answers_leaf, drops_leaf, leaf_aborts, leaf_act, leaf_fault, leaf_faults, leaf_notice, leaf_refused, leaf_registered, leaf_says, leaf_target, on_leaf}
 use Rattle.at_model.specs.Moves.{Decision, Goes, Records, ignored}
 use Rattle.at_model.specs.Posts.{stored_or}
-use Rattle.model_laws.proofs.Deciding.{either_left, either_says}
+use Rattle.model_laws.proofs.DecisionLaws.{either_left, either_says}
 use Rattle.agreement.specs.LeafDeeds.{CameTo, LeafStands, Notified, registers, works, waits}
 use Rattle.owed.specs.Leaves.{IsRegistered, LeafOwed}
 use Rattle.owed.proofs.LinkTable.{IsDeaf, IsDone, LinkHears, LinkHearsCell, Passes, link_hears}
@@ -39,16 +39,16 @@ use Rattle.at_model.specs.Posts.{accepted}
 use Rattle.at_model.specs.Step.{Plan, arrived_plan, at_time, leaf_at, leaf_or_stranger_plan, leaf_plan, moment_of, participant_plan, plan_of, put_activity, put_leaf, put_transaction, stranger_plan, transaction_at}
 use Rattle.model_laws.specs.Order.{AreRising}
 use Rattle.model_laws.specs.Shapes.{IsAnswer, MovesLeaf, Shape, at_leaf, leaf_when_due, nothing_moves, time_moves, time_passes, transaction_moves, leaf_moves, activity_moves, transaction_registers, transaction_made, leaf_made, activity_made}
-use Rattle.model_laws.proofs.Deciding.{IfThere, all_find, found_id}
-use Rattle.model_laws.proofs.Recovering.{same_id, self_id}
-use Rattle.model_laws.proofs.Drawing.{leaf_moved_kept}
+use Rattle.model_laws.proofs.DecisionLaws.{IfThere, all_find, found_id}
+use Rattle.model_laws.proofs.RecoveryLaws.{same_id, self_id}
+use Rattle.model_laws.proofs.DrawnItems.{leaf_moved_kept}
 use Rattle.model_laws.specs.Laws.{HasLeafId}
-use Rattle.agreement.proofs.Still.{find_other, find_this}
+use Rattle.agreement.proofs.OtherIds.{find_other, find_this}
 use Rattle.enlistments.specs.Moves.{IsReady}
 use Rattle.owed.specs.Seats.{posts_of}
-use Rattle.owed.specs.Upwards.{IsEarly}
+use Rattle.owed.specs.Links.{IsEarly}
 use Rattle.owed.proofs.LeafRules.{LeafChange, LeafIsQuiet, LeafOwes, commit_owes, ends_with, gone, is_not, no_answer, one_message, one_notice, roll_owes, said, same_leaf, says, votes_owe}
-use Rattle.owed.proofs.Seating.{posts_all}
+use Rattle.owed.proofs.SeatPosts.{posts_all}
 
 either : (base : List ℕ) (e : Event) (l : Leaf) (b : Bool) (c d : Decision Leaf) → (b ≡ true → LeafOwes base e l c) → (b ≡ false → LeafOwes base e l d) → LeafOwes base e l (if b then c else d)
 either base e l b c d h k = either_says (LeafChange base e l) (λ r x. Unit {0}) b c d h k

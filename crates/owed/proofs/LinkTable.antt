@@ -11,7 +11,7 @@ use Rattle.at_tables.specs.declared.cells.Act.{Act}
 use Rattle.at_tables.specs.declared.cells.Act.TheVariants as acts
 use Rattle.at_tables.specs.declared.cells.Cell.{Cell}
 use Rattle.at_tables.specs.Tables.{participant_of}
-use Rattle.owed.specs.Upwards.{IsEarly}
+use Rattle.owed.specs.Links.{IsEarly}
 
 -- a link that aborts
 abbrev pub MayRoll : State → Type 0

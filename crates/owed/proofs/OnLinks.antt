@@ -22,14 +22,14 @@ use Rattle.at_model.specs.Book.{Enlistment, Phase, Superior, Transaction}
 use Rattle.at_model.specs.Moves.{begin, effect, become}
 use Rattle.at_model.specs.Posts.{fault_post, invalid_state, stored_or, stranger_post, to_each}
 use Rattle.at_model.specs.Seats.{ending, is_prepared_durable, link_in, link_of, under}
-use Rattle.at_model.specs.Abort.{Reason, Alone, Asked, Faulted}
+use Rattle.at_model.specs.Abort.{Reason, Asked, Faulted}
 use Rattle.at_model.specs.Phases.{upwards, commit_seats, go_volatile}
 use Rattle.at_model.specs.Arrivals.{asked, commit_voted, link_act, link_notice}
 use Rattle.model_laws.specs.Links.{AreIn, IsJoining}
-use Rattle.model_laws.proofs.Linking.{Linked, has_voted, known}
+use Rattle.model_laws.proofs.LinkDecisions.{Linked, has_voted, known}
 use Rattle.agreement.specs.Deeds.{ParticipantSaid}
 use Rattle.owed.specs.Shape.{IsShaped, LinkKnows, LinksKnow, StandsUnder, Waits, suits}
-use Rattle.owed.proofs.Advancing.{Askable, commit_waits, commits, go_volatile_owes}
+use Rattle.owed.proofs.PhaseAdvances.{Askable, commit_waits, commits, go_volatile_owes}
 use Rattle.owed.proofs.AtSeats.{Unheard, same_along, same_left}
 use Rattle.owed.proofs.LinkTable.{LinkHears, LinkHearsCell, MayRoll}
 use Rattle.owed.proofs.Rules.{Along, Left, Loose, Owes, aborts, stays_so}

@@ -17,10 +17,10 @@ use Rattle.at_model.specs.Book.{Completion, Enlistment, Phase, Superior, Transac
 use Rattle.at_model.specs.Moves.{Moving, Change, Decision, become, effect, posts, stays, forgotten}
 use Rattle.at_model.specs.Seats.{completion_in, ending, in_state, initiator_posts, is_open, moved, send_each}
 use Rattle.at_model.specs.Abort.{Reason, abort, links_aborted, until_rolled_back, without_links}
-use Rattle.model_laws.proofs.Deciding.{DecisionSays, either_says}
+use Rattle.model_laws.proofs.DecisionLaws.{DecisionSays, either_says}
 use Rattle.owed.specs.Seats.{IsAsked, IsKept, IsOwed, IsTold, Pairs, SaysPrepared}
 use Rattle.owed.specs.Shape.{AreSuited, IsShaped, NamesSomebody, StandsUnder, Waits, suits}
-use Rattle.owed.proofs.Along.{IsOpened, kept_on, kept_opened, opened_on, pairs_are, pairs_both, pairs_first, rollback_kept}
+use Rattle.owed.proofs.StepSeats.{IsOpened, kept_on, kept_opened, opened_on, pairs_are, pairs_both, pairs_first, rollback_kept}
 use Rattle.owed.proofs.Tables.{Are, are_more, are_moved, every_seat}
 
 -- A transaction on its way: of these kinds and states are its seats, and each durable one that was Prepared is told the

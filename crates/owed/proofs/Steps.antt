@@ -36,21 +36,21 @@ use Rattle.at_model.specs.Arrivals.{answer_request, context_of, is_registering, 
 use Rattle.at_model.specs.Step.{moment_of}
 use Rattle.model_laws.specs.Links.{AreIn}
 use Rattle.model_laws.specs.Shapes.{IsAtSeat, MovesTransaction, at_completion, at_link, at_seat, when_due}
-use Rattle.model_laws.proofs.Deciding.{DecisionHas, IfThere, either_of, second_true}
-use Rattle.model_laws.proofs.Linking.{Linked, Links, completion_links, due_links, link_links, seat_links, known}
-use Rattle.model_laws.proofs.Standing.{then_accepts}
-use Rattle.agreement.specs.Finished.{IsFinished}
-use Rattle.agreement.proofs.Ending.{kept_rise}
-use Rattle.enlistments.specs.Enrolling.{Enrolls, has_completion, has_seat, refuses, takes_completion, takes_seat}
-use Rattle.enlistments.proofs.Enrolling.{register_enrolls}
-use Rattle.enlistments.proofs.Finding.{found_seat}
+use Rattle.model_laws.proofs.DecisionLaws.{IfThere, either_of, second_true}
+use Rattle.model_laws.proofs.LinkDecisions.{Linked, Links, completion_links, due_links, link_links, seat_links, known}
+use Rattle.model_laws.proofs.PhaseAnswers.{then_accepts}
+use Rattle.agreement.specs.FinishedTransactions.{IsFinished}
+use Rattle.agreement.proofs.FinishedMoves.{kept_rise}
+use Rattle.enlistments.specs.Registrations.{Enrolls, has_completion, has_seat, refuses, takes_completion, takes_seat}
+use Rattle.enlistments.proofs.Registrations.{register_enrolls}
+use Rattle.enlistments.proofs.Searches.{found_seat}
 use Rattle.owed.specs.Seats.{IsTold, SaysPrepared}
 use Rattle.owed.specs.Shape.{AreSuited, IsShaped, LinkKnows, LinksKnow, RootStands, StandsUnder, Waits, suits}
-use Rattle.owed.proofs.Along.{owed_on, told_on}
+use Rattle.owed.proofs.StepSeats.{owed_on, told_on}
 use Rattle.owed.proofs.AtSeats.{AtSeat, Unheard}
-use Rattle.owed.proofs.Hearing.{only_one, seat_owes}
+use Rattle.owed.proofs.SeatMessages.{only_one, seat_owes}
 use Rattle.owed.proofs.OnLinks.{IsQuiet, quiet_all}
-use Rattle.owed.proofs.Others.{completion_owes, due_owes, link_owes}
+use Rattle.owed.proofs.OtherMoves.{completion_owes, due_owes, link_owes}
 use Rattle.owed.proofs.Rules.{Left, LeftIn, Owes}
 
 -- more is posted
@@ -226,7 +226,7 @@ is_no (Some a) e = absurd cc
 initiator_stands : (t : Transaction) (c : Completion) (phase : Phase) → t.phase ≡ phase → accepts phase ≡ true → (is_none t.superior && is_none t.completion) ≡ true → c.state ≡ states.Active → IsShaped t
     → StandsUnder t.phase t.superior (Some c)
 initiator_stands t c phase e f g i h =
-    let root : t.superior ≡ None = is_no t.superior (Rattle.model_laws.proofs.Deciding.first_true (is_none t.superior) (is_none t.completion) g) in
+    let root : t.superior ≡ None = is_no t.superior (Rattle.model_laws.proofs.DecisionLaws.first_true (is_none t.superior) (is_none t.completion) g) in
     subst (λ s. StandsUnder t.phase s (Some c)) (sym root) (subst (λ p. RootStands p (Some c)) (sym e) (by_phase phase e f (subst (λ s. StandsUnder t.phase s t.completion) root h.1.1)))
   where
     by_phase : (p : Phase) → t.phase ≡ p → accepts p ≡ true → RootStands t.phase t.completion → RootStands p (Some c)

@@ -19,7 +19,7 @@ use Rattle.model_laws.specs.Agreement.{IsIn}
 use Rattle.agreement.specs.LeafDeeds.{Notified}
 use Rattle.enlistments.specs.Moves.{IsReady}
 use Rattle.owed.specs.Seats.{Tells, posts_of}
-use Rattle.owed.specs.Upwards.{TellsAnswer}
+use Rattle.owed.specs.Links.{TellsAnswer}
 
 -- what answers a Register
 abbrev pub AnswersRegister : Message → Type 0

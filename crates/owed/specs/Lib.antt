@@ -1,7 +1,7 @@
 pub mod Shape
 pub mod Seats
-pub mod Upwards
+pub mod Links
 pub mod Leaves
 pub mod Registers
-pub mod Joining
-pub mod Asking
+pub mod LinkRegistrations
+pub mod DurablePrepares

@@ -21,7 +21,7 @@ use Rattle.at_model.specs.Posts.{notice_post}
 use Rattle.at_model.specs.Seats.{seat_target}
 use Rattle.at_model.specs.Step.{step, transaction_at}
 use Rattle.model_laws.specs.Agreement.{IsIn}
-use Rattle.model_laws.specs.Behind.{accepted_as}
+use Rattle.model_laws.specs.PhaseAnswers.{accepted_as}
 use Rattle.model_laws.specs.Shapes.{IsUnknownAt}
 use Rattle.agreement.specs.Deeds.{ParticipantSaid}
 use Rattle.enlistments.specs.Moves.{IsReady}

@@ -13,12 +13,12 @@ use Rattle.at_tables.specs.declared.cells.State.TheVariants as states
 use Rattle.at_tables.specs.Names.{is_state}
 use Rattle.at_model.specs.Book.{Book, Completion, Enlistment, Phase, Request, Superior, Transaction}
 use Rattle.at_model.specs.Seats.{in_state, is_of, is_prepared_durable}
-use Rattle.at_model.specs.Recover.{no_seats, recover}
+use Rattle.at_model.specs.Recovery.{no_seats, recover}
 use Rattle.at_model.specs.Step.{plan, step}
 use Rattle.at_model.specs.World.{Node, World, WorldEvent, nth, run_of, Hosts}
-use Rattle.model_laws.specs.Behind.{IsInPhase}
-use Rattle.model_laws.specs.Reached.{Reached}
-use Rattle.agreement.specs.Finished.{AreFinished}
+use Rattle.model_laws.specs.PhaseAnswers.{IsInPhase}
+use Rattle.model_laws.specs.ReachedWorlds.{Reached}
+use Rattle.agreement.specs.FinishedTransactions.{AreFinished}
 
 -- The states of volatile and of durable seats. Volatile participants are asked before the durable ones, and may still be
 -- Prepared where a superior asked for the volatile ones alone (WS-AtomicTransaction 1.2, section 3.3.1).

@@ -1,8 +1,7 @@
 -- The endpoints that items and records know are those that nodes write for participants and for seats.
-use Rattle.std.specs.Prelude.{ℕ, List, [], ◌∷◌, Option, Some, None, Bool, true, false, nat_eq, suc, zero, ◌&&◌, ◌+◌, ◌-◌, ◌^◌, if◌then◌else◌, filter, length, map, option_map, ◌≡◌, ◌≤◌, ◌<◌, refl}
+use Rattle.std.specs.Prelude.{ℕ, List, [], ◌∷◌, Option, Some, None, Bool, true, false, ◌&&◌, ◌-◌, if◌then◌else◌, filter, map, option_map, ◌≡◌, ◌≤◌, refl}
 use Rattle.std.specs.List.{AllByRecursion}
-use Rattle.std.proofs.Common.{inl, inr, sym, subst, ap, arith, ◌∙◌}
-use Rattle.std.proofs.lemmas.Bool.{eqb-true, eqb-false}
+use Rattle.std.proofs.Common.{inl, inr, sym, subst, ap, ◌∙◌}
 use Rattle.at_base.specs.Numbers.{Numbers}
 use Rattle.at_base.specs.IdText.{IsId}
 use Rattle.at_base.specs.declared.epr.Epr.{Epr}
@@ -27,37 +26,36 @@ use Rattle.at_tables.specs.Names.{is_kind, is_state}
 use Rattle.at_model.specs.Addresses.{endpoint_of}
 use Rattle.at_model.specs.Book.{Book, Enlistment, Leaf, Transaction}
 use Rattle.at_model.specs.Moves.{Change}
-use Rattle.at_model.specs.Recover.{recovered_seat, recovered_voted}
+use Rattle.at_model.specs.Recovery.{recovered_seat, recovered_voted}
 use Rattle.at_model.specs.Register.{new_seat, protocol_named}
 use Rattle.at_model.specs.Seats.{is_prepared_durable, prepared, seated}
 use Rattle.at_model.specs.Step.{moment_of, plan, step}
-use Rattle.at_model.specs.World.{Node, Posted, World, new_nodes, nth, Hosts, HaveOwnAddresses}
+use Rattle.at_model.specs.World.{Node, Posted, World, nth, Hosts, HaveOwnAddresses}
 use Rattle.model_laws.specs.Agreement.{IsIn}
-use Rattle.model_laws.specs.Behind.{Accepted as Seating, accepted_as}
-use Rattle.model_laws.specs.Reached.{Reached, counts}
-use Rattle.model_laws.proofs.Deciding.{IfThere, all_join}
-use Rattle.model_laws.proofs.Naming.{HaveBases}
+use Rattle.model_laws.specs.PhaseAnswers.{Accepted as Seating, accepted_as}
+use Rattle.model_laws.specs.ReachedWorlds.{Reached, counts}
+use Rattle.model_laws.proofs.DecisionLaws.{IfThere, all_join}
 use Rattle.agreement.specs.Deeds.{AreCounted, AreSeatsAfter, AreSeatsIfLeft, Deed, How, KeepsLink, KeepsLinksIfLeft, coordinator_at, recorded, superior_at}
-use Rattle.agreement.specs.Done.{standing}
+use Rattle.agreement.specs.StepDeeds.{standing}
 use Rattle.agreement.specs.LeafDeeds.{LeafDeed, LeafIdles, aborts, commits, dropped, for_durable, idles, leaves, prepares, registered, registers_again, rests, rolls_back, votes_again}
 use Rattle.agreement.specs.Registers.{RegistersFor}
-use Rattle.agreement.proofs.Registered.{registers_named}
+use Rattle.agreement.proofs.Registers.{registers_named}
 use Rattle.agreement.proofs.SeatedNames.{named_as}
 use Rattle.agreement.proofs.Seats.{deeds_move_seats}
-use Rattle.enlistments.specs.Enrolling.{Enrolls, has_completion, has_seat, refuses, takes_completion, takes_seat}
+use Rattle.enlistments.specs.Registrations.{Enrolls, has_completion, has_seat, refuses, takes_completion, takes_seat}
 use Rattle.enlistments.specs.Leads.{LeadsTo}
 use Rattle.enlistments.specs.Moves.{Registered}
-use Rattle.enlistments.specs.Telling.{IsReply, Responds, names_completion, names_seat}
-use Rattle.enlistments.proofs.Answering.{steps_tell}
+use Rattle.enlistments.specs.NoticeOrigins.{IsReply, Responds, names_completion, names_seat}
+use Rattle.enlistments.proofs.StepNotices.{steps_tell}
 use Rattle.enlistments.proofs.Answers.{held_after, keeps_id}
-use Rattle.enlistments.proofs.Arriving.{HasCome, Stepping, has_come, step_ready, up_known, world_bases, node_number}
-use Rattle.enlistments.proofs.Fresh.{IsFresh, leaf_fresh, made_fresh}
-use Rattle.enlistments.proofs.Lasting.{Held, placed, seat_placed}
+use Rattle.enlistments.proofs.Arrivals.{HasCome, Stepping, has_come, step_ready, up_known, node_number}
+use Rattle.enlistments.proofs.NewItems.{IsFresh, leaf_fresh, made_fresh}
+use Rattle.enlistments.proofs.LastingLeads.{Held, placed, seat_placed}
 use Rattle.enlistments.proofs.Nodes.{NodesLaw, books_have}
 use Rattle.enlistments.proofs.Places.{IsPlaced}
 use Rattle.enlistments.proofs.Posts.{PostLaw, one_has}
 use Rattle.enlistments.proofs.Registers.{IsRegisterOf, for_completion, for_kind, register_of}
-use Rattle.paired.specs.Paired.{IsParticipant, IsSeat, IsSeatIfKnown}
+use Rattle.paired.specs.Partners.{IsParticipant, IsSeat, IsSeatIfKnown}
 
 -- nodes are numbered from 1
 pub node_range : (hosts : Hosts) (w : World) → HaveOwnAddresses hosts → Reached hosts w → (n : ℕ) (x : Node) → nth n w.nodes ≡ Some x → (1 ≤ n) × (n ≤ hosts.count)

@@ -1,3 +1,3 @@
 pub mod Homes
 pub mod OneSeat
-pub mod Pairing
+pub mod Partners

@@ -1,5 +1,5 @@
 -- No transaction gives two seats of a kind to one participant: a repeated Register is given the seat that it has.
-use Rattle.std.specs.Prelude.{ℕ, List, [], ◌∷◌, ◌++◌, Option, Some, None, Bool, true, false, nat_lt, suc, zero, ◌&&◌, ◌+◌, ◌^◌, if◌then◌else◌, drop, find, length, option_map, ◌≡◌, ◌<◌, ◌⊎◌, refl}
+use Rattle.std.specs.Prelude.{ℕ, List, [], ◌∷◌, ◌++◌, Option, Some, None, Bool, true, false, nat_lt, suc, zero, ◌&&◌, ◌+◌, if◌then◌else◌, drop, find, length, option_map, ◌≡◌, ◌⊎◌, refl}
 use Rattle.std.specs.List.{AllByRecursion}
 use Rattle.std.proofs.Common.{inl, inr, sym, subst, ap, arith, ◌∙◌}
 use Rattle.std.proofs.lemmas.List.{length-append}
@@ -21,29 +21,29 @@ use Rattle.at_model.specs.Register.{Registration, accepts, held_seat, may_comple
 use Rattle.at_model.specs.Step.{moment_of, plan, step, transaction_at}
 use Rattle.at_model.specs.World.{Accepted, Node, Who, World, who_at, accepted_by, accepted_in, lost_in, new_nodes, nth, put_book, Hosts, HaveOwnAddresses}
 use Rattle.model_laws.specs.Agreement.{IsIn}
-use Rattle.model_laws.specs.Reached.{Reached, counts}
-use Rattle.model_laws.proofs.Deciding.{IfThere, all_more, found_id}
-use Rattle.model_laws.proofs.Holding.{Law, holds}
-use Rattle.model_laws.proofs.Naming.{leads_home}
+use Rattle.model_laws.specs.ReachedWorlds.{Reached, counts}
+use Rattle.model_laws.proofs.DecisionLaws.{IfThere, all_more, found_id}
+use Rattle.model_laws.proofs.WorldInvariants.{Law, holds}
+use Rattle.model_laws.proofs.Addresses.{leads_home}
 use Rattle.model_laws.proofs.Nodes.{accepted_same, seats_same}
 use Rattle.agreement.specs.Deeds.{AreSeatsAfter, AreSeatsIfLeft, How, IsSameIfLeft}
-use Rattle.agreement.specs.Done.{standing}
+use Rattle.agreement.specs.StepDeeds.{standing}
 use Rattle.agreement.proofs.SeatedBooks.{finds_each}
-use Rattle.agreement.proofs.Seated.{world_seated}
+use Rattle.agreement.proofs.SeatRegistrations.{world_seated}
 use Rattle.agreement.proofs.SeatedEntries.{IsNew, at_further_seat, entries, in_either, is_new, of_transaction, one_of}
 use Rattle.agreement.proofs.Seats.{deeds_move_seats}
-use Rattle.enlistments.specs.Enrolling.{Enrolls, has_completion, has_seat, refuses, takes_completion, takes_seat}
+use Rattle.enlistments.specs.Registrations.{Enrolls, has_completion, has_seat, refuses, takes_completion, takes_seat}
 use Rattle.enlistments.specs.Moves.{IsReady, Registered}
-use Rattle.enlistments.proofs.After.{transactions_after}
-use Rattle.enlistments.proofs.Arriving.{Stepping, out_unit, step_ready, world_bases}
-use Rattle.enlistments.proofs.Finding.{both_true}
-use Rattle.enlistments.proofs.Fresh.{made_fresh}
-use Rattle.enlistments.proofs.Lasting.{found_stands}
-use Rattle.enlistments.proofs.Moving.{step_moves}
-use Rattle.votes.specs.Answering.{HasSeat, registration}
-use Rattle.votes.specs.Saying.{who_named}
+use Rattle.enlistments.proofs.StepItems.{transactions_after}
+use Rattle.enlistments.proofs.Arrivals.{Stepping, out_unit, step_ready, world_bases}
+use Rattle.enlistments.proofs.Searches.{both_true}
+use Rattle.enlistments.proofs.NewItems.{made_fresh}
+use Rattle.enlistments.proofs.LastingLeads.{found_stands}
+use Rattle.enlistments.proofs.StepMoves.{step_moves}
+use Rattle.votes.specs.NamedParticipants.{HasSeat, registration}
+use Rattle.votes.specs.SeatStates.{who_named}
 use Rattle.votes.proofs.SeatsAt.{SeatOf, seat_of}
-use Rattle.paired.specs.Paired.{IsParticipant, participant_of}
+use Rattle.paired.specs.Partners.{IsParticipant, participant_of}
 use Rattle.paired.proofs.Homes.{register_home, transactions_home}
 
 abbrev pub HasOneSeat : World → Type 0

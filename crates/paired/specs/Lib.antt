@@ -1,1 +1,1 @@
-pub mod Paired
+pub mod Partners

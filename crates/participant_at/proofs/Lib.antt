@@ -1,4 +1,4 @@
-mod Naming
-mod Ending
-mod Employing
-mod Modelled
+mod EqualAnswers
+mod ListEnds
+mod Employments
+mod PlanLaws

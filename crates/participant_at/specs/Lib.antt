@@ -1,5 +1,5 @@
 pub mod Answers
 pub mod Branches
-pub mod Employing
-pub mod Planning
-pub mod Whole
+pub mod Employments
+pub mod LeafPlans
+pub mod BookPlans

@@ -1,9 +1,8 @@
 //! What a leaf does by itself: it expires, and it sends again (WS-Coordination 1.2, section 2.1; this project's profile).
 
-ghost use Rattle.std.specs.Prelude.{◌≡◌, ◌&&◌, ◌||◌, ◌++◌, IfOk, OnOk, [], Some, None, map};
+ghost use Rattle.std.specs.Prelude.{◌≡◌, ◌&&◌, ◌||◌, ◌++◌, IfOk, OnOk, Some, None, map};
 ghost use Rattle.at_base.specs.declared.event.Moment.{Moment};
 ghost use Rattle.at_base.specs.declared.outs.Out.TheVariants as outcome;
-ghost use Rattle.at_model.specs.Leaves.{leaf_refused};
 ghost use Rattle.at_model.specs.Due.{has_come, is_quiet, is_some_post, leaf_again, leaf_due, leaf_expires, leaf_reached, leaf_register_again};
 ghost use Rattle.at_model.specs.Step.{is_reached};
 ghost use Rattle.at_tables.specs.Names.{is_state};

@@ -3,15 +3,13 @@
 ghost use Rattle.std.specs.Prelude.{◌≡◌, ◌∷◌, IfOk, OnOk, [], ◌++◌, Some, None, length, option_copied};
 ghost use Rattle.at_model.specs.Book.{find_by, leaf_id};
 ghost use Rattle.at_model.specs.Posts.{accepted};
-ghost use Rattle.at_model.specs.Due.{leaf_due, leaf_reached};
-ghost use Rattle.at_model.specs.Leaves.{leaf_ended};
+ghost use Rattle.at_model.specs.Due.{leaf_due};
 ghost use Rattle.at_model.specs.Step.{is_reached};
-ghost use Rattle.at_model.specs.World.{is_lost_leaf};
 ghost use Rattle.at_tables.specs.Names.{is_kind};
 ghost use Rattle.by_id.specs.Lists.{altered, next_due};
-ghost use Rattle.by_id.specs.Plans.{branch_of, decided};
-ghost use Rattle.participant_at.specs.Whole.{PlansAsTheModel};
-ghost use Rattle.participant_at.specs.Planning.{nothing, work_arrived, leaf_arrived, arrived_at, leaf_asked, item_asked, leaves_plan, leaves_lost, has_kind};
+ghost use Rattle.by_id.specs.Plans.{branch_of};
+ghost use Rattle.participant_at.specs.BookPlans.{PlansAsTheModel};
+ghost use Rattle.participant_at.specs.LeafPlans.{nothing, work_arrived, leaf_arrived, arrived_at, leaf_asked, item_asked, leaves_plan, leaves_lost, has_kind};
 
 use crate::due::{may_expire, on_due};
 use crate::leaf::Leaf;
@@ -31,7 +29,7 @@ use std::alloc::{AllocError, Global};
 use std::marker::Model;
 
 /// At each event that moves a leaf, the plan of the leaves is the model's plan of the book that holds them.
-#[tactic(auto, using(crate::proofs::Modelled::plans_as_the_model))]
+#[tactic(auto, using(crate::proofs::PlanLaws::plans_as_the_model))]
 pub fn plans_as_the_model()
     ensures { PlansAsTheModel }
 {}

@@ -1,7 +1,7 @@
 //! Leaves that a node's records keep alive.
 
 ghost use Rattle.std.specs.Prelude.{◌≡◌, ◌∷◌, ◌++◌, IfOk, OnOk, []};
-ghost use Rattle.at_model.specs.Recover.{leaves_of, recovered_leaf};
+ghost use Rattle.at_model.specs.Recovery.{leaves_of, recovered_leaf};
 
 use crate::leaf::Leaf;
 use crate::leaves::Leaves;

@@ -4,7 +4,7 @@ ghost use Rattle.std.specs.Prelude.{◌≡◌, ◌++◌, IfOk, [], Some, None, m
 ghost use Rattle.at_model.specs.Leaves.{leaf_aborts, leaf_commits, leaf_prepares, leaf_records_vote, leaf_votes, leaf_commit, leaf_roll_back};
 ghost use Rattle.at_base.specs.declared.notice.Notice.TheVariants as notices;
 ghost use Rattle.at_base.specs.declared.record.Record.TheVariants as records;
-ghost use Rattle.at_model.specs.Moves.{begin, posts, forgotten, stays, ignored};
+ghost use Rattle.at_model.specs.Moves.{begin, posts, forgotten, ignored};
 ghost use Rattle.at_model.specs.Leaves.{leaf_says, leaf_ended, leaf_faults, leaf_act, leaf_notice, answers_leaf, leaf_registered, leaf_refused, drops_leaf, leaf_fault, on_leaf, work_answer};
 ghost use Rattle.at_model.specs.Arrivals.{relates_to};
 ghost use Rattle.at_tables.specs.Names.{is_state};
@@ -358,7 +358,7 @@ fn faults_and_ends(
 }
 
 /// Nothing happens to the leaf.
-#[tactic(auto, using(crate::proofs::Ending::nothing_more))]
+#[tactic(auto, using(crate::proofs::ListEnds::nothing_more))]
 pub fn ignores(alloc: Global, outs: OutList, leaf: &Leaf) -> Result<Plan<Leaf>, AllocError>
     ensures { IfOk result (λ plan. plan ≡ decided outs leaf.now.id (ignored leaf.now)) }
 {
@@ -524,7 +524,7 @@ fn is_dropped_by(leaf: &Leaf, name: &Text) -> bool
 }
 
 /// A fault at a leaf.
-#[tactic(auto, using(crate::proofs::Ending::nothing_more), unfolding(at_model::specs::Leaves::leaf_fault))]
+#[tactic(auto, using(crate::proofs::ListEnds::nothing_more), unfolding(at_model::specs::Leaves::leaf_fault))]
 fn faulted(
     alloc: Global,
     outs: OutList,

@@ -5,7 +5,7 @@ ghost use Rattle.at_base.specs.declared.outs.Out.TheVariants as outcome;
 ghost use Rattle.at_model.specs.Create.{deadline_of};
 ghost use Rattle.at_model.specs.Posts.{accepted};
 ghost use Rattle.at_model.specs.Leaves.{new_leaf, leaf_register, refuse_work, employ, work_for, on_work};
-ghost use Rattle.participant_at.specs.Employing.{employed};
+ghost use Rattle.participant_at.specs.Employments.{employed};
 
 use crate::leaf::{Leaf, WorkRequest};
 use crate::posts::{Answer, push_register, replied};

@@ -1,8 +1,8 @@
-mod Leaves
-mod Seats
-mod Back
-mod Spelled
-mod Whole
-mod Apart
-mod Put
+mod NumbersAndTexts
+mod ReadSeats
+mod RecordRoundtrip
+mod SpelledParts
+mod SpelledRecords
+mod Uniqueness
+mod WrittenSeats
 mod Sizes

@@ -14,7 +14,7 @@ use Rattle.journal_at.specs.Format.{IsBody, mark_of, old_mark}
 use Rattle.journal_at.specs.declared.version.Version.TheVariants.{Two}
 use Rattle.record_bytes.specs.Bytes.{bytes_of, each_seat, endpoint_bytes, id_bytes, seat_bytes, seats_bytes, text_bytes}
 use Rattle.record_bytes.specs.Versions.{AreBodies}
-use Rattle.record_bytes.proofs.Leaves.{four, two}
+use Rattle.record_bytes.proofs.NumbersAndTexts.{four, two}
 
 id_long : (id : Numbers) → length (id_bytes id) ≡ 8
 id_long id = let k = length-append (to_be_bytes w32 id.incarnation) (to_be_bytes w32 id.counter) in omega (arith, k, four id.incarnation, four id.counter)

@@ -1,3 +1,3 @@
 pub mod Bytes
 pub mod Versions
-pub mod Reading
+pub mod RecordReaders

@@ -3,7 +3,7 @@
 ghost use Rattle.std.specs.Prelude.{◌≡◌, ◌<◌, ◌^◌, length};
 ghost use Rattle.std.specs.Int.{from_be_bytes, to_be_bytes, w16, w32};
 ghost use Rattle.record_bytes.specs.declared.cursor.ReadFault.TheVariants.{NoMemory};
-ghost use Rattle.record_bytes.specs.Reading.{Reads, id_in, letters_in, short_in, text_in, word_in};
+ghost use Rattle.record_bytes.specs.RecordReaders.{Reads, id_in, letters_in, short_in, text_in, word_in};
 
 use at_base::id::Id;
 use at_base::text::Text;
@@ -68,7 +68,7 @@ fn word_of(front: &[u8]) -> u32
 
 impl<'a> Cursor<'a> {
     /// A number of two bytes.
-    #[tactic(auto, using(crate::proofs::Leaves::is_short, crate::proofs::Leaves::no_short))]
+    #[tactic(auto, using(crate::proofs::NumbersAndTexts::is_short, crate::proofs::NumbersAndTexts::no_short))]
     pub(crate) fn short(&mut self) -> Result<u16, ReadFault>
         ensures { Reads result self.new (short_in self.old) }
     {
@@ -80,7 +80,7 @@ impl<'a> Cursor<'a> {
     }
 
     /// A number of four bytes.
-    #[tactic(auto, using(crate::proofs::Leaves::is_word, crate::proofs::Leaves::no_word))]
+    #[tactic(auto, using(crate::proofs::NumbersAndTexts::is_word, crate::proofs::NumbersAndTexts::no_word))]
     pub(crate) fn word(&mut self) -> Result<u32, ReadFault>
         ensures { Reads result self.new (word_in self.old) }
     {
@@ -92,7 +92,7 @@ impl<'a> Cursor<'a> {
     }
 
     /// An id, both parts of which are at least 1.
-    #[tactic(auto, using(crate::proofs::Leaves::lacks), unfolding(crate::specs::Reading::id_in))]
+    #[tactic(auto, using(crate::proofs::NumbersAndTexts::lacks), unfolding(crate::specs::RecordReaders::id_in))]
     pub(crate) fn id(&mut self) -> Result<Id, ReadFault>
         ensures { Reads result self.new (id_in self.old) }
     {
@@ -108,7 +108,7 @@ impl<'a> Cursor<'a> {
     }
 
     /// So many bytes of text.
-    #[tactic(auto, using(crate::proofs::Leaves::is_text, crate::proofs::Leaves::no_text, crate::proofs::Leaves::not_long), unfolding(crate::specs::Reading::letters_in))]
+    #[tactic(auto, using(crate::proofs::NumbersAndTexts::is_text, crate::proofs::NumbersAndTexts::no_text, crate::proofs::NumbersAndTexts::not_long), unfolding(crate::specs::RecordReaders::letters_in))]
     fn letters(&mut self, alloc: Global, size: usize) -> Result<Text, ReadFault>
         ensures { Reads result self.new (letters_in size self.old) }
     {
@@ -124,7 +124,7 @@ impl<'a> Cursor<'a> {
     }
 
     /// A text behind its length.
-    #[tactic(auto, using(crate::proofs::Leaves::lacks), unfolding(crate::specs::Reading::text_in))]
+    #[tactic(auto, using(crate::proofs::NumbersAndTexts::lacks), unfolding(crate::specs::RecordReaders::text_in))]
     pub(crate) fn text(&mut self, alloc: Global) -> Result<Text, ReadFault>
         ensures { Reads result self.new (text_in self.old) }
     {

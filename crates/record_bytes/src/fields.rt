@@ -1,7 +1,7 @@
 //! Endpoints, seats and records that are read.
 
 ghost use Rattle.std.specs.Prelude.{◌≡◌, ◌++◌, ◌∷◌, [], OnOk};
-ghost use Rattle.record_bytes.specs.Reading.{Reads, decision_in, each_in, endpoint_in, fields_in, leaf_in, named, named_in, seat_in, seats_in, start_in, vote_in};
+ghost use Rattle.record_bytes.specs.RecordReaders.{Reads, decision_in, each_in, endpoint_in, fields_in, leaf_in, named, named_in, seat_in, seats_in, start_in, vote_in};
 
 use crate::cursor::{Cursor, ReadFault};
 use at_base::epr::Epr;
@@ -32,7 +32,7 @@ fn named(tag: u8, id: Id) -> Option<Record>
 }
 
 impl<'a> Cursor<'a> {
-    #[tactic(auto, using(crate::proofs::Leaves::lacks), unfolding(crate::specs::Reading::endpoint_in))]
+    #[tactic(auto, using(crate::proofs::NumbersAndTexts::lacks), unfolding(crate::specs::RecordReaders::endpoint_in))]
     fn endpoint(&mut self, alloc: Global) -> Result<Epr, ReadFault>
         ensures { Reads result self.new (endpoint_in self.old) }
     {
@@ -41,7 +41,7 @@ impl<'a> Cursor<'a> {
         Ok(Epr { address, params })
     }
 
-    #[tactic(auto, using(crate::proofs::Leaves::lacks), unfolding(crate::specs::Reading::seat_in))]
+    #[tactic(auto, using(crate::proofs::NumbersAndTexts::lacks), unfolding(crate::specs::RecordReaders::seat_in))]
     fn seat(&mut self, alloc: Global) -> Result<Seated, ReadFault>
         ensures { Reads result self.new (seat_in self.old) }
     {
@@ -51,7 +51,7 @@ impl<'a> Cursor<'a> {
     }
 
     /// So many seats.
-    #[tactic(auto, using(crate::proofs::Seats::read_none, crate::proofs::Seats::read_more, crate::proofs::Seats::read_no_more, crate::proofs::Seats::read_all))]
+    #[tactic(auto, using(crate::proofs::ReadSeats::read_none, crate::proofs::ReadSeats::read_more, crate::proofs::ReadSeats::read_no_more, crate::proofs::ReadSeats::read_all))]
     fn each(&mut self, alloc: Global, count: u16) -> Result<Seats, ReadFault>
         ensures { Reads result self.new (each_in count self.old) }
     {
@@ -65,7 +65,7 @@ impl<'a> Cursor<'a> {
         Ok(Seats::from_vec(seats))
     }
 
-    #[tactic(auto, using(crate::proofs::Leaves::lacks), unfolding(crate::specs::Reading::seats_in))]
+    #[tactic(auto, using(crate::proofs::NumbersAndTexts::lacks), unfolding(crate::specs::RecordReaders::seats_in))]
     fn seats(&mut self, alloc: Global) -> Result<Seats, ReadFault>
         ensures { Reads result self.new (seats_in self.old) }
     {
@@ -73,7 +73,7 @@ impl<'a> Cursor<'a> {
         self.each(alloc, count)
     }
 
-    #[tactic(auto, using(crate::proofs::Leaves::lacks, crate::proofs::Back::record_back), unfolding(crate::specs::Reading::start_in))]
+    #[tactic(auto, using(crate::proofs::NumbersAndTexts::lacks, crate::proofs::RecordRoundtrip::record_back), unfolding(crate::specs::RecordReaders::start_in))]
     fn start(&mut self) -> Result<Record, ReadFault>
         ensures { Reads result self.new (start_in self.old) }
     {
@@ -81,7 +81,7 @@ impl<'a> Cursor<'a> {
         Ok(Record::Start { incarnation })
     }
 
-    #[tactic(auto, using(crate::proofs::Leaves::lacks), unfolding(crate::specs::Reading::leaf_in))]
+    #[tactic(auto, using(crate::proofs::NumbersAndTexts::lacks), unfolding(crate::specs::RecordReaders::leaf_in))]
     fn leaf(&mut self, alloc: Global) -> Result<Record, ReadFault>
         ensures { Reads result self.new (leaf_in self.old) }
     {
@@ -97,7 +97,7 @@ impl<'a> Cursor<'a> {
         })
     }
 
-    #[tactic(auto, using(crate::proofs::Leaves::lacks), unfolding(crate::specs::Reading::vote_in))]
+    #[tactic(auto, using(crate::proofs::NumbersAndTexts::lacks), unfolding(crate::specs::RecordReaders::vote_in))]
     fn vote(&mut self, alloc: Global) -> Result<Record, ReadFault>
         ensures { Reads result self.new (vote_in self.old) }
     {
@@ -111,7 +111,7 @@ impl<'a> Cursor<'a> {
         })
     }
 
-    #[tactic(auto, using(crate::proofs::Leaves::lacks), unfolding(crate::specs::Reading::decision_in))]
+    #[tactic(auto, using(crate::proofs::NumbersAndTexts::lacks), unfolding(crate::specs::RecordReaders::decision_in))]
     fn decision(&mut self, alloc: Global) -> Result<Record, ReadFault>
         ensures { Reads result self.new (decision_in self.old) }
     {
@@ -120,7 +120,7 @@ impl<'a> Cursor<'a> {
         Ok(Record::Decided { id, seats })
     }
 
-    #[tactic(auto, using(crate::proofs::Leaves::lacks), unfolding(crate::specs::Reading::named_in))]
+    #[tactic(auto, using(crate::proofs::NumbersAndTexts::lacks), unfolding(crate::specs::RecordReaders::named_in))]
     fn named(&mut self, tag: u8) -> Result<Record, ReadFault>
         ensures { Reads result self.new (named_in tag self.old) }
     {
@@ -132,7 +132,7 @@ impl<'a> Cursor<'a> {
     }
 
     /// What stands behind a tag.
-    #[tactic(auto, unfolding(crate::specs::Reading::fields_in))]
+    #[tactic(auto, unfolding(crate::specs::RecordReaders::fields_in))]
     pub(crate) fn fields(&mut self, alloc: Global, tag: u8) -> Result<Record, ReadFault>
         ensures { Reads result self.new (fields_in tag self.old) }
     {

@@ -1,8 +1,7 @@
 //! Records that are read.
 
-ghost use Rattle.std.specs.Prelude.{◌≡◌, ◌↔◌, IsTrue};
-ghost use Rattle.at_base.specs.WellFormed.{IsWellFormed};
-ghost use Rattle.record_bytes.specs.Reading.{IsAnswer, Spells};
+ghost use Rattle.std.specs.Prelude.{◌↔◌, IsTrue};
+ghost use Rattle.record_bytes.specs.RecordReaders.{IsAnswer, Spells};
 ghost use Rattle.record_bytes.specs.Versions.{AreApart, IsOfVersion};
 
 use crate::cursor::{Cursor, ReadFault};
@@ -44,7 +43,7 @@ pub fn is_of_version(version: Version, entry: &Record) -> bool
 }
 
 /// The record that all bytes spell, whatever its bounds.
-#[tactic(auto, using(crate::proofs::Apart::all_spelled, crate::proofs::Apart::none_spelled, crate::proofs::Apart::more_behind, crate::proofs::Apart::empty))]
+#[tactic(auto, using(crate::proofs::Uniqueness::all_spelled, crate::proofs::Uniqueness::none_spelled, crate::proofs::Uniqueness::more_behind, crate::proofs::Uniqueness::empty))]
 fn spelled(alloc: Global, body: &[u8]) -> Result<Record, ReadFault>
     ensures { Spells result body.now }
 {
@@ -64,7 +63,7 @@ fn spelled(alloc: Global, body: &[u8]) -> Result<Record, ReadFault>
 }
 
 /// The record that a body of a file of this version is.
-#[tactic(auto, using(crate::proofs::Apart::is_record, crate::proofs::Apart::unformed, crate::proofs::Apart::unallowed, crate::proofs::Apart::unspelled))]
+#[tactic(auto, using(crate::proofs::Uniqueness::is_record, crate::proofs::Uniqueness::unformed, crate::proofs::Uniqueness::unallowed, crate::proofs::Uniqueness::unspelled))]
 pub fn read_record(alloc: Global, version: Version, body: &[u8]) -> Result<Record, ReadFault>
     ensures { IsAnswer version result body.now }
 {

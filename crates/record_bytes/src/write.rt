@@ -1,6 +1,6 @@
 //! Records that are written.
 
-ghost use Rattle.std.specs.Prelude.{◌≡◌, ◌≤◌, ◌<◌, ◌^◌, ◌++◌, ◌∷◌, IfOk, OnOk, length};
+ghost use Rattle.std.specs.Prelude.{◌≡◌, ◌<◌, ◌^◌, ◌++◌, ◌∷◌, IfOk, OnOk, length};
 ghost use Rattle.std.specs.List.{All};
 ghost use Rattle.std.specs.Int.{to_be_bytes, w16, w32};
 ghost use Rattle.std.specs.Str.{IsUtf8};
@@ -68,7 +68,7 @@ fn put_seat(out: &mut Vec<u8>, seated: &Seated) -> Result<(), AllocError>
     put_endpoint(out, &seated.endpoint)
 }
 
-#[tactic(auto, using(crate::proofs::Put::none_put, crate::proofs::Put::more_put, crate::proofs::Put::all_put, crate::proofs::Put::all_typed, crate::proofs::Put::endpoint_at))]
+#[tactic(auto, using(crate::proofs::WrittenSeats::none_put, crate::proofs::WrittenSeats::more_put, crate::proofs::WrittenSeats::all_put, crate::proofs::WrittenSeats::all_typed, crate::proofs::WrittenSeats::endpoint_at))]
 fn put_each(out: &mut Vec<u8>, seats: &[Seated]) -> Result<(), AllocError>
     requires { All (λ s. IsEndpoint s.endpoint) seats.now }
     ensures done { OnOk result (out.new.items ≡ out.old.items ++ each_seat seats.now) }

@@ -3,9 +3,9 @@
 ghost use Rattle.std.specs.Prelude.{List, ◌≡◌, ◌<◌, ◌++◌, ◌∷◌, [], IfOk};
 ghost use Rattle.at_base.specs.declared.record.Record.{Record};
 ghost use Rattle.at_base.specs.declared.record.Record.TheVariants as records;
-ghost use Rattle.at_model.specs.Recover.{recover};
-ghost use Rattle.decision_log.specs.Held.{known};
-ghost use Rattle.decision_log.specs.Keeping.{kept_of};
+ghost use Rattle.at_model.specs.Recovery.{recover};
+ghost use Rattle.decision_log.specs.KeptState.{known};
+ghost use Rattle.decision_log.specs.KeptRecords.{kept_of};
 ghost use Rattle.journal_at.specs.declared.version.Version.TheVariants.{Two};
 
 use at_base::text::Text;

@@ -1,7 +1,7 @@
-pub mod Arming
+pub mod PaddedLists
 pub mod Loops
 pub mod Marks
-pub mod Reading
-pub mod Resting
-pub mod Running
-mod Printing
+pub mod ReplayableSchedules
+pub mod RestEvents
+pub mod ReplayRuns
+mod EventLines

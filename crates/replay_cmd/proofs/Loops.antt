@@ -4,7 +4,7 @@ use Rattle.std.specs.Prelude.{Some, None}
 use Rattle.at_model.specs.Views.{up}
 use Rattle.at_model.specs.World.{opening, example_hosts}
 use Rattle.world_laws.specs.Runs.{Run, world_of}
-use Rattle.replay_cmd.specs.Delivered.{lowest}
+use Rattle.replay_cmd.specs.Deliveries.{lowest}
 use Rattle.replay_cmd.specs.ReportOf.{Course, all_up, delivers, delivers_where, flushes, happens}
 
 pub opened : (r : Run) (count : ℕ) → r ≡ record { count = count; events = [] } → world_of r ≡ opening (example_hosts count)

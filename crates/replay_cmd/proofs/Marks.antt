@@ -1,7 +1,7 @@
 -- Which messages were delivered, place by place.
 use Rattle.std.proofs.Common.{ℕ, zero, suc, ◌+◌, ◌≤◌, ◌<◌, Bool, true, false, ◌≡◌, refl, List, [], ◌∷◌, ◌++◌, length, slice_index_or, slice_set, arith, ap}
 use Rattle.std.specs.Prelude.{Some, None}
-use Rattle.replay_cmd.specs.Delivered.{all_yes, lowest, yes_at}
+use Rattle.replay_cmd.specs.Deliveries.{all_yes, lowest, yes_at}
 
 pub set_yes : (k : ℕ) (bs : List Bool) → k < length bs → slice_set bs k true ≡ yes_at k bs
 set_yes k [] h = grind arith

@@ -3,9 +3,9 @@ use Rattle.std.specs.Prelude.{ℕ, List, Bool, true, ◌≡◌, ◌≤◌, Ok}
 use Rattle.std.specs.List.{AllByRecursion}
 use Rattle.at_model.specs.World.{World, WorldEvent, opening, run_of, example_hosts}
 use Rattle.model_laws.specs.Agreement.{HasOneSuperior, IsAgreed, IsBehindAnswers, IsToldTruly}
-use Rattle.model_laws.specs.Drawn.{AreApart}
-use Rattle.model_laws.specs.Made.{made_on}
-use Rattle.model_laws.specs.Settle.{MayStart, is_settled}
+use Rattle.model_laws.specs.DrawnIds.{AreApart}
+use Rattle.model_laws.specs.MadeIds.{made_on}
+use Rattle.model_laws.specs.Settlement.{MayStart, is_settled}
 use Rattle.schedules.specs.declared.line.Line.{Line}
 use Rattle.schedules.specs.Schedules.{schedule_of}
 use Rattle.replay_cmd.specs.ReportOf.{nodes_of, settled_world_of, world_of, world_with}

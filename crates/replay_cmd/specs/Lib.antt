@@ -1,4 +1,4 @@
-pub mod Delivered
+pub mod Deliveries
 pub mod Examples
 pub mod Faults
 pub mod Laws

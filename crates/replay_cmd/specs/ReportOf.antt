@@ -13,15 +13,15 @@ use Rattle.at_model.specs.Book.{Book}
 use Rattle.at_model.specs.Step.{refuses}
 use Rattle.at_model.specs.Views.{line_of, up, deliver_to, tick_at, request, begin_at, interpose_at, work_at, commit_at}
 use Rattle.at_model.specs.World.{World, WorldEvent, Posted, Happened, Turn, Ask, Crash, Up, Deliver, Tick, nth, node_of, opening, world_step, example_hosts}
-use Rattle.model_laws.specs.Settle.{settle}
+use Rattle.model_laws.specs.Settlement.{settle}
 use Rattle.schedules.specs.Generator.{made}
 use Rattle.schedules.specs.declared.line.Line.{Line}
 use Rattle.schedules.specs.declared.line.Line.TheVariants as lines
 use Rattle.world_laws.specs.Firsts.{first_records}
 use Rattle.world_laws.specs.Runs.{clock_at, book_at, incarnation_at}
 use Rattle.world_laws.specs.Moves.{left_of, losses_of, steps_of}
-use Rattle.world_laws.specs.declared.posted.Counted.{Counted}
-use Rattle.world_laws.specs.declared.taken.Answer.{Answer}
+use Rattle.world_laws.specs.declared.posts.Counted.{Counted}
+use Rattle.world_laws.specs.declared.step_outs.Answer.{Answer}
 use Rattle.replay_cmd.specs.declared.course.Behind.{Behind}
 use Rattle.replay_cmd.specs.declared.course.Behind.TheVariants as behinds
 use Rattle.replay_cmd.specs.declared.fault.Armed.{Armed}
@@ -31,7 +31,7 @@ use Rattle.replay_cmd.specs.declared.lines.Outcome.{Outcome}
 use Rattle.replay_cmd.specs.declared.lines.Outcome.TheVariants as outcomes
 use Rattle.replay_cmd.specs.declared.lines.Started.{Started}
 use Rattle.replay_cmd.specs.declared.lines.Started.TheVariants as starts
-use Rattle.replay_cmd.specs.Delivered.{yes_at, lowest}
+use Rattle.replay_cmd.specs.Deliveries.{yes_at, lowest}
 use Rattle.replay_cmd.specs.Faults.{armed_behind, struck}
 use Rattle.effect_words.specs.Words.{refusal_word}
 use Rattle.replay_cmd.specs.Lines.{up_line, up_already_line, down_line, deliver_line, no_message_line, tick_line, refused_line, effect_line, message_line, end_line, summary_line}

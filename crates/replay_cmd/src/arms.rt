@@ -5,8 +5,8 @@ ghost use Rattle.replay_cmd.specs.Faults.{armed_behind, rest_of, still_armed};
 ghost use Rattle.replay_cmd.specs.ReportOf.{armed_at, nobody_armed};
 ghost use Rattle.world_laws.specs.Events.{event_of};
 
+use crate::armed_calls::START_CALLS;
 use crate::fault::Armed;
-use crate::met::START_CALLS;
 use std::alloc::{AllocError, Global};
 use std::marker::Model;
 use world_laws::event::WorldEvent;
@@ -47,7 +47,7 @@ impl Arms {
     }
 
     /// Arms a call of a node in place of the one that is armed.
-    #[tactic(auto, using(crate::proofs::Arming::set_past))]
+    #[tactic(auto, using(crate::proofs::PaddedLists::set_past))]
     pub fn set(&mut self, node: u8, armed: Option<Armed>)
         ensures { self.new ≡ slice_set self.old (node - 1) armed }
     {

@@ -1,22 +1,22 @@
 //! A replay on its way.
 
-ghost use Rattle.std.specs.Prelude.{◌≡◌, ◌≤◌, ◌<◌, ◌+◌, ◌-◌, ◌^◌, ◌++◌, [], IfOk, OnOk, None, Some, length, drop, map, option_map, option_copied};
+ghost use Rattle.std.specs.Prelude.{◌≡◌, ◌≤◌, ◌<◌, ◌+◌, ◌-◌, ◌^◌, ◌++◌, [], IfOk, OnOk, None, Some, length, drop, map, option_map};
 ghost use Rattle.at_model.specs.Views.{deliver_to, request, tick_at, up};
 ghost use Rattle.at_model.specs.World.{Turn, Ask, Crash, nth, opening, world_step, example_hosts};
 ghost use Rattle.world_laws.specs.Events.{event_of, input_of};
 ghost use Rattle.world_laws.specs.Runs.{book_at, world_of};
 ghost use Rattle.world_laws.specs.Firsts.{first_records};
 ghost use Rattle.world_laws.specs.Moves.{left_of, losses_of, steps_of};
-ghost use Rattle.replay_cmd.specs.Delivered.{lowest, yes_at};
+ghost use Rattle.replay_cmd.specs.Deliveries.{lowest, yes_at};
 ghost use Rattle.replay_cmd.specs.Lines.{no_message_line};
 ghost use Rattle.replay_cmd.specs.ReportOf.{all_happen, all_up, comes, comes_to, comes_to_rest, delivers, effect_lines, flushes, goes_to, happens, line_before, line_behind, behind_of, meets, nobody_armed, printed, receiver_in, request_result, start_result, step_lines, summed, whole, with_armed, begun};
 
+use crate::armed_calls::strike;
 use crate::arms::{Arms, known_rest};
-use crate::delivered::Delivered;
+use crate::deliveries::Delivered;
 use crate::endings::{push_ended, push_summed};
 use crate::fault::{Armed, Fault};
 use crate::lines::{Lines, Started};
-use crate::met::strike;
 use crate::steps::{outcome_of, push_effects, push_steps, started_by};
 use at_base::event::Local;
 use at_base::outs::Effects;
@@ -25,7 +25,7 @@ use settlement::settle::settle;
 use std::alloc::{AllocError, Global};
 use std::marker::Model;
 use world_laws::event::{Fates, Input, WorldEvent};
-use world_laws::posted::Steps;
+use world_laws::posts::Steps;
 use world_laws::world::{Stepped, World};
 
 /// A world takes no more events; the lines of a schedule give fewer.
@@ -308,7 +308,7 @@ impl Course {
     }
 
     /// An event happens, which met this fault or none; and how many of its fates it left.
-    #[tactic(auto, using(crate::proofs::Printing::happened))]
+    #[tactic(auto, using(crate::proofs::EventLines::happened))]
     fn happen(
         self,
         alloc: Global,

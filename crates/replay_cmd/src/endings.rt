@@ -9,7 +9,7 @@ use crate::lines::Lines;
 use at_base::notice::Kind;
 use at_base::outs::{Effect, Ending};
 use std::alloc::{AllocError, Global};
-use world_laws::posted::NodeEffect;
+use world_laws::posts::NodeEffect;
 use world_laws::world::World;
 
 fn is_ending(a: Ending, b: Ending) -> bool

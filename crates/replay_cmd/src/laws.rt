@@ -7,20 +7,20 @@ use outcomes::laws::agrees;
 use settled::laws::settles;
 
 /// What is read as a schedule may be replayed.
-#[tactic(auto, using(crate::proofs::Reading::read_is_replayable))]
+#[tactic(auto, using(crate::proofs::ReplayableSchedules::read_is_replayable))]
 pub fn what_is_read_is_replayable()
     ensures { ReadIsReplayable }
 {}
 
 /// The world of a report is that of a run of its nodes.
-#[tactic(auto, using(crate::proofs::Resting::reports_runs))]
+#[tactic(auto, using(crate::proofs::RestEvents::reports_runs))]
 pub fn a_report_is_that_of_a_run()
     ensures { ReportsRuns }
 {}
 
 /// In the world of a report no two participants of one transaction end differently, through any depth of interposition, and all
 /// else holds of it that holds of every run (WS-AtomicTransaction 1.2, section 1).
-#[tactic(auto, using(crate::proofs::Resting::reports_are_safe))]
+#[tactic(auto, using(crate::proofs::RestEvents::reports_are_safe))]
 pub fn reports_are_safe()
     ensures { ReportsAreSafe }
 {
@@ -31,7 +31,7 @@ pub fn reports_are_safe()
 }
 
 /// A report's world that is brought to rest is at rest, where no node has spent its incarnations.
-#[tactic(auto, using(crate::proofs::Resting::reports_come_to_rest))]
+#[tactic(auto, using(crate::proofs::RestEvents::reports_come_to_rest))]
 pub fn reports_come_to_rest()
     ensures { ReportsComeToRest }
 {

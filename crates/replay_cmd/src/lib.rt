@@ -1,14 +1,14 @@
 //! The report of a schedule: what its lines do to a world, and what is printed of that.
 #![tactic(auto)]
 
+pub mod armed_calls;
 pub mod arms;
 pub mod course;
-pub mod delivered;
+pub mod deliveries;
 pub mod endings;
 pub mod fault;
 pub mod laws;
 pub mod lines;
-pub mod met;
 pub mod replay;
 pub mod requests;
 pub mod steps;

@@ -13,7 +13,7 @@ use at_base::outs::{Effect, Ending};
 use effect_words::{ending_word, kind_letter, told_word};
 use std::alloc::{AllocError, Global};
 use std::marker::Model;
-use world_laws::posted::Posted;
+use world_laws::posts::Posted;
 
 /// How a start came out.
 #[derive(Clone, Copy, Debug, PartialEq, Eq)]

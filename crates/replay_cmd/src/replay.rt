@@ -160,7 +160,7 @@ pub fn replay(alloc: Global, schedule: &Schedule, settle: bool) -> Result<Lines,
 }
 
 /// The schedule of a seed.
-#[tactic(auto, using(crate::proofs::Running::made_is_replayable))]
+#[tactic(auto, using(crate::proofs::ReplayRuns::made_is_replayable))]
 fn made(alloc: Global, seed: u64, steps: u16) -> Result<Schedule, AllocError>
     requires { steps ≤ 9999 }
     ensures made { IfOk result (λ schedule. schedule ≡ made seed steps) }

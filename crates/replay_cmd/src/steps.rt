@@ -1,14 +1,14 @@
 //! The lines of an event's steps: of each its effects, and then its posts.
 
-ghost use Rattle.std.specs.Prelude.{◌≡◌, ◌≤◌, ◌<◌, ◌+◌, ◌^◌, ◌++◌, OnOk, length, take};
+ghost use Rattle.std.specs.Prelude.{◌≡◌, ◌≤◌, ◌<◌, ◌+◌, ◌^◌, ◌++◌, OnOk, length};
 ghost use Rattle.replay_cmd.specs.ReportOf.{cut_by, effect_lines, message_lines, outcome_of, own_count, start_cut_by, started_by, status_in, status_of, step_lines};
 
 use crate::fault::Fault;
 use crate::lines::{Lines, Outcome, Started};
 use at_base::outs::Effect;
 use std::alloc::{AllocError, Global};
-use world_laws::posted::{Counted, Posted};
-use world_laws::taken::Answer;
+use world_laws::posts::{Counted, Posted};
+use world_laws::step_outs::Answer;
 
 /// The HTTP status of an answer; 0 where there is none.
 fn status_of(answer: &Option<Answer>) -> u16

@@ -17,7 +17,7 @@ use Rattle.schedules.specs.declared.line.Line.{Line}
 use Rattle.schedules.specs.declared.line.Line.TheVariants as lines
 use Rattle.schedules.specs.Meanings.{◌>>=◌, count_of, begin_line, interpose_line, work_line, commit_line, rollback_line, deliver_line, flush_line, tick_line, crash_line, up_line, stop_so, filled, stop_filled, stop_line, fail_line, meaning}
 use Rattle.schedules.specs.Values.{decimal_of, within, number_in, node_in, call_in, id_in, numbers_of, is_part, kind_in, vote_in, leaves_in, largest}
-use Rattle.schedules.specs.Written.{kind_word, vote_word, leaves_words, words_in, IsNode, IsNext, IsLeft}
+use Rattle.schedules.specs.LineTexts.{kind_word, vote_word, leaves_words, words_in, IsNode, IsNext, IsLeft}
 use Rattle.schedules.proofs.Decimals.{spelled}
 use Rattle.schedules.proofs.Ids.{is_id}
 

@@ -5,8 +5,8 @@ mod Rest
 mod Bounds
 mod Wholes
 mod Texts
-mod Back
-mod Made
+mod ScheduleRoundtrip
+mod GeneratedSchedules
 mod InitiatorRest
-mod InitiatorRead
-mod InitiatorBack
+mod InitiatorWholes
+mod InitiatorRoundtrip

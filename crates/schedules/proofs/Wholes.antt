@@ -14,7 +14,7 @@ use Rattle.schedules.specs.declared.line.Line.TheVariants as lines
 use Rattle.schedules.specs.Meanings.{◌>>=◌, count_of, meaning}
 use Rattle.schedules.specs.Schedules.{at_line, first_line, first_words, lines_from, next_line, next_words, schedule_in, schedule_of}
 use Rattle.schedules.specs.Words.{ended, is_plain, lines_of, words_of}
-use Rattle.schedules.specs.Written.{IsNext, IsNode, IsSchedule, line_text, words_in, written}
+use Rattle.schedules.specs.LineTexts.{IsNext, IsNode, IsSchedule, line_text, words_in, written}
 use Rattle.schedules.proofs.Bounds.{count_read, meaning_read}
 
 joined : (text : List ℕ) (l : Line) → words_of text ≡ words_in l → text ≡ line_text l

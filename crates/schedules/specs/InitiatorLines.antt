@@ -9,10 +9,10 @@ use Rattle.schedules.specs.declared.initiator_line.WordFault.TheVariants as faul
 use Rattle.schedules.specs.declared.line.BadLine.{BadLine}
 use Rattle.schedules.specs.declared.line.Cause.{Cause}
 use Rattle.schedules.specs.declared.line.Cause.TheVariants as causes
-use Rattle.schedules.specs.Meanings.{◌>>=◌}
 use Rattle.schedules.specs.Schedules.{at_line}
 use Rattle.schedules.specs.Values.{kind_in, largest, number_in, vote_in}
 use Rattle.schedules.specs.Words.{is_plain, lines_of, words_of}
+use Rattle.schedules.specs.Meanings.{◌>>=◌}
 
 -- there is none
 abbrev pub is_absent : {A : Type 0} → Option A → Bool

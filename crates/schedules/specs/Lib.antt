@@ -3,9 +3,9 @@ pub mod Words
 pub mod Values
 pub mod Meanings
 pub mod Schedules
-pub mod Written
+pub mod LineTexts
 pub mod Generator
 pub mod Examples
 pub mod InitiatorExamples
 pub mod InitiatorLines
-pub mod InitiatorWritten
+pub mod InitiatorLineTexts

@@ -1,8 +1,8 @@
 //! Schedules that are made from a seed.
 
 ghost use Rattle.std.specs.Prelude.{◌≡◌, ◌≤◌, ◌++◌, ◌∷◌, [], IfOk, OnOk};
-ghost use Rattle.schedules.specs.Generator.{activity, asking, a_begin, a_work, chosen, disturbing, drawn, made, message, next, next_line, other_node};
-ghost use Rattle.schedules.specs.Written.{IsSchedule};
+ghost use Rattle.schedules.specs.Generator.{activity, asking, a_work, chosen, disturbing, drawn, made, message, next, next_line, other_node};
+ghost use Rattle.schedules.specs.LineTexts.{IsSchedule};
 
 use crate::line::{Line, Schedule};
 use at_base::id::Id;
@@ -180,7 +180,7 @@ fn lines_of(alloc: Global, seed: u64, steps: u16) -> Result<Schedule, AllocError
 /// The schedule of a seed: four nodes, and so many lines, at most 9,999. Of 16 choices that are drawn, two begin an activity, one
 /// interposes, two ask for work, one commits, five deliver, and one each delivers a given message, lets time go by, crashes a node,
 /// starts one, and rolls back.
-#[tactic(auto, using(crate::proofs::Made::is_schedule))]
+#[tactic(auto, using(crate::proofs::GeneratedSchedules::is_schedule))]
 pub fn make(alloc: Global, seed: u64, steps: u16) -> Result<Schedule, AllocError>
     requires { steps ≤ 9999 }
     ensures made { IfOk result (λ schedule. schedule ≡ made seed steps) }

@@ -2,7 +2,7 @@
 
 ghost use Rattle.std.specs.Prelude.{ℕ, List, ◌≡◌, ◌++◌, ◌∷◌, ◌⊎◌, ◌<◌, ◌^◌, [], Ok, length};
 ghost use Rattle.schedules.specs.InitiatorLines.{initiator_lines_of};
-ghost use Rattle.schedules.specs.InitiatorWritten.{AreAsked, written};
+ghost use Rattle.schedules.specs.InitiatorLineTexts.{AreAsked, written};
 ghost use Rattle.schedules.specs.declared.initiator_line.InitiatorLine.{InitiatorLine};
 
 /// A text that is read is what is written of its lines, but for the last line feed, which it may lack.

@@ -2,7 +2,7 @@
 
 ghost use Rattle.std.specs.Prelude.{◌≡◌, ◌≤◌, ◌++◌, ◌∷◌, [], Ok, Err, OnOk, IfOk, IfErr, length};
 ghost use Rattle.schedules.specs.InitiatorLines.{asked_line, initiator_lines_of};
-ghost use Rattle.schedules.specs.InitiatorWritten.{AreAsked};
+ghost use Rattle.schedules.specs.InitiatorLineTexts.{AreAsked};
 ghost use Rattle.schedules.specs.Schedules.{Answers, IfBad, at_line};
 
 use crate::initiator_line::{InitiatorLine, InitiatorLines, WordFault};

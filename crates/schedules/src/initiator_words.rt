@@ -1,7 +1,7 @@
 //! The meaning of the words of an initiator's line, given how many activities the lines before it make.
 
-ghost use Rattle.std.specs.Prelude.{◌≡◌, ◌&&◌, IfOk, map, ◌<◌, ◌^◌};
-ghost use Rattle.schedules.specs.InitiatorLines.{Finds, allowed, asked, asked_words, begin_line, commit_line, interpose_line, is_absent, is_base, is_content, is_plain_http, rollback_line, task, wait_line, work_line};
+ghost use Rattle.std.specs.Prelude.{◌≡◌, ◌&&◌, IfOk, map, ◌<◌};
+ghost use Rattle.schedules.specs.InitiatorLines.{Finds, allowed, asked, asked_words, begin_line, commit_line, interpose_line, is_base, is_content, is_plain_http, rollback_line, task, wait_line, work_line};
 ghost use Rattle.schedules.specs.Values.{kind_in, number_in, vote_in};
 ghost use Rattle.schedules.specs.declared.initiator_line.InitiatorLine.TheVariants.{Begin, Interpose, Work};
 ghost use Rattle.schedules.specs.declared.initiator_line.WordFault.TheVariants.{Wrong};

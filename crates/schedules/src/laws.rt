@@ -2,7 +2,7 @@
 
 ghost use Rattle.std.specs.Prelude.{ℕ, List, ◌≡◌, ◌++◌, ◌∷◌, ◌⊎◌, [], Ok};
 ghost use Rattle.schedules.specs.Schedules.{schedule_of};
-ghost use Rattle.schedules.specs.Written.{IsSchedule, written};
+ghost use Rattle.schedules.specs.LineTexts.{IsSchedule, written};
 ghost use Rattle.schedules.specs.declared.line.Line.{Line};
 
 /// A text that is read is what is written of its lines, but for the last line feed, which it may lack.

@@ -3,7 +3,7 @@
 ghost use Rattle.std.specs.Prelude.{◌≡◌, ◌++◌, ◌∷◌, [], Ok, Err, OnOk, IfOk, IfErr, map};
 ghost use Rattle.schedules.specs.Schedules.{Answers, IfBad, at_line, first_line, first_words, lines_from, next_line, next_words, onto, schedule_of};
 ghost use Rattle.schedules.specs.Words.{lines_of};
-ghost use Rattle.schedules.specs.Written.{IsSchedule};
+ghost use Rattle.schedules.specs.LineTexts.{IsSchedule};
 ghost use Rattle.schedules.specs.declared.line.ScheduleError.TheVariants.{Bad};
 
 use crate::line::{BadLine, Cause, Line, Schedule, ScheduleError};

@@ -1,6 +1,6 @@
 //! The lines of a text, and the words of a line.
 
-ghost use Rattle.std.specs.Prelude.{◌≡◌, ◌==◌, ◌<◌, ◌≤◌, ◌∷◌, [], IfOk, IfSome, length, map, MatchOption, false, true};
+ghost use Rattle.std.specs.Prelude.{◌≡◌, ◌==◌, ◌<◌, ◌≤◌, ◌∷◌, [], IfOk, length, map, MatchOption, false, true};
 ghost use Rattle.std.specs.List.{position_or_len};
 ghost use Rattle.schedules.specs.Words.{is_plain, is_printable, lines_of, words_of};
 

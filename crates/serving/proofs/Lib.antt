@@ -1,4 +1,4 @@
 pub mod Places
-pub mod Serving
-pub mod Telling
+pub mod Sessions
+pub mod StartLines
 pub mod Since

@@ -15,8 +15,8 @@ use Rattle.schedules.specs.declared.initiator_line.InitiatorLine.{InitiatorLine}
 use Rattle.site_model.specs.Told.{Told}
 use Rattle.serving.specs.declared.answer.Answer.{Answer}
 use Rattle.serving.specs.declared.answer.Answer.TheVariants as answers
-use Rattle.serving.specs.declared.ended.Ended.{Ended}
-use Rattle.serving.specs.declared.ended.Ended.TheVariants as endings
+use Rattle.serving.specs.declared.service_end.Ended.{Ended}
+use Rattle.serving.specs.declared.service_end.Ended.TheVariants as endings
 use Rattle.serving.specs.declared.request.Request.{Request}
 use Rattle.serving.specs.declared.request.Request.TheVariants as requests
 use Rattle.serving.specs.Requests.{ended_by, request_of}

@@ -15,8 +15,8 @@ use Rattle.serving.specs.declared.request.Request.{Request}
 use Rattle.serving.specs.declared.request.Request.TheVariants as requests
 use Rattle.serving.specs.declared.answer.Answer.{Answer}
 use Rattle.serving.specs.declared.answer.Answer.TheVariants as answers
-use Rattle.serving.specs.declared.ended.Ended.{Ended}
-use Rattle.serving.specs.declared.ended.Ended.TheVariants as endings
+use Rattle.serving.specs.declared.service_end.Ended.{Ended}
+use Rattle.serving.specs.declared.service_end.Ended.TheVariants as endings
 use Rattle.serving.specs.Lines.{effect_lines, refused_line}
 
 abbrev pub joined : Option (Option Numbers) → Option Numbers

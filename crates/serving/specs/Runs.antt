@@ -3,8 +3,8 @@ use Rattle.std.specs.Prelude.{ℕ, List, [], ◌∷◌, ◌++◌, ◌≡◌, ◌
 use Rattle.std.specs.Io.KnownBytes.{Appends}
 use Rattle.at_base.specs.Numbers.{Numbers}
 use Rattle.node_at.specs.Endings.{TakesTurn}
-use Rattle.node_at.specs.Started.{IsStarted}
-use Rattle.node_at.specs.Starting.{CannotStart}
+use Rattle.node_at.specs.StartedNodes.{IsStarted}
+use Rattle.node_at.specs.Starts.{CannotStart}
 use Rattle.node_at.specs.State.{State}
 use Rattle.node_at.specs.Steps.{Keeping}
 use Rattle.node_at.specs.declared.fault.StartFault.{StartFault}
@@ -20,8 +20,8 @@ use Rattle.site_model.specs.declared.site.AttachFailed.{AttachFailed}
 use Rattle.site_model.specs.declared.site.AttachFailed.TheVariants as attaching
 use Rattle.serving.specs.declared.answer.Answer.{Answer}
 use Rattle.serving.specs.declared.answer.Answer.TheVariants as answers
-use Rattle.serving.specs.declared.ended.Ended.{Ended}
-use Rattle.serving.specs.declared.ended.Ended.TheVariants as endings
+use Rattle.serving.specs.declared.service_end.Ended.{Ended}
+use Rattle.serving.specs.declared.service_end.Ended.TheVariants as endings
 use Rattle.serving.specs.declared.request.Request.{Request}
 use Rattle.serving.specs.declared.request.Request.TheVariants as requests
 use Rattle.serving.specs.Lines.{fault_text, up_line}

@@ -8,8 +8,8 @@ use Rattle.schedules.specs.declared.initiator_line.InitiatorLine.{InitiatorLine}
 use Rattle.schedules.specs.declared.initiator_line.InitiatorLine.TheVariants as lines
 use Rattle.site_model.specs.Told.{Told}
 use Rattle.serving.specs.declared.answer.Answer.{Answer}
-use Rattle.serving.specs.declared.ended.Ended.{Ended}
-use Rattle.serving.specs.declared.ended.Ended.TheVariants as endings
+use Rattle.serving.specs.declared.service_end.Ended.{Ended}
+use Rattle.serving.specs.declared.service_end.Ended.TheVariants as endings
 use Rattle.serving.specs.Requests.{adds, ended_by, made_by, printed, request_of}
 use Rattle.serving.specs.Runs.{Does}
 

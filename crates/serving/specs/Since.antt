@@ -1,12 +1,12 @@
 -- What a node that serves did since its start, step by step.
 use Rattle.std.specs.Prelude.{ℕ, List, ◌≡◌, Option, Some, false}
-use Rattle.node_at.specs.Starting.{started}
+use Rattle.node_at.specs.Starts.{started}
 use Rattle.node_at.specs.State.{State}
 use Rattle.node_worlds.specs.Acts.{Act, Did}
 use Rattle.node_worlds.specs.Lives.{Lives}
 use Rattle.site_model.specs.Told.{Told}
-use Rattle.serving.specs.declared.ended.Ended.{Ended}
-use Rattle.serving.specs.declared.ended.Ended.TheVariants as endings
+use Rattle.serving.specs.declared.service_end.Ended.{Ended}
+use Rattle.serving.specs.declared.service_end.Ended.TheVariants as endings
 use Rattle.serving.specs.Runs.{Comes, IsUp, Serviced, all_lines}
 
 -- These are the steps of its lines and turns so far, in order, and this is the node behind them. Unless it ended by a halt, the node

@@ -3,7 +3,7 @@
 ghost use Rattle.std.specs.Prelude.{◌≡◌};
 ghost use Rattle.serving.specs.Requests.{ended_by, made_by};
 
-use crate::ended::Ended;
+use crate::service_end::Ended;
 use at_base::id::Id;
 use node_at::local::Locally;
 use node_at::turn::Turned;

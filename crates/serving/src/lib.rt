@@ -3,10 +3,10 @@
 #![tactic(auto)]
 
 pub mod answer;
-pub mod ended;
 pub mod laws;
 mod lines;
 pub mod request;
 pub mod serve;
 pub mod service;
+pub mod service_end;
 mod session;

@@ -1,17 +1,17 @@
 //! Serving.
 
-ghost use Rattle.std.specs.Prelude.{◌≡◌, ◌++◌, ◌⊎◌, IfOk, codes};
+ghost use Rattle.std.specs.Prelude.{◌≡◌, ◌++◌, IfOk, codes};
 ghost use Rattle.node_at.specs.State.{IsNode, seen};
 ghost use Rattle.site_model.specs.Counts.{Rose};
 ghost use Rattle.serving.specs.Lines.{fault_text};
 ghost use Rattle.serving.specs.Runs.{Comes, Prints, Serves, all_lines, start_ended};
 ghost use Rattle.serving.specs.Sessions.{Tells};
 ghost use Rattle.serving.specs.Services.{serviced};
-ghost use Rattle.serving.specs.declared.ended.Ended.TheVariants.{SinkFailed};
+ghost use Rattle.serving.specs.declared.service_end.Ended.TheVariants.{SinkFailed};
 
-use crate::ended::{Ended, attach_ended, start_ended};
 use crate::lines::{fault_text, up_line};
 use crate::service::Service;
+use crate::service_end::{Ended, attach_ended, start_ended};
 use crate::session::Session;
 use at_base::text::Text;
 use node_at::fault::StartFault;
@@ -31,7 +31,7 @@ fn base_of(alloc: Global, listen: &str) -> Result<Text, AllocError>
 }
 
 /// Prints why the node wasn't started, where there is something to print.
-#[tactic(auto, using(crate::proofs::Telling::told, crate::proofs::Telling::untold, crate::proofs::Telling::told_partly))]
+#[tactic(auto, using(crate::proofs::StartLines::told, crate::proofs::StartLines::untold, crate::proofs::StartLines::told_partly))]
 fn tell_fault<K: Sink>(alloc: Global, fault: &StartFault, sink: &mut K) -> Ended
     ensures told { Tells (fault_text fault.now) (start_ended fault.now) result (K.contents sink.old) (K.contents sink.new) }
     ensures cause { result ≡ SinkFailed → Rose (K.faults sink.old) (K.faults sink.new) }
@@ -47,7 +47,7 @@ fn tell_fault<K: Sink>(alloc: Global, fault: &StartFault, sink: &mut K) -> Ended
 }
 
 /// Prints that the node is up, and attends to its lines and turns.
-#[tactic(auto, using(crate::proofs::Serving::rose_later, crate::proofs::Telling::comes, crate::proofs::Telling::comes_untold, crate::proofs::Telling::comes_partly))]
+#[tactic(auto, using(crate::proofs::Sessions::rose_later, crate::proofs::StartLines::comes, crate::proofs::StartLines::comes_untold, crate::proofs::StartLines::comes_partly))]
 fn attend<K: Sink, H: Site>(
     node: Node,
     alloc: Global,
@@ -75,7 +75,7 @@ fn attend<K: Sink, H: Site>(
 
 /// Serves: opens the journal's files and the listener, starts the node, prints `up` and its incarnation, and then does line after
 /// line and turn after turn, and prints what each brings about.
-#[tactic(auto, using(crate::proofs::Telling::unopened, crate::proofs::Telling::opened, crate::proofs::Telling::unstarted, crate::proofs::Telling::came_up))]
+#[tactic(auto, using(crate::proofs::StartLines::unopened, crate::proofs::StartLines::opened, crate::proofs::StartLines::unstarted, crate::proofs::StartLines::came_up))]
 pub fn serve<K: Sink, H: Site>(
     alloc: Global,
     service: &Service<'_>,

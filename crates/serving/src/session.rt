@@ -1,18 +1,18 @@
 //! A node that is up, line after line.
 
-ghost use Rattle.std.specs.Prelude.{ℕ, ◌≡◌, ◌++◌, ◌≤◌, ◌+◌, [], Some, None, IfOk, OnOk, replicate, length};
+ghost use Rattle.std.specs.Prelude.{◌≡◌, ◌++◌, ◌≤◌, ◌+◌, [], Some, None, IfOk, OnOk, replicate};
 ghost use Rattle.schedules.specs.declared.initiator_line.InitiatorLine.TheVariants.{Wait};
 ghost use Rattle.node_at.specs.State.{IsNode, seen};
 ghost use Rattle.site_model.specs.Counts.{Rose};
 ghost use Rattle.serving.specs.Requests.{printed, request_of};
 ghost use Rattle.serving.specs.Runs.{Attends, Does, Prints};
 ghost use Rattle.serving.specs.Sessions.{Finishes, Takes, added, line_at, makes};
-ghost use Rattle.serving.specs.declared.ended.Ended.TheVariants.{SinkFailed};
+ghost use Rattle.serving.specs.declared.service_end.Ended.TheVariants.{SinkFailed};
 
 use crate::answer::Answer;
-use crate::ended::Ended;
 use crate::lines::printed;
 use crate::request::{Request, request_of};
+use crate::service_end::Ended;
 use at_base::id::Id;
 use node_at::node::Node;
 use schedules::initiator_line::InitiatorLine;
@@ -68,7 +68,7 @@ fn makes_at(lines: &[InitiatorLine], place: usize) -> bool
 
 impl Session {
     /// Does what a line asks.
-    #[tactic(auto, using(crate::proofs::Serving::asks, crate::proofs::Serving::turns))]
+    #[tactic(auto, using(crate::proofs::Sessions::asks, crate::proofs::Sessions::turns))]
     fn answer<H: Site>(&mut self, alloc: Global, request: &Request, site: &mut H) -> Answer
         requires { IsNode (seen self.old.node) }
         ensures does { Does H.told self.old.node.role request.now result (seen self.old.node) (seen self.new.node) site.old site.new }
@@ -95,7 +95,7 @@ impl Session {
     }
 
     /// Prints what an answer brought about, and says how serving ends behind it, where it does.
-    #[tactic(auto, using(crate::proofs::Serving::finished, crate::proofs::Serving::nothing, crate::proofs::Serving::all_of_it))]
+    #[tactic(auto, using(crate::proofs::Sessions::finished, crate::proofs::Sessions::nothing, crate::proofs::Sessions::all_of_it))]
     fn finish<K: Sink>(
         &mut self,
         alloc: Global,
@@ -123,7 +123,7 @@ impl Session {
     }
 
     /// Does the line of this place, and prints what it brought about. Says how serving ends behind it, where it does.
-    #[tactic(auto, using(crate::proofs::Serving::takes, crate::proofs::Serving::idles))]
+    #[tactic(auto, using(crate::proofs::Sessions::takes, crate::proofs::Sessions::idles))]
     fn take_line<K: Sink, H: Site>(
         &mut self,
         alloc: Global,

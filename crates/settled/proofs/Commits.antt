@@ -17,29 +17,29 @@ use Rattle.at_model.specs.Due.{may_expire}
 use Rattle.at_model.specs.Step.{leaf_at, step, transaction_at}
 use Rattle.at_model.specs.World.{Posted, Who, World, Hosts}
 use Rattle.model_laws.specs.Agreement.{HasPosted, IsIn}
-use Rattle.model_laws.specs.Behind.{Accepted as Seating}
+use Rattle.model_laws.specs.PhaseAnswers.{Accepted as Seating}
 use Rattle.model_laws.specs.Links.{AreIn, AreLinked}
 use Rattle.model_laws.specs.Shapes.{IfFound, NoParticipant}
-use Rattle.model_laws.proofs.Deciding.{all_find, found_id, same_kind}
+use Rattle.model_laws.proofs.DecisionLaws.{all_find, found_id, same_kind}
 use Rattle.agreement.specs.Deeds.{ParticipantSaid, coordinator_at}
 use Rattle.agreement.proofs.SeatedEntries.{one_of}
-use Rattle.enlistments.proofs.Arriving.{HasCome, has_come}
+use Rattle.enlistments.proofs.Arrivals.{HasCome, has_come}
 use Rattle.owed.specs.Seats.{IsNew, IsOwed, Tells, posts_of, seat_post}
 use Rattle.owed.specs.Shape.{LinkKnows, StandsUnder}
-use Rattle.owed.specs.Upwards.{CommitsIn, IsEarly, LinksOwed, StaysCommitting, superior_left}
-use Rattle.owed.proofs.Replying.{steps_owe_leaves}
-use Rattle.owed.proofs.UpStrangers.{steps_owe_links}
-use Rattle.votes.specs.Answering.{HasSeat}
-use Rattle.votes.specs.Backing.{CommitIsBacked}
-use Rattle.votes.specs.Voting.{HasVoted}
-use Rattle.votes.proofs.Joint.{outcomes_are_backed, votes_are_kept}
-use Rattle.paired.specs.Paired.{IsPlace, participant_of, seat_of}
-use Rattle.paired.proofs.Pairing.{partners_are_paired}
-use Rattle.settled.specs.Goes.{Goes}
-use Rattle.settled.specs.Owed.{IsSeatPlace, Comes, CommitsAreOwed, CommitsAt, Holds, IsNotice, IsNoticeFrom, OwesCommitted, seat_target_of}
-use Rattle.settled.proofs.Going.{book_after, held_elsewhere, holds_after, holds_before, holds_elsewhere, or_arrives, or_elsewhere, posted_in, ready, same_book, seat_asks, seat_told, shaped, stepping}
-use Rattle.settled.proofs.Meeting.{found_own, known_is, leaf_knows, leaf_own, left_committing, link_knows, seat_has, seat_place, shape_at, still_committing, stored_is}
-use Rattle.settled.proofs.VotesKept.{Partner, StoodBefore, stood}
+use Rattle.owed.specs.Links.{CommitsIn, IsEarly, LinksOwed, StaysCommitting, superior_left}
+use Rattle.owed.proofs.RegisterAnswers.{steps_owe_leaves}
+use Rattle.owed.proofs.Strangers.{steps_owe_links}
+use Rattle.votes.specs.NamedParticipants.{HasSeat}
+use Rattle.votes.specs.ToldOutcomes.{CommitIsBacked}
+use Rattle.votes.specs.DurableVotes.{HasVoted}
+use Rattle.votes.proofs.VotesAndOutcomes.{outcomes_are_backed, votes_are_kept}
+use Rattle.paired.specs.Partners.{IsPlace, participant_of, seat_of}
+use Rattle.paired.proofs.Partners.{partners_are_paired}
+use Rattle.settled.specs.CalmSteps.{Goes}
+use Rattle.settled.specs.OwedMessages.{IsSeatPlace, Comes, CommitsAreOwed, CommitsAt, Holds, IsNotice, IsNoticeFrom, OwesCommitted, seat_target_of}
+use Rattle.settled.proofs.CalmSteps.{book_after, held_elsewhere, holds_after, holds_before, holds_elsewhere, or_arrives, or_elsewhere, posted_in, ready, same_book, seat_asks, seat_told, shaped, stepping}
+use Rattle.settled.proofs.Partners.{found_own, known_is, leaf_knows, leaf_own, left_committing, link_knows, seat_has, seat_place, shape_at, still_committing, stored_is}
+use Rattle.settled.proofs.KeptVotes.{Partner, StoodBefore, stood}
 
 -- a durable participant to whom a Commit comes has voted
 pub comes_voted : (hosts : Hosts) (u v : World) (before after : List Posted) → (g : Goes hosts u v before after) → (x : Who) (a : Arrived) → x.node ≡ g.number → g.event ≡ events.Arrived a

@@ -9,18 +9,18 @@ use Rattle.at_base.specs.declared.notice.Kind.{Kind}
 use Rattle.at_model.specs.Book.{Book}
 use Rattle.at_model.specs.World.{Node, Posted, Who, World, nth, put_nth, Hosts}
 use Rattle.model_laws.specs.Agreement.{IsIn}
-use Rattle.model_laws.specs.Reached.{Reached}
-use Rattle.model_laws.proofs.Running.{put_other, put_this}
-use Rattle.settled.specs.Behind.{PreparesAreBehind}
-use Rattle.settled.specs.Calm.{Invariant, IsLost}
-use Rattle.settled.specs.Goes.{Goes}
-use Rattle.settled.specs.Owed.{Comes, CommitsAreOwed, Holds, OutcomesAreOwed, OwesCommitted, OwesOutcome, OwesRegistered, OwesVote, RegistrationsAreOwed, VotesAreOwed}
-use Rattle.settled.specs.Routed.{NoneRouted}
+use Rattle.model_laws.specs.ReachedWorlds.{Reached}
+use Rattle.model_laws.proofs.NodeLives.{put_other, put_this}
+use Rattle.settled.specs.DurablePrepares.{PreparesAreBehind}
+use Rattle.settled.specs.SettlingInvariants.{Invariant, IsLost}
+use Rattle.settled.specs.CalmSteps.{Goes}
+use Rattle.settled.specs.OwedMessages.{Comes, CommitsAreOwed, Holds, OutcomesAreOwed, OwesCommitted, OwesOutcome, OwesRegistered, OwesVote, RegistrationsAreOwed, VotesAreOwed}
+use Rattle.settled.specs.EndedRegistrations.{NoneRouted}
 use Rattle.settled.proofs.Commits.{commits_kept}
-use Rattle.settled.proofs.Going.{holds_after, node_after, nodes_after, or_elsewhere}
+use Rattle.settled.proofs.CalmSteps.{holds_after, node_after, nodes_after, or_elsewhere}
 use Rattle.settled.proofs.Outcomes.{outcomes_kept}
 use Rattle.settled.proofs.Registers.{none_routed_kept, registrations_kept}
-use Rattle.settled.proofs.VotesKept.{NoneRegisters, votes_kept}
+use Rattle.settled.proofs.KeptVotes.{NoneRegisters, votes_kept}
 
 -- every node is up
 abbrev pub AreUp : World → Type 0

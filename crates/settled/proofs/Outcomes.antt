@@ -1,5 +1,5 @@
 -- An outcome that a durable participant waits for stays owed over each step.
-use Rattle.std.specs.Prelude.{ℕ, List, [], ◌∷◌, Option, Some, None, true, false, is_none, ◌^◌, ◌≡◌, ◌<◌, ◌⊎◌, refl}
+use Rattle.std.specs.Prelude.{ℕ, List, [], ◌∷◌, Option, Some, None, true, false, is_none, ◌≡◌, ◌⊎◌, refl}
 use Rattle.std.proofs.Common.{inl, inr, sym, subst, ap, ◌∙◌}
 use Rattle.at_base.specs.Numbers.{Numbers}
 use Rattle.at_base.specs.IdText.{IsId}
@@ -20,32 +20,32 @@ use Rattle.at_model.specs.Posts.{notice_post}
 use Rattle.at_model.specs.Step.{find_seat, leaf_at, step, transaction_at}
 use Rattle.at_model.specs.World.{Posted, Who, World, Hosts, HaveOwnAddresses}
 use Rattle.model_laws.specs.Agreement.{IsIn}
-use Rattle.model_laws.specs.Behind.{Accepted as Seating}
-use Rattle.model_laws.specs.Reached.{Reached}
+use Rattle.model_laws.specs.PhaseAnswers.{Accepted as Seating}
+use Rattle.model_laws.specs.ReachedWorlds.{Reached}
 use Rattle.model_laws.specs.Shapes.{IfFound}
-use Rattle.model_laws.proofs.Deciding.{found_id}
+use Rattle.model_laws.proofs.DecisionLaws.{found_id}
 use Rattle.agreement.specs.Deeds.{SuperiorSaid, coordinator_at}
 use Rattle.agreement.specs.LeafDeeds.{Notified}
 use Rattle.agreement.proofs.SeatedEntries.{one_of}
 use Rattle.enlistments.specs.Leads.{Enlists, LeadsTo}
-use Rattle.enlistments.proofs.Finding.{found_seat}
+use Rattle.enlistments.proofs.Searches.{found_seat}
 use Rattle.owed.specs.Leaves.{KeepsLeafVote}
 use Rattle.owed.specs.Seats.{AreOwed, IsNew, IsOwed, IsTold, PairsOrNew, SaysPrepared, Tells, TellsOutcome, posts_of}
-use Rattle.owed.specs.Upwards.{KeepsVote, SaysVote, superior_left}
-use Rattle.owed.proofs.Owing.{steps_owe_seats}
-use Rattle.owed.proofs.Replying.{steps_owe_leaves}
-use Rattle.owed.proofs.UpStrangers.{steps_owe_links}
-use Rattle.votes.specs.Answering.{HasSeat}
-use Rattle.paired.specs.Paired.{IsPlace, participant_of, seat_of}
+use Rattle.owed.specs.Links.{KeepsVote, SaysVote, superior_left}
+use Rattle.owed.proofs.SeatSteps.{steps_owe_seats}
+use Rattle.owed.proofs.RegisterAnswers.{steps_owe_leaves}
+use Rattle.owed.proofs.Strangers.{steps_owe_links}
+use Rattle.votes.specs.NamedParticipants.{HasSeat}
+use Rattle.paired.specs.Partners.{IsPlace, participant_of, seat_of}
 use Rattle.paired.proofs.Homes.{node_range}
-use Rattle.paired.proofs.Pairing.{partners_are_paired}
-use Rattle.enlistments.proofs.Lasting.{found_stands}
+use Rattle.paired.proofs.Partners.{partners_are_paired}
+use Rattle.enlistments.proofs.LastingLeads.{found_stands}
 use Rattle.enlistments.proofs.Places.{TransactionPlaced, leaves_placed, transactions_placed}
-use Rattle.settled.specs.Goes.{Goes}
-use Rattle.settled.specs.Owed.{Comes, Holds, IsNotice, IsNoticeFrom, IsPreparedAt, IsSeatPlace, IsToldOnWay, OutcomesAreOwed, OwesOutcome, seat_target_of}
-use Rattle.settled.proofs.Going.{base_is, book_after, comes_as, held_elsewhere, holds_after, holds_before, holds_elsewhere, leads_seat, new_comes, or_arrives, or_elsewhere, participant_told, posted_in, ready, same_book, shaped}
-use Rattle.settled.proofs.Meeting.{found_own, in_book, leaf_own, leaf_seat, link_seat}
-use Rattle.settled.proofs.Stood.{LeafStood, TransactionStood, leaf_stood, transaction_stood}
+use Rattle.settled.specs.CalmSteps.{Goes}
+use Rattle.settled.specs.OwedMessages.{Comes, Holds, IsNotice, IsNoticeFrom, IsPreparedAt, IsSeatPlace, IsToldOnWay, OutcomesAreOwed, OwesOutcome, seat_target_of}
+use Rattle.settled.proofs.CalmSteps.{base_is, book_after, comes_as, held_elsewhere, holds_after, holds_before, holds_elsewhere, leads_seat, new_comes, or_arrives, or_elsewhere, participant_told, posted_in, ready, same_book, shaped}
+use Rattle.settled.proofs.Partners.{found_own, in_book, leaf_own, leaf_seat, link_seat}
+use Rattle.settled.proofs.EarlierItems.{LeafStood, TransactionStood, leaf_stood, transaction_stood}
 
 -- what becomes of a seat
 record Becomes (R : Enlistment → Enlistment → Type 0) (s : Enlistment) (news : List Enlistment) : Type 0 where

@@ -17,24 +17,24 @@ use Rattle.at_model.specs.Leaves.{leaf_target}
 use Rattle.at_model.specs.Seats.{link_of}
 use Rattle.at_model.specs.Step.{leaf_at, step, transaction_at}
 use Rattle.at_model.specs.World.{Posted, Who, World, takes, Hosts}
-use Rattle.model_laws.proofs.Deciding.{found_id}
+use Rattle.model_laws.proofs.DecisionLaws.{found_id}
 use Rattle.enlistments.specs.Leads.{LeadsTo}
-use Rattle.owed.specs.Joining.{IsAnsweredOn, JoinsStill}
+use Rattle.owed.specs.LinkRegistrations.{IsAnsweredOn, JoinsStill}
 use Rattle.owed.specs.Leaves.{AnswersRegister, IsRegistered, RegistersStill}
 use Rattle.owed.specs.Registers.{TellsRegistered}
 use Rattle.owed.specs.Seats.{posts_of}
-use Rattle.owed.specs.Upwards.{superior_left}
-use Rattle.owed.proofs.JoinBooks.{links_join}
-use Rattle.owed.proofs.Replying.{registers_are_answered, steps_owe_leaves}
-use Rattle.paired.specs.Paired.{IsPlace, participant_of}
-use Rattle.paired.proofs.Pairing.{partners_are_paired}
-use Rattle.settled.specs.Goes.{Goes}
-use Rattle.settled.specs.Owed.{Comes, Holds, IsRegisterOf, IsRegisteredBy, OwesRegistered, RegistrationsAreOwed}
-use Rattle.settled.specs.Routed.{NoneRouted}
-use Rattle.settled.proofs.Going.{base_is, book_after, comes_as, held_elsewhere, holds_after, holds_before, leads_participant, new_comes, or_arrives, or_elsewhere, ready, same_book, shaped}
-use Rattle.settled.proofs.Meeting.{found_own, leaf_own}
+use Rattle.owed.specs.Links.{superior_left}
+use Rattle.owed.proofs.LinkRegistrationBooks.{links_join}
+use Rattle.owed.proofs.RegisterAnswers.{registers_are_answered, steps_owe_leaves}
+use Rattle.paired.specs.Partners.{IsPlace, participant_of}
+use Rattle.paired.proofs.Partners.{partners_are_paired}
+use Rattle.settled.specs.CalmSteps.{Goes}
+use Rattle.settled.specs.OwedMessages.{Comes, Holds, IsRegisterOf, IsRegisteredBy, OwesRegistered, RegistrationsAreOwed}
+use Rattle.settled.specs.EndedRegistrations.{NoneRouted}
+use Rattle.settled.proofs.CalmSteps.{base_is, book_after, comes_as, held_elsewhere, holds_after, holds_before, leads_participant, new_comes, or_arrives, or_elsewhere, ready, same_book, shaped}
+use Rattle.settled.proofs.Partners.{found_own, leaf_own}
 use Rattle.settled.proofs.Outcomes.{leaf_placed, transaction_placed}
-use Rattle.settled.proofs.Stood.{LeafStood, TransactionStood, leaf_stood, transaction_stood}
+use Rattle.settled.proofs.EarlierItems.{LeafStood, TransactionStood, leaf_stood, transaction_stood}
 
 takes_registered : (m : Message) (id : Numbers) (kind : Kind) → AnswersRegister m → takes (targets.Participant id kind) m ≡ true
 takes_registered (messages.RegisterResponse c) id kind h = refl

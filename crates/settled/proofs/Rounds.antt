@@ -1,5 +1,5 @@
 -- Rounds of settling: behind the first nobody registers any more, and behind each later one nobody is in doubt.
-use Rattle.std.specs.Prelude.{ℕ, List, [], ◌∷◌, ◌++◌, Option, Some, None, Bool, true, false, is_none, nat_eq, zero, suc, ◌+◌, ◌-◌, ◌*◌, ◌^◌, if◌then◌else◌, drop, length, option_map, ◌≡◌, ◌≤◌, ◌<◌, refl}
+use Rattle.std.specs.Prelude.{ℕ, List, [], ◌∷◌, ◌++◌, Option, Some, None, Bool, true, false, is_none, nat_eq, zero, suc, ◌+◌, ◌-◌, ◌*◌, if◌then◌else◌, drop, length, option_map, ◌≡◌, ◌≤◌, ◌<◌, refl}
 use Rattle.std.specs.List.{AllByRecursion}
 use Rattle.std.proofs.Common.{inl, inr, arith, sym, subst, ap, ◌∙◌}
 use Rattle.std.proofs.lemmas.List.{drop_all}
@@ -16,30 +16,30 @@ use Rattle.at_model.specs.Book.{Book}
 use Rattle.at_model.specs.Due.{resend_after}
 use Rattle.at_model.specs.World.{Deliver, Node, Posted, Tick, Turn, Who, World, WorldEvent, new_nodes, nth, place_of, receiver_of, run_of, run_on, world_step, Hosts, HaveOwnAddresses}
 use Rattle.model_laws.specs.Agreement.{IsIn}
-use Rattle.model_laws.specs.Reached.{Reached}
-use Rattle.model_laws.specs.Settle.{MayStart, Settles, Settling, all_also, all_up, also, deliver_next, deliveries_from, first_received, is_settled, received_or, settle, settle_from, settle_round, settle_rounds, settled, ticks, ups}
-use Rattle.model_laws.proofs.Naming.{place_is}
+use Rattle.model_laws.specs.ReachedWorlds.{Reached}
+use Rattle.model_laws.specs.Settlement.{MayStart, Settles, Settling, all_also, all_up, also, deliver_next, deliveries_from, first_received, is_settled, received_or, settle, settle_from, settle_round, settle_rounds, settled, ticks, ups}
+use Rattle.model_laws.proofs.Addresses.{place_is}
 use Rattle.paired.proofs.Homes.{node_range}
-use Rattle.settling.specs.Again.{ticked_at}
+use Rattle.settling.specs.Resends.{ticked_at}
 use Rattle.settling.specs.Drains.{Delivers, IsDrained, granted, none_left, one_more, risen}
 use Rattle.settling.specs.Load.{Prices, weight}
-use Rattle.settling.specs.Pays.{MakesNothing}
+use Rattle.settling.specs.Payments.{MakesNothing}
 use Rattle.settling.specs.Rises.{AllUp, IsUp}
-use Rattle.settling.proofs.Delivering.{Lowers, burden, next_lowers}
-use Rattle.settling.proofs.Draining.{drains, risen_run, round_run}
+use Rattle.settling.proofs.Deliveries.{Lowers, burden, next_lowers}
+use Rattle.settling.proofs.Drains.{drains, risen_run, round_run}
 use Rattle.settling.proofs.Places.{all_nth}
-use Rattle.settling.proofs.Rising.{nodes_rise}
-use Rattle.settling.proofs.Rounding.{Good, begun_good, others_of, seats_of}
+use Rattle.settling.proofs.Rises.{nodes_rise}
+use Rattle.settling.proofs.Rounds.{Good, begun_good, others_of, seats_of}
 use Rattle.settling.proofs.Caps.{other_most, seat_most}
 use Rattle.settling.proofs.Runs.{IsOfRun, further_run, reached_length, run_is, run_length}
-use Rattle.settling.proofs.Turning.{posted_weight, queued}
-use Rattle.settled.specs.Calm.{Invariant}
-use Rattle.settled.specs.Owed.{Comes, CommitsAreOwed, Holds, OutcomesAreOwed, OwesRegistered, RegistrationsAreOwed, VotesAreOwed}
-use Rattle.settled.specs.Routed.{NoneRouted}
-use Rattle.settled.proofs.Calm.{After, FirstAt, delivery_after, first_at, tick_after}
+use Rattle.settling.proofs.TurnCosts.{posted_weight, queued}
+use Rattle.settled.specs.SettlingInvariants.{Invariant}
+use Rattle.settled.specs.OwedMessages.{Comes, CommitsAreOwed, Holds, OutcomesAreOwed, OwesRegistered, RegistrationsAreOwed, VotesAreOwed}
+use Rattle.settled.specs.EndedRegistrations.{NoneRouted}
+use Rattle.settled.proofs.CalmTurns.{After, FirstAt, delivery_after, first_at, tick_after}
 use Rattle.settled.proofs.Invariants.{AreUp, Known, commits_both, commits_of, outcomes_both, outcomes_of, owing, registering, registrations_both, registrations_of, up_to, votes_both, votes_of}
-use Rattle.settled.proofs.Resting.{NoneLeft, rests}
-use Rattle.settled.proofs.Routed.{routed}
+use Rattle.settled.proofs.QuietWorlds.{NoneLeft, rests}
+use Rattle.settled.proofs.Routes.{routed}
 use Rattle.settled.proofs.Ticks.{commits_asked, outcomes_asked, registrations_asked, votes_asked}
 
 -- the ticks

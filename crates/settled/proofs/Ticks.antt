@@ -1,5 +1,5 @@
 -- Once a node has ticked, all that its seats and participants wait for is on its way.
-use Rattle.std.specs.Prelude.{ℕ, List, [], ◌∷◌, Option, Some, None, true, ◌^◌, if◌then◌else◌, drop, length, ◌≡◌, ◌≤◌, ◌<◌, ◌⊎◌, refl}
+use Rattle.std.specs.Prelude.{ℕ, List, [], ◌∷◌, Option, Some, None, true, if◌then◌else◌, drop, length, ◌≡◌, ◌≤◌, ◌⊎◌, refl}
 use Rattle.std.proofs.Common.{inl, inr, sym, subst, ap, ◌∙◌}
 use Rattle.at_base.specs.Numbers.{Numbers}
 use Rattle.at_base.specs.declared.epr.Epr.{Epr}
@@ -28,22 +28,22 @@ use Rattle.at_model.specs.Step.{leaf_at, moment_of, transaction_at}
 use Rattle.at_model.specs.World.{Posted, Who, World, WorldEvent, arrival_of, run_of, takes, Hosts, HaveOwnAddresses}
 use Rattle.model_laws.specs.Agreement.{IsIn}
 use Rattle.model_laws.specs.Links.{AreIn, AreLinked}
-use Rattle.model_laws.specs.Reached.{Reached}
-use Rattle.model_laws.proofs.Deciding.{all_find, in_front}
+use Rattle.model_laws.specs.ReachedWorlds.{Reached}
+use Rattle.model_laws.proofs.DecisionLaws.{all_find, in_front}
 use Rattle.agreement.proofs.SeatedEntries.{one_of}
 use Rattle.enlistments.specs.Leads.{LeadsTo}
-use Rattle.enlistments.proofs.Arriving.{up_known}
-use Rattle.enlistments.proofs.Moving.{book_ready}
+use Rattle.enlistments.proofs.Arrivals.{up_known}
+use Rattle.enlistments.proofs.StepMoves.{book_ready}
 use Rattle.owed.specs.Shape.{suits}
-use Rattle.owed.proofs.Along.{in_back}
-use Rattle.paired.specs.Paired.{IsPlace, participant_of, seat_of}
-use Rattle.settling.specs.Again.{ArePosted, HasPosted, ticked_at}
+use Rattle.owed.proofs.StepSeats.{in_back}
+use Rattle.paired.specs.Partners.{IsPlace, participant_of, seat_of}
+use Rattle.settling.specs.Resends.{ArePosted, HasPosted, ticked_at}
 use Rattle.settling.proofs.Runs.{further_run, run_is}
-use Rattle.settling.proofs.Ticked.{ticks_ask}
-use Rattle.settled.specs.Owed.{Comes, CommitsAreOwed, Holds, IsNoticeFrom, IsRegisterOf, IsSeatPlace, OutcomesAreOwed, OwesCommitted, OwesOutcome, OwesRegistered, OwesVote, RegistrationsAreOwed, VotesAreOwed}
-use Rattle.settled.proofs.Calm.{back_in}
-use Rattle.settled.proofs.Going.{comes_as, leads_participant, leads_seat}
-use Rattle.settled.proofs.Routed.{posted_comes}
+use Rattle.settling.proofs.TickedNodes.{ticks_ask}
+use Rattle.settled.specs.OwedMessages.{Comes, CommitsAreOwed, Holds, IsNoticeFrom, IsRegisterOf, IsSeatPlace, OutcomesAreOwed, OwesCommitted, OwesOutcome, OwesRegistered, OwesVote, RegistrationsAreOwed, VotesAreOwed}
+use Rattle.settled.proofs.CalmTurns.{back_in}
+use Rattle.settled.proofs.CalmSteps.{comes_as, leads_participant, leads_seat}
+use Rattle.settled.proofs.Routes.{posted_comes}
 use Rattle.settled.proofs.Votes.{suits_at}
 
 -- the world behind the tick

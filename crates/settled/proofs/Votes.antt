@@ -20,28 +20,28 @@ use Rattle.at_model.specs.Step.{leaf_at, step, transaction_at}
 use Rattle.at_model.specs.World.{Posted, Who, World, Hosts}
 use Rattle.model_laws.specs.Agreement.{HasCommitted, IsIn}
 use Rattle.model_laws.specs.Shapes.{IfFound, NoParticipant}
-use Rattle.model_laws.specs.Reached.{Reached}
-use Rattle.model_laws.proofs.Deciding.{found_id, same_kind}
-use Rattle.model_laws.proofs.Enrolled.{one_superior}
+use Rattle.model_laws.specs.ReachedWorlds.{Reached}
+use Rattle.model_laws.proofs.DecisionLaws.{found_id, same_kind}
+use Rattle.model_laws.proofs.Registrations.{one_superior}
 use Rattle.agreement.specs.Deeds.{coordinator_at}
 use Rattle.agreement.proofs.SeatedEntries.{one_of}
-use Rattle.enlistments.proofs.Arriving.{HasCome, has_come}
-use Rattle.owed.specs.Asking.{has_asked}
+use Rattle.enlistments.proofs.Arrivals.{HasCome, has_come}
+use Rattle.owed.specs.DurablePrepares.{has_asked}
 use Rattle.owed.specs.Seats.{AnswersSeat, HasAnswered, Tells, posts_of}
 use Rattle.owed.specs.Shape.{LinkKnows, StandsUnder, suits}
-use Rattle.owed.specs.Upwards.{IsBusy, IsExcused, LinkIsBusy, LinksOwed, StaysBusy, TellsAnswer, superior_left}
-use Rattle.owed.proofs.Replying.{steps_owe_leaves}
-use Rattle.owed.proofs.UpStrangers.{steps_owe_links}
-use Rattle.votes.specs.Answering.{HasSeat}
-use Rattle.votes.specs.Backing.{CommitIsBacked, IsUnderCommitted}
-use Rattle.votes.proofs.Joint.{outcomes_are_backed}
-use Rattle.paired.specs.Paired.{IsPlace, participant_of, seat_of}
-use Rattle.paired.proofs.Pairing.{partners_are_paired}
-use Rattle.settled.specs.Behind.{IsAskedBy, PreparesAreBehind}
-use Rattle.settled.specs.Goes.{Goes}
-use Rattle.settled.specs.Owed.{IsSeatPlace, Comes, HasRegistered, Holds, IsBusyAt, IsNotice, IsNoticeFrom, OwesVote, seat_target_of}
-use Rattle.settled.proofs.Going.{book_after, holds_before, holds_elsewhere, or_arrives, or_elsewhere, posted_in, ready, same_book, seat_told, shaped, stepping}
-use Rattle.settled.proofs.Meeting.{found_own, known_is, leaf_knows, leaf_own, left_busy, link_knows, seat_has, seat_place, shape_at, still_busy, stored_is}
+use Rattle.owed.specs.Links.{IsBusy, IsExcused, LinkIsBusy, LinksOwed, StaysBusy, TellsAnswer, superior_left}
+use Rattle.owed.proofs.RegisterAnswers.{steps_owe_leaves}
+use Rattle.owed.proofs.Strangers.{steps_owe_links}
+use Rattle.votes.specs.NamedParticipants.{HasSeat}
+use Rattle.votes.specs.ToldOutcomes.{CommitIsBacked, IsUnderCommitted}
+use Rattle.votes.proofs.VotesAndOutcomes.{outcomes_are_backed}
+use Rattle.paired.specs.Partners.{IsPlace, participant_of, seat_of}
+use Rattle.paired.proofs.Partners.{partners_are_paired}
+use Rattle.settled.specs.DurablePrepares.{IsAskedBy, PreparesAreBehind}
+use Rattle.settled.specs.CalmSteps.{Goes}
+use Rattle.settled.specs.OwedMessages.{IsSeatPlace, Comes, HasRegistered, Holds, IsBusyAt, IsNotice, IsNoticeFrom, OwesVote, seat_target_of}
+use Rattle.settled.proofs.CalmSteps.{book_after, holds_before, holds_elsewhere, or_arrives, or_elsewhere, posted_in, ready, same_book, seat_told, shaped, stepping}
+use Rattle.settled.proofs.Partners.{found_own, known_is, leaf_knows, leaf_own, left_busy, link_knows, seat_has, seat_place, shape_at, still_busy, stored_is}
 
 -- a seat that is asked is one of a transaction that is undecided; and a volatile one of one that hasn't asked the durable ones
 pub preparing_undecided : (p : Phase) (k : Kind) → suits p k states.Preparing ≡ true → may_expire p ≡ true

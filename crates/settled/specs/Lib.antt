@@ -1,6 +1,6 @@
-pub mod Owed
-pub mod Goes
-pub mod Behind
-pub mod Routed
-pub mod Calm
-pub mod Kept
+pub mod OwedMessages
+pub mod CalmSteps
+pub mod DurablePrepares
+pub mod EndedRegistrations
+pub mod SettlingInvariants
+pub mod OwedLaws

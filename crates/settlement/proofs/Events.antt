@@ -3,7 +3,7 @@ use Rattle.std.proofs.Common.{ℕ, zero, suc, ◌+◌, ◌-◌, ◌<◌, ◌≤�
 use Rattle.std.proofs.lemmas.List.{append-nil, append_assoc, map-append}
 use Rattle.std.specs.Prelude.{None, option_and_then}
 use Rattle.at_model.specs.World.{Node, Tick, Turn, WorldEvent, nth, run_of, example_hosts}
-use Rattle.model_laws.specs.Settle.{ticks, up_if, ups}
+use Rattle.model_laws.specs.Settlement.{ticks, up_if, ups}
 use Rattle.settling.proofs.Places.{nth_behind}
 use Rattle.settling.proofs.Runs.{run_length}
 use Rattle.world_laws.specs.Events.{event_of}

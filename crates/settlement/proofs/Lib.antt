@@ -1,4 +1,4 @@
 mod Events
 mod Rounds
-mod Settled
-mod Few
+mod SettledWorlds
+mod EventCounts

@@ -2,7 +2,7 @@
 use Rattle.std.proofs.Common.{ℕ, zero, suc, ◌+◌, ◌<◌, ◌≡◌, refl, List, [], ◌∷◌, length, drop, ap, ◌∙◌, sym, subst, arith}
 use Rattle.std.specs.Prelude.{Option, Some, None}
 use Rattle.at_model.specs.World.{Deliver, Posted, Turn, WorldEvent}
-use Rattle.model_laws.specs.Settle.{Settling, all_also, also, first_received, received_or, settle_round, settle_rounds, ticks}
+use Rattle.model_laws.specs.Settlement.{Settling, all_also, also, first_received, received_or, settle_round, settle_rounds, ticks}
 use Rattle.settling.specs.Drains.{Delivers, IsDrained}
 use Rattle.settling.specs.Drains.Delivers.{none_left, one_more}
 

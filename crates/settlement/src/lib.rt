@@ -2,6 +2,6 @@
 //! and the others post in answer is delivered.
 #![tactic(auto)]
 
-pub mod held;
-mod resting;
+pub mod holdings;
 pub mod settle;
+mod settling_world;

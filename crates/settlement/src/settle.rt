@@ -3,13 +3,13 @@
 ghost use Rattle.std.specs.List.{AllByRecursion};
 ghost use Rattle.std.specs.Prelude.{◌≡◌, ◌≤◌, IfOk, length, map, true};
 ghost use Rattle.at_model.specs.World.{run_on};
-ghost use Rattle.model_laws.specs.Settle.{MayStart, is_settled, settle, settle_bound};
-ghost use Rattle.settlement.specs.Held.{held_up, most_events};
+ghost use Rattle.model_laws.specs.Settlement.{MayStart, is_settled, settle, settle_bound};
+ghost use Rattle.settlement.specs.Holdings.{held_up, most_events};
 ghost use Rattle.std.specs.Prelude.{◌<◌, ◌-◌, ◌^◌};
 ghost use Rattle.world_laws.specs.Events.{event_of};
 ghost use Rattle.world_laws.specs.Runs.{world_of};
 
-use crate::resting::settled;
+use crate::settling_world::settled;
 use model_laws::rules::examples_are_apart;
 use settled::laws::settles;
 use settling::laws::drains;
@@ -26,7 +26,7 @@ use world_laws::world::World;
 /// nodes, which hold K seats, completion seats, links (two for each subordinate), leaves and activities once all are up. Want of
 /// memory is answered too where a world would have more than 4,294,967,295 events.
 ///
-/// What they hold is what `World::held` counts then, and `held_once_up` says beforehand (`held`).
+/// What they hold is what `World::held` counts then, and `held_once_up` says beforehand (`holdings`).
 pub fn settle(alloc: Global, world: &World) -> Result<Vec<WorldEvent>, AllocError>
     ensures is { IfOk result (λ events. map event_of events.items ≡ settle (world_of world.now)) }
     ensures few { length (settle (world_of world.now)) ≤ settle_bound (world_of world.now) }

@@ -10,7 +10,7 @@ use Rattle.at_tables.specs.declared.cells.State.TheVariants as states
 use Rattle.at_model.specs.Arrivals.{request_of}
 use Rattle.at_model.specs.Book.{Activity, Book, Completion, Enlistment, Leaf, Phase, Progress, Request, Superior, Transaction}
 use Rattle.at_model.specs.Due.{is_quiet}
-use Rattle.model_laws.specs.Settle.{completions_held, links_held, others_in, seats_held, seats_in, superior_links}
+use Rattle.model_laws.specs.Settlement.{completions_held, links_held, others_in, seats_held, seats_in, superior_links}
 use Rattle.settling.specs.Load.{Prices, activity_load, again, completion_load, initiator_rest, items_load, leaf_load, leaf_rest, link_repeats, link_rest, links_load, notice_weight, progress_load, request_load, seat_load, seat_repeats, seat_rest, seats_load, transaction_load}
 
 -- at most for each seat, and for each other thing

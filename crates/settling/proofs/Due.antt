@@ -28,10 +28,10 @@ use Rattle.at_model.specs.Seats.{sent_now, under}
 use Rattle.at_model.specs.Step.{activity_at, activity_due_plan, activity_plan, at_time, due_plan, is_due, is_due_at, is_reached, leaf_at, leaf_due_plan, leaf_plan, moment_of, put_transaction, step, transaction_at, transaction_due_plan, transaction_plan}
 use Rattle.model_laws.specs.Agreement.{IsIn}
 use Rattle.model_laws.specs.Order.{IsInOrder}
-use Rattle.model_laws.proofs.Deciding.{IfThere, answer_has, either_left, found_id}
-use Rattle.agreement.proofs.Still.{find_other, find_this}
+use Rattle.model_laws.proofs.DecisionLaws.{IfThere, answer_has, either_left, found_id}
+use Rattle.agreement.proofs.OtherIds.{find_other, find_this}
 use Rattle.settling.specs.Load.{posts_in}
-use Rattle.settling.proofs.Registering.{posts_of}
+use Rattle.settling.proofs.RegisterPayments.{posts_of}
 
 -- each of these posts is among those
 abbrev pub AreAmong : List Post → List Post → Type 0

@@ -15,10 +15,10 @@ use Rattle.at_model.specs.Leaves.{leaf_aborts, leaf_refused}
 use Rattle.at_model.specs.Moves.{Change, Decision, Goes, Records, begin, posts, stays}
 use Rattle.at_model.specs.Step.{activity_at, activity_due_plan, activity_plan, at_time, due_plan, is_due, is_due_at, is_reached, leaf_at, leaf_due_plan, leaf_plan, moment_of, step, transaction_at, transaction_due_plan, transaction_plan}
 use Rattle.model_laws.specs.Order.{IsInOrder}
-use Rattle.model_laws.proofs.Deciding.{IfThere, either_left, found_id}
-use Rattle.agreement.proofs.Still.{find_other, find_this}
+use Rattle.model_laws.proofs.DecisionLaws.{IfThere, either_left, found_id}
+use Rattle.agreement.proofs.OtherIds.{find_other, find_this}
 use Rattle.settling.specs.Load.{posts_in}
-use Rattle.settling.proofs.Registering.{posts_of}
+use Rattle.settling.proofs.RegisterPayments.{posts_of}
 use Rattle.at_model.specs.Step.{put_leaf}
 use Rattle.settling.proofs.Due.{AreAmong, behind_among, more_among, quiet_later, unreached, left_found}
 

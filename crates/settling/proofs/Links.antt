@@ -29,16 +29,16 @@ use Rattle.at_model.specs.Phases.{commit_seats, go_volatile, upwards}
 use Rattle.at_model.specs.Posts.{fault_post, invalid_state, stored_or, stranger_post, to_each}
 use Rattle.at_model.specs.Seats.{ending, in_phase, in_state, link_in, link_of, sent_now, set_link, under}
 use Rattle.model_laws.specs.Links.{AreIn, IsJoining}
-use Rattle.model_laws.proofs.Asking.{ActsAt, CellAt, table_acts}
-use Rattle.model_laws.proofs.Deciding.{first_true}
-use Rattle.model_laws.proofs.Linking.{Linked, has_voted, known}
+use Rattle.model_laws.proofs.ParticipantTable.{ActsAt, CellAt, table_acts}
+use Rattle.model_laws.proofs.DecisionLaws.{first_true}
+use Rattle.model_laws.proofs.LinkDecisions.{Linked, has_voted, known}
 use Rattle.settling.specs.Load.{Prices, completion_load, held, link_load, links_load, weights}
-use Rattle.settling.proofs.Affording.{abort_paid, commit_price, to_each_weighs, upwards_weighs}
+use Rattle.settling.proofs.AbortPayments.{abort_paid, commit_price, to_each_weighs, upwards_weighs}
 use Rattle.settling.proofs.Costs.{Within, cost, participant_within, spare}
 use Rattle.settling.proofs.Entries.{state_is}
-use Rattle.settling.proofs.Phasing.{either, go_volatile_paid, link_at, no_completion}
-use Rattle.settling.proofs.Weighing.{less_again, none_again, stays_paid, weights_one, worth, worth_become, worth_begin, worth_effect, worth_posts, worth_sent}
-use Rattle.settling.proofs.Acting.{Acted, ignored_paid, posted_paid, sent_less, spends}
+use Rattle.settling.proofs.PhasePayments.{either, go_volatile_paid, link_at, no_completion}
+use Rattle.settling.proofs.Weights.{less_again, none_again, stays_paid, weights_one, worth, worth_become, worth_begin, worth_effect, worth_posts, worth_sent}
+use Rattle.settling.proofs.SeatPayments.{Acted, ignored_paid, posted_paid, sent_less, spends}
 
 -- what goes to the superior, or to the From of its message
 pub told_weighs : (P : Prices) (link : Link) (from : Option Epr) (f : Epr → Post) (n : ℕ) → ((x : Epr) → weights P (f x ∷ []) ≤ n) → weights P (to_each (stored_or link.coordinator from) f) ≤ n

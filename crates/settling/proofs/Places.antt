@@ -5,9 +5,9 @@ use Rattle.std.proofs.Common.{arith, sym, subst, ap, ◌∙◌}
 use Rattle.std.proofs.lemmas.Bool.{eqb-true}
 use Rattle.std.proofs.lemmas.List.Sums.{sum_by-cons}
 use Rattle.at_model.specs.World.{Posted, nth, put_nth}
-use Rattle.model_laws.specs.Settle.{first_received, received_or}
+use Rattle.model_laws.specs.Settlement.{first_received, received_or}
 use Rattle.settling.specs.Load.{Prices}
-use Rattle.settling.proofs.Turning.{posted_weight, queued}
+use Rattle.settling.proofs.TurnCosts.{posted_weight, queued}
 
 pub nth_behind : {A : Type 0} (n : ℕ) (x : A) (xs : List A) → 2 ≤ n → nth n (x ∷ xs) ≡ nth (n - 1) xs
 nth_behind n x xs h = by_test (nat_eq n 1) refl

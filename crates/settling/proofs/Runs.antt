@@ -3,17 +3,17 @@ use Rattle.std.specs.Prelude.{ℕ, List, [], ◌∷◌, ◌++◌, Option, Some, 
 use Rattle.std.specs.List.{AllByRecursion}
 use Rattle.std.proofs.Common.{arith, sym, subst, ap, ◌∙◌}
 use Rattle.at_model.specs.Book.{Book}
-use Rattle.at_model.specs.World.{Node, World, WorldEvent, lost_in, new_nodes, nth, opening, put_book, run_of, run_on, world_step, Hosts}
-use Rattle.model_laws.specs.Reached.{Reached, counts, fell, opened, rose, stepped, waited}
-use Rattle.model_laws.specs.Settle.{Settling, all_also, also}
-use Rattle.model_laws.proofs.Deciding.{IfThere}
-use Rattle.model_laws.proofs.Reaching.{run_reached}
-use Rattle.agreement.proofs.Sorted.{new_length}
-use Rattle.settling.specs.Pays.{IsSteady}
-use Rattle.settling.proofs.Delivering.{AreSteady, IsSteadyNode}
-use Rattle.settling.proofs.Paying.{steady_books}
+use Rattle.at_model.specs.World.{Node, World, WorldEvent, lost_in, nth, opening, put_book, run_of, run_on, world_step, Hosts}
+use Rattle.model_laws.specs.ReachedWorlds.{Reached, counts, fell, opened, rose, stepped, waited}
+use Rattle.model_laws.specs.Settlement.{Settling, all_also, also}
+use Rattle.model_laws.proofs.DecisionLaws.{IfThere}
+use Rattle.model_laws.proofs.ReachedWorlds.{run_reached}
+use Rattle.agreement.proofs.Sorts.{new_length}
+use Rattle.settling.specs.Payments.{IsSteady}
+use Rattle.settling.proofs.Deliveries.{AreSteady, IsSteadyNode}
+use Rattle.settling.proofs.BookPayments.{steady_books}
 use Rattle.settling.proofs.Places.{length_put, nth_behind}
-use Rattle.settling.proofs.Turning.{posts_nodes}
+use Rattle.settling.proofs.TurnCosts.{posts_nodes}
 
 -- it is the world of a run
 pub record IsOfRun (hosts : Hosts) (w : World) : Type 0 where

@@ -1,7 +1,7 @@
 -- Every round of settling drains: it ends with no message left to deliver, before its deliveries are spent.
 use Rattle.std.specs.Prelude.{ℕ, List, [], Some, None, ◌+◌, ◌≡◌, ◌≤◌, ◌<◌, drop, length}
 use Rattle.at_model.specs.World.{Deliver, Turn, WorldEvent, run_of, Hosts}
-use Rattle.model_laws.specs.Settle.{Settling, all_also, all_up, also, first_received, most_deliveries, settle, settle_bound, settle_round, settle_rounds, ticks, waiting}
+use Rattle.model_laws.specs.Settlement.{Settling, all_also, all_up, also, first_received, most_deliveries, settle, settle_bound, settle_round, settle_rounds, ticks, waiting}
 
 -- the world with every node up, as the rounds begin
 abbrev pub risen : Hosts → List WorldEvent → Settling

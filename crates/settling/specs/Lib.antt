@@ -1,9 +1,9 @@
-pub mod Again
+pub mod Resends
 pub mod Drains
 pub mod Examples
 pub mod Load
 pub mod Order
-pub mod Pays
+pub mod Payments
 pub mod Replies
 pub mod Rises
 pub mod Times

@@ -1,5 +1,5 @@
 -- Who registers first: a subordinate takes participants only behind its own registration, so registrations have an order.
-use Rattle.std.specs.Prelude.{ℕ, List, [], ◌∷◌, ◌++◌, Option, Some, None, false, is_none, length, ◌^◌, ◌&&◌, ◌≡◌, ◌<◌}
+use Rattle.std.specs.Prelude.{ℕ, List, [], ◌∷◌, ◌++◌, Option, Some, None, false, is_none, length, ◌&&◌, ◌≡◌, ◌<◌}
 use Rattle.std.specs.List.{AllByRecursion}
 use Rattle.at_base.specs.declared.epr.Epr.{Epr}
 use Rattle.at_base.specs.declared.target.Seat.{Seat}

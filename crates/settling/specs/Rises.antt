@@ -2,9 +2,9 @@
 use Rattle.std.specs.Prelude.{ℕ, List, Some, false, is_none, ◌≡◌, ◌≤◌}
 use Rattle.std.specs.List.{AllByRecursion}
 use Rattle.at_model.specs.Book.{last_counter}
-use Rattle.at_model.specs.Recover.{last_incarnation}
+use Rattle.at_model.specs.Recovery.{last_incarnation}
 use Rattle.at_model.specs.World.{Node, World, WorldEvent, nth, run_of, Hosts}
-use Rattle.model_laws.specs.Settle.{MayStart, settle_rounds}
+use Rattle.model_laws.specs.Settlement.{MayStart, settle_rounds}
 use Rattle.settling.specs.Drains.{risen}
 
 abbrev pub IsUp : Node → Type 0

@@ -11,8 +11,8 @@ use Rattle.site_memory.specs.declared.range.Range.{Range}
 use Rattle.site_memory.specs.declared.range.Which.{Which}
 use Rattle.site_memory.specs.declared.range.Which.TheVariants.{First, Second}
 use Rattle.site_memory.specs.Disk.{Disk, MayBe, TornAt, torn_by, after_call, after_write, after_sync, disk, run, same, which_of}
-use Rattle.site_memory.proofs.Ran.{effect}
-use Rattle.site_memory.proofs.Written.{length_written, take_written}
+use Rattle.site_memory.proofs.FurtherCalls.{effect}
+use Rattle.site_memory.proofs.WrittenBytes.{length_written, take_written}
 
 pub torn_same : (at n : ℕ) (f : List ℕ) → Torn at n f f
 torn_same at n f = record { before = λ k h l. refl; after = refl; no_shorter = omega arith; no_longer = omega arith }

@@ -1,6 +1,6 @@
-pub mod Written
-pub mod Ran
+pub mod WrittenBytes
+pub mod FurtherCalls
 pub mod Images
-pub mod Answered
-pub mod OnDevices
-pub mod ByByte
+pub mod TraitCalls
+pub mod MachineCalls
+pub mod ByteImages

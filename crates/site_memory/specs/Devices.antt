@@ -8,7 +8,7 @@ use Rattle.site_memory.specs.declared.entry.Noted.{Noted}
 use Rattle.site_memory.specs.declared.range.Which.TheVariants.{First, Second}
 use Rattle.site_memory.specs.Disk.{chosen, disk}
 use Rattle.site_memory.specs.Entries.{mades, Notes}
-use Rattle.site_memory.specs.Helds.{opening_of}
+use Rattle.site_memory.specs.HeldFiles.{opening_of}
 
 abbrev pub opening_in : Device → Files
 opening_in device = opening_of device.first device.second

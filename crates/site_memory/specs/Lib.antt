@@ -1,9 +1,9 @@
 pub mod Arms
 pub mod Disk
 pub mod Entries
-pub mod Helds
+pub mod HeldFiles
 pub mod Tells
 pub mod Devices
 pub mod Answers
 pub mod Sites
-pub mod Bytewise
+pub mod ByteImages

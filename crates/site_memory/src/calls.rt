@@ -1,6 +1,6 @@
 //! The calls on the disk of a machine in memory.
 
-ghost use Rattle.std.specs.Prelude.{◌≡◌, ◌≤◌, ◌+◌, ◌++◌, ◌∷◌, [], true, false, cond, length, IfOk, OnOk};
+ghost use Rattle.std.specs.Prelude.{◌≡◌, ◌+◌, [], true, false, cond, length, IfOk};
 ghost use Rattle.site_model.specs.Told.{file_of};
 ghost use Rattle.site_memory.specs.Tells.{reads};
 ghost use Rattle.site_memory.specs.declared.entry.Noted.TheVariants.{Not};
@@ -8,14 +8,14 @@ ghost use Rattle.site_model.specs.Told.Call.{Write, Sync, Send, Post};
 ghost use Rattle.site_memory.specs.declared.arm.Arm.TheVariants.{Idle};
 ghost use Rattle.site_memory.specs.declared.range.Which.TheVariants.{First, Second};
 ghost use Rattle.site_memory.specs.Arms.{armed};
-ghost use Rattle.site_memory.specs.Disk.{after_write, after_sync, chosen, same, which_of};
+ghost use Rattle.site_memory.specs.Disk.{after_write, after_sync, chosen, same};
 ghost use Rattle.site_memory.specs.Devices.{opening_in, calls_in, Runs, Leaves, Wants};
-ghost use Rattle.site_memory.specs.Helds.{disk_of, opening_of, HasRoomIn};
+ghost use Rattle.site_memory.specs.HeldFiles.{disk_of, opening_of, HasRoomIn};
 
 use crate::arm::{Arm, Choice};
 use crate::device::Device;
 use crate::entry::{Deed, Noted, note};
-use crate::held::Held;
+use crate::held_file::Held;
 use crate::range::Which;
 use std::alloc::{AllocError, Global};
 

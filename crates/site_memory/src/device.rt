@@ -4,11 +4,11 @@ ghost use Rattle.std.specs.Prelude.{◌≡◌};
 ghost use Rattle.site_memory.specs.declared.range.Which.TheVariants.{First, Second};
 ghost use Rattle.site_memory.specs.Disk.{disk};
 ghost use Rattle.site_memory.specs.Entries.{mades};
-ghost use Rattle.site_memory.specs.Helds.{disk_of, opening_of};
+ghost use Rattle.site_memory.specs.HeldFiles.{disk_of, opening_of};
 
 use crate::arm::Arm;
 use crate::entry::Entry;
-use crate::held::Held;
+use crate::held_file::Held;
 use std::alloc::Global;
 
 /// Two files, and the calls since the machine was opened, of which the files are what came.

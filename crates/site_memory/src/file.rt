@@ -1,12 +1,12 @@
 //! What calls and crashes do to one file.
 
-ghost use Rattle.std.specs.Prelude.{◌≡◌, ◌≤◌, ◌+◌, ◌++◌, ◌∷◌, [], true, length, take, OnOk, vec_capacity, vec_len};
+ghost use Rattle.std.specs.Prelude.{◌≡◌, ◌≤◌, ◌+◌, [], true, length, take, OnOk, vec_capacity, vec_len};
 ghost use Rattle.site_memory.specs.Disk.{after_write, after_sync, chosen, end_of, filled, opened};
-ghost use Rattle.site_memory.specs.Helds.{disk_of};
+ghost use Rattle.site_memory.specs.HeldFiles.{disk_of};
 
 use crate::arm::Choice;
 use crate::buffer::{copy, fill, put, room};
-use crate::held::Held;
+use crate::held_file::Held;
 use crate::range::Range;
 use std::alloc::{AllocError, Global};
 
@@ -43,7 +43,7 @@ impl Held {
     }
 
     /// A write, which is done or not. There is room.
-    #[tactic(auto, using(crate::proofs::Written::end_push, crate::proofs::Written::length_written, crate::proofs::Written::take_written))]
+    #[tactic(auto, using(crate::proofs::WrittenBytes::end_push, crate::proofs::WrittenBytes::length_written, crate::proofs::WrittenBytes::take_written))]
     pub fn write(&mut self, at: usize, bytes: &[u8], done: bool)
         requires reach { at + length bytes.now ≤ self.old.reach }
         requires place { vec_len self.old.pending + 1 ≤ vec_capacity self.old.pending }
@@ -82,7 +82,7 @@ impl Held {
     }
 
     /// A crash, which leaves what was chosen.
-    #[tactic(auto, using(crate::proofs::Written::length_filled))]
+    #[tactic(auto, using(crate::proofs::WrittenBytes::length_filled))]
     pub fn crash(&mut self, choice: Choice)
         ensures is { disk_of self.new ≡ opened (chosen choice (disk_of self.old)) }
         ensures opening { self.new.opening.items ≡ chosen choice (disk_of self.old) }

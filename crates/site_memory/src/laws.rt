@@ -1,6 +1,6 @@
 //! Laws of the disk in memory.
 
-ghost use Rattle.site_memory.specs.Bytewise.{ImagesAreBytewise};
+ghost use Rattle.site_memory.specs.ByteImages.{ImagesAreBytewise};
 
 /// What a crash may leave of the two files is said byte by byte: each byte that isn't pending stays, and nothing more is said.
 pub fn images_are_bytewise()

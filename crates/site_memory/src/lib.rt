@@ -8,7 +8,7 @@ mod calls;
 pub mod device;
 pub mod entry;
 mod file;
-pub mod held;
+pub mod held_file;
 pub mod laws;
 pub mod line;
 pub mod machine;

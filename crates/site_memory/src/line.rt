@@ -1,8 +1,8 @@
 //! Connections.
 
-ghost use Rattle.std.specs.Prelude.{◌≡◌, ◌≤◌, ◌++◌, ◌∷◌, [], length, map, OnOk, OnErr};
+ghost use Rattle.std.specs.Prelude.{◌≡◌, ◌≤◌, ◌++◌, ◌∷◌, [], length, OnOk, OnErr};
 ghost use Rattle.site_model.specs.Calls.{OpensAs, GivesFirst, shut};
-ghost use Rattle.site_memory.specs.Sites.{contents, link_of};
+ghost use Rattle.site_memory.specs.Sites.{link_of};
 
 use crate::bytes::Bytes;
 use site_model::site::Taken;

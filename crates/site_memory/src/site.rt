@@ -1,11 +1,11 @@
 //! What can be set at a machine in memory, and its calls.
 
-ghost use Rattle.std.specs.Prelude.{◌≡◌, ◌≤◌, ◌<◌, ◌+◌, ◌-◌, ◌++◌, ◌∷◌, [], true, nat_eq, map, length, take, drop, IfOk, IsErr, OnOk, OnErr, IfSome, IsSome, Some, None, ◌↔◌, ◌⊎◌, ◌≢◌};
+ghost use Rattle.std.specs.Prelude.{◌≡◌, ◌≤◌, ◌<◌, ◌+◌, ◌-◌, ◌++◌, ◌∷◌, [], true, nat_eq, map, length, take, drop, IfOk, IsErr, OnOk, OnErr, IfSome, IsSome, Some, None, ◌↔◌};
 ghost use Rattle.site_model.specs.Told.{Files, Is, file_of};
 ghost use Rattle.site_model.specs.Told.Call.{Send, Post, Write, Sync};
 ghost use Rattle.site_model.specs.Counts.{capped};
 ghost use Rattle.site_model.specs.Calls.{Looked, Wrote, Synced, Raised, Gave, Attaches, Takes, Received, Closes, Reads};
-ghost use Rattle.site_memory.specs.declared.arm.Arm.TheVariants.{Idle, Fail, Stop, Stopped};
+ghost use Rattle.site_memory.specs.declared.arm.Arm.TheVariants.{Fail, Stop, Stopped};
 ghost use Rattle.site_memory.specs.Arms.{armed};
 ghost use Rattle.site_memory.specs.Devices.{Leaves, Runs};
 ghost use Rattle.site_memory.specs.Sites.{contents, told_of, link_of, now_counts, now_only, Goes, GoesTwice, IsNew, RunsTwice, Same, Attached, kept_where, post_of};

@@ -1,5 +1,5 @@
 -- What each call of a node's machine changes of what it tells.
-use Rattle.std.specs.Prelude.{ℕ, List, Bool, Result, Ok, Err, Some, None, ◌∷◌, [], ◌++◌, ◌≡◌, ◌⊎◌, ◌≤◌, ◌<◌, length, take, drop, map, OnOk, OnErr, IfOk, option_map}
+use Rattle.std.specs.Prelude.{ℕ, List, Result, Ok, Err, Some, None, ◌∷◌, [], ◌++◌, ◌≡◌, ◌≤◌, ◌<◌, length, take, drop, map, OnOk, OnErr, IfOk, option_map}
 use Rattle.site_model.specs.Site.{OnDisk, OnGate, OnReceive, OnLink, Attached, Took}
 use Rattle.site_model.specs.Told.{Told, Call, Made, Link, done, BreaksOff, with_file, written, Is, Within, TornFrom, Tears, Settled, Elapses, Between, Now, Still, Apart}
 use Rattle.site_model.specs.Told.Call.{Write, Sync}

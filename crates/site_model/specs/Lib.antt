@@ -2,5 +2,5 @@ pub mod Calls
 pub mod Counts
 pub mod Site
 pub mod Source
-pub mod Sure
+pub mod SureSites
 pub mod Told

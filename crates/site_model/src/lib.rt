@@ -5,4 +5,4 @@ pub mod memory;
 pub mod sink;
 pub mod site;
 pub mod source;
-pub mod sure;
+pub mod sure_site;

@@ -25,7 +25,7 @@ pub trait Sink {
 }
 
 /// Writes all bytes. After a failure a beginning of them is written.
-#[tactic(auto, using(crate::proofs::Known::nothing_written, crate::proofs::Known::written_more))]
+#[tactic(auto, using(crate::proofs::KnownBytes::nothing_written, crate::proofs::KnownBytes::written_more))]
 pub fn write_all<K: Sink>(sink: &mut K, bytes: &[u8]) -> Result<(), Failed>
     ensures all { OnOk result (Appends (K.contents sink.old) (K.contents sink.new) bytes.now) }
     ensures part { (n : ℕ) × ((n ≤ length bytes.now) × Appends (K.contents sink.old) (K.contents sink.new) (take n bytes.now)) }

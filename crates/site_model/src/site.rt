@@ -1,6 +1,6 @@
 //! A node's machine: its two files, its listener and connection, its posts and its clock, one object.
 
-ghost use Rattle.std.specs.Prelude.{ℕ, List, ◌≡◌, ◌≤◌, ◌<◌, length, take, drop, IfOk, Some};
+ghost use Rattle.std.specs.Prelude.{List, ◌≡◌, ◌≤◌, ◌<◌, length, take, drop, IfOk, Some};
 ghost use Rattle.site_model.specs.Told.{Told, Made, Files, Is, file_of};
 ghost use Rattle.site_model.specs.Told.Call.{Send, Post};
 ghost use Rattle.site_model.specs.Calls.{Looked, Wrote, Synced, Raised, Gave, Attaches, Takes, Received, Closes, Reads};

@@ -54,7 +54,7 @@ impl From<AllocError> for ReadFault {
 }
 
 /// All bytes that a source has left, at most 1,048,576.
-#[tactic(auto, using(crate::proofs::Known::nothing_yet, crate::proofs::Known::consumed_more, crate::proofs::Known::consumed_all, crate::proofs::Known::longer))]
+#[tactic(auto, using(crate::proofs::KnownBytes::nothing_yet, crate::proofs::KnownBytes::consumed_more, crate::proofs::KnownBytes::consumed_all, crate::proofs::KnownBytes::longer))]
 pub fn read_all<S: Source>(alloc: Global, source: &mut S) -> Result<Vec<u8>, ReadFault>
     ensures whole { IfOk result (λ v. IsWhole (S.left source.old) (S.given source.old) (S.given source.new) v.items) }
     ensures cause { IfErr result (λ e. HasReadCause e (S.faults source.old) (S.faults source.new) (S.given source.old) (S.given source.new) (S.left source.old)) }

@@ -5,7 +5,7 @@ use site_model::memory::MemSink;
 use site_model::sink::Sink;
 use site_model::site::{AttachFailed, Site, Taken};
 use site_model::source::Failed;
-use site_model::sure::SureSite;
+use site_model::sure_site::SureSite;
 use std::alloc::{AllocError, Global};
 use std::test::Fail;
 

@@ -1,5 +1,5 @@
-pub mod Trimming
+pub mod TrimLaws
 pub mod Lists
-pub mod Ahead
+pub mod Lookups
 pub mod Colons
 pub mod Faults

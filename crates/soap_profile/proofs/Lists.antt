@@ -8,7 +8,7 @@ use Rattle.xml_profile.specs.Forest.{Forest}
 use Rattle.xml_profile.specs.Forest.Forest.{Element_then}
 use Rattle.xml_profile.specs.Children.{forest_of}
 use Rattle.soap_profile.specs.Values.{elements, direct_text}
-use Rattle.soap_profile.specs.Building.{children_of, text_children}
+use Rattle.soap_profile.specs.BuiltElements.{children_of, text_children}
 
 pub elements_and_element : (cs : List Child) (t : Tree) → elements (forest_of (cs ++ Element t ∷ [])) ≡ elements (forest_of cs) ++ t ∷ []
 elements_and_element [] t = refl

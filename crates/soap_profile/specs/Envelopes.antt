@@ -4,10 +4,10 @@ use Rattle.std.specs.Str.{bytes_eq}
 use Rattle.xml_profile.specs.declared.name.QName.{QName}
 use Rattle.xml_profile.specs.declared.tree.Tree.{Tree}
 use Rattle.xml_profile.specs.Prefixes.{soap, addressing, coordination}
-use Rattle.soap_profile.specs.Opened.{Envelope}
+use Rattle.soap_profile.specs.EnvelopeParts.{Envelope}
 use Rattle.soap_profile.specs.declared.envelope.SoapRefusal.{SoapRefusal}
 use Rattle.soap_profile.specs.declared.envelope.SoapRefusal.TheVariants.{VersionMismatch, NotEnvelope, MustUnderstand, NoMemory}
-use Rattle.soap_profile.specs.Building.{children_of, element, qualified}
+use Rattle.soap_profile.specs.BuiltElements.{children_of, element, qualified}
 use Rattle.soap_profile.specs.Values.{elements, is_named, is_nowhere, attribute, is_empty}
 
 -- what is wrong with the root: an Envelope of another namespace is of another version (SOAP 1.1, section 4.1.2)

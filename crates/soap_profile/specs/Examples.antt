@@ -3,7 +3,7 @@ use Rattle.std.specs.Prelude.{ℕ, List, [], ◌∷◌, ◌≡◌, refl, Ok, Err
 use Rattle.xml_profile.specs.declared.tree.Tree.{Tree}
 use Rattle.xml_profile.specs.Forest.Forest.{End, Text_then}
 use Rattle.xml_profile.specs.Prefixes.{soap}
-use Rattle.soap_profile.specs.Building.{children_of, element, qualified, unqualified}
+use Rattle.soap_profile.specs.BuiltElements.{children_of, element, qualified, unqualified}
 use Rattle.soap_profile.specs.Values.{text_value}
 use Rattle.soap_profile.specs.Envelopes.{envelope_of}
 use Rattle.soap_profile.specs.declared.envelope.SoapRefusal.TheVariants.{VersionMismatch, NotEnvelope, MustUnderstand}

@@ -5,7 +5,7 @@ use Rattle.xml_profile.specs.declared.name.QName.{QName}
 use Rattle.xml_profile.specs.declared.tree.Tree.{Tree}
 use Rattle.xml_profile.specs.Forest.Forest.{End}
 use Rattle.xml_profile.specs.Prefixes.{addressing, fixed_prefix, soap}
-use Rattle.soap_profile.specs.Building.{children_of, text_children, qualified, unqualified, element}
+use Rattle.soap_profile.specs.BuiltElements.{children_of, text_children, qualified, unqualified, element}
 use Rattle.soap_profile.specs.Children.{child_of}
 use Rattle.soap_profile.specs.Values.{elements, is_named, is_unqualified, text_value}
 use Rattle.soap_profile.specs.declared.fault.FaultPart.{FaultPart}

@@ -1,7 +1,7 @@
 pub mod Values
-pub mod Building
+pub mod BuiltElements
 pub mod Children
-pub mod Opened
+pub mod EnvelopeParts
 pub mod Envelopes
 pub mod Faults
 pub mod Examples

@@ -1,7 +1,7 @@
 //! Elements built of names, texts and elements.
 
 ghost use Rattle.std.specs.Prelude.{◌≡◌, IfOk};
-ghost use Rattle.soap_profile.specs.Building.{children_of, element, qualified, text_children, unqualified};
+ghost use Rattle.soap_profile.specs.BuiltElements.{children_of, element, qualified, text_children, unqualified};
 
 use at_base::text::Text;
 use std::alloc::{AllocError, Global};

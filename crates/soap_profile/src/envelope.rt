@@ -3,7 +3,7 @@
 ghost use Rattle.std.specs.Prelude.{◌≡◌, IfOk, Ok, None};
 ghost use Rattle.std.specs.Option.{option_copied, option_map};
 ghost use Rattle.soap_profile.specs.Envelopes.{Answers, envelope_of, envelope_tree, first_of, is_one, is_for_this_node, sole, is_message_header, is_endpoint_header, is_mandatory, is_obstacle, is_reference_parameter, is_understood_name, judged, not_understood, parts_of, root_refusal, with_body};
-ghost use Rattle.soap_profile.specs.Building.{children_of, element, qualified};
+ghost use Rattle.soap_profile.specs.BuiltElements.{children_of, element, qualified};
 ghost use Rattle.xml_profile.specs.Children.{forest_of};
 ghost use Rattle.xml_profile.specs.Prefixes.{soap};
 ghost use Rattle.soap_profile.specs.Values.{elements};
@@ -32,7 +32,7 @@ impl<'a> Model for Envelope<'a> {
     ghost use Rattle.std.specs.Coded.{coded×, code_by};
     ghost use Rattle.xml_profile.specs.declared.tree.Tree.{Tree};
     ghost use Rattle.xml_profile.specs.contracts.tree.Tree.{the_row};
-    ghost use Rattle.soap_profile.specs.Opened.{Envelope};
+    ghost use Rattle.soap_profile.specs.EnvelopeParts.{Envelope};
     ghost use base.Stored.{coded_list};
 
     ghost Value = { Envelope };

@@ -3,7 +3,7 @@
 ghost use Rattle.std.specs.Prelude.{◌≡◌, ◌∷◌, [], false, IfOk, Ok, Some};
 ghost use Rattle.std.specs.Option.{option_copied, option_map};
 ghost use Rattle.std.specs.Result.{result_map_both};
-ghost use Rattle.soap_profile.specs.Building.{children_of, element, text_children, unqualified};
+ghost use Rattle.soap_profile.specs.BuiltElements.{children_of, element, text_children, unqualified};
 ghost use Rattle.soap_profile.specs.Values.{text_value, trim};
 ghost use Rattle.soap_profile.specs.Faults.{Answers, code_text, detail_of, fault_code, fault_detail, fault_of, fault_text, fault_tree, has_colon, is_fault, local_part, optional, part_name, part_of, required};
 

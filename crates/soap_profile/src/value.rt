@@ -16,7 +16,7 @@ fn is_white(byte: u8) -> bool
     byte == b' ' || byte == b'\t' || byte == b'\n' || byte == b'\r'
 }
 
-#[tactic(auto, using(crate::proofs::Trimming::white_start, crate::proofs::Trimming::word_start))]
+#[tactic(auto, using(crate::proofs::TrimLaws::white_start, crate::proofs::TrimLaws::word_start))]
 fn trim_start(text: &str) -> &str
     ensures { result.now ≡ trim_start text.now }
 {

@@ -9,7 +9,7 @@ ghost use Rattle.at_model.specs.Book.{Phase as Stage};
 ghost use Rattle.at_model.specs.Moves.{Records};
 ghost use Rattle.at_model.specs.Posts.{reply_post};
 ghost use Rattle.at_model.specs.Seats.{under};
-ghost use Rattle.by_id.specs.Decided.{decision_of};
+ghost use Rattle.by_id.specs.Decisions.{decision_of};
 
 use crate::at_link::is_registering;
 use crate::phases::or_undone;

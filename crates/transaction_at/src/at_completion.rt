@@ -9,7 +9,7 @@ ghost use Rattle.at_model.specs.Arrivals.{completion_act, completion_notice, on_
 ghost use Rattle.at_model.specs.Moves.{Goes, begin, post, posts, stays};
 ghost use Rattle.at_model.specs.Phases.{go_volatile};
 ghost use Rattle.at_model.specs.Posts.{fault_post, notice_post, to_each};
-ghost use Rattle.by_id.specs.Decided.{decision_of};
+ghost use Rattle.by_id.specs.Decisions.{decision_of};
 
 use crate::phases::{aborts, go_volatile};
 use crate::seats::{ignores, posting, still};

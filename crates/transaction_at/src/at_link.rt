@@ -9,15 +9,15 @@ ghost use Rattle.at_base.specs.declared.target.Target.TheVariants as targets;
 ghost use Rattle.at_tables.specs.Tables.{participant_of};
 ghost use Rattle.at_tables.specs.declared.cells.State.TheVariants as states;
 ghost use Rattle.at_model.specs.Book.{Phase as Stage};
-ghost use Rattle.at_model.specs.Abort.{abort, Alone, Asked, Faulted};
+ghost use Rattle.at_model.specs.Abort.{abort, Asked, Faulted};
 ghost use Rattle.at_model.specs.Arrivals.{asked, commit_voted, is_registering, link_act, link_fault, link_notice, link_registered, on_link, registered, relates_to};
 ghost use Rattle.at_model.specs.Addresses.{register_id};
-ghost use Rattle.at_model.specs.Moves.{Goes, Records, become, begin, effect, posts, stays};
+ghost use Rattle.at_model.specs.Moves.{Goes, Records, become, begin, posts, stays};
 ghost use Rattle.at_model.specs.Phases.{commit_seats, go_volatile, upwards};
 ghost use Rattle.at_model.specs.Posts.{fault_post, invalid_state, stored_or, stranger_post, to_each};
 ghost use Rattle.at_model.specs.Seats.{ending, link_in, link_of, sent_now, set_link, under};
 ghost use Rattle.at_tables.specs.Names.{is_state};
-ghost use Rattle.by_id.specs.Decided.{decision_of};
+ghost use Rattle.by_id.specs.Decisions.{decision_of};
 ghost use Rattle.transaction_at.specs.PhaseNames.{phase_of};
 
 use crate::abort::{Reason, abort};

@@ -10,7 +10,7 @@ ghost use Rattle.at_model.specs.Moves.{Goes, begin, post, stays};
 ghost use Rattle.at_model.specs.Phases.{advance};
 ghost use Rattle.at_model.specs.Posts.{fault_post, invalid_state};
 ghost use Rattle.at_model.specs.Seats.{in_state, seat_in};
-ghost use Rattle.by_id.specs.Decided.{decision_of};
+ghost use Rattle.by_id.specs.Decisions.{decision_of};
 
 use crate::phases::{aborts, advance};
 use crate::seats::{ignores, is_state, posting, seat_in, seat_notice, seat_target, sent_now};

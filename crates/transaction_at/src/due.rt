@@ -138,7 +138,7 @@ fn does_link_wait(request: &Option<Request>, link: &Link) -> bool
 }
 
 /// Whether one of a subordinate's links waits.
-#[tactic(auto, using(crate::proofs::Waiting::some_of_both))]
+#[tactic(auto, using(crate::proofs::Resends::some_of_both))]
 fn do_links_wait(superior: &Option<Superior>) -> bool
     ensures { (base : List ℕ) (id : Numbers) → result ≡ is_some_post (links_again base id superior.now) }
 {
@@ -150,7 +150,7 @@ fn do_links_wait(superior: &Option<Superior>) -> bool
 }
 
 /// Whether a transaction waits for an answer to what it can send again.
-#[tactic(auto, using(crate::proofs::Waiting::some_of_both))]
+#[tactic(auto, using(crate::proofs::Resends::some_of_both))]
 fn waits(transaction: &Transaction) -> bool
     ensures { (base : List ℕ) → result ≡ is_some_post (transaction_again base transaction.now) }
 {

@@ -1,6 +1,6 @@
 //! The phases of a transaction, from the first Prepare to the end (WS-AtomicTransaction 1.2, section 3.3).
 
-ghost use Rattle.std.specs.Prelude.{◌≡◌, ◌++◌, IfOk, OnOk, Some, None};
+ghost use Rattle.std.specs.Prelude.{◌≡◌, IfOk, OnOk, Some, None};
 ghost use Rattle.at_model.specs.Book.{Phase as Stage};
 ghost use Rattle.at_base.specs.declared.notice.Notice.TheVariants as notices;
 ghost use Rattle.at_base.specs.declared.record.Record.TheVariants as records;
@@ -10,7 +10,7 @@ ghost use Rattle.at_model.specs.Seats.{link_in, prepared};
 ghost use Rattle.at_tables.specs.declared.cells.State.TheVariants as states;
 ghost use Rattle.at_base.specs.declared.notice.Kind.TheVariants as kinds;
 ghost use Rattle.at_model.specs.Phases.{commit_seats, committed, decided, root_answered, voted, sub_answered, durable_answered, if_durable_answered, prepare_seats, go_durable, volatile_answered, ended_posts, all_committed, advance, advance_in, upwards, go_volatile};
-ghost use Rattle.by_id.specs.Decided.{decision_of};
+ghost use Rattle.by_id.specs.Decisions.{decision_of};
 
 use crate::abort::{Reason, abort, until_rolled_back};
 use crate::links::{ending, push_upwards, tell_initiator};

@@ -1,12 +1,12 @@
 //! The seats of a transaction: tests, and small changes.
 
-ghost use Rattle.std.specs.Prelude.{◌≡◌, ◌++◌, ◌∷◌, [], IfOk, OnOk, Some};
+ghost use Rattle.std.specs.Prelude.{◌≡◌, ◌++◌, IfOk, OnOk, Some};
 ghost use Rattle.std.specs.List.{list_any};
 ghost use Rattle.at_tables.specs.Names.{state_place, kind_place, is_state, is_kind};
 ghost use Rattle.at_model.specs.Moves.{begin, effect, ignored, post};
 ghost use Rattle.at_model.specs.Posts.{notice_post};
 ghost use Rattle.at_model.specs.Seats.{is_of, is_open, answered, all_left, is_prepared_durable, prepared, seated, seat_target, notices_to, sent_to, send_each, seat_in, sent_now, moved};
-ghost use Rattle.by_id.specs.Decided.{decision_of};
+ghost use Rattle.by_id.specs.Decisions.{decision_of};
 ghost use Rattle.transaction_at.specs.Groups.{belongs};
 
 use crate::transaction::{Enlistment, Transaction};

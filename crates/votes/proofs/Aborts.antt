@@ -30,17 +30,17 @@ use Rattle.agreement.specs.LeafDeeds.{LeafDeed, aborts, commits, dropped, idles,
 use Rattle.agreement.specs.Lives.{Life, PromisesNothing, ends, happened_on}
 use Rattle.agreement.proofs.LeafLives.{LeafLife, leaf_alone, prepared, unrecorded}
 use Rattle.agreement.proofs.SeatedEntries.{one_of}
-use Rattle.agreement.proofs.Still.{promise_id}
+use Rattle.agreement.proofs.OtherIds.{promise_id}
 use Rattle.agreement.proofs.TransactionLives.{TransactionLife, aborted, committed, decided, undecided, voted}
 use Rattle.enlistments.specs.Leads.{LeadsTo}
-use Rattle.enlistments.proofs.Arriving.{HasCome}
-use Rattle.votes.specs.Backing.{IsUnderAborted, RollbackIsBacked}
-use Rattle.votes.specs.Joint.{IsOutcome}
-use Rattle.votes.specs.Voting.{HasVoted, is_vote}
-use Rattle.votes.proofs.Ended.{is_open, not_ended}
-use Rattle.votes.proofs.Gone.{is_promised, same_node}
-use Rattle.votes.proofs.Known.{came_by, life_at, stands_as}
-use Rattle.votes.proofs.Newly.{IsEnd}
+use Rattle.enlistments.proofs.Arrivals.{HasCome}
+use Rattle.votes.specs.ToldOutcomes.{IsUnderAborted, RollbackIsBacked}
+use Rattle.votes.specs.VotesAndOutcomes.{IsOutcome}
+use Rattle.votes.specs.DurableVotes.{HasVoted, is_vote}
+use Rattle.votes.proofs.ItemEnds.{is_open, not_ended}
+use Rattle.votes.proofs.SingleVotes.{is_promised, same_node}
+use Rattle.votes.proofs.StepItems.{came_by, life_at, stands_as}
+use Rattle.votes.proofs.NewVotes.{IsEnd}
 use Rattle.votes.proofs.Premises.{StepPremises}
 
 -- an end of a transaction or of a leaf, by its effect

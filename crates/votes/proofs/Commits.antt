@@ -17,19 +17,19 @@ use Rattle.at_model.specs.Moves.{Change}
 use Rattle.at_model.specs.Step.{moment_of, plan, step}
 use Rattle.at_model.specs.World.{Node, Who, World, Hosts}
 use Rattle.model_laws.specs.Agreement.{HasCommitted, HasPosted, IsIn}
-use Rattle.model_laws.specs.Grows.{Grows}
-use Rattle.model_laws.specs.Reached.{counts}
+use Rattle.model_laws.specs.Growth.{Grows}
+use Rattle.model_laws.specs.ReachedWorlds.{counts}
 use Rattle.agreement.specs.Deeds.{How, IsCommit, IsWhy, WhyInitiator, WhySuperior}
-use Rattle.agreement.specs.Done.{standing}
+use Rattle.agreement.specs.StepDeeds.{standing}
 use Rattle.agreement.specs.LeafDeeds.{LeafSays, aborted, committed, prepared, read_only, tells_nothing}
 use Rattle.enlistments.specs.Leads.{LeadsTo}
 use Rattle.enlistments.specs.Moves.{TransactionDid}
-use Rattle.enlistments.specs.Telling.{AnswersAsNone, Tells, activity_says, as_committed, as_no_participant, as_no_seat, from_left_link, leaf_says, left_link_aborted, says_aborted, to_asking, to_initiator, to_late_seat, to_left_seat, to_seat, to_superior}
-use Rattle.votes.specs.Backing.{CommitIsBacked, IsUnderCommitted}
-use Rattle.votes.specs.Joint.{IsOutcome}
-use Rattle.votes.specs.Saying.{SeatSays, who_named}
-use Rattle.votes.proofs.Growing.{committed_on, posted_on, seat_on}
-use Rattle.votes.proofs.Known.{commits_now, grown, has_seat, leads_who, seat_tells}
+use Rattle.enlistments.specs.NoticeOrigins.{AnswersAsNone, Tells, activity_says, as_committed, as_no_participant, as_no_seat, from_left_link, leaf_says, left_link_aborted, says_aborted, to_asking, to_initiator, to_late_seat, to_left_seat, to_seat, to_superior}
+use Rattle.votes.specs.ToldOutcomes.{CommitIsBacked, IsUnderCommitted}
+use Rattle.votes.specs.VotesAndOutcomes.{IsOutcome}
+use Rattle.votes.specs.SeatStates.{SeatSays, who_named}
+use Rattle.votes.proofs.Growth.{committed_on, posted_on, seat_on}
+use Rattle.votes.proofs.StepItems.{commits_now, grown, has_seat, leads_who, seat_tells}
 use Rattle.votes.proofs.Notices.{SeatsAre, no_participant, other_notice, same_end, same_notice, says_notice}
 use Rattle.votes.proofs.Premises.{StepPremises}
 use Rattle.votes.proofs.SeatVotes.{why_prepared}

@@ -28,29 +28,29 @@ use Rattle.at_model.specs.Seats.{link_of}
 use Rattle.at_model.specs.Step.{leaf_at, moment_of, plan, step, transaction_at}
 use Rattle.at_model.specs.World.{Node, Who, World, accepted_completion, happened_at, new_nodes, who_of, Hosts}
 use Rattle.model_laws.specs.Agreement.{HasAborted, HasCommitted, IsAccepted, IsIn}
-use Rattle.model_laws.specs.Enlisted.{IsEnlisted, IsKnownItem}
+use Rattle.model_laws.specs.Registrations.{IsEnlisted, IsKnownItem}
 use Rattle.model_laws.specs.Links.{AreIn, AreLinked, IsJoining}
-use Rattle.model_laws.specs.Reached.{counts}
+use Rattle.model_laws.specs.ReachedWorlds.{counts}
 use Rattle.model_laws.specs.Shapes.{NoParticipant}
-use Rattle.model_laws.proofs.Deciding.{all_find}
-use Rattle.model_laws.proofs.Enrolled.{all_known}
+use Rattle.model_laws.proofs.DecisionLaws.{all_find}
+use Rattle.model_laws.proofs.Registrations.{all_known}
 use Rattle.model_laws.proofs.Nodes.{who_same}
 use Rattle.agreement.specs.ActivityDeeds.{ActivitySays, Completes as AsksTo, completing, tells_nothing as asks_nothing}
 use Rattle.agreement.specs.Deeds.{How, SuperiorSaid, StoodFor, WhySuperior, coordinator_at, initiator}
-use Rattle.agreement.specs.Done.{standing}
+use Rattle.agreement.specs.StepDeeds.{standing}
 use Rattle.agreement.specs.LeafDeeds.{LeafSays, aborted, committed, prepared, read_only, tells_nothing}
 use Rattle.agreement.proofs.SeatedEntries.{one_of}
-use Rattle.enlistments.specs.Knowing.{AsksAsInitiator, AsksItsOwn, IsAsked, LeafKnows, TransactionKnows}
+use Rattle.enlistments.specs.KnownCoordinators.{AsksAsInitiator, AsksItsOwn, IsAsked, LeafKnows, TransactionKnows}
 use Rattle.enlistments.specs.Leads.{Enlists, EnlistsIfKnown, LeadsTo}
 use Rattle.enlistments.specs.Moves.{LeafDid}
-use Rattle.enlistments.specs.Telling.{AnswersAsNone, IsKnownOrAsked, Tells, activity_says, as_committed, as_no_participant, as_no_seat, from_left_link, leaf_says, left_link_aborted, says_aborted, to_asking, to_initiator, to_late_seat, to_left_seat, to_seat, to_superior}
-use Rattle.enlistments.proofs.Arriving.{HasCome}
-use Rattle.votes.specs.Answering.{HasSeat}
-use Rattle.votes.specs.Backing.{CommitIsBacked, CommittedIsBacked, HasCommittedAt, IsUnderCommitted}
-use Rattle.votes.specs.Joint.{IsOutcome}
-use Rattle.votes.specs.Voting.{HasVoted}
-use Rattle.votes.proofs.Growing.{committed_on, seat_on}
-use Rattle.votes.proofs.Known.{aborting, came_by, committing, effect_there, grown, leads_who, life_at}
+use Rattle.enlistments.specs.NoticeOrigins.{AnswersAsNone, IsKnownOrAsked, Tells, activity_says, as_committed, as_no_participant, as_no_seat, from_left_link, leaf_says, left_link_aborted, says_aborted, to_asking, to_initiator, to_late_seat, to_left_seat, to_seat, to_superior}
+use Rattle.enlistments.proofs.Arrivals.{HasCome}
+use Rattle.votes.specs.NamedParticipants.{HasSeat}
+use Rattle.votes.specs.ToldOutcomes.{CommitIsBacked, CommittedIsBacked, HasCommittedAt, IsUnderCommitted}
+use Rattle.votes.specs.VotesAndOutcomes.{IsOutcome}
+use Rattle.votes.specs.DurableVotes.{HasVoted}
+use Rattle.votes.proofs.Growth.{committed_on, seat_on}
+use Rattle.votes.proofs.StepItems.{aborting, came_by, committing, effect_there, grown, leads_who, life_at}
 use Rattle.votes.proofs.Notices.{other_notice, same_end, same_notice, says_notice}
 use Rattle.votes.proofs.Premises.{StepPremises}
 use Rattle.votes.proofs.Voters.{gone_voter, told_apart, unknown_voter}

@@ -17,10 +17,10 @@ use Rattle.at_model.specs.Moves.{Change}
 use Rattle.at_model.specs.Step.{activity_at, transaction_at}
 use Rattle.at_model.specs.World.{Node, World, Hosts}
 use Rattle.model_laws.specs.Agreement.{IsIn}
-use Rattle.model_laws.proofs.Deciding.{all_find}
+use Rattle.model_laws.proofs.DecisionLaws.{all_find}
 use Rattle.agreement.specs.ActivityDeeds.{ActivitySays, completing, tells_nothing as asks_nothing}
 use Rattle.agreement.specs.Branches.{IsNoNotice}
-use Rattle.enlistments.specs.Knowing.{ActivityKnows}
+use Rattle.enlistments.specs.KnownCoordinators.{ActivityKnows}
 use Rattle.enlistments.specs.Leads.{CompletesIfKnown, LeadsTo}
 use Rattle.votes.proofs.Premises.{StepPremises}
 

@@ -1,5 +1,5 @@
 -- What each step may use of the world before it, and what it has to show of the world behind it.
-use Rattle.std.specs.Prelude.{ℕ, Some, Bool, ◌^◌, ◌≡◌, ◌<◌}
+use Rattle.std.specs.Prelude.{ℕ, Some, Bool, ◌≡◌}
 use Rattle.std.specs.List.{AllByRecursion}
 use Rattle.at_base.specs.Numbers.{Numbers}
 use Rattle.at_base.specs.declared.event.Event.{Event}
@@ -8,17 +8,17 @@ use Rattle.at_model.specs.Book.{Book}
 use Rattle.at_model.specs.Step.{leaf_at, step, transaction_at}
 use Rattle.at_model.specs.World.{Node, World, goes_down, new_nodes, nth, Hosts, HaveOwnAddresses}
 use Rattle.model_laws.specs.Agreement.{HasOneSuperior}
-use Rattle.model_laws.specs.Reached.{Heard, Reached, counts}
-use Rattle.model_laws.proofs.Holding.{OutFine}
-use Rattle.model_laws.proofs.Naming.{HaveBases}
+use Rattle.model_laws.specs.ReachedWorlds.{Heard, Reached, counts}
+use Rattle.model_laws.proofs.WorldInvariants.{OutFine}
+use Rattle.model_laws.proofs.Addresses.{HaveBases}
 use Rattle.agreement.specs.Lives.{Life, book_of, happened_on}
-use Rattle.agreement.specs.Seated.{IsSeated}
+use Rattle.agreement.specs.SeatRegistrations.{IsSeated}
 use Rattle.agreement.specs.Sorts.{AreSorted}
-use Rattle.enlistments.specs.Knowing.{IsKnowing}
+use Rattle.enlistments.specs.KnownCoordinators.{IsKnowing}
 use Rattle.enlistments.specs.Moves.{IsReady, StepsMove}
-use Rattle.enlistments.specs.Telling.{StepsTell}
-use Rattle.votes.specs.Joint.{IsOutcome}
-use Rattle.votes.specs.Voting.{PreparedIsRecorded, ReadOnlyIsGone}
+use Rattle.enlistments.specs.NoticeOrigins.{StepsTell}
+use Rattle.votes.specs.VotesAndOutcomes.{IsOutcome}
+use Rattle.votes.specs.DurableVotes.{PreparedIsRecorded, ReadOnlyIsGone}
 
 -- what is known of every reached world
 pub record WorldLaws (hosts : Hosts) (u : World) : Type 0 where

@@ -16,24 +16,24 @@ use Rattle.at_model.specs.Moves.{Change}
 use Rattle.at_model.specs.Step.{find_seat, moment_of, plan, step, transaction_at}
 use Rattle.at_model.specs.World.{Node, Who, World, Hosts}
 use Rattle.model_laws.specs.Agreement.{HasAborted, HasCommitted, HasPosted, IsIn}
-use Rattle.model_laws.specs.Grows.{Grows}
-use Rattle.model_laws.specs.Reached.{counts}
+use Rattle.model_laws.specs.Growth.{Grows}
+use Rattle.model_laws.specs.ReachedWorlds.{counts}
 use Rattle.model_laws.specs.Shapes.{IfFound}
 use Rattle.agreement.specs.Deeds.{How, IsAbort, ParticipantSaid, WhyInitiator, WhySuperior}
-use Rattle.agreement.specs.Done.{standing}
+use Rattle.agreement.specs.StepDeeds.{standing}
 use Rattle.agreement.specs.LeafDeeds.{LeafSays, aborted, committed, prepared, read_only, tells_nothing}
 use Rattle.enlistments.specs.Leads.{LeadsTo}
 use Rattle.enlistments.specs.Moves.{TransactionDid}
-use Rattle.enlistments.specs.Telling.{AnswersAsNone, Tells, activity_says, as_committed, as_no_participant, as_no_seat, from_left_link, leaf_says, left_link_aborted, says_aborted, to_asking, to_initiator, to_late_seat, to_left_seat, to_seat, to_superior}
-use Rattle.votes.specs.Answering.{HasSeat}
-use Rattle.votes.specs.Backing.{IsUnderAborted, RollbackIsBacked}
-use Rattle.votes.specs.Joint.{IsOutcome}
-use Rattle.votes.specs.Saying.{HasLeft, SeatSays, who_named}
-use Rattle.votes.proofs.Gone.{not_both_votes}
-use Rattle.votes.proofs.Growing.{aborted_on, committed_on, seat_on, under_aborted_on}
-use Rattle.votes.proofs.Known.{aborts_now, grown, has_seat, leads_who, seat_tells}
+use Rattle.enlistments.specs.NoticeOrigins.{AnswersAsNone, Tells, activity_says, as_committed, as_no_participant, as_no_seat, from_left_link, leaf_says, left_link_aborted, says_aborted, to_asking, to_initiator, to_late_seat, to_left_seat, to_seat, to_superior}
+use Rattle.votes.specs.NamedParticipants.{HasSeat}
+use Rattle.votes.specs.ToldOutcomes.{IsUnderAborted, RollbackIsBacked}
+use Rattle.votes.specs.VotesAndOutcomes.{IsOutcome}
+use Rattle.votes.specs.SeatStates.{HasLeft, SeatSays, who_named}
+use Rattle.votes.proofs.SingleVotes.{not_both_votes}
+use Rattle.votes.proofs.Growth.{aborted_on, committed_on, seat_on, under_aborted_on}
+use Rattle.votes.proofs.StepItems.{aborts_now, grown, has_seat, leads_who, seat_tells}
 use Rattle.votes.proofs.Notices.{SeatsAre, no_participant, other_notice, same_end, same_notice, says_notice}
-use Rattle.votes.proofs.Unseated.{unseated}
+use Rattle.votes.proofs.UnseatedVotes.{unseated}
 use Rattle.votes.proofs.Premises.{StepPremises}
 use Rattle.votes.proofs.SeatVotes.{vote_at}
 

@@ -12,12 +12,12 @@ use Rattle.at_model.specs.World.{Accepted, Node, Who, World, Hosts}
 use Rattle.model_laws.specs.Agreement.{HasPosted, IsAccepted, IsIn}
 use Rattle.agreement.specs.Deeds.{IsCounted, IsWhy, ParticipantSaid, has_said, is_asked, is_still}
 use Rattle.agreement.proofs.SeatedEntries.{one_of}
-use Rattle.enlistments.specs.Knowing.{IsVoteOf, VotesAtItsSeat}
+use Rattle.enlistments.specs.KnownCoordinators.{IsVoteOf, VotesAtItsSeat}
 use Rattle.enlistments.specs.Leads.{LeadsTo}
-use Rattle.enlistments.proofs.Arriving.{HasCome}
-use Rattle.votes.specs.Joint.{IsOutcome}
-use Rattle.votes.specs.Saying.{SeatSays, who_named}
-use Rattle.votes.proofs.Known.{came_by, has_seat, seat_tells}
+use Rattle.enlistments.proofs.Arrivals.{HasCome}
+use Rattle.votes.specs.VotesAndOutcomes.{IsOutcome}
+use Rattle.votes.specs.SeatStates.{SeatSays, who_named}
+use Rattle.votes.proofs.StepItems.{came_by, has_seat, seat_tells}
 use Rattle.votes.proofs.Premises.{StepPremises}
 
 -- whom a seat was given to

@@ -21,21 +21,21 @@ use Rattle.at_model.specs.Seats.{answered, ending, is_of}
 use Rattle.at_model.specs.Step.{step, transaction_at}
 use Rattle.at_model.specs.World.{Accepted, Node, Who, World, accepted_seat, Hosts}
 use Rattle.model_laws.specs.Agreement.{HasAborted, HasCommitted, HasPosted, IsIn}
-use Rattle.model_laws.specs.Behind.{IsUnanswered, accepted_as}
-use Rattle.model_laws.proofs.Deciding.{all_find}
-use Rattle.model_laws.proofs.Enrolled.{nodes_of}
+use Rattle.model_laws.specs.PhaseAnswers.{IsUnanswered, accepted_as}
+use Rattle.model_laws.proofs.DecisionLaws.{all_find}
+use Rattle.model_laws.proofs.Registrations.{nodes_of}
 use Rattle.model_laws.proofs.Nodes.{seats_same}
 use Rattle.agreement.specs.Deeds.{AreCounted, How, IsAbort, happens}
 use Rattle.agreement.specs.Lives.{happened_on}
 use Rattle.agreement.proofs.SeatedEntries.{are_entries, each_is_in, entry}
-use Rattle.votes.specs.Answering.{HasSeat, registration}
-use Rattle.votes.specs.Joint.{IsOutcome}
-use Rattle.votes.specs.Saying.{SeatSays, SeatTells, who_named}
-use Rattle.votes.proofs.Ended.{IsOpen, as_ending, as_what, is_open}
-use Rattle.votes.proofs.Hearing.{hears_before}
-use Rattle.votes.proofs.Known.{stands_as}
+use Rattle.votes.specs.NamedParticipants.{HasSeat, registration}
+use Rattle.votes.specs.VotesAndOutcomes.{IsOutcome}
+use Rattle.votes.specs.SeatStates.{SeatSays, SeatTells, who_named}
+use Rattle.votes.proofs.ItemEnds.{IsOpen, as_ending, as_what, is_open}
+use Rattle.votes.proofs.SeatMessages.{hears_before}
+use Rattle.votes.proofs.StepItems.{stands_as}
 use Rattle.votes.proofs.Premises.{StepPremises}
-use Rattle.votes.proofs.Saying.{Hears, at_says}
+use Rattle.votes.proofs.SeatMoves.{Hears, at_says}
 
 -- a seat of this participant's
 pub record SeatOf (hosts : Hosts) (seats : List Enlistment) (number : ℕ) (kind : Kind) (y : Who) : Type 0 where

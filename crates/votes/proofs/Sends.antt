@@ -14,12 +14,12 @@ use Rattle.at_model.specs.Book.{Book, Enlistment, transaction_id}
 use Rattle.at_model.specs.Step.{step}
 use Rattle.at_model.specs.World.{Node, World, Hosts}
 use Rattle.model_laws.specs.Agreement.{IsIn}
-use Rattle.model_laws.specs.Reached.{counts}
-use Rattle.model_laws.proofs.Deciding.{all_find}
-use Rattle.model_laws.proofs.Holding.{OutFine}
+use Rattle.model_laws.specs.ReachedWorlds.{counts}
+use Rattle.model_laws.proofs.DecisionLaws.{all_find}
+use Rattle.model_laws.proofs.WorldInvariants.{OutFine}
 use Rattle.agreement.proofs.SeatedEntries.{each_is_in, one_of}
 use Rattle.enlistments.specs.Leads.{IsOfKind, LeadsTo}
-use Rattle.votes.specs.Backing.{CommitIsBacked, CommittedIsBacked, RollbackIsBacked}
+use Rattle.votes.specs.ToldOutcomes.{CommitIsBacked, CommittedIsBacked, RollbackIsBacked}
 use Rattle.votes.proofs.Commits.{commit_told}
 use Rattle.votes.proofs.Committeds.{committed_told}
 use Rattle.votes.proofs.Notices.{SeatsAre}

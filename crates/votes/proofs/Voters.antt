@@ -16,19 +16,19 @@ use Rattle.at_model.specs.Step.{leaf_at, transaction_at}
 use Rattle.at_model.specs.World.{Happened, Node, Who, World, happened_at, nth, Hosts}
 use Rattle.model_laws.specs.Agreement.{HasAborted, HasCommitted, HasEnded, IsIn, ends_as}
 use Rattle.model_laws.specs.Shapes.{NoParticipant}
-use Rattle.model_laws.proofs.Deciding.{all_find, found_id}
-use Rattle.model_laws.proofs.Recovering.{same_id}
+use Rattle.model_laws.proofs.DecisionLaws.{all_find, found_id}
+use Rattle.model_laws.proofs.RecoveryLaws.{same_id}
 use Rattle.agreement.specs.Lives.{Life, ends, happened_on}
 use Rattle.agreement.specs.Sorts.{FitsBook, FitsEffect, FitsIfUp, FitsRecord, LeafOf, Root, Sort, Subordinate, sort_under}
 use Rattle.agreement.proofs.SeatedEntries.{one_of}
-use Rattle.agreement.proofs.Still.{promise_id}
-use Rattle.votes.specs.Backing.{IsUnderAborted, IsUnderCommitted}
-use Rattle.votes.specs.Joint.{IsOutcome}
-use Rattle.votes.specs.Voting.{HasVoted, is_vote}
-use Rattle.votes.proofs.Ended.{from_there}
-use Rattle.votes.proofs.Gone.{gone_ended, is_promised, same_node}
+use Rattle.agreement.proofs.OtherIds.{promise_id}
+use Rattle.votes.specs.ToldOutcomes.{IsUnderAborted, IsUnderCommitted}
+use Rattle.votes.specs.VotesAndOutcomes.{IsOutcome}
+use Rattle.votes.specs.DurableVotes.{HasVoted, is_vote}
+use Rattle.votes.proofs.ItemEnds.{from_there}
+use Rattle.votes.proofs.SingleVotes.{gone_ended, is_promised, same_node}
 use Rattle.votes.proofs.Premises.{WorldPremises}
-use Rattle.votes.proofs.There.{one_end}
+use Rattle.votes.proofs.EffectNodes.{one_end}
 
 -- under one transaction, which can't have done both
 pub told_apart : (hosts : Hosts) (u : World) → WorldPremises hosts u → IsOutcome hosts u → (x : Who) → IsUnderCommitted u x kinds.Durable → HasVoted u x → HasAborted u x → ⊥

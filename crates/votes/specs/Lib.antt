@@ -1,5 +1,5 @@
-pub mod Voting
-pub mod Saying
-pub mod Answering
-pub mod Backing
-pub mod Joint
+pub mod DurableVotes
+pub mod SeatStates
+pub mod NamedParticipants
+pub mod ToldOutcomes
+pub mod VotesAndOutcomes

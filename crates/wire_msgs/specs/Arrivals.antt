@@ -7,7 +7,7 @@ use Rattle.xml_grammar.specs.declared.reader.TreeRefusal.TheVariants as trees
 use Rattle.soap_profile.specs.Values.{is_named}
 use Rattle.soap_profile.specs.Envelopes.{envelope_of}
 use Rattle.soap_profile.specs.Faults.{fault_of, is_fault}
-use Rattle.soap_profile.specs.Opened.{Envelope}
+use Rattle.soap_profile.specs.EnvelopeParts.{Envelope}
 use Rattle.addressing.specs.Headers.{headers_of}
 use Rattle.addressing.specs.Requests.{request_of}
 use Rattle.addressing.specs.Message.{Headers}

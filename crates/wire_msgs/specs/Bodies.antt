@@ -12,7 +12,7 @@ use Rattle.at_base.specs.declared.notice.Vote.TheVariants as votes
 use Rattle.at_base.specs.declared.message.Message.{Message}
 use Rattle.at_base.specs.declared.message.Message.TheVariants as messages
 use Rattle.at_base.specs.declared.message.Work.{Work}
-use Rattle.context.specs.Reading.{context_of, create_of, create_response_of, register_of, register_response_of}
+use Rattle.context.specs.Bodies.{context_of, create_of, create_response_of, register_of, register_response_of}
 use Rattle.at_targets.specs.declared.form.Form.{Form}
 use Rattle.at_targets.specs.declared.form.Form.TheVariants as forms
 use Rattle.wire_msgs.specs.declared.part.Part.{Part}

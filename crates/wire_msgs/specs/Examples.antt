@@ -4,7 +4,7 @@ use Rattle.std.specs.Fmt.{digits}
 use Rattle.xml_profile.specs.Forest.Forest.{End}
 use Rattle.xml_profile.specs.Prefixes.{addressing, transaction}
 use Rattle.xml_profile.specs.declared.tree.Tree.{Tree}
-use Rattle.soap_profile.specs.Building.{element, qualified, text_children}
+use Rattle.soap_profile.specs.BuiltElements.{element, qualified, text_children}
 use Rattle.soap_profile.specs.Envelopes.{envelope_tree}
 use Rattle.soap_profile.specs.Faults.{fault_tree}
 use Rattle.at_base.specs.declared.message.Message.TheVariants as messages

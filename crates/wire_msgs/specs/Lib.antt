@@ -5,4 +5,4 @@ pub mod Forms
 pub mod Parts
 pub mod Refusals
 pub mod Targets
-pub mod Whole
+pub mod WholeMessages

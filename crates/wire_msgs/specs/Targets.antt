@@ -3,7 +3,7 @@ use Rattle.std.specs.Prelude.{ℕ, List, [], ◌∷◌, Option, Some, None, nat_
 use Rattle.std.specs.Option.{option_and_then}
 use Rattle.std.specs.Fmt.{digits}
 use Rattle.url.specs.Parser.{parse_url}
-use Rattle.addressing.specs.Posting.{path_in}
+use Rattle.addressing.specs.PostAddresses.{path_in}
 use Rattle.at_base.specs.declared.notice.Kind.TheVariants as kinds
 use Rattle.at_base.specs.declared.target.Target.{Target}
 use Rattle.at_base.specs.declared.target.Target.TheVariants as targets

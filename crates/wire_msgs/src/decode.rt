@@ -8,7 +8,7 @@ ghost use Rattle.xml_profile.specs.declared.tree.Tree.{Tree};
 ghost use Rattle.wire_msgs.specs.Arrivals.{Arrives, IsRefused, arrival_in, arrival_of, arrival_under, arrived, fault_at, message_of, said_at, said_in, targeted};
 ghost use Rattle.wire_msgs.specs.Refusals.{Answers};
 ghost use Rattle.wire_msgs.specs.Targets.{target_at};
-ghost use Rattle.wire_msgs.specs.Whole.{IsWhole};
+ghost use Rattle.wire_msgs.specs.WholeMessages.{IsWhole};
 
 use crate::body::read_body;
 use crate::form::{local_of, of_action, space_of};
@@ -46,7 +46,7 @@ pub struct Arrival {
 
 /// The message that the bytes of a request at this path mean, or the first refusal that holds, in the order of
 /// [`Refusal`].
-#[tactic(auto, using(crate::proofs::Decoded::tree_refused, crate::proofs::Decoded::no_tree, crate::proofs::Decoded::arrives, crate::proofs::Decoded::is_refused, crate::proofs::Taken::is_taken, crate::proofs::Wholes::is_whole))]
+#[tactic(auto, using(crate::proofs::TreeAnswers::tree_refused, crate::proofs::TreeAnswers::no_tree, crate::proofs::TreeAnswers::arrives, crate::proofs::TreeAnswers::is_refused, crate::proofs::MessageTargets::is_taken, crate::proofs::WholeMessages::is_whole))]
 pub fn decode(alloc: Global, bytes: &[u8], path: &str) -> Result<Arrival, Refusal>
     ensures ok { IfOk result (Arrives bytes.now path.now) }
     ensures taken { IfOk result (λ arrival. takes arrival.target arrival.message ≡ true) }
@@ -58,7 +58,7 @@ pub fn decode(alloc: Global, bytes: &[u8], path: &str) -> Result<Arrival, Refusa
     read_arrival(alloc, &tree, path)
 }
 
-#[tactic(auto, using(crate::proofs::Refused::soap_refused))]
+#[tactic(auto, using(crate::proofs::RefusalChains::soap_refused))]
 fn read_arrival(alloc: Global, tree: &Tree, path: &str) -> Result<Arrival, Refusal>
     ensures { Answers (arrival_of tree.now path.now) result }
 {
@@ -66,7 +66,7 @@ fn read_arrival(alloc: Global, tree: &Tree, path: &str) -> Result<Arrival, Refus
     read_envelope(alloc, &envelope, path)
 }
 
-#[tactic(auto, using(crate::proofs::Refused::addressing_refused))]
+#[tactic(auto, using(crate::proofs::RefusalChains::addressing_refused))]
 fn read_envelope(alloc: Global, envelope: &Envelope<'_>, path: &str) -> Result<Arrival, Refusal>
     ensures { Answers (arrival_in envelope.now path.now) result }
 {
@@ -74,7 +74,7 @@ fn read_envelope(alloc: Global, envelope: &Envelope<'_>, path: &str) -> Result<A
     read_under(alloc, headers, envelope.body, path)
 }
 
-#[tactic(auto, using(crate::proofs::Refused::refused_first))]
+#[tactic(auto, using(crate::proofs::RefusalChains::refused_first))]
 fn read_under(
     alloc: Global,
     headers: Headers<'_>,
@@ -87,7 +87,7 @@ fn read_under(
     Ok(arrived(headers, target, message))
 }
 
-#[tactic(auto, using(crate::proofs::Refused::addressing_refused, crate::proofs::Refused::refused_first))]
+#[tactic(auto, using(crate::proofs::RefusalChains::addressing_refused, crate::proofs::RefusalChains::refused_first))]
 fn read_said(
     alloc: Global,
     headers: &Headers<'_>,
@@ -149,7 +149,7 @@ fn read_message(
     }
 }
 
-#[tactic(auto, using(crate::proofs::Refused::fault_refused))]
+#[tactic(auto, using(crate::proofs::RefusalChains::fault_refused))]
 fn read_fault_at(alloc: Global, target: &Target, body: &Tree) -> Result<Message, Refusal>
     ensures { Answers (fault_at target.now body.now) result }
 {

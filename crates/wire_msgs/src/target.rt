@@ -1,9 +1,6 @@
 //! The service or the item that a message is for.
 
 ghost use Rattle.std.specs.Prelude.{◌≡◌};
-ghost use Rattle.std.specs.Option.{option_and_then};
-ghost use Rattle.url.specs.Parser.{parse_url};
-ghost use Rattle.addressing.specs.Posting.{path_in};
 ghost use Rattle.at_model.specs.Addresses.{target_of};
 ghost use Rattle.wire_msgs.specs.Targets.{target_at, without_query};
 

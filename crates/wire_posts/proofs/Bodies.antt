@@ -8,7 +8,7 @@ use Rattle.std.proofs.lemmas.Slice.Eq.{bytes_eq-Decides}
 use Rattle.xml_profile.specs.declared.name.QName.{QName}
 use Rattle.xml_profile.specs.declared.tree.Tree.{Tree}
 use Rattle.xml_profile.specs.Prefixes.{coordination as coordination_space, soap as soap_space}
-use Rattle.soap_profile.specs.Building.{qualified, text_children}
+use Rattle.soap_profile.specs.BuiltElements.{qualified, text_children}
 use Rattle.soap_profile.specs.Faults.{fault_of}
 use Rattle.soap_profile.specs.Values.{direct_text, is_named, text_value, trim}
 use Rattle.at_base.specs.declared.epr.Epr.{Epr}
@@ -25,17 +25,17 @@ use Rattle.at_base.specs.declared.notice.Vote.TheVariants as votes
 use Rattle.at_base.specs.declared.target.Target.{Target}
 use Rattle.addressing.specs.Message.{Headers}
 use Rattle.addressing.specs.declared.writer.Endpoint.{Endpoint}
-use Rattle.addressing.specs.Stored.{IsEndpointOf}
-use Rattle.addressing.specs.Writing.{IsTrimmed, context_block, epr_in}
-use Rattle.addressing.proofs.Returned.{endpoint_returns}
+use Rattle.addressing.specs.StoredEndpoints.{IsEndpointOf}
+use Rattle.addressing.specs.OutgoingHeaders.{IsTrimmed, context_block, epr_in}
+use Rattle.addressing.proofs.EndpointRoundtrip.{endpoint_returns}
 use Rattle.context.specs.declared.parameter.ContextFault.{ContextFault}
 use Rattle.context.specs.declared.parameter.Parameter.TheVariants.{RegistrationService, CurrentContext, CoordinationContext, ParticipantProtocolService, CoordinatorProtocolService}
 use Rattle.context.specs.declared.writer.OutgoingContext.{OutgoingContext}
 use Rattle.context.specs.declared.writer.OutgoingCreate.{OutgoingCreate}
 use Rattle.context.specs.declared.writer.OutgoingRegister.{OutgoingRegister}
-use Rattle.context.specs.Reading.{context_of, create_of, create_response_of, is_identifier, readable as context_readable, register_of, register_response_of}
-use Rattle.context.specs.Writing.{CurrentReturns, IsLegibleContext, IsLegibleCreate, IsLegibleRegister, IsNarrow, context_in as context_read_in, context_tree, create_in, create_tree, parameter_name, register_in, register_response_tree, register_tree}
-use Rattle.context.proofs.Returned.{context_returns, create_returns, register_returns}
+use Rattle.context.specs.Bodies.{context_of, create_of, create_response_of, is_identifier, readable as context_readable, register_of, register_response_of}
+use Rattle.context.specs.BodyTrees.{CurrentReturns, IsLegibleContext, IsLegibleCreate, IsLegibleRegister, IsNarrow, context_in as context_read_in, context_tree, create_in, create_tree, parameter_name, register_in, register_response_tree, register_tree}
+use Rattle.context.proofs.BodyRoundtrip.{context_returns, create_returns, register_returns}
 use Rattle.at_targets.specs.declared.form.Form.{Form}
 use Rattle.at_targets.specs.declared.form.Form.TheVariants as forms
 use Rattle.wire_msgs.specs.declared.part.Part.{Part}
@@ -53,8 +53,8 @@ use Rattle.wire_posts.specs.declared.fault.WrittenFault.{WrittenFault}
 use Rattle.wire_posts.specs.declared.fault.WrittenFault.TheVariants.{InvalidState, InvalidProtocol, InvalidParameters, CannotCreateContext, CannotRegisterParticipant, UnknownTransaction}
 use Rattle.wire_posts.specs.Envelopes.{AreBoth, IsBodyOf, IsContextOf, IsCreateOf, IsRegisterOf, IsWorkContext, context_in, work_part, work_tree}
 use Rattle.wire_posts.specs.Faults.{detail_of, fault_body, fault_named, name_of}
-use Rattle.wire_msgs.specs.Whole.{IsWholeContext, IsWholeCreate, IsWholeEndpoint, IsWholeRegister, IsWholeWork}
-use Rattle.wire_posts.specs.Returning.{CanBeWritten, IsProtocolFault}
+use Rattle.wire_msgs.specs.WholeMessages.{IsWholeContext, IsWholeCreate, IsWholeEndpoint, IsWholeRegister, IsWholeWork}
+use Rattle.wire_posts.specs.Returns.{CanBeWritten, IsProtocolFault}
 use Rattle.wire_posts.proofs.Ends.{IsRead, is_read}
 
 abbrev IsContextRead : Context → Option Tree → Type 0

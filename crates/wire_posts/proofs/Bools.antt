@@ -3,7 +3,7 @@ use Rattle.std.proofs.Common.{◌≡◌, ℕ, List, Bool, true, false, ◌&&◌,
 use Rattle.std.specs.Str.{bytes_eq}
 use Rattle.std.proofs.lemmas.Slice.Eq.{bytes_eq-Decides}
 use Rattle.xml_profile.specs.declared.name.QName.{QName}
-use Rattle.soap_profile.specs.Building.{qualified}
+use Rattle.soap_profile.specs.BuiltElements.{qualified}
 use Rattle.soap_profile.specs.Values.{is_in, is_named}
 
 pub both : (a b : Bool) → (a && b) ≡ true → (a ≡ true) × (b ≡ true)

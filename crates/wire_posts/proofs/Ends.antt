@@ -2,16 +2,16 @@
 use Rattle.std.proofs.Common.{inl, inr, ◌≡◌, ℕ, List, [], ◌∷◌, Bool, true, false, IfSome, Option, Some, None, refl, ap, subst, sym, ◌∙◌, cond}
 use Rattle.std.specs.Prelude.{◌⊎◌, codes}
 use Rattle.xml_profile.specs.declared.tree.Tree.{Tree}
-use Rattle.xml_profile.specs.Canonical.{canonical_text}
+use Rattle.xml_profile.specs.CanonicalText.{canonical_text}
 use Rattle.xml_profile.specs.Prefixes.{addressing}
 use Rattle.xml_roundtrip.proofs.Trees.{spelled_well}
 use Rattle.soap_profile.specs.Values.{is_named}
 use Rattle.at_base.specs.declared.epr.Epr.{Epr}
 use Rattle.addressing.specs.declared.writer.Endpoint.{Endpoint}
 use Rattle.addressing.specs.Endpoints.{is_within}
-use Rattle.addressing.specs.Stored.{AreKept, IsEndpointOf, IsKept, IsWith}
-use Rattle.addressing.specs.Writing.{IsLegible, IsParameters, IsTrimmed, endpoint_with, epr_in, kept_params}
-use Rattle.wire_posts.proofs.Spelling.{Can}
+use Rattle.addressing.specs.StoredEndpoints.{AreKept, IsEndpointOf, IsKept, IsWith}
+use Rattle.addressing.specs.OutgoingHeaders.{IsLegible, IsParameters, IsTrimmed, endpoint_with, epr_in, kept_params}
+use Rattle.wire_posts.proofs.SpellableParts.{Can}
 
 -- whatever it is: its address is written, and its reference parameters can be spelled
 

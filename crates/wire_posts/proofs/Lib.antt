@@ -1,9 +1,9 @@
-pub mod Arriving
+pub mod Arrivals
 pub mod Bodies
 pub mod Bools
 pub mod Ends
-pub mod Marking
-pub mod Naming
-pub mod Single
-pub mod Spelling
-pub mod Written
+pub mod MarkedParameters
+pub mod FaultNames
+pub mod Uniqueness
+pub mod SpellableParts
+pub mod SpellableEnvelopes

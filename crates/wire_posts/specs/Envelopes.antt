@@ -3,10 +3,10 @@
 use Rattle.std.specs.Prelude.{◌≡◌, ℕ, List, [], ◌∷◌, Option, Some, None, codes}
 use Rattle.std.specs.Option.{option_map}
 use Rattle.xml_profile.specs.declared.tree.Tree.{Tree}
-use Rattle.xml_profile.specs.Canonical.{canonical_text}
+use Rattle.xml_profile.specs.CanonicalText.{canonical_text}
 use Rattle.xml_profile.specs.Forest.Forest.{End}
 use Rattle.xml_profile.specs.Prefixes.{coordination, work}
-use Rattle.soap_profile.specs.Building.{children_of, element, qualified, text_children}
+use Rattle.soap_profile.specs.BuiltElements.{children_of, element, qualified, text_children}
 use Rattle.soap_profile.specs.Envelopes.{envelope_tree}
 use Rattle.at_base.specs.declared.epr.Epr.{Epr}
 use Rattle.at_base.specs.declared.epr.Reply.{Reply}
@@ -25,12 +25,12 @@ use Rattle.at_base.specs.declared.outs.Post.{Post}
 use Rattle.addressing.specs.declared.writer.Endpoint.{Endpoint}
 use Rattle.addressing.specs.declared.writer.OutgoingHeaders.{OutgoingHeaders}
 use Rattle.addressing.specs.Endpoints.{anonymous, nobody}
-use Rattle.addressing.specs.Stored.{IsEndpointOf}
-use Rattle.addressing.specs.Writing.{blocks_of}
+use Rattle.addressing.specs.StoredEndpoints.{IsEndpointOf}
+use Rattle.addressing.specs.OutgoingHeaders.{blocks_of}
 use Rattle.context.specs.declared.writer.OutgoingContext.{OutgoingContext}
 use Rattle.context.specs.declared.writer.OutgoingCreate.{OutgoingCreate}
 use Rattle.context.specs.declared.writer.OutgoingRegister.{OutgoingRegister}
-use Rattle.context.specs.Writing.{context_tree, create_response_tree, create_tree, register_response_tree, register_tree}
+use Rattle.context.specs.BodyTrees.{context_tree, create_response_tree, create_tree, register_response_tree, register_tree}
 use Rattle.at_targets.specs.declared.form.Form.{Form}
 use Rattle.at_targets.specs.declared.form.Form.TheVariants as forms
 use Rattle.wire_msgs.specs.declared.part.Part.{Part}

@@ -6,12 +6,12 @@ use Rattle.std.specs.Option.{unwrap_or}
 use Rattle.std.specs.Str.{bytes_eq}
 use Rattle.xml_profile.specs.declared.name.QName.{QName}
 use Rattle.xml_profile.specs.declared.tree.Tree.{Tree}
-use Rattle.xml_profile.specs.Canonical.{canonical_text}
+use Rattle.xml_profile.specs.CanonicalText.{canonical_text}
 use Rattle.xml_profile.specs.Prefixes.{addressing, coordination, soap, transaction}
-use Rattle.soap_profile.specs.Building.{qualified}
+use Rattle.soap_profile.specs.BuiltElements.{qualified}
 use Rattle.soap_profile.specs.Envelopes.{envelope_tree}
 use Rattle.soap_profile.specs.Faults.{fault_tree}
-use Rattle.addressing.specs.Writing.{text_element}
+use Rattle.addressing.specs.OutgoingHeaders.{text_element}
 use Rattle.wire_msgs.specs.declared.refusal.Refusal.{Refusal}
 use Rattle.wire_msgs.specs.declared.refusal.Refusal.TheVariants as refusals
 use Rattle.wire_posts.specs.declared.fault.WrittenFault.{WrittenFault}

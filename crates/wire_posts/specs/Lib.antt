@@ -1,4 +1,4 @@
 pub mod Envelopes
 pub mod Faults
-pub mod Returning
+pub mod Returns
 pub mod Examples

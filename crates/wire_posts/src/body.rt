@@ -1,13 +1,13 @@
 //! The element in the body of each message (WS-Coordination 1.2, section 3; WS-AtomicTransaction 1.2, section 3).
 
 ghost use Rattle.std.specs.Prelude.{◌≡◌, IfOk};
-ghost use Rattle.addressing.specs.Stored.{IsEndpointOf};
-ghost use Rattle.context.specs.Writing.{create_response_tree, create_tree, register_response_tree, register_tree};
+ghost use Rattle.addressing.specs.StoredEndpoints.{IsEndpointOf};
+ghost use Rattle.context.specs.BodyTrees.{create_response_tree, create_tree, register_response_tree, register_tree};
 ghost use Rattle.wire_posts.specs.Envelopes.{AreBoth, IsBodyOf, IsContextOf, IsCreateOf, IsMadeOf, IsRegisterOf, empty_tree, kind_name, vote_name, work_part, work_tree};
 
 use crate::fault::WrittenFault;
 use crate::headers::outgoing_context;
-use addressing::stored::endpoint_of;
+use addressing::stored_endpoint::endpoint_of;
 use at_base::epr::Epr;
 use at_base::message::{Context, Create, Message, Register, Work};
 use at_base::notice::{Kind, Vote};

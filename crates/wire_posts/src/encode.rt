@@ -3,9 +3,9 @@
 ghost use Rattle.std.specs.Prelude.{◌≡◌, IfOk, List, ℕ};
 ghost use Rattle.std.specs.Option.{option_map};
 ghost use Rattle.wire_posts.specs.Envelopes.{Encodes, IsEnvelopeOf, IsTextOf};
-ghost use Rattle.wire_posts.specs.Returning.{IsReadBack, Returns};
+ghost use Rattle.wire_posts.specs.Returns.{IsReadBack, Returns};
 ghost use Rattle.wire_posts.specs.Faults.{refusal_status, refusal_text, refusal_tree};
-ghost use Rattle.xml_profile.specs.Canonical.{canonical_text};
+ghost use Rattle.xml_profile.specs.CanonicalText.{canonical_text};
 
 use crate::body::body_of;
 use crate::fault::WrittenFault;
@@ -63,7 +63,7 @@ pub fn encode(alloc: Global, outgoing: &Outgoing) -> Result<Encoded, AllocError>
 }
 
 /// The canonical text of the envelope of a message. Where the message can be read at all, it is read as what it was.
-#[tactic(auto, using(crate::proofs::Arriving::text_returns))]
+#[tactic(auto, using(crate::proofs::Arrivals::text_returns))]
 pub fn encode_post(alloc: Global, post: &Post) -> Result<Vec<u8>, AllocError>
     ensures text { IfOk result (λ bytes. IsTextOf post.now bytes.items) }
     ensures only { IfOk result (λ bytes. (text : List ℕ) → IsTextOf post.now text → text ≡ bytes.items) }

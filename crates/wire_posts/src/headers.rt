@@ -1,12 +1,12 @@
 //! The headers of a message that is sent (WS-Addressing 1.0 Core, section 3).
 
 ghost use Rattle.std.specs.Prelude.{◌≡◌, IfOk};
-ghost use Rattle.addressing.specs.Stored.{IsEndpointOf};
-ghost use Rattle.wire_posts.specs.Envelopes.{AreBoth, AreHeadersOf, IsContextOf, IsReplyOf, IsWorkContext, action_in, addressed, context_in, reply_epr};
+ghost use Rattle.addressing.specs.StoredEndpoints.{IsEndpointOf};
+ghost use Rattle.wire_posts.specs.Envelopes.{AreBoth, AreHeadersOf, IsContextOf, IsReplyOf, IsWorkContext, action_in, addressed, context_in};
 
 use crate::fault::WrittenFault;
 use addressing::endpoint::{ANONYMOUS, NONE};
-use addressing::stored::endpoint_of;
+use addressing::stored_endpoint::endpoint_of;
 use addressing::writer::{Endpoint, OutgoingHeaders};
 use at_base::epr::{Epr, Reply};
 use at_base::message::{Context, Message, cloned_option};

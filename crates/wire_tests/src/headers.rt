@@ -3,7 +3,7 @@ use addressing::endpoint::{fault_to, read_epr, reply_to};
 use addressing::headers::{AddressingRefusal, Headers, read_headers};
 use addressing::post_to::{PostTo, post_to};
 use addressing::request::check_request;
-use addressing::stored::write_epr;
+use addressing::stored_endpoint::write_epr;
 use addressing::writer::{Endpoint, OutgoingHeaders, header_blocks};
 use at_base::epr::{Epr, Reply};
 use at_base::text::Text;

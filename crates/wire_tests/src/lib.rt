@@ -3,7 +3,7 @@
 #![tactic(auto)]
 
 #[cfg(test)]
-mod arriving;
+mod arrived_messages;
 #[cfg(test)]
 mod bodies;
 #[cfg(test)]

@@ -5,7 +5,7 @@ use Rattle.at_base.specs.declared.event.Arrived.{Arrived}
 use Rattle.at_base.specs.declared.event.Local.{Local}
 use Rattle.at_base.specs.declared.event.Event.TheVariants as events
 use Rattle.at_model.specs.Book.{Book, last_counter}
-use Rattle.at_model.specs.Recover.{last_incarnation}
+use Rattle.at_model.specs.Recovery.{last_incarnation}
 use Rattle.at_model.specs.Step.{plan}
 use Rattle.at_model.specs.World.{Node, Posted, WorldEvent, Input, Turn, Ask, Crash, Up, Deliver, Tick, Raw, nth, decoded, arrival_plan, answer_plan, is_receiver, started, up_after}
 use Rattle.world_laws.specs.Moves.{Move, arrival_move, crash_move, delivery_move, ended, input_move, later_at, lost_of, luck_of, move_of, quiet, request_move, start_move}

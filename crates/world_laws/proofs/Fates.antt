@@ -1,6 +1,6 @@
 -- A fate at its place, and those behind it.
-use Rattle.std.proofs.Common.{ℕ, zero, suc, List, [], ◌∷◌, ◌++◌, ◌≡◌, ◌+◌, ◌-◌, ◌≤◌, ◌<◌, drop, length, Bool, true, Some, ap, sym, ◌∙◌, arith, add-one, refl}
-use Rattle.std.specs.Prelude.{replicate, slice_get}
+use Rattle.std.proofs.Common.{ℕ, zero, suc, List, [], ◌∷◌, ◌≡◌, ◌+◌, ◌-◌, ◌≤◌, ◌<◌, drop, length, Bool, true, Some, ap, sym, ◌∙◌, arith, add-one, refl}
+use Rattle.std.specs.Prelude.{slice_get}
 use Rattle.at_model.specs.World.{fate, fates_left}
 use Rattle.world_laws.specs.Fates.{behind_done}
 

@@ -1,8 +1,8 @@
 pub mod Events
 pub mod Fates
 pub mod Firsts
-pub mod Held
-pub mod Left
+pub mod Holdings
+pub mod LeftRecords
 pub mod Moves
 pub mod Runs
 pub mod Walks

@@ -6,14 +6,14 @@ use Rattle.at_base.specs.declared.event.Event.TheVariants as events
 use Rattle.at_base.specs.declared.outs.Effect.{Effect}
 use Rattle.at_base.specs.declared.outs.Post.{Post}
 use Rattle.at_model.specs.Book.{Book, last_counter}
-use Rattle.at_model.specs.Recover.{last_incarnation}
+use Rattle.at_model.specs.Recovery.{last_incarnation}
 use Rattle.at_model.specs.Step.{Plan, plan}
 use Rattle.at_model.specs.World.{World, Node, Posted, Happened, WorldEvent, Input, Turn, Ask, Crash, Up, Deliver, Tick, Raw, nth, put_nth, node_of, decoded, arrival_plan, answer_plan, is_receiver, receiver_of, happened_at, started, up_after, world_step}
-use Rattle.coordinator_at.specs.Planning.{transactions_lost}
-use Rattle.participant_at.specs.Planning.{leaves_lost}
-use Rattle.world_laws.specs.declared.posted.Counted.{Counted}
-use Rattle.world_laws.specs.declared.taken.Moved.{Moved}
-use Rattle.world_laws.specs.declared.taken.Taken.{Taken}
+use Rattle.coordinator_at.specs.TransactionPlans.{transactions_lost}
+use Rattle.participant_at.specs.LeafPlans.{leaves_lost}
+use Rattle.world_laws.specs.declared.posts.Counted.{Counted}
+use Rattle.world_laws.specs.declared.step_outs.Moved.{Moved}
+use Rattle.world_laws.specs.declared.step_outs.Taken.{Taken}
 use Rattle.world_laws.specs.Walks.{Luck, Walk, begin, is_over, stepped, turned}
 
 -- A world, but for the registrations that it accepted.

@@ -8,11 +8,11 @@ use Rattle.at_base.specs.declared.outs.Outs.{Outs}
 use Rattle.at_model.specs.Book.{Book}
 use Rattle.at_model.specs.Step.{Outcome, Plan, items_of}
 use Rattle.at_model.specs.World.{fate, fates_left, one_nearer, stops}
-use Rattle.interposition.specs.Doing.{done, recorded as entry_in, sent}
+use Rattle.interposition.specs.PlanResults.{done, recorded as entry_in, sent}
 use Rattle.interposition.specs.Due.{due_outcomes}
 use Rattle.interposition.specs.declared.plan.Plan.{Plan as Planned}
-use Rattle.world_laws.specs.declared.taken.Answer.{Answer}
-use Rattle.world_laws.specs.declared.taken.Taken.{Taken}
+use Rattle.world_laws.specs.declared.step_outs.Answer.{Answer}
+use Rattle.world_laws.specs.declared.step_outs.Taken.{Taken}
 
 -- the fates that are left, and how many stand before the stop
 pub record Luck : Type 0 where

@@ -3,15 +3,15 @@
 
 mod arrivals;
 pub mod event;
-mod held;
+mod holdings;
 pub mod laws;
-mod left;
+mod left_records;
 pub mod luck;
 mod node;
 mod places;
-pub mod posted;
-mod posting;
+pub mod posts;
 mod scene;
-pub mod taken;
+pub mod step_outs;
+mod step_posts;
 mod walk;
 pub mod world;

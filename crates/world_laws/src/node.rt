@@ -1,6 +1,6 @@
 //! A node of a world: its book where it is up, the records of its journal, and its clock.
 
-ghost use Rattle.std.specs.Prelude.{ℕ, List, ◌≡◌, ◌≤◌, [], IfOk, OnOk, None, map, option_map, option_copied, option_and_then};
+ghost use Rattle.std.specs.Prelude.{List, ◌≡◌, ◌≤◌, [], IfOk, OnOk, None, map, option_map, option_copied, option_and_then};
 ghost use Rattle.at_base.specs.declared.event.Event.TheVariants as events;
 ghost use Rattle.at_model.specs.Step.{plan, refuses};
 ghost use Rattle.at_model.specs.World.{answer_plan, arrival_plan, new_node, started, up_after, example_base};
@@ -13,10 +13,10 @@ ghost use Rattle.world_laws.specs.Walks.{begin};
 
 use crate::arrivals::decoded;
 use crate::event::{Input, WorldEvent};
-use crate::left::{last_incarnation, recovered};
+use crate::left_records::{last_incarnation, recovered};
 use crate::luck::Luck;
-use crate::posted::{Posted, posted_at};
-use crate::taken::{Moved, TakenList};
+use crate::posts::{Posted, posted_at};
+use crate::step_outs::{Moved, TakenList};
 use crate::walk::Walk;
 use at_base::event::{Arrived, Event, Local};
 use at_base::outs::Effects;
@@ -257,7 +257,7 @@ impl Node {
     }
 
     /// Its Start record stands in its journal; where no stop comes, it is up.
-    #[tactic(auto, using(crate::proofs::Starting::started_some))]
+    #[tactic(auto, using(crate::proofs::Incarnations::started_some))]
     fn begin(&mut self, alloc: Global, incarnation: u32, stop: bool) -> Result<(), AllocError>
         requires { 1 ≤ incarnation }
         ensures { OnOk result (self.new ≡ up_after (started incarnation self.old) stop) }

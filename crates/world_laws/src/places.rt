@@ -15,7 +15,7 @@ fn has(node: &Node, address: &str) -> bool
 }
 
 /// The number of the first node that an address names.
-#[tactic(auto, using(crate::proofs::Named::named_here, crate::proofs::Named::named_later))]
+#[tactic(auto, using(crate::proofs::NamedNodes::named_here, crate::proofs::NamedNodes::named_later))]
 fn place_of(nodes: &[Node], address: &str) -> Option<u8>
     requires { length nodes.now ≤ 8 }
     ensures { result ≡ option_map (λ p. p.0) (place_of 1 nodes.now address.now) }

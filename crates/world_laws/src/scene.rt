@@ -1,21 +1,21 @@
 //! The nodes of a world, the messages that they posted, and what happened to them.
 
-ghost use Rattle.std.specs.Prelude.{◌≡◌, ◌≤◌, ◌<◌, ◌++◌, IfOk, OnOk, Some, map, length, option_and_then, option_copied, slice_get, slice_set};
-ghost use Rattle.at_model.specs.World.{Node as Known, happened_at, new_nodes, node_of, nth, opening, example_hosts, example_base};
+ghost use Rattle.std.specs.Prelude.{◌≡◌, ◌≤◌, ◌<◌, IfOk, OnOk, Some, length, option_and_then, option_copied, slice_get, slice_set};
+ghost use Rattle.at_model.specs.World.{Node as Known, new_nodes, node_of, nth, opening, example_hosts, example_base};
 ghost use Rattle.std.specs.Prelude.{sum_by};
 ghost use Rattle.world_laws.specs.Events.{event_of};
 ghost use Rattle.world_laws.specs.Firsts.{node_records};
-ghost use Rattle.world_laws.specs.Held.{node_held};
+ghost use Rattle.world_laws.specs.Holdings.{node_held};
 ghost use Rattle.world_laws.specs.Runs.{AreReady, IsReady};
 ghost use Rattle.world_laws.specs.Moves.{after, counted_in, move_of, moved_by, moved_in, nodes_by, numbered, seen, steps_in, with_all, with_lost, with_nodes, with_taken};
 
 use crate::event::WorldEvent;
-use crate::held::all_held;
+use crate::holdings::all_held;
 use crate::luck::Luck;
 use crate::node::Node;
-use crate::posted::{Counted, NodeEffect, Posted, Steps, posted_at};
-use crate::posting::{push_effects, push_posts};
-use crate::taken::{Moved, Taken, TakenList};
+use crate::posts::{Counted, NodeEffect, Posted, Steps, posted_at};
+use crate::step_outs::{Moved, Taken, TakenList};
+use crate::step_posts::{push_effects, push_posts};
 use at_base::outs::Effects;
 use std::alloc::{AllocError, Global};
 use std::marker::Model;
@@ -93,7 +93,7 @@ fn happen_at(
 }
 
 /// Whether the first step of an event at the node at this place has a record.
-#[tactic(auto, using(crate::proofs::Found::set_same))]
+#[tactic(auto, using(crate::proofs::NumberedItems::set_same))]
 fn records_in(
     alloc: Global,
     nodes: &mut Vec<Node>,

@@ -1,18 +1,18 @@
 //! A node on its way through an event: each step behind its record, as far as its fates and its stop let it come.
 
-ghost use Rattle.std.specs.Prelude.{ℕ, ◌≡◌, ◌++◌, ◌∷◌, [], IfOk, OnOk, None, true, false, option_copied, if◌then◌else◌};
+ghost use Rattle.std.specs.Prelude.{◌≡◌, ◌∷◌, [], IfOk, OnOk, None, true, false, option_copied, if◌then◌else◌};
 ghost use Rattle.at_base.specs.declared.event.Event.TheVariants as events;
 ghost use Rattle.at_base.specs.declared.outs.Out.TheVariants as given_outs;
-ghost use Rattle.at_model.specs.Step.{items_of, plan};
+ghost use Rattle.at_model.specs.Step.{plan};
 ghost use Rattle.at_model.specs.World.{answer_plan, arrival_plan};
-ghost use Rattle.interposition.specs.Doing.{done, recorded as entry_in, sent};
-ghost use Rattle.interposition.specs.Due.{due_outcome, due_outcomes};
-ghost use Rattle.interposition.specs.Planning.{planned};
+ghost use Rattle.interposition.specs.PlanResults.{done, recorded as entry_in, sent};
+ghost use Rattle.interposition.specs.Due.{due_outcome};
+ghost use Rattle.interposition.specs.Plans.{planned};
 ghost use Rattle.model_laws.specs.Order.{IsInOrder, IsRising};
-ghost use Rattle.world_laws.specs.Walks.{asked, begin, branch, counted, done_by, done_step, given, is_over, outs_of, recorded, sending_at, sends, sent_each, sent_one, stepped, turned};
+ghost use Rattle.world_laws.specs.Walks.{asked, begin, branch, counted, done_by, done_step, given, is_over, recorded, sending_at, sends, sent_each, sent_one, stepped, turned};
 
 use crate::luck::Luck;
-use crate::taken::{Taken, TakenList};
+use crate::step_outs::{Taken, TakenList};
 use at_base::event::{Arrived, Event, Item};
 use at_base::outs::{Effects, Out, OutList, Outs};
 use at_base::record::Record;
@@ -194,7 +194,7 @@ impl Walk {
     }
 
     /// A step for each item that is due, when its place comes.
-    #[tactic(auto, using(crate::proofs::Asking::begins, crate::proofs::Asking::goes_on, crate::proofs::Asking::asks_fewer, crate::proofs::Asking::over_ends, crate::proofs::Asking::none_ends))]
+    #[tactic(auto, using(crate::proofs::DueItems::begins, crate::proofs::DueItems::goes_on, crate::proofs::DueItems::asks_fewer, crate::proofs::DueItems::over_ends, crate::proofs::DueItems::none_ends))]
     fn ask_due(&mut self, alloc: Global, now: u64) -> Result<(), AllocError>
         requires { IsRising self.old.book }
         ensures { OnOk result (self.new ≡ asked now self.old) }

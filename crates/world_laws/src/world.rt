@@ -3,25 +3,25 @@
 ghost use Rattle.std.specs.List.{AllByRecursion};
 ghost use Rattle.std.specs.Prelude.{ℕ, ◌≡◌, ◌<◌, ◌≤◌, ◌++◌, ◌∷◌, [], IfOk, map, length, option_map, option_copied};
 ghost use Rattle.model_laws.specs.Agreement.{Agrees, HasOneSuperior, IsAgreed, IsBehindAnswers, IsToldTruly};
-ghost use Rattle.model_laws.specs.Drawn.{AreApart};
-ghost use Rattle.model_laws.specs.Enlisted.{EnlistsUnderOne};
-ghost use Rattle.model_laws.specs.Made.{MakesNoIdTwice, made_on};
-ghost use Rattle.model_laws.specs.Reached.{ExamplesAreApart};
-ghost use Rattle.model_laws.specs.Settle.{IsSettling, MayStart, Settles};
+ghost use Rattle.model_laws.specs.DrawnIds.{AreApart};
+ghost use Rattle.model_laws.specs.Registrations.{EnlistsUnderOne};
+ghost use Rattle.model_laws.specs.MadeIds.{MakesNoIdTwice, made_on};
+ghost use Rattle.model_laws.specs.ReachedWorlds.{ExamplesAreApart};
+ghost use Rattle.model_laws.specs.Settlement.{IsSettling, MayStart, Settles};
 ghost use Rattle.at_model.specs.World.{nth, opening, run_of, world_step, example_hosts};
 ghost use Rattle.completion_at.specs.Names.{refusal_of};
 ghost use Rattle.std.specs.Prelude.{◌-◌, ◌^◌};
-ghost use Rattle.model_laws.specs.Settle.{waiting};
+ghost use Rattle.model_laws.specs.Settlement.{waiting};
 ghost use Rattle.world_laws.specs.Events.{event_of};
 ghost use Rattle.world_laws.specs.Firsts.{first_records};
-ghost use Rattle.world_laws.specs.Held.{NodeHoldsFew, world_held};
+ghost use Rattle.world_laws.specs.Holdings.{NodeHoldsFew, world_held};
 ghost use Rattle.world_laws.specs.Moves.{left_of, losses_of, steps_of};
 ghost use Rattle.world_laws.specs.Runs.{book_at, clock_at, incarnation_at, refused_at, world_of};
 
 use crate::event::WorldEvent;
 use crate::laws::changes_by_moves;
 use crate::luck::Luck;
-use crate::posted::{NodeEffect, Posted, Steps};
+use crate::posts::{NodeEffect, Posted, Steps};
 use crate::scene::{Happening, Scene};
 use at_base::event::Local;
 use at_base::outs::Effects;
@@ -187,7 +187,7 @@ impl World {
     ///
     /// It is all that waits in the world, where it is below the greatest number of 64 bits (`small`), or where each book holds
     /// few (`few`). It takes no memory.
-    #[tactic(auto, using(crate::proofs::Holding::counts_all, crate::proofs::Holding::counts_few))]
+    #[tactic(auto, using(crate::proofs::HoldingLaws::counts_all, crate::proofs::HoldingLaws::counts_few))]
     pub fn held(&self) -> u128
         ensures sum { result ≡ world_held (world_of self.now) }
         ensures small { result < 2 ^ 64 - 1 → result ≡ waiting (world_of self.now) }

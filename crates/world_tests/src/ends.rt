@@ -5,7 +5,7 @@ use at_base::message::Message;
 use at_base::notice::Notice;
 use at_base::outs::{Effect, Ending, Told};
 use std::alloc::{AllocError, Global};
-use world_laws::posted::{NodeEffect, Posted};
+use world_laws::posts::{NodeEffect, Posted};
 use world_laws::world::World;
 
 /// Each node ticks once more, and then goes down.

@@ -2,7 +2,7 @@
 
 use crate::ends::at_rest;
 use crate::script::{Script, played};
-use settlement::held::held_once_up;
+use settlement::holdings::held_once_up;
 use settlement::settle::settle;
 use std::alloc::{AllocError, Global};
 use std::test::Fail;

@@ -8,7 +8,7 @@ use replay_cmd::lines::Lines;
 use settlement::settle::settle;
 use std::alloc::{AllocError, Global};
 use world_laws::event::{Input, WorldEvent};
-use world_laws::posted::Counted;
+use world_laws::posts::Counted;
 use world_laws::world::{Stepped, World, run_world};
 
 /// A world takes no more events; a script has fewer.

@@ -13,7 +13,7 @@ use Rattle.xml_grammar.specs.Samples.{deep, deep_text, wide, wide_text}
 use Rattle.xml_grammar.specs.Spells.{body, declaration_at}
 use Rattle.xml_grammar.specs.declared.reader.TreeRefusal.TheVariants.{TooDeep, TooMany}
 use Rattle.xml_grammar.proofs.Rows.{row_reads, row_refused}
-use Rattle.xml_grammar.proofs.Spelling.{meaning, spelled, unspelled}
+use Rattle.xml_grammar.proofs.SpellLaws.{meaning, spelled, unspelled}
 
 abbrev AreRead : List Example → Type 0
 AreRead examples = AllByRecursion (λ example. meaning example.text ≡ Some example.tree) examples

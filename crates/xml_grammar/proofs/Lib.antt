@@ -13,6 +13,6 @@ pub mod PlaceLaws
 pub mod KeyLaws
 pub mod Turns
 pub mod FrameLaws
-pub mod Spelling
+pub mod SpellLaws
 pub mod Rows
 pub mod Examples

@@ -1,11 +1,11 @@
 //! The byte order mark and the XML declaration (XML 1.0, sections 2.8 and 4.3.3).
 
-ghost use Rattle.std.specs.Prelude.{◌≡◌, ℕ, [], ◌∷◌, option_map, codes, map};
+ghost use Rattle.std.specs.Prelude.{◌≡◌, [], ◌∷◌, option_map, codes, map};
 ghost use Rattle.std.specs.List.{list_all};
 ghost use Rattle.xml_grammar.specs.Characters.{same, is_digit, strip_at};
 ghost use Rattle.xml_grammar.specs.Spells.{quoted_at, written_at, lower, is_version, is_utf_8, is_yes_or_no, setting_at, optional, declaration_at, body};
 
-use crate::lexing::{begins_white, is_quote, read_until, skip_white, strip};
+use crate::lexer::{begins_white, is_quote, read_until, skip_white, strip};
 
 fn read_quotes(cs: &[char]) -> Option<(&[char], &[char])>
     ensures { option_map (λ p. (p.0.now, p.1.now)) result ≡ quoted_at cs.now }

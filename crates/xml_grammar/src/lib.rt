@@ -3,7 +3,7 @@
 
 mod declaration;
 pub mod laws;
-mod lexing;
+mod lexer;
 mod lines;
 mod machine;
 mod markup;

@@ -1,8 +1,7 @@
 //! The open elements of a document while its tokens are read. What is below the last level that is kept is counted and
 //! dropped, so that no tree grows deeper than it may.
 
-ghost use Rattle.std.specs.Prelude.{◌≡◌, [], string_bytes, option_map, IfOk, OnOk};
-ghost use Rattle.xml_profile.specs.Children.{forest_of};
+ghost use Rattle.std.specs.Prelude.{◌≡◌, [], string_bytes, IfOk, OnOk};
 ghost use Rattle.xml_grammar.specs.Code.Machine.{flushed, opening, state};
 ghost use Rattle.xml_grammar.specs.Code.Found.{finish};
 ghost use Rattle.xml_grammar.specs.Code.Shallow.{entered_by, flushed_in, flushed_reading, kept_tree, shut, reading, read_with};
@@ -10,7 +9,7 @@ ghost use Rattle.xml_grammar.specs.Tokens.Token.{Plain, Meant, Start, End};
 ghost use Rattle.xml_grammar.specs.Code.Views.{tag_of, token_of};
 ghost use Rattle.xml_grammar.specs.Code.Open.{bindings_of, frame_of, frames_of, reading_of, going};
 
-use crate::lexing::{is_same, is_white};
+use crate::lexer::{is_same, is_white};
 use crate::markup::{Tag, Token};
 use crate::meaning::read_meaning;
 use crate::scope::Scope;

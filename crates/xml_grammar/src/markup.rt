@@ -1,11 +1,11 @@
 //! Attribute values, tags and the other tokens of a text whose line ends are read.
 
-ghost use Rattle.std.specs.Prelude.{◌≡◌, ℕ, ◌+◌, length, IfOk, option_map, encode_utf8_all};
+ghost use Rattle.std.specs.Prelude.{◌≡◌, ◌+◌, length, IfOk, option_map, encode_utf8_all};
 ghost use Rattle.xml_grammar.specs.Tokens.{end_at, section_at, comment_at, reference_at};
 ghost use Rattle.xml_grammar.specs.Code.Reading.{value_at, value_in, pair_at, pairs_at, start_at, markup_at, section_token, reference_token, next_at};
 ghost use Rattle.xml_grammar.specs.Code.Views.{pair_of, ending_of, token_of};
 
-use crate::lexing::{
+use crate::lexer::{
     begins_white, is_quote, read_name, read_piece, read_reference, read_until, skip_white, strip,
 };
 use at_base::text::Text;

@@ -8,7 +8,7 @@ ghost use Rattle.xml_grammar.specs.Code.Open.{bindings_of, spelled_of, sorted_of
 ghost use Rattle.xml_grammar.specs.Code.Joining.{joined, sort_one, declared_prefix, prefixed_name};
 
 use crate::declaration::is_word;
-use crate::lexing::{Parts, split_name};
+use crate::lexer::{Parts, split_name};
 use crate::markup::{Pair, Tag, utf8};
 use crate::scope::{Binding, Scope, may_declare};
 use at_base::text::Text;

@@ -7,7 +7,6 @@ ghost use Rattle.xml_profile.specs.declared.tree.Tree.{Tree};
 ghost use Rattle.xml_grammar.specs.Limits.{elements, widest};
 ghost use Rattle.xml_grammar.specs.Refusals.{Answers, Reads, Refuses, IsShort};
 ghost use Rattle.xml_grammar.specs.Code.Found.{Finds, Judged, spent};
-ghost use Rattle.xml_grammar.specs.Spells.{Spells};
 ghost use Rattle.std.specs.Str.{IsUtf8};
 
 use crate::declaration::read_body;

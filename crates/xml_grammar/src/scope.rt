@@ -8,7 +8,7 @@ ghost use Rattle.xml_grammar.specs.Namespaces.{defaulted, is_empty, lookup, may_
 ghost use Rattle.xml_grammar.specs.Code.Places.{Finds, HidesEach, binding_of, place_in};
 
 use crate::declaration::is_word;
-use crate::lexing::is_same_text;
+use crate::lexer::is_same_text;
 use at_base::text::Text;
 use std::alloc::{AllocError, Global};
 use std::collections::{BTreeMap, BTreeSet};

@@ -1,6 +1,6 @@
 -- Children are written one by one.
-use Rattle.std.proofs.Common.{◌≡◌, refl, sym, ap, ap₂, subst, ◌∙◌, arith, ℕ, ◌+◌, ◌≤◌, ◌<◌, List, [], ◌∷◌, ◌++◌, append-nil, append_assoc, drop, drop-cons, get_or, add-one, length}
-use Rattle.xml_profile.specs.Canonical.{text_text, start_text, content_text, end_text}
+use Rattle.std.proofs.Common.{◌≡◌, sym, ap, subst, ◌∙◌, arith, ℕ, ◌+◌, ◌≤◌, ◌<◌, List, [], ◌∷◌, ◌++◌, append-nil, append_assoc, drop, drop-cons, get_or, add-one, length}
+use Rattle.xml_profile.specs.CanonicalText.{text_text, start_text, content_text, end_text}
 use Rattle.xml_profile.specs.Children.{forest_of, nodes}
 use Rattle.xml_profile.specs.declared.tree.Child.{Child}
 use Rattle.xml_profile.specs.declared.tree.Child.TheVariants.{Element, Text}

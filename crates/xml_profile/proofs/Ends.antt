@@ -4,7 +4,7 @@ use Rattle.std.proofs.lemmas.Bool.Decides.{nat_tests}
 use Rattle.xml_profile.specs.declared.tree.Child.{Child}
 use Rattle.xml_profile.specs.declared.tree.Child.TheVariants.{Element, Text}
 use Rattle.xml_profile.specs.Children.{forest_of}
-use Rattle.xml_profile.specs.Canonical.{is_end}
+use Rattle.xml_profile.specs.CanonicalText.{is_end}
 
 some : (n : ℕ) → (suc n == 0) ≡ false
 some n = grind (arith, nat_tests)

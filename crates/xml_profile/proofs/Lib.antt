@@ -1,9 +1,9 @@
-mod InOrder
-mod Extending
-mod Noted
+mod SpacePlaces
+mod Extensions
+mod FoldLaws
 mod Ends
-mod Apart
-pub mod Declaring
-pub mod Distinct
-mod Encoded
+mod AdjacentTexts
+pub mod Declarations
+pub mod DistinctPrefixes
+mod Utf8
 mod Contents

@@ -4,8 +4,8 @@ use Rattle.std.specs.Str.{chars, is_utf8}
 use Rattle.xml_profile.specs.declared.name.QName.{QName}
 use Rattle.xml_profile.specs.declared.tree.Tree.{Tree}
 use Rattle.xml_profile.specs.Forest.Forest.{End, Text_then, Element_then}
-use Rattle.xml_profile.specs.Canonical.{canonical_text, declared_by, numbered_by, prefix_of}
-use Rattle.xml_profile.specs.Spellable.{can_be_spelled, is_part}
+use Rattle.xml_profile.specs.CanonicalText.{canonical_text, declared_by, numbered_by, prefix_of}
+use Rattle.xml_profile.specs.SpellableTrees.{can_be_spelled, is_part}
 
 abbrev plain : List ℕ → QName
 plain local = record { space = None; local = local }

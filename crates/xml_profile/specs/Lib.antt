@@ -2,9 +2,9 @@ pub mod Forest
 pub mod Children
 pub mod Depth
 pub mod Prefixes
-pub mod Canonical
+pub mod CanonicalText
 pub mod Places
-pub mod Appending
-pub mod Spellable
-pub mod Declaring
+pub mod Extensions
+pub mod SpellableTrees
+pub mod Declarations
 pub mod Examples

@@ -3,7 +3,7 @@
 ghost use Rattle.std.specs.Prelude.{◌≡◌, ◌<◌, ◌^◌, [], map, OnOk};
 ghost use Rattle.std.specs.List.{position_or_len};
 ghost use Rattle.std.specs.Str.{bytes_eq};
-ghost use Rattle.xml_profile.specs.Canonical.{with_space};
+ghost use Rattle.xml_profile.specs.CanonicalText.{with_space};
 ghost use Rattle.xml_profile.specs.Places.{Finds};
 
 use std::alloc::{AllocError, Global};

@@ -1,25 +1,25 @@
 //! The writer of the canonical text (XML 1.0; Namespaces in XML 1.0).
-#![tactic(auto, using(crate::proofs::Encoded::none, crate::proofs::Encoded::through))]
+#![tactic(auto, using(crate::proofs::Utf8::none, crate::proofs::Utf8::through))]
 
 ghost use Rattle.std.specs.Prelude.{◌≡◌, ◌++◌, ◌∷◌, [], if◌then◌else◌, OnOk, OnErr, codes, decimal, map};
 ghost use Rattle.std.specs.List.{flat_map};
 ghost use Rattle.std.specs.Str.{IsUtf8};
 ghost use Rattle.xml_profile.specs.Children.{forest_of};
-ghost use Rattle.xml_profile.specs.Appending.{AddsText, Extends};
-ghost use Rattle.xml_profile.specs.Canonical.{prefix_of, prefixed, name_text, text_byte, value_byte, text_text, value_text, equals_text, declaration_text, attribute_text, is_end, start_text, end_text, content_text, canonical_text};
+ghost use Rattle.xml_profile.specs.Extensions.{AddsText, Extends};
+ghost use Rattle.xml_profile.specs.CanonicalText.{prefix_of, prefixed, name_text, text_byte, value_byte, text_text, value_text, equals_text, declaration_text, attribute_text, is_end, start_text, end_text, content_text, canonical_text};
 
 use crate::name::{Attribute, Attributes, QName};
 use crate::names::fixed_prefix;
 use crate::spaces::Spaces;
 use crate::tree::{Child, Children, Tree};
-use crate::used::used_by;
+use crate::used_spaces::used_by;
 use itoa::Buffer;
 use std::alloc::{AllocError, Global};
 
 /// Adds the canonical text of a tree at the end, in time linear in that text. After an error `out` is as before.
 ///
 /// The text spells the tree where the tree can be spelled at all. It has no XML declaration.
-#[tactic(auto, using(crate::proofs::Encoded::added_if, crate::proofs::Encoded::cut))]
+#[tactic(auto, using(crate::proofs::Utf8::added_if, crate::proofs::Utf8::cut))]
 pub fn write_tree(alloc: Global, tree: &Tree, out: &mut Vec<u8>) -> Result<(), AllocError>
     ensures ok { OnOk result (out.new.items ≡ out.old.items ++ canonical_text tree.now) }
     ensures utf8 { OnOk result (IsUtf8 (canonical_text tree.now)) }
@@ -230,7 +230,7 @@ fn push_equals(value: &str, out: &mut Vec<u8>) -> Result<(), AllocError>
     push_str("\"", out)
 }
 
-#[tactic(auto, using(crate::proofs::Encoded::value_by))]
+#[tactic(auto, using(crate::proofs::Utf8::value_by))]
 fn push_value(value: &str, out: &mut Vec<u8>) -> Result<(), AllocError>
     ensures done { OnOk result (out.new.items ≡ out.old.items ++ value_text value.now) }
     ensures kept { AddsText out.old.items out.new.items }
@@ -251,7 +251,7 @@ fn push_whole_value(bytes: &[u8], out: &mut Vec<u8>) -> Result<(), AllocError>
     written
 }
 
-#[tactic(auto, using(crate::proofs::Extending::same, crate::proofs::Extending::by, crate::proofs::Extending::through))]
+#[tactic(auto, using(crate::proofs::Extensions::same, crate::proofs::Extensions::by, crate::proofs::Extensions::through))]
 fn push_value_bytes(bytes: &[u8], out: &mut Vec<u8>) -> Result<(), AllocError>
     ensures done { OnOk result (out.new.items ≡ out.old.items ++ value_text bytes.now) }
     ensures kept { Extends out.old.items out.new.items }
@@ -262,7 +262,7 @@ fn push_value_bytes(bytes: &[u8], out: &mut Vec<u8>) -> Result<(), AllocError>
     Ok(())
 }
 
-#[tactic(auto, using(crate::proofs::Encoded::text_by))]
+#[tactic(auto, using(crate::proofs::Utf8::text_by))]
 fn push_text(text: &str, out: &mut Vec<u8>) -> Result<(), AllocError>
     ensures done { OnOk result (out.new.items ≡ out.old.items ++ text_text text.now) }
     ensures kept { AddsText out.old.items out.new.items }
@@ -283,7 +283,7 @@ fn push_whole_text(bytes: &[u8], out: &mut Vec<u8>) -> Result<(), AllocError>
     written
 }
 
-#[tactic(auto, using(crate::proofs::Extending::same, crate::proofs::Extending::by, crate::proofs::Extending::through))]
+#[tactic(auto, using(crate::proofs::Extensions::same, crate::proofs::Extensions::by, crate::proofs::Extensions::through))]
 fn push_text_bytes(bytes: &[u8], out: &mut Vec<u8>) -> Result<(), AllocError>
     ensures done { OnOk result (out.new.items ≡ out.old.items ++ text_text bytes.now) }
     ensures kept { Extends out.old.items out.new.items }
@@ -294,7 +294,7 @@ fn push_text_bytes(bytes: &[u8], out: &mut Vec<u8>) -> Result<(), AllocError>
     Ok(())
 }
 
-#[tactic(auto, using(crate::proofs::Extending::same, crate::proofs::Extending::by, crate::proofs::Extending::through))]
+#[tactic(auto, using(crate::proofs::Extensions::same, crate::proofs::Extensions::by, crate::proofs::Extensions::through))]
 fn push_value_byte(byte: u8, out: &mut Vec<u8>) -> Result<(), AllocError>
     ensures done { OnOk result (out.new.items ≡ out.old.items ++ value_byte byte) }
     ensures kept { Extends out.old.items out.new.items }
@@ -307,7 +307,7 @@ fn push_value_byte(byte: u8, out: &mut Vec<u8>) -> Result<(), AllocError>
     }
 }
 
-#[tactic(auto, using(crate::proofs::Extending::same, crate::proofs::Extending::by, crate::proofs::Extending::through))]
+#[tactic(auto, using(crate::proofs::Extensions::same, crate::proofs::Extensions::by, crate::proofs::Extensions::through))]
 fn push_text_byte(byte: u8, out: &mut Vec<u8>) -> Result<(), AllocError>
     ensures done { OnOk result (out.new.items ≡ out.old.items ++ text_byte byte) }
     ensures kept { Extends out.old.items out.new.items }
@@ -321,7 +321,7 @@ fn push_text_byte(byte: u8, out: &mut Vec<u8>) -> Result<(), AllocError>
     }
 }
 
-#[tactic(auto, using(crate::proofs::Encoded::one_by))]
+#[tactic(auto, using(crate::proofs::Utf8::one_by))]
 fn push_str(text: &str, out: &mut Vec<u8>) -> Result<(), AllocError>
     ensures done { OnOk result (out.new.items ≡ out.old.items ++ text.now) }
     ensures kept { AddsText out.old.items out.new.items }
@@ -337,7 +337,7 @@ fn push_whole(bytes: &[u8], out: &mut Vec<u8>) -> Result<(), AllocError>
     out.extend_from_slice(bytes)
 }
 
-#[tactic(auto, using(crate::proofs::Extending::same, crate::proofs::Extending::by, crate::proofs::Extending::through))]
+#[tactic(auto, using(crate::proofs::Extensions::same, crate::proofs::Extensions::by, crate::proofs::Extensions::through))]
 fn push_bytes(bytes: &[u8], out: &mut Vec<u8>) -> Result<(), AllocError>
     ensures done { OnOk result (out.new.items ≡ out.old.items ++ bytes.now) }
     ensures kept { Extends out.old.items out.new.items }

@@ -4,9 +4,9 @@ use Rattle.std.specs.List.{list_all, list_any, fold}
 use Rattle.std.specs.Str.{bytes_eq}
 use Rattle.std.proofs.lemmas.Slice.Eq.{bytes_eq-Decides}
 use Rattle.xml_profile.specs.Prefixes.{xml, xmlns}
-use Rattle.xml_profile.specs.Canonical.{prefix_of, with_space, declare}
-use Rattle.xml_profile.specs.Declaring.{is_declared, has_prefix, is_once, PrefixesDiffer}
-use Rattle.xml_profile.specs.Spellable as spellable
+use Rattle.xml_profile.specs.CanonicalText.{prefix_of, with_space, declare}
+use Rattle.xml_profile.specs.Declarations.{is_declared, has_prefix, is_once, PrefixesDiffer}
+use Rattle.xml_profile.specs.SpellableTrees as spellable
 use Rattle.xml_grammar.specs.Characters.{same}
 use Rattle.xml_grammar.specs.Namespaces.{xml_space, xmlns_space, Binding, is_empty, may_bind, declares, may_declare, or_else, lookup, space_of}
 use Rattle.xml_grammar.proofs.StepLaws.{same_is, same_same}

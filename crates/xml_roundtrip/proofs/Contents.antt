@@ -8,11 +8,11 @@ use Rattle.xml_profile.specs.declared.name.QName.{QName}
 use Rattle.xml_profile.specs.declared.name.Attribute.{Attribute}
 use Rattle.xml_profile.specs.Forest.{Forest}
 use Rattle.xml_profile.specs.Forest.Forest.{End as Nothing, Text_then, Element_then}
-use Rattle.xml_profile.specs.Canonical.{text_byte, is_end, spaces_at, spaces_in}
-use Rattle.xml_profile.specs.Spellable as spellable
+use Rattle.xml_profile.specs.CanonicalText.{text_byte, is_end, spaces_at, spaces_in}
+use Rattle.xml_profile.specs.SpellableTrees as spellable
 use Rattle.xml_grammar.specs.Spells.{add_text, Content}
 use Rattle.xml_roundtrip.proofs.Bools.{and_true, all_parts}
-use Rattle.xml_roundtrip.proofs.Spelled.{tag_chars, tag_of, name_chars, ending, content_chars}
+use Rattle.xml_roundtrip.proofs.CanonicalCharacters.{tag_chars, tag_of, name_chars, ending, content_chars}
 use Rattle.xml_roundtrip.proofs.Pieces.{text_reads}
 use Rattle.xml_roundtrip.proofs.Tags.{tag_reads, end_reads}
 use Rattle.xml_roundtrip.proofs.Bindings.{bindings, Declares}

@@ -1,7 +1,7 @@
 pub mod Bools
 pub mod Scalars
-pub mod Spelled
-pub mod Written
+pub mod CanonicalCharacters
+pub mod CanonicalBytes
 pub mod Names
 pub mod Pieces
 pub mod Tags
@@ -11,9 +11,9 @@ pub mod Contents
 pub mod Wholes
 pub mod Numbers
 pub mod Suffixes
-pub mod Kept
-pub mod Read
+pub mod ReadCharacters
+pub mod ReadNames
 pub mod Trees
 pub mod Sizes
-pub mod Equal
-pub mod Reread
+pub mod EqualTexts
+pub mod RoundtripLimits

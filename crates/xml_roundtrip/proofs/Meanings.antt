@@ -9,9 +9,9 @@ use Rattle.at_base.specs.Chars.{is_xml_char}
 use Rattle.xml_profile.specs.declared.name.QName.{QName}
 use Rattle.xml_profile.specs.declared.name.Attribute.{Attribute}
 use Rattle.xml_profile.specs.Prefixes.{xml, xmlns}
-use Rattle.xml_profile.specs.Canonical.{prefix_of, prefixed}
-use Rattle.xml_profile.specs.Declaring.{is_declared, has_prefix}
-use Rattle.xml_profile.specs.Spellable as spellable
+use Rattle.xml_profile.specs.CanonicalText.{prefix_of, prefixed}
+use Rattle.xml_profile.specs.Declarations.{is_declared, has_prefix}
+use Rattle.xml_profile.specs.SpellableTrees as spellable
 use Rattle.xml_grammar.specs.Characters.{◌>>=◌, same, Parts, parts}
 use Rattle.xml_grammar.specs.Tokens.{Pair, Tag}
 use Rattle.xml_grammar.specs.Namespaces.{Binding, is_empty, Spelled, Sorted, declared_by, sort_in, sort, may_declare, lookup, space_of, defaulted, element_name, attribute_name, attributes_of, same_space, same_name, names, are_apart, Meaning, means}
@@ -19,7 +19,7 @@ use Rattle.xml_grammar.proofs.StepLaws.{same_is}
 use Rattle.xml_roundtrip.proofs.Bools.{and_true, not_true, apart, false_unless}
 use Rattle.xml_roundtrip.proofs.Names.{Named, named_alone, named_within, is_prefix, IsLocal, is_local}
 use Rattle.xml_roundtrip.proofs.Tags.{IsPair}
-use Rattle.xml_roundtrip.proofs.Spelled.{name_chars, declaration, attribute}
+use Rattle.xml_roundtrip.proofs.CanonicalCharacters.{name_chars, declaration, attribute}
 use Rattle.xml_roundtrip.proofs.Bindings.{bindings, same_bytes, binding, may_name, Declares, no_default, space_found, may_stand}
 
 -- Names

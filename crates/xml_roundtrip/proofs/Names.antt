@@ -9,12 +9,12 @@ use Rattle.std.proofs.lemmas.List.Sums.{prefix_len-le-length}
 use Rattle.std.proofs.lemmas.Str.{IsUtf8-from_is_utf8, encodes-chars, byte_from_char}
 use Rattle.at_base.specs.Chars.{is_xml_char}
 use Rattle.xml_profile.specs.Prefixes.{soap, addressing, coordination, transaction, work, xml}
-use Rattle.xml_profile.specs.Canonical.{prefix_of}
-use Rattle.xml_profile.specs.Spellable as spellable
+use Rattle.xml_profile.specs.CanonicalText.{prefix_of}
+use Rattle.xml_profile.specs.SpellableTrees as spellable
 use Rattle.xml_grammar.specs.Characters.{◌>>=◌, same, is_white, is_letter, is_digit, begins_part, continues_part, is_name_char, Parts, is_part, parts_before, parts, name_before, name_at, behind_white}
 use Rattle.xml_grammar.specs.Namespaces.{is_empty}
 use Rattle.xml_roundtrip.proofs.Bools.{and_true, both_true, not_true, not_false, false_unless, equal_numbers, differs, all_both, all_imply}
-use Rattle.xml_roundtrip.proofs.Written.{is_written, is_low, Written}
+use Rattle.xml_roundtrip.proofs.CanonicalBytes.{is_written, is_low, Written}
 
 -- Runs of characters
 

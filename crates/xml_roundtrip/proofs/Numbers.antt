@@ -5,7 +5,7 @@ use Rattle.std.specs.Str.{bytes_eq}
 use Rattle.std.proofs.lemmas.Slice.Eq.{bytes_eq-Decides}
 use Rattle.xml_profile.specs.declared.tree.Tree.{Tree}
 use Rattle.xml_profile.specs.Prefixes.{xml, fixed_prefix}
-use Rattle.xml_profile.specs.Canonical.{declare, enumerate, spaces_of, declared_by, numbered_by, name_text, declaration_text, attribute_text, is_end, start_text, content_text, end_text, canonical_text}
+use Rattle.xml_profile.specs.CanonicalText.{declare, enumerate, spaces_of, declared_by, numbered_by, name_text, declaration_text, attribute_text, is_end, start_text, content_text, end_text, canonical_text}
 
 -- without a fixed prefix
 abbrev has_number : List ℕ → Bool

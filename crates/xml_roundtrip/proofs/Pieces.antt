@@ -1,7 +1,7 @@
 -- Escaped values and texts are read back.
 use Rattle.std.proofs.Common.{◌≡◌, refl, sym, subst, ap, ◌∙◌, ℕ, List, [], ◌∷◌, ◌++◌, append_assoc, Bool, true, false, not, cond, ◌&&◌, ◌||◌, nat_eq, Option, None, codes, encode_utf8, encode_utf8_all}
 use Rattle.std.specs.List.{flat_map}
-use Rattle.xml_profile.specs.Canonical.{text_byte, value_byte}
+use Rattle.xml_profile.specs.CanonicalText.{text_byte, value_byte}
 use Rattle.xml_profile.specs.Forest.{Forest}
 use Rattle.xml_grammar.specs.Characters.{strip_at}
 use Rattle.xml_grammar.specs.Tokens.{Value, TokenAt, spaced}

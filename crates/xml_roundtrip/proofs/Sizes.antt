@@ -8,7 +8,7 @@ use Rattle.xml_profile.specs.declared.tree.Tree.{Tree}
 use Rattle.xml_profile.specs.Forest.{Forest}
 use Rattle.xml_profile.specs.Forest.Forest.{End as Nothing, Text_then, Element_then}
 use Rattle.xml_profile.specs.Prefixes.{fixed_prefix}
-use Rattle.xml_profile.specs.Canonical.{enumerate, spaces_at, spaces_in, spaces_of, numbered_by}
+use Rattle.xml_profile.specs.CanonicalText.{enumerate, spaces_at, spaces_in, spaces_of, numbered_by}
 use Rattle.xml_grammar.specs.Characters.{◌>>=◌, given, behind_white, parts}
 use Rattle.xml_grammar.specs.Tokens.{Pair, Pairs, Tag, Token, TokenAt}
 use Rattle.xml_grammar.specs.Tokens.Token.{Plain, Meant, Comment, Start, End}

@@ -2,11 +2,11 @@
 use Rattle.std.proofs.Common.{◌≡◌, refl, sym, subst, ap, ◌∙◌, ℕ, List, [], ◌∷◌, ◌++◌, append_assoc, Bool, true, false, Some, codes, chars, IsUtf8}
 use Rattle.std.specs.List.{flat_map, AllByRecursion}
 use Rattle.std.proofs.lemmas.Str.{encodes-chars}
-use Rattle.xml_profile.specs.Canonical.{value_byte}
+use Rattle.xml_profile.specs.CanonicalText.{value_byte}
 use Rattle.xml_grammar.specs.Characters.{◌>>=◌, strip_at, behind_white, is_name_char, Parts}
 use Rattle.xml_grammar.specs.Tokens.{Value, Pair, PairAt, Pairs, Tag, StartAt, TokenAt}
 use Rattle.xml_grammar.specs.Tokens.Token.{Start, End}
-use Rattle.xml_roundtrip.proofs.Spelled.{quoted, pair_chars, closing, tag_chars}
+use Rattle.xml_roundtrip.proofs.CanonicalCharacters.{quoted, pair_chars, closing, tag_chars}
 use Rattle.xml_roundtrip.proofs.Names.{stops, Named, name_reads, name_stands}
 use Rattle.xml_roundtrip.proofs.Pieces.{value_reads}
 

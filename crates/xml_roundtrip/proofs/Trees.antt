@@ -4,14 +4,14 @@ use Rattle.std.specs.List.{AllByRecursion}
 use Rattle.xml_profile.specs.Forest.{Forest}
 use Rattle.xml_profile.specs.Forest.Forest.{End as Nothing, Text_then, Element_then}
 use Rattle.xml_profile.specs.declared.tree.Tree.{Tree}
-use Rattle.xml_profile.specs.Spellable as spellable
+use Rattle.xml_profile.specs.SpellableTrees as spellable
 use Rattle.xml_grammar.specs.Tokens.{Token}
 use Rattle.xml_grammar.specs.Tokens.Token.{Plain, Meant, Comment, Start, End}
 use Rattle.xml_grammar.specs.Namespaces.{Binding}
 use Rattle.xml_grammar.specs.Spells.{add_text, said, Content, Document, Spells}
 use Rattle.xml_roundtrip.proofs.Bools.{and_true, both_true}
-use Rattle.xml_roundtrip.proofs.Kept.{Fine, FineToken, token_fine, XmlText, is_text, text_of, text_one, text_both, document_fine}
-use Rattle.xml_roundtrip.proofs.Read.{Sound, means_well}
+use Rattle.xml_roundtrip.proofs.ReadCharacters.{Fine, FineToken, token_fine, XmlText, is_text, text_of, text_one, text_both, document_fine}
+use Rattle.xml_roundtrip.proofs.ReadNames.{Sound, means_well}
 
 abbrev WellFormed : Forest → Type 0
 WellFormed f = (spellable.texts_apart f ≡ true) × (spellable.is_content f ≡ true)

@@ -10,17 +10,17 @@ use Rattle.xml_profile.specs.declared.tree.Tree.{Tree}
 use Rattle.xml_profile.specs.Forest.{Forest}
 use Rattle.xml_profile.specs.Forest.Forest.{End as Nothing, Text_then, Element_then}
 use Rattle.xml_profile.specs.Prefixes.{xml, xmlns}
-use Rattle.xml_profile.specs.Canonical.{spaces_at, spaces_in, spaces_of, declared_by, numbered_by, prefix_of, prefixed, name_text, text_byte, value_byte, text_text, value_text, equals_text, declaration_text, attribute_text, is_end, start_text, end_text, content_text, canonical_text}
-use Rattle.xml_profile.specs.Declaring.{is_declared, has_prefix}
-use Rattle.xml_profile.specs.Spellable as spellable
-use Rattle.xml_profile.proofs.Declaring.{all_declared, all_prefixed, all_once}
-use Rattle.xml_profile.proofs.Distinct.{prefixes_differ}
+use Rattle.xml_profile.specs.CanonicalText.{spaces_at, spaces_in, spaces_of, declared_by, numbered_by, prefix_of, prefixed, name_text, text_byte, value_byte, text_text, value_text, equals_text, declaration_text, attribute_text, is_end, start_text, end_text, content_text, canonical_text}
+use Rattle.xml_profile.specs.Declarations.{is_declared, has_prefix}
+use Rattle.xml_profile.specs.SpellableTrees as spellable
+use Rattle.xml_profile.proofs.Declarations.{all_declared, all_prefixed, all_once}
+use Rattle.xml_profile.proofs.DistinctPrefixes.{prefixes_differ}
 use Rattle.xml_grammar.specs.Characters.{strip_at, begins_part}
 use Rattle.xml_grammar.specs.Spells.{Content, Epilog, Document, Spells, begins_feed, line_ends, optional, declaration_at, body}
 use Rattle.xml_roundtrip.proofs.Bools.{and_true, both_true, not_true, differs, turned, all_both, all_parts, all_imply}
 use Rattle.xml_roundtrip.proofs.Scalars.{all_scalars}
-use Rattle.xml_roundtrip.proofs.Spelled.{quoted, pair_chars, closing, tag_chars, name_chars, declaration, attribute, tag_of, ending, content_chars, canonical_chars}
-use Rattle.xml_roundtrip.proofs.Written.{is_written, Written, written_both, written_text, written_value, written_low}
+use Rattle.xml_roundtrip.proofs.CanonicalCharacters.{quoted, pair_chars, closing, tag_chars, name_chars, declaration, attribute, tag_of, ending, content_chars, canonical_chars}
+use Rattle.xml_roundtrip.proofs.CanonicalBytes.{is_written, Written, written_both, written_text, written_value, written_low}
 use Rattle.xml_roundtrip.proofs.Names.{begins_name, Named, is_prefix, is_local}
 use Rattle.xml_roundtrip.proofs.Tags.{tag_reads, end_reads}
 use Rattle.xml_roundtrip.proofs.Bindings.{bindings, may_name, Declares, declared_fit}

@@ -5,8 +5,8 @@ use Rattle.std.specs.Str.{chars, is_utf8}
 use Rattle.xml_profile.specs.declared.name.QName.{QName}
 use Rattle.xml_profile.specs.declared.tree.Tree.{Tree}
 use Rattle.xml_profile.specs.Forest.Forest.{End, Text_then, Element_then}
-use Rattle.xml_profile.specs.Canonical.{canonical_text}
-use Rattle.xml_profile.specs.Spellable.{can_be_spelled}
+use Rattle.xml_profile.specs.CanonicalText.{canonical_text}
+use Rattle.xml_profile.specs.SpellableTrees.{can_be_spelled}
 use Rattle.xml_grammar.specs.Namespaces.{means}
 use Rattle.xml_grammar.specs.Code.Reading.{pair_at, start_at, markup_at}
 use Rattle.xml_grammar.specs.Spells.{declaration_at, body, line_ends}

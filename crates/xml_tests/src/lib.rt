@@ -2,6 +2,6 @@
 #![tactic(auto)]
 
 #[cfg(test)]
-mod canonical;
+mod canonical_texts;
 #[cfg(test)]
 mod spellings;

@@ -4,7 +4,7 @@ use Rattle.xml_grammar.specs.Characters.{Parts}
 use Rattle.xml_grammar.specs.Tokens.{Pair, Tag, Token}
 use Rattle.xml_grammar.specs.Tokens.Token.{Plain, Meant, Comment, Start, End}
 use Rattle.xml_grammar.specs.Code.Reading.{Ending}
-use Rattle.xml_grammar.specs.declared.lexing.Parts.{Parts as Spelled}
+use Rattle.xml_grammar.specs.declared.lexer.Parts.{Parts as Spelled}
 use Rattle.xml_grammar.specs.declared.markup.Pair.{Pair as PairRead}
 use Rattle.xml_grammar.specs.declared.markup.Tag.{Tag as TagRead}
 use Rattle.xml_grammar.specs.declared.markup.Ending.{Ending as EndingRead}

@@ -1,4 +1,4 @@
-use Rattle.addressing.proofs.Spelled.{from_parts}
+use Rattle.addressing.proofs.EndpointParts.{from_parts}
 use Rattle.addressing.proofs.endpoint.read_epr.Goals as goal
 
 pub returns : goal.returns

@@ -2,7 +2,7 @@ use Rattle.std.proofs.Common.{◌∙◌, ap}
 use Rattle.xml_profile.specs.Prefixes.{addressing}
 use Rattle.soap_profile.specs.Children.{at_most_one, named}
 use Rattle.addressing.specs.Headers.{is_many}
-use Rattle.addressing.proofs.Repeated.{repeated_so}
+use Rattle.addressing.proofs.RepeatedHeaders.{repeated_so}
 use Rattle.addressing.proofs.headers.is_repeated.Goals as goal
 
 pub returns : goal.returns

@@ -1,6 +1,6 @@
 use Rattle.std.proofs.Common.{◌∙◌, Ok, ap, sym}
 use Rattle.std.specs.Option.{option_copied}
-use Rattle.addressing.proofs.Repeated.{headers_so}
+use Rattle.addressing.proofs.RepeatedHeaders.{headers_so}
 use Rattle.addressing.proofs.headers.read_headers.Goals as goal
 
 pub returns : goal.returns

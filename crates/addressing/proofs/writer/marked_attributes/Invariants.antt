@@ -1,5 +1,5 @@
 use Rattle.std.proofs.Common.{◌≡◌, ◌++◌, map}
-use Rattle.addressing.specs.Writing.{with_mark}
+use Rattle.addressing.specs.OutgoingHeaders.{with_mark}
 use Rattle.addressing.proofs.writer.marked_attributes.Given as goal
 
 abbrev pub invariant-loop-attribute : goal.invariant-loop-attribute

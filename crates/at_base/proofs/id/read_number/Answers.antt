@@ -1,7 +1,6 @@
-use Rattle.std.proofs.Common.{rules, ℕ, ◌≡◌, ◌≤◌, Some, ◌<◌, length, arith, get_or, ◌∙◌, ap, sym}
+use Rattle.std.proofs.Common.{◌≡◌, arith, get_or, ◌∙◌, ap}
 use Rattle.std.specs.Result.{result_ok}
 use Rattle.std.proofs.lemmas.Grind.{common_steps}
-use Rattle.at_base.specs.IdText.{SpellsNumber}
 use Rattle.at_base.proofs.Numbers.{number_begins, number_some, number_parses}
 use Rattle.at_base.proofs.id.read_number.Goals as goal
 

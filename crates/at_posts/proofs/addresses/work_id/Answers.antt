@@ -1,5 +1,5 @@
 use Rattle.std.proofs.Common.{◌∙◌}
-use Rattle.at_posts.proofs.Naming.{renamed}
+use Rattle.at_posts.proofs.MessageIds.{renamed}
 use Rattle.at_posts.proofs.addresses.work_id.Goals as goal
 
 pub returns : goal.returns

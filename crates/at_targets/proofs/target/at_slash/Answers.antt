@@ -1,6 +1,6 @@
 use Rattle.std.proofs.Common.{arith}
 use Rattle.at_model.specs.Addresses.{slash}
-use Rattle.at_targets.proofs.Splitting.{both_parts}
+use Rattle.at_targets.proofs.TextSplits.{both_parts}
 use Rattle.at_targets.proofs.target.at_slash.Goals as goal
 
 pub returns : goal.returns

@@ -1,4 +1,4 @@
-use Rattle.command_line.proofs.Parsing.{found, refused}
+use Rattle.command_line.proofs.ClapAnswers.{found, refused}
 use Rattle.command_line.proofs.job.parsed.Goals as goal
 
 pub returns-clause-found : goal.returns-clause-found

@@ -1,5 +1,5 @@
 use Rattle.command_line.specs.Views.{meant_serving}
-use Rattle.command_line.proofs.Served.{has_served}
+use Rattle.command_line.proofs.Servings.{has_served}
 use Rattle.command_line.proofs.node.attend.Goals as goal
 
 pub returns-clause-served : goal.returns-clause-served

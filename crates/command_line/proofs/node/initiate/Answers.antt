@@ -1,7 +1,7 @@
 use Rattle.std.proofs.Common.{◌≡◌, Err, refl}
 use Rattle.schedules.specs.InitiatorLines.{initiator_lines_of}
 use Rattle.command_line.specs.Views.{meant_serving}
-use Rattle.command_line.proofs.Served.{initiated, of_named, refused}
+use Rattle.command_line.proofs.Servings.{initiated, of_named, refused}
 use Rattle.command_line.proofs.node.initiate.Goals as goal
 
 pub returns-in-Ok-read_initiator_lines-clause-initiates : goal.returns-in-Ok-read_initiator_lines-clause-initiates

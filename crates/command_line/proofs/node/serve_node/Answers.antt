@@ -1,5 +1,5 @@
 use Rattle.std.proofs.Common.{refl, rules}
-use Rattle.command_line.proofs.Served.{no_initiator, no_more_given}
+use Rattle.command_line.proofs.Servings.{no_initiator, no_more_given}
 use Rattle.command_line.proofs.node.serve_node.Goals as goal
 
 pub returns-in-Coordinator : goal.returns-in-Coordinator

@@ -1,5 +1,5 @@
 use Rattle.command_line.specs.Views.{meant_filter}
-use Rattle.command_line.proofs.Printing.{all_given, all_printed, part_printed}
+use Rattle.command_line.proofs.Reports.{all_given, all_printed, part_printed}
 use Rattle.command_line.proofs.run.filter.Goals as goal
 
 pub returns-in-Ok-report-clause-whole : goal.returns-in-Ok-report-clause-whole

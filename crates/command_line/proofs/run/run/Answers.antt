@@ -3,8 +3,8 @@ use Rattle.std.proofs.Common.{subst}
 use Rattle.command_line.specs.Jobs.{IsJobOf}
 use Rattle.command_line.specs.Jobs.Job.{Make, Serve}
 use Rattle.command_line.specs.Views.{meant, meant_serving}
-use Rattle.command_line.proofs.Making.{summed_as}
-use Rattle.command_line.proofs.Served.{initiated_as, served_as, unread_by, unserved}
+use Rattle.command_line.proofs.Summaries.{summed_as}
+use Rattle.command_line.proofs.Servings.{initiated_as, served_as, unread_by, unserved}
 use Rattle.command_line.proofs.run.run.Goals as goal
 
 pub returns-in-Ok-Make-clause-summed : goal.returns-in-Ok-Make-clause-summed

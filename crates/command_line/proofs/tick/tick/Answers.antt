@@ -1,5 +1,5 @@
 use Rattle.std.proofs.Common.{◌∙◌}
-use Rattle.command_line.proofs.Ticking.{has_ticked}
+use Rattle.command_line.proofs.Ticks.{has_ticked}
 use Rattle.command_line.proofs.tick.tick.Goals as goal
 
 pub returns-in-Ok-post-clause-ticked : goal.returns-in-Ok-post-clause-ticked

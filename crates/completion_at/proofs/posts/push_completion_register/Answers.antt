@@ -1,5 +1,5 @@
 use Rattle.at_model.specs.Posts.{register_post}
-use Rattle.completion_at.proofs.Following.{posted}
+use Rattle.completion_at.proofs.EqualAnswers.{posted}
 use Rattle.completion_at.proofs.posts.push_completion_register.Goals as goal
 
 pub returns : goal.returns

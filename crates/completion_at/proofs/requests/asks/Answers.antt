@@ -1,6 +1,5 @@
-use Rattle.std.proofs.Common.{◌≡◌, ◌∙◌, Some, ap, sym}
-use Rattle.at_model.specs.Book.{Activity}
-use Rattle.completion_at.proofs.Asking.{asked}
+use Rattle.std.proofs.Common.{◌≡◌, ◌∙◌, Some, sym}
+use Rattle.completion_at.proofs.WorkPosts.{asked}
 use Rattle.completion_at.proofs.requests.asks.Goals as goal
 
 pub returns-in_ok-work-in-Some : goal.returns-in_ok-work-in-Some

@@ -1,11 +1,11 @@
 use Rattle.std.proofs.Common.{◌≡◌, ◌∙◌, ◌∷◌, [], ap}
 use Rattle.at_base.specs.declared.message.Message.TheVariants as messages
 use Rattle.at_base.specs.declared.outs.Out.TheVariants as outs
-use Rattle.at_model.specs.Activities.{activity_target, service}
+use Rattle.at_model.specs.Activities.{activity_target}
 use Rattle.at_model.specs.Addresses.{work_id}
 use Rattle.at_model.specs.Posts.{request_post}
-use Rattle.completion_at.specs.Planning.{nth_work}
-use Rattle.completion_at.proofs.Following.{given}
+use Rattle.completion_at.specs.ActivityPlans.{nth_work}
+use Rattle.completion_at.proofs.EqualAnswers.{given}
 use Rattle.completion_at.proofs.requests.nth_work.Goals as goal
 
 pub returns : goal.returns

@@ -1,9 +1,9 @@
 use Rattle.std.proofs.Common.{◌≡◌, ap, ◌∙◌, arith}
 use Rattle.std.proofs.lemmas.Grind.{common_steps}
 use Rattle.context.specs.declared.parameter.Parameter.TheVariants.{RegistrationService}
-use Rattle.context.specs.Reading.{context_of}
-use Rattle.context.specs.Writing.{context_tree}
-use Rattle.context.proofs.Returned.{context_returns, endpoint_returns}
+use Rattle.context.specs.Bodies.{context_of}
+use Rattle.context.specs.BodyTrees.{context_tree}
+use Rattle.context.proofs.BodyRoundtrip.{context_returns, endpoint_returns}
 use Rattle.context.proofs.writer.write_context.Goals as goal
 
 pub returns-clause-reads : goal.returns-clause-reads

@@ -1,7 +1,7 @@
 use Rattle.std.proofs.Common.{◌≡◌, IfOk, arith}
 use Rattle.std.proofs.lemmas.Grind.{common_steps}
-use Rattle.context.specs.Writing.{create_tree}
-use Rattle.context.proofs.Returned.{create_returns, from_tree}
+use Rattle.context.specs.BodyTrees.{create_tree}
+use Rattle.context.proofs.BodyRoundtrip.{create_returns, from_tree}
 use Rattle.context.proofs.writer.write_create.Goals as goal
 
 pub returns-clause-reads : goal.returns-clause-reads

@@ -1,8 +1,8 @@
 use Rattle.std.proofs.Common.{◌≡◌, IfOk, arith}
 use Rattle.std.proofs.lemmas.Grind.{common_steps}
 use Rattle.context.specs.declared.parameter.Parameter.TheVariants.{ParticipantProtocolService}
-use Rattle.context.specs.Writing.{register_tree}
-use Rattle.context.proofs.Returned.{endpoint_returns, from_tree, register_returns}
+use Rattle.context.specs.BodyTrees.{register_tree}
+use Rattle.context.proofs.BodyRoundtrip.{endpoint_returns, from_tree, register_returns}
 use Rattle.context.proofs.writer.write_register.Goals as goal
 
 pub returns-clause-reads : goal.returns-clause-reads

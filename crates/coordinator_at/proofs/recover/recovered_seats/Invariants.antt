@@ -1,5 +1,5 @@
 use Rattle.std.proofs.Common.{◌≡◌, ◌++◌, drop, map}
-use Rattle.at_model.specs.Recover.{recovered_seat}
+use Rattle.at_model.specs.Recovery.{recovered_seat}
 use Rattle.coordinator_at.proofs.recover.recovered_seats.Given as goal
 
 abbrev pub invariant-loop-seated : goal.invariant-loop-seated

@@ -1,5 +1,5 @@
 use Rattle.std.proofs.Common.{◌≡◌, ◌++◌, drop}
-use Rattle.coordinator_at.specs.Planning.{subordinates_lost}
+use Rattle.coordinator_at.specs.TransactionPlans.{subordinates_lost}
 use Rattle.coordinator_at.proofs.transactions.push_lost_subordinates.Given as goal
 
 abbrev pub invariant-loop-transaction : goal.invariant-loop-transaction

@@ -1,8 +1,8 @@
 use Rattle.std.proofs.Common.{refl}
-use Rattle.journal_at.specs.Reading.{bodies_of}
-use Rattle.decision_log.specs.Held.{known}
+use Rattle.journal_at.specs.Frames.{bodies_of}
+use Rattle.decision_log.specs.KeptState.{known}
 use Rattle.decision_log.proofs.Keepsakes.{is_kept}
-use Rattle.decision_log.proofs.Taking.{finished}
+use Rattle.decision_log.proofs.FoldedBodies.{finished}
 use Rattle.decision_log.proofs.fold.fold.Goals as goal
 
 pub returns-in-Ok-finish-clause-kept : goal.returns-in-Ok-finish-clause-kept

@@ -1,5 +1,5 @@
 use Rattle.journal_at.specs.declared.version.Version.TheVariants.{Two}
-use Rattle.decision_log.proofs.Following.{may_follow}
+use Rattle.decision_log.proofs.NextRecords.{may_follow}
 use Rattle.decision_log.proofs.keep.append.Goals as goal
 
 pub append-requires : goal.append-requires

@@ -1,5 +1,5 @@
 use Rattle.std.proofs.Common.{take}
-use Rattle.decision_log.specs.Shrinking.{Adds}
+use Rattle.decision_log.specs.ShrunkJournals.{Adds}
 use Rattle.decision_log.proofs.shrink.add_live.Given as goal
 
 abbrev pub invariant-loop-entry : goal.invariant-loop-entry

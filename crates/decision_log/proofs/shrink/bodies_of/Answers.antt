@@ -1,4 +1,4 @@
-use Rattle.decision_log.specs.Held.{known}
+use Rattle.decision_log.specs.KeptState.{known}
 use Rattle.decision_log.proofs.Bodies.{all_three}
 use Rattle.decision_log.proofs.shrink.bodies_of.Goals as goal
 

@@ -1,10 +1,10 @@
 use Rattle.std.proofs.Common.{sym, subst}
-use Rattle.journal_at.specs.Compacting.{texts_in}
+use Rattle.journal_at.specs.Compactions.{texts_in}
 use Rattle.journal_at.specs.Format.{AreBodies, AreUnmarked}
 use Rattle.journal_at.specs.declared.version.Version.TheVariants.{Two}
-use Rattle.decision_log.specs.Folding.{AreRecords}
-use Rattle.decision_log.specs.Held.{known}
-use Rattle.decision_log.specs.Shrinking.{shrunk}
+use Rattle.decision_log.specs.Folds.{AreRecords}
+use Rattle.decision_log.specs.KeptState.{known}
+use Rattle.decision_log.specs.ShrunkJournals.{shrunk}
 use Rattle.decision_log.proofs.Bodies.{bodies_sized, bodies_unmarked, live_formed, on_ok, texts_are, texts_compacted}
 use Rattle.decision_log.proofs.shrink.shrink.Goals as goal
 

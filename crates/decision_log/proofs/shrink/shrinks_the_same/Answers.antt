@@ -1,4 +1,4 @@
-use Rattle.decision_log.proofs.Same.{shrinks_the_same}
+use Rattle.decision_log.proofs.ShrunkRecords.{shrinks_the_same}
 use Rattle.decision_log.proofs.shrink.shrinks_the_same.Goals as goal
 
 pub returns : goal.returns

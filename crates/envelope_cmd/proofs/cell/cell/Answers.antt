@@ -1,5 +1,5 @@
 use Rattle.envelope_cmd.specs.Cells.{IsCellOf}
-use Rattle.envelope_cmd.proofs.Unique.{only_one}
+use Rattle.envelope_cmd.proofs.Uniqueness.{only_one}
 use Rattle.envelope_cmd.proofs.cell.cell.Goals as goal
 
 pub returns-clause-only : goal.returns-clause-only

@@ -1,4 +1,4 @@
-use Rattle.envelope_cmd.proofs.Telling.{told}
+use Rattle.envelope_cmd.proofs.EnvelopeReports.{told}
 use Rattle.envelope_cmd.proofs.cell.report.Goals as goal
 
 pub returns-in-Ok : goal.returns-in-Ok

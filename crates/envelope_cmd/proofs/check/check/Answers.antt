@@ -1,5 +1,5 @@
 use Rattle.envelope_cmd.specs.Checks.{IsCheckOf}
-use Rattle.envelope_cmd.proofs.Unique.{only_one}
+use Rattle.envelope_cmd.proofs.Uniqueness.{only_one}
 use Rattle.envelope_cmd.proofs.check.check.Goals as goal
 
 pub returns-clause-only : goal.returns-clause-only

@@ -1,4 +1,4 @@
-use Rattle.envelope_cmd.proofs.Telling.{checked}
+use Rattle.envelope_cmd.proofs.EnvelopeReports.{checked}
 use Rattle.envelope_cmd.proofs.check.report.Goals as goal
 
 pub returns-in-Ok : goal.returns-in-Ok

@@ -1,4 +1,4 @@
-use Rattle.envelope_cmd.proofs.Unique.{cells_one}
+use Rattle.envelope_cmd.proofs.Uniqueness.{cells_one}
 use Rattle.envelope_cmd.proofs.laws.one_report_is_printed.Goals as goal
 
 pub returns-clause-cells : goal.returns-clause-cells

@@ -1,5 +1,5 @@
 use Rattle.std.proofs.Common.{◌≡◌, ◌++◌, drop}
-use Rattle.xml_profile.specs.Canonical.{value_text}
+use Rattle.xml_profile.specs.CanonicalText.{value_text}
 use Rattle.envelope_cmd.proofs.lines.push_value.Given as goal
 
 abbrev pub invariant-loop-byte : goal.invariant-loop-byte

@@ -1,4 +1,4 @@
-use Rattle.http_post.proofs.Chunking.{chunked_fault, in_chunks}
+use Rattle.http_post.proofs.ChunkLaws.{chunked_fault, in_chunks}
 use Rattle.http_post.proofs.body.chunked_body.Goals as goal
 
 pub returns-in-Ok-clause-content : goal.returns-in-Ok-clause-content

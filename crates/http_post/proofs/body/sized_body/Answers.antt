@@ -1,6 +1,6 @@
 use Rattle.std.proofs.Common.{arith, ap, take, ◌∙◌}
 use Rattle.http_post.specs.Connections.{left}
-use Rattle.http_post.proofs.Chunking.{short_body, whole_body}
+use Rattle.http_post.proofs.ChunkLaws.{short_body, whole_body}
 use Rattle.http_post.proofs.body.sized_body.Goals as goal
 
 -- src/body.rt:53:22

@@ -1,6 +1,6 @@
 use Rattle.std.proofs.Common.{ℕ, List, ◌-◌, length, ◌≡◌}
 use Rattle.http_post.specs.Connections.{Leaves, left}
-use Rattle.http_post.specs.Raw.{IsRaw}
+use Rattle.http_post.specs.RawBytes.{IsRaw}
 use Rattle.http_post.proofs.body.sized_body.Given as goal
 
 abbrev pub invariant-loop-site : goal.invariant-loop-site

@@ -1,5 +1,5 @@
 use Rattle.std.proofs.Common.{◌∙◌, arith, ap, length, ◌<◌, min}
-use Rattle.http_post.proofs.Reading.{fill_fault}
+use Rattle.http_post.proofs.RawBytes.{fill_fault}
 use Rattle.http_post.proofs.chunks.fill.Goals as goal
 
 -- src/chunks.rt:22:13

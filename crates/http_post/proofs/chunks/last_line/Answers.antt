@@ -1,5 +1,5 @@
 use Rattle.std.proofs.Common.{inr, sym, ◌∙◌}
-use Rattle.http_post.proofs.Lining.{not_yet}
+use Rattle.http_post.proofs.ChunkLines.{not_yet}
 use Rattle.http_post.proofs.chunks.last_line.Goals as goal
 
 -- src/chunks.rt:68:1

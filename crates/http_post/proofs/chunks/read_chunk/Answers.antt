@@ -1,6 +1,6 @@
 use Rattle.std.proofs.Common.{arith, ap, ◌∙◌, ◌++◌, ◌+◌}
 use Rattle.std.specs.Prelude.{slice_range}
-use Rattle.http_post.proofs.Chunking.{fault_no_line, step_last, fault_in_trailers, fault_too_large, fault_in_content, step_chunk}
+use Rattle.http_post.proofs.ChunkLaws.{fault_no_line, step_last, fault_in_trailers, fault_too_large, fault_in_content, step_chunk}
 use Rattle.http_post.proofs.chunks.read_chunk.Goals as goal
 
 -- src/chunks.rt:152:25

@@ -1,5 +1,5 @@
 use Rattle.std.proofs.Common.{◌∙◌, Some, None}
-use Rattle.http_post.proofs.Chunking.{all_fault, all_read, one_further, place_is, step_is}
+use Rattle.http_post.proofs.ChunkLaws.{all_fault, all_read, one_further, place_is, step_is}
 use Rattle.http_post.proofs.chunks.read_chunks.Goals as goal
 
 -- src/chunks.rt:186:5

@@ -2,7 +2,7 @@ use Rattle.std.proofs.Common.{ℕ, List, Result, ◌-◌, ◌≤◌, drop, lengt
 use Rattle.http_post.specs.Connections.{Leaves, left}
 use Rattle.http_post.specs.declared.refusal.HttpRefusal.{HttpRefusal}
 use Rattle.http_post.specs.Chunks.{Chunks, cut_at_end, prefixed}
-use Rattle.http_post.specs.Raw.{IsRaw, seen}
+use Rattle.http_post.specs.RawBytes.{IsRaw, seen}
 use Rattle.http_post.proofs.chunks.read_chunks.Given as goal
 
 -- what the chunks from here on give is, behind the body so far, what all chunks give

@@ -3,10 +3,10 @@ use Rattle.http_post.specs.Causes.{HasLinkCause}
 use Rattle.http_post.specs.Connections.{left}
 use Rattle.http_post.specs.Chunks.{cut_at_end}
 use Rattle.http_post.specs.Lines.{IsLast, IsNoLine}
-use Rattle.http_post.specs.Raw.{IsFault, IsRaw, is_cut, seen}
+use Rattle.http_post.specs.RawBytes.{IsFault, IsRaw, is_cut, seen}
 use Rattle.httparse.specs.Grammar.{ChunkLine}
 use Rattle.httparse.specs.Spans.{IsChunkLineAt}
-use Rattle.http_post.proofs.Lining.{if_err, if_ok, last_cause, last_kept, on_ok, last_fault, last_of, last_seen, line_of, line_seen, line_within, never_of, never_seen, still_within}
+use Rattle.http_post.proofs.ChunkLines.{if_err, if_ok, last_cause, last_kept, on_ok, last_fault, last_of, last_seen, line_of, line_seen, line_within, never_of, never_seen, still_within}
 use Rattle.http_post.proofs.chunks.read_line.Goals.{then-is_worth+in-More, else-is_worth}
 use Rattle.http_post.proofs.chunks.read_line.Goals as goal
 

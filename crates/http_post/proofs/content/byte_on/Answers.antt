@@ -1,6 +1,6 @@
 use Rattle.std.proofs.Common.{◌∷◌, ◌+◌, drop, ap, sym, ◌∙◌, arith}
-use Rattle.http_post.specs.Raw.{seen}
-use Rattle.http_post.proofs.Trailing.{byte_at, seen_at}
+use Rattle.http_post.specs.RawBytes.{seen}
+use Rattle.http_post.proofs.TrailerLaws.{byte_at, seen_at}
 use Rattle.http_post.proofs.content.byte_on.Goals as goal
 
 -- src/content.rt:13:1

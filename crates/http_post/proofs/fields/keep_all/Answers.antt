@@ -1,5 +1,5 @@
 use Rattle.httparse.specs.declared.spans.HeaderSpan.{HeaderSpan}
-use Rattle.http_post.proofs.Keeping.{kept_more}
+use Rattle.http_post.proofs.FieldMaps.{kept_more}
 use Rattle.http_post.proofs.fields.keep_all.Goals as goal
 
 abbrev nowhere : HeaderSpan

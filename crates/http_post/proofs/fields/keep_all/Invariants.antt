@@ -1,7 +1,7 @@
 use Rattle.std.proofs.Common.{ℕ, List, ◌≡◌, map, take}
 use Rattle.http_header.specs.HeaderMap.{get_all}
 use Rattle.httparse.specs.Spans.{header_bytes}
-use Rattle.http_post.specs.Kept.{named}
+use Rattle.http_post.specs.FieldMaps.{named}
 use Rattle.http_post.proofs.fields.keep_all.Given as goal
 
 -- the fields so far are kept

@@ -1,7 +1,7 @@
 use Rattle.std.proofs.Common.{◌≡◌, codes, map}
 use Rattle.std.specs.List.{list_any}
 use Rattle.http_post.specs.Heads.{is_word}
-use Rattle.http_post.specs.Kept.{values_under}
+use Rattle.http_post.specs.FieldMaps.{values_under}
 use Rattle.http_post.proofs.framing.waits.Given as goal
 
 abbrev pub invariant-loop-value : goal.invariant-loop-value

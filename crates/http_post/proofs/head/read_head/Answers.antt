@@ -1,7 +1,7 @@
 use Rattle.std.proofs.Common.{◌≤◌, ◌∙◌, inl, inr, subst, sym}
 use Rattle.http_post.specs.Connections.{left}
-use Rattle.http_post.specs.Known.{HoldsHead}
-use Rattle.http_post.proofs.Growing.{held, never_held, none_held}
+use Rattle.http_post.specs.PartialHeads.{HoldsHead}
+use Rattle.http_post.proofs.PartialHeads.{held, never_held, none_held}
 use Rattle.http_post.proofs.head.read_head.Goals as goal
 use Rattle.http_post.proofs.head.read_head.Goals.{then-n-eq0-via-then-n-eq0, then-n-eq0-via-else-n-eq0+then-len-ge-MOST_HEAD}
 

@@ -1,4 +1,4 @@
-use Rattle.http_post.proofs.Conversing.{same_left, spoken}
+use Rattle.http_post.proofs.Conversations.{same_left, spoken}
 use Rattle.http_post.proofs.request.go_on.Goals as goal
 
 pub returns-clause-hears : goal.returns-clause-hears

@@ -1,8 +1,8 @@
 use Rattle.std.proofs.Common.{subst}
-use Rattle.http_post.specs.Known.{HasNoHead}
-use Rattle.http_post.specs.Reading.{IfNoHead}
+use Rattle.http_post.specs.PartialHeads.{HasNoHead}
+use Rattle.http_post.specs.ReadFaults.{IfNoHead}
 use Rattle.http_post.specs.Connections.{left}
-use Rattle.http_post.proofs.Conversing.{drawn, heard, nothing_heard}
+use Rattle.http_post.proofs.Conversations.{drawn, heard, nothing_heard}
 use Rattle.http_post.proofs.request.hear.Goals as goal
 
 pub returns-in-Err-NoHead-clause-err : goal.returns-in-Err-NoHead-clause-err

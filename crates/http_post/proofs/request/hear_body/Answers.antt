@@ -1,6 +1,6 @@
 use Rattle.http_post.specs.Connections.{left}
-use Rattle.http_post.proofs.Concluding.{body_asked, body_refused}
-use Rattle.http_post.proofs.Conversing.{stays_same}
+use Rattle.http_post.proofs.TakenRequests.{body_asked, body_refused}
+use Rattle.http_post.proofs.Conversations.{stays_same}
 use Rattle.http_post.proofs.request.hear_body.Goals as goal
 
 pub returns-in-Ok-clause-ok : goal.returns-in-Ok-clause-ok

@@ -1,7 +1,7 @@
 use Rattle.std.proofs.Common.{Ok, Err, inl, inr}
 use Rattle.http_post.specs.Connections.{left}
-use Rattle.http_post.proofs.Concluding.{asked_of, faulty_of, head_refused, refused_of, whole_hears}
-use Rattle.http_post.proofs.Conversing.{stays_same}
+use Rattle.http_post.proofs.TakenRequests.{asked_of, faulty_of, head_refused, refused_of, whole_hears}
+use Rattle.http_post.proofs.Conversations.{stays_same}
 use Rattle.http_post.proofs.request.take_request.Goals as goal
 
 pub returns-in-Err-clause-err : goal.returns-in-Err-clause-err

@@ -1,6 +1,6 @@
 use Rattle.std.proofs.Common.{◌∙◌, arith, None, Some}
 use Rattle.http_post.specs.Connections.{left}
-use Rattle.http_post.proofs.Trailing.{after_byte, goes_on, goes_out, goes_short}
+use Rattle.http_post.proofs.TrailerLaws.{after_byte, goes_on, goes_out, goes_short}
 use Rattle.http_post.proofs.trailers.read_trailers.Goals as goal
 
 -- src/trailers.rt:53:21

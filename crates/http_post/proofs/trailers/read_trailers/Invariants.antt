@@ -1,7 +1,7 @@
 use Rattle.std.proofs.Common.{ℕ, List, ◌≡◌, ◌-◌, ◌≤◌, drop}
 use Rattle.http_post.specs.Connections.{Leaves, left}
 use Rattle.http_post.specs.Chunks.{ends_trailers, has_empty_line}
-use Rattle.http_post.specs.Raw.{IsRaw, seen}
+use Rattle.http_post.specs.RawBytes.{IsRaw, seen}
 use Rattle.http_post.proofs.trailers.read_trailers.Given as goal
 
 -- the same bytes are held or left, and from here on the trailers go on as they began

@@ -1,4 +1,4 @@
-use Rattle.interposition.proofs.Taking.{keeps_bounds}
+use Rattle.interposition.proofs.ModelSteps.{keeps_bounds}
 use Rattle.interposition.proofs.book.keeps_bounds.Goals as goal
 
 pub returns : goal.returns

@@ -1,4 +1,4 @@
-use Rattle.interposition.proofs.Recovering.{recovers_as_the_model}
+use Rattle.interposition.proofs.Recoveries.{recovers_as_the_model}
 use Rattle.interposition.proofs.book.recovers_as_the_model.Goals as goal
 
 pub returns : goal.returns

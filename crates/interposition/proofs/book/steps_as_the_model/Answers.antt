@@ -1,4 +1,4 @@
-use Rattle.interposition.proofs.Taking.{steps_as_the_model}
+use Rattle.interposition.proofs.ModelSteps.{steps_as_the_model}
 use Rattle.interposition.proofs.book.steps_as_the_model.Goals as goal
 
 pub returns : goal.returns

@@ -1,4 +1,4 @@
-use Rattle.interposition.proofs.Walking.{walks_the_due}
+use Rattle.interposition.proofs.DueWalks.{walks_the_due}
 use Rattle.interposition.proofs.book.walks_the_due.Goals as goal
 
 pub returns : goal.returns

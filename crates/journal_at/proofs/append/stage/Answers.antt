@@ -1,5 +1,5 @@
 use Rattle.std.proofs.Common.{refl}
-use Rattle.journal_at.proofs.Laying.{laid_cut, laid_done}
+use Rattle.journal_at.proofs.SyncedWrites.{laid_cut, laid_done}
 use Rattle.journal_at.proofs.append.stage.Goals as goal
 
 pub returns-in-Err : goal.returns-in-Err

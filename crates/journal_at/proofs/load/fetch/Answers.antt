@@ -1,6 +1,6 @@
 use Rattle.std.proofs.Common.{◌∙◌, arith}
 use Rattle.site_model.specs.Told.{file_of}
-use Rattle.journal_at.proofs.Fetching.{quiet_then, read_more}
+use Rattle.journal_at.proofs.FileReads.{quiet_then, read_more}
 use Rattle.journal_at.proofs.load.fetch.Goals as goal
 
 pub loop-buf-preserved : goal.loop-buf-preserved

@@ -1,6 +1,6 @@
 use Rattle.std.proofs.Common.{◌≡◌, ◌-◌, length, take}
 use Rattle.site_model.specs.Told.{Files, Is, file_of}
-use Rattle.journal_at.specs.Loading.{Quiet}
+use Rattle.journal_at.specs.Loads.{Quiet}
 use Rattle.journal_at.proofs.load.fetch.Given as goal
 
 abbrev pub invariant-loop-buf : goal.invariant-loop-buf

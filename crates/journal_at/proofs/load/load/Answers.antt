@@ -1,5 +1,5 @@
 use Rattle.std.proofs.Common.{sym, ◌∙◌}
-use Rattle.journal_at.proofs.Opening.{opens_bare, opens_plain, fails_bare}
+use Rattle.journal_at.proofs.Openings.{opens_bare, opens_plain, fails_bare}
 use Rattle.journal_at.proofs.load.load.Goals as goal
 
 pub returns-then-not-bare : goal.returns-then-not-bare

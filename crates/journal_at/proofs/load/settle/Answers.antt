@@ -1,5 +1,5 @@
 use Rattle.std.proofs.Common.{refl}
-use Rattle.journal_at.proofs.Settling.{settles_cut, settles_done}
+use Rattle.journal_at.proofs.SyncedFiles.{settles_cut, settles_done}
 use Rattle.journal_at.proofs.load.settle.Goals as goal
 
 pub returns-in-Err : goal.returns-in-Err

@@ -1,4 +1,4 @@
-use Rattle.journal_at.proofs.Settling.{fails_early, surveyed}
+use Rattle.journal_at.proofs.SyncedFiles.{fails_early, surveyed}
 use Rattle.journal_at.proofs.load.survey.Goals as goal
 
 pub returns-in-Ok : goal.returns-in-Ok

@@ -1,5 +1,5 @@
 use Rattle.std.proofs.Common.{sym, subst, ◌∙◌}
-use Rattle.journal_at.specs.Reading.{IsRead}
+use Rattle.journal_at.specs.Frames.{IsRead}
 use Rattle.journal_at.proofs.Bodies.{before, ended, one_more, why_misplaced}
 use Rattle.journal_at.proofs.read.read_bodies.Goals as goal
 

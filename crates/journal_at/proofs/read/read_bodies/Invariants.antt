@@ -1,5 +1,5 @@
 use Rattle.std.proofs.Common.{length, ◌<◌}
-use Rattle.journal_at.specs.Reading.{ArePlaced, IsRead, bodies_of}
+use Rattle.journal_at.specs.Frames.{ArePlaced, IsRead, bodies_of}
 use Rattle.journal_at.proofs.read.read_bodies.Given as goal
 
 abbrev pub invariant-loop-bodies : goal.invariant-loop-bodies

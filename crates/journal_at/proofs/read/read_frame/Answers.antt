@@ -1,5 +1,5 @@
 use Rattle.std.proofs.Common.{arith, inl, inr}
-use Rattle.journal_at.proofs.Framing.{too_short, of_no_size, cut_off}
+use Rattle.journal_at.proofs.Frames.{too_short, of_no_size, cut_off}
 use Rattle.journal_at.proofs.read.read_frame.Goals as goal
 
 pub returns-then-rest-lt4 : goal.returns-then-rest-lt4

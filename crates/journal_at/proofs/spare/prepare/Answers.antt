@@ -1,8 +1,8 @@
 use Rattle.std.proofs.Common.{subst}
-use Rattle.journal_at.specs.Compacting.{Safe, fill_calls, shut_calls}
+use Rattle.journal_at.specs.Compactions.{Safe, fill_calls, shut_calls}
 use Rattle.journal_at.specs.Pairs.{Holds}
-use Rattle.journal_at.proofs.Acting.{acts_laid, acts_then, times}
-use Rattle.journal_at.proofs.Shutting.{prepared, text_time}
+use Rattle.journal_at.proofs.DiskCalls.{acts_laid, acts_then, times}
+use Rattle.journal_at.proofs.SpareFiles.{prepared, text_time}
 use Rattle.journal_at.proofs.spare.prepare.Goals as goal
 
 pub returns-in-Ok-clause-acts : goal.returns-in-Ok-clause-acts

@@ -1,9 +1,9 @@
 use Rattle.std.proofs.Common.{[], ◌∷◌}
 use Rattle.site_model.specs.Told.Call.{Sync}
-use Rattle.journal_at.specs.Compacting.{gate_calls}
+use Rattle.journal_at.specs.Compactions.{gate_calls}
 use Rattle.journal_at.specs.Pairs.{Holds}
-use Rattle.journal_at.proofs.Acting.{acts_synced, acts_then, times}
-use Rattle.journal_at.proofs.Shutting.{synced}
+use Rattle.journal_at.proofs.DiskCalls.{acts_synced, acts_then, times}
+use Rattle.journal_at.proofs.SpareFiles.{synced}
 use Rattle.journal_at.proofs.spare.shut.Goals as goal
 
 pub returns-in-Ok-clause-acts : goal.returns-in-Ok-clause-acts

@@ -1,6 +1,6 @@
 use Rattle.std.proofs.Common.{subst}
-use Rattle.journal_at.specs.Compacting.{Safe}
-use Rattle.journal_at.proofs.Shutting.{gate_done}
+use Rattle.journal_at.specs.Compactions.{Safe}
+use Rattle.journal_at.proofs.SpareFiles.{gate_done}
 use Rattle.journal_at.proofs.spare.shut_gate.Goals as goal
 
 pub returns-in-Ok-clause-saved : goal.returns-in-Ok-clause-saved

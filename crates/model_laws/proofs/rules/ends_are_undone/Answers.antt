@@ -1,4 +1,4 @@
-use Rattle.model_laws.proofs.Recording.{ends_are_undone}
+use Rattle.model_laws.proofs.RecordRules.{ends_are_undone}
 use Rattle.model_laws.proofs.rules.ends_are_undone.Goals as goal
 
 pub returns : goal.returns

@@ -1,5 +1,5 @@
 use Rattle.model_laws.proofs.rules.examples_are_apart.Goals as goal
-use Rattle.model_laws.proofs.Naming.{examples_apart}
+use Rattle.model_laws.proofs.Addresses.{examples_apart}
 
 pub returns : goal.returns
 returns c = examples_apart

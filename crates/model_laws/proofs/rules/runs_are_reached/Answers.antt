@@ -1,4 +1,4 @@
-use Rattle.model_laws.proofs.Reaching.{run_reached}
+use Rattle.model_laws.proofs.ReachedWorlds.{run_reached}
 use Rattle.model_laws.proofs.rules.runs_are_reached.Goals as goal
 
 pub returns : goal.returns

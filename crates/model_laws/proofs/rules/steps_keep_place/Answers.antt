@@ -1,4 +1,4 @@
-use Rattle.model_laws.proofs.Shaping.{steps_keep_place}
+use Rattle.model_laws.proofs.StepShapes.{steps_keep_place}
 use Rattle.model_laws.proofs.rules.steps_keep_place.Goals as goal
 
 pub returns : goal.returns

@@ -1,4 +1,4 @@
-use Rattle.model_laws.proofs.Shaping.{steps_touch_one}
+use Rattle.model_laws.proofs.StepShapes.{steps_touch_one}
 use Rattle.model_laws.proofs.rules.steps_touch_one.Goals as goal
 
 pub returns : goal.returns

@@ -1,4 +1,4 @@
-use Rattle.model_laws.proofs.Recording.{votes_are_recorded}
+use Rattle.model_laws.proofs.RecordRules.{votes_are_recorded}
 use Rattle.model_laws.proofs.rules.votes_are_recorded.Goals as goal
 
 pub returns : goal.returns

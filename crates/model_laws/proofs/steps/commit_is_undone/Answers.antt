@@ -1,4 +1,4 @@
-use Rattle.model_laws.proofs.OneByOne.{commit_is_undone}
+use Rattle.model_laws.proofs.Singles.{commit_is_undone}
 use Rattle.model_laws.proofs.steps.commit_is_undone.Goals as goal
 
 pub returns : goal.returns

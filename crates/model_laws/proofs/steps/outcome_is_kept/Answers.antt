@@ -1,4 +1,4 @@
-use Rattle.model_laws.proofs.OneByOne.{outcome_is_kept}
+use Rattle.model_laws.proofs.Singles.{outcome_is_kept}
 use Rattle.model_laws.proofs.steps.outcome_is_kept.Goals as goal
 
 pub returns : goal.returns

@@ -1,4 +1,4 @@
-use Rattle.model_laws.proofs.OneByOne.{volatile_rollback_answers}
+use Rattle.model_laws.proofs.Singles.{volatile_rollback_answers}
 use Rattle.model_laws.proofs.steps.volatile_rollback_answers.Goals as goal
 
 pub returns : goal.returns

@@ -1,4 +1,4 @@
-use Rattle.node_at.proofs.Promising.{outs_may_leave}
+use Rattle.node_at.proofs.OutPromises.{outs_may_leave}
 use Rattle.node_at.proofs.laws.outs_may_leave.Goals as goal
 
 pub returns : goal.returns

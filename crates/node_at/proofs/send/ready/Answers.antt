@@ -1,8 +1,8 @@
 use Rattle.std.proofs.Common.{sym, ◌∙◌, subst, is_some, option_copied}
-use Rattle.decision_log.specs.Held.{known}
+use Rattle.decision_log.specs.KeptState.{known}
 use Rattle.node_at.specs.Sends.{given}
-use Rattle.node_at.specs.Standing.{IsStanding}
-use Rattle.node_at.proofs.Standing.{backed, told_or_not}
+use Rattle.node_at.specs.StandingTokens.{IsStanding}
+use Rattle.node_at.proofs.StandingTokens.{backed, told_or_not}
 use Rattle.node_at.proofs.send.ready.Goals as goal
 
 pub returns-in-Some-clause-rule : goal.returns-in-Some-clause-rule

@@ -1,9 +1,9 @@
 use Rattle.std.proofs.Common.{option_copied}
-use Rattle.decision_log.specs.Held.{known}
+use Rattle.decision_log.specs.KeptState.{known}
 use Rattle.node_at.specs.Sends.{MayLeave, given}
 use Rattle.node_at.specs.Texts.{Leaving, call_of}
-use Rattle.node_at.proofs.Sending.{may_as, same_out, sends_given}
-use Rattle.node_at.proofs.Standing.{ruled_no, ruled_yes}
+use Rattle.node_at.proofs.Sends.{may_as, same_out, sends_given}
+use Rattle.node_at.proofs.StandingTokens.{ruled_no, ruled_yes}
 use Rattle.node_at.proofs.send.send.Goals as goal
 
 pub returns-in-Some : goal.returns-in-Some

@@ -1,7 +1,7 @@
 use Rattle.std.proofs.Common.{[], ◌∷◌, option_copied}
-use Rattle.decision_log.specs.Held.{known}
+use Rattle.decision_log.specs.KeptState.{known}
 use Rattle.node_at.specs.Sends.{given}
-use Rattle.node_at.proofs.Sending.{first_may, sends_then}
+use Rattle.node_at.proofs.Sends.{first_may, sends_then}
 use Rattle.node_at.proofs.send.send_all.Goals as goal
 
 pub send-requires : goal.send-requires

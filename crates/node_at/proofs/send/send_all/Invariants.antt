@@ -1,6 +1,6 @@
 use Rattle.std.proofs.Common.{option_copied}
 use Rattle.std.specs.Vec.Iter.{into_iter_items}
-use Rattle.decision_log.specs.Held.{known}
+use Rattle.decision_log.specs.KeptState.{known}
 use Rattle.node_at.specs.Sends.{AllMayLeave, Sends, given}
 use Rattle.node_at.proofs.send.send_all.Given as goal
 

@@ -1,9 +1,9 @@
 use Rattle.std.proofs.Common.{ap, arith, map}
 use Rattle.at_base.specs.declared.record.Record.TheVariants as records
-use Rattle.decision_log.specs.Held.{known}
-use Rattle.decision_log.specs.Shrinking.{start_of}
+use Rattle.decision_log.specs.KeptState.{known}
+use Rattle.decision_log.specs.ShrunkJournals.{start_of}
 use Rattle.node_at.specs.Sizes.{framed_all}
-use Rattle.node_at.proofs.Sizing.{compacted_long}
+use Rattle.node_at.proofs.Sizes.{compacted_long}
 use Rattle.node_at.proofs.size.compacted_size.Goals as goal
 
 pub returns : goal.returns

@@ -1,5 +1,5 @@
 use Rattle.std.proofs.Common.{Err, Ok, arith}
-use Rattle.node_at.proofs.Started.{begin_failed, begins_in, book_in, is_later, is_started, kept_start, next_in, no_room, node_same, not_next, open_generation, order_start, promises_start, sound_start, started_same}
+use Rattle.node_at.proofs.StartedNodes.{begin_failed, begins_in, book_in, is_later, is_started, kept_start, next_in, no_room, node_same, not_next, open_generation, order_start, promises_start, sound_start, started_same}
 use Rattle.node_at.proofs.start.start.Goals as goal
 
 pub returns-in-Err-next-clause-starts : goal.returns-in-Err-next-clause-starts

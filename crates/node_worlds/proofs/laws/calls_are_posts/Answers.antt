@@ -1,4 +1,4 @@
-use Rattle.node_worlds.proofs.Calling.{calls_are_posts}
+use Rattle.node_worlds.proofs.PostCalls.{calls_are_posts}
 use Rattle.node_worlds.proofs.laws.calls_are_posts.Goals as goal
 
 pub returns : goal.returns

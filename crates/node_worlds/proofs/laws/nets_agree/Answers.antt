@@ -1,4 +1,4 @@
-use Rattle.node_worlds.proofs.Agreeing.{nets_agree}
+use Rattle.node_worlds.proofs.Agreement.{nets_agree}
 use Rattle.node_worlds.proofs.laws.nets_agree.Goals as goal
 
 pub returns : goal.returns

@@ -1,4 +1,4 @@
-use Rattle.node_worlds.proofs.Running.{nets_are_worlds}
+use Rattle.node_worlds.proofs.NetWorlds.{nets_are_worlds}
 use Rattle.node_worlds.proofs.laws.nets_are_worlds.Goals as goal
 
 pub returns : goal.returns

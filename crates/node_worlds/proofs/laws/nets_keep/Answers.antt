@@ -1,4 +1,4 @@
-use Rattle.node_worlds.proofs.Keeping.{nets_keep}
+use Rattle.node_worlds.proofs.KeptRecords.{nets_keep}
 use Rattle.node_worlds.proofs.laws.nets_keep.Goals as goal
 
 pub returns : goal.returns

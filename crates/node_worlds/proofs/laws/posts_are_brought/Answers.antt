@@ -1,4 +1,4 @@
-use Rattle.node_worlds.proofs.Hearing.{posts_brought}
+use Rattle.node_worlds.proofs.HeardPosts.{posts_brought}
 use Rattle.node_worlds.proofs.laws.posts_are_brought.Goals as goal
 
 pub returns : goal.returns

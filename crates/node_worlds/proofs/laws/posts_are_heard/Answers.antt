@@ -1,4 +1,4 @@
-use Rattle.node_worlds.proofs.Hearing.{posts_heard}
+use Rattle.node_worlds.proofs.HeardPosts.{posts_heard}
 use Rattle.node_worlds.proofs.laws.posts_are_heard.Goals as goal
 
 pub returns : goal.returns

@@ -1,4 +1,4 @@
-use Rattle.node_worlds.proofs.Restarting.{restarts_on_records}
+use Rattle.node_worlds.proofs.Restarts.{restarts_on_records}
 use Rattle.node_worlds.proofs.laws.restarts_on_records.Goals as goal
 
 pub returns : goal.returns

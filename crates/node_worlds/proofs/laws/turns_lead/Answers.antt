@@ -1,4 +1,4 @@
-use Rattle.node_worlds.proofs.Turning.{turns_lead}
+use Rattle.node_worlds.proofs.TurnLeads.{turns_lead}
 use Rattle.node_worlds.proofs.laws.turns_lead.Goals as goal
 
 pub returns : goal.returns

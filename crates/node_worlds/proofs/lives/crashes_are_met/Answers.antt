@@ -1,4 +1,4 @@
-use Rattle.node_worlds.proofs.Meeting.{crashes_are_met}
+use Rattle.node_worlds.proofs.CrashedNets.{crashes_are_met}
 use Rattle.node_worlds.proofs.lives.crashes_are_met.Goals as goal
 
 pub returns : goal.returns

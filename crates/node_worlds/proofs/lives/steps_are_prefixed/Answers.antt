@@ -1,4 +1,4 @@
-use Rattle.node_worlds.proofs.Living.{steps_are_prefixed}
+use Rattle.node_worlds.proofs.LifeLaws.{steps_are_prefixed}
 use Rattle.node_worlds.proofs.lives.steps_are_prefixed.Goals as goal
 
 pub returns : goal.returns

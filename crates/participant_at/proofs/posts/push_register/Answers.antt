@@ -1,5 +1,5 @@
 use Rattle.at_model.specs.Posts.{register_post}
-use Rattle.participant_at.proofs.Naming.{posted}
+use Rattle.participant_at.proofs.EqualAnswers.{posted}
 use Rattle.participant_at.proofs.posts.push_register.Goals as goal
 
 pub returns : goal.returns

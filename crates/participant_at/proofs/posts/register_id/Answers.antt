@@ -1,5 +1,5 @@
 use Rattle.at_model.specs.Addresses.{register_id}
-use Rattle.participant_at.proofs.Naming.{named}
+use Rattle.participant_at.proofs.EqualAnswers.{named}
 use Rattle.participant_at.proofs.posts.register_id.Goals as goal
 
 pub returns : goal.returns

@@ -1,4 +1,4 @@
-use Rattle.participant_at.proofs.Employing.{employs}
+use Rattle.participant_at.proofs.Employments.{employs}
 use Rattle.participant_at.proofs.work.employ.Goals as goal
 
 pub returns : goal.returns

@@ -1,4 +1,4 @@
-use Rattle.record_bytes.proofs.Apart.{are_apart}
+use Rattle.record_bytes.proofs.Uniqueness.{are_apart}
 use Rattle.record_bytes.proofs.read.are_apart.Goals as goal
 
 -- src/read.rt:18:1

@@ -1,5 +1,5 @@
 use Rattle.std.proofs.Common.{rules}
-use Rattle.record_bytes.proofs.Apart.{is_record}
+use Rattle.record_bytes.proofs.Uniqueness.{is_record}
 use Rattle.record_bytes.proofs.read.read_record.Goals as goal
 
 -- src/read.rt:67:1

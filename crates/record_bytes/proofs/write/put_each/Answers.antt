@@ -1,5 +1,5 @@
 use Rattle.std.proofs.Common.{rules}
-use Rattle.record_bytes.proofs.Put.{more_put}
+use Rattle.record_bytes.proofs.WrittenSeats.{more_put}
 use Rattle.record_bytes.proofs.write.put_each.Goals as goal
 
 -- src/write.rt:77:5

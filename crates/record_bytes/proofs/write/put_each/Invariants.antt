@@ -1,4 +1,4 @@
-use Rattle.record_bytes.proofs.Put.{ArePut}
+use Rattle.record_bytes.proofs.WrittenSeats.{ArePut}
 use Rattle.record_bytes.proofs.write.put_each.Given as goal
 
 abbrev pub invariant-loop-seated : goal.invariant-loop-seated

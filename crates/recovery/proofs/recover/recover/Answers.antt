@@ -1,5 +1,5 @@
-use Rattle.decision_log.specs.Held.{known}
-use Rattle.recovery.proofs.Standing.{stand_for}
+use Rattle.decision_log.specs.KeptState.{known}
+use Rattle.recovery.proofs.StartRecords.{stand_for}
 use Rattle.recovery.proofs.recover.recover.Goals as goal
 
 pub returns : goal.returns

@@ -1,6 +1,6 @@
 use Rattle.std.proofs.Common.{false, refl}
 use Rattle.schedules.specs.Generator.{made}
-use Rattle.replay_cmd.proofs.Running.{made_is_replayable}
+use Rattle.replay_cmd.proofs.ReplayRuns.{made_is_replayable}
 use Rattle.replay_cmd.proofs.replay.summary.Goals as goal
 
 pub returns-clause-safe : goal.returns-clause-safe

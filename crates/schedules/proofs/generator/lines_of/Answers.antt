@@ -1,5 +1,5 @@
 use Rattle.schedules.specs.Generator.{made}
-use Rattle.schedules.proofs.Made.{one_more}
+use Rattle.schedules.proofs.GeneratedSchedules.{one_more}
 use Rattle.schedules.proofs.generator.lines_of.Goals as goal
 
 pub loop-step-preserved : goal.loop-step-preserved

@@ -1,4 +1,4 @@
-use Rattle.schedules.proofs.InitiatorBack.{is_read}
+use Rattle.schedules.proofs.InitiatorRoundtrip.{is_read}
 use Rattle.schedules.proofs.initiator_laws.what_is_written_is_read.Goals as goal
 
 pub returns : goal.returns

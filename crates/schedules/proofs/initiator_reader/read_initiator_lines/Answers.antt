@@ -1,4 +1,4 @@
-use Rattle.schedules.proofs.InitiatorRead.{are_asked}
+use Rattle.schedules.proofs.InitiatorWholes.{are_asked}
 use Rattle.schedules.proofs.initiator_reader.read_initiator_lines.Goals as goal
 
 pub returns-clause-bounds : goal.returns-clause-bounds

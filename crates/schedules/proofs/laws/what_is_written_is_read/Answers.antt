@@ -1,4 +1,4 @@
-use Rattle.schedules.proofs.Back.{is_read}
+use Rattle.schedules.proofs.ScheduleRoundtrip.{is_read}
 use Rattle.schedules.proofs.laws.what_is_written_is_read.Goals as goal
 
 pub returns : goal.returns

@@ -1,5 +1,5 @@
 use Rattle.serving.specs.Services.{serviced}
-use Rattle.serving.proofs.Telling.{unstarted, came_up_from}
+use Rattle.serving.proofs.StartLines.{unstarted, came_up_from}
 use Rattle.serving.proofs.serve.serve.Goals as goal
 
 pub returns-in-Ok-start-clause-serves : goal.returns-in-Ok-start-clause-serves

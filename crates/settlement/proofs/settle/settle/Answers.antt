@@ -1,8 +1,8 @@
 use Rattle.std.specs.Prelude.{◌≤◌, map}
 use Rattle.std.proofs.Common.{subst}
 use Rattle.world_laws.specs.Events.{event_of}
-use Rattle.settlement.proofs.Few.{few_held}
-use Rattle.settlement.proofs.Settled.{are_few, rests, settles}
+use Rattle.settlement.proofs.EventCounts.{few_held}
+use Rattle.settlement.proofs.SettledWorlds.{are_few, rests, settles}
 use Rattle.settlement.proofs.settle.settle.Goals as goal
 
 pub returns-clause-is : goal.returns-clause-is

@@ -1,4 +1,4 @@
-use Rattle.site_memory.proofs.ByByte as by_byte
+use Rattle.site_memory.proofs.ByteImages as by_byte
 use Rattle.site_memory.proofs.laws.images_are_bytewise.Goals as goal
 
 pub returns : goal.returns

@@ -1,6 +1,6 @@
 use Rattle.std.proofs.Common.{arith}
 use Rattle.std.proofs.lemmas.List.{length-drop, length-take}
-use Rattle.site_model.proofs.Known.{written_on}
+use Rattle.site_model.proofs.KnownBytes.{written_on}
 use Rattle.site_model.proofs.sink.write_all.Goals as goal
 
 pub loop-at-preserved : goal.loop-at-preserved

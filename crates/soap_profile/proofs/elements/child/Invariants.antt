@@ -3,7 +3,7 @@ use Rattle.std.specs.Option.{option_copied}
 use Rattle.xml_profile.specs.Children.{forest_of}
 use Rattle.soap_profile.specs.Children.{all_named, child_of}
 use Rattle.soap_profile.specs.Values.{elements}
-use Rattle.soap_profile.proofs.Ahead.{ahead}
+use Rattle.soap_profile.proofs.Lookups.{ahead}
 use Rattle.soap_profile.proofs.elements.child.Given as goal
 
 abbrev pub invariant-loop-child : goal.invariant-loop-child

@@ -1,7 +1,7 @@
 use Rattle.std.proofs.Common.{◌≡◌, ◌-◌, Some, true, false, length, take, arith}
 use Rattle.std.specs.List.{slice_get}
 use Rattle.soap_profile.specs.Values.{is_white, trim_end}
-use Rattle.soap_profile.proofs.Trimming.{white_last, word_last}
+use Rattle.soap_profile.proofs.TrimLaws.{white_last, word_last}
 use Rattle.soap_profile.proofs.value.trim_end.Goals as goal
 
 pub returns-then-not-is_white : goal.returns-then-not-is_white

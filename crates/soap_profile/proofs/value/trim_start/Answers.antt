@@ -1,7 +1,7 @@
 use Rattle.std.proofs.Common.{◌≡◌, Some, true}
 use Rattle.std.specs.List.{slice_get}
 use Rattle.soap_profile.specs.Values.{is_white}
-use Rattle.soap_profile.proofs.Trimming.{white_boundary}
+use Rattle.soap_profile.proofs.TrimLaws.{white_boundary}
 use Rattle.soap_profile.proofs.value.trim_start.Goals as goal
 
 pub range_from-rest-requires : goal.range_from-rest-requires

@@ -3,7 +3,7 @@ use Rattle.soap_profile.specs.Faults.{is_fault}
 use Rattle.wire_msgs.specs.Arrivals.{fault_at, said_at}
 use Rattle.wire_msgs.specs.Forms.{form_at}
 use Rattle.wire_msgs.specs.Refusals.{Answers}
-use Rattle.wire_msgs.proofs.Refused.{then_answers, else_answers}
+use Rattle.wire_msgs.proofs.RefusalChains.{then_answers, else_answers}
 use Rattle.wire_msgs.proofs.decode.read_message.Goals as goal
 
 pub returns-then-is_fault : goal.returns-then-is_fault

@@ -1,5 +1,5 @@
 use Rattle.std.proofs.Common.{sym, ap, ◌∙◌}
-use Rattle.wire_msgs.proofs.Splitting.{first_or, first_part}
+use Rattle.wire_msgs.proofs.TextSplits.{first_or, first_part}
 use Rattle.wire_msgs.proofs.target.without_query.Goals as goal
 
 pub returns-in-Some : goal.returns-in-Some

@@ -1,6 +1,6 @@
 use Rattle.std.proofs.Common.{rules}
 use Rattle.wire_posts.specs.Envelopes.{IsTextOf}
-use Rattle.wire_posts.proofs.Single.{text_one}
+use Rattle.wire_posts.proofs.Uniqueness.{text_one}
 use Rattle.wire_posts.proofs.encode.encode_post.Goals as goal
 
 pub returns-clause-only : goal.returns-clause-only

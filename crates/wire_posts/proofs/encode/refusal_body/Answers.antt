@@ -1,5 +1,5 @@
 use Rattle.std.proofs.Common.{◌≡◌, ◌∙◌, ap, sym, Some}
-use Rattle.xml_profile.specs.Canonical.{canonical_text}
+use Rattle.xml_profile.specs.CanonicalText.{canonical_text}
 use Rattle.wire_posts.specs.Faults.{answer_text, refusal_fault}
 use Rattle.wire_posts.proofs.encode.refusal_body.Goals as goal
 

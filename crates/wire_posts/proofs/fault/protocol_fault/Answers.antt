@@ -1,6 +1,6 @@
 use Rattle.std.proofs.Common.{refl}
 use Rattle.wire_posts.specs.declared.fault.WrittenFault.TheVariants.{InvalidState, InvalidProtocol, InvalidParameters, CannotCreateContext, CannotRegisterParticipant, UnknownTransaction}
-use Rattle.wire_posts.proofs.Naming.{passes}
+use Rattle.wire_posts.proofs.FaultNames.{passes}
 use Rattle.wire_posts.proofs.fault.protocol_fault.Goals as goal
 
 pub returns-in_default : goal.returns-in_default

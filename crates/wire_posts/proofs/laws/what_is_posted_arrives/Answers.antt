@@ -1,4 +1,4 @@
-use Rattle.wire_posts.proofs.Single.{text_one}
+use Rattle.wire_posts.proofs.Uniqueness.{text_one}
 use Rattle.wire_posts.proofs.laws.what_is_posted_arrives.Goals as goal
 
 pub returns-clause-one : goal.returns-clause-one

@@ -1,4 +1,4 @@
-use Rattle.world_laws.proofs.Changing.{changes_by_moves}
+use Rattle.world_laws.proofs.EventMoves.{changes_by_moves}
 use Rattle.world_laws.proofs.laws.changes_by_moves.Goals as goal
 
 pub returns : goal.returns

@@ -1,5 +1,5 @@
 use Rattle.std.proofs.Common.{ap, sym, ◌+◌, ◌∙◌}
-use Rattle.world_laws.proofs.Named.{first_here, first_later}
+use Rattle.world_laws.proofs.NamedNodes.{first_here, first_later}
 use Rattle.world_laws.proofs.places.place_of.Goals as goal
 
 pub returns-then-has : goal.returns-then-has

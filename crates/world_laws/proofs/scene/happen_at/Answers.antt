@@ -4,9 +4,9 @@ use Rattle.std.proofs.lemmas.Result.{on_ok_weaker}
 use Rattle.at_model.specs.World.{nth}
 use Rattle.world_laws.specs.Events.{event_of}
 use Rattle.world_laws.specs.Runs.{IsReady}
-use Rattle.world_laws.proofs.Fitting.{all_at}
-use Rattle.world_laws.proofs.Found.{nth_none}
-use Rattle.world_laws.proofs.Running.{none_moves, no_steps, nth_past, ok_more, one_moves, one_steps}
+use Rattle.world_laws.proofs.RunNodes.{all_at}
+use Rattle.world_laws.proofs.NumberedItems.{nth_none}
+use Rattle.world_laws.proofs.Runs.{none_moves, no_steps, nth_past, ok_more, one_moves, one_steps}
 use Rattle.world_laws.proofs.scene.happen_at.Goals as goal
 use Rattle.world_laws.proofs.scene.happen_at.Goals.{then-number-eq0-via-then-number-eq0, then-number-eq0-via-else-number-eq0+then-as_slice-number}
 

@@ -1,5 +1,5 @@
 use Rattle.std.proofs.Common.{arith}
-use Rattle.world_laws.proofs.Running.{one_new}
+use Rattle.world_laws.proofs.Runs.{one_new}
 use Rattle.world_laws.proofs.scene.new_nodes.Goals as goal
 
 pub loop-number-preserved : goal.loop-number-preserved

@@ -1,11 +1,11 @@
-use Rattle.std.proofs.Common.{◌≡◌, None, ap, arith, length, ◌-◌, ◌<◌, inl, inr, refl}
+use Rattle.std.proofs.Common.{◌≡◌, ap, arith, length, ◌-◌, ◌<◌, inl, inr}
 use Rattle.std.proofs.lemmas.Option.{slice_get_cases}
 use Rattle.at_model.specs.World.{nth}
 use Rattle.world_laws.specs.Events.{event_of}
 use Rattle.world_laws.specs.Runs.{IsReady}
-use Rattle.world_laws.proofs.Fitting.{all_at}
-use Rattle.world_laws.proofs.Found.{nth_none}
-use Rattle.world_laws.proofs.Running.{no_record, nth_past, ok_more, one_record}
+use Rattle.world_laws.proofs.RunNodes.{all_at}
+use Rattle.world_laws.proofs.NumberedItems.{nth_none}
+use Rattle.world_laws.proofs.Runs.{no_record, nth_past, ok_more, one_record}
 use Rattle.world_laws.proofs.scene.records_at.Goals as goal
 use Rattle.world_laws.proofs.scene.records_at.Goals.{then-number-eq0-via-then-number-eq0, then-number-eq0-via-else-number-eq0+then-as_slice-number}
 

@@ -1,4 +1,4 @@
-use Rattle.world_laws.proofs.Running.{whole_run}
+use Rattle.world_laws.proofs.Runs.{whole_run}
 use Rattle.world_laws.proofs.world.ran.Goals as goal
 
 pub returns-clause-world : goal.returns-clause-world

@@ -2,7 +2,7 @@ use Rattle.std.specs.List.{AllByRecursion}
 use Rattle.std.specs.Prelude.{map}
 use Rattle.std.proofs.Common.{arith, subst, sym}
 use Rattle.model_laws.specs.Agreement.{HasOneSuperior, IsAgreed, IsBehindAnswers, IsToldTruly}
-use Rattle.model_laws.specs.Settle.{IsSettling, MayStart}
+use Rattle.model_laws.specs.Settlement.{IsSettling, MayStart}
 use Rattle.at_model.specs.World.{example_hosts}
 use Rattle.world_laws.specs.Events.{event_of}
 use Rattle.world_laws.proofs.world.run_world.Goals as goal

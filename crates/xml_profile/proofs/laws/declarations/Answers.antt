@@ -1,6 +1,6 @@
 use Rattle.std.proofs.Common.{[]}
-use Rattle.xml_profile.specs.Canonical.{spaces_of}
-use Rattle.xml_profile.proofs.Declaring.{all_declared, all_prefixed}
+use Rattle.xml_profile.specs.CanonicalText.{spaces_of}
+use Rattle.xml_profile.proofs.Declarations.{all_declared, all_prefixed}
 use Rattle.xml_profile.proofs.laws.declarations.Goals as goal
 
 pub returns-clause-declared : goal.returns-clause-declared

@@ -1,8 +1,8 @@
 use Rattle.std.proofs.Common.{rules, ◌∷◌, []}
-use Rattle.xml_profile.specs.Canonical.{content_text}
+use Rattle.xml_profile.specs.CanonicalText.{content_text}
 use Rattle.xml_profile.specs.Children.{forest_of}
 use Rattle.xml_profile.proofs.Contents.{one_more, smaller}
-use Rattle.xml_profile.proofs.Encoded.{through, written}
+use Rattle.xml_profile.proofs.Utf8.{through, written}
 use Rattle.xml_profile.proofs.writer.+content.Goals as goal
 
 pub push_content-loop-child-preserved : goal.push_content-loop-child-preserved

@@ -1,6 +1,6 @@
 use Rattle.std.proofs.Common.{◌≡◌, ◌++◌, ◌≤◌, ◌+◌, ◌*◌, drop}
-use Rattle.xml_profile.specs.Appending.{AddsText}
-use Rattle.xml_profile.specs.Canonical.{content_text}
+use Rattle.xml_profile.specs.Extensions.{AddsText}
+use Rattle.xml_profile.specs.CanonicalText.{content_text}
 use Rattle.xml_profile.specs.Children.{forest_of, nodes}
 use Rattle.xml_profile.proofs.writer.+content.Given as goal
 

@@ -1,6 +1,6 @@
 use Rattle.std.proofs.Common.{ap, ◌∙◌}
 use Rattle.xml_profile.proofs.Ends.{ends}
-use Rattle.xml_profile.specs.Canonical.{is_end}
+use Rattle.xml_profile.specs.CanonicalText.{is_end}
 use Rattle.xml_profile.proofs.writer.is_empty.Goals as goal
 
 pub returns : goal.returns

@@ -1,7 +1,7 @@
 use Rattle.std.proofs.Common.{rules, refl}
 use Rattle.std.specs.List.{flat_map}
-use Rattle.xml_profile.specs.Canonical.{attribute_text}
-use Rattle.xml_profile.proofs.Encoded.{through, written}
+use Rattle.xml_profile.specs.CanonicalText.{attribute_text}
+use Rattle.xml_profile.proofs.Utf8.{through, written}
 use Rattle.xml_profile.proofs.writer.push_attributes.Goals as goal
 
 pub loop-attribute-preserved : goal.loop-attribute-preserved

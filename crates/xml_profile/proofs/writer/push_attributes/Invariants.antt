@@ -1,7 +1,7 @@
 use Rattle.std.proofs.Common.{◌≡◌, ◌++◌, drop}
 use Rattle.std.specs.List.{flat_map}
-use Rattle.xml_profile.specs.Appending.{AddsText}
-use Rattle.xml_profile.specs.Canonical.{attribute_text}
+use Rattle.xml_profile.specs.Extensions.{AddsText}
+use Rattle.xml_profile.specs.CanonicalText.{attribute_text}
 use Rattle.xml_profile.proofs.writer.push_attributes.Given as goal
 
 abbrev pub invariant-loop-attribute : goal.invariant-loop-attribute

@@ -1,7 +1,7 @@
 use Rattle.std.proofs.Common.{rules, refl, map}
 use Rattle.std.specs.List.{flat_map}
-use Rattle.xml_profile.specs.Canonical.{declaration_text}
-use Rattle.xml_profile.proofs.Encoded.{through, written}
+use Rattle.xml_profile.specs.CanonicalText.{declaration_text}
+use Rattle.xml_profile.proofs.Utf8.{through, written}
 use Rattle.xml_profile.proofs.writer.push_declarations.Goals as goal
 
 pub loop-space-preserved : goal.loop-space-preserved

@@ -1,7 +1,7 @@
 use Rattle.std.proofs.Common.{◌≡◌, ◌++◌, drop, map}
 use Rattle.std.specs.List.{flat_map}
-use Rattle.xml_profile.specs.Appending.{AddsText}
-use Rattle.xml_profile.specs.Canonical.{declaration_text}
+use Rattle.xml_profile.specs.Extensions.{AddsText}
+use Rattle.xml_profile.specs.CanonicalText.{declaration_text}
 use Rattle.xml_profile.proofs.writer.push_declarations.Given as goal
 
 abbrev pub invariant-loop-space : goal.invariant-loop-space

@@ -1,6 +1,6 @@
 use Rattle.std.proofs.Common.{◌≡◌, ◌++◌, drop}
-use Rattle.xml_profile.specs.Appending.{Extends}
-use Rattle.xml_profile.specs.Canonical.{value_text}
+use Rattle.xml_profile.specs.Extensions.{Extends}
+use Rattle.xml_profile.specs.CanonicalText.{value_text}
 use Rattle.xml_profile.proofs.writer.push_value_bytes.Given as goal
 
 abbrev pub invariant-loop-byte : goal.invariant-loop-byte

@@ -1,6 +1,5 @@
-use Rattle.std.proofs.Common.{ℕ, ◌≡◌, Some, subst, sym, ap, ◌∙◌}
+use Rattle.std.proofs.Common.{Some, subst, sym, ap, ◌∙◌}
 use Rattle.at_base.specs.IdText.{SpellsId}
-use Rattle.at_base.specs.Numbers.{Numbers}
 use Rattle.at_base.proofs.IdText.{id_splits, id_utf8, id_incarnation, id_counter, SplitsId, refused, taken, clash, agree, same_id}
 use Rattle.at_base.proofs.id.Id.read.Goals as goal
 

@@ -1,5 +1,5 @@
 use Rattle.std.proofs.Common.{◌≡◌, ◌++◌, drop}
-use Rattle.coordinator_at.specs.Recovering.{transactions_in}
+use Rattle.coordinator_at.specs.Recoveries.{transactions_in}
 use Rattle.coordinator_at.proofs.transactions.Transactions.recover.Given as goal
 
 abbrev pub invariant-loop-entry : goal.invariant-loop-entry

@@ -1,8 +1,8 @@
 use Rattle.std.proofs.Common.{◌+◌, ◌-◌, ◌^◌, ap, ◌∙◌, length}
 use Rattle.std.specs.Prelude.{min}
 use Rattle.at_model.specs.Book.{Book}
-use Rattle.coordinator_at.specs.Held.{transactions_held}
-use Rattle.interposition.proofs.Holding.{all_held, exactly_held}
+use Rattle.coordinator_at.specs.Holdings.{transactions_held}
+use Rattle.interposition.proofs.Holdings.{all_held, exactly_held}
 use Rattle.interposition.proofs.book.Book.held.Goals as goal
 
 pub returns-clause-value : goal.returns-clause-value

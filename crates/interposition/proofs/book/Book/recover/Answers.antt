@@ -1,4 +1,4 @@
-use Rattle.interposition.proofs.Recovering.{made_as_the_model}
+use Rattle.interposition.proofs.Recoveries.{made_as_the_model}
 use Rattle.interposition.proofs.book.Book.recover.Goals as goal
 
 pub returns : goal.returns

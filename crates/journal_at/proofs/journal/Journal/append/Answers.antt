@@ -1,6 +1,6 @@
 use Rattle.std.proofs.Common.{sym, ◌∙◌}
-use Rattle.journal_at.proofs.Appending.{same_bytes, refused, lay_time, raise_time, unsure, raised, makes_unsure, end_more}
-use Rattle.journal_at.proofs.Sparing.{others_laid, others_raised, others_then, spare_more, spare_others}
+use Rattle.journal_at.proofs.Appends.{same_bytes, refused, lay_time, raise_time, unsure, raised, makes_unsure, end_more}
+use Rattle.journal_at.proofs.OtherFiles.{others_laid, others_raised, others_then, spare_more, spare_others}
 use Rattle.journal_at.proofs.journal.Journal.append.Goals as goal
 
 pub returns-in_default-clause-appended : goal.returns-in_default-clause-appended

@@ -1,8 +1,8 @@
 use Rattle.std.proofs.Common.{◌+◌, ◌-◌, ◌∷◌, ◌∙◌, ap, arith, length, sym}
-use Rattle.journal_at.specs.Compacting.{prepare_calls}
+use Rattle.journal_at.specs.Compactions.{prepare_calls}
 use Rattle.journal_at.specs.Format.{mark_body}
-use Rattle.journal_at.proofs.Shutting.{flips}
-use Rattle.journal_at.proofs.Switching.{fills_of, later_generation, later_listed, moves_unsure, newer_of, opened_spare, opened_stands, past_of, raise_image, raise_past, safe_of, saved_of, text_length}
+use Rattle.journal_at.proofs.SpareFiles.{flips}
+use Rattle.journal_at.proofs.FileSwitches.{fills_of, later_generation, later_listed, moves_unsure, newer_of, opened_spare, opened_stands, past_of, raise_image, raise_past, safe_of, saved_of, text_length}
 use Rattle.journal_at.proofs.journal.Journal.switch.Goals as goal
 
 pub returns-in-Err-clause-compacted : goal.returns-in-Err-clause-compacted

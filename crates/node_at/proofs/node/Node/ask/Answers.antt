@@ -2,8 +2,8 @@ use Rattle.std.proofs.Common.{refl}
 use Rattle.at_base.specs.declared.event.Event.TheVariants as events
 use Rattle.node_at.specs.declared.step.Stepped.TheVariants as stepped
 use Rattle.node_at.specs.State.{seen}
-use Rattle.node_at.proofs.Asking.{node_after}
-use Rattle.node_at.proofs.Locally.{asked_done, asked_halted, node_from}
+use Rattle.node_at.proofs.DueItems.{node_after}
+use Rattle.node_at.proofs.LocalRequests.{asked_done, asked_halted, node_from}
 use Rattle.node_at.proofs.node.Node.ask.Goals as goal
 
 pub returns-in-Done-clause-asked : goal.returns-in-Done-clause-asked

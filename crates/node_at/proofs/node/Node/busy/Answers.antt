@@ -1,6 +1,6 @@
 use Rattle.std.proofs.Common.{refl}
 use Rattle.node_at.specs.State.{seen}
-use Rattle.node_at.proofs.Refused.{busy_so}
+use Rattle.node_at.proofs.RefusalLaws.{busy_so}
 use Rattle.node_at.proofs.node.Node.busy.Goals as goal
 
 pub returns-clause-refuses : goal.returns-clause-refuses

@@ -2,7 +2,7 @@ use Rattle.std.proofs.Common.{refl, sym, ◌∙◌, subst}
 use Rattle.node_at.specs.Dues.{DueRun}
 use Rattle.node_at.specs.State.{State, seen}
 use Rattle.node_at.specs.declared.due.DueEnd.TheVariants as ends
-use Rattle.node_at.proofs.Asking.{far_cut, far_more}
+use Rattle.node_at.proofs.DueItems.{far_cut, far_more}
 use Rattle.node_at.proofs.node.Node.due.Goals as goal
 
 pub returns-then-not-due_step-clause-run : goal.returns-then-not-due_step-clause-run

@@ -1,4 +1,4 @@
-use Rattle.node_at.proofs.Locally.{id_is}
+use Rattle.node_at.proofs.LocalRequests.{id_is}
 use Rattle.node_at.proofs.node.Node.id_of.Goals as goal
 
 pub returns-in-Ok-clause-id : goal.returns-in-Ok-clause-id

@@ -1,6 +1,6 @@
 use Rattle.std.proofs.Common.{◌∙◌, ap, Err}
-use Rattle.decision_log.specs.Held.{known}
-use Rattle.decision_log.specs.Recording.{ending}
+use Rattle.decision_log.specs.KeptState.{known}
+use Rattle.decision_log.specs.AppendedRecords.{ending}
 use Rattle.decision_log.specs.Tokens.{token_of}
 use Rattle.journal_at.specs.declared.journal.Append.TheVariants as appends
 use Rattle.node_at.specs.State.{State, seen}

@@ -1,7 +1,7 @@
 use Rattle.std.proofs.Common.{refl, option_map}
 use Rattle.node_at.specs.State.{seen}
-use Rattle.node_at.proofs.Allowed.{answer_may}
-use Rattle.node_at.proofs.Refused.{refuses_so}
+use Rattle.node_at.proofs.AllowedOuts.{answer_may}
+use Rattle.node_at.proofs.RefusalLaws.{refuses_so}
 use Rattle.node_at.proofs.node.Node.refuse.Goals as goal
 
 pub returns-in-Ok-clause-refuses : goal.returns-in-Ok-clause-refuses

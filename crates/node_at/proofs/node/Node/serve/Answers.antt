@@ -1,6 +1,6 @@
-use Rattle.node_at.specs.Asking.{meaning_of}
+use Rattle.node_at.specs.ConnectionRequests.{meaning_of}
 use Rattle.node_at.specs.State.{seen}
-use Rattle.node_at.proofs.Turning.{serves_so}
+use Rattle.node_at.proofs.Turns.{serves_so}
 use Rattle.node_at.proofs.node.Node.serve.Goals as goal
 
 pub returns-clause-serves : goal.returns-clause-serves

@@ -1,7 +1,7 @@
 use Rattle.std.proofs.Common.{refl}
-use Rattle.node_at.specs.Shrinking.{shrunk_by}
+use Rattle.node_at.specs.ShrunkJournals.{shrunk_by}
 use Rattle.node_at.specs.State.{seen}
-use Rattle.node_at.proofs.Renewing.{node_by, node_memory, shrinks_by, shrinks_same, stays_by, stays_memory, stays_still, sure_at}
+use Rattle.node_at.proofs.ShrunkJournals.{node_by, node_memory, shrinks_by, shrinks_same, stays_by, stays_memory, stays_still, sure_at}
 use Rattle.node_at.proofs.node.Node.shrink.Goals as goal
 
 pub returns-then-not-is_due-clause-stays : goal.returns-then-not-is_due-clause-stays

@@ -1,7 +1,7 @@
 use Rattle.std.proofs.Common.{subst}
-use Rattle.decision_log.specs.Held.{known}
-use Rattle.node_at.specs.Planned.{AreTexts}
-use Rattle.node_at.proofs.Allowed.{absent_may, landed_may, plain_may}
+use Rattle.decision_log.specs.KeptState.{known}
+use Rattle.node_at.specs.StepMemory.{AreTexts}
+use Rattle.node_at.proofs.AllowedOuts.{absent_may, landed_may, plain_may}
 use Rattle.node_at.proofs.node.Node.step.Goals as goal
 
 pub finish-status-requires-clause-leave : goal.finish-status-requires-clause-leave

@@ -1,6 +1,6 @@
 use Rattle.std.proofs.Common.{Ok, ◌∙◌, ap}
 use Rattle.node_at.specs.State.{State, seen}
-use Rattle.node_at.proofs.Turning.{turns_opened}
+use Rattle.node_at.proofs.Turns.{turns_opened}
 use Rattle.node_at.proofs.node.Node.take_turn.Goals as goal
 
 pub returns-in-Ok-Opened-clause-turns : goal.returns-in-Ok-Opened-clause-turns

@@ -1,5 +1,5 @@
 use Rattle.node_at.specs.State.{seen}
-use Rattle.node_at.proofs.Unanswered.{turn_lost, turn_received}
+use Rattle.node_at.proofs.TurnAnswers.{turn_lost, turn_received}
 use Rattle.node_at.proofs.node.Node.turn.Goals as goal
 
 pub returns-clause-turn : goal.returns-clause-turn

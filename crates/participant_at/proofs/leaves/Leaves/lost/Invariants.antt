@@ -1,5 +1,5 @@
 use Rattle.std.proofs.Common.{◌≡◌, ◌++◌, drop}
-use Rattle.participant_at.specs.Planning.{leaves_lost}
+use Rattle.participant_at.specs.LeafPlans.{leaves_lost}
 use Rattle.participant_at.proofs.leaves.Leaves.lost.Given as goal
 
 abbrev pub invariant-loop-leaf : goal.invariant-loop-leaf

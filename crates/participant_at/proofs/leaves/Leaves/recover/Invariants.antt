@@ -1,5 +1,5 @@
 use Rattle.std.proofs.Common.{◌≡◌, ◌++◌, drop}
-use Rattle.at_model.specs.Recover.{leaves_of}
+use Rattle.at_model.specs.Recovery.{leaves_of}
 use Rattle.participant_at.proofs.leaves.Leaves.recover.Given as goal
 
 abbrev pub invariant-loop-entry : goal.invariant-loop-entry

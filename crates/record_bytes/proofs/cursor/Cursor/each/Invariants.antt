@@ -1,4 +1,4 @@
-use Rattle.record_bytes.proofs.Seats.{AreRead}
+use Rattle.record_bytes.proofs.ReadSeats.{AreRead}
 use Rattle.record_bytes.proofs.cursor.Cursor.each.Given as goal
 
 abbrev pub invariant-loop : goal.invariant-loop

@@ -1,6 +1,6 @@
 use Rattle.std.proofs.Common.{refl, ◌∙◌, arith}
 use Rattle.node_at.specs.State.{seen}
-use Rattle.serving.proofs.Serving.{failed_later, so_far_begin, so_far_end, so_far_more_as, so_far_stop_as}
+use Rattle.serving.proofs.Sessions.{failed_later, so_far_begin, so_far_end, so_far_more_as, so_far_stop_as}
 use Rattle.serving.proofs.session.Session.attend.Goals as goal
 
 pub loop-place-init : goal.loop-place-init

@@ -2,7 +2,7 @@ use Rattle.std.proofs.Common.{◌≡◌, ◌≤◌, ◌++◌, take}
 use Rattle.std.specs.Prelude.{replicate}
 use Rattle.node_at.specs.State.{IsNode, seen}
 use Rattle.schedules.specs.declared.initiator_line.InitiatorLine.TheVariants.{Wait}
-use Rattle.serving.proofs.Serving.{SoFar}
+use Rattle.serving.proofs.Sessions.{SoFar}
 use Rattle.serving.proofs.session.Session.attend.Given as goal
 
 abbrev pub invariant-loop-place : goal.invariant-loop-place

@@ -1,7 +1,7 @@
 use Rattle.std.proofs.Common.{refl}
 use Rattle.site_memory.specs.declared.range.Which.TheVariants.{First, Second}
-use Rattle.site_memory.specs.Helds.{opening_of}
-use Rattle.site_memory.proofs.Ran.{goes_along, sent_nothing}
+use Rattle.site_memory.specs.HeldFiles.{opening_of}
+use Rattle.site_memory.proofs.FurtherCalls.{goes_along, sent_nothing}
 use Rattle.site_memory.proofs.device.Device.send.Goals as goal
 
 pub invariant_of-self-2 : goal.invariant_of-self-2

@@ -1,8 +1,8 @@
 use Rattle.std.proofs.Common.{refl, sym, ◌∙◌}
 use Rattle.site_memory.specs.declared.range.Which.TheVariants.{First, Second}
 use Rattle.site_model.specs.Told.Call.{Sync}
-use Rattle.site_memory.specs.Helds.{disk_of, opening_of}
-use Rattle.site_memory.proofs.Ran.{goes_along, synced_there, settled_nothing, is_failed}
+use Rattle.site_memory.specs.HeldFiles.{disk_of, opening_of}
+use Rattle.site_memory.proofs.FurtherCalls.{goes_along, synced_there, settled_nothing, is_failed}
 use Rattle.site_memory.proofs.device.Device.sync.Goals as goal
 
 pub invariant_of-self : goal.invariant_of-self

@@ -1,6 +1,6 @@
 use Rattle.std.proofs.Common.{◌∙◌, true, false}
 use Rattle.site_memory.specs.declared.range.Which.TheVariants.{First, Second}
-use Rattle.site_memory.proofs.Ran.{goes_along, wrote_there, is_done, is_failed}
+use Rattle.site_memory.proofs.FurtherCalls.{goes_along, wrote_there, is_done, is_failed}
 use Rattle.site_memory.proofs.device.Device.write.Goals as goal
 
 pub invariant_of-self-in-Done : goal.invariant_of-self-in-Done

@@ -1,6 +1,6 @@
 use Rattle.std.proofs.Common.{refl}
 use Rattle.site_memory.specs.Sites.{counts_of, link_of}
-use Rattle.site_memory.proofs.OnDevices.{posted_on}
+use Rattle.site_memory.proofs.MachineCalls.{posted_on}
 use Rattle.site_memory.proofs.site.MemSiteSite.post.Goals as goal
 
 pub returns-clause-call : goal.returns-clause-call

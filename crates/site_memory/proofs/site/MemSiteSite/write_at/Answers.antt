@@ -1,6 +1,6 @@
 use Rattle.std.proofs.Common.{refl}
 use Rattle.site_memory.specs.Sites.{counts_of, link_of}
-use Rattle.site_memory.proofs.OnDevices.{wrote_on}
+use Rattle.site_memory.proofs.MachineCalls.{wrote_on}
 use Rattle.site_memory.proofs.site.MemSiteSite.write_at.Goals as goal
 
 pub returns-clause-call : goal.returns-clause-call

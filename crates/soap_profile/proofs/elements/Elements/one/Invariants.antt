@@ -1,7 +1,7 @@
 use Rattle.std.proofs.Common.{◌≡◌, drop, map}
 use Rattle.std.specs.Option.{option_copied}
 use Rattle.soap_profile.specs.Children.{at_most_one, named}
-use Rattle.soap_profile.proofs.Ahead.{ahead}
+use Rattle.soap_profile.proofs.Lookups.{ahead}
 use Rattle.soap_profile.proofs.elements.Elements.one.Given as goal
 
 abbrev pub invariant-loop-element : goal.invariant-loop-element

@@ -1,7 +1,7 @@
 use Rattle.std.proofs.Common.{sym, ap, ◌∙◌}
 use Rattle.at_model.specs.World.{nth}
 use Rattle.world_laws.specs.Moves.{Scene}
-use Rattle.world_laws.proofs.Found.{found, nth_none}
+use Rattle.world_laws.proofs.NumberedItems.{found, nth_none}
 use Rattle.world_laws.proofs.scene.Scene.node.Goals as goal
 
 pub returns-then-number-eq0 : goal.returns-then-number-eq0

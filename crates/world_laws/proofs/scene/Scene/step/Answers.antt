@@ -1,5 +1,5 @@
 use Rattle.world_laws.specs.Events.{event_of}
-use Rattle.world_laws.proofs.Running.{few_after, kept_after, left_after, lost_after, steps_after}
+use Rattle.world_laws.proofs.Runs.{few_after, kept_after, left_after, lost_after, steps_after}
 use Rattle.world_laws.proofs.scene.Scene.step.Goals as goal
 
 pub keep_all-requires : goal.keep_all-requires

@@ -1,6 +1,6 @@
 use Rattle.std.proofs.Common.{length}
 use Rattle.interposition.specs.Due.{items_behind}
-use Rattle.world_laws.proofs.Asking.{IsAsking}
+use Rattle.world_laws.proofs.DueItems.{IsAsking}
 use Rattle.world_laws.proofs.walk.Walk.ask_due.Given as goal
 
 abbrev pub invariant-loop-item : goal.invariant-loop-item

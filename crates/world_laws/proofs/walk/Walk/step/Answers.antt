@@ -1,5 +1,5 @@
 use Rattle.std.proofs.lemmas.Result.{on_ok_weaker}
-use Rattle.world_laws.proofs.Taking.{took_order, took_step}
+use Rattle.world_laws.proofs.ModelSteps.{took_order, took_step}
 use Rattle.world_laws.proofs.walk.Walk.step.Goals as goal
 
 pub returns-clause-step : goal.returns-clause-step

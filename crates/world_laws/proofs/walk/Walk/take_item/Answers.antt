@@ -1,6 +1,6 @@
 use Rattle.std.proofs.lemmas.Result.{on_ok_weaker}
 use Rattle.at_base.specs.declared.event.Event.TheVariants as events
-use Rattle.world_laws.proofs.Taking.{took_item}
+use Rattle.world_laws.proofs.ModelSteps.{took_item}
 use Rattle.world_laws.proofs.walk.Walk.take_item.Goals as goal
 
 pub returns : goal.returns

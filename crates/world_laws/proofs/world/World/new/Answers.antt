@@ -1,4 +1,4 @@
-use Rattle.world_laws.proofs.Running.{opened}
+use Rattle.world_laws.proofs.Runs.{opened}
 use Rattle.world_laws.proofs.world.World.new.Goals as goal
 
 pub invariant_of-result : goal.invariant_of-result

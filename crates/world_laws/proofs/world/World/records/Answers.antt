@@ -1,6 +1,6 @@
 use Rattle.std.proofs.Common.{sym, ◌<◌, length, subst}
 use Rattle.world_laws.specs.Runs.{Run}
-use Rattle.world_laws.proofs.Fitting.{are_ready}
+use Rattle.world_laws.proofs.RunNodes.{are_ready}
 use Rattle.world_laws.proofs.world.World.records.Goals as goal
 
 pub records-requires : goal.records-requires

@@ -1,7 +1,7 @@
 use Rattle.std.proofs.Common.{sym, ◌<◌, length, subst}
 use Rattle.world_laws.specs.Runs.{Run}
-use Rattle.world_laws.proofs.Fitting.{are_ready}
-use Rattle.world_laws.proofs.Running.{stepped, whole_step}
+use Rattle.world_laws.proofs.RunNodes.{are_ready}
+use Rattle.world_laws.proofs.Runs.{stepped, whole_step}
 use Rattle.world_laws.proofs.world.World.step.Goals as goal
 
 pub step-requires-clause-ready : goal.step-requires-clause-ready

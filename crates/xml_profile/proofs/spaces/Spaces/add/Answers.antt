@@ -2,9 +2,9 @@ use Rattle.std.proofs.Common.{rules, ◌≡◌, sym, ap, ◌∙◌, subst, ◌++
 use Rattle.std.proofs.lemmas.Map.Text.{btree_map_updates_str}
 use Rattle.std.specs.Map.{update}
 use Rattle.std.specs.Str.{bytes_eq}
-use Rattle.xml_profile.specs.Canonical.{with_space}
+use Rattle.xml_profile.specs.CanonicalText.{with_space}
 use Rattle.xml_profile.specs.Places.{Finds, place_in}
-use Rattle.xml_profile.proofs.InOrder.{is_added, one_more, was_there}
+use Rattle.xml_profile.proofs.SpacePlaces.{is_added, one_more, was_there}
 use Rattle.xml_profile.proofs.spaces.Spaces.add.Goals as goal
 
 pub returns-then-contains_key : goal.returns-then-contains_key

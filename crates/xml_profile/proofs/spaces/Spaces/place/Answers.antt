@@ -4,7 +4,7 @@ use Rattle.std.proofs.lemmas.List.Sums.{prefix_len-le-length}
 use Rattle.std.specs.List.{position_or_len}
 use Rattle.std.specs.Option.{unwrap_or}
 use Rattle.std.specs.Str.{bytes_eq}
-use Rattle.xml_profile.proofs.InOrder.{first_place}
+use Rattle.xml_profile.proofs.SpacePlaces.{first_place}
 use Rattle.xml_profile.proofs.spaces.Spaces.place.Goals as goal
 
 pub returns-in-Some-clause-place : goal.returns-in-Some-clause-place

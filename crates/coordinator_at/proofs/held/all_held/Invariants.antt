@@ -1,8 +1,0 @@
-use Rattle.std.proofs.Common.{◌≡◌, ◌-◌, ◌^◌, take}
-use Rattle.std.specs.Prelude.{min, sum_by}
-use Rattle.coordinator_at.specs.Held.{transaction_held}
-use Rattle.coordinator_at.proofs.held.all_held.Given as goal
-
-abbrev pub invariant-loop-transaction : goal.invariant-loop-transaction
-invariant-loop-transaction l =
-    l.held ≡ min (sum_by transaction_held (take l.transaction-index l.transactions)) (2 ^ 64 - 1)

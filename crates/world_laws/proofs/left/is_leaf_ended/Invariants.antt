@@ -1,7 +1,0 @@
-use Rattle.std.proofs.Common.{◌≡◌, drop}
-use Rattle.std.specs.List.{list_any}
-use Rattle.at_model.specs.Recover.{ends_leaf}
-use Rattle.world_laws.proofs.left.is_leaf_ended.Given as goal
-
-abbrev pub invariant-loop-entry : goal.invariant-loop-entry
-invariant-loop-entry l = list_any (ends_leaf l.id) (drop l.entry-index l.rest) ≡ list_any (ends_leaf l.id) l.rest

@@ -1,0 +1,7 @@
+use Rattle.std.proofs.Common.{◌≡◌, drop}
+use Rattle.std.specs.List.{list_any}
+use Rattle.at_model.specs.Recovery.{ends_transaction}
+use Rattle.world_laws.proofs.left_records.is_transaction_ended.Given as goal
+
+abbrev pub invariant-loop-entry : goal.invariant-loop-entry
+invariant-loop-entry l = list_any (ends_transaction l.id) (drop l.entry-index l.rest) ≡ list_any (ends_transaction l.id) l.rest

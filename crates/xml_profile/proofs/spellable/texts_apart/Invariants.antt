@@ -1,8 +1,0 @@
-use Rattle.std.proofs.Common.{◌≡◌, drop}
-use Rattle.xml_profile.specs.Children.{forest_of}
-use Rattle.xml_profile.specs.Spellable.{texts_apart}
-use Rattle.xml_profile.proofs.Apart.{apart_from}
-use Rattle.xml_profile.proofs.spellable.texts_apart.Given as goal
-
-abbrev pub invariant-loop-child : goal.invariant-loop-child
-invariant-loop-child l = apart_from l.after_text (forest_of (drop l.child-index l.child-items)) ≡ texts_apart l.children
