@@ -199,13 +199,13 @@ fn abort_all(
     aborting(moment, &mut moving.item);
     send_each(
         alloc,
-        moving,
         moment,
+        moving,
         Notice::Rollback,
         State::Aborting,
         Group::Open,
     )?;
-    tell_initiator(alloc, moving, moment, Notice::Aborted, State::None)
+    tell_initiator(alloc, moment, moving, Notice::Aborted, State::None)
 }
 
 /// Aborts. Nothing is recorded, since abort is presumed.

@@ -92,11 +92,11 @@ fn set_answered(transaction: &mut Transaction)
 /// Adds the answer of a request that the transaction, which isn't Aborting, can give by now; whether it does.
 fn push_ready(
     alloc: Global,
+    posts: &mut PostList,
     moment: &Moment,
     request: &Request,
     superior: &Superior,
     transaction: &Transaction,
-    posts: &mut PostList,
 ) -> Result<bool, AllocError>
     ensures { (effects : List Effect) → IfOk result
         (λ yes. record { item = Some (if yes then under (request_answered superior.now) transaction.now else transaction.now); posts = posts.new; effects = effects }
@@ -113,11 +113,11 @@ fn push_ready(
 /// Adds the answer of a request, where the transaction can give it by now; whether it does.
 fn push_answer(
     alloc: Global,
+    posts: &mut PostList,
     moment: &Moment,
     request: &Request,
     superior: &Superior,
     transaction: &Transaction,
-    posts: &mut PostList,
 ) -> Result<bool, AllocError>
     ensures { (effects : List Effect) → IfOk result
         (λ yes. record { item = Some (if yes then under (request_answered superior.now) transaction.now else transaction.now); posts = posts.new; effects = effects }
@@ -135,7 +135,7 @@ fn push_answer(
         | Phase::Durable
         | Phase::Voted
         | Phase::Committing => {
-            let ready = push_ready(alloc, moment, request, superior, transaction, posts)?;
+            let ready = push_ready(alloc, posts, moment, request, superior, transaction)?;
             Ok(ready)
         }
     }
@@ -144,10 +144,10 @@ fn push_answer(
 /// The answer, where the transaction stays.
 fn request_under(
     alloc: Global,
+    posts: &mut PostList,
     moment: &Moment,
     request: &Request,
     transaction: &mut Transaction,
-    posts: &mut PostList,
 ) -> Result<(), AllocError>
     ensures { (effects : List Effect) → OnOk result
         (record { item = Some transaction.new; posts = posts.new; effects = effects }
@@ -158,7 +158,7 @@ fn request_under(
     let Some(superior) = &now.superior else {
         return Ok(());
     };
-    if push_answer(alloc, moment, request, superior, now, posts)? {
+    if push_answer(alloc, posts, moment, request, superior, now)? {
         set_answered(transaction);
     }
     Ok(())
@@ -175,7 +175,7 @@ fn request_left(
 {
     match &mut change.item {
         None => push_refused(alloc, &mut change.posts, request),
-        Some(transaction) => request_under(alloc, moment, request, transaction, &mut change.posts),
+        Some(transaction) => request_under(alloc, &mut change.posts, moment, request, transaction),
     }
 }
 

@@ -149,8 +149,8 @@ fn complete(completion: &mut Option<Completion>, state: State)
 /// The initiator is told the outcome, and its seat is in this state from now on.
 pub fn tell_initiator(
     alloc: Global,
-    moving: &mut Moving<Transaction>,
     moment: &Moment,
+    moving: &mut Moving<Transaction>,
     notice: Notice,
     state: State,
 ) -> Result<(), AllocError>

@@ -37,8 +37,8 @@ pub fn commit_seats(
 {
     send_each(
         alloc,
-        moving,
         moment,
+        moving,
         Notice::Commit,
         State::Committing,
         Group::In(State::Prepared),
@@ -58,7 +58,7 @@ fn decide(
     moving.effect(what)?;
     commit_seats(alloc, moment, moving)?;
     moving.item.phase = Phase::Committing;
-    tell_initiator(alloc, moving, moment, Notice::Committed, State::Done)
+    tell_initiator(alloc, moment, moving, Notice::Committed, State::Done)
 }
 
 /// A decided root waits for its durable seats; where none is Prepared nobody waits for it, and it is forgotten.
@@ -345,8 +345,8 @@ fn prepare_seats(
     };
     send_each(
         alloc,
-        moving,
         moment,
+        moving,
         Notice::Prepare,
         State::Preparing,
         group,

@@ -257,8 +257,8 @@ fn move_sent(moment: &Moment, transaction: &mut Transaction, group: Group, state
 /// Each seat of the group goes into this state and is sent the notification.
 pub fn send_each(
     alloc: Global,
-    moving: &mut Moving<Transaction>,
     moment: &Moment,
+    moving: &mut Moving<Transaction>,
     notice: Notice,
     state: State,
     group: Group,
