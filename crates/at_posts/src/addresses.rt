@@ -2,6 +2,7 @@
 
 ghost use Rattle.std.specs.Prelude.{◌≡◌, ◌++◌, IfOk, codes};
 ghost use Rattle.std.specs.Fmt.{decimal};
+ghost use Rattle.at_model.specs.Arrivals.{relates_to};
 ghost use Rattle.at_model.specs.Addresses.{endpoint_of, path_of, kind_letter, create_id, register_id, work_id};
 
 use at_base::epr::Epr;
@@ -85,6 +86,16 @@ pub fn register_id(alloc: Global, base: &Text, own: &Target) -> Result<Text, All
 {
     let name = name_of(alloc, base, own, "#register")?;
     message_id(alloc, name.as_str().as_bytes())
+}
+
+/// Whether a message answers the request of this MessageID (WS-Addressing 1.0 Core, section 3.3).
+pub fn relates_to(relates: &Option<Text>, id: &Text) -> bool
+    ensures { result ≡ relates_to relates.now id.now }
+{
+    match relates {
+        Some(text) => text.as_str() == id.as_str(),
+        None => false,
+    }
 }
 
 /// The name of the n-th Work of this sender.

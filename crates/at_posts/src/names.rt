@@ -1,7 +1,8 @@
-//! The URIs of WS-AtomicTransaction 1.2 (section 3), and the faults that a node writes.
+//! The URIs of WS-AtomicTransaction 1.2 (section 3), the faults that a node writes, and kinds told apart.
 
 ghost use Rattle.std.specs.Prelude.{◌≡◌};
 ghost use Rattle.at_model.specs.Addresses.{atomic, completion_protocol, protocol_of};
+ghost use Rattle.at_tables.specs.Names.{is_kind, kind_place};
 ghost use Rattle.at_model.specs.Posts.{invalid_state, invalid_protocol, invalid_parameters, cannot_create, cannot_register, unknown_transaction};
 
 use at_base::notice::Kind;
@@ -70,4 +71,21 @@ pub fn unknown_transaction() -> &'static str
     ensures { result.now ≡ unknown_transaction }
 {
     "UnknownTransaction"
+}
+
+/// The place of a kind in the order of the kinds.
+fn kind_place(kind: Kind) -> u8
+    ensures { result ≡ kind_place kind }
+{
+    match kind {
+        Kind::Volatile => 0,
+        Kind::Durable => 1,
+    }
+}
+
+/// Whether two kinds are the same.
+pub fn is_kind(kind: Kind, other: Kind) -> bool
+    ensures { result ≡ is_kind kind other }
+{
+    kind_place(kind) == kind_place(other)
 }

@@ -1,6 +1,8 @@
-//! Lists of live items that are found by their ids, in the order of making: the one form of list that every core keeps.
+//! Lists of live items that are found by their ids, in the order of making: the one form of list that every core keeps;
+//! the moves of one item; and when an item is due.
 #![tactic(auto)]
 
 pub mod list;
 pub mod moves;
 pub mod plan;
+pub mod times;

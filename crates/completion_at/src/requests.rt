@@ -5,7 +5,6 @@ ghost use Rattle.at_base.specs.declared.outs.Out.TheVariants as outcome;
 ghost use Rattle.at_model.specs.Activities.{service, create_post, asked_expires, new_activity, beginning, on_begin, on_interpose, on_ask, on_complete, is_active};
 ghost use Rattle.at_model.specs.Addresses.{atomic, without_slash};
 ghost use Rattle.at_model.specs.Book.{Progress as Stage};
-ghost use Rattle.at_model.specs.Create.{deadline_of};
 ghost use Rattle.at_model.specs.Moves.{Goes};
 ghost use Rattle.at_model.specs.Step.{refuses_named, works_left, only_begun};
 ghost use Rattle.by_id.specs.declared.plan.Plan.TheVariants as plans;
@@ -29,6 +28,7 @@ use at_posts::names::atomic;
 use at_posts::posts::request_post;
 use by_id::list::Alteration;
 use by_id::plan::{Branch, Plan};
+use by_id::times::deadline_of;
 use std::alloc::{AllocError, Global};
 
 /// How many activities a node has at most.
@@ -220,16 +220,6 @@ fn asked_expires(ms: u32) -> Option<u32>
     ensures { result ≡ asked_expires ms }
 {
     if ms == 0 { None } else { Some(ms) }
-}
-
-/// When something expires that is asked for now.
-fn deadline_of(now: u64, expires: Option<u32>) -> Option<u128>
-    ensures { result ≡ deadline_of now expires }
-{
-    match expires {
-        Some(ms) => Some(u128::from(now) + u128::from(ms)),
-        None => None,
-    }
 }
 
 /// An activity that waits for its context.

@@ -22,7 +22,7 @@ use at_base::message::{Context, Message};
 use at_base::notice::Notice;
 use at_base::outs::{Effect, Effects, OutList, Outs, Told};
 use at_base::text::Text;
-use at_posts::addresses::{create_id, register_id};
+use at_posts::addresses::{create_id, register_id, relates_to};
 use at_tables::cells::{Act, State, initiator_cell};
 use by_id::list::{Alteration, is_same};
 use by_id::plan::{Branch, Plan};
@@ -187,16 +187,6 @@ fn notified(
     match initiator_cell(state_of(activity.progress), notice) {
         Some(cell) => acts(alloc, outs, moment, from, id, activity, cell.act),
         None => ignores(alloc, outs, activity),
-    }
-}
-
-/// Whether a message answers that request.
-fn relates_to(relates: &Option<Text>, id: &Text) -> bool
-    ensures { result ≡ relates_to relates.now id.now }
-{
-    match relates {
-        Some(text) => text.as_str() == id.as_str(),
-        None => false,
     }
 }
 

@@ -5,7 +5,7 @@ ghost use Rattle.at_base.specs.declared.message.Message.TheVariants as messages;
 ghost use Rattle.at_base.specs.declared.outs.Out.TheVariants as outcome;
 ghost use Rattle.at_model.specs.Addresses.{atomic};
 ghost use Rattle.at_model.specs.Arrivals.{context_of};
-ghost use Rattle.at_model.specs.Create.{deadline_of, identifier_of, new_root, expires_under, new_link, new_subordinate, link_register, subordinate_posts, refuse_create, create_root, create_under, create_in, on_create};
+ghost use Rattle.at_model.specs.Create.{identifier_of, new_root, expires_under, new_link, new_subordinate, link_register, subordinate_posts, refuse_create, create_root, create_under, create_in, on_create};
 ghost use Rattle.at_model.specs.Posts.{accepted, replied};
 ghost use Rattle.by_id.specs.Plans.{added};
 ghost use Rattle.by_id.specs.declared.plan.Plan.TheVariants as plans;
@@ -26,19 +26,10 @@ use at_tables::cells::State;
 use by_id::list::{Alteration, MOST};
 use by_id::moves::unchanged;
 use by_id::plan::{Branch, Plan};
+use by_id::times::deadline_of;
 use std::alloc::{AllocError, Global};
 use transaction_at::answer::context_of;
 use transaction_at::transaction::{Link, Phase, Request, Seats, Superior, Transaction};
-
-/// When something expires that came now.
-fn deadline_of(now: u64, expires: Option<u32>) -> Option<u128>
-    ensures { result ≡ deadline_of now expires }
-{
-    match expires {
-        Some(ms) => Some(u128::from(now) + u128::from(ms)),
-        None => None,
-    }
-}
 
 /// The Identifier of a root.
 pub fn identifier_of(alloc: Global, base: &Text, id: Id) -> Result<Text, AllocError>

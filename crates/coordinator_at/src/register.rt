@@ -22,14 +22,15 @@ use at_base::text::Text;
 use at_posts::addresses::endpoint_of;
 use at_posts::answers::{faulted, replied};
 use at_posts::names::{
-    cannot_register, completion_protocol, invalid_parameters, invalid_protocol, protocol_of,
+    cannot_register, completion_protocol, invalid_parameters, invalid_protocol, is_kind,
+    protocol_of,
 };
 use at_posts::posts::push_notice;
 use at_tables::cells::State;
 use by_id::list::Alteration;
 use by_id::plan::{Branch, Plan};
 use std::alloc::{AllocError, Global};
-use transaction_at::seats::{is_kind, seat_target};
+use transaction_at::seats::seat_target;
 use transaction_at::transaction::{Completion, Enlistment, Phase, Transaction};
 
 /// What a Register asks for: a seat of a kind, or none for Completion (WS-AtomicTransaction 1.2, section 3).

@@ -23,6 +23,7 @@ use at_base::notice::Kind;
 use at_base::outs::{Effects, Ending, OutList, Outs};
 use at_base::target::{Seat, Target};
 use at_posts::answers::accepted;
+use at_posts::names::is_kind;
 use by_id::list::ById;
 use by_id::moves::{Decision, unchanged};
 use by_id::plan::{Branch, Plan};
@@ -34,7 +35,6 @@ use transaction_at::at_link::on_link;
 use transaction_at::at_seat::on_seat;
 use transaction_at::due::may_expire;
 use transaction_at::links::ending;
-use transaction_at::seats::is_kind;
 use transaction_at::transaction::{Enlistment, Transaction};
 
 /// At each event that moves or makes a transaction, the plan of the transactions is the model's plan of the book that

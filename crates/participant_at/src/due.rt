@@ -20,30 +20,8 @@ use at_base::outs::OutList;
 use at_tables::cells::State;
 use by_id::list::Identified;
 use by_id::plan::{Branch, Plan};
+use by_id::times::{has_come, is_quiet};
 use std::alloc::{AllocError, Global};
-
-/// How long a leaf waits for an answer before it sends again, in milliseconds.
-pub const RESEND_AFTER: u64 = 5000;
-
-/// Whether a deadline has come.
-fn has_come(now: u64, deadline: Option<u128>) -> bool
-    ensures { result ≡ has_come now deadline }
-{
-    match deadline {
-        Some(time) => time <= u128::from(now),
-        None => false,
-    }
-}
-
-/// Whether the last sending is old, or unknown.
-fn is_quiet(now: u64, sent: Option<u64>) -> bool
-    ensures { result ≡ is_quiet now sent }
-{
-    match sent {
-        Some(sent) => RESEND_AFTER <= now && sent <= now - RESEND_AFTER,
-        None => true,
-    }
-}
 
 /// Whether a leaf may still expire.
 pub fn may_expire(state: State) -> bool

@@ -22,6 +22,7 @@ use at_base::notice::Kind;
 use at_base::outs::{Effects, Ending, OutList, Outs};
 use at_base::target::Target;
 use at_posts::answers::accepted;
+use at_posts::names::is_kind;
 use by_id::list::ById;
 use by_id::moves::unchanged;
 use by_id::plan::{Branch, Plan};
@@ -68,16 +69,6 @@ fn work_arrived(
     match &arrived.message {
         Message::Work(work) => on_work(alloc, moment, live, arrived, work),
         _ => Ok(nothing(alloc)),
-    }
-}
-
-/// Whether two kinds are the same.
-fn is_kind(a: Kind, b: Kind) -> bool
-    ensures { result ≡ is_kind a b }
-{
-    match (a, b) {
-        (Kind::Volatile, Kind::Volatile) | (Kind::Durable, Kind::Durable) => true,
-        (Kind::Volatile, Kind::Durable) | (Kind::Durable, Kind::Volatile) => false,
     }
 }
 

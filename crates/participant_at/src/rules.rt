@@ -6,7 +6,6 @@ ghost use Rattle.at_base.specs.declared.notice.Notice.TheVariants as notices;
 ghost use Rattle.at_base.specs.declared.record.Record.TheVariants as records;
 ghost use Rattle.at_model.specs.Moves.{begin, posts, forgotten, ignored};
 ghost use Rattle.at_model.specs.Leaves.{leaf_says, leaf_ended, leaf_faults, leaf_act, leaf_notice, answers_leaf, leaf_registered, leaf_refused, drops_leaf, leaf_fault, on_leaf, work_answer};
-ghost use Rattle.at_model.specs.Arrivals.{relates_to};
 ghost use Rattle.at_tables.specs.Names.{is_state};
 ghost use Rattle.at_tables.specs.Tables.{participant_of};
 ghost use Rattle.at_tables.specs.declared.cells.State.TheVariants as states;
@@ -25,6 +24,7 @@ use at_base::notice::{Kind, Notice, Vote};
 use at_base::outs::{Effect, Effects, Ending, OutList, Outs};
 use at_base::record::Record;
 use at_base::text::Text;
+use at_posts::addresses::relates_to;
 use at_tables::cells::{Act, State, participant_cell};
 use by_id::list::Alteration;
 use by_id::moves::unchanged;
@@ -433,16 +433,6 @@ pub fn is_registering(state: State) -> bool
         | State::Aborting
         | State::Completing
         | State::Done => false,
-    }
-}
-
-/// Whether a message answers that request.
-fn relates_to(relates: &Option<Text>, id: &Text) -> bool
-    ensures { result ≡ relates_to relates.now id.now }
-{
-    match relates {
-        Some(text) => text.as_str() == id.as_str(),
-        None => false,
     }
 }
 

@@ -2,7 +2,6 @@
 
 ghost use Rattle.std.specs.Prelude.{◌≡◌, ◌++◌, ◌∷◌, IfOk, [], Some, None};
 ghost use Rattle.at_base.specs.declared.outs.Out.TheVariants as outcome;
-ghost use Rattle.at_model.specs.Create.{deadline_of};
 ghost use Rattle.at_model.specs.Posts.{accepted};
 ghost use Rattle.at_model.specs.Leaves.{new_leaf, leaf_register, refuse_work, employ, work_for, on_work};
 ghost use Rattle.participant_at.specs.Employments.{employed};
@@ -20,17 +19,8 @@ use at_tables::cells::State;
 use by_id::list::{Alteration, MOST};
 use by_id::moves::unchanged;
 use by_id::plan::{Branch, Plan};
+use by_id::times::deadline_of;
 use std::alloc::{AllocError, Global};
-
-/// When something expires that came now.
-fn deadline_of(now: u64, expires: Option<u32>) -> Option<u128>
-    ensures { result ≡ deadline_of now expires }
-{
-    match expires {
-        Some(ms) => Some(u128::from(now) + u128::from(ms)),
-        None => None,
-    }
-}
 
 /// The Work that a new leaf is to answer.
 fn request_of(arrived: &Arrived, reply: &Epr, registration: &Epr) -> Result<WorkRequest, AllocError>

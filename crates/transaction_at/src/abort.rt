@@ -10,7 +10,7 @@ ghost use Rattle.at_model.specs.Abort.{abort, from_of, is_silent, link_aborted, 
 ghost use Rattle.transaction_at.specs.Reasons.{reason_of};
 
 use crate::links::{ending, push_from_link, tell_initiator};
-use crate::seats::{Group, has_any, is_kind, is_state, send_each};
+use crate::seats::{Group, has_any, is_state, send_each};
 use crate::transaction::{Link, Phase, Superior, Transaction};
 use at_base::epr::Epr;
 use at_base::event::Moment;
@@ -18,6 +18,7 @@ use at_base::id::Id;
 use at_base::notice::{Kind, Notice};
 use at_base::outs::Ending;
 use at_posts::list::PostList;
+use at_posts::names::is_kind;
 use at_tables::cells::State;
 use by_id::moves::{Change, Moving};
 use std::alloc::{AllocError, Global};

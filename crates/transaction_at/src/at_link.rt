@@ -33,7 +33,7 @@ use at_base::outs::Ending;
 use at_base::record::Record;
 use at_base::target::Target;
 use at_base::text::Text;
-use at_posts::addresses::register_id;
+use at_posts::addresses::{register_id, relates_to};
 use at_posts::names::invalid_state;
 use at_posts::posts::{fault_post, stored_or, stranger_post};
 use at_tables::cells::{Act, State, participant_cell};
@@ -375,16 +375,6 @@ fn notified(
             cell.act,
         ),
         None => ignores(alloc, transaction),
-    }
-}
-
-/// Whether a message answers the request of this name (WS-Addressing 1.0 Core, section 3.3).
-fn relates_to(relates: &Option<Text>, id: &Text) -> bool
-    ensures { result ≡ relates_to relates.now id.now }
-{
-    match relates {
-        Some(text) => text.as_str() == id.as_str(),
-        None => false,
     }
 }
 

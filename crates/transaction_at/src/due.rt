@@ -14,9 +14,7 @@ use at_base::id::Id;
 use at_base::notice::Notice;
 use at_tables::cells::State;
 use by_id::list::Identified;
-
-/// How long a transaction waits for an answer before it sends again, in milliseconds.
-pub const RESEND_AFTER: u64 = 5000;
+use by_id::times::{has_come, is_quiet};
 
 /// How long a transaction is Aborting, in milliseconds.
 pub const ABORTING_FOR: u64 = 60000;
@@ -32,26 +30,6 @@ pub enum Cause {
     Unanswered,
     /// It isn't due.
     Nothing,
-}
-
-/// Whether a deadline has come.
-fn has_come(now: u64, deadline: Option<u128>) -> bool
-    ensures { result ≡ has_come now deadline }
-{
-    match deadline {
-        Some(time) => time <= u128::from(now),
-        None => false,
-    }
-}
-
-/// Whether the last sending is old, or unknown.
-fn is_quiet(now: u64, sent: Option<u64>) -> bool
-    ensures { result ≡ is_quiet now sent }
-{
-    match sent {
-        Some(sent) => RESEND_AFTER <= now && sent <= now - RESEND_AFTER,
-        None => true,
-    }
 }
 
 /// Whether it aborted long enough ago.

@@ -2,7 +2,7 @@
 
 ghost use Rattle.std.specs.Prelude.{◌≡◌, ◌++◌, IfOk, OnOk, Some};
 ghost use Rattle.std.specs.List.{list_any};
-ghost use Rattle.at_tables.specs.Names.{state_place, kind_place, is_state, is_kind};
+ghost use Rattle.at_tables.specs.Names.{state_place, is_state, is_kind};
 ghost use Rattle.at_model.specs.Moves.{begin, effect, ignored, post};
 ghost use Rattle.at_model.specs.Posts.{notice_post};
 ghost use Rattle.at_model.specs.Seats.{is_of, is_open, answered, all_left, is_prepared_durable, prepared, seated, seat_target, notices_to, sent_to, send_each, seat_in, sent_now, moved};
@@ -17,6 +17,7 @@ use at_base::outs::{Effect, Effects, Post};
 use at_base::record::{Seated, Seats};
 use at_base::target::{Seat, Target};
 use at_posts::list::PostList;
+use at_posts::names::is_kind;
 use at_posts::posts::notice_post;
 use at_tables::cells::State;
 use by_id::moves::{Decision, Moving, ignored};
@@ -62,23 +63,6 @@ pub fn is_state(state: State, other: State) -> bool
     ensures { result ≡ is_state state other }
 {
     place(state) == place(other)
-}
-
-/// The place of a kind in the order of the kinds.
-fn kind_place(kind: Kind) -> u8
-    ensures { result ≡ kind_place kind }
-{
-    match kind {
-        Kind::Volatile => 0,
-        Kind::Durable => 1,
-    }
-}
-
-/// Whether two kinds are the same.
-pub fn is_kind(kind: Kind, other: Kind) -> bool
-    ensures { result ≡ is_kind kind other }
-{
-    kind_place(kind) == kind_place(other)
 }
 
 /// Whether an abort rolls a seat back.
