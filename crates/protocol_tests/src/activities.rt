@@ -1,11 +1,10 @@
 //! What an activity does at each message and request that can reach it, and by itself, written out by hand.
 
-use at_base::epr::{Epr, Reply};
-use at_base::event::{Arrived, Event, Item, Local, Moment};
+use crate::shared::{arrived, context, epr, moment_at, outs_line, part, time_of};
+use at_base::event::{Event, Item, Local, Moment};
 use at_base::id::Id;
-use at_base::message::{Context, Message};
 use at_base::notice::{Kind, Notice, Vote};
-use at_base::outs::{Effect, Out, Outs, Post};
+use at_base::outs::{Out, Outs};
 use at_base::target::Target;
 use at_base::text::Text;
 use completion_at::activities::Activities;
@@ -87,36 +86,7 @@ interposed Active AskCommit|Active Stale\n\
 interposed Active AskRollback|Active Stale\n\
 ";
 
-fn text(alloc: Global, text: &str) -> Result<Text, AllocError> {
-    Text::copied(alloc, text)
-}
-
-fn epr(alloc: Global, address: &str) -> Result<Epr, AllocError> {
-    Ok(Epr {
-        address: text(alloc, address)?,
-        params: text(alloc, "")?,
-    })
-}
-
-fn moment_at(alloc: Global, now: u64, next: Option<Id>) -> Result<Moment, AllocError> {
-    Ok(Moment {
-        now,
-        next,
-        base: text(alloc, "http://n1.example")?,
-    })
-}
-
-fn context(alloc: Global) -> Result<Context, AllocError> {
-    let identifier = text(alloc, "http://n2.example/t/1-1")?;
-    let coordination = text(alloc, "http://docs.oasis-open.org/ws-tx/wsat/2006/06")?;
-    let registration = epr(alloc, "registration")?;
-    Ok(Context {
-        identifier,
-        expires: Some(60000),
-        coordination,
-        registration,
-    })
-}
+const BASE: &str = "http://n1.example";
 
 fn progress_of(name: &str) -> Progress {
     match name {
@@ -158,14 +128,15 @@ fn activity_in(
     id: Id,
     root: Id,
     progress: Progress,
+    works: u32,
 ) -> Result<Activity, AllocError> {
-    let context = if has_context(progress) {
-        Some(context(alloc)?)
+    let coordinator = if has_coordinator(progress) {
+        Some(epr(alloc, "coordinator")?)
     } else {
         None
     };
-    let coordinator = if has_coordinator(progress) {
-        Some(epr(alloc, "coordinator")?)
+    let context = if has_context(progress) {
+        Some(context(alloc)?)
     } else {
         None
     };
@@ -175,35 +146,10 @@ fn activity_in(
         progress,
         context,
         coordinator,
-        works: 0,
+        works,
         deadline: Some(200000),
         sent: Some(100000),
     })
-}
-
-fn notice_of(name: &str) -> Option<Notice> {
-    match name {
-        "Committed" => Some(Notice::Committed),
-        "Aborted" => Some(Notice::Aborted),
-        "Prepare" => Some(Notice::Prepare),
-        _ => None,
-    }
-}
-
-fn message_of(alloc: Global, name: &str) -> Result<Message, AllocError> {
-    if let Some(notice) = notice_of(name) {
-        return Ok(Message::Notice(notice));
-    }
-    match name {
-        "Context" | "StrayContext" => Ok(Message::CreateResponse(context(alloc)?)),
-        "Registered" | "StrayRegistered" => Ok(Message::RegisterResponse(epr(alloc, "seat")?)),
-        "Unknown" => Ok(Message::Fault {
-            name: text(alloc, "UnknownTransaction")?,
-        }),
-        _ => Ok(Message::Fault {
-            name: text(alloc, "InvalidParameters")?,
-        }),
-    }
 }
 
 /// The MessageID that a message answers: that of the activity's Create or Register, by Python's
@@ -216,104 +162,51 @@ fn relates_of(name: &str) -> &'static str {
     }
 }
 
-fn arrived(alloc: Global, name: &str) -> Result<Event, AllocError> {
-    let relates = text(alloc, relates_of(name))?;
-    Ok(Event::Arrived(Arrived {
-        target: Target::Initiator(Id::new(1, 1)),
-        id: Some(text(alloc, "id")?),
-        relates: Some(relates),
-        from: Some(epr(alloc, "from")?),
-        reply: Reply::Nobody,
-        fault: Reply::Nobody,
-        postable: false,
-        message: message_of(alloc, name)?,
-    }))
-}
-
-fn work(alloc: Global) -> Result<Local, AllocError> {
-    let service = text(alloc, "http://n3.example/")?;
-    let key = text(alloc, "key")?;
-    let value = text(alloc, "value")?;
-    Ok(Local::Work {
+fn work(alloc: Global) -> Result<Event, AllocError> {
+    let service = Text::copied(alloc, "http://n3.example/")?;
+    let key = Text::copied(alloc, "key")?;
+    let value = Text::copied(alloc, "value")?;
+    Ok(Event::Local(Local::Work {
         activity: Id::new(1, 1),
         service,
         kind: Kind::Durable,
         vote: Vote::Prepared,
         key,
         value,
-    })
+    }))
 }
 
-fn local_of(alloc: Global, name: &str) -> Result<Local, AllocError> {
+fn request(alloc: Global, name: &str) -> Result<Event, AllocError> {
     let activity = Id::new(1, 1);
     match name {
-        "AskBegin" => Ok(Local::Begin {
-            coordinator: text(alloc, "http://n2.example")?,
+        "AskBegin" => Ok(Event::Local(Local::Begin {
+            coordinator: Text::copied(alloc, "http://n2.example")?,
             ms: 0,
-        }),
-        "AskInterpose" => Ok(Local::Interpose {
+        })),
+        "AskInterpose" => Ok(Event::Local(Local::Interpose {
             activity,
-            coordinator: text(alloc, "http://n2.example/")?,
-        }),
-        "AskCommit" => Ok(Local::Commit { activity }),
-        "AskRollback" => Ok(Local::Rollback { activity }),
+            coordinator: Text::copied(alloc, "http://n2.example/")?,
+        })),
+        "AskCommit" => Ok(Event::Local(Local::Commit { activity })),
+        "AskRollback" => Ok(Event::Local(Local::Rollback { activity })),
         _ => work(alloc),
     }
 }
 
-/// When the event of a name comes.
-fn time_of(name: &str) -> u64 {
-    match name {
-        "Early" => 104999,
-        "Quiet" => 105000,
-        "Late" => 200000,
-        _ => 150000,
-    }
-}
-
 /// The event of a name.
-fn event_of(alloc: Global, name: &str) -> Result<Box<Event>, AllocError> {
+fn event_of(alloc: Global, name: &str) -> Result<Event, AllocError> {
     if name.starts_with("Ask") {
-        return Ok(Box::new(alloc, Event::Local(local_of(alloc, name)?))?);
+        return request(alloc, name);
     }
     match name {
-        "Early" | "Quiet" | "Late" => Ok(Box::new(
+        "Early" | "Quiet" | "Late" => Ok(Event::Due(Item::Activity(Id::new(1, 1)))),
+        _ => arrived(
             alloc,
-            Event::Due(Item::Activity(Id::new(1, 1))),
-        )?),
-        _ => Ok(Box::new(alloc, arrived(alloc, name)?)?),
+            Target::Initiator(Id::new(1, 1)),
+            relates_of(name),
+            name,
+        ),
     }
-}
-
-fn post_line(alloc: Global, post: &Post) -> Result<String, AllocError> {
-    let to = match &post.to {
-        Some(epr) => epr.address.as_str(),
-        None => "nowhere",
-    };
-    match &post.message {
-        Message::Notice(notice) => format!(in alloc; " {notice:?}@{to}"),
-        Message::Fault { name } => format!(in alloc; " {name}@{to}"),
-        Message::Register(_) => format!(in alloc; " Register@{to}"),
-        Message::Create(_) => format!(in alloc; " Create@{to}"),
-        Message::Work(_) => format!(in alloc; " Work@{to}"),
-        _ => format!(in alloc; " other@{to}"),
-    }
-}
-
-fn outs_line(alloc: Global, outs: &Outs) -> Result<String, AllocError> {
-    let mut line = String::new(alloc);
-    for out in outs.outs.as_slice() {
-        match out {
-            Out::Answer { status, .. } => line.push_str(&format!(in alloc; " {status}")?)?,
-            Out::Post(post) => line.push_str(&post_line(alloc, post)?)?,
-        }
-    }
-    for effect in outs.effects.as_slice() {
-        if let Effect::Told { what, .. } = effect {
-            line.push_str(&format!(in alloc; " {what:?}")?)?;
-        }
-    }
-    Ok(line)
 }
 
 fn states_line(alloc: Global, activities: &Activities) -> Result<String, AllocError> {
@@ -347,71 +240,80 @@ fn refusal_of(activities: &Activities, event: &Event, moment: &Moment) -> &'stat
     }
 }
 
+/// What follows an event.
+fn outs_of(
+    alloc: Global,
+    activities: &mut Activities,
+    event: &Event,
+    moment: &Moment,
+) -> Result<Outs, AllocError> {
+    let plan = activities.plan(alloc, event, moment)?;
+    Ok(activities.apply(plan, true))
+}
+
 /// What follows an event: what is sent and told, and why it is refused.
 fn step(
     alloc: Global,
     activities: &mut Activities,
-    event: Box<Event>,
-    now: u64,
-    next: Option<Id>,
+    event: &Event,
+    moment: &Moment,
 ) -> Result<String, AllocError> {
-    let moment = moment_at(alloc, now, next)?;
-    let refusal = refusal_of(activities, event.as_ref(), &moment);
-    let plan = activities.plan(alloc, event.as_ref(), &moment)?;
-    let outs = activities.apply(plan, true);
+    let refusal = refusal_of(activities, event, moment);
+    let outs = outs_of(alloc, activities, event, moment)?;
     let line = outs_line(alloc, &outs)?;
     format!(in alloc; "{line}{refusal}")
 }
 
-/// One activity, begun or interposed, that has come so far.
-fn one(alloc: Global, begun: bool, progress: &str) -> Result<Activities, AllocError> {
-    let root = if begun { Id::new(1, 1) } else { Id::new(1, 7) };
+/// Activities of these numbers and roots that have come so far and sent so many Works.
+fn rooted(
+    alloc: Global,
+    roots: &[(u32, u32)],
+    progress: Progress,
+    works: u32,
+) -> Result<Activities, AllocError> {
     let mut items = Vec::new(alloc);
-    items.push(activity_in(alloc, Id::new(1, 1), root, progress_of(progress))?)?;
+    for (number, root) in roots {
+        let id = Id::new(1, (*number).max(1));
+        let root = Id::new(1, (*root).max(1));
+        let activity = activity_in(alloc, id, root, progress, works)?;
+        items.push(activity)?;
+    }
     Activities::from_vec(items)
 }
 
-/// What follows the words of a row.
-fn row_of(alloc: Global, words: &str) -> Result<String, AllocError> {
-    let mut words = words.split_whitespace();
-    let begun = words.next() == Some("begun");
-    let mut activities = one(alloc, begun, words.next().unwrap_or(""))?;
-    let name = words.next().unwrap_or("");
-    let event = event_of(alloc, name)?;
-    let line = step(
-        alloc,
-        &mut activities,
-        event,
-        time_of(name),
-        Some(Id::new(1, 2)),
-    )?;
-    let states = states_line(alloc, &activities)?;
-    format!(in alloc; "{states}{line}")
+/// Whether activities come so far by an event, and this follows it.
+fn moves(
+    alloc: Global,
+    activities: &mut Activities,
+    event: &Event,
+    moment: &Moment,
+    wanted: &str,
+) -> Result<bool, AllocError> {
+    let line = step(alloc, activities, event, moment)?;
+    let states = states_line(alloc, activities)?;
+    let found = format!(in alloc; "{states}{line}")?;
+    Ok(found.as_str() == wanted)
 }
 
 /// Whether a step does what its row says.
 fn stands(alloc: Global, row: &str) -> Result<bool, AllocError> {
-    let mut parts = row.split('|');
-    let line = row_of(alloc, parts.next().unwrap_or(""))?;
-    Ok(line.as_str() == parts.next().unwrap_or(""))
-}
-
-/// The rows that don't stand, a line each.
-fn wrong_rows(alloc: Global, table: &str) -> Result<String, AllocError> {
-    let mut wrong = String::new(alloc);
-    for row in table.lines() {
-        if !stands(alloc, row)? {
-            wrong.push_str(row)?;
-            wrong.push_str("\n")?;
-        }
-    }
-    Ok(wrong)
+    let words = part(row, '|', 0);
+    let wanted = part(row, '|', 1);
+    let root = if words.starts_with("begun") { 1 } else { 7 };
+    let progress = progress_of(part(words, ' ', 1));
+    let name = part(words, ' ', 2);
+    let moment = moment_at(alloc, BASE, time_of(name), Some(Id::new(1, 2)))?;
+    let event = event_of(alloc, name)?;
+    let mut activities = rooted(alloc, &[(1, root)], progress, 0)?;
+    moves(alloc, &mut activities, &event, &moment, wanted)
 }
 
 #[test]
 fn each_cell(rt: HostRuntime) -> Result<(), Fail> {
-    let wrong = wrong_rows(rt.alloc(), STEPS)?;
-    assert_eq!(rt; wrong.as_str(), "");
+    for row in STEPS.lines() {
+        let right = stands(rt.alloc(), row)?;
+        assert!(rt; right, "at {row}");
+    }
     Ok(())
 }
 
@@ -420,60 +322,25 @@ fn many(alloc: Global, count: u32) -> Result<Activities, AllocError> {
     let mut items = Vec::new(alloc);
     for number in 1..=count {
         let id = Id::new(1, number);
-        items.push(activity_in(alloc, id, id, Progress::Active)?)?;
+        let activity = activity_in(alloc, id, id, Progress::Active, 0)?;
+        items.push(activity)?;
     }
     Activities::from_vec(items)
 }
 
-/// What Begin gives where so many live, and how many live then.
-fn begin_at(alloc: Global, count: u32, next: Option<Id>) -> Result<String, AllocError> {
-    let mut activities = many(alloc, count)?;
-    let event = event_of(alloc, "AskBegin")?;
-    let line = step(alloc, &mut activities, event, 7, next)?;
+/// Whether so many activities live behind an event, of which the first sent so many Works, and this follows it.
+fn counts(
+    alloc: Global,
+    activities: &mut Activities,
+    event: &Event,
+    moment: &Moment,
+    wanted: &str,
+) -> Result<bool, AllocError> {
+    let line = step(alloc, activities, event, moment)?;
     let live = activities.len();
-    format!(in alloc; "{live}{line}")
-}
-
-#[test]
-fn room_for_one_more(rt: HostRuntime) -> Result<(), Fail> {
-    let line = begin_at(rt.alloc(), 255, Some(Id::new(1, 300)))?;
-    assert_eq!(rt; line.as_str(), "256 Create@http://n2.example/activation");
-    Ok(())
-}
-
-#[test]
-fn no_room_for_257(rt: HostRuntime) -> Result<(), Fail> {
-    let line = begin_at(rt.alloc(), 256, Some(Id::new(1, 300)))?;
-    assert_eq!(rt; line.as_str(), "256 Full");
-    Ok(())
-}
-
-#[test]
-fn full_before_spent(rt: HostRuntime) -> Result<(), Fail> {
-    let line = begin_at(rt.alloc(), 256, None)?;
-    assert_eq!(rt; line.as_str(), "256 Full");
-    Ok(())
-}
-
-#[test]
-fn no_id_is_left(rt: HostRuntime) -> Result<(), Fail> {
-    let line = begin_at(rt.alloc(), 1, None)?;
-    assert_eq!(rt; line.as_str(), "1 Spent");
-    Ok(())
-}
-
-/// What a Work gives at an activity that sent so many, and how many it sent then.
-fn work_at(alloc: Global, works: u32) -> Result<String, AllocError> {
-    let id = Id::new(1, 1);
-    let mut activity = activity_in(alloc, id, id, Progress::Active)?;
-    activity.works = works;
-    let mut items = Vec::new(alloc);
-    items.push(activity)?;
-    let mut activities = Activities::from_vec(items)?;
-    let event = event_of(alloc, "AskWork")?;
-    let line = step(alloc, &mut activities, event, 7, None)?;
-    let sent = works_of(&activities);
-    format!(in alloc; "{sent}{line}")
+    let works = works_of(activities);
+    let found = format!(in alloc; "{live} {works}{line}")?;
+    Ok(found.as_str() == wanted)
 }
 
 fn works_of(activities: &Activities) -> u32 {
@@ -483,17 +350,51 @@ fn works_of(activities: &Activities) -> u32 {
     }
 }
 
-#[test]
-fn the_last_work(rt: HostRuntime) -> Result<(), Fail> {
-    let line = work_at(rt.alloc(), 4294967294)?;
-    assert_eq!(rt; line.as_str(), "4294967295 Work@http://n3.example/work");
-    Ok(())
+/// How many live, whether an id is left, and what Begin gives: how many live then, how many Works the first sent, and
+/// what follows.
+const BEGINS: &[(u32, bool, &str)] = &[
+    (255, true, "256 0 Create@http://n2.example/activation"),
+    (256, true, "256 0 Full"),
+    (256, false, "256 0 Full"),
+    (1, false, "1 0 Spent"),
+];
+
+fn begins(alloc: Global, count: u32, left: bool, wanted: &str) -> Result<bool, AllocError> {
+    let next = if left { Some(Id::new(1, 300)) } else { None };
+    let moment = moment_at(alloc, BASE, 7, next)?;
+    let event = event_of(alloc, "AskBegin")?;
+    let mut activities = many(alloc, count)?;
+    counts(alloc, &mut activities, &event, &moment, wanted)
 }
 
 #[test]
-fn no_work_is_left(rt: HostRuntime) -> Result<(), Fail> {
-    let line = work_at(rt.alloc(), 4294967295)?;
-    assert_eq!(rt; line.as_str(), "4294967295 Spent");
+fn room_and_ids(rt: HostRuntime) -> Result<(), Fail> {
+    for (count, left, line) in BEGINS {
+        let right = begins(rt.alloc(), *count, *left, line)?;
+        assert!(rt; right, "at {count} {left}");
+    }
+    Ok(())
+}
+
+/// How many Works an activity sent, and what one more gives, as above.
+const WORKS: &[(u32, &str)] = &[
+    (4294967294, "1 4294967295 Work@http://n3.example/work"),
+    (4294967295, "1 4294967295 Spent"),
+];
+
+fn works(alloc: Global, count: u32, wanted: &str) -> Result<bool, AllocError> {
+    let moment = moment_at(alloc, BASE, 7, None)?;
+    let event = work(alloc)?;
+    let mut activities = rooted(alloc, &[(1, 1)], Progress::Active, count)?;
+    counts(alloc, &mut activities, &event, &moment, wanted)
+}
+
+#[test]
+fn the_last_work(rt: HostRuntime) -> Result<(), Fail> {
+    for (count, line) in WORKS {
+        let right = works(rt.alloc(), *count, line)?;
+        assert!(rt; right, "at {count}");
+    }
     Ok(())
 }
 
@@ -510,11 +411,10 @@ fn is_named(outs: &Outs, name: &str) -> bool {
 
 /// Whether the first Work has this MessageID.
 fn first_work_is(alloc: Global, name: &str) -> Result<bool, AllocError> {
-    let mut activities = one(alloc, true, "Active")?;
-    let event = event_of(alloc, "AskWork")?;
-    let moment = moment_at(alloc, 7, None)?;
-    let plan = activities.plan(alloc, event.as_ref(), &moment)?;
-    let outs = activities.apply(plan, true);
+    let moment = moment_at(alloc, BASE, 7, None)?;
+    let event = work(alloc)?;
+    let mut activities = rooted(alloc, &[(1, 1)], Progress::Active, 0)?;
+    let outs = outs_of(alloc, &mut activities, &event, &moment)?;
     Ok(is_named(&outs, name))
 }
 
@@ -525,31 +425,29 @@ fn the_first_work_is_1(rt: HostRuntime) -> Result<(), Fail> {
     Ok(())
 }
 
-/// How many live after this notification at the root of two of three activities, and the id of the first of them.
-fn left_after(alloc: Global, name: &str) -> Result<(usize, bool), AllocError> {
-    let mut items = Vec::new(alloc);
-    for (number, root) in [(1, 1), (2, 1), (3, 3)] {
-        let progress = Progress::Completing(Notice::Commit);
-        items.push(activity_in(alloc, Id::new(1, number), Id::new(1, root), progress)?)?;
-    }
-    let mut activities = Activities::from_vec(items)?;
-    let event = event_of(alloc, name)?;
-    let _ = step(alloc, &mut activities, event, 7, None)?;
-    let has_third = activities.find(Id::new(1, 3)).is_some();
-    Ok((activities.len(), has_third))
+/// Whether of three activities, the second of which stands under the first, the third alone is left behind an outcome
+/// of the first.
+fn leaves_the_third(alloc: Global) -> Result<bool, AllocError> {
+    let moment = moment_at(alloc, BASE, 7, None)?;
+    let event = event_of(alloc, "Committed")?;
+    let progress = Progress::Completing(Notice::Commit);
+    let mut activities = rooted(alloc, &[(1, 1), (2, 1), (3, 3)], progress, 0)?;
+    let _outs = outs_of(alloc, &mut activities, &event, &moment)?;
+    Ok(activities.len() == 1 && activities.find(Id::new(1, 3)).is_some())
 }
 
 #[test]
 fn what_is_under_it_goes_too(rt: HostRuntime) -> Result<(), Fail> {
-    let (live, has_third) = left_after(rt.alloc(), "Committed")?;
-    assert!(rt; live == 1 && has_third);
+    let right = leaves_the_third(rt.alloc())?;
+    assert!(rt; right);
     Ok(())
 }
 
 /// Whether the one activity is due at this time, behind this id or at all.
 fn is_next(alloc: Global, now: u64, after: Option<Id>) -> Result<bool, AllocError> {
-    let activities = one(alloc, true, "CompletingCommit")?;
-    let moment = moment_at(alloc, now, None)?;
+    let moment = moment_at(alloc, BASE, now, None)?;
+    let progress = Progress::Completing(Notice::Commit);
+    let activities = rooted(alloc, &[(1, 1)], progress, 0)?;
     Ok(activities.next_due(after, &moment) == Some(Id::new(1, 1)))
 }
 

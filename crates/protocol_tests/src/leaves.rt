@@ -1,11 +1,11 @@
 //! What a leaf does at each message that can reach it, and by itself, written out by hand.
 
-use at_base::epr::{Epr, Reply};
+use crate::shared::{arrived, context, epr, moment_at, outs_line, part, reply_named, time_of};
+use at_base::epr::Reply;
 use at_base::event::{Arrived, Event, Item, Moment};
 use at_base::id::Id;
-use at_base::message::{Context, Message, Work};
-use at_base::notice::{Kind, Notice, Vote};
-use at_base::outs::{Out, Outs, Post};
+use at_base::message::{Message, Work};
+use at_base::notice::{Kind, Vote};
 use at_base::record::Record;
 use at_base::target::Target;
 use at_base::text::Text;
@@ -25,7 +25,7 @@ Durable Prepared Registering Commit|-|gone 202 InvalidState@from Aborted|gone 20
 Durable Prepared Registering Rollback|-|gone 202 Aborted@from Aborted|gone 202 Aborted@from Aborted\n\
 Durable Prepared Registering Committed|-|Registering 202|Registering 202\n\
 Durable Prepared Registering Registered|-|Active 202 WorkDone@asker|Active 202 WorkDone@asker\n\
-Durable Prepared Registering Unrelated|-|Registering 202|Registering 202\n\
+Durable Prepared Registering StrayRegistered|-|Registering 202|Registering 202\n\
 Durable Prepared Registering Refused|-|gone 202 WorkRefused@asker Aborted|gone 202 WorkRefused@asker Aborted\n\
 Durable Prepared Registering Unknown|-|Registering 202|Registering 202\n\
 Durable Prepared Registering Early|-|Registering|Registering\n\
@@ -65,24 +65,7 @@ Volatile Prepared PreparedSuccess Rollback|-|gone 202 Aborted@coordinator Aborte
 Volatile Prepared PreparedSuccess Unknown|-|gone 202|gone 202\n\
 ";
 
-fn text(alloc: Global, text: &str) -> Result<Text, AllocError> {
-    Text::copied(alloc, text)
-}
-
-fn epr(alloc: Global, address: &str) -> Result<Epr, AllocError> {
-    Ok(Epr {
-        address: text(alloc, address)?,
-        params: text(alloc, "")?,
-    })
-}
-
-fn moment_at(alloc: Global, now: u64, next: Option<Id>) -> Result<Moment, AllocError> {
-    Ok(Moment {
-        now,
-        next,
-        base: text(alloc, "http://n3.example")?,
-    })
-}
+const BASE: &str = "http://n3.example";
 
 fn kind_of(name: &str) -> Kind {
     match name {
@@ -99,29 +82,28 @@ fn vote_of(name: &str) -> Vote {
     }
 }
 
-fn notice_of(name: &str) -> Option<Notice> {
-    match name {
-        "Prepare" => Some(Notice::Prepare),
-        "Commit" => Some(Notice::Commit),
-        "Rollback" => Some(Notice::Rollback),
-        "Committed" => Some(Notice::Committed),
-        _ => None,
-    }
-}
-
 fn request(alloc: Global) -> Result<WorkRequest, AllocError> {
+    let id = Text::copied(alloc, "work")?;
+    let reply = epr(alloc, "asker")?;
+    let registration = epr(alloc, "registration")?;
     Ok(WorkRequest {
-        id: Some(text(alloc, "work")?),
-        reply: epr(alloc, "asker")?,
-        registration: epr(alloc, "registration")?,
+        id: Some(id),
+        reply,
+        registration,
     })
 }
 
 /// A leaf that sent at 100000 and expires at 200000.
-fn leaf_in(alloc: Global, kind: Kind, vote: Vote, state: State) -> Result<Leaf, AllocError> {
+fn leaf_in(
+    alloc: Global,
+    id: Id,
+    kind: Kind,
+    vote: Vote,
+    state: State,
+) -> Result<Leaf, AllocError> {
     let waits = state == State::Registering;
-    let key = text(alloc, "key")?;
-    let value = text(alloc, "value")?;
+    let key = Text::copied(alloc, "key")?;
+    let value = Text::copied(alloc, "value")?;
     let coordinator = if waits {
         None
     } else {
@@ -129,7 +111,7 @@ fn leaf_in(alloc: Global, kind: Kind, vote: Vote, state: State) -> Result<Leaf, 
     };
     let request = if waits { Some(request(alloc)?) } else { None };
     Ok(Leaf {
-        id: Id::new(1, 1),
+        id,
         kind,
         vote,
         key,
@@ -142,97 +124,31 @@ fn leaf_in(alloc: Global, kind: Kind, vote: Vote, state: State) -> Result<Leaf, 
     })
 }
 
-fn message_of(alloc: Global, name: &str) -> Result<Message, AllocError> {
-    if let Some(notice) = notice_of(name) {
-        return Ok(Message::Notice(notice));
-    }
+/// The MessageID that a message answers, none where it is empty: that of the leaf's Register, by Python's
+/// uuid.uuid5(uuid.NAMESPACE_URL, name), or another.
+fn relates_of(kind: Kind, name: &str) -> &'static str {
     match name {
-        "Registered" | "Unrelated" => Ok(Message::RegisterResponse(epr(alloc, "seat")?)),
-        "Refused" => Ok(Message::Fault {
-            name: text(alloc, "CannotRegisterParticipant")?,
-        }),
-        _ => Ok(Message::Fault {
-            name: text(alloc, "UnknownTransaction")?,
-        }),
-    }
-}
-
-/// The MessageID of the leaf's Register, by Python's uuid.uuid5(uuid.NAMESPACE_URL, name).
-fn register_of(kind: Kind) -> &'static str {
-    match kind {
-        Kind::Volatile => "urn:uuid:88847cb1-d636-53bd-b513-0f250ca49453",
-        Kind::Durable => "urn:uuid:b62e7280-0c3c-5e24-8cfd-269197d5ce42",
-    }
-}
-
-fn arrived(alloc: Global, kind: Kind, name: &str) -> Result<Event, AllocError> {
-    let relates = match name {
-        "Registered" | "Refused" => Some(text(alloc, register_of(kind))?),
-        "Unrelated" => Some(text(alloc, "urn:uuid:88847cb1-d636-53bd-b513-0f250ca49454")?),
-        _ => None,
-    };
-    Ok(Event::Arrived(Arrived {
-        target: Target::Participant {
-            id: Id::new(1, 1),
-            kind,
+        "Registered" | "Refused" => match kind {
+            Kind::Volatile => "urn:uuid:88847cb1-d636-53bd-b513-0f250ca49453",
+            Kind::Durable => "urn:uuid:b62e7280-0c3c-5e24-8cfd-269197d5ce42",
         },
-        id: Some(text(alloc, "id")?),
-        relates,
-        from: Some(epr(alloc, "from")?),
-        reply: Reply::Nobody,
-        fault: Reply::Nobody,
-        postable: false,
-        message: message_of(alloc, name)?,
-    }))
-}
-
-/// When the event of a name comes.
-fn time_of(name: &str) -> u64 {
-    match name {
-        "Early" => 104999,
-        "Quiet" => 105000,
-        "Late" => 200000,
-        _ => 150000,
+        "StrayRegistered" => "urn:uuid:88847cb1-d636-53bd-b513-0f250ca49454",
+        _ => "",
     }
 }
 
 /// The event of a name.
-fn event_of(alloc: Global, kind: Kind, name: &str) -> Result<Box<Event>, AllocError> {
+fn event_of(alloc: Global, kind: Kind, name: &str) -> Result<Event, AllocError> {
+    let id = Id::new(1, 1);
     match name {
-        "Early" | "Quiet" | "Late" => Ok(Box::new(alloc, Event::Due(Item::Leaf(Id::new(1, 1))))?),
-        _ => Ok(Box::new(alloc, arrived(alloc, kind, name)?)?),
+        "Early" | "Quiet" | "Late" => Ok(Event::Due(Item::Leaf(id))),
+        _ => arrived(
+            alloc,
+            Target::Participant { id, kind },
+            relates_of(kind, name),
+            name,
+        ),
     }
-}
-
-fn post_line(alloc: Global, post: &Post) -> Result<String, AllocError> {
-    let to = match &post.to {
-        Some(epr) => epr.address.as_str(),
-        None => "nowhere",
-    };
-    match &post.message {
-        Message::Notice(notice) => format!(in alloc; " {notice:?}@{to}"),
-        Message::Fault { name } => format!(in alloc; " {name}@{to}"),
-        Message::Register(_) => format!(in alloc; " Register@{to}"),
-        Message::WorkDone => format!(in alloc; " WorkDone@{to}"),
-        Message::WorkRefused => format!(in alloc; " WorkRefused@{to}"),
-        _ => format!(in alloc; " other@{to}"),
-    }
-}
-
-fn outs_line(alloc: Global, outs: &Outs) -> Result<String, AllocError> {
-    let mut line = String::new(alloc);
-    for out in outs.outs.as_slice() {
-        match out {
-            Out::Answer { status, .. } => line.push_str(&format!(in alloc; " {status}")?)?,
-            Out::Post(post) => line.push_str(&post_line(alloc, post)?)?,
-        }
-    }
-    for effect in outs.effects.as_slice() {
-        if let at_base::outs::Effect::Leaf { what, .. } = effect {
-            line.push_str(&format!(in alloc; " {what:?}")?)?;
-        }
-    }
-    Ok(line)
 }
 
 fn record_name(entry: Option<&Record>) -> &'static str {
@@ -252,91 +168,68 @@ fn state_name(leaves: &Leaves) -> &'static str {
     }
 }
 
-/// The record of a step, and what follows for this fate of it.
-fn step(
+/// Whether a step has the record of a row, and for this fate of it the leaf comes to the state that the row has, and what
+/// the row has follows.
+fn moves(
     alloc: Global,
     leaves: &mut Leaves,
-    event: Box<Event>,
-    now: u64,
-    next: Option<Id>,
+    event: &Event,
+    moment: &Moment,
     landed: bool,
-) -> Result<(&'static str, String), AllocError> {
-    let moment = moment_at(alloc, now, next)?;
-    let plan = leaves.plan(alloc, event.as_ref(), &moment)?;
-    let record = record_name(plan.entry());
+    row: &str,
+) -> Result<bool, AllocError> {
+    let plan = leaves.plan(alloc, event, moment)?;
+    let recorded = record_name(plan.entry()) == part(row, '|', 1);
     let outs = leaves.apply(plan, landed);
     let line = outs_line(alloc, &outs)?;
-    Ok((record, line))
+    let found = format!(in alloc; "{}{line}", state_name(leaves))?;
+    let fate = if landed { 2 } else { 3 };
+    Ok(recorded && found.as_str() == part(row, '|', fate))
 }
 
 /// One leaf of this kind and vote, in this state.
 fn leaves_in(alloc: Global, kind: Kind, vote: Vote, state: &str) -> Result<Leaves, AllocError> {
     let state = State::from_name(state).unwrap_or(State::None);
+    let leaf = leaf_in(alloc, Id::new(1, 1), kind, vote, state)?;
     let mut items = Vec::new(alloc);
-    items.push(leaf_in(alloc, kind, vote, state)?)?;
+    items.push(leaf)?;
     Leaves::from_vec(items)
 }
 
-/// The record of a row's step, and what follows for this fate of it.
-fn row_of(alloc: Global, words: &str, landed: bool) -> Result<(&'static str, String), AllocError> {
-    let mut words = words.split_whitespace();
-    let kind = kind_of(words.next().unwrap_or(""));
-    let vote = vote_of(words.next().unwrap_or(""));
-    let mut leaves = leaves_in(alloc, kind, vote, words.next().unwrap_or(""))?;
-    let name = words.next().unwrap_or("");
+/// Whether a step does what its row says for this fate of its record.
+fn goes(alloc: Global, row: &str, landed: bool) -> Result<bool, AllocError> {
+    let words = part(row, '|', 0);
+    let kind = kind_of(part(words, ' ', 0));
+    let vote = vote_of(part(words, ' ', 1));
+    let name = part(words, ' ', 3);
+    let moment = moment_at(alloc, BASE, time_of(name), None)?;
     let event = event_of(alloc, kind, name)?;
-    let (record, outs) = step(alloc, &mut leaves, event, time_of(name), None, landed)?;
-    let line = format!(in alloc; "{}{outs}", state_name(&leaves))?;
-    Ok((record, line))
+    let mut leaves = leaves_in(alloc, kind, vote, part(words, ' ', 2))?;
+    moves(alloc, &mut leaves, &event, &moment, landed, row)
 }
 
 /// Whether a step does what its row says.
 fn stands(alloc: Global, row: &str) -> Result<bool, AllocError> {
-    let mut parts = row.split('|');
-    let words = parts.next().unwrap_or("");
-    let record = parts.next().unwrap_or("");
-    let landed = row_of(alloc, words, true)?;
-    let right = landed.0 == record && landed.1.as_str() == parts.next().unwrap_or("");
-    let absent = row_of(alloc, words, false)?;
-    Ok(right && absent.1.as_str() == parts.next().unwrap_or(""))
-}
-
-/// The rows that don't stand, a line each.
-fn wrong_rows(alloc: Global, table: &str) -> Result<String, AllocError> {
-    let mut wrong = String::new(alloc);
-    for row in table.lines() {
-        if !stands(alloc, row)? {
-            wrong.push_str(row)?;
-            wrong.push_str("\n")?;
-        }
-    }
-    Ok(wrong)
+    let landed = goes(alloc, row, true)?;
+    let absent = goes(alloc, row, false)?;
+    Ok(landed && absent)
 }
 
 #[test]
 fn each_cell(rt: HostRuntime) -> Result<(), Fail> {
-    let wrong = wrong_rows(rt.alloc(), STEPS)?;
-    assert_eq!(rt; wrong.as_str(), "");
+    for row in STEPS.lines() {
+        let right = stands(rt.alloc(), row)?;
+        assert!(rt; right, "at {row}");
+    }
     Ok(())
 }
 
-fn context(alloc: Global) -> Result<Context, AllocError> {
-    let identifier = text(alloc, "http://n2.example/t/1-1")?;
-    let coordination = text(alloc, "http://docs.oasis-open.org/ws-tx/wsat/2006/06")?;
-    let registration = epr(alloc, "registration")?;
-    Ok(Context {
-        identifier,
-        expires: Some(60000),
-        coordination,
-        registration,
-    })
-}
-
 fn work(alloc: Global) -> Result<Work, AllocError> {
-    let key = text(alloc, "key")?;
-    let value = text(alloc, "value")?;
+    let key = Text::copied(alloc, "key")?;
+    let value = Text::copied(alloc, "value")?;
+    let context = context(alloc)?;
     Ok(Work {
-        context: context(alloc)?,
+        context,
         key,
         value,
         kind: Kind::Durable,
@@ -345,22 +238,20 @@ fn work(alloc: Global) -> Result<Work, AllocError> {
 }
 
 /// A Work whose answer goes there.
-fn asked(alloc: Global, reply: Reply) -> Result<Box<Event>, AllocError> {
-    let id = text(alloc, "work")?;
+fn asked(alloc: Global, reply: &str) -> Result<Event, AllocError> {
+    let id = Text::copied(alloc, "work")?;
+    let reply = reply_named(alloc, reply)?;
     let work = work(alloc)?;
-    Ok(Box::new(
-        alloc,
-        Event::Arrived(Arrived {
-            target: Target::Work,
-            id: Some(id),
-            relates: None,
-            from: None,
-            reply,
-            fault: Reply::Anonymous,
-            postable: false,
-            message: Message::Work(work),
-        }),
-    )?)
+    Ok(Event::Arrived(Arrived {
+        target: Target::Work,
+        id: Some(id),
+        relates: None,
+        from: None,
+        reply,
+        fault: Reply::Anonymous,
+        postable: false,
+        message: Message::Work(work),
+    }))
 }
 
 /// The leaf that a Work at 7 made, which expires at 60007.
@@ -377,86 +268,79 @@ fn is_made(leaves: &Leaves) -> bool {
     }
 }
 
-/// What a Work at 7 is answered, whose answer goes there.
-fn answer_of(alloc: Global, leaves: &mut Leaves, reply: Reply) -> Result<String, AllocError> {
-    let event = asked(alloc, reply)?;
-    let (_, line) = step(alloc, leaves, event, 7, Some(Id::new(1, 2)), true)?;
-    Ok(line)
-}
-
-#[test]
-fn work_makes_a_leaf(rt: HostRuntime) -> Result<(), Fail> {
-    let mut leaves = Leaves::new(rt.alloc())?;
-    let reply = Reply::At(epr(rt.alloc(), "asker")?);
-    let line = answer_of(rt.alloc(), &mut leaves, reply)?;
-    assert_eq!(rt; line.as_str(), " 202 Register@registration");
-    let right = is_made(&leaves);
-    assert!(rt; right);
-    Ok(())
-}
-
-#[test]
-fn work_is_refused(rt: HostRuntime) -> Result<(), Fail> {
-    let mut leaves = Leaves::new(rt.alloc())?;
-    let line = answer_of(rt.alloc(), &mut leaves, Reply::Anonymous)?;
-    assert_eq!(rt; line.as_str(), " 200");
-    let live = leaves.len();
-    assert_eq!(rt; live, 0);
-    Ok(())
-}
-
-/// The leaf of this number, which is prepared.
-fn numbered(alloc: Global, number: u32) -> Result<Leaf, AllocError> {
-    let mut leaf = leaf_in(alloc, Kind::Durable, Vote::Prepared, State::PreparedSuccess)?;
-    leaf.id = Id::new(1, number.max(1));
-    Ok(leaf)
-}
-
-/// So many leaves.
+/// So many leaves, which are prepared.
 fn many(alloc: Global, count: u32) -> Result<Leaves, AllocError> {
     let mut items = Vec::new(alloc);
     for number in 1..=count {
-        let leaf = numbered(alloc, number)?;
+        let id = Id::new(1, number);
+        let leaf = leaf_in(
+            alloc,
+            id,
+            Kind::Durable,
+            Vote::Prepared,
+            State::PreparedSuccess,
+        )?;
         items.push(leaf)?;
     }
     Leaves::from_vec(items)
 }
 
-/// What a Work is answered where so many leaves live and the next one gets this id, and how many live then.
-fn work_at(alloc: Global, count: u32, next: Option<Id>) -> Result<String, AllocError> {
-    let mut leaves = many(alloc, count)?;
-    let reply = Reply::At(epr(alloc, "asker")?);
-    let event = asked(alloc, reply)?;
-    let (_, line) = step(alloc, &mut leaves, event, 7, next, true)?;
+/// Whether so many leaves live behind a step, the Work made its leaf or not, and this is answered.
+fn answers(
+    alloc: Global,
+    leaves: &mut Leaves,
+    event: &Event,
+    moment: &Moment,
+    wanted: &str,
+) -> Result<bool, AllocError> {
+    let plan = leaves.plan(alloc, event, moment)?;
+    let outs = leaves.apply(plan, true);
+    let line = outs_line(alloc, &outs)?;
     let live = leaves.len();
-    format!(in alloc; "{live}{line}")
+    let made = is_made(leaves);
+    let found = format!(in alloc; "{live} {made}{line}")?;
+    Ok(found.as_str() == wanted)
+}
+
+/// How many leaves live, the number of the next id, none where it is 0, and where the answer of a Work goes; and how
+/// many live then, whether the leaf 1-2 is the Work's, and what is answered.
+const WORKS: &[(u32, u32, &str, &str)] = &[
+    (0, 2, "asker", "1 true 202 Register@registration"),
+    (0, 2, "anonymous", "0 false 200"),
+    (1023, 1100, "asker", "1024 false 202 Register@registration"),
+    (1024, 1100, "asker", "1024 false 202 WorkRefused@asker"),
+    (0, 0, "asker", "0 false 202 WorkRefused@asker"),
+];
+
+fn next_of(number: u32) -> Option<Id> {
+    if number == 0 {
+        return None;
+    }
+    Some(Id::new(1, number))
+}
+
+/// Whether a Work at 7 is answered as its row says.
+fn works(alloc: Global, row: &(u32, u32, &str, &str)) -> Result<bool, AllocError> {
+    let (count, next, reply, wanted) = row;
+    let moment = moment_at(alloc, BASE, 7, next_of(*next))?;
+    let event = asked(alloc, reply)?;
+    let mut leaves = many(alloc, *count)?;
+    answers(alloc, &mut leaves, &event, &moment, wanted)
 }
 
 #[test]
-fn room_for_one_more(rt: HostRuntime) -> Result<(), Fail> {
-    let line = work_at(rt.alloc(), 1023, Some(Id::new(1, 1100)))?;
-    assert_eq!(rt; line.as_str(), "1024 202 Register@registration");
-    Ok(())
-}
-
-#[test]
-fn no_room_for_1025(rt: HostRuntime) -> Result<(), Fail> {
-    let line = work_at(rt.alloc(), 1024, Some(Id::new(1, 1100)))?;
-    assert_eq!(rt; line.as_str(), "1024 202 WorkRefused@asker");
-    Ok(())
-}
-
-#[test]
-fn no_id_is_left(rt: HostRuntime) -> Result<(), Fail> {
-    let line = work_at(rt.alloc(), 0, None)?;
-    assert_eq!(rt; line.as_str(), "0 202 WorkRefused@asker");
+fn work_makes_a_leaf_where_there_is_room(rt: HostRuntime) -> Result<(), Fail> {
+    for row in WORKS {
+        let right = works(rt.alloc(), row)?;
+        assert!(rt; right, "at {}", row.3);
+    }
     Ok(())
 }
 
 /// Whether the one leaf is due at this time, behind this id or at all.
 fn is_next(alloc: Global, now: u64, after: Option<Id>) -> Result<bool, AllocError> {
-    let leaves = leaves_in(alloc, Kind::Durable, Vote::Prepared, "PreparedSuccess")?;
-    let moment = moment_at(alloc, now, None)?;
+    let moment = moment_at(alloc, BASE, now, None)?;
+    let leaves = many(alloc, 1)?;
     Ok(leaves.next_due(after, &moment) == Some(Id::new(1, 1)))
 }
 

@@ -13,4 +13,6 @@ mod posts;
 #[cfg(test)]
 mod records;
 #[cfg(test)]
+mod shared;
+#[cfg(test)]
 mod tables;

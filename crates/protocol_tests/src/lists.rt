@@ -12,7 +12,7 @@ use at_posts::answers::accepted;
 use at_posts::posts::reply_post;
 use by_id::list::{Alteration, ById, Identified, is_before, is_same};
 use by_id::moves::{Change, Decision, Moving, ignored, unchanged};
-use by_id::plan::Branch;
+use by_id::plan::{Branch, Plan};
 use std::alloc::{AllocError, Global};
 use std::test::Fail;
 
@@ -56,7 +56,7 @@ fn id(number: u32) -> Id {
 
 fn alarm_at(number: u32, time: u64) -> Alarm {
     Alarm {
-        id: id(number),
+        id: Id::new(1, number.max(1)),
         time,
     }
 }
@@ -93,42 +93,50 @@ fn change(list: &mut ById<Alarm>, name: &str) {
     }
 }
 
-fn list_line(alloc: Global, list: &ById<Alarm>) -> Result<String, AllocError> {
-    let mut line = String::new(alloc);
+/// Adds the items, a line.
+fn push_list(alloc: Global, lines: &mut String, list: &ById<Alarm>) -> Result<(), AllocError> {
     for alarm in list.as_slice() {
         let text = format!(in alloc; " {}@{}", alarm.id, alarm.time)?;
-        line.push_str(text.as_str())?;
+        lines.push_str(text.as_str())?;
     }
-    Ok(line)
+    lines.push_str("\n")
 }
 
-/// The list of three items behind each of these changes, a line each.
-fn changed(alloc: Global, names: &str) -> Result<String, AllocError> {
-    let mut list = alarms(alloc, 3)?;
-    let mut lines = String::new(alloc);
+/// Adds what the list is behind each of these changes, a line each.
+fn push_changes(
+    alloc: Global,
+    lines: &mut String,
+    list: &mut ById<Alarm>,
+    names: &str,
+) -> Result<(), AllocError> {
     for name in names.split(' ') {
-        change(&mut list, name);
-        let line = list_line(alloc, &list)?;
-        lines.push_str(line.as_str())?;
-        lines.push_str("\n")?;
+        change(list, name);
+        push_list(alloc, lines, list)?;
     }
-    Ok(lines)
+    Ok(())
 }
 
-#[test]
-fn changes_of_a_list(rt: HostRuntime) -> Result<(), Fail> {
-    let lines = changed(rt.alloc(), "stray keep put drop add alter grow retain")?;
-    assert_eq!(rt;
-        lines.as_str(),
-        " 1-1@10 1-2@20 1-3@30\n \
+const CHANGED: &str = " 1-1@10 1-2@20 1-3@30\n \
 1-1@10 1-2@20 1-3@30\n \
 1-1@70 1-2@20 1-3@30\n \
 1-1@70 1-3@30\n \
 1-1@70 1-3@30 1-4@40\n \
 1-1@70 1-3@80 1-4@40\n \
 1-1@70 1-3@80 1-4@40 1-5@50\n \
-1-1@70 1-4@40 1-5@50\n"
-    );
+1-1@70 1-4@40 1-5@50\n";
+
+/// Whether the list of three items is as it has to be behind each change.
+fn changes(alloc: Global, names: &str) -> Result<bool, AllocError> {
+    let mut lines = String::new(alloc);
+    let mut list = alarms(alloc, 3)?;
+    push_changes(alloc, &mut lines, &mut list, names)?;
+    Ok(lines.as_str() == CHANGED)
+}
+
+#[test]
+fn changes_of_a_list(rt: HostRuntime) -> Result<(), Fail> {
+    let right = changes(rt.alloc(), "stray keep put drop add alter grow retain")?;
+    assert!(rt; right);
     Ok(())
 }
 
@@ -139,10 +147,14 @@ fn grown(alloc: Global, count: u32) -> Result<usize, AllocError> {
     Ok(list.len())
 }
 
+fn none(alloc: Global) -> Result<usize, AllocError> {
+    let list: ById<Alarm> = ById::new(alloc)?;
+    Ok(list.len())
+}
+
 #[test]
 fn as_many_as_live(rt: HostRuntime) -> Result<(), Fail> {
-    let none: ById<Alarm> = ById::new(rt.alloc())?;
-    let none = none.len();
+    let none = none(rt.alloc())?;
     let last = grown(rt.alloc(), 1023)?;
     let over = grown(rt.alloc(), 1024)?;
     assert!(rt; none == 0 && last == 1024 && over == 1024);
@@ -156,26 +168,30 @@ fn time_of(list: &ById<Alarm>, number: u32) -> u64 {
     }
 }
 
-/// The times of the items 2 and 4 of three, and which are due at 20, in order.
-fn found(alloc: Global) -> Result<String, AllocError> {
-    let list = alarms(alloc, 3)?;
+/// Whether of three items, of which 2 is due at 20, the first two are due, in order.
+fn are_due(list: &ById<Alarm>, moment: &Moment) -> bool {
+    let first = list.next_due(None, moment) == Some(id(1));
+    let second = list.next_due(Some(id(1)), moment) == Some(id(2));
+    let last = list.next_due(Some(id(2)), moment).is_none();
+    first && second && last
+}
+
+/// Whether items are found, and asked whether they are due at 20.
+fn finds(alloc: Global) -> Result<bool, AllocError> {
     let base = Text::copied(alloc, "http://n1.example")?;
     let moment = Moment {
         now: 20,
         next: None,
         base,
     };
-    let first = list.next_due(None, &moment) == Some(id(1));
-    let second = list.next_due(Some(id(1)), &moment) == Some(id(2));
-    let last = list.next_due(Some(id(2)), &moment).is_none();
-    let (two, four) = (time_of(&list, 2), time_of(&list, 4));
-    format!(in alloc; "{two} {four} {first} {second} {last}")
+    let list = alarms(alloc, 3)?;
+    Ok(time_of(&list, 2) == 20 && time_of(&list, 4) == 0 && are_due(&list, &moment))
 }
 
 #[test]
 fn finds_and_asks(rt: HostRuntime) -> Result<(), Fail> {
-    let line = found(rt.alloc())?;
-    assert_eq!(rt; line.as_str(), "20 0 true true true");
+    let right = finds(rt.alloc())?;
+    assert!(rt; right);
     Ok(())
 }
 
@@ -212,33 +228,30 @@ fn forgotten(alloc: Global) -> Result<Change<Alarm>, AllocError> {
     Ok(other.forgotten())
 }
 
-/// The item's time, how many posts and how many effects.
-fn change_line(alloc: Global, change: &Change<Alarm>) -> Result<String, AllocError> {
-    let time = match &change.item {
+/// Whether the item has this time, 0 where there is none, behind one post and one effect.
+fn is_change(change: &Change<Alarm>, time: u64) -> bool {
+    let found = match &change.item {
         Some(alarm) => alarm.time,
         None => 0,
     };
-    let posts = change.posts.as_slice().len();
-    let effects = change.effects.as_slice().len();
-    format!(in alloc; "{time} {posts} {effects}")
+    found == time && change.posts.as_slice().len() == 1 && change.effects.as_slice().len() == 1
 }
 
-fn stays_line(alloc: Global) -> Result<String, AllocError> {
+fn stays_right(alloc: Global) -> Result<bool, AllocError> {
     let change = stays(alloc)?;
-    change_line(alloc, &change)
+    Ok(is_change(&change, 10))
 }
 
-fn forgotten_line(alloc: Global) -> Result<String, AllocError> {
+fn forgotten_right(alloc: Global) -> Result<bool, AllocError> {
     let change = forgotten(alloc)?;
-    change_line(alloc, &change)
+    Ok(is_change(&change, 0))
 }
 
 #[test]
 fn an_item_moves(rt: HostRuntime) -> Result<(), Fail> {
-    let stays = stays_line(rt.alloc())?;
-    let forgotten = forgotten_line(rt.alloc())?;
-    assert_eq!(rt; stays.as_str(), "10 1 1");
-    assert_eq!(rt; forgotten.as_str(), "0 1 1");
+    let stays = stays_right(rt.alloc())?;
+    let forgotten = forgotten_right(rt.alloc())?;
+    assert!(rt; stays && forgotten);
     Ok(())
 }
 
@@ -251,22 +264,24 @@ fn alteration_name(change: &Alteration<Alarm>) -> &'static str {
     }
 }
 
-/// What becomes of the list, how many are sent, the answer among them, and how many effects.
-fn branch_line(alloc: Global, branch: &Branch<Alarm>) -> Result<String, AllocError> {
-    let name = alteration_name(&branch.change);
-    let outs = branch.outs.outs.as_slice().len();
-    let effects = branch.outs.effects.as_slice().len();
-    format!(in alloc; "{name} {outs} {effects}")
+/// Whether this becomes of the list, and so many are sent, the answer among them, and so many effects.
+fn is_branch(branch: &Branch<Alarm>, name: &str, sent: usize, effects: usize) -> bool {
+    alteration_name(&branch.change) == name
+        && branch.outs.outs.as_slice().len() == sent
+        && branch.outs.effects.as_slice().len() == effects
 }
 
 /// An item stays behind a record; where that is absent it is forgotten, or the step is undone.
-fn records(alloc: Global, undone: bool) -> Result<Decision<Alarm>, AllocError> {
-    let absent = if undone {
+fn decision(alloc: Global, name: &str) -> Result<Decision<Alarm>, AllocError> {
+    if name == "ignored" {
+        return Ok(ignored(alloc, alarm_at(1, 10)));
+    }
+    let stands = stays(alloc)?;
+    let absent = if name == "undone" {
         None
     } else {
         Some(forgotten(alloc)?)
     };
-    let stands = stays(alloc)?;
     Ok(Decision::Records {
         entry: Record::Ended { id: id(1) },
         stands,
@@ -274,70 +289,65 @@ fn records(alloc: Global, undone: bool) -> Result<Decision<Alarm>, AllocError> {
     })
 }
 
-fn decision(alloc: Global, name: &str) -> Result<Decision<Alarm>, AllocError> {
-    match name {
-        "ignored" => Ok(ignored(alloc, alarm_at(1, 10))),
-        "undone" => records(alloc, true),
-        _ => records(alloc, false),
-    }
-}
-
-/// What is done of a decision's plan where its record landed, and where it didn't.
-fn planned(alloc: Global, name: &str, landed: bool) -> Result<String, AllocError> {
+fn plan_of(alloc: Global, name: &str) -> Result<Plan<Alarm>, AllocError> {
     let answer = accepted(alloc)?;
     let decision = decision(alloc, name)?;
-    let plan = decision.into_plan(alloc, answer, id(1))?;
-    let recorded = plan.entry().is_some();
-    let sent = plan.outs(landed).outs.as_slice().len();
-    let line = branch_line(alloc, &plan.into_branch(landed))?;
-    format!(in alloc; "{recorded} {sent} {line}\n")
+    decision.into_plan(alloc, answer, id(1))
 }
 
-fn plans(alloc: Global, names: &str) -> Result<String, AllocError> {
-    let mut lines = String::new(alloc);
-    for name in names.split(' ') {
-        let landed = planned(alloc, name, true)?;
-        let absent = planned(alloc, name, false)?;
-        lines.push_str(landed.as_str())?;
-        lines.push_str(absent.as_str())?;
-    }
-    Ok(lines)
+/// A decision, whether its record landed, and whether it has one; and what becomes of the list, how many are sent, and
+/// how many effects.
+const PLANS: &[(&str, bool, bool, &str, usize, usize)] = &[
+    ("ignored", true, false, "put", 1, 0),
+    ("ignored", false, false, "put", 1, 0),
+    ("recorded", true, true, "put", 2, 1),
+    ("recorded", false, true, "drop", 2, 1),
+    ("undone", true, true, "put", 2, 1),
+    ("undone", false, true, "keep", 1, 0),
+];
+
+fn is_planned(
+    alloc: Global,
+    row: &(&str, bool, bool, &str, usize, usize),
+) -> Result<bool, AllocError> {
+    let (name, landed, recorded, change, sent, effects) = row;
+    let plan = plan_of(alloc, name)?;
+    let same = plan.entry().is_some() == *recorded
+        && plan.outs(*landed).outs.as_slice().len() == *sent;
+    let branch = plan.into_branch(*landed);
+    Ok(same && is_branch(&branch, change, *sent, *effects))
 }
 
 #[test]
 fn plans_of_decisions(rt: HostRuntime) -> Result<(), Fail> {
-    let lines = plans(rt.alloc(), "ignored recorded undone")?;
-    assert_eq!(rt;
-        lines.as_str(),
-        "\
-false 1 put 1 0\n\
-false 1 put 1 0\n\
-true 2 put 2 1\n\
-true 2 drop 2 1\n\
-true 2 put 2 1\n\
-true 1 keep 1 0\n\
-"
-    );
+    for row in PLANS {
+        let right = is_planned(rt.alloc(), row)?;
+        assert!(rt; right, "at {} {}", row.0, row.1);
+    }
     Ok(())
 }
 
-fn unchanged_line(alloc: Global) -> Result<String, AllocError> {
+fn unchanged_right(alloc: Global) -> Result<bool, AllocError> {
     let answer = accepted(alloc)?;
-    branch_line(alloc, &unchanged(alloc, answer))
+    let branch = unchanged(alloc, answer);
+    Ok(is_branch(&branch, "keep", 1, 0))
 }
 
-fn changed_line(alloc: Global) -> Result<String, AllocError> {
+fn changed_branch(alloc: Global) -> Result<Branch<Alarm>, AllocError> {
     let answer = accepted(alloc)?;
     let change = forgotten(alloc)?;
-    let branch = change.into_branch(answer, id(1))?;
-    branch_line(alloc, &branch)
+    change.into_branch(answer, id(1))
+}
+
+fn changed_right(alloc: Global) -> Result<bool, AllocError> {
+    let branch = changed_branch(alloc)?;
+    Ok(is_branch(&branch, "drop", 2, 1))
 }
 
 #[test]
 fn ways_on(rt: HostRuntime) -> Result<(), Fail> {
-    let unchanged = unchanged_line(rt.alloc())?;
-    let changed = changed_line(rt.alloc())?;
-    assert_eq!(rt; unchanged.as_str(), "keep 1 0");
-    assert_eq!(rt; changed.as_str(), "drop 2 1");
+    let unchanged = unchanged_right(rt.alloc())?;
+    let changed = changed_right(rt.alloc())?;
+    assert!(rt; unchanged && changed);
     Ok(())
 }

@@ -1,5 +1,6 @@
 //! The address of each target, the messages that a node sends, and its answers.
 
+use crate::shared::{address_in, epr, message_name, reply_named};
 use at_base::epr::{Epr, Reply};
 use at_base::id::Id;
 use at_base::message::Message;
@@ -21,70 +22,95 @@ use at_posts::posts::{
 use std::alloc::{AllocError, Global};
 use std::test::Fail;
 
+/// Targets, and their addresses.
+const ADDRESSES: &[(&str, &str)] = &[
+    ("activation", "http://n1.example/activation"),
+    ("registration", "http://n1.example/registration/3-17"),
+    ("completion", "http://n1.example/completion/3-17"),
+    ("coordinator", "http://n1.example/c/v/3-17/65535"),
+    ("participant", "http://n1.example/p/d/3-17"),
+    ("initiator", "http://n1.example/i/3-17"),
+    ("work", "http://n1.example/work"),
+];
+
+fn seat() -> Seat {
+    Seat {
+        number: 65535,
+        kind: Kind::Volatile,
+    }
+}
+
+fn target_of(name: &str) -> Target {
+    let id = Id::new(3, 17);
+    match name {
+        "activation" => Target::Activation,
+        "registration" => Target::Registration(id),
+        "completion" => Target::Completion(id),
+        "coordinator" => Target::Coordinator { id, seat: seat() },
+        "participant" => Target::Participant {
+            id,
+            kind: Kind::Durable,
+        },
+        "initiator" => Target::Initiator(id),
+        _ => Target::Work,
+    }
+}
+
+fn is_at(alloc: Global, name: &str, address: &str) -> Result<bool, AllocError> {
+    let base = Text::copied(alloc, "http://n1.example")?;
+    let found = address_of(alloc, &base, &target_of(name))?;
+    Ok(found.as_str() == address)
+}
+
 #[test]
 fn addresses(rt: HostRuntime) -> Result<(), Fail> {
-    let id = Id::new(3, 17);
-    let base = Text::copied(rt.alloc(), "http://n1.example")?;
-    let table = [
-        (Target::Activation, "http://n1.example/activation"),
-        (
-            Target::Registration(id),
-            "http://n1.example/registration/3-17",
-        ),
-        (Target::Completion(id), "http://n1.example/completion/3-17"),
-        (
-            Target::Coordinator {
-                id,
-                seat: Seat {
-                    number: 65535,
-                    kind: Kind::Volatile,
-                },
-            },
-            "http://n1.example/c/v/3-17/65535",
-        ),
-        (
-            Target::Participant {
-                id,
-                kind: Kind::Durable,
-            },
-            "http://n1.example/p/d/3-17",
-        ),
-        (Target::Initiator(id), "http://n1.example/i/3-17"),
-        (Target::Work, "http://n1.example/work"),
-    ];
-    for (target, address) in table {
-        assert_eq!(rt;
-            address_of(rt.alloc(), &base, &target)?.as_str(),
-            address,
-            "at {address}"
-        );
+    for (name, address) in ADDRESSES {
+        let right = is_at(rt.alloc(), name, address)?;
+        assert!(rt; right, "at {address}");
     }
     Ok(())
 }
 
-// The identifiers were computed by Python's uuid.uuid5(uuid.NAMESPACE_URL, name).
+/// Requests and the bases of their senders, and their MessageIDs, by Python's uuid.uuid5(uuid.NAMESPACE_URL, name).
+const IDS: &[(&str, &str, &str)] = &[
+    (
+        "create",
+        "http://n1.example",
+        "urn:uuid:f3ce039b-8bc3-5b00-94b2-fe179860606f",
+    ),
+    (
+        "work",
+        "http://n1.example",
+        "urn:uuid:979edfd3-ad30-5c3d-991d-b0aff7640695",
+    ),
+    (
+        "register",
+        "http://n3.example",
+        "urn:uuid:b62e7280-0c3c-5e24-8cfd-269197d5ce42",
+    ),
+];
+
+fn request_id(alloc: Global, name: &str, base: &Text) -> Result<Text, AllocError> {
+    let own = Target::Initiator(Id::new(1, 1));
+    match name {
+        "create" => create_id(alloc, base, &own),
+        "work" => work_id(alloc, base, &own, 1),
+        _ => register_id(alloc, base, &leaf()),
+    }
+}
+
+fn has_id(alloc: Global, name: &str, base: &str, id: &str) -> Result<bool, AllocError> {
+    let base = Text::copied(alloc, base)?;
+    let found = request_id(alloc, name, &base)?;
+    Ok(found.as_str() == id)
+}
+
 #[test]
 fn ids_of_requests(rt: HostRuntime) -> Result<(), Fail> {
-    let alloc = rt.alloc();
-    let base = Text::copied(alloc, "http://n1.example")?;
-    let own = Target::Initiator(Id::new(1, 1));
-    assert_eq!(rt;
-        create_id(alloc, &base, &own)?.as_str(),
-        "urn:uuid:f3ce039b-8bc3-5b00-94b2-fe179860606f"
-    );
-    assert_eq!(rt;
-        work_id(alloc, &base, &own, 1)?.as_str(),
-        "urn:uuid:979edfd3-ad30-5c3d-991d-b0aff7640695"
-    );
-    let base = Text::copied(alloc, "http://n3.example")?;
-    let leaf = Target::Participant {
-        id: Id::new(1, 1),
-        kind: Kind::Durable,
-    };
-    assert_eq!(rt;
-        register_id(alloc, &base, &leaf)?.as_str(),
-        "urn:uuid:b62e7280-0c3c-5e24-8cfd-269197d5ce42"
-    );
+    for (name, base, id) in IDS {
+        let right = has_id(rt.alloc(), name, base, id)?;
+        assert!(rt; right, "at {name}");
+    }
     Ok(())
 }
 
@@ -114,14 +140,6 @@ fn leaf() -> Target {
     }
 }
 
-fn epr(alloc: Global, address: &str) -> Result<Epr, AllocError> {
-    let address = Text::copied(alloc, address)?;
-    Ok(Epr {
-        address,
-        params: Text::copied(alloc, "")?,
-    })
-}
-
 fn leaf_sender(alloc: Global) -> Result<Sender, AllocError> {
     let base = Text::copied(alloc, "http://n3.example")?;
     let to = epr(alloc, "peer")?;
@@ -141,28 +159,12 @@ fn text_of(text: &Option<Text>) -> &str {
     }
 }
 
-fn address_in(epr: &Option<Epr>) -> &str {
-    match epr {
-        Some(epr) => epr.address.as_str(),
-        None => "-",
-    }
-}
-
 fn reply_in(reply: &Option<Reply>) -> &str {
     match reply {
         Some(Reply::Anonymous) => "anonymous",
         Some(Reply::Nobody) => "nobody",
         Some(Reply::At(epr)) => epr.address.as_str(),
         None => "-",
-    }
-}
-
-fn notice_name(notice: Notice) -> &'static str {
-    match notice {
-        Notice::Prepared => "Prepared",
-        Notice::Aborted => "Aborted",
-        Notice::Rollback => "Rollback",
-        _ => "another",
     }
 }
 
@@ -173,10 +175,7 @@ fn message_in(message: &Message) -> (&str, &str) {
             register.protocol.as_str(),
             register.participant.address.as_str(),
         ),
-        Message::Notice(notice) => (notice_name(*notice), "-"),
-        Message::WorkDone => ("WorkDone", "-"),
-        Message::Fault { name } => (name.as_str(), "-"),
-        _ => ("another", "-"),
+        _ => (message_name(message), "-"),
     }
 }
 
@@ -214,6 +213,12 @@ fn push_lines(alloc: Global, line: &mut String, outs: &OutList) -> Result<(), Al
     Ok(())
 }
 
+fn outs_lines(alloc: Global, outs: &OutList) -> Result<String, AllocError> {
+    let mut line = String::new(alloc);
+    push_lines(alloc, &mut line, outs)?;
+    Ok(line)
+}
+
 fn push_request_to(alloc: Global, outs: &mut OutList, s: &Sender) -> Result<(), AllocError> {
     let id = Text::copied(alloc, "asked")?;
     push_request(alloc, outs, &s.base, &s.own, &s.to, id, Message::WorkDone)
@@ -230,25 +235,28 @@ fn push_named(alloc: Global, outs: &mut OutList, s: &Sender, name: &str) -> Resu
     }
 }
 
+fn push_all(
+    alloc: Global,
+    outs: &mut OutList,
+    sender: &Sender,
+    names: &str,
+) -> Result<(), AllocError> {
+    for name in names.split(' ') {
+        push_named(alloc, outs, sender, name)?;
+    }
+    Ok(())
+}
+
 /// What is pushed, one after another.
 fn pushed(alloc: Global, names: &str) -> Result<String, AllocError> {
     let sender = leaf_sender(alloc)?;
     let mut outs = OutList::from_vec(Vec::new(alloc));
-    for name in names.split(' ') {
-        push_named(alloc, &mut outs, &sender, name)?;
-    }
-    let mut line = String::new(alloc);
-    push_lines(alloc, &mut line, &outs)?;
-    Ok(line)
+    push_all(alloc, &mut outs, &sender, names)?;
+    outs_lines(alloc, &outs)
 }
 
-// The MessageID was computed by Python's uuid.uuid5(uuid.NAMESPACE_URL, name).
-#[test]
-fn what_is_pushed(rt: HostRuntime) -> Result<(), Fail> {
-    let line = pushed(rt.alloc(), "notice stranger reply fault request register")?;
-    assert_eq!(rt;
-        line.as_str(),
-        "\
+/// What is pushed. The MessageID was computed by Python's uuid.uuid5(uuid.NAMESPACE_URL, name).
+const PUSHED: &str = "\
 own peer - - http://n3.example/p/d/1-1 nobody Prepared -\n\
 - peer - - - nobody Aborted -\n\
 - peer - id - - WorkDone -\n\
@@ -256,8 +264,13 @@ own peer - - http://n3.example/p/d/1-1 nobody Prepared -\n\
 - peer asked - - http://n3.example/p/d/1-1 WorkDone -\n\
 - peer urn:uuid:b62e7280-0c3c-5e24-8cfd-269197d5ce42 - - http://n3.example/p/d/1-1 \
 http://docs.oasis-open.org/ws-tx/wsat/2006/06/Completion http://n3.example/p/d/1-1\n\
-"
-    );
+";
+
+#[test]
+fn what_is_pushed(rt: HostRuntime) -> Result<(), Fail> {
+    let line = pushed(rt.alloc(), "notice stranger reply fault request register")?;
+    let right = line.as_str() == PUSHED;
+    assert!(rt; right, "{line}");
     Ok(())
 }
 
@@ -277,34 +290,50 @@ fn named(alloc: Global, s: &Sender, name: &str) -> Result<Post, AllocError> {
     }
 }
 
-/// The posts of these names, in a list, its copy or the list of its `Vec`.
+fn push_posts(
+    alloc: Global,
+    posts: &mut PostList,
+    sender: &Sender,
+    names: &str,
+) -> Result<(), AllocError> {
+    for name in names.split(' ') {
+        let post = named(alloc, sender, name)?;
+        posts.push(post)?;
+    }
+    Ok(())
+}
+
+/// The list of the `Vec` of a copy.
+fn copied(posts: &PostList) -> Result<PostList, AllocError> {
+    let copy = posts.clone()?;
+    Ok(PostList::from_vec(copy.into_vec()))
+}
+
+/// The posts of these names.
 fn listed(alloc: Global, names: &str) -> Result<PostList, AllocError> {
     let sender = leaf_sender(alloc)?;
     let mut posts = PostList::new(alloc);
-    for name in names.split(' ') {
-        let post = named(alloc, &sender, name)?;
-        posts.push(post)?;
+    push_posts(alloc, &mut posts, &sender, names)?;
+    copied(&posts)
+}
+
+fn push_list(alloc: Global, line: &mut String, posts: &PostList) -> Result<(), AllocError> {
+    for post in posts.as_slice() {
+        let text = post_line(alloc, post)?;
+        line.push_str(text.as_str())?;
     }
-    let copy = posts.clone()?;
-    Ok(PostList::from_vec(copy.into_vec()))
+    Ok(())
 }
 
 fn list_lines(alloc: Global, names: &str) -> Result<String, AllocError> {
     let posts = listed(alloc, names)?;
     let mut line = String::new(alloc);
-    for post in posts.as_slice() {
-        let text = post_line(alloc, post)?;
-        line.push_str(text.as_str())?;
-    }
+    push_list(alloc, &mut line, &posts)?;
     Ok(line)
 }
 
-#[test]
-fn what_is_posted(rt: HostRuntime) -> Result<(), Fail> {
-    let line = list_lines(rt.alloc(), "notice stranger reply fault request register")?;
-    assert_eq!(rt;
-        line.as_str(),
-        "\
+/// What is posted.
+const POSTED: &str = "\
 own peer - - - nobody Aborted -\n\
 - peer - - http://n3.example/p/d/1-1 nobody Rollback -\n\
 - - - id - - WorkDone -\n\
@@ -312,17 +341,14 @@ own peer - - - nobody Aborted -\n\
 - peer asked - - http://n3.example/p/d/1-1 WorkDone -\n\
 - peer urn:uuid:b62e7280-0c3c-5e24-8cfd-269197d5ce42 - - http://n3.example/p/d/1-1 \
 http://docs.oasis-open.org/ws-tx/wsat/2006/06/Volatile2PC http://n3.example/p/d/1-1\n\
-"
-    );
-    Ok(())
-}
+";
 
-fn reply_named(alloc: Global, name: &str) -> Result<Reply, AllocError> {
-    match name {
-        "nobody" => Ok(Reply::Nobody),
-        "anonymous" => Ok(Reply::Anonymous),
-        _ => Ok(Reply::At(epr(alloc, name)?)),
-    }
+#[test]
+fn what_is_posted(rt: HostRuntime) -> Result<(), Fail> {
+    let line = list_lines(rt.alloc(), "notice stranger reply fault request register")?;
+    let right = line.as_str() == POSTED;
+    assert!(rt; right, "{line}");
+    Ok(())
 }
 
 fn replies(alloc: Global, line: &mut String, name: &str) -> Result<(), AllocError> {
@@ -337,11 +363,15 @@ fn faults(alloc: Global, line: &mut String, name: &str) -> Result<(), AllocError
     push_lines(alloc, line, &outs)
 }
 
+fn push_accepted(alloc: Global, line: &mut String) -> Result<(), AllocError> {
+    let outs = accepted(alloc)?;
+    push_lines(alloc, line, &outs)
+}
+
 /// What is answered where the reply goes there.
 fn answers(alloc: Global, names: &str) -> Result<String, AllocError> {
     let mut line = String::new(alloc);
-    let outs = accepted(alloc)?;
-    push_lines(alloc, &mut line, &outs)?;
+    push_accepted(alloc, &mut line)?;
     for name in names.split(' ') {
         replies(alloc, &mut line, name)?;
         faults(alloc, &mut line, name)?;
@@ -349,12 +379,8 @@ fn answers(alloc: Global, names: &str) -> Result<String, AllocError> {
     Ok(line)
 }
 
-#[test]
-fn what_is_answered(rt: HostRuntime) -> Result<(), Fail> {
-    let line = answers(rt.alloc(), "nobody anonymous asker")?;
-    assert_eq!(rt;
-        line.as_str(),
-        "\
+/// What is answered.
+const ANSWERED: &str = "\
 202\n\
 202\n\
 202\n\
@@ -364,40 +390,53 @@ fn what_is_answered(rt: HostRuntime) -> Result<(), Fail> {
 - asker - - - - WorkDone -\n\
 202\n\
 - asker - - - - CannotCreateContext -\n\
-"
-    );
+";
+
+#[test]
+fn what_is_answered(rt: HostRuntime) -> Result<(), Fail> {
+    let line = answers(rt.alloc(), "nobody anonymous asker")?;
+    let right = line.as_str() == ANSWERED;
+    assert!(rt; right, "{line}");
     Ok(())
 }
 
 // The URIs of WS-AtomicTransaction 1.2 and the faults of WS-Coordination 1.2, section 5.
 #[test]
 fn names(rt: HostRuntime) -> Result<(), Fail> {
-    let durable = protocol_of(Kind::Durable);
-    assert_eq!(rt; atomic(), "http://docs.oasis-open.org/ws-tx/wsat/2006/06");
-    assert_eq!(rt;
-        durable,
-        "http://docs.oasis-open.org/ws-tx/wsat/2006/06/Durable2PC"
-    );
-    assert_eq!(rt; invalid_protocol(), "InvalidProtocol");
-    assert_eq!(rt; invalid_parameters(), "InvalidParameters");
-    assert_eq!(rt; cannot_register(), "CannotRegisterParticipant");
+    let uris = atomic() == "http://docs.oasis-open.org/ws-tx/wsat/2006/06"
+        && protocol_of(Kind::Durable) == "http://docs.oasis-open.org/ws-tx/wsat/2006/06/Durable2PC";
+    let faults = invalid_protocol() == "InvalidProtocol"
+        && invalid_parameters() == "InvalidParameters"
+        && cannot_register() == "CannotRegisterParticipant";
+    assert!(rt; uris && faults);
     Ok(())
 }
 
+fn is_address(epr: Option<&Epr>, address: &str) -> bool {
+    match epr {
+        Some(epr) => epr.address.as_str() == address,
+        None => false,
+    }
+}
+
+/// Whether a stored endpoint goes first, else the message's From.
+fn goes(own: &Option<Epr>, from: &Option<Epr>) -> bool {
+    is_address(stored_or(own, from), "http://n3.example/p/d/1-1")
+        && is_address(stored_or(&None, from), "from")
+        && stored_or(&None, &None).is_none()
+}
+
 /// The address of the leaf's endpoint, and where it writes to: to the stored endpoint, or to the message's From.
-fn endpoints(alloc: Global) -> Result<String, AllocError> {
+fn endpoints(alloc: Global) -> Result<bool, AllocError> {
+    let from = epr(alloc, "from")?;
     let sender = leaf_sender(alloc)?;
-    let own = Some(endpoint_of(alloc, &sender.base, &sender.own)?);
-    let from = Some(epr(alloc, "from")?);
-    let stored = stored_or(&own, &from).map_or("-", |epr| epr.address.as_str());
-    let arrived = stored_or(&None, &from).map_or("-", |epr| epr.address.as_str());
-    let nowhere = stored_or(&None, &None).is_none();
-    format!(in alloc; "{stored} {arrived} {nowhere}")
+    let own = endpoint_of(alloc, &sender.base, &sender.own)?;
+    Ok(goes(&Some(own), &Some(from)))
 }
 
 #[test]
 fn where_it_goes(rt: HostRuntime) -> Result<(), Fail> {
-    let line = endpoints(rt.alloc())?;
-    assert_eq!(rt; line.as_str(), "http://n3.example/p/d/1-1 from true");
+    let right = endpoints(rt.alloc())?;
+    assert!(rt; right);
     Ok(())
 }

@@ -164,29 +164,22 @@ fn voted(alloc: Global, numbers: &[u16]) -> Result<Record, AllocError> {
     })
 }
 
-fn prepared(
+/// Whether a record may have an endpoint, a key and a value of these lengths.
+fn may_have(
     alloc: Global,
-    coordinator: Epr,
+    endpoint_lengths: (usize, usize),
     key: &str,
     value: usize,
-) -> Result<Record, AllocError> {
+) -> Result<bool, AllocError> {
     let key = Text::copied(alloc, key)?;
     let value = repeated(alloc, "v", value)?;
-    Ok(Record::LeafPrepared {
+    let coordinator = endpoint(alloc, endpoint_lengths.0, endpoint_lengths.1)?;
+    let entry = Record::LeafPrepared {
         id: Id::new(1, 1),
         coordinator,
         key,
         value,
-    })
-}
-
-fn has_bounds(alloc: Global, address: usize, params: usize) -> Result<bool, AllocError> {
-    let entry = prepared(alloc, endpoint(alloc, address, params)?, "key", 256)?;
-    Ok(is_well_formed(&entry))
-}
-
-fn has_key(alloc: Global, key: &str, value: usize) -> Result<bool, AllocError> {
-    let entry = prepared(alloc, endpoint(alloc, 1, 0)?, key, value)?;
+    };
     Ok(is_well_formed(&entry))
 }
 
@@ -202,8 +195,9 @@ fn has_voted(alloc: Global, numbers: &[u16]) -> Result<bool, AllocError> {
 
 #[test]
 fn starts_at_their_bounds(rt: HostRuntime) -> Result<(), Fail> {
-    assert!(rt; is_well_formed(&Record::Start { incarnation: 1 }));
-    assert!(rt; !is_well_formed(&Record::Start { incarnation: 0 }));
+    let first = is_well_formed(&Record::Start { incarnation: 1 });
+    let none = is_well_formed(&Record::Start { incarnation: 0 });
+    assert!(rt; first && !none);
     Ok(())
 }
 
@@ -219,32 +213,32 @@ const ENDPOINTS: &[(usize, usize, bool)] = &[
 #[test]
 fn endpoints_at_their_bounds(rt: HostRuntime) -> Result<(), Fail> {
     for (address, params, good) in ENDPOINTS {
-        let found = has_bounds(rt.alloc(), *address, *params)?;
+        let found = may_have(rt.alloc(), (*address, *params), "key", 256)?;
         assert!(rt; found == *good, "at {address} and {params}");
     }
     Ok(())
 }
 
-/// Keys, and whether a record may have them.
-const KEYS: &[(&str, bool)] = &[
+/// Keys, lengths of a value, and whether a record may have them.
+const KEYS: &[(&str, usize, bool)] = &[
     (
         "\u{9}\u{a}\u{d} \u{d7ff}\u{e000}\u{fffd}\u{10000}\u{10ffff}",
+        0,
         true,
     ),
-    ("\u{b}", false),
-    ("\u{0}", false),
-    ("\u{fffe}", false),
-    ("\u{ffff}", false),
+    ("\u{b}", 0, false),
+    ("\u{0}", 0, false),
+    ("\u{fffe}", 0, false),
+    ("\u{ffff}", 0, false),
+    ("key", 257, false),
 ];
 
 #[test]
 fn keys_at_their_bounds(rt: HostRuntime) -> Result<(), Fail> {
-    for (key, good) in KEYS {
-        let found = has_key(rt.alloc(), key, 0)?;
+    for (key, value, good) in KEYS {
+        let found = may_have(rt.alloc(), (1, 0), key, *value)?;
         assert!(rt; found == *good, "at {key:?}");
     }
-    let found = has_key(rt.alloc(), "key", 257)?;
-    assert!(rt; !found);
     Ok(())
 }
 

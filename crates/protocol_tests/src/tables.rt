@@ -4,6 +4,7 @@ use at_base::notice::{Kind, Notice};
 use at_tables::cells::{
     Cell, State, completion_cell, coordinator_cell, initiator_cell, participant_cell,
 };
+use std::alloc::{AllocError, Global};
 use std::test::Fail;
 
 const COORDINATOR: &str = "\
@@ -108,31 +109,35 @@ const NOTICES: &[Notice] = &[
     Notice::Committed,
 ];
 
+/// What the table's line of this head has, empty where there is no such line.
+fn line_of(table: &'static str, head: &str) -> &'static str {
+    for line in table.lines() {
+        if let Some(rest) = line.strip_prefix(head) {
+            return rest;
+        }
+    }
+    ""
+}
+
+/// A cell as a line has it, empty where there is none.
+fn cell_text(alloc: Global, cell: Option<Cell>) -> Result<String, AllocError> {
+    match cell {
+        Some(cell) => format!(in alloc; "{} -> {}", cell.act.text(), cell.next.name()),
+        None => Ok(String::new(alloc)),
+    }
+}
+
 /// Whether a cell is the one that the table's line of this row and notice has; none where there is no such line.
 fn stands(
-    rt: HostRuntime,
-    table: &str,
+    alloc: Global,
+    table: &'static str,
     row: &str,
     notice: Notice,
     cell: Option<Cell>,
-) -> Result<bool, Fail> {
-    let head = format!(in rt.alloc(); "{row}, {notice:?}: ")?;
-    for line in table.lines() {
-        if let Some(rest) = line.strip_prefix(head.as_str()) {
-            return match cell {
-                Some(cell) => {
-                    let text = format!(in rt.alloc();
-                        "{} -> {}",
-                        cell.act.text(),
-                        cell.next.name()
-                    )?;
-                    Ok(text.as_str() == rest)
-                }
-                None => Ok(false),
-            };
-        }
-    }
-    Ok(cell.is_none())
+) -> Result<bool, AllocError> {
+    let head = format!(in alloc; "{row}, {notice:?}: ")?;
+    let text = cell_text(alloc, cell)?;
+    Ok(text.as_str() == line_of(table, head.as_str()))
 }
 
 fn seat_row(kind: Kind, state: State) -> &'static str {
@@ -143,27 +148,32 @@ fn seat_row(kind: Kind, state: State) -> &'static str {
     }
 }
 
-fn seat_stands(rt: HostRuntime, kind: Kind, state: State, notice: Notice) -> Result<bool, Fail> {
+fn seat_stands(
+    alloc: Global,
+    kind: Kind,
+    state: State,
+    notice: Notice,
+) -> Result<bool, AllocError> {
     let cell = coordinator_cell(kind, state, notice);
-    let coordinator = stands(rt, COORDINATOR, seat_row(kind, state), notice, cell)?;
+    let coordinator = stands(alloc, COORDINATOR, seat_row(kind, state), notice, cell)?;
     let cell = participant_cell(kind, state, notice);
-    let participant = stands(rt, PARTICIPANT, state.name(), notice, cell)?;
+    let participant = stands(alloc, PARTICIPANT, state.name(), notice, cell)?;
     Ok(coordinator && participant)
 }
 
-fn root_stands(rt: HostRuntime, state: State, notice: Notice) -> Result<bool, Fail> {
+fn root_stands(alloc: Global, state: State, notice: Notice) -> Result<bool, AllocError> {
     let cell = completion_cell(state, notice);
-    let completion = stands(rt, COMPLETION, state.name(), notice, cell)?;
+    let completion = stands(alloc, COMPLETION, state.name(), notice, cell)?;
     let cell = initiator_cell(state, notice);
-    let initiator = stands(rt, INITIATOR, state.name(), notice, cell)?;
+    let initiator = stands(alloc, INITIATOR, state.name(), notice, cell)?;
     Ok(completion && initiator)
 }
 
 /// Whether the cells of a state and a notice are those of the four tables.
-fn all_stand(rt: HostRuntime, state: State, notice: Notice) -> Result<bool, Fail> {
-    let durable = seat_stands(rt, Kind::Durable, state, notice)?;
-    let volatile = seat_stands(rt, Kind::Volatile, state, notice)?;
-    let root = root_stands(rt, state, notice)?;
+fn all_stand(alloc: Global, state: State, notice: Notice) -> Result<bool, AllocError> {
+    let durable = seat_stands(alloc, Kind::Durable, state, notice)?;
+    let volatile = seat_stands(alloc, Kind::Volatile, state, notice)?;
+    let root = root_stands(alloc, state, notice)?;
     Ok(durable && volatile && root)
 }
 
@@ -171,7 +181,7 @@ fn all_stand(rt: HostRuntime, state: State, notice: Notice) -> Result<bool, Fail
 fn every_cell(rt: HostRuntime) -> Result<(), Fail> {
     for state in STATES {
         for notice in NOTICES {
-            let right = all_stand(rt, *state, *notice)?;
+            let right = all_stand(rt.alloc(), *state, *notice)?;
             assert!(rt; right, "at {} and {notice:?}", state.name());
         }
     }
@@ -181,8 +191,10 @@ fn every_cell(rt: HostRuntime) -> Result<(), Fail> {
 #[test]
 fn every_name(rt: HostRuntime) -> Result<(), Fail> {
     for state in STATES {
-        assert!(rt; State::from_name(state.name()) == Some(*state));
+        let same = State::from_name(state.name()) == Some(*state);
+        assert!(rt; same, "at {}", state.name());
     }
-    assert!(rt; State::from_name("none").is_none() && State::from_name("").is_none());
+    let absent = State::from_name("none").is_none() && State::from_name("").is_none();
+    assert!(rt; absent);
     Ok(())
 }

@@ -84,10 +84,9 @@ fn text(alloc: Global, text: &str) -> Result<Text, AllocError> {
 }
 
 fn epr(alloc: Global, address: &str) -> Result<Epr, AllocError> {
-    Ok(Epr {
-        address: text(alloc, address)?,
-        params: text(alloc, "")?,
-    })
+    let address = text(alloc, address)?;
+    let params = Text::from_string(String::new(alloc));
+    Ok(Epr { address, params })
 }
 
 fn moment_at(alloc: Global, now: u64, next: Option<Id>) -> Result<Moment, AllocError> {
@@ -285,9 +284,7 @@ fn push_outs(alloc: Global, line: &mut String, outs: &OutList) -> Result<(), All
 fn outs_line(alloc: Global, outs: &Outs) -> Result<String, AllocError> {
     let mut line = String::new(alloc);
     push_outs(alloc, &mut line, &outs.outs)?;
-    for effect in outs.effects.as_slice() {
-        line.push_str(effect_line(alloc, effect)?.as_str())?;
-    }
+    push_effects(alloc, &mut line, outs.effects.as_slice())?;
     Ok(line)
 }
 
@@ -295,10 +292,10 @@ fn outs_line(alloc: Global, outs: &Outs) -> Result<String, AllocError> {
 fn step(
     alloc: Global,
     transactions: &mut Transactions,
-    event: Box<Event>,
+    event: &Event,
     moment: &Moment,
 ) -> Result<String, AllocError> {
-    let plan = transactions.plan(alloc, event.as_ref(), moment)?;
+    let plan = transactions.plan(alloc, event, moment)?;
     let outs = transactions.apply(plan, true);
     outs_line(alloc, &outs)
 }
@@ -309,13 +306,16 @@ fn arrived(
     postable: bool,
     message: Message,
 ) -> Result<Event, AllocError> {
+    let id = text(alloc, "id")?;
+    let reply = epr(alloc, "reply")?;
+    let fault = epr(alloc, "fault")?;
     Ok(Event::Arrived(Arrived {
         target,
-        id: Some(text(alloc, "id")?),
+        id: Some(id),
         relates: None,
         from: None,
-        reply: Reply::At(epr(alloc, "reply")?),
-        fault: Reply::At(epr(alloc, "fault")?),
+        reply: Reply::At(reply),
+        fault: Reply::At(fault),
         postable,
         message,
     }))
@@ -330,24 +330,29 @@ fn protocol_of(name: &str) -> &'static str {
     }
 }
 
+fn register_of(alloc: Global, protocol: &str, participant: &str) -> Result<Register, AllocError> {
+    let protocol = text(alloc, protocol_of(protocol))?;
+    let participant = epr(alloc, participant)?;
+    Ok(Register {
+        protocol,
+        participant,
+    })
+}
+
 /// A Register at the transaction 1-1.
 fn register(
     alloc: Global,
     protocol: &str,
     participant: &str,
     postable: bool,
-) -> Result<Box<Event>, AllocError> {
-    let register = Register {
-        protocol: text(alloc, protocol_of(protocol))?,
-        participant: epr(alloc, participant)?,
-    };
-    let event = arrived(
+) -> Result<Event, AllocError> {
+    let register = register_of(alloc, protocol, participant)?;
+    arrived(
         alloc,
         Target::Registration(Id::new(1, 1)),
         postable,
         Message::Register(register),
-    )?;
-    Ok(Box::new(alloc, event)?)
+    )
 }
 
 /// The number of seats of the one transaction, and the states of the last one and of the completion seat.
@@ -367,20 +372,43 @@ fn seats_line(alloc: Global, transactions: &Transactions) -> Result<String, Allo
     format!(in alloc; "{count} {last} {completion}")
 }
 
-/// What a row's Register gives.
-fn registered(alloc: Global, row: &str) -> Result<String, AllocError> {
-    let mut words = row.split_whitespace();
-    let phase = words.next().unwrap_or("");
-    let part = words.next().unwrap_or("");
-    let count: u16 = words.next().unwrap_or("").parse().unwrap_or(0);
-    let mut transactions = one(alloc, phase, part, count, "Active")?;
-    let protocol = words.next().unwrap_or("");
-    let participant = words.next().unwrap_or("");
-    let event = register(alloc, protocol, participant, words.next() == Some("yes"))?;
+/// The part of a text at this place, empty where there is none.
+fn part(text: &str, separator: char, place: usize) -> &str {
+    text.split(separator).nth(place).unwrap_or("")
+}
+
+/// Whether this is sent at a step, and the seats are these then.
+fn registers(
+    alloc: Global,
+    transactions: &mut Transactions,
+    event: &Event,
+    moment: &Moment,
+    row: &str,
+) -> Result<bool, AllocError> {
+    let outs = step(alloc, transactions, event, moment)?;
+    let seats = seats_line(alloc, transactions)?;
+    Ok(outs.as_str() == part(row, '|', 1) && seats.as_str() == part(row, '|', 2))
+}
+
+/// Whether a row's Register gives what the row says.
+fn registered(alloc: Global, row: &str) -> Result<bool, AllocError> {
+    let given = part(row, '|', 0);
+    let count: u16 = part(given, ' ', 2).parse().unwrap_or(0);
     let moment = moment_at(alloc, 100001, None)?;
-    let outs = step(alloc, &mut transactions, event, &moment)?;
-    let seats = seats_line(alloc, &transactions)?;
-    format!(in alloc; "{outs}|{seats}")
+    let event = register(
+        alloc,
+        part(given, ' ', 3),
+        part(given, ' ', 4),
+        part(given, ' ', 5) == "yes",
+    )?;
+    let mut transactions = one(
+        alloc,
+        part(given, ' ', 0),
+        part(given, ' ', 1),
+        count,
+        "Active",
+    )?;
+    registers(alloc, &mut transactions, &event, &moment, row)
 }
 
 fn phase_name(transactions: &Transactions) -> &'static str {
@@ -398,58 +426,50 @@ fn phase_name(transactions: &Transactions) -> &'static str {
     }
 }
 
-/// What a row's transaction does when it is asked.
-fn asked(alloc: Global, row: &str) -> Result<String, AllocError> {
-    let mut words = row.split_whitespace();
-    let phase = words.next().unwrap_or("");
-    let part = words.next().unwrap_or("");
-    let state = words.next().unwrap_or("");
-    let mut transactions = one(alloc, phase, part, 1, state)?;
-    let now: u64 = words.next().unwrap_or("").parse().unwrap_or(0);
+/// Whether this is the phase behind a step, and what is sent and happened.
+fn passes(
+    alloc: Global,
+    transactions: &mut Transactions,
+    event: &Event,
+    moment: &Moment,
+    wanted: &str,
+) -> Result<bool, AllocError> {
+    let outs = step(alloc, transactions, event, moment)?;
+    let found = format!(in alloc; "{}{outs}", phase_name(transactions))?;
+    Ok(found.as_str() == wanted)
+}
+
+/// Whether a row's transaction does what the row says when it is asked.
+fn asked(alloc: Global, row: &str) -> Result<bool, AllocError> {
+    let given = part(row, '|', 0);
+    let now: u64 = part(given, ' ', 3).parse().unwrap_or(0);
     let moment = moment_at(alloc, now, None)?;
-    let due = Box::new(alloc, Event::Due(Item::Transaction(Id::new(1, 1))))?;
-    let outs = step(alloc, &mut transactions, due, &moment)?;
-    let phase = phase_name(&transactions);
-    format!(in alloc; "{phase}{outs}")
-}
-
-/// The registers' rows that don't stand, a line each.
-fn wrong_registers(alloc: Global) -> Result<String, AllocError> {
-    let mut wrong = String::new(alloc);
-    for row in REGISTERS.lines() {
-        let (given, wanted) = row.split_once('|').unwrap_or((row, ""));
-        if registered(alloc, given)?.as_str() != wanted {
-            wrong.push_str(row)?;
-            wrong.push_str("\n")?;
-        }
-    }
-    Ok(wrong)
-}
-
-/// The times' rows that don't stand, a line each.
-fn wrong_times(alloc: Global) -> Result<String, AllocError> {
-    let mut wrong = String::new(alloc);
-    for row in TIMES.lines() {
-        let (given, wanted) = row.split_once('|').unwrap_or((row, ""));
-        if asked(alloc, given)?.as_str() != wanted {
-            wrong.push_str(row)?;
-            wrong.push_str("\n")?;
-        }
-    }
-    Ok(wrong)
+    let due = Event::Due(Item::Transaction(Id::new(1, 1)));
+    let mut transactions = one(
+        alloc,
+        part(given, ' ', 0),
+        part(given, ' ', 1),
+        1,
+        part(given, ' ', 2),
+    )?;
+    passes(alloc, &mut transactions, &due, &moment, part(row, '|', 1))
 }
 
 #[test]
 fn each_register(rt: HostRuntime) -> Result<(), Fail> {
-    let wrong = wrong_registers(rt.alloc())?;
-    assert_eq!(rt; wrong.as_str(), "");
+    for row in REGISTERS.lines() {
+        let right = registered(rt.alloc(), row)?;
+        assert!(rt; right, "at {row}");
+    }
     Ok(())
 }
 
 #[test]
 fn each_time(rt: HostRuntime) -> Result<(), Fail> {
-    let wrong = wrong_times(rt.alloc())?;
-    assert_eq!(rt; wrong.as_str(), "");
+    for row in TIMES.lines() {
+        let right = asked(rt.alloc(), row)?;
+        assert!(rt; right, "at {row}");
+    }
     Ok(())
 }
 
@@ -476,7 +496,7 @@ fn current(alloc: Global) -> Result<Context, AllocError> {
 }
 
 /// A CreateCoordinationContext of this coordination type, for a root or a subordinate.
-fn create(alloc: Global, coordination: &str, part: &str) -> Result<Box<Event>, AllocError> {
+fn create(alloc: Global, coordination: &str, part: &str) -> Result<Event, AllocError> {
     let coordination = text(alloc, coordination)?;
     let current = match part {
         "sub" => Some(current(alloc)?),
@@ -487,88 +507,102 @@ fn create(alloc: Global, coordination: &str, part: &str) -> Result<Box<Event>, A
         current,
         coordination,
     };
-    let event = arrived(alloc, Target::Activation, false, Message::Create(create))?;
-    Ok(Box::new(alloc, event)?)
-}
-
-/// What is sent at a CreateCoordinationContext where so many live, and how many live then.
-fn created(
-    alloc: Global,
-    live: u32,
-    next: Option<Id>,
-    coordination: &str,
-    part: &str,
-) -> Result<String, AllocError> {
-    let mut transactions = roots(alloc, live)?;
-    let event = create(alloc, coordination, part)?;
-    let moment = moment_at(alloc, 7, next)?;
-    let outs = step(alloc, &mut transactions, event, &moment)?;
-    let live = transactions.len();
-    format!(in alloc; "{live}{outs}")
+    arrived(alloc, Target::Activation, false, Message::Create(create))
 }
 
 const ATOMIC: &str = "http://docs.oasis-open.org/ws-tx/wsat/2006/06";
 
-#[test]
-fn creates_a_root(rt: HostRuntime) -> Result<(), Fail> {
-    let line = created(rt.alloc(), 1023, Some(Id::new(2, 1)), ATOMIC, "root")?;
-    assert_eq!(rt; line.as_str(), "1024 202 http://n1/t/2-1@reply");
-    Ok(())
+const OTHER: &str = "http://docs.oasis-open.org/ws-tx/wsba/2006/06/AtomicOutcome";
+
+/// How many live, whether an id is left, the coordination type and the part of a CreateCoordinationContext; and how many
+/// live then, and what is sent.
+const CREATES: &[(u32, bool, &str, &str, &str)] = &[
+    (1023, true, ATOMIC, "root", "1024 202 http://n1/t/2-1@reply"),
+    (
+        0,
+        true,
+        ATOMIC,
+        "sub",
+        "1 202 Register@registration Register@registration",
+    ),
+    (
+        1024,
+        true,
+        ATOMIC,
+        "root",
+        "1024 202 CannotCreateContext@fault",
+    ),
+    (0, false, ATOMIC, "root", "0 202 CannotCreateContext@fault"),
+    (0, true, OTHER, "root", "0 202 CannotCreateContext@fault"),
+];
+
+/// Whether so many live behind a step, and this is sent.
+fn counts(
+    alloc: Global,
+    transactions: &mut Transactions,
+    event: &Event,
+    moment: &Moment,
+    wanted: &str,
+) -> Result<bool, AllocError> {
+    let outs = step(alloc, transactions, event, moment)?;
+    let found = format!(in alloc; "{}{outs}", transactions.len())?;
+    Ok(found.as_str() == wanted)
+}
+
+fn creates(alloc: Global, row: &(u32, bool, &str, &str, &str)) -> Result<bool, AllocError> {
+    let (live, left, coordination, part, wanted) = row;
+    let next = if *left { Some(Id::new(2, 1)) } else { None };
+    let moment = moment_at(alloc, 7, next)?;
+    let event = create(alloc, coordination, part)?;
+    let mut transactions = roots(alloc, *live)?;
+    counts(alloc, &mut transactions, &event, &moment, wanted)
 }
 
 #[test]
-fn creates_a_subordinate(rt: HostRuntime) -> Result<(), Fail> {
-    let line = created(rt.alloc(), 0, Some(Id::new(2, 1)), ATOMIC, "sub")?;
-    assert_eq!(rt;
-        line.as_str(),
-        "1 202 Register@registration Register@registration"
-    );
+fn creates_where_there_is_room(rt: HostRuntime) -> Result<(), Fail> {
+    for row in CREATES {
+        let right = creates(rt.alloc(), row)?;
+        assert!(rt; right, "at {}", row.4);
+    }
     Ok(())
 }
 
-#[test]
-fn creates_no_more_than_1024(rt: HostRuntime) -> Result<(), Fail> {
-    let line = created(rt.alloc(), 1024, Some(Id::new(2, 1)), ATOMIC, "root")?;
-    assert_eq!(rt; line.as_str(), "1024 202 CannotCreateContext@fault");
-    Ok(())
-}
+/// The protocol of a Register, whether its participant can be posted to, and what it is answered where no transaction is
+/// known.
+const UNKNOWN: &[(&str, bool, &str)] = &[
+    ("Durable", true, " 202 CannotRegisterParticipant@fault"),
+    ("Durable", false, " 202 InvalidParameters@fault"),
+    ("Unknown", false, " 202 InvalidProtocol@fault"),
+];
 
-#[test]
-fn creates_nothing_without_an_id(rt: HostRuntime) -> Result<(), Fail> {
-    let line = created(rt.alloc(), 0, None, ATOMIC, "root")?;
-    assert_eq!(rt; line.as_str(), "0 202 CannotCreateContext@fault");
-    Ok(())
-}
-
-#[test]
-fn creates_nothing_of_another_type(rt: HostRuntime) -> Result<(), Fail> {
-    let other = "http://docs.oasis-open.org/ws-tx/wsba/2006/06/AtomicOutcome";
-    let line = created(rt.alloc(), 0, Some(Id::new(2, 1)), other, "root")?;
-    assert_eq!(rt; line.as_str(), "0 202 CannotCreateContext@fault");
-    Ok(())
-}
-
-/// What a Register for this protocol is answered where no transaction is known.
-fn unknown(alloc: Global, protocol: &str, postable: bool) -> Result<String, AllocError> {
-    let mut line = String::new(alloc);
-    let event = register(alloc, protocol, "new", postable)?;
-    if let Event::Arrived(arrived) = event.as_ref() {
+fn answer(alloc: Global, event: &Event) -> Result<OutList, AllocError> {
+    if let Event::Arrived(arrived) = event {
         if let Message::Register(register) = &arrived.message {
-            let outs = register_unknown(alloc, arrived, register)?;
-            push_outs(alloc, &mut line, &outs)?;
+            return register_unknown(alloc, arrived, register);
         }
     }
-    Ok(line)
+    Ok(OutList::from_vec(Vec::new(alloc)))
+}
+
+fn unknown(
+    alloc: Global,
+    protocol: &str,
+    postable: bool,
+    wanted: &str,
+) -> Result<bool, AllocError> {
+    let event = register(alloc, protocol, "new", postable)?;
+    let outs = answer(alloc, &event)?;
+    let mut line = String::new(alloc);
+    push_outs(alloc, &mut line, &outs)?;
+    Ok(line.as_str() == wanted)
 }
 
 #[test]
 fn unknown_transactions(rt: HostRuntime) -> Result<(), Fail> {
-    let mut lines = unknown(rt.alloc(), "Durable", true)?;
-    lines.push_str(unknown(rt.alloc(), "Durable", false)?.as_str())?;
-    lines.push_str(unknown(rt.alloc(), "Unknown", false)?.as_str())?;
-    let wanted =
-        " 202 CannotRegisterParticipant@fault 202 InvalidParameters@fault 202 InvalidProtocol@fault";
-    assert_eq!(rt; lines.as_str(), wanted);
+    for (protocol, postable, wanted) in UNKNOWN {
+        let right = unknown(rt.alloc(), protocol, *postable, wanted)?;
+        assert!(rt; right, "at {wanted}");
+    }
     Ok(())
 }
 
@@ -582,34 +616,43 @@ fn two(alloc: Global) -> Result<Transactions, AllocError> {
     Transactions::from_vec(items)
 }
 
-/// What going down loses, of a subordinate and a root.
-fn lost(alloc: Global) -> Result<String, AllocError> {
-    let mut line = String::new(alloc);
-    let transactions = two(alloc)?;
-    let effects = transactions.lost(alloc)?;
-    for effect in effects.as_slice() {
+fn push_effects(alloc: Global, line: &mut String, effects: &[Effect]) -> Result<(), AllocError> {
+    for effect in effects {
         line.push_str(effect_line(alloc, effect)?.as_str())?;
     }
-    Ok(line)
+    Ok(())
+}
+
+/// Whether going down loses this, of a subordinate and a root.
+fn loses(alloc: Global, wanted: &str) -> Result<bool, AllocError> {
+    let transactions = two(alloc)?;
+    let effects = transactions.lost(alloc)?;
+    let mut line = String::new(alloc);
+    push_effects(alloc, &mut line, effects.as_slice())?;
+    Ok(line.as_str() == wanted)
 }
 
 #[test]
 fn lost_transactions(rt: HostRuntime) -> Result<(), Fail> {
-    let line = lost(rt.alloc())?;
-    assert_eq!(rt; line.as_str(), " RootLost SubLost");
+    let right = loses(rt.alloc(), " RootLost SubLost")?;
+    assert!(rt; right);
     Ok(())
 }
 
-/// Whether both are due at 200000, in the order of making.
+/// Whether both are due at this time, in the order of making.
+fn are_due(transactions: &Transactions, moment: &Moment) -> bool {
+    let first = transactions.next_due(None, moment) == Some(Id::new(1, 1));
+    let second = transactions.next_due(Some(Id::new(1, 1)), moment) == Some(Id::new(1, 2));
+    let last = transactions.next_due(Some(Id::new(1, 2)), moment).is_none();
+    first && second && last
+}
+
+/// Whether both are due at 200000, and none before.
 fn due(alloc: Global) -> Result<bool, AllocError> {
-    let transactions = two(alloc)?;
     let early = moment_at(alloc, 199999, None)?;
     let late = moment_at(alloc, 200000, None)?;
-    let first = transactions.next_due(None, &late) == Some(Id::new(1, 1));
-    let second = transactions.next_due(Some(Id::new(1, 1)), &late) == Some(Id::new(1, 2));
-    let last = transactions.next_due(Some(Id::new(1, 2)), &late).is_none();
-    let none = transactions.next_due(None, &early).is_none();
-    Ok(first && second && last && none)
+    let transactions = two(alloc)?;
+    Ok(are_due(&transactions, &late) && transactions.next_due(None, &early).is_none())
 }
 
 #[test]

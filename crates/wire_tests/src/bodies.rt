@@ -11,106 +11,124 @@ use context::writer::{
     write_create_response, write_register, write_register_response,
 };
 use soap_profile::build::qualified;
-use std::alloc::Global;
+use std::alloc::{AllocError, Global};
 use std::test::Fail;
 use xml_grammar::reader::read_tree;
 use xml_profile::tree::Tree;
 use xml_profile::writer::write_tree;
 
-fn told_fault(alloc: Global, fault: &ContextFault) -> Result<String, Fail> {
-    Ok(match fault {
-        ContextFault::Parameters { name } => {
-            format!(in alloc; "parameters {}", name.local_name())?
-        }
-        ContextFault::NoMemory => format!(in alloc; "out of memory")?,
-    })
+fn told_fault(alloc: Global, fault: &ContextFault) -> Result<String, AllocError> {
+    match fault {
+        ContextFault::Parameters { name } => format!(in alloc; "parameters {}", name.local_name()),
+        ContextFault::NoMemory => format!(in alloc; "out of memory"),
+    }
 }
 
-fn told_expires(alloc: Global, expires: Option<u32>) -> Result<String, Fail> {
-    Ok(match expires {
-        Some(milliseconds) => format!(in alloc; "{milliseconds}")?,
-        None => format!(in alloc; "-")?,
-    })
+fn told_expires(alloc: Global, expires: Option<u32>) -> Result<String, AllocError> {
+    match expires {
+        Some(milliseconds) => format!(in alloc; "{milliseconds}"),
+        None => format!(in alloc; "-"),
+    }
 }
 
-fn told_epr(alloc: Global, epr: &Epr) -> Result<String, Fail> {
-    Ok(format!(in alloc; "{} {}", epr.address.as_str(), epr.params.as_str().len())?)
+fn told_epr(alloc: Global, epr: &Epr) -> Result<String, AllocError> {
+    format!(in alloc; "{} {}", epr.address.as_str(), epr.params.as_str().len())
 }
 
 /// Identifier, Expires, CoordinationType, address, and how long the reference parameters are.
-fn told_context(alloc: Global, context: &Context) -> Result<String, Fail> {
+fn told_context(alloc: Global, context: &Context) -> Result<String, AllocError> {
     let expires = told_expires(alloc, context.expires)?;
-    let registration = told_epr(alloc, &context.registration)?;
-    Ok(format!(in alloc;
-        "{} {expires} {} {registration}",
+    format!(in alloc;
+        "{} {expires} {} {} {}",
         context.identifier.as_str(),
-        context.coordination.as_str()
-    )?)
+        context.coordination.as_str(),
+        context.registration.address.as_str(),
+        context.registration.params.as_str().len()
+    )
+}
+
+fn told_current(alloc: Global, current: &Option<Context>) -> Result<String, AllocError> {
+    match current {
+        Some(context) => told_context(alloc, context),
+        None => format!(in alloc; "-"),
+    }
 }
 
 /// Expires, the current context in brackets, CoordinationType.
-fn told_create(alloc: Global, body: &Create) -> Result<String, Fail> {
+fn told_create(alloc: Global, body: &Create) -> Result<String, AllocError> {
     let expires = told_expires(alloc, body.expires)?;
-    let current = match &body.current {
-        Some(context) => told_context(alloc, context)?,
-        None => format!(in alloc; "-")?,
-    };
-    Ok(format!(in alloc; "{expires} [{current}] {}", body.coordination.as_str())?)
+    let current = told_current(alloc, &body.current)?;
+    format!(in alloc; "{expires} [{current}] {}", body.coordination.as_str())
 }
 
-fn told_register(alloc: Global, body: &Register) -> Result<String, Fail> {
-    let participant = told_epr(alloc, &body.participant)?;
-    Ok(format!(in alloc; "{} {participant}", body.protocol.as_str())?)
+fn told_register(alloc: Global, body: &Register) -> Result<String, AllocError> {
+    format!(in alloc;
+        "{} {} {}",
+        body.protocol.as_str(),
+        body.participant.address.as_str(),
+        body.participant.params.as_str().len()
+    )
 }
 
-fn create_of(alloc: Global, tree: &Tree) -> Result<String, Fail> {
+fn create_of(alloc: Global, tree: &Tree) -> Result<String, AllocError> {
     match read_create(alloc, tree) {
         Ok(body) => told_create(alloc, &body),
         Err(fault) => told_fault(alloc, &fault),
     }
 }
 
-fn create_response_of(alloc: Global, tree: &Tree) -> Result<String, Fail> {
+fn create_response_of(alloc: Global, tree: &Tree) -> Result<String, AllocError> {
     match read_create_response(alloc, tree) {
         Ok(context) => told_context(alloc, &context),
         Err(fault) => told_fault(alloc, &fault),
     }
 }
 
-fn register_of(alloc: Global, tree: &Tree) -> Result<String, Fail> {
+fn register_of(alloc: Global, tree: &Tree) -> Result<String, AllocError> {
     match read_register(alloc, tree) {
         Ok(body) => told_register(alloc, &body),
         Err(fault) => told_fault(alloc, &fault),
     }
 }
 
-fn register_response_of(alloc: Global, tree: &Tree) -> Result<String, Fail> {
+fn register_response_of(alloc: Global, tree: &Tree) -> Result<String, AllocError> {
     match read_register_response(alloc, tree) {
         Ok(epr) => told_epr(alloc, &epr),
         Err(fault) => told_fault(alloc, &fault),
     }
 }
 
-fn context_of(alloc: Global, tree: &Tree) -> Result<String, Fail> {
+fn context_of(alloc: Global, tree: &Tree) -> Result<String, AllocError> {
     match read_context(alloc, tree) {
         Ok(context) => told_context(alloc, &context),
         Err(fault) => told_fault(alloc, &fault),
     }
 }
 
-/// What the body with these children says that is read as this message.
-fn outcome(alloc: Global, message: &str, children: &str) -> Result<String, Fail> {
+/// What a tree says that is read as this message.
+fn said(alloc: Global, message: &str, tree: &Tree) -> Result<String, AllocError> {
+    match message {
+        "Create" => create_of(alloc, tree),
+        "CreateResponse" => create_response_of(alloc, tree),
+        "Register" => register_of(alloc, tree),
+        "RegisterResponse" => register_response_of(alloc, tree),
+        _ => context_of(alloc, tree),
+    }
+}
+
+/// The tree of a body with these children.
+fn tree_of(alloc: Global, children: &str) -> Result<Tree, Fail> {
     let spelled = format!(in alloc;
         "<a xmlns:w=\"http://www.w3.org/2005/08/addressing\" xmlns:c=\"http://docs.oasis-open.org/ws-tx/wscoor/2006/06\">{children}</a>"
     )?;
-    let tree = read_tree(alloc, spelled.as_bytes())?;
-    match message {
-        "Create" => create_of(alloc, &tree),
-        "CreateResponse" => create_response_of(alloc, &tree),
-        "Register" => register_of(alloc, &tree),
-        "RegisterResponse" => register_response_of(alloc, &tree),
-        _ => context_of(alloc, &tree),
-    }
+    Ok(read_tree(alloc, spelled.as_bytes())?)
+}
+
+/// Whether the body with these children that is read as this message says this.
+fn says(alloc: Global, message: &str, children: &str, wanted: &str) -> Result<bool, Fail> {
+    let tree = tree_of(alloc, children)?;
+    let found = said(alloc, message, &tree)?;
+    Ok(found.as_str() == wanted)
 }
 
 /// Bodies, and what they say.
@@ -254,133 +272,148 @@ const BODIES: &[(&str, &str, &str)] = &[
 #[test]
 fn reads_bodies(rt: HostRuntime) -> Result<(), Fail> {
     for (message, children, wanted) in BODIES {
-        let found = outcome(rt.alloc(), message, children)?;
-        assert!(rt; found.as_str() == *wanted, "at {message} {children}");
+        let right = says(rt.alloc(), message, children, wanted)?;
+        assert!(rt; right, "at {message} {children}");
     }
     Ok(())
 }
 
-/// What a context says that has an identifier of so many bytes alone.
-fn identified(alloc: Global, length: usize) -> Result<String, Fail> {
+/// Lengths of an identifier, and what the context says that has it alone.
+const IDENTIFIERS: &[(usize, &str)] = &[
+    (2048, "parameters CoordinationType"),
+    (2049, "parameters Identifier"),
+];
+
+fn identified(alloc: Global, length: usize, wanted: &str) -> Result<bool, Fail> {
     let identifier = "i".repeat(alloc, length)?;
     let children = format!(in alloc; "<c:Identifier>{identifier}</c:Identifier>")?;
-    outcome(alloc, "Context", children.as_str())
+    says(alloc, "Context", children.as_str(), wanted)
 }
 
 #[test]
 fn bounds_an_identifier(rt: HostRuntime) -> Result<(), Fail> {
-    let longest = identified(rt.alloc(), 2048)?;
-    let longer = identified(rt.alloc(), 2049)?;
-    assert!(rt; longest.as_str() == "parameters CoordinationType");
-    assert!(rt; longer.as_str() == "parameters Identifier");
+    for (length, wanted) in IDENTIFIERS {
+        let right = identified(rt.alloc(), *length, wanted)?;
+        assert!(rt; right, "at {length}");
+    }
     Ok(())
 }
 
+fn registration(alloc: Global) -> Result<Endpoint, Fail> {
+    let address = Text::copied(alloc, "r")?;
+    let params = read_tree(
+        alloc,
+        b"<w:ReferenceParameters xmlns:w=\"http://www.w3.org/2005/08/addressing\"><k xmlns=\"\">7</k></w:ReferenceParameters>",
+    )?;
+    Ok(Endpoint {
+        address,
+        params: Some(params),
+    })
+}
+
 fn context(alloc: Global, expires: Option<u32>) -> Result<OutgoingContext, Fail> {
-    let params =
-        "<w:ReferenceParameters xmlns:w=\"http://www.w3.org/2005/08/addressing\"><k xmlns=\"\">7</k></w:ReferenceParameters>";
+    let identifier = Text::copied(alloc, "i")?;
+    let coordination = Text::copied(alloc, "t")?;
+    let registration = registration(alloc)?;
     Ok(OutgoingContext {
-        identifier: Text::copied(alloc, "i")?,
+        identifier,
         expires,
-        coordination: Text::copied(alloc, "t")?,
-        registration: Endpoint {
-            address: Text::copied(alloc, "r")?,
-            params: Some(read_tree(alloc, params.as_bytes())?),
-        },
+        coordination,
+        registration,
     })
 }
 
 fn endpoint(alloc: Global, address: &str) -> Result<Endpoint, Fail> {
+    let address = Text::copied(alloc, address)?;
     Ok(Endpoint {
-        address: Text::copied(alloc, address)?,
+        address,
         params: None,
     })
 }
 
-fn written(alloc: Global, tree: &Tree) -> Result<Vec<u8>, Fail> {
-    let mut bytes = Vec::new(alloc);
-    write_tree(alloc, tree, &mut bytes)?;
-    Ok(bytes)
-}
-
-fn written_context(alloc: Global) -> Result<Vec<u8>, Fail> {
+fn written_context(alloc: Global) -> Result<Tree, Fail> {
     let name = qualified(alloc, "http://docs.oasis-open.org/ws-tx/wsat/2006/06", "a")?;
-    let tree = write_context(alloc, context(alloc, None)?, name)?;
-    written(alloc, &tree)
+    let context = context(alloc, None)?;
+    Ok(write_context(alloc, context, name)?)
 }
 
-fn written_create_response(alloc: Global) -> Result<Vec<u8>, Fail> {
-    let tree = write_create_response(alloc, context(alloc, Some(4294967295))?)?;
-    written(alloc, &tree)
+fn written_create_response(alloc: Global) -> Result<Tree, Fail> {
+    let context = context(alloc, Some(4294967295))?;
+    Ok(write_create_response(alloc, context)?)
 }
 
-fn written_create(alloc: Global) -> Result<Vec<u8>, Fail> {
+fn written_create(alloc: Global) -> Result<Tree, Fail> {
     let coordination = Text::copied(alloc, "u")?;
+    let current = context(alloc, Some(60))?;
     let create = OutgoingCreate {
         expires: Some(0),
-        current: Some(context(alloc, Some(60))?),
+        current: Some(current),
         coordination,
     };
-    let tree = write_create(alloc, create)?;
-    written(alloc, &tree)
+    Ok(write_create(alloc, create)?)
 }
 
-fn written_register(alloc: Global) -> Result<Vec<u8>, Fail> {
+fn written_register(alloc: Global) -> Result<Tree, Fail> {
     let protocol = Text::copied(alloc, "p")?;
+    let participant = endpoint(alloc, "s")?;
     let register = OutgoingRegister {
         protocol,
-        participant: endpoint(alloc, "s")?,
+        participant,
     };
-    let tree = write_register(alloc, register)?;
-    written(alloc, &tree)
+    Ok(write_register(alloc, register)?)
 }
 
-fn written_register_response(alloc: Global) -> Result<Vec<u8>, Fail> {
-    let tree = write_register_response(alloc, endpoint(alloc, "c")?)?;
-    written(alloc, &tree)
+fn written_register_response(alloc: Global) -> Result<Tree, Fail> {
+    let coordinator = endpoint(alloc, "c")?;
+    Ok(write_register_response(alloc, coordinator)?)
+}
+
+fn written(alloc: Global, message: &str) -> Result<Tree, Fail> {
+    match message {
+        "Create" => written_create(alloc),
+        "CreateResponse" => written_create_response(alloc),
+        "Register" => written_register(alloc),
+        "RegisterResponse" => written_register_response(alloc),
+        _ => written_context(alloc),
+    }
+}
+
+/// Messages, and how they are written.
+const WRITTEN: &[(&str, &str)] = &[
+    (
+        "Context",
+        "<wsat:a xmlns:wsat=\"http://docs.oasis-open.org/ws-tx/wsat/2006/06\" xmlns:wscoor=\"http://docs.oasis-open.org/ws-tx/wscoor/2006/06\" xmlns:wsa=\"http://www.w3.org/2005/08/addressing\"><wscoor:Identifier>i</wscoor:Identifier><wscoor:CoordinationType>t</wscoor:CoordinationType><wscoor:RegistrationService><wsa:Address>r</wsa:Address><wsa:ReferenceParameters><k>7</k></wsa:ReferenceParameters></wscoor:RegistrationService></wsat:a>",
+    ),
+    (
+        "CreateResponse",
+        "<wscoor:CreateCoordinationContextResponse xmlns:wscoor=\"http://docs.oasis-open.org/ws-tx/wscoor/2006/06\" xmlns:wsa=\"http://www.w3.org/2005/08/addressing\"><wscoor:CoordinationContext><wscoor:Identifier>i</wscoor:Identifier><wscoor:Expires>4294967295</wscoor:Expires><wscoor:CoordinationType>t</wscoor:CoordinationType><wscoor:RegistrationService><wsa:Address>r</wsa:Address><wsa:ReferenceParameters><k>7</k></wsa:ReferenceParameters></wscoor:RegistrationService></wscoor:CoordinationContext></wscoor:CreateCoordinationContextResponse>",
+    ),
+    (
+        "Create",
+        "<wscoor:CreateCoordinationContext xmlns:wscoor=\"http://docs.oasis-open.org/ws-tx/wscoor/2006/06\" xmlns:wsa=\"http://www.w3.org/2005/08/addressing\"><wscoor:Expires>0</wscoor:Expires><wscoor:CurrentContext><wscoor:Identifier>i</wscoor:Identifier><wscoor:Expires>60</wscoor:Expires><wscoor:CoordinationType>t</wscoor:CoordinationType><wscoor:RegistrationService><wsa:Address>r</wsa:Address><wsa:ReferenceParameters><k>7</k></wsa:ReferenceParameters></wscoor:RegistrationService></wscoor:CurrentContext><wscoor:CoordinationType>u</wscoor:CoordinationType></wscoor:CreateCoordinationContext>",
+    ),
+    (
+        "Register",
+        "<wscoor:Register xmlns:wscoor=\"http://docs.oasis-open.org/ws-tx/wscoor/2006/06\" xmlns:wsa=\"http://www.w3.org/2005/08/addressing\"><wscoor:ProtocolIdentifier>p</wscoor:ProtocolIdentifier><wscoor:ParticipantProtocolService><wsa:Address>s</wsa:Address></wscoor:ParticipantProtocolService></wscoor:Register>",
+    ),
+    (
+        "RegisterResponse",
+        "<wscoor:RegisterResponse xmlns:wscoor=\"http://docs.oasis-open.org/ws-tx/wscoor/2006/06\" xmlns:wsa=\"http://www.w3.org/2005/08/addressing\"><wscoor:CoordinatorProtocolService><wsa:Address>c</wsa:Address></wscoor:CoordinatorProtocolService></wscoor:RegisterResponse>",
+    ),
+];
+
+fn is_written(alloc: Global, message: &str, wanted: &str) -> Result<bool, Fail> {
+    let tree = written(alloc, message)?;
+    let mut bytes = Vec::new(alloc);
+    write_tree(alloc, &tree, &mut bytes)?;
+    Ok(bytes.as_slice() == wanted.as_bytes())
 }
 
 #[test]
-fn writes_a_context(rt: HostRuntime) -> Result<(), Fail> {
-    let bytes = written_context(rt.alloc())?;
-    let wanted =
-        "<wsat:a xmlns:wsat=\"http://docs.oasis-open.org/ws-tx/wsat/2006/06\" xmlns:wscoor=\"http://docs.oasis-open.org/ws-tx/wscoor/2006/06\" xmlns:wsa=\"http://www.w3.org/2005/08/addressing\"><wscoor:Identifier>i</wscoor:Identifier><wscoor:CoordinationType>t</wscoor:CoordinationType><wscoor:RegistrationService><wsa:Address>r</wsa:Address><wsa:ReferenceParameters><k>7</k></wsa:ReferenceParameters></wscoor:RegistrationService></wsat:a>";
-    assert!(rt; bytes.as_slice() == wanted.as_bytes());
-    Ok(())
-}
-
-#[test]
-fn writes_a_create_response(rt: HostRuntime) -> Result<(), Fail> {
-    let bytes = written_create_response(rt.alloc())?;
-    let wanted =
-        "<wscoor:CreateCoordinationContextResponse xmlns:wscoor=\"http://docs.oasis-open.org/ws-tx/wscoor/2006/06\" xmlns:wsa=\"http://www.w3.org/2005/08/addressing\"><wscoor:CoordinationContext><wscoor:Identifier>i</wscoor:Identifier><wscoor:Expires>4294967295</wscoor:Expires><wscoor:CoordinationType>t</wscoor:CoordinationType><wscoor:RegistrationService><wsa:Address>r</wsa:Address><wsa:ReferenceParameters><k>7</k></wsa:ReferenceParameters></wscoor:RegistrationService></wscoor:CoordinationContext></wscoor:CreateCoordinationContextResponse>";
-    assert!(rt; bytes.as_slice() == wanted.as_bytes());
-    Ok(())
-}
-
-#[test]
-fn writes_a_create(rt: HostRuntime) -> Result<(), Fail> {
-    let bytes = written_create(rt.alloc())?;
-    let wanted =
-        "<wscoor:CreateCoordinationContext xmlns:wscoor=\"http://docs.oasis-open.org/ws-tx/wscoor/2006/06\" xmlns:wsa=\"http://www.w3.org/2005/08/addressing\"><wscoor:Expires>0</wscoor:Expires><wscoor:CurrentContext><wscoor:Identifier>i</wscoor:Identifier><wscoor:Expires>60</wscoor:Expires><wscoor:CoordinationType>t</wscoor:CoordinationType><wscoor:RegistrationService><wsa:Address>r</wsa:Address><wsa:ReferenceParameters><k>7</k></wsa:ReferenceParameters></wscoor:RegistrationService></wscoor:CurrentContext><wscoor:CoordinationType>u</wscoor:CoordinationType></wscoor:CreateCoordinationContext>";
-    assert!(rt; bytes.as_slice() == wanted.as_bytes());
-    Ok(())
-}
-
-#[test]
-fn writes_a_register(rt: HostRuntime) -> Result<(), Fail> {
-    let bytes = written_register(rt.alloc())?;
-    let wanted =
-        "<wscoor:Register xmlns:wscoor=\"http://docs.oasis-open.org/ws-tx/wscoor/2006/06\" xmlns:wsa=\"http://www.w3.org/2005/08/addressing\"><wscoor:ProtocolIdentifier>p</wscoor:ProtocolIdentifier><wscoor:ParticipantProtocolService><wsa:Address>s</wsa:Address></wscoor:ParticipantProtocolService></wscoor:Register>";
-    assert!(rt; bytes.as_slice() == wanted.as_bytes());
-    Ok(())
-}
-
-#[test]
-fn writes_a_register_response(rt: HostRuntime) -> Result<(), Fail> {
-    let bytes = written_register_response(rt.alloc())?;
-    let wanted =
-        "<wscoor:RegisterResponse xmlns:wscoor=\"http://docs.oasis-open.org/ws-tx/wscoor/2006/06\" xmlns:wsa=\"http://www.w3.org/2005/08/addressing\"><wscoor:CoordinatorProtocolService><wsa:Address>c</wsa:Address></wscoor:CoordinatorProtocolService></wscoor:RegisterResponse>";
-    assert!(rt; bytes.as_slice() == wanted.as_bytes());
+fn writes_bodies(rt: HostRuntime) -> Result<(), Fail> {
+    for (message, wanted) in WRITTEN {
+        let right = is_written(rt.alloc(), message, wanted)?;
+        assert!(rt; right, "at {message}");
+    }
     Ok(())
 }

@@ -1,26 +1,39 @@
 use soap_profile::envelope::{SoapRefusal, envelope_tree, open_envelope};
 use soap_profile::fault::{fault_tree, is_fault, read_fault};
 use soap_profile::trees::Trees;
-use std::alloc::Global;
+use std::alloc::{AllocError, Global};
 use std::test::Fail;
 use xml_grammar::reader::read_tree;
 use xml_profile::names::TRANSACTION;
 use xml_profile::tree::Tree;
 use xml_profile::writer::write_tree;
 
-/// How many header blocks a spelled envelope has and the local name in its body, or its refusal.
-fn outcome(alloc: Global, spelled: &str) -> Result<String, Fail> {
-    let tree = read_tree(alloc, spelled.as_bytes())?;
-    match open_envelope(alloc, &tree) {
-        Ok(envelope) => {
-            let count = envelope.headers.as_slice().len();
-            Ok(format!(in alloc; "{count} {}", envelope.body.name.local)?)
-        }
-        Err(SoapRefusal::MustUnderstand { name }) => Ok(format!(in alloc;
-            "MustUnderstand {name}"
-        )?),
-        Err(refusal) => Ok(format!(in alloc; "{refusal}")?),
+/// How many header blocks an envelope has and the local name in its body, or its refusal.
+fn opened(alloc: Global, tree: &Tree) -> Result<String, AllocError> {
+    match open_envelope(alloc, tree) {
+        Ok(envelope) => format!(in alloc;
+            "{} {}",
+            envelope.headers.as_slice().len(),
+            envelope.body.name.local
+        ),
+        Err(SoapRefusal::MustUnderstand { name }) => format!(in alloc; "MustUnderstand {name}"),
+        Err(refusal) => format!(in alloc; "{refusal}"),
     }
+}
+
+/// Whether a spelled envelope has this outcome.
+fn opens(alloc: Global, spelled: &str, wanted: &str) -> Result<bool, Fail> {
+    let tree = read_tree(alloc, spelled.as_bytes())?;
+    let found = opened(alloc, &tree)?;
+    Ok(found.as_str() == wanted)
+}
+
+/// Whether the envelope with this between its tags has this outcome.
+fn opens_inside(alloc: Global, inside: &str, wanted: &str) -> Result<bool, Fail> {
+    let spelled = format!(in alloc;
+        "<s:Envelope xmlns:s=\"http://schemas.xmlsoap.org/soap/envelope/\">{inside}</s:Envelope>"
+    )?;
+    opens(alloc, spelled.as_str(), wanted)
 }
 
 /// What stands between the tags of an Envelope, and the outcome.
@@ -98,11 +111,8 @@ const WHOLE: &[(&str, &str)] = &[
 #[test]
 fn opens_what_is_inside(rt: HostRuntime) -> Result<(), Fail> {
     for (inside, wanted) in INSIDE {
-        let spelled = format!(in rt.alloc();
-            "<s:Envelope xmlns:s=\"http://schemas.xmlsoap.org/soap/envelope/\">{inside}</s:Envelope>"
-        )?;
-        let found = outcome(rt.alloc(), spelled.as_str())?;
-        assert!(rt; found.as_str() == *wanted, "at {inside}");
+        let right = opens_inside(rt.alloc(), inside, wanted)?;
+        assert!(rt; right, "at {inside}");
     }
     Ok(())
 }
@@ -110,8 +120,8 @@ fn opens_what_is_inside(rt: HostRuntime) -> Result<(), Fail> {
 #[test]
 fn opens_whole_documents(rt: HostRuntime) -> Result<(), Fail> {
     for (spelled, wanted) in WHOLE {
-        let found = outcome(rt.alloc(), spelled)?;
-        assert!(rt; found.as_str() == *wanted, "at {spelled}");
+        let right = opens(rt.alloc(), spelled, wanted)?;
+        assert!(rt; right, "at {spelled}");
     }
     Ok(())
 }
@@ -130,36 +140,38 @@ fn fault(alloc: Global) -> Result<Tree, Fail> {
     )?)
 }
 
-/// The canonical text of an envelope with this body alone.
-fn enveloped(alloc: Global, body: Tree) -> Result<Vec<u8>, Fail> {
-    let tree = envelope_tree(alloc, Trees::new(alloc), body)?;
+/// The envelope with this body alone.
+fn enveloped(alloc: Global) -> Result<Tree, Fail> {
+    let body = fault(alloc)?;
+    Ok(envelope_tree(alloc, Trees::new(alloc), body)?)
+}
+
+fn is_built(alloc: Global, wanted: &str) -> Result<bool, Fail> {
+    let tree = enveloped(alloc)?;
     let mut out = Vec::new(alloc);
     write_tree(alloc, &tree, &mut out)?;
-    Ok(out)
+    Ok(out.as_slice() == wanted.as_bytes())
 }
 
 #[test]
 fn builds_a_fault(rt: HostRuntime) -> Result<(), Fail> {
-    let out = enveloped(rt.alloc(), fault(rt.alloc())?)?;
     let wanted =
         "<s:Envelope xmlns:s=\"http://schemas.xmlsoap.org/soap/envelope/\" xmlns:wsat=\"http://docs.oasis-open.org/ws-tx/wsat/2006/06\"><s:Header/><s:Body><s:Fault><faultcode>wsat:UnknownTransaction</faultcode><faultstring>unknown transaction</faultstring><detail><wsat:UnknownTransaction/></detail></s:Fault></s:Body></s:Envelope>";
-    assert!(rt; out.as_slice() == wanted.as_bytes());
+    let right = is_built(rt.alloc(), wanted)?;
+    assert!(rt; right);
     Ok(())
 }
 
-/// The local name of the code of a fault that is built.
-fn told(alloc: Global) -> Result<String, Fail> {
+/// Whether a fault that is built has a code of this local name.
+fn is_read(alloc: Global, local: &str) -> Result<bool, Fail> {
     let fault = fault(alloc)?;
-    if !is_fault(&fault.name) {
-        return Ok(format!(in alloc; "no fault")?);
-    }
     let name = read_fault(alloc, &fault)?;
-    Ok(format!(in alloc; "{name}")?)
+    Ok(is_fault(&fault.name) && name.as_str() == local)
 }
 
 #[test]
 fn reads_a_fault_that_is_built(rt: HostRuntime) -> Result<(), Fail> {
-    let name = told(rt.alloc())?;
-    assert!(rt; name.as_str() == "UnknownTransaction");
+    let right = is_read(rt.alloc(), "UnknownTransaction")?;
+    assert!(rt; right);
     Ok(())
 }

@@ -10,7 +10,7 @@ use at_base::text::Text;
 use soap_profile::build::qualified;
 use soap_profile::elements::Elements;
 use soap_profile::envelope::envelope_tree;
-use std::alloc::Global;
+use std::alloc::{AllocError, Global};
 use std::test::Fail;
 use xml_grammar::reader::read_tree;
 use xml_profile::tree::Tree;
@@ -59,8 +59,10 @@ const UNREADABLE: &[&str] = &[
 
 /// Whether the endpoint with these parts in it is read with this address and these reference parameters.
 fn reads(alloc: Global, parts: &str, address: &str, params: &str) -> Result<bool, Fail> {
-    Ok(read(alloc, parts)?.is_some_and(|epr| epr.address.as_str() == address
-        && epr.params.as_str() == params))
+    match read(alloc, parts)? {
+        Some(epr) => Ok(epr.address.as_str() == address && epr.params.as_str() == params),
+        None => Ok(false),
+    }
 }
 
 fn is_readable(alloc: Global, parts: &str) -> Result<bool, Fail> {
@@ -113,19 +115,29 @@ const POSTABLE: &[(&str, &str, u16, &str)] = &[
     ("http://[::1]:81/x", "[::1]", 81, "/x"),
 ];
 
-fn posted(alloc: Global, address: &str) -> Result<Option<PostTo>, Fail> {
-    let epr = Epr {
-        address: Text::copied(alloc, address)?,
-        params: Text::copied(alloc, "")?,
-    };
-    Ok(post_to(alloc, &epr)?)
+fn epr(alloc: Global, address: &str) -> Result<Epr, AllocError> {
+    let address = Text::copied(alloc, address)?;
+    let params = Text::from_string(String::new(alloc));
+    Ok(Epr { address, params })
+}
+
+fn posted(alloc: Global, address: &str) -> Result<Option<PostTo>, AllocError> {
+    let epr = epr(alloc, address)?;
+    post_to(alloc, &epr)
 }
 
 /// Whether a post to this address goes to this host, port and path.
-fn posts(alloc: Global, address: &str, host: &str, port: u16, path: &str) -> Result<bool, Fail> {
-    Ok(posted(alloc, address)?.is_some_and(|to| {
-        to.host.as_str() == host && to.port == port && to.path.as_str() == path
-    }))
+fn posts(
+    alloc: Global,
+    address: &str,
+    host: &str,
+    port: u16,
+    path: &str,
+) -> Result<bool, AllocError> {
+    match posted(alloc, address)? {
+        Some(to) => Ok(to.host.as_str() == host && to.port == port && to.path.as_str() == path),
+        None => Ok(false),
+    }
 }
 
 #[test]
@@ -145,24 +157,27 @@ const UNPOSTABLE: &[&str] = &[
     "",
 ];
 
+fn is_postable(alloc: Global, address: &str) -> Result<bool, AllocError> {
+    let to = posted(alloc, address)?;
+    Ok(to.is_some())
+}
+
 #[test]
 fn posts_nowhere_else(rt: HostRuntime) -> Result<(), Fail> {
     for address in UNPOSTABLE {
-        let to = posted(rt.alloc(), address)?;
-        assert!(rt; to.is_none(), "at {address}");
+        let postable = is_postable(rt.alloc(), address)?;
+        assert!(rt; !postable, "at {address}");
     }
     Ok(())
 }
 
 /// The endpoint of an address, none where that is empty.
-fn told_epr(alloc: Global, address: &str) -> Result<Option<Epr>, Fail> {
+fn told_epr(alloc: Global, address: &str) -> Result<Option<Epr>, AllocError> {
     if address.is_empty() {
         return Ok(None);
     }
-    Ok(Some(Epr {
-        address: Text::copied(alloc, address)?,
-        params: Text::copied(alloc, "")?,
-    }))
+    let epr = epr(alloc, address)?;
+    Ok(Some(epr))
 }
 
 fn told_reply(reply: &Reply) -> &'static str {
@@ -173,15 +188,17 @@ fn told_reply(reply: &Reply) -> &'static str {
     }
 }
 
-fn replies(alloc: Global, reply: &str) -> Result<&'static str, Fail> {
+fn replies(alloc: Global, reply: &str) -> Result<&'static str, AllocError> {
     let reply = told_epr(alloc, reply)?;
-    Ok(told_reply(&reply_to(&reply)?))
+    let to = reply_to(&reply)?;
+    Ok(told_reply(&to))
 }
 
-fn faults(alloc: Global, fault: &str, reply: &str) -> Result<&'static str, Fail> {
+fn faults(alloc: Global, fault: &str, reply: &str) -> Result<&'static str, AllocError> {
     let fault = told_epr(alloc, fault)?;
     let reply = told_epr(alloc, reply)?;
-    Ok(told_reply(&fault_to(&fault, &reply)?))
+    let to = fault_to(&fault, &reply)?;
+    Ok(told_reply(&to))
 }
 
 const ANONYMOUS: &str = "http://www.w3.org/2005/08/addressing/anonymous";
@@ -205,58 +222,61 @@ fn faults_where_told(rt: HostRuntime) -> Result<(), Fail> {
     Ok(())
 }
 
-fn told(alloc: Global, refusal: &AddressingRefusal) -> Result<String, Fail> {
-    Ok(match refusal {
+fn told(alloc: Global, refusal: &AddressingRefusal) -> Result<String, AllocError> {
+    match refusal {
         AddressingRefusal::MissingHeader { name } => {
-            format!(in alloc; "missing {}", name.local_name())?
+            format!(in alloc; "missing {}", name.local_name())
         }
         AddressingRefusal::InvalidHeader { name } => {
-            format!(in alloc; "invalid {}", name.local_name())?
+            format!(in alloc; "invalid {}", name.local_name())
         }
-        AddressingRefusal::NoMemory => format!(in alloc; "out of memory")?,
-    })
+        AddressingRefusal::NoMemory => format!(in alloc; "out of memory"),
+    }
+}
+
+fn destination(to: &Option<Destination>) -> &str {
+    match to {
+        Some(to) => to.as_str(),
+        None => "-",
+    }
+}
+
+fn word(text: &Option<Text>) -> &str {
+    match text {
+        Some(text) => text.as_str(),
+        None => "-",
+    }
+}
+
+fn address(epr: &Option<Epr>) -> &str {
+    match epr {
+        Some(epr) => epr.address.as_str(),
+        None => "-",
+    }
+}
+
+/// How many attributes the context has, nothing where there is none.
+fn attributes(alloc: Global, headers: &Headers<'_>) -> Result<String, AllocError> {
+    match headers.context {
+        Some(context) => format!(in alloc; "{}", context.attributes.as_slice().len()),
+        None => Ok(String::new(alloc)),
+    }
 }
 
 /// The texts and addresses of headers, `-` where there is none, in the order To, Action, MessageID, RelatesTo, From,
 /// ReplyTo, FaultTo, and how many attributes the context has.
-fn listed(alloc: Global, headers: &Headers<'_>) -> Result<String, Fail> {
-    let mut out = String::new(alloc);
-    push_destination(&headers.to, &mut out)?;
-    out.push_str(headers.action.as_str())?;
-    out.push_str(" ")?;
-    push_word(&headers.id, &mut out)?;
-    push_word(&headers.relates, &mut out)?;
-    push_address(&headers.from, &mut out)?;
-    push_address(&headers.reply, &mut out)?;
-    push_address(&headers.fault, &mut out)?;
-    if let Some(context) = headers.context {
-        write!(out, "{}", context.attributes.as_slice().len())?;
-    }
-    Ok(out)
-}
-
-fn push_destination(to: &Option<Destination>, out: &mut String) -> Result<(), Fail> {
-    match to {
-        Some(to) => out.push_str(to.as_str())?,
-        None => out.push_str("-")?,
-    }
-    Ok(out.push_str(" ")?)
-}
-
-fn push_word(text: &Option<Text>, out: &mut String) -> Result<(), Fail> {
-    match text {
-        Some(text) => out.push_str(text.as_str())?,
-        None => out.push_str("-")?,
-    }
-    Ok(out.push_str(" ")?)
-}
-
-fn push_address(epr: &Option<Epr>, out: &mut String) -> Result<(), Fail> {
-    match epr {
-        Some(epr) => out.push_str(epr.address.as_str())?,
-        None => out.push_str("-")?,
-    }
-    Ok(out.push_str(" ")?)
+fn listed(alloc: Global, headers: &Headers<'_>) -> Result<String, AllocError> {
+    let attributes = attributes(alloc, headers)?;
+    format!(in alloc;
+        "{} {} {} {} {} {} {} {attributes}",
+        destination(&headers.to),
+        headers.action.as_str(),
+        word(&headers.id),
+        word(&headers.relates),
+        address(&headers.from),
+        address(&headers.reply),
+        address(&headers.fault)
+    )
 }
 
 /// An element with these header blocks in it.
@@ -268,22 +288,28 @@ fn blocks_in(alloc: Global, blocks: &str) -> Result<Tree, Fail> {
 }
 
 /// What headers say to a message with this body.
-fn checked(alloc: Global, headers: &Headers<'_>, body: &str) -> Result<String, Fail> {
-    let body = read_tree(alloc, body.as_bytes())?;
+fn checked(alloc: Global, headers: &Headers<'_>, body: &Tree) -> Result<String, AllocError> {
     match check_request(alloc, headers, &body.name) {
         Ok(()) => listed(alloc, headers),
         Err(refusal) => told(alloc, &refusal),
     }
 }
 
-/// What these header blocks say to a message with this body.
-fn outcome(alloc: Global, blocks: &str, body: &str) -> Result<String, Fail> {
-    let tree = blocks_in(alloc, blocks)?;
+/// What the header blocks in an element say to a message with this body.
+fn outcome(alloc: Global, tree: &Tree, body: &Tree) -> Result<String, AllocError> {
     let blocks = Elements::within(alloc, &tree.children)?;
     match read_headers(alloc, &blocks) {
         Ok(headers) => checked(alloc, &headers, body),
         Err(refusal) => told(alloc, &refusal),
     }
+}
+
+/// Whether these header blocks say this to a message with this body.
+fn says(alloc: Global, blocks: &str, body: &str, wanted: &str) -> Result<bool, Fail> {
+    let body = read_tree(alloc, body.as_bytes())?;
+    let tree = blocks_in(alloc, blocks)?;
+    let found = outcome(alloc, &tree, &body)?;
+    Ok(found.as_str() == wanted)
 }
 
 /// Header blocks, and what they say.
@@ -384,8 +410,8 @@ const BLOCKS: &[(&str, &str)] = &[
 #[test]
 fn reads_headers_of_blocks(rt: HostRuntime) -> Result<(), Fail> {
     for (blocks, wanted) in BLOCKS {
-        let found = outcome(rt.alloc(), blocks, "<a/>")?;
-        assert!(rt; found.as_str() == *wanted, "at {blocks}");
+        let right = says(rt.alloc(), blocks, "<a/>", wanted)?;
+        assert!(rt; right, "at {blocks}");
     }
     Ok(())
 }
@@ -394,28 +420,17 @@ fn reads_headers_of_blocks(rt: HostRuntime) -> Result<(), Fail> {
 fn reads_headers_of_a_fault(rt: HostRuntime) -> Result<(), Fail> {
     let fault = "<Fault xmlns=\"http://schemas.xmlsoap.org/soap/envelope/\"/>";
     let work = "<w:Action>http://example.org/atx/work/1/Work</w:Action>";
-    let found = outcome(rt.alloc(), work, fault)?;
-    assert!(rt; found.as_str() == "- http://example.org/atx/work/1/Work - - - - - ");
+    let wanted = "- http://example.org/atx/work/1/Work - - - - - ";
+    let right = says(rt.alloc(), work, fault, wanted)?;
+    assert!(rt; right);
     Ok(())
 }
 
-/// The endpoint with these reference parameters, none where nothing is spelled.
-fn endpoint(alloc: Global, address: &str, params: &str) -> Result<Endpoint, Fail> {
-    let params = if params.is_empty() {
-        None
-    } else {
-        Some(read_tree(alloc, params.as_bytes())?)
-    };
-    Ok(Endpoint::new(Text::copied(alloc, address)?, params))
-}
-
-/// The canonical text of the envelope with these headers and this body.
-fn written(alloc: Global, out: OutgoingHeaders, body: &str) -> Result<Vec<u8>, Fail> {
-    let body = read_tree(alloc, body.as_bytes())?;
-    let tree = envelope_tree(alloc, header_blocks(alloc, out)?, body)?;
-    let mut bytes = Vec::new(alloc);
-    write_tree(alloc, &tree, &mut bytes)?;
-    Ok(bytes)
+/// The endpoint with these reference parameters.
+fn with_params(alloc: Global, address: &str, params: &str) -> Result<Endpoint, Fail> {
+    let address = Text::copied(alloc, address)?;
+    let params = read_tree(alloc, params.as_bytes())?;
+    Ok(Endpoint::new(address, Some(params)))
 }
 
 fn notification(alloc: Global) -> Result<OutgoingHeaders, Fail> {
@@ -423,16 +438,16 @@ fn notification(alloc: Global) -> Result<OutgoingHeaders, Fail> {
         alloc,
         "http://docs.oasis-open.org/ws-tx/wsat/2006/06/Prepare",
     )?;
-    let to = endpoint(alloc, "http://n3.example/p/d/1-1", "")?;
-    let from = endpoint(alloc, "http://n2.example/c/d/1-1/1", "")?;
-    let reply = endpoint(alloc, "http://www.w3.org/2005/08/addressing/none", "")?;
+    let to = Text::copied(alloc, "http://n3.example/p/d/1-1")?;
+    let from = Text::copied(alloc, "http://n2.example/c/d/1-1/1")?;
+    let reply = Text::copied(alloc, "http://www.w3.org/2005/08/addressing/none")?;
     Ok(OutgoingHeaders {
-        to: Some(to),
+        to: Some(Endpoint::new(to, None)),
         action,
         id: None,
         relates: None,
-        from: Some(from),
-        reply: Some(reply),
+        from: Some(Endpoint::new(from, None)),
+        reply: Some(Endpoint::new(reply, None)),
         context: None,
     })
 }
@@ -440,19 +455,19 @@ fn notification(alloc: Global) -> Result<OutgoingHeaders, Fail> {
 const PARAMS: &str =
     "<w:ReferenceParameters xmlns:w=\"http://www.w3.org/2005/08/addressing\"><w:k a=\"1\" w:IsReferenceParameter=\"0\" b=\"2\"/><w:l a=\"1\">x</w:l></w:ReferenceParameters>";
 
+const CONTEXT: &[u8] =
+    b"<c:CoordinationContext xmlns:c=\"http://docs.oasis-open.org/ws-tx/wscoor/2006/06\" x=\"1\">c</c:CoordinationContext>";
+
 fn request(alloc: Global) -> Result<OutgoingHeaders, Fail> {
     let action = Text::copied(alloc, "a")?;
     let id = Text::copied(alloc, "")?;
     let relates = Text::copied(alloc, "m")?;
-    let to = endpoint(
+    let context = read_tree(alloc, CONTEXT)?;
+    let reply = with_params(alloc, "r", "<ReferenceParameters/>")?;
+    let to = with_params(
         alloc,
         "http://www.w3.org/2005/08/addressing/anonymous",
         PARAMS,
-    )?;
-    let reply = endpoint(alloc, "r", "<ReferenceParameters/>")?;
-    let context = read_tree(
-        alloc,
-        b"<c:CoordinationContext xmlns:c=\"http://docs.oasis-open.org/ws-tx/wscoor/2006/06\" x=\"1\">c</c:CoordinationContext>",
     )?;
     Ok(OutgoingHeaders {
         to: Some(to),
@@ -465,35 +480,67 @@ fn request(alloc: Global) -> Result<OutgoingHeaders, Fail> {
     })
 }
 
-#[test]
-fn writes_headers_of_a_notification(rt: HostRuntime) -> Result<(), Fail> {
-    let wanted =
-        "<s:Envelope xmlns:s=\"http://schemas.xmlsoap.org/soap/envelope/\" xmlns:wsa=\"http://www.w3.org/2005/08/addressing\" xmlns:wsat=\"http://docs.oasis-open.org/ws-tx/wsat/2006/06\"><s:Header><wsa:To>http://n3.example/p/d/1-1</wsa:To><wsa:Action>http://docs.oasis-open.org/ws-tx/wsat/2006/06/Prepare</wsa:Action><wsa:From><wsa:Address>http://n2.example/c/d/1-1/1</wsa:Address></wsa:From><wsa:ReplyTo><wsa:Address>http://www.w3.org/2005/08/addressing/none</wsa:Address></wsa:ReplyTo></s:Header><s:Body><wsat:Prepare/></s:Body></s:Envelope>";
-    let prepare = "<Prepare xmlns=\"http://docs.oasis-open.org/ws-tx/wsat/2006/06\"/>";
-    let bytes = written(rt.alloc(), notification(rt.alloc())?, prepare)?;
-    assert!(rt; bytes.as_slice() == wanted.as_bytes());
-    Ok(())
+fn headers_of(alloc: Global, name: &str) -> Result<OutgoingHeaders, Fail> {
+    match name {
+        "notification" => notification(alloc),
+        _ => request(alloc),
+    }
+}
+
+/// Headers, a body, and the canonical text of their envelope.
+const WRITTEN: &[(&str, &str, &str)] = &[
+    (
+        "notification",
+        "<Prepare xmlns=\"http://docs.oasis-open.org/ws-tx/wsat/2006/06\"/>",
+        "<s:Envelope xmlns:s=\"http://schemas.xmlsoap.org/soap/envelope/\" xmlns:wsa=\"http://www.w3.org/2005/08/addressing\" xmlns:wsat=\"http://docs.oasis-open.org/ws-tx/wsat/2006/06\"><s:Header><wsa:To>http://n3.example/p/d/1-1</wsa:To><wsa:Action>http://docs.oasis-open.org/ws-tx/wsat/2006/06/Prepare</wsa:Action><wsa:From><wsa:Address>http://n2.example/c/d/1-1/1</wsa:Address></wsa:From><wsa:ReplyTo><wsa:Address>http://www.w3.org/2005/08/addressing/none</wsa:Address></wsa:ReplyTo></s:Header><s:Body><wsat:Prepare/></s:Body></s:Envelope>",
+    ),
+    (
+        "request",
+        "<b/>",
+        "<s:Envelope xmlns:s=\"http://schemas.xmlsoap.org/soap/envelope/\" xmlns:wsa=\"http://www.w3.org/2005/08/addressing\" xmlns:wscoor=\"http://docs.oasis-open.org/ws-tx/wscoor/2006/06\"><s:Header><wsa:Action>a</wsa:Action><wsa:MessageID/><wsa:RelatesTo>m</wsa:RelatesTo><wsa:ReplyTo><wsa:Address>r</wsa:Address></wsa:ReplyTo><wsa:k a=\"1\" wsa:IsReferenceParameter=\"true\" b=\"2\"/><wsa:l wsa:IsReferenceParameter=\"true\" a=\"1\">x</wsa:l><wscoor:CoordinationContext s:mustUnderstand=\"1\">c</wscoor:CoordinationContext></s:Header><s:Body><b/></s:Body></s:Envelope>",
+    ),
+];
+
+/// The envelope with these headers and this body.
+fn enveloped(alloc: Global, name: &str, body: &str) -> Result<Tree, Fail> {
+    let body = read_tree(alloc, body.as_bytes())?;
+    let headers = headers_of(alloc, name)?;
+    let blocks = header_blocks(alloc, headers)?;
+    Ok(envelope_tree(alloc, blocks, body)?)
+}
+
+fn is_text_of(alloc: Global, tree: &Tree, text: &str) -> Result<bool, AllocError> {
+    let mut bytes = Vec::new(alloc);
+    write_tree(alloc, tree, &mut bytes)?;
+    Ok(bytes.as_slice() == text.as_bytes())
+}
+
+fn is_written(alloc: Global, name: &str, body: &str, text: &str) -> Result<bool, Fail> {
+    let tree = enveloped(alloc, name, body)?;
+    Ok(is_text_of(alloc, &tree, text)?)
 }
 
 #[test]
-fn writes_headers_of_a_request(rt: HostRuntime) -> Result<(), Fail> {
-    let wanted =
-        "<s:Envelope xmlns:s=\"http://schemas.xmlsoap.org/soap/envelope/\" xmlns:wsa=\"http://www.w3.org/2005/08/addressing\" xmlns:wscoor=\"http://docs.oasis-open.org/ws-tx/wscoor/2006/06\"><s:Header><wsa:Action>a</wsa:Action><wsa:MessageID/><wsa:RelatesTo>m</wsa:RelatesTo><wsa:ReplyTo><wsa:Address>r</wsa:Address></wsa:ReplyTo><wsa:k a=\"1\" wsa:IsReferenceParameter=\"true\" b=\"2\"/><wsa:l wsa:IsReferenceParameter=\"true\" a=\"1\">x</wsa:l><wscoor:CoordinationContext s:mustUnderstand=\"1\">c</wscoor:CoordinationContext></s:Header><s:Body><b/></s:Body></s:Envelope>";
-    let bytes = written(rt.alloc(), request(rt.alloc())?, "<b/>")?;
-    assert!(rt; bytes.as_slice() == wanted.as_bytes());
+fn writes_headers(rt: HostRuntime) -> Result<(), Fail> {
+    for (name, body, text) in WRITTEN {
+        let right = is_written(rt.alloc(), name, body, text)?;
+        assert!(rt; right, "at {name}");
+    }
     Ok(())
 }
 
-/// The text of an endpoint's element.
-fn element_text(alloc: Global, params: &str) -> Result<Vec<u8>, Fail> {
+/// The element of an endpoint.
+fn element(alloc: Global, params: &str) -> Result<Tree, AllocError> {
     let address = Text::copied(alloc, "http://h/p")?;
     let params = Text::copied(alloc, params)?;
     let epr = Epr { address, params };
     let name = qualified(alloc, "http://www.w3.org/2005/08/addressing", "From")?;
-    let tree = write_epr(alloc, &epr, name)?;
-    let mut bytes = Vec::new(alloc);
-    write_tree(alloc, &tree, &mut bytes)?;
-    Ok(bytes)
+    write_epr(alloc, &epr, name)
+}
+
+fn is_kept(alloc: Global, params: &str, text: &str) -> Result<bool, AllocError> {
+    let tree = element(alloc, params)?;
+    is_text_of(alloc, &tree, text)
 }
 
 /// Kept reference parameters, and the element of the endpoint that has them.
@@ -515,8 +562,8 @@ const KEPT: &[(&str, &str)] = &[
 #[test]
 fn kept_endpoints_are_written(rt: HostRuntime) -> Result<(), Fail> {
     for (params, text) in KEPT {
-        let bytes = element_text(rt.alloc(), params)?;
-        assert!(rt; bytes.as_slice() == text.as_bytes());
+        let right = is_kept(rt.alloc(), params, text)?;
+        assert!(rt; right, "at {params}");
     }
     Ok(())
 }

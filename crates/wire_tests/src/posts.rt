@@ -130,25 +130,52 @@ fn optional(alloc: Global, address: &str) -> Result<Option<Epr>, AllocError> {
     Ok(Some(with_params(alloc, address)?))
 }
 
-/// The post of a row: the message, To, MessageID, RelatesTo, From and ReplyTo, an empty one absent.
-fn post(alloc: Global, row: [&str; 6]) -> Result<Box<Post>, AllocError> {
-    let [name, to, id, relates, from, reply_to] = row;
+/// Where a post goes, where it comes from, and where its answer goes.
+struct Ends {
+    to: Option<Epr>,
+    from: Option<Epr>,
+    reply: Option<Reply>,
+}
+
+impl Drop for Ends {
+    fn drop(self) {
+        let Ends {
+            to: _to,
+            from: _from,
+            reply: _reply,
+        } = self;
+    }
+}
+
+fn ends_of(alloc: Global, to: &str, from: &str, reply_to: &str) -> Result<Ends, AllocError> {
     let to = optional(alloc, to)?;
-    let id = text(alloc, id)?;
-    let relates = text(alloc, relates)?;
     let from = optional(alloc, from)?;
     let reply = reply(alloc, reply_to)?;
-    let message = message(alloc, name)?;
-    let post = Post {
-        own: None,
-        to,
-        id,
-        relates,
-        from,
-        reply,
-        message,
-    };
-    Ok(Box::new(alloc, post)?)
+    Ok(Ends { to, from, reply })
+}
+
+impl Ends {
+    fn post(self, message: Message, id: Option<Text>, relates: Option<Text>) -> Post {
+        let Ends { to, from, reply } = self;
+        Post {
+            own: None,
+            to,
+            id,
+            relates,
+            from,
+            reply,
+            message,
+        }
+    }
+}
+
+/// The post of a row: the message, To, MessageID, RelatesTo, From and ReplyTo, an empty one absent.
+fn post(alloc: Global, row: &[&str; 6]) -> Result<Post, AllocError> {
+    let message = message(alloc, row[0])?;
+    let ends = ends_of(alloc, row[1], row[4], row[5])?;
+    let id = text(alloc, row[2])?;
+    let relates = text(alloc, row[3])?;
+    Ok(ends.post(message, id, relates))
 }
 
 fn same_reply(arrived: &Option<Epr>, sent: &Option<Reply>) -> bool {
@@ -174,7 +201,7 @@ fn is_of(arrival: &Arrival, post: &Post) -> bool {
 }
 
 /// Whether a post, written and read at a path, is what it was.
-fn returns(alloc: Global, row: [&str; 6], path: &str) -> Result<bool, Fail> {
+fn returns(alloc: Global, row: &[&str; 6], path: &str) -> Result<bool, Fail> {
     let post = post(alloc, row)?;
     let bytes = encode_post(alloc, &post)?;
     match decode(alloc, bytes.as_slice(), path) {
@@ -190,7 +217,7 @@ const PARTICIPANT: &str = "http://n3.example/p/d/1-1";
 const SEAT: &str = "http://n2.example/c/d/1-1/1";
 
 /// Each message as a row of [`post`].
-const POSTS: [[&str; 6]; 20] = [
+const POSTS: &[[&str; 6]] = &[
     [
         "Create",
         "http://n2.example/activation",
@@ -236,70 +263,72 @@ const POSTS: [[&str; 6]; 20] = [
 
 #[test]
 fn each_message_returns(rt: HostRuntime) -> Result<(), Fail> {
-    let alloc = rt.alloc();
     for row in POSTS {
-        assert!(rt; returns(alloc, row, "/")?, "at {}", row[0]);
+        let same = returns(rt.alloc(), row, "/")?;
+        assert!(rt; same, "at {}", row[0]);
     }
     Ok(())
 }
 
 #[test]
 fn an_answer_on_the_connection_returns(rt: HostRuntime) -> Result<(), Fail> {
-    let alloc = rt.alloc();
     let row = ["RegisterResponse", "", "", "urn:2", "", ""];
-    assert!(rt; returns(alloc, row, "/p/d/1-1")?);
+    let same = returns(rt.alloc(), &row, "/p/d/1-1")?;
+    assert!(rt; same);
     Ok(())
 }
 
-fn written(alloc: Global, row: [&str; 6]) -> Result<Vec<u8>, AllocError> {
+/// Posts, and their texts.
+const WRITTEN: &[([&str; 6], &str)] = &[
+    (
+        ["Work", "http://n3.example/work", "urn:3", "", "", INITIATOR],
+        "<s:Envelope xmlns:s=\"http://schemas.xmlsoap.org/soap/envelope/\" xmlns:wsa=\"http://www.w3.org/2005/08/addressing\" xmlns:wscoor=\"http://docs.oasis-open.org/ws-tx/wscoor/2006/06\" xmlns:work=\"http://example.org/atx/work/1\"><s:Header><wsa:To>http://n3.example/work</wsa:To><wsa:Action>http://example.org/atx/work/1/Work</wsa:Action><wsa:MessageID>urn:3</wsa:MessageID><wsa:ReplyTo><wsa:Address>http://n1.example/i/1-1</wsa:Address></wsa:ReplyTo><k wsa:IsReferenceParameter=\"true\" a=\"1\">7</k><wscoor:CoordinationContext s:mustUnderstand=\"1\"><wscoor:Identifier>urn:i</wscoor:Identifier><wscoor:Expires>60000</wscoor:Expires><wscoor:CoordinationType>http://docs.oasis-open.org/ws-tx/wsat/2006/06</wscoor:CoordinationType><wscoor:RegistrationService><wsa:Address>http://n2.example/registration/1-1</wsa:Address><wsa:ReferenceParameters><k a=\"1\">7</k></wsa:ReferenceParameters></wscoor:RegistrationService></wscoor:CoordinationContext></s:Header><s:Body><work:Work><work:Key>k</work:Key><work:Value/><work:Kind>volatile</work:Kind><work:Vote>readonly</work:Vote></work:Work></s:Body></s:Envelope>",
+    ),
+    (
+        ["UnknownTransaction", "", "", "urn:2", "", ""],
+        "<s:Envelope xmlns:s=\"http://schemas.xmlsoap.org/soap/envelope/\" xmlns:wsa=\"http://www.w3.org/2005/08/addressing\" xmlns:wsat=\"http://docs.oasis-open.org/ws-tx/wsat/2006/06\"><s:Header><wsa:Action>http://docs.oasis-open.org/ws-tx/wsat/2006/06/fault</wsa:Action><wsa:RelatesTo>urn:2</wsa:RelatesTo></s:Header><s:Body><s:Fault><faultcode>wsat:UnknownTransaction</faultcode><faultstring>unknown transaction</faultstring><detail><wsat:UnknownTransaction/></detail></s:Fault></s:Body></s:Envelope>",
+    ),
+];
+
+fn is_written(alloc: Global, row: &[&str; 6], expected: &str) -> Result<bool, AllocError> {
     let post = post(alloc, row)?;
-    encode_post(alloc, &post)
+    let bytes = encode_post(alloc, &post)?;
+    Ok(bytes.as_slice() == expected.as_bytes())
 }
 
 #[test]
-fn a_request_is_written(rt: HostRuntime) -> Result<(), Fail> {
-    let alloc = rt.alloc();
-    let row = ["Work", "http://n3.example/work", "urn:3", "", "", INITIATOR];
-    let expected =
-        "<s:Envelope xmlns:s=\"http://schemas.xmlsoap.org/soap/envelope/\" xmlns:wsa=\"http://www.w3.org/2005/08/addressing\" xmlns:wscoor=\"http://docs.oasis-open.org/ws-tx/wscoor/2006/06\" xmlns:work=\"http://example.org/atx/work/1\"><s:Header><wsa:To>http://n3.example/work</wsa:To><wsa:Action>http://example.org/atx/work/1/Work</wsa:Action><wsa:MessageID>urn:3</wsa:MessageID><wsa:ReplyTo><wsa:Address>http://n1.example/i/1-1</wsa:Address></wsa:ReplyTo><k wsa:IsReferenceParameter=\"true\" a=\"1\">7</k><wscoor:CoordinationContext s:mustUnderstand=\"1\"><wscoor:Identifier>urn:i</wscoor:Identifier><wscoor:Expires>60000</wscoor:Expires><wscoor:CoordinationType>http://docs.oasis-open.org/ws-tx/wsat/2006/06</wscoor:CoordinationType><wscoor:RegistrationService><wsa:Address>http://n2.example/registration/1-1</wsa:Address><wsa:ReferenceParameters><k a=\"1\">7</k></wsa:ReferenceParameters></wscoor:RegistrationService></wscoor:CoordinationContext></s:Header><s:Body><work:Work><work:Key>k</work:Key><work:Value/><work:Kind>volatile</work:Kind><work:Vote>readonly</work:Vote></work:Work></s:Body></s:Envelope>";
-    assert_eq!(rt; written(alloc, row)?.as_slice(), expected.as_bytes());
+fn a_request_and_a_fault_are_written(rt: HostRuntime) -> Result<(), Fail> {
+    for (row, expected) in WRITTEN {
+        let same = is_written(rt.alloc(), row, expected)?;
+        assert!(rt; same, "at {}", row[0]);
+    }
     Ok(())
 }
 
-#[test]
-fn a_protocol_fault_is_written(rt: HostRuntime) -> Result<(), Fail> {
-    let alloc = rt.alloc();
-    let row = ["UnknownTransaction", "", "", "urn:2", "", ""];
-    let expected =
-        "<s:Envelope xmlns:s=\"http://schemas.xmlsoap.org/soap/envelope/\" xmlns:wsa=\"http://www.w3.org/2005/08/addressing\" xmlns:wsat=\"http://docs.oasis-open.org/ws-tx/wsat/2006/06\"><s:Header><wsa:Action>http://docs.oasis-open.org/ws-tx/wsat/2006/06/fault</wsa:Action><wsa:RelatesTo>urn:2</wsa:RelatesTo></s:Header><s:Body><s:Fault><faultcode>wsat:UnknownTransaction</faultcode><faultstring>unknown transaction</faultstring><detail><wsat:UnknownTransaction/></detail></s:Fault></s:Body></s:Envelope>";
-    assert_eq!(rt; written(alloc, row)?.as_slice(), expected.as_bytes());
-    Ok(())
-}
-
-fn prepare(alloc: Global) -> Result<Box<Post>, AllocError> {
+fn prepare(alloc: Global) -> Result<Post, AllocError> {
     let to = endpoint(alloc, PARTICIPANT)?;
     let from = endpoint(alloc, SEAT)?;
-    let post = Post {
-        own: None,
+    let ends = Ends {
         to: Some(to),
-        id: None,
-        relates: None,
         from: Some(from),
         reply: Some(Reply::Nobody),
-        message: Message::Notice(Notice::Prepare),
     };
-    Ok(Box::new(alloc, post)?)
+    Ok(ends.post(Message::Notice(Notice::Prepare), None, None))
+}
+
+fn is_prepare(alloc: Global, expected: &str) -> Result<bool, AllocError> {
+    let post = prepare(alloc)?;
+    let bytes = encode_post(alloc, &post)?;
+    Ok(bytes.as_slice() == expected.as_bytes())
 }
 
 #[test]
 fn a_notification_is_written(rt: HostRuntime) -> Result<(), Fail> {
-    let alloc = rt.alloc();
-    let post = prepare(alloc)?;
-    let text = encode_post(alloc, &post)?;
     let expected =
         "<s:Envelope xmlns:s=\"http://schemas.xmlsoap.org/soap/envelope/\" xmlns:wsa=\"http://www.w3.org/2005/08/addressing\" xmlns:wsat=\"http://docs.oasis-open.org/ws-tx/wsat/2006/06\"><s:Header><wsa:To>http://n3.example/p/d/1-1</wsa:To><wsa:Action>http://docs.oasis-open.org/ws-tx/wsat/2006/06/Prepare</wsa:Action><wsa:From><wsa:Address>http://n2.example/c/d/1-1/1</wsa:Address></wsa:From><wsa:ReplyTo><wsa:Address>http://www.w3.org/2005/08/addressing/none</wsa:Address></wsa:ReplyTo></s:Header><s:Body><wsat:Prepare/></s:Body></s:Envelope>";
-    assert_eq!(rt; expected.len(), 528);
-    assert_eq!(rt; text.as_slice(), expected.as_bytes());
+    let length = expected.len();
+    let same = is_prepare(rt.alloc(), expected)?;
+    assert!(rt; length == 528 && same);
     Ok(())
 }
 

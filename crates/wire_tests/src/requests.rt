@@ -1,10 +1,10 @@
 use at_base::epr::Epr;
-use at_base::message::Message;
+use at_base::message::{Message, Work};
 use at_base::notice::{Kind, Vote};
 use at_base::target::Target;
 use at_base::text::Text;
 use at_targets::form::Form;
-use std::alloc::Global;
+use std::alloc::{AllocError, Global};
 use std::test::Fail;
 use wire_msgs::decode::{Arrival, decode};
 use wire_msgs::form::local_of;
@@ -19,27 +19,25 @@ fn space(prefix: &str) -> &'static str {
     }
 }
 
+const HEAD: &str =
+    "<s:Envelope xmlns:s=\"http://schemas.xmlsoap.org/soap/envelope/\" xmlns:a=\"http://www.w3.org/2005/08/addressing\" xmlns:c=\"http://docs.oasis-open.org/ws-tx/wscoor/2006/06\" xmlns:t=\"http://docs.oasis-open.org/ws-tx/wsat/2006/06\" xmlns:w=\"http://example.org/atx/work/1\">";
+
 /// An envelope with this action, these other header blocks, and this body, or where that is empty, an empty element of
 /// the action's name.
-fn envelope(alloc: Global, action: &str, headers: &str, body: &str) -> Result<String, Fail> {
-    let Some((prefix, local)) = action.split_once(':') else {
-        return Err(Fail::new("an action without a prefix"));
-    };
-    let head = format!(in alloc;
-        "<s:Envelope xmlns:s=\"http://schemas.xmlsoap.org/soap/envelope/\" xmlns:a=\"http://www.w3.org/2005/08/addressing\" xmlns:c=\"{}\" xmlns:t=\"{}\" xmlns:w=\"{}\">",
-        space("c"),
-        space("t"),
-        space("w")
-    )?;
-    let own = if body.is_empty() {
-        format!(in alloc; "<{action}/>")?
-    } else {
-        format!(in alloc; "{body}")?
-    };
-    Ok(format!(in alloc;
-        "{head}<s:Header><a:Action>{}/{local}</a:Action>{headers}</s:Header><s:Body>{own}</s:Body></s:Envelope>",
-        space(prefix)
-    )?)
+fn envelope(alloc: Global, action: &str, headers: &str, body: &str) -> Result<String, AllocError> {
+    let prefix = action.split(':').nth(0).unwrap_or("");
+    let local = action.split(':').nth(1).unwrap_or("");
+    let space = space(prefix);
+    if body.is_empty() {
+        return format!(in alloc;
+            "{}<s:Header><a:Action>{space}/{local}</a:Action>{headers}</s:Header><s:Body><{action}/></s:Body></s:Envelope>",
+            HEAD
+        );
+    }
+    format!(in alloc;
+        "{}<s:Header><a:Action>{space}/{local}</a:Action>{headers}</s:Header><s:Body>{body}</s:Body></s:Envelope>",
+        HEAD
+    )
 }
 
 fn told_kind(kind: Kind) -> &'static str {
@@ -57,45 +55,49 @@ fn told_vote(vote: Vote) -> &'static str {
     }
 }
 
-fn told_message(alloc: Global, message: &Message) -> Result<String, Fail> {
-    Ok(match message {
-        Message::Create(body) => format!(in alloc; "Create {}", body.coordination)?,
-        Message::CreateResponse(context) => {
-            format!(in alloc; "CreateResponse {}", context.identifier)?
-        }
-        Message::Register(body) => format!(in alloc; "Register {}", body.protocol)?,
-        Message::RegisterResponse(epr) => format!(in alloc; "RegisterResponse {}", epr.address)?,
-        Message::Notice(notice) => format!(in alloc; "{}", local_of(Form::Notice(*notice)))?,
-        Message::Work(work) => format!(in alloc;
-            "Work {} {} {} {} {}",
-            work.context.identifier,
-            work.key,
-            work.value,
-            told_kind(work.kind),
-            told_vote(work.vote)
-        )?,
-        Message::WorkDone => format!(in alloc; "WorkDone")?,
-        Message::WorkRefused => format!(in alloc; "WorkRefused")?,
-        Message::Fault { name } => format!(in alloc; "Fault {name}")?,
-    })
+fn told_work(alloc: Global, work: &Work) -> Result<String, AllocError> {
+    format!(in alloc;
+        "Work {} {} {} {} {}",
+        work.context.identifier,
+        work.key,
+        work.value,
+        told_kind(work.kind),
+        told_vote(work.vote)
+    )
 }
 
-fn told_target(alloc: Global, target: Target) -> Result<String, Fail> {
-    Ok(match target {
-        Target::Activation => format!(in alloc; "activation")?,
-        Target::Registration(id) => format!(in alloc; "registration {id}")?,
-        Target::Completion(id) => format!(in alloc; "completion {id}")?,
+fn told_message(alloc: Global, message: &Message) -> Result<String, AllocError> {
+    match message {
+        Message::Create(body) => format!(in alloc; "Create {}", body.coordination),
+        Message::CreateResponse(context) => {
+            format!(in alloc; "CreateResponse {}", context.identifier)
+        }
+        Message::Register(body) => format!(in alloc; "Register {}", body.protocol),
+        Message::RegisterResponse(epr) => format!(in alloc; "RegisterResponse {}", epr.address),
+        Message::Notice(notice) => format!(in alloc; "{}", local_of(Form::Notice(*notice))),
+        Message::Work(work) => told_work(alloc, work),
+        Message::WorkDone => format!(in alloc; "WorkDone"),
+        Message::WorkRefused => format!(in alloc; "WorkRefused"),
+        Message::Fault { name } => format!(in alloc; "Fault {name}"),
+    }
+}
+
+fn told_target(alloc: Global, target: Target) -> Result<String, AllocError> {
+    match target {
+        Target::Activation => format!(in alloc; "activation"),
+        Target::Registration(id) => format!(in alloc; "registration {id}"),
+        Target::Completion(id) => format!(in alloc; "completion {id}"),
         Target::Coordinator { id, seat } => format!(in alloc;
             "coordinator {} {id} {}",
             told_kind(seat.kind),
             seat.number
-        )?,
+        ),
         Target::Participant { id, kind } => {
-            format!(in alloc; "participant {} {id}", told_kind(kind))?
+            format!(in alloc; "participant {} {id}", told_kind(kind))
         }
-        Target::Initiator(id) => format!(in alloc; "initiator {id}")?,
-        Target::Work => format!(in alloc; "work")?,
-    })
+        Target::Initiator(id) => format!(in alloc; "initiator {id}"),
+        Target::Work => format!(in alloc; "work"),
+    }
 }
 
 fn told_name(name: ParameterName) -> &'static str {
@@ -107,25 +109,25 @@ fn told_name(name: ParameterName) -> &'static str {
     }
 }
 
-fn told_refusal(alloc: Global, refusal: &Refusal) -> Result<String, Fail> {
-    Ok(match refusal {
-        Refusal::NotUtf8 { place } => format!(in alloc; "no UTF-8 {place}")?,
-        Refusal::MustUnderstand { name } => format!(in alloc; "not understood {name}")?,
-        Refusal::MissingHeader { name } => format!(in alloc; "missing {}", name.local_name())?,
-        Refusal::InvalidHeader { name } => format!(in alloc; "invalid {}", name.local_name())?,
-        Refusal::Parameters { name } => format!(in alloc; "parameters {}", told_name(*name))?,
-        other => format!(in alloc; "{other}")?,
-    })
+fn told_refusal(alloc: Global, refusal: &Refusal) -> Result<String, AllocError> {
+    match refusal {
+        Refusal::NotUtf8 { place } => format!(in alloc; "no UTF-8 {place}"),
+        Refusal::MustUnderstand { name } => format!(in alloc; "not understood {name}"),
+        Refusal::MissingHeader { name } => format!(in alloc; "missing {}", name.local_name()),
+        Refusal::InvalidHeader { name } => format!(in alloc; "invalid {}", name.local_name()),
+        Refusal::Parameters { name } => format!(in alloc; "parameters {}", told_name(*name)),
+        other => format!(in alloc; "{other}"),
+    }
 }
 
-fn told_arrival(alloc: Global, arrival: &Arrival) -> Result<String, Fail> {
-    let message = told_message(alloc, &arrival.message)?;
+fn told_arrival(alloc: Global, arrival: &Arrival) -> Result<String, AllocError> {
     let target = told_target(alloc, arrival.target)?;
-    Ok(format!(in alloc; "{message} at {target}")?)
+    let message = told_message(alloc, &arrival.message)?;
+    format!(in alloc; "{message} at {target}")
 }
 
 /// The message that bytes mean at a path and its target, or the refusal.
-fn told(alloc: Global, bytes: &[u8], path: &str) -> Result<String, Fail> {
+fn told(alloc: Global, bytes: &[u8], path: &str) -> Result<String, AllocError> {
     match decode(alloc, bytes, path) {
         Ok(arrival) => told_arrival(alloc, &arrival),
         Err(refusal) => told_refusal(alloc, &refusal),
@@ -349,36 +351,50 @@ const CONTEXT: &str =
 
 const WORK: &str = "<w:Value> v </w:Value><w:Key>k</w:Key>";
 
+/// The envelope of a row.
+fn spelled(alloc: Global, action: &str, headers: &str, body: &str) -> Result<String, AllocError> {
+    let short = envelope(alloc, action, headers, body)?;
+    let half = short.replace(alloc, "CONTEXT", CONTEXT)?;
+    half.replace(alloc, "WORK", WORK)
+}
+
 fn decoded(
     alloc: Global,
     path: &str,
     action: &str,
     headers: &str,
     body: &str,
-) -> Result<String, Fail> {
-    let headers = headers.replace(alloc, "CONTEXT", CONTEXT)?;
-    let body = body.replace(alloc, "CONTEXT", CONTEXT)?;
-    let body = body.replace(alloc, "WORK", WORK)?;
-    let spelled = envelope(alloc, action, headers.as_str(), body.as_str())?;
+) -> Result<String, AllocError> {
+    let spelled = spelled(alloc, action, headers, body)?;
     told(alloc, spelled.as_bytes(), path)
+}
+
+fn is_decoded(alloc: Global, row: &(&str, &str, &str, &str, &str)) -> Result<bool, AllocError> {
+    let found = decoded(alloc, row.0, row.1, row.2, row.3)?;
+    Ok(found.as_str() == row.4)
 }
 
 #[test]
 fn decodes_each_message(rt: HostRuntime) -> Result<(), Fail> {
-    for (path, action, headers, body, outcome) in MESSAGES {
-        let found = decoded(rt.alloc(), path, action, headers, body)?;
-        assert!(rt; found.as_str() == *outcome, "at {path} {action}");
+    for row in MESSAGES {
+        let right = is_decoded(rt.alloc(), row)?;
+        assert!(rt; right, "at {} {}", row.0, row.1);
     }
     Ok(())
 }
 
 #[test]
 fn refuses_for_the_first_cause(rt: HostRuntime) -> Result<(), Fail> {
-    for (path, action, headers, body, outcome) in REFUSALS {
-        let found = decoded(rt.alloc(), path, action, headers, body)?;
-        assert!(rt; found.as_str() == *outcome, "at {path} {action}");
+    for row in REFUSALS {
+        let right = is_decoded(rt.alloc(), row)?;
+        assert!(rt; right, "at {} {}", row.0, row.1);
     }
     Ok(())
+}
+
+fn is_told(alloc: Global, bytes: &[u8], outcome: &str) -> Result<bool, AllocError> {
+    let found = told(alloc, bytes, "/work")?;
+    Ok(found.as_str() == outcome)
 }
 
 /// Whole requests, and the outcome.
@@ -391,41 +407,50 @@ const WHOLE: &[(&[u8], &str)] = &[
 #[test]
 fn refuses_whole_requests(rt: HostRuntime) -> Result<(), Fail> {
     for (bytes, outcome) in WHOLE {
-        let found = told(rt.alloc(), bytes, "/work")?;
-        assert!(rt; found.as_str() == *outcome);
+        let right = is_told(rt.alloc(), bytes, outcome)?;
+        assert!(rt; right, "at {outcome}");
     }
     Ok(())
 }
 
-#[test]
-fn refuses_what_is_too_long(rt: HostRuntime) -> Result<(), Fail> {
-    let long = " ".repeat(rt.alloc(), 65_537)?;
-    let found = told(rt.alloc(), long.as_bytes(), "/work")?;
-    assert!(rt; found.as_str() == "over 65,536 bytes");
-    Ok(())
+/// In how many elements how many of which text stand, and the outcome.
+const BOUNDS: &[(usize, usize, &str, &str)] = &[
+    (0, 65_537, " ", "over 65,536 bytes"),
+    (32, 1, "<a/>", "over 32 levels"),
+    (
+        1,
+        4_096,
+        "<a/>",
+        "over 4,096 elements, or over 32 attributes on one",
+    ),
+];
+
+fn nested(alloc: Global, depth: usize, count: usize, inner: &str) -> Result<String, AllocError> {
+    let open = "<a>".repeat(alloc, depth)?;
+    let inner = inner.repeat(alloc, count)?;
+    let close = "</a>".repeat(alloc, depth)?;
+    format!(in alloc; "{open}{inner}{close}")
+}
+
+fn is_bounded(alloc: Global, row: &(usize, usize, &str, &str)) -> Result<bool, AllocError> {
+    let (depth, count, inner, outcome) = row;
+    let text = nested(alloc, *depth, *count, inner)?;
+    is_told(alloc, text.as_bytes(), outcome)
 }
 
 #[test]
-fn refuses_what_is_too_deep(rt: HostRuntime) -> Result<(), Fail> {
-    let open = "<a>".repeat(rt.alloc(), 32)?;
-    let close = "</a>".repeat(rt.alloc(), 32)?;
-    let deep = format!(in rt.alloc(); "{open}<a/>{close}")?;
-    let found = told(rt.alloc(), deep.as_bytes(), "/work")?;
-    assert!(rt; found.as_str() == "over 32 levels");
+fn refuses_what_is_too_much(rt: HostRuntime) -> Result<(), Fail> {
+    for row in BOUNDS {
+        let right = is_bounded(rt.alloc(), row)?;
+        assert!(rt; right, "at {}", row.3);
+    }
     Ok(())
 }
 
-#[test]
-fn refuses_what_is_too_many(rt: HostRuntime) -> Result<(), Fail> {
-    let inner = "<a/>".repeat(rt.alloc(), 4_096)?;
-    let many = format!(in rt.alloc(); "<a>{inner}</a>")?;
-    let found = told(rt.alloc(), many.as_bytes(), "/work")?;
-    assert!(rt; found.as_str() == "over 4,096 elements, or over 32 attributes on one");
-    Ok(())
-}
+/// Lengths of a Work's key, and how the outcome ends.
+const KEYS: &[(usize, &str)] = &[(256, "at work"), (257, "parameters Key")];
 
-/// The outcome of a Work whose key has so many bytes.
-fn keyed(alloc: Global, length: usize) -> Result<String, Fail> {
+fn keyed(alloc: Global, length: usize) -> Result<String, AllocError> {
     let key = "k".repeat(alloc, length)?;
     let body = format!(in alloc;
         "<w:Work><w:Key> {key} </w:Key><w:Value/><w:Kind>durable</w:Kind><w:Vote>aborted</w:Vote></w:Work>"
@@ -436,10 +461,10 @@ fn keyed(alloc: Global, length: usize) -> Result<String, Fail> {
 
 #[test]
 fn bounds_a_key(rt: HostRuntime) -> Result<(), Fail> {
-    let longest = keyed(rt.alloc(), 256)?;
-    let longer = keyed(rt.alloc(), 257)?;
-    assert!(rt; longest.as_str().ends_with("at work"), "at 256");
-    assert!(rt; longer.as_str().ends_with("parameters Key"), "at 257");
+    for (length, end) in KEYS {
+        let found = keyed(rt.alloc(), *length)?;
+        assert!(rt; found.as_str().ends_with(end), "at {length}");
+    }
     Ok(())
 }
 
@@ -458,18 +483,18 @@ fn address(epr: &Option<Epr>) -> &str {
 }
 
 /// To, MessageID, RelatesTo, and the addresses of From, ReplyTo and FaultTo.
-fn told_headers(alloc: Global, arrival: &Arrival) -> Result<String, Fail> {
+fn told_headers(alloc: Global, arrival: &Arrival) -> Result<String, AllocError> {
     let to = word(&arrival.to);
     let id = word(&arrival.id);
     let relates = word(&arrival.relates);
     let from = address(&arrival.from);
     let reply = address(&arrival.reply);
     let fault = address(&arrival.fault);
-    Ok(format!(in alloc; "{to} {id} {relates} {from} {reply} {fault}")?)
+    format!(in alloc; "{to} {id} {relates} {from} {reply} {fault}")
 }
 
 /// The headers of a WorkDone with these header blocks.
-fn headers_of(alloc: Global, headers: &str) -> Result<String, Fail> {
+fn headers_of(alloc: Global, headers: &str) -> Result<String, AllocError> {
     let spelled = envelope(alloc, "w:WorkDone", headers, "")?;
     match decode(alloc, spelled.as_bytes(), "/") {
         Ok(arrival) => told_headers(alloc, &arrival),
