@@ -4,7 +4,7 @@
     bench/nodes.py [COUNT] [SEED] [LINES]
 
 Each of COUNT rounds (200) makes a schedule of LINES lines (60) for up to five nodes, of requests, deliveries (also of what
-was delivered before), ticks, crashes, starts, and device calls that fail or at which a node stops, has `replay` report it,
+was delivered before), ticks, bytes that are refused, crashes, starts, and device calls that fail or at which a node stops, has `replay` report it,
 and has `schedule_loop` run it over nodes on machines in memory, which post to one another the bytes that they post to
 anybody. Results, effects and posts (sender, receiver, name and path, in order) must be the same, but for the effects of
 turns in which a node went down: those, and what is lost then, are known to the world alone. It says how many were compared,
@@ -21,6 +21,19 @@ import sys
 TOP = os.path.dirname(os.path.dirname(os.path.abspath(__file__)))
 ATX = os.path.join(TOP, "atx")
 LOOP = os.environ.get("SCHEDULE_LOOP", os.path.join(TOP, "crates", "schedule_loop", "out", "schedule_loop"))
+
+
+# Bytes that a node refuses; the client of the last two waits for the interim line.
+REFUSED = [
+    b"",
+    b"\0",
+    b"GET / HTTP/1.1\r\nHost: a\r\n\r\n",
+    b"POST / HTTP/1.1\r\nHost: a\r\n\r\n",
+    b"POST / HTTP/1.1\r\nHost: a\r\nContent-Length: 65537\r\n\r\n",
+    b"POST /work HTTP/1.1\r\nHost: a\r\nContent-Length: 3\r\n\r\n<a>",
+    b"POST /work HTTP/1.1\r\nHost: a\r\nExpect: 100-continue\r\nContent-Length: 3\r\n\r\n<a>",
+    b"POST /work HTTP/1.1\r\nHost: a\r\nExpect: 100-continue\r\nTransfer-Encoding: chunked\r\n\r\n0\r\n",
+]
 
 
 def schedule(dice, count):
@@ -54,8 +67,10 @@ def schedule(dice, count):
             lines.append(f"deliver {dice.randint(1, 40)}")
         elif kind < 0.88:
             lines.append(f"tick {at} {dice.choice([0, 1000, 5000, 5000, 60000])}")
-        elif kind < 0.90:
+        elif kind < 0.89:
             lines.append(f"crash {at}")
+        elif kind < 0.90:
+            lines.append(f"inject {at} {dice.choice(REFUSED).hex()}")
         elif kind < 0.93:
             leaves = dice.choice(["keep", "drop", "fill 0", "fill 1", "fill 7"])
             lines.append(dice.choice([f"fail {at} {dice.randint(1, 12)}", f"stop {at} {dice.randint(1, 12)} {leaves}"]))

@@ -1,15 +1,18 @@
 -- What was read and printed, as the clauses of the top call say it.
-use Rattle.std.proofs.Common.{◌≡◌, ℕ, List, [], ◌∷◌, Bool, true, false, Option, Some, None, IsTrue, IfSome, length, take, nat_eq, ◌≤◌, ◌||◌, refl, subst, ◌∙◌}
+use Rattle.std.proofs.Common.{◌≡◌, ℕ, List, [], ◌∷◌, Bool, true, false, Option, Some, None, IsTrue, IfSome, Result, Ok, Err, length, take, nat_eq, ◌≤◌, ◌||◌, refl, sym, subst, ◌∙◌}
 use Rattle.std.proofs.lemmas.Bool.{eqb-true}
 use Rattle.std.specs.List.{list_any}
 use Rattle.std.specs.Io.KnownBytes.{Appends}
 use Rattle.site_model.specs.Counts.{RisesBy}
 use Rattle.site_model.specs.Source.{IsWhole}
-use Rattle.envelope_cmd.specs.Output.{Output}
+use Rattle.envelope_cmd.specs.Output.{Output, accepted, refused}
 use Rattle.command_line.specs.Jobs.{Filter}
 use Rattle.replay_cmd.specs.Laws.{ReadIsReplayable, ReportsAreSafe, ReportsComeToRest}
+use Rattle.replay_cmd.specs.Laws.{IsReport as IsReportOf}
 use Rattle.schedules.specs.Schedules.{schedule_of}
-use Rattle.command_line.specs.Reports.{IsCut, IsDone, IsReplayOf, Reports, replayed, status_of}
+use Rattle.schedules.specs.declared.line.BadLine.{BadLine}
+use Rattle.schedules.specs.declared.line.Line.{Line}
+use Rattle.command_line.specs.Reports.{IsCut, IsDone, IsReplayOf, IsReplayed, Replays, Reports, bad_line, status_of}
 
 pub on_some : {P Q : List ℕ → Type 0} (left : Option (List ℕ)) → ((input : List ℕ) → P input → Q input) → IfSome left P → IfSome left Q
 on_some None f h = tt
@@ -49,7 +52,26 @@ part_printed left before now bytes told job old new output whole t reports (n, (
     (λ input f. record { output = output; reports = reported job bytes told input output t f reports; count = n; within = within; printed = part }) whole.all
 
 pub replay_of :
-    (settle : Bool) (input : List ℕ) (output : Output) → ReadIsReplayable → ReportsAreSafe → ReportsComeToRest → output ≡ replayed settle (schedule_of input)
+    (settle : Bool) (input : List ℕ) (output : Output) → ReadIsReplayable → ReportsAreSafe → ReportsComeToRest → Replays settle (schedule_of input) output
     → IsReplayOf settle input output
 replay_of settle input output reads safe rests e =
-    record { is = e; safe = λ lines f. safe settle lines (reads input lines f); rests = λ lines f. rests lines (reads input lines f) }
+    record {
+      is = e;
+      safe = λ draws lines f. safe settle draws lines (reads input lines f);
+      rests = λ draws lines f. rests draws lines (reads input lines f);
+    }
+
+pub replayed_so :
+    (settle : Bool) (lines : List Line) (text : List ℕ) (output : Output) → IsReportOf settle lines text → output ≡ accepted text
+    → IsReplayed settle lines output
+replayed_so settle lines text output h e = record { text = text; report = h; is = e }
+
+pub replays_so :
+    (settle : Bool) (r : Result (List Line) BadLine) (lines : List Line) (output : Output) → r ≡ Ok lines → IsReplayed settle lines output
+    → Replays settle r output
+replays_so settle r lines output e h = subst (λ x. Replays settle x output) (sym e) h
+
+pub refuses_so :
+    (settle : Bool) (r : Result (List Line) BadLine) (bad : BadLine) (output : Output) → r ≡ Err bad → output ≡ refused (bad_line bad)
+    → Replays settle r output
+refuses_so settle r bad output e h = subst (λ x. Replays settle x output) (sym e) h

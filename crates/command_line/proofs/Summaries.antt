@@ -6,8 +6,7 @@ use Rattle.std.proofs.lemmas.Bool.{leb-true}
 use Rattle.clap.specs.Simple.{subcommand_of}
 use Rattle.clap.specs.Walk.{Row, Text, first_of}
 use Rattle.replay_cmd.specs.Laws.{IsSafe}
-use Rattle.replay_cmd.specs.ReportOf.{summary_of, world_of}
-use Rattle.schedules.specs.Generator.{made}
+use Rattle.replay_cmd.specs.ReportOf.{summary_of, world_made}
 use Rattle.schedules.specs.Values.{decimal_of, within}
 use Rattle.schedules.specs.declared.line.Cause.TheVariants.{Number}
 use Rattle.command_line.specs.Commands.{whole}
@@ -40,7 +39,7 @@ few_steps words seed steps h = by_found (subcommand_of whole words) h.1
 
 -- what was written is the line that was made
 
-pub is_summed : (seed steps : ℕ) (bytes : List ℕ) (old new : Option (List ℕ)) → bytes ≡ summary_of seed steps → IsSafe 4 (world_of (made seed steps)) → Appends old new bytes
+pub is_summed : (seed steps : ℕ) (bytes : List ℕ) (old new : Option (List ℕ)) → bytes ≡ summary_of seed steps → IsSafe 4 (world_made seed steps) → Appends old new bytes
     → IsSummed seed steps old new
 is_summed seed steps bytes old new e safe told = record { printed = subst (Appends old new) e told; safe = safe }
 

@@ -4,8 +4,10 @@ use Rattle.std.specs.Io.KnownBytes.{Appends}
 use Rattle.envelope_cmd.specs.Output.{Output, accepted, refused}
 use Rattle.envelope_cmd.specs.Cells.{IsCellOf}
 use Rattle.envelope_cmd.specs.Checks.{IsCheckOf}
+use Rattle.raw_requests.specs.declared.Drawn.{Drawn}
 use Rattle.replay_cmd.specs.Laws.{ComesToRest, IsSafe}
-use Rattle.replay_cmd.specs.ReportOf.{nodes_of, report_with, world_with}
+use Rattle.replay_cmd.specs.Laws.{IsReport as IsReportOf}
+use Rattle.replay_cmd.specs.ReportOf.{nodes_of, world_with}
 use Rattle.schedules.specs.Causes.{number_of_cause}
 use Rattle.schedules.specs.Schedules.{schedule_of}
 use Rattle.schedules.specs.declared.line.BadLine.{BadLine}
@@ -17,17 +19,23 @@ use Rattle.command_line.specs.Jobs.Filter.{Cell, Check, Replay}
 unfoldable pub bad_line : BadLine → List ℕ
 bad_line bad = codes "line " ++ (decimal bad.line ++ (codes " cause " ++ (decimal (number_of_cause bad.cause) ++ codes "\n")))
 
--- the report of a schedule, whose world is brought to rest where that is asked, or of its first bad line
-abbrev pub replayed : Bool → Result (List Line) BadLine → Output
-replayed settle (Ok lines) = accepted (report_with settle lines)
-replayed settle (Err bad) = refused (bad_line bad)
+-- the report of a schedule, whose world is brought to rest where that is asked
+pub record IsReplayed (settle : Bool) (lines : List Line) (output : Output) : Type 0 where
+  pub text : List ℕ
+  pub report : IsReportOf settle lines text
+  pub is : output ≡ accepted text
+
+-- that report, or the line of the first bad line
+abbrev pub Replays : Bool → Result (List Line) BadLine → Output → Type 0
+Replays settle (Ok lines) output = IsReplayed settle lines output
+Replays settle (Err bad) output = output ≡ refused (bad_line bad)
 
 -- The report of a schedule is of a world in which no two participants of one transaction end differently, with all else that
--- holds of every run. A world that is brought to rest is at rest.
+-- holds of every run, whatever the bytes draw that its lines bring. A world that is brought to rest is at rest.
 pub record IsReplayOf (settle : Bool) (input : List ℕ) (output : Output) : Type 0 where
-  pub is : output ≡ replayed settle (schedule_of input)
-  pub safe : (lines : List Line) → schedule_of input ≡ Ok lines → IsSafe (nodes_of lines) (world_with settle lines)
-  pub rests : (lines : List Line) → schedule_of input ≡ Ok lines → ComesToRest lines
+  pub is : Replays settle (schedule_of input) output
+  pub safe : (draws : List (Option Drawn)) (lines : List Line) → schedule_of input ≡ Ok lines → IsSafe (nodes_of lines) (world_with settle draws lines)
+  pub rests : (draws : List (Option Drawn)) (lines : List Line) → schedule_of input ≡ Ok lines → ComesToRest draws lines
 
 -- a filter prints this of its input
 abbrev pub Reports : Filter → List ℕ → Output → Type 0

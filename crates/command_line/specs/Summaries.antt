@@ -2,14 +2,13 @@
 use Rattle.std.specs.Prelude.{ℕ, List, Option, length, take, ◌≤◌}
 use Rattle.std.specs.Io.KnownBytes.{Appends}
 use Rattle.replay_cmd.specs.Laws.{IsSafe}
-use Rattle.replay_cmd.specs.ReportOf.{summary_of, world_of}
-use Rattle.schedules.specs.Generator.{made}
+use Rattle.replay_cmd.specs.ReportOf.{summary_of, world_made}
 
 -- The whole line was printed. It is of a world of four nodes in which no two participants of one transaction end differently,
 -- with all else that holds of every run.
 pub record IsSummed (seed steps : ℕ) (old new : Option (List ℕ)) : Type 0 where
   pub printed : Appends old new (summary_of seed steps)
-  pub safe : IsSafe 4 (world_of (made seed steps))
+  pub safe : IsSafe 4 (world_made seed steps)
 
 -- a beginning of the line was printed
 pub record IsSummedInPart (seed steps : ℕ) (old new : Option (List ℕ)) : Type 0 where

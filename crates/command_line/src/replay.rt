@@ -1,11 +1,10 @@
 //! What `replay` prints of its input.
 
 ghost use Rattle.std.specs.Prelude.{◌≡◌, IfOk};
-ghost use Rattle.envelope_cmd.specs.Output.{accepted, refused};
+ghost use Rattle.envelope_cmd.specs.Output.{refused};
 ghost use Rattle.replay_cmd.specs.Laws.{IsReplayable};
-ghost use Rattle.replay_cmd.specs.ReportOf.{report_with};
 ghost use Rattle.schedules.specs.Schedules.{schedule_of};
-ghost use Rattle.command_line.specs.Reports.{IsReplayOf, bad_line, replayed};
+ghost use Rattle.command_line.specs.Reports.{IsReplayOf, IsReplayed, Replays, bad_line};
 
 use envelope_cmd::output::Printed;
 use replay_cmd::laws::{reports_are_safe, reports_come_to_rest, what_is_read_is_replayable};
@@ -22,22 +21,31 @@ pub(crate) fn refusal(alloc: Global, bad: BadLine) -> Result<Printed, AllocError
     Printed::refused(alloc, line.as_str())
 }
 
+#[tactic(auto, using(crate::proofs::Reports::replayed_so))]
 fn report(alloc: Global, schedule: &Schedule, settle: bool) -> Result<Printed, AllocError>
     requires { IsReplayable schedule.now }
-    ensures { IfOk result (λ printed. printed ≡ accepted (report_with settle schedule.now)) }
+    ensures { IfOk result (IsReplayed settle schedule.now) }
 {
     let lines = replay(alloc, schedule, settle)?;
     let text = Vec::from_slice(alloc, lines.as_slice())?;
-    Ok(Printed::accepted(text))
+    let printed = Printed::accepted(text);
+    Ok(printed)
 }
 
+#[tactic(auto, using(crate::proofs::Reports::replays_so, crate::proofs::Reports::refuses_so))]
 fn printed(alloc: Global, input: &[u8], settle: bool) -> Result<Printed, AllocError>
-    ensures { IfOk result (λ printed. printed ≡ replayed settle (schedule_of input.now)) }
+    ensures { IfOk result (Replays settle (schedule_of input.now)) }
 {
     what_is_read_is_replayable();
     match read_schedule(alloc, input) {
-        Ok(schedule) => report(alloc, &schedule, settle),
-        Err(ScheduleError::Bad(bad)) => refusal(alloc, bad),
+        Ok(schedule) => {
+            let printed = report(alloc, &schedule, settle)?;
+            Ok(printed)
+        }
+        Err(ScheduleError::Bad(bad)) => {
+            let printed = refusal(alloc, bad)?;
+            Ok(printed)
+        }
         Err(ScheduleError::OutOfMemory) => Err(AllocError),
     }
 }

@@ -9,35 +9,37 @@ use Rattle.world_laws.specs.declared.posts.Counted.{Counted}
 use Rattle.replay_cmd.specs.declared.fault.Fault.{Fault}
 use Rattle.replay_cmd.specs.ReportOf.{Course, behind_of, effect_lines, event_lines, line_before, line_behind, result_line, step_lines}
 
-two_parts : (f : Option Fault) (e : WorldEvent) (w v : World) (steps : List Counted) → result_line f e w v steps ≡ line_before e w ++ line_behind f (node_of e) (behind_of w e) v steps
-two_parts f (Turn n (Deliver k) fates until) w v steps = refl
-two_parts f (Turn n (Tick ms) fates until) w v steps = refl
-two_parts f (Turn n Raw fates until) w v steps = refl
-two_parts f (Ask n l fates until) w v steps = sym (append-nil (line_before (Ask n l fates until) w))
-two_parts f (Crash n) w v steps = sym (append-nil (line_before (Crash n) w))
-two_parts f (Up n landed stop) w v steps = refl
+two_parts :
+    (f : Option Fault) (s : ℕ) (e : WorldEvent) (w v : World) (steps : List Counted)
+    → result_line f s e w v steps ≡ line_before e w ++ line_behind f s (node_of e) (behind_of w e) v steps
+two_parts f s (Turn n (Deliver k) fates until) w v steps = refl
+two_parts f s (Turn n (Tick ms) fates until) w v steps = refl
+two_parts f s (Turn n Raw fates until) w v steps = refl
+two_parts f s (Ask n l fates until) w v steps = sym (append-nil (line_before (Ask n l fates until) w))
+two_parts f s (Crash n) w v steps = sym (append-nil (line_before (Crash n) w))
+two_parts f s (Up n landed stop) w v steps = refl
 
 -- the lines of an event behind those that were there
 pub happened :
-    (f : Option Fault) (c : Course) (e : WorldEvent) (v : World) (steps : List Counted) (lost : List Effect) (before after : List ℕ)
+    (f : Option Fault) (s : ℕ) (c : Course) (e : WorldEvent) (v : World) (steps : List Counted) (lost : List Effect) (before after : List ℕ)
     → v ≡ world_step c.world e → steps ≡ steps_of c.world e → lost ≡ losses_of c.world e
     → before ≡ c.text ++ line_before e c.world
-    → after ≡ before ++ (line_behind f (node_of e) (behind_of c.world e) v steps
+    → after ≡ before ++ (line_behind f s (node_of e) (behind_of c.world e) v steps
     ++ (step_lines (node_of e) (length c.world.posted + 1) (drop (length c.world.posted) v.posted) steps ++ effect_lines (node_of e) lost))
-    → after ≡ c.text ++ event_lines f c.world e
-happened f c e v steps lost before after is_v is_steps is_lost is_before is_after =
+    → after ≡ c.text ++ event_lines f s c.world e
+happened f s c e v steps lost before after is_v is_steps is_lost is_before is_after =
     is_after
     ∙ (ap (λ t. t ++ told) is_before
     ∙ (append_assoc c.text (line_before e c.world) told
     ∙ ap (λ t. c.text ++ t)
-    (sym (append_assoc (line_before e c.world) (line_behind f (node_of e) (behind_of c.world e) v steps) rest)
-    ∙ (ap (λ t. t ++ rest) (sym (two_parts f e c.world v steps))
-    ∙ (ap (λ x. result_line f e c.world x steps ++ (step_lines (node_of e) (length c.world.posted + 1) (drop (length c.world.posted) x.posted) steps ++ effect_lines (node_of e) lost)) is_v
-    ∙ (ap (λ x. result_line f e c.world (world_step c.world e) x ++ (step_lines (node_of e) (length c.world.posted + 1) (drop (length c.world.posted) (world_step c.world e).posted) x ++ effect_lines (node_of e) lost)) is_steps
-    ∙ ap (λ x. result_line f e c.world (world_step c.world e) (steps_of c.world e) ++ (step_lines (node_of e) (length c.world.posted + 1) (drop (length c.world.posted) (world_step c.world e).posted) (steps_of c.world e) ++ effect_lines (node_of e) x)) is_lost))))))
+    (sym (append_assoc (line_before e c.world) (line_behind f s (node_of e) (behind_of c.world e) v steps) rest)
+    ∙ (ap (λ t. t ++ rest) (sym (two_parts f s e c.world v steps))
+    ∙ (ap (λ x. result_line f s e c.world x steps ++ (step_lines (node_of e) (length c.world.posted + 1) (drop (length c.world.posted) x.posted) steps ++ effect_lines (node_of e) lost)) is_v
+    ∙ (ap (λ x. result_line f s e c.world (world_step c.world e) x ++ (step_lines (node_of e) (length c.world.posted + 1) (drop (length c.world.posted) (world_step c.world e).posted) x ++ effect_lines (node_of e) lost)) is_steps
+    ∙ ap (λ x. result_line f s e c.world (world_step c.world e) (steps_of c.world e) ++ (step_lines (node_of e) (length c.world.posted + 1) (drop (length c.world.posted) (world_step c.world e).posted) (steps_of c.world e) ++ effect_lines (node_of e) x)) is_lost))))))
   where
     rest : List ℕ
     rest = step_lines (node_of e) (length c.world.posted + 1) (drop (length c.world.posted) v.posted) steps ++ effect_lines (node_of e) lost
 
     told : List ℕ
-    told = line_behind f (node_of e) (behind_of c.world e) v steps ++ rest
+    told = line_behind f s (node_of e) (behind_of c.world e) v steps ++ rest

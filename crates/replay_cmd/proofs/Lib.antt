@@ -5,3 +5,5 @@ pub mod ReplayableSchedules
 pub mod RestEvents
 pub mod ReplayRuns
 mod EventLines
+mod LineDraws
+mod TakenLines

@@ -24,8 +24,9 @@ happened_on [] c = refl
 happened_on (e ∷ es) c = happened_on es (happens None e c)
 
 pub reports_runs : ReportsRuns
-reports_runs false all = report_run all
-reports_runs true all = happen_on (nodes_of all) (settle (world_of all)) (course_of all) (report_run all)
+reports_runs false draws all = report_run draws all
+reports_runs true draws all =
+    happen_on (nodes_of all) (settle (world_of draws all)) (course_of draws all) (report_run draws all)
 
 -- what holds of each run holds of the world of a report
 
@@ -40,8 +41,8 @@ safe_run count w r apart agrees superior made = record {
 }
 
 pub reports_are_safe : ExamplesAreApart → Agrees → EnlistsUnderOne → MakesNoIdTwice → ReportsAreSafe
-reports_are_safe apart agrees superior made settle all can =
-    safe_run (nodes_of all) (world_with settle all) (reports_runs settle all) (apart (nodes_of all) (omega (arith, can.most))) agrees superior made
+reports_are_safe apart agrees superior made settle draws all can =
+    safe_run (nodes_of all) (world_with settle draws all) (reports_runs settle draws all) (apart (nodes_of all) (omega (arith, can.most))) agrees superior made
 
 -- behind the events that settle it the world is at rest
 
@@ -51,6 +52,6 @@ run_settled count w r apart settles start =
     (settles (example_hosts count) r.events apart (subst (λ v. AllByRecursion MayStart v.nodes) r.run start)).rests
 
 pub reports_come_to_rest : ExamplesAreApart → Settles → ReportsComeToRest
-reports_come_to_rest apart settles all can start =
-    ap is_settled (happened_on (settle (world_of all)) (course_of all))
-    ∙ run_settled (nodes_of all) (world_of all) (report_run all) (apart (nodes_of all) (omega (arith, can.most))) settles start
+reports_come_to_rest apart settles draws all can start =
+    ap is_settled (happened_on (settle (world_of draws all)) (course_of draws all))
+    ∙ run_settled (nodes_of all) (world_of draws all) (report_run draws all) (apart (nodes_of all) (omega (arith, can.most))) settles start

@@ -1,5 +1,5 @@
 -- Worked reports.
-use Rattle.std.specs.Prelude.{ℕ, List, [], ◌∷◌, ◌++◌, ◌≡◌, codes, refl}
+use Rattle.std.specs.Prelude.{ℕ, List, [], ◌∷◌, ◌++◌, ◌≡◌, Some, None, true, false, codes, refl}
 use Rattle.std.specs.Fmt.{digits}
 use Rattle.at_model.specs.Abort.{abort}
 use Rattle.at_model.specs.Phases.{decided, committed, root_answered, voted, sub_answered, go_durable, volatile_answered, all_committed, advance_in, go_volatile}
@@ -17,17 +17,41 @@ use Rattle.at_base.specs.declared.notice.Vote.TheVariants as votes
 use Rattle.at_model.specs.World.{world_step}
 use Rattle.world_laws.specs.Moves.{moved_in}
 use Rattle.world_laws.specs.Walks.{sends}
+use Rattle.raw_requests.specs.declared.Drawn.TheVariants as drawns
 use Rattle.schedules.specs.declared.line.Leaves.TheVariants as leaves
 use Rattle.schedules.specs.declared.line.Line.{Line}
 use Rattle.schedules.specs.declared.line.Line.TheVariants as lines
-use Rattle.replay_cmd.specs.Lines.{up_line, deliver_line, tick_line, no_message_line, refused_line, item_line, leaf_words, message_start, end_line}
-use Rattle.replay_cmd.specs.ReportOf.{report_of}
+use Rattle.replay_cmd.specs.Lines.{up_line, down_line, inject_line, forged_line, deliver_line, tick_line, no_message_line, refused_line, item_line, leaf_words, message_start, end_line}
+use Rattle.replay_cmd.specs.ReportOf.{report_of, report_with}
 
 -- A node comes up, and nothing happens.
 pub one_node :
     report_of (lines.Nodes 1 ∷ []) ≡ codes "up 1 1\nend messages 0 committed 0 aborted 0 lost 0\n"
 unfolding digits world_step moved_in sends up_line end_line
 one_node = refl
+
+-- A byte that begins no request is refused, and changes nothing.
+pub a_byte_is_refused :
+    report_with false (None ∷ Some (drawns.Refused 400 false) ∷ []) (lines.Nodes 1 ∷ lines.Inject 1 (codes "00") ∷ [])
+    ≡ codes "up 1 1\ninject 1 400\nend messages 0 committed 0 aborted 0 lost 0\n"
+unfolding digits world_step moved_in sends up_line inject_line end_line
+a_byte_is_refused = refl
+
+-- Bytes that are a message, or ask for what is due, aren't handed over, not even to a node that is down.
+pub forged_bytes :
+    report_with false (None ∷ None ∷ Some drawns.Forged ∷ Some (drawns.Refused 400 false) ∷ [])
+    (lines.Nodes 1 ∷ lines.Crash 1 ∷ lines.Inject 1 (codes "00") ∷ lines.Inject 1 (codes "00") ∷ [])
+    ≡ codes "up 1 1\ndown 1\ninject 1 forged\ninject 1 down\nend messages 0 committed 0 aborted 0 lost 0\n"
+unfolding digits world_step moved_in sends up_line down_line inject_line forged_line end_line
+forged_bytes = refl
+
+-- Where the client waits for the interim line, that is a call before the answer: the second call is the answer's.
+pub the_interim_line_is_a_call :
+    report_with false (None ∷ None ∷ Some (drawns.Refused 500 true) ∷ None ∷ None ∷ Some (drawns.Refused 500 true) ∷ [])
+    (lines.Nodes 1 ∷ lines.Stop 1 1 leaves.Keep ∷ lines.Inject 1 [] ∷ lines.Up 1 ∷ lines.Fail 1 2 ∷ lines.Inject 1 [] ∷ [])
+    ≡ codes "up 1 1\ninject 1 stopped\nup 1 2\ninject 1 500\nend messages 0 committed 0 aborted 0 lost 0\n"
+unfolding digits world_step moved_in sends up_line inject_line end_line
+the_interim_line_is_a_call = refl
 
 -- There is no such activity, and no such message.
 pub nothing_there :

@@ -1,7 +1,7 @@
 -- Device calls that fail, or at which a node stops: writes and syncs of its files, answers and posts, counted from when one of
 -- them is armed.
 use Rattle.std.specs.Prelude.{ℕ, List, [], ◌∷◌, Option, Some, None, Bool, true, false, ◌&&◌, ◌==◌, ◌+◌, ◌-◌, zero, suc, nat_eq, nat_le, min, if◌then◌else◌}
-use Rattle.at_model.specs.World.{WorldEvent, Turn, Ask, Crash, Up}
+use Rattle.at_model.specs.World.{WorldEvent, Turn, Ask, Crash, Up, Raw}
 use Rattle.schedules.specs.declared.line.Leaves.{Leaves}
 use Rattle.schedules.specs.declared.line.Leaves.TheVariants as leaves
 use Rattle.world_laws.specs.Fates.{behind_done}
@@ -88,6 +88,15 @@ struck a first (Up n landed stop) = struck_up n landed stop a
 abbrev pub still_armed : Armed → ℕ → Option Armed
 still_armed a zero = None
 still_armed a (suc k) = Some (record a { call = suc k })
+
+-- Raw bytes come to a node.
+abbrev pub raw_at : ℕ → WorldEvent
+raw_at n = Turn n Raw [] None
+
+-- The interim line is a call before the first step, and has no fate. Where the node stops at it, it goes down before any
+-- step; else the turn goes on.
+abbrev pub struck_line : ℕ → Fault → WorldEvent
+struck_line n f = Turn n Raw [] (if is_stop f then Some 0 else None)
 
 -- behind the steps of an event that left so many fates, each of which is now one call (and no more than there were)
 abbrev pub behind_steps : Armed → Option Bool → ℕ → Option Armed

@@ -56,6 +56,15 @@ tick_line node clock outcome =
     codes "tick "
     ++ (decimal node ++ (codes " " ++ (decimal clock ++ (codes " " ++ (outcome_word outcome ++ codes "\n")))))
 
+-- raw bytes came to a node, whose turn came out so
+unfoldable pub inject_line : ℕ → Outcome → List ℕ
+inject_line node outcome =
+    codes "inject " ++ (decimal node ++ (codes " " ++ (outcome_word outcome ++ codes "\n")))
+
+-- bytes that are a message, or ask for what is due, aren't handed to a node
+unfoldable pub forged_line : ℕ → List ℕ
+forged_line node = codes "inject " ++ (decimal node ++ codes " forged\n")
+
 unfoldable pub refused_line : List ℕ → List ℕ
 refused_line word = codes "refused " ++ (word ++ codes "\n")
 

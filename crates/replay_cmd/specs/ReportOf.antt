@@ -12,8 +12,10 @@ use Rattle.at_model.specs.Activities.{Refusal}
 use Rattle.at_model.specs.Book.{Book}
 use Rattle.at_model.specs.Step.{refuses}
 use Rattle.at_model.specs.Views.{line_of, up, deliver_to, tick_at, request, begin_at, interpose_at, work_at, commit_at}
-use Rattle.at_model.specs.World.{World, WorldEvent, Posted, Happened, Turn, Ask, Crash, Up, Deliver, Tick, nth, node_of, opening, world_step, example_hosts}
+use Rattle.at_model.specs.World.{World, WorldEvent, Posted, Happened, Turn, Ask, Crash, Up, Deliver, Tick, Raw, nth, node_of, opening, world_step, example_hosts}
 use Rattle.model_laws.specs.Settlement.{settle}
+use Rattle.raw_requests.specs.declared.Drawn.{Drawn}
+use Rattle.raw_requests.specs.declared.Drawn.TheVariants as drawns
 use Rattle.schedules.specs.Generator.{made}
 use Rattle.schedules.specs.declared.line.Line.{Line}
 use Rattle.schedules.specs.declared.line.Line.TheVariants as lines
@@ -32,9 +34,9 @@ use Rattle.replay_cmd.specs.declared.lines.Outcome.TheVariants as outcomes
 use Rattle.replay_cmd.specs.declared.lines.Started.{Started}
 use Rattle.replay_cmd.specs.declared.lines.Started.TheVariants as starts
 use Rattle.replay_cmd.specs.Deliveries.{yes_at, lowest}
-use Rattle.replay_cmd.specs.Faults.{armed_behind, struck}
+use Rattle.replay_cmd.specs.Faults.{armed_behind, raw_at, still_armed, struck, struck_line}
 use Rattle.effect_words.specs.Words.{refusal_word}
-use Rattle.replay_cmd.specs.Lines.{up_line, up_already_line, down_line, deliver_line, no_message_line, tick_line, refused_line, effect_line, message_line, end_line, summary_line}
+use Rattle.replay_cmd.specs.Lines.{up_line, up_already_line, down_line, deliver_line, no_message_line, tick_line, inject_line, forged_line, refused_line, effect_line, message_line, end_line, summary_line}
 
 -- The HTTP status of an answer, 0 where there is none.
 abbrev pub status_of : Option Answer → ℕ
@@ -52,12 +54,12 @@ cut_by None = outcomes.Down
 cut_by (Some faults.Fail) = outcomes.Halted
 cut_by (Some (faults.Stop left)) = outcomes.Stopped
 
--- How a turn came out at a node that was up in this incarnation before, and is up in that one behind it; a node that is down
--- takes no turn.
-abbrev pub outcome_of : Option Fault → Option ℕ → Option ℕ → List Counted → Outcome
-outcome_of f None behind steps = outcomes.Down
-outcome_of f (Some was) None steps = cut_by f
-outcome_of f (Some was) (Some is) steps = outcomes.Answered (status_in steps)
+-- How a turn that answers this came out at a node that was up in this incarnation before, and is up in that one behind it; a
+-- node that is down takes no turn.
+abbrev pub outcome_of : Option Fault → Option ℕ → Option ℕ → ℕ → Outcome
+outcome_of f None behind status = outcomes.Down
+outcome_of f (Some was) None status = cut_by f
+outcome_of f (Some was) (Some is) status = outcomes.Answered status
 
 -- How a start ended at which a fault came.
 abbrev pub start_cut_by : Option Fault → Started
@@ -92,16 +94,18 @@ start_result started n (Some before) = up_already_line n
 abbrev pub up_result : Option Fault → Bool → ℕ → Option ℕ → Option ℕ → List ℕ
 up_result f cut n before behind = start_result (started_by f cut behind) n before
 
--- The line of an event's result, from the world before it and the one behind it, and from the fault that it may have met.
-abbrev pub result_line : Option Fault → WorldEvent → World → World → List Counted → List ℕ
-result_line f (Up n landed stop) before behind steps = up_result f stop n (incarnation_at before n) (incarnation_at behind n)
-result_line f (Crash n) before behind steps = down_line n (incarnation_at before n)
-result_line f (Turn n (Deliver k) fates until) before behind steps =
-    deliver_line k n (outcome_of f (incarnation_at before n) (incarnation_at behind n) steps)
-result_line f (Turn n (Tick ms) fates until) before behind steps =
-    tick_line n (or_zero (clock_at behind n)) (outcome_of f (incarnation_at before n) (incarnation_at behind n) steps)
-result_line f (Ask n l fates until) before behind steps = request_result l (book_at before n)
-result_line f other before behind steps = []
+-- The line of an event's result, from the world before it and the one behind it, from the fault that it may have met, and from
+-- the status that raw bytes draw, of which the world knows nothing.
+abbrev pub result_line : Option Fault → ℕ → WorldEvent → World → World → List Counted → List ℕ
+result_line f s (Up n landed stop) before behind steps = up_result f stop n (incarnation_at before n) (incarnation_at behind n)
+result_line f s (Crash n) before behind steps = down_line n (incarnation_at before n)
+result_line f s (Turn n (Deliver k) fates until) before behind steps =
+    deliver_line k n (outcome_of f (incarnation_at before n) (incarnation_at behind n) (status_in steps))
+result_line f s (Turn n (Tick ms) fates until) before behind steps =
+    tick_line n (or_zero (clock_at behind n)) (outcome_of f (incarnation_at before n) (incarnation_at behind n) (status_in steps))
+result_line f s (Turn n Raw fates until) before behind steps =
+    inject_line n (outcome_of f (incarnation_at before n) (incarnation_at behind n) s)
+result_line f s (Ask n l fates until) before behind steps = request_result l (book_at before n)
 
 -- The same in two parts: what is seen before the event, and what is seen behind it.
 abbrev pub line_before : WorldEvent → World → List ℕ
@@ -113,14 +117,17 @@ abbrev pub behind_of : World → WorldEvent → Behind
 behind_of before (Up n landed stop) = behinds.Up (incarnation_at before n) stop
 behind_of before (Turn n (Tick ms) fates until) = behinds.Tick (incarnation_at before n)
 behind_of before (Turn n (Deliver k) fates until) = behinds.Deliver k (incarnation_at before n)
+behind_of before (Turn n Raw fates until) = behinds.Inject (incarnation_at before n)
 behind_of before other = behinds.Nothing
 
-abbrev pub line_behind : Option Fault → ℕ → Behind → World → List Counted → List ℕ
-line_behind f n (behinds.Up was stop) behind steps = up_result f stop n was (incarnation_at behind n)
-line_behind f n (behinds.Tick was) behind steps =
-    tick_line n (or_zero (clock_at behind n)) (outcome_of f was (incarnation_at behind n) steps)
-line_behind f n (behinds.Deliver k was) behind steps = deliver_line k n (outcome_of f was (incarnation_at behind n) steps)
-line_behind f n behinds.Nothing behind steps = []
+abbrev pub line_behind : Option Fault → ℕ → ℕ → Behind → World → List Counted → List ℕ
+line_behind f s n (behinds.Up was stop) behind steps = up_result f stop n was (incarnation_at behind n)
+line_behind f s n (behinds.Tick was) behind steps =
+    tick_line n (or_zero (clock_at behind n)) (outcome_of f was (incarnation_at behind n) (status_in steps))
+line_behind f s n (behinds.Deliver k was) behind steps =
+    deliver_line k n (outcome_of f was (incarnation_at behind n) (status_in steps))
+line_behind f s n (behinds.Inject was) behind steps = inject_line n (outcome_of f was (incarnation_at behind n) s)
+line_behind f s n behinds.Nothing behind steps = []
 
 -- The lines of a step's effects.
 abbrev pub effect_lines : ℕ → List Effect → List ℕ
@@ -145,9 +152,9 @@ step_lines n k messages (o ∷ rest) =
     ++ step_lines n (k + own_count o messages) (drop (own_count o messages) messages) rest)
 
 -- What is printed of an event in a world: its result, then its steps, then what going down lost.
-abbrev pub event_lines : Option Fault → World → WorldEvent → List ℕ
-event_lines f w e =
-    result_line f e w (world_step w e) (steps_of w e)
+abbrev pub event_lines : Option Fault → ℕ → World → WorldEvent → List ℕ
+event_lines f s w e =
+    result_line f s e w (world_step w e) (steps_of w e)
     ++ (step_lines (node_of e) (length w.posted + 1) (drop (length w.posted) (world_step w e).posted) (steps_of w e)
     ++ effect_lines (node_of e) (losses_of w e))
 
@@ -159,9 +166,13 @@ pub record Course : Type 0 where
   pub armed : List (Option Armed)
   pub text : List ℕ
 
--- An event happens, which met this fault or none.
+-- An event happens, which met this fault or none; raw bytes draw this status.
+abbrev pub happens_so : Option Fault → ℕ → WorldEvent → Course → Course
+happens_so f s e c = record c { world = world_step c.world e; text = c.text ++ event_lines f s c.world e }
+
+-- Another event than raw bytes happens.
 abbrev pub happens : Option Fault → WorldEvent → Course → Course
-happens f e c = record c { world = world_step c.world e; text = c.text ++ event_lines f c.world e }
+happens f e c = happens_so f 0 e c
 
 -- there are at most 8 nodes
 abbrev pub nobody_armed : List (Option Armed)
@@ -175,22 +186,48 @@ abbrev pub with_armed : ℕ → Option Armed → Course → Course
 with_armed n a c = record c { armed = slice_set c.armed (n - 1) a }
 
 -- An event happens as far as the call that is armed at its node lets it.
-abbrev pub meets : Armed → Option Bool → WorldEvent → Course → Course
-meets a first e c =
+abbrev pub meets : Armed → Option Bool → ℕ → WorldEvent → Course → Course
+meets a first s e c =
     with_armed (node_of e)
     (armed_behind a (is_some (incarnation_at c.world (node_of e))) first (length (left_of c.world (struck a first e)).fates) e)
-    (happens (Some a.fault) (struck a first e) c)
+    (happens_so (Some a.fault) s (struck a first e) c)
 
-abbrev pub comes_to : Option Armed → WorldEvent → Course → Course
-comes_to None e c = happens None e c
-comes_to (Some a) e c = meets a (first_records c.world e) e c
+abbrev pub comes_to : Option Armed → ℕ → WorldEvent → Course → Course
+comes_to None s e c = happens_so None s e c
+comes_to (Some a) s e c = meets a (first_records c.world e) s e c
 
 -- An event that a line asks for.
 abbrev pub comes : WorldEvent → Course → Course
-comes e c = comes_to (armed_at (node_of e) c.armed) e c
+comes e c = comes_to (armed_at (node_of e) c.armed) 0 e c
 
 abbrev pub printed : List ℕ → Course → Course
 printed line c = record c { text = c.text ++ line }
+
+-- The armed call is the interim line of raw bytes that come to a node.
+abbrev pub meets_line : Fault → ℕ → ℕ → Course → Course
+meets_line f s n c = with_armed n None (happens_so (Some f) s (struck_line n f) c)
+
+-- What is armed behind the interim line, where that isn't the armed call itself.
+abbrev pub comes_behind_line : Option Armed → Fault → ℕ → ℕ → Course → Course
+comes_behind_line None f s n c = meets_line f s n c
+comes_behind_line (Some a) f s n c = comes_to (Some a) s (raw_at n) c
+
+abbrev pub comes_by_line : Bool → Armed → ℕ → ℕ → Course → Course
+comes_by_line false a s n c = comes_to (Some a) s (raw_at n) c
+comes_by_line true a s n c = comes_behind_line (still_armed a (a.call - 1)) a.fault s n c
+
+abbrev pub raw_comes : Option Armed → Bool → ℕ → ℕ → Course → Course
+raw_comes None waits s n c = comes_to None s (raw_at n) c
+raw_comes (Some a) waits s n c = comes_by_line (waits && is_some (incarnation_at c.world n)) a s n c
+
+-- Bytes that draw this come to a node: one that is up says the interim line where the client waits for it, and refuses them.
+abbrev pub injects : Drawn → ℕ → Course → Course
+injects drawns.Forged n c = printed (forged_line n) c
+injects (drawns.Refused s waits) n c = raw_comes (armed_at n c.armed) waits s n c
+
+abbrev pub injects_where : Option Drawn → ℕ → Course → Course
+injects_where None n c = c
+injects_where (Some d) n c = injects d n c
 
 -- A message goes to its node, whether it did before or not.
 abbrev pub goes_to : ℕ → Option ℕ → Course → Course
@@ -219,25 +256,28 @@ abbrev pub flushes : ℕ → Course → Course
 flushes zero c = c
 flushes (suc most) c = flushes most (delivers_lowest c)
 
--- What a line does. How many nodes there are is known from the start.
-abbrev pub taken : Line → Course → Course
-taken (lines.Nodes count) c = c
-taken (lines.Begin n coordinator ms) c = comes (begin_at n coordinator ms) c
-taken (lines.Interpose n activity coordinator) c = comes (interpose_at n activity coordinator) c
-taken (lines.Work n activity service kind vote) c = comes (work_at n activity service kind vote) c
-taken (lines.Commit n activity) c = comes (commit_at n activity) c
-taken (lines.Rollback n activity) c = comes (request n (locals.Rollback activity)) c
-taken (lines.Deliver k) c = delivers k c
-taken (lines.Flush most) c = flushes most c
-taken (lines.Tick n ms) c = comes (tick_at n ms) c
-taken (lines.Crash n) c = comes (Crash n) c
-taken (lines.Up n) c = comes (up n) c
-taken (lines.Stop n call left) c = with_armed n (Some (record { call = call; fault = faults.Stop left })) c
-taken (lines.Fail n call) c = with_armed n (Some (record { call = call; fault = faults.Fail })) c
+-- What a line does, and where it brings bytes, what they draw. How many nodes there are is known from the start.
+abbrev pub taken : Option Drawn → Line → Course → Course
+taken d (lines.Nodes count) c = c
+taken d (lines.Begin n coordinator ms) c = comes (begin_at n coordinator ms) c
+taken d (lines.Interpose n activity coordinator) c = comes (interpose_at n activity coordinator) c
+taken d (lines.Work n activity service kind vote) c = comes (work_at n activity service kind vote) c
+taken d (lines.Commit n activity) c = comes (commit_at n activity) c
+taken d (lines.Rollback n activity) c = comes (request n (locals.Rollback activity)) c
+taken d (lines.Deliver k) c = delivers k c
+taken d (lines.Flush most) c = flushes most c
+taken d (lines.Tick n ms) c = comes (tick_at n ms) c
+taken d (lines.Crash n) c = comes (Crash n) c
+taken d (lines.Up n) c = comes (up n) c
+taken d (lines.Stop n call left) c = with_armed n (Some (record { call = call; fault = faults.Stop left })) c
+taken d (lines.Fail n call) c = with_armed n (Some (record { call = call; fault = faults.Fail })) c
+taken d (lines.Inject n digits) c = injects_where d n c
 
-abbrev pub all_taken : List Line → Course → Course
-all_taken [] c = c
-all_taken (line ∷ rest) c = all_taken rest (taken line c)
+-- For each line, what its bytes draw.
+abbrev pub all_taken : List (Option Drawn) → List Line → Course → Course
+all_taken draws [] c = c
+all_taken [] (line ∷ rest) c = c
+all_taken (d ∷ ds) (line ∷ rest) c = all_taken ds rest (taken d line c)
 
 -- so many nodes come up, numbered from this one on
 abbrev pub all_up : ℕ → ℕ → Course → Course
@@ -289,16 +329,21 @@ abbrev pub whole : Course → List ℕ
 whole c = c.text ++ ended c.world
 
 -- How a schedule comes out.
-abbrev pub course_of : List Line → Course
-course_of all = all_taken all (begun (nodes_of all))
+abbrev pub course_of : List (Option Drawn) → List Line → Course
+course_of draws all = all_taken draws all (begun (nodes_of all))
 
 -- The world that the report of a schedule is of.
-abbrev pub world_of : List Line → World
-world_of all = (course_of all).world
+abbrev pub world_of : List (Option Drawn) → List Line → World
+world_of draws all = (course_of draws all).world
 
--- The report of a schedule.
+-- lines that bring no bytes
+abbrev pub quiet : List Line → List (Option Drawn)
+quiet [] = []
+quiet (line ∷ rest) = None ∷ quiet rest
+
+-- The report of a schedule that brings no bytes.
 abbrev pub report_of : List Line → List ℕ
-report_of all = whole (course_of all)
+report_of all = whole (course_of (quiet all) all)
 
 -- These events happen, one after another.
 abbrev pub all_happen : List WorldEvent → Course → Course
@@ -310,22 +355,26 @@ abbrev pub comes_to_rest : Course → Course
 comes_to_rest c = all_happen (settle c.world) c
 
 -- How a schedule comes out whose world is brought to rest behind its last line, where that is asked.
-abbrev pub course_with : Bool → List Line → Course
-course_with false all = course_of all
-course_with true all = comes_to_rest (course_of all)
+abbrev pub course_with : Bool → List (Option Drawn) → List Line → Course
+course_with false draws all = course_of draws all
+course_with true draws all = comes_to_rest (course_of draws all)
 
-abbrev pub world_with : Bool → List Line → World
-world_with settle all = (course_with settle all).world
+abbrev pub world_with : Bool → List (Option Drawn) → List Line → World
+world_with settle draws all = (course_with settle draws all).world
 
-abbrev pub report_with : Bool → List Line → List ℕ
-report_with settle all = whole (course_with settle all)
+abbrev pub report_with : Bool → List (Option Drawn) → List Line → List ℕ
+report_with settle draws all = whole (course_with settle draws all)
 
-abbrev pub settled_world_of : List Line → World
+abbrev pub settled_world_of : List (Option Drawn) → List Line → World
 settled_world_of = world_with true
 
 abbrev pub settled_report_of : List Line → List ℕ
-settled_report_of = report_with true
+settled_report_of all = report_with true (quiet all) all
 
--- What is said of the schedule of a seed.
+-- The world of the schedule of a seed, which brings no bytes.
+abbrev pub world_made : ℕ → ℕ → World
+world_made seed steps = world_of (quiet (made seed steps)) (made seed steps)
+
+-- What is said of it.
 abbrev pub summary_of : ℕ → ℕ → List ℕ
-summary_of seed steps = summed steps (world_of (made seed steps))
+summary_of seed steps = summed steps (world_made seed steps)

@@ -74,7 +74,8 @@ fn out_leaves(fault: Fault) -> bool
     }
 }
 
-fn is_stop(fault: Fault) -> bool
+/// Whether its node stops.
+pub fn is_stop(fault: Fault) -> bool
     ensures { result ≡ is_stop fault }
 {
     match fault {

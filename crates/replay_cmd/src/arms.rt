@@ -59,7 +59,7 @@ impl Arms {
 }
 
 /// So many calls stand up to and with the armed one; 0: it came.
-fn still_armed(armed: Armed, left: u32) -> Option<Armed>
+pub fn still_armed(armed: Armed, left: u32) -> Option<Armed>
     ensures { result ≡ still_armed armed left }
 {
     if left == 0 {

@@ -8,19 +8,21 @@ ghost use Rattle.world_laws.specs.Runs.{book_at, world_of};
 ghost use Rattle.world_laws.specs.Firsts.{first_records};
 ghost use Rattle.world_laws.specs.Moves.{left_of, losses_of, steps_of};
 ghost use Rattle.replay_cmd.specs.Deliveries.{lowest, yes_at};
-ghost use Rattle.replay_cmd.specs.Lines.{no_message_line};
-ghost use Rattle.replay_cmd.specs.ReportOf.{all_happen, all_up, comes, comes_to, comes_to_rest, delivers, effect_lines, flushes, goes_to, happens, line_before, line_behind, behind_of, meets, nobody_armed, printed, receiver_in, request_result, start_result, step_lines, summed, whole, with_armed, begun};
+ghost use Rattle.replay_cmd.specs.Faults.{raw_at, struck_line};
+ghost use Rattle.replay_cmd.specs.Lines.{forged_line, no_message_line};
+ghost use Rattle.replay_cmd.specs.ReportOf.{all_happen, all_up, comes, comes_behind_line, comes_by_line, comes_to, comes_to_rest, delivers, effect_lines, flushes, goes_to, happens, happens_so, injects, line_before, line_behind, behind_of, meets, meets_line, raw_comes, armed_at, nobody_armed, printed, receiver_in, request_result, start_result, step_lines, summed, whole, with_armed, begun};
 
-use crate::armed_calls::strike;
-use crate::arms::{Arms, known_rest};
+use crate::armed_calls::{is_stop, strike};
+use crate::arms::{Arms, known_rest, still_armed};
 use crate::deliveries::Delivered;
 use crate::endings::{push_ended, push_summed};
 use crate::fault::{Armed, Fault};
 use crate::lines::{Lines, Started};
-use crate::steps::{outcome_of, push_effects, push_steps, started_by};
+use crate::steps::{outcome_of, push_effects, push_steps, started_by, status_in};
 use at_base::event::Local;
 use at_base::outs::Effects;
 use effect_words::refusal_word;
+use raw_requests::Drawn;
 use settlement::settle::settle;
 use std::alloc::{AllocError, Global};
 use std::marker::Model;
@@ -88,6 +90,18 @@ fn turn(alloc: Global, node: u8, input: Input) -> WorldEvent
         input,
         fates: Fates::from_vec(Vec::new(alloc)),
         until: None,
+    }
+}
+
+/// A turn of raw bytes whose interim line meets a fault.
+fn line_struck(alloc: Global, node: u8, fault: Fault) -> WorldEvent
+    ensures { event_of result ≡ struck_line node fault }
+{
+    WorldEvent::Turn {
+        node,
+        input: Input::Raw,
+        fates: Fates::from_vec(Vec::new(alloc)),
+        until: if is_stop(fault) { Some(0) } else { None },
     }
 }
 
@@ -184,6 +198,8 @@ pub enum Behind {
     Tick { was: Option<u32> },
     /// How the turn of this message came out.
     Deliver { number: u64, was: Option<u32> },
+    /// How the turn of raw bytes came out.
+    Inject { was: Option<u32> },
     /// Nothing.
     Nothing,
 }
@@ -212,11 +228,13 @@ fn behind_of(world: &World, event: &WorldEvent) -> Behind
             was: world.incarnation(*node),
         },
         WorldEvent::Turn {
+            node,
             input: Input::Raw,
             ..
-        }
-        | WorldEvent::Ask { .. }
-        | WorldEvent::Crash { .. } => Behind::Nothing,
+        } => Behind::Inject {
+            was: world.incarnation(*node),
+        },
+        WorldEvent::Ask { .. } | WorldEvent::Crash { .. } => Behind::Nothing,
     }
 }
 
@@ -226,33 +244,28 @@ fn push_result(
     lines: &mut Lines,
     node: u8,
     fault: Option<Fault>,
+    drawn: u16,
     behind: Behind,
     world: &World,
     steps: &Steps,
 ) -> Result<(), AllocError>
-    ensures { OnOk result (lines.new ≡ lines.old ++ line_behind fault node behind (world_of world.now) steps.now) }
+    ensures { OnOk result (lines.new ≡ lines.old ++ line_behind fault drawn node behind (world_of world.now) steps.now) }
 {
     let is = world.incarnation(node);
+    let status = status_in(steps.as_slice());
     match behind {
         Behind::Up { was, cut } => {
             push_start(alloc, lines, node, started_by(fault, cut, is), was)
         }
         Behind::Tick { was } => {
             let clock = world.clock(node).unwrap_or(0);
-            lines.push_tick(
-                alloc,
-                node,
-                clock,
-                outcome_of(fault, was, is, steps.as_slice()),
-            )
+            lines.push_tick(alloc, node, clock, outcome_of(fault, was, is, status))
         }
         Behind::Deliver { number, was } => {
-            lines.push_deliver(
-                alloc,
-                number,
-                node,
-                outcome_of(fault, was, is, steps.as_slice()),
-            )
+            lines.push_deliver(alloc, number, node, outcome_of(fault, was, is, status))
+        }
+        Behind::Inject { was } => {
+            lines.push_inject(alloc, node, outcome_of(fault, was, is, drawn))
         }
         Behind::Nothing => Ok(()),
     }
@@ -264,13 +277,14 @@ fn push_event(
     lines: &mut Lines,
     node: u8,
     fault: Option<Fault>,
+    drawn: u16,
     behind: Behind,
     before: usize,
     stepped: &Stepped,
 ) -> Result<(), AllocError>
     requires { before < 2 ^ 63 }
     ensures { OnOk result
-        (lines.new ≡ lines.old ++ (line_behind fault node behind (world_of stepped.now.world) stepped.now.steps
+        (lines.new ≡ lines.old ++ (line_behind fault drawn node behind (world_of stepped.now.world) stepped.now.steps
         ++ (step_lines node (before + 1) (drop before (world_of stepped.now.world).posted) stepped.now.steps ++ effect_lines node stepped.now.lost))) }
 {
     push_result(
@@ -278,6 +292,7 @@ fn push_event(
         lines,
         node,
         fault,
+        drawn,
         behind,
         &stepped.world,
         &stepped.steps,
@@ -307,15 +322,16 @@ impl Course {
         })
     }
 
-    /// An event happens, which met this fault or none; and how many of its fates it left.
+    /// An event happens, which met this fault or none; and how many of its fates it left. Raw bytes draw this status.
     #[tactic(auto, using(crate::proofs::EventLines::happened))]
     fn happen(
         self,
         alloc: Global,
         fault: Option<Fault>,
+        drawn: u16,
         event: WorldEvent,
     ) -> Result<(Course, usize), AllocError>
-        ensures course { IfOk result (λ p. p.0 ≡ happens fault (event_of event) self) }
+        ensures course { IfOk result (λ p. p.0 ≡ happens_so fault drawn (event_of event) self) }
         ensures left { IfOk result (λ p. p.1 ≡ length (left_of self.world (event_of event)).fates) }
     {
         let Course {
@@ -329,7 +345,9 @@ impl Course {
         let behind = behind_of(&world, &event);
         push_before(alloc, &mut lines, &world, &event)?;
         let stepped = stepped(world, alloc, event)?;
-        push_event(alloc, &mut lines, node, fault, behind, before, &stepped)?;
+        push_event(
+            alloc, &mut lines, node, fault, drawn, behind, before, &stepped,
+        )?;
         let left = stepped.left.left();
         let course = Course {
             world: stepped.world,
@@ -344,7 +362,7 @@ impl Course {
     fn happen_whole(self, alloc: Global, event: WorldEvent) -> Result<Course, AllocError>
         ensures { IfOk result (λ c. c ≡ happens None (event_of event) self) }
     {
-        let (course, _left) = self.happen(alloc, None, event)?;
+        let (course, _left) = self.happen(alloc, None, 0, event)?;
         Ok(course)
     }
 
@@ -378,25 +396,130 @@ impl Course {
         alloc: Global,
         armed: Armed,
         first: Option<bool>,
+        drawn: u16,
         event: WorldEvent,
     ) -> Result<Course, AllocError>
-        ensures { IfOk result (λ c. c ≡ meets armed first (event_of event) self) }
+        ensures { IfOk result (λ c. c ≡ meets armed first drawn (event_of event) self) }
     {
         let node = event.node();
         let was_up = self.world.incarnation(node).is_some();
         let rest = known_rest(armed, was_up, first, &event);
         let mut event = event;
         strike(alloc, armed, first, &mut event)?;
-        let (course, left) = self.happen(alloc, Some(armed.fault), event)?;
+        let (course, left) = self.happen(alloc, Some(armed.fault), drawn, event)?;
         Ok(course.arm(node, rest.behind(armed, left)))
     }
 
-    fn meet(self, alloc: Global, armed: Armed, event: WorldEvent) -> Result<Course, AllocError>
-        ensures { IfOk result (λ c. c ≡ comes_to (Some armed) (event_of event) self) }
+    fn meet(
+        self,
+        alloc: Global,
+        armed: Armed,
+        drawn: u16,
+        event: WorldEvent,
+    ) -> Result<Course, AllocError>
+        ensures { IfOk result (λ c. c ≡ comes_to (Some armed) drawn (event_of event) self) }
     {
         let mut course = self;
         let first = course.first_records(alloc, &event)?;
-        course.meet_at(alloc, armed, first, event)
+        course.meet_at(alloc, armed, first, drawn, event)
+    }
+
+    /// The armed call is the interim line of raw bytes that draw this status.
+    fn meet_line(
+        self,
+        alloc: Global,
+        fault: Fault,
+        drawn: u16,
+        node: u8,
+    ) -> Result<Course, AllocError>
+        ensures { IfOk result (λ c. c ≡ meets_line fault drawn node self) }
+    {
+        let event = line_struck(alloc, node, fault);
+        let (course, _left) = self.happen(alloc, Some(fault), drawn, event)?;
+        Ok(course.arm(node, None))
+    }
+
+    /// Raw bytes come to a node at which a call is armed.
+    fn meet_raw(
+        self,
+        alloc: Global,
+        armed: Armed,
+        drawn: u16,
+        node: u8,
+    ) -> Result<Course, AllocError>
+        ensures { IfOk result (λ c. c ≡ comes_to (Some armed) drawn (raw_at node) self) }
+    {
+        self.meet(alloc, armed, drawn, turn(alloc, node, Input::Raw))
+    }
+
+    /// What is armed behind the interim line, where that isn't the armed call itself.
+    fn meet_behind_line(
+        self,
+        alloc: Global,
+        rest: Option<Armed>,
+        fault: Fault,
+        drawn: u16,
+        node: u8,
+    ) -> Result<Course, AllocError>
+        ensures { IfOk result (λ c. c ≡ comes_behind_line rest fault drawn node self) }
+    {
+        match rest {
+            None => self.meet_line(alloc, fault, drawn, node),
+            Some(armed) => self.meet_raw(alloc, armed, drawn, node),
+        }
+    }
+
+    /// Whether the interim line comes before the first step.
+    fn meet_by_line(
+        self,
+        alloc: Global,
+        says: bool,
+        armed: Armed,
+        drawn: u16,
+        node: u8,
+    ) -> Result<Course, AllocError>
+        ensures { IfOk result (λ c. c ≡ comes_by_line says armed drawn node self) }
+    {
+        if !says {
+            return self.meet_raw(alloc, armed, drawn, node);
+        }
+        let rest = still_armed(armed, armed.call.saturating_sub(1));
+        self.meet_behind_line(alloc, rest, armed.fault, drawn, node)
+    }
+
+    /// Raw bytes that draw this status come to a node; whether the client waits for the interim line.
+    fn refuse(self, alloc: Global, waits: bool, drawn: u16, node: u8) -> Result<Course, AllocError>
+        ensures { IfOk result (λ c. c ≡ raw_comes (armed_at node self.armed) waits drawn node self) }
+    {
+        match self.armed.at(node) {
+            None => {
+                let event = turn(alloc, node, Input::Raw);
+                let (course, _left) = self.happen(alloc, None, drawn, event)?;
+                Ok(course)
+            }
+            Some(armed) => {
+                let says = waits && self.world.incarnation(node).is_some();
+                self.meet_by_line(alloc, says, armed, drawn, node)
+            }
+        }
+    }
+
+    fn forge(self, alloc: Global, node: u8) -> Result<Course, AllocError>
+        ensures { IfOk result (λ c. c ≡ printed (forged_line node) self) }
+    {
+        let mut course = self;
+        course.lines.push_forged(alloc, node)?;
+        Ok(course)
+    }
+
+    /// Bytes that draw this come to a node, where they are no message and ask for nothing.
+    pub fn inject(self, alloc: Global, drawn: Drawn, node: u8) -> Result<Course, AllocError>
+        ensures { IfOk result (λ c. c ≡ injects drawn node self) }
+    {
+        match drawn {
+            Drawn::Forged => self.forge(alloc, node),
+            Drawn::Refused { status, waits } => self.refuse(alloc, waits, status, node),
+        }
     }
 
     /// An event that a line asks for.
@@ -405,7 +528,7 @@ impl Course {
     {
         match self.armed.at(event.node()) {
             None => self.happen_whole(alloc, event),
-            Some(armed) => self.meet(alloc, armed, event),
+            Some(armed) => self.meet(alloc, armed, 0, event),
         }
     }
 

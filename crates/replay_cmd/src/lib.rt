@@ -5,6 +5,7 @@ pub mod armed_calls;
 pub mod arms;
 pub mod course;
 pub mod deliveries;
+pub mod draws;
 pub mod endings;
 pub mod fault;
 pub mod laws;

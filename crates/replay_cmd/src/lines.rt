@@ -3,7 +3,7 @@
 ghost use Rattle.std.specs.Prelude.{ℕ, ◌≡◌, ◌++◌, [], OnOk, codes};
 ghost use Rattle.at_base.specs.declared.outs.Effect.TheVariants as effects;
 ghost use Rattle.at_model.specs.Views.{behind_slash, line_of, message_name, notice_name, path_in, receiver_number};
-ghost use Rattle.replay_cmd.specs.Lines.{deliver_line, down_line, effect_line, end_line, item_line, leaf_words, message_line, message_start, no_message_line, refused_line, summary_line, tick_line, up_already_line, up_line};
+ghost use Rattle.replay_cmd.specs.Lines.{deliver_line, down_line, effect_line, end_line, forged_line, inject_line, item_line, leaf_words, message_line, message_start, no_message_line, refused_line, summary_line, tick_line, up_already_line, up_line};
 
 use at_base::epr::Epr;
 use at_base::id::Id;
@@ -237,6 +237,34 @@ impl Lines {
             Outcome::Halted => format!(in alloc; "tick {} {} halted\n", node, clock)?,
             Outcome::Down => format!(in alloc; "tick {} {} down\n", node, clock)?,
         };
+        self.push(line.as_str())
+    }
+
+    /// Raw bytes came to a node, whose turn came out so.
+    #[tactic(auto, unfolding(crate::specs::Lines::inject_line))]
+    pub fn push_inject(
+        &mut self,
+        alloc: Global,
+        node: u8,
+        outcome: Outcome,
+    ) -> Result<(), AllocError>
+        ensures { OnOk result (self.new ≡ self.old ++ inject_line node outcome) }
+    {
+        let line = match outcome {
+            Outcome::Answered { status } => format!(in alloc; "inject {} {}\n", node, status)?,
+            Outcome::Stopped => format!(in alloc; "inject {} stopped\n", node)?,
+            Outcome::Halted => format!(in alloc; "inject {} halted\n", node)?,
+            Outcome::Down => format!(in alloc; "inject {} down\n", node)?,
+        };
+        self.push(line.as_str())
+    }
+
+    /// Bytes that are a message, or ask for what is due, aren't handed to a node.
+    #[tactic(auto, unfolding(crate::specs::Lines::forged_line))]
+    pub fn push_forged(&mut self, alloc: Global, node: u8) -> Result<(), AllocError>
+        ensures { OnOk result (self.new ≡ self.old ++ forged_line node) }
+    {
+        let line = format!(in alloc; "inject {} forged\n", node)?;
         self.push(line.as_str())
     }
 

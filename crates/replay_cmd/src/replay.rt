@@ -1,18 +1,21 @@
 //! `replay`: the report of a schedule.
 
-ghost use Rattle.std.specs.Prelude.{◌≡◌, ◌≤◌, IfOk};
+ghost use Rattle.std.specs.Prelude.{◌≡◌, ◌≤◌, IfOk, List, Option};
 ghost use Rattle.at_base.specs.declared.event.Local.TheVariants as locals;
 ghost use Rattle.replay_cmd.specs.declared.fault.Fault.TheVariants as faults;
-ghost use Rattle.replay_cmd.specs.Laws.{ComesToRest, IsReplayable, IsSafe};
-ghost use Rattle.replay_cmd.specs.ReportOf.{all_taken, course_of, course_with, nodes_of, report_with, summary_of, taken, world_of, world_with};
+ghost use Rattle.raw_requests.specs.declared.Drawn.{Drawn as Drew};
+ghost use Rattle.replay_cmd.specs.Laws.{ComesToRest, IsReplayable, IsReport, IsSafe};
+ghost use Rattle.replay_cmd.specs.ReportOf.{all_taken, course_of, course_with, injects_where, nodes_of, summary_of, taken, world_made, world_with};
 ghost use Rattle.schedules.specs.Generator.{made};
 
 use crate::course::Course;
+use crate::draws::{draw_all, quiet};
 use crate::fault::{Armed, Fault};
 use crate::laws::{reports_are_safe, reports_come_to_rest};
 use crate::lines::Lines;
 use crate::requests::{begin, interpose, work};
 use at_base::event::Local;
+use raw_requests::Drawn;
 use schedules::generator::make;
 use schedules::line::{Leaves, Line, Schedule};
 use std::alloc::{AllocError, Global};
@@ -37,8 +40,28 @@ fn failure(call: u32) -> Armed
     }
 }
 
-fn take_line(course: Course, alloc: Global, line: &Line) -> Result<Course, AllocError>
-    ensures { IfOk result (λ c. c ≡ taken line.now course) }
+/// Bytes come to a node, which draw this, where they were read.
+fn inject(
+    course: Course,
+    alloc: Global,
+    drawn: Option<Drawn>,
+    node: u8,
+) -> Result<Course, AllocError>
+    ensures { IfOk result (λ c. c ≡ injects_where drawn node course) }
+{
+    match drawn {
+        Some(drawn) => course.inject(alloc, drawn, node),
+        None => Ok(course),
+    }
+}
+
+fn take_line(
+    course: Course,
+    alloc: Global,
+    drawn: Option<Drawn>,
+    line: &Line,
+) -> Result<Course, AllocError>
+    ensures { IfOk result (λ c. c ≡ taken drawn line.now course) }
 {
     match line {
         Line::Nodes { .. } => Ok(course),
@@ -89,15 +112,23 @@ fn take_line(course: Course, alloc: Global, line: &Line) -> Result<Course, Alloc
         Line::Up { node } => course.up(alloc, *node),
         Line::Stop { node, call, leaves } => Ok(course.arm(*node, Some(stop(*call, *leaves)))),
         Line::Fail { node, call } => Ok(course.arm(*node, Some(failure(*call)))),
+        Line::Inject { node, .. } => inject(course, alloc, drawn, *node),
     }
 }
 
-fn take_lines(course: Course, alloc: Global, lines: &[Line]) -> Result<Course, AllocError>
-    ensures { IfOk result (λ c. c ≡ all_taken lines.now course) }
+/// Takes each line, with what its bytes draw.
+#[tactic(auto, using(crate::proofs::TakenLines::taken_all))]
+fn take_lines(
+    course: Course,
+    alloc: Global,
+    draws: &[Option<Drawn>],
+    lines: &[Line],
+) -> Result<Course, AllocError>
+    ensures { IfOk result (λ c. c ≡ all_taken draws.now lines.now course) }
 {
     let mut course = course;
-    for line in lines {
-        course = take_line(course, alloc, line)?;
+    for place in 0..lines.len().min(draws.len()) {
+        course = take_line(course, alloc, draws[place], &lines[place])?;
     }
     Ok(course)
 }
@@ -112,22 +143,27 @@ fn nodes_of(lines: &[Line]) -> u8
     }
 }
 
-/// How a schedule comes out.
-fn ran(alloc: Global, schedule: &Schedule) -> Result<Course, AllocError>
+/// How a schedule comes out, given what the bytes of its lines draw.
+fn ran(alloc: Global, schedule: &Schedule, draws: &[Option<Drawn>]) -> Result<Course, AllocError>
     requires { IsReplayable schedule.now }
-    ensures { IfOk result (λ course. course ≡ course_of schedule.now) }
+    ensures { IfOk result (λ course. course ≡ course_of draws.now schedule.now) }
 {
     let lines = schedule.as_slice();
     let course = Course::begin(alloc, nodes_of(lines))?;
-    take_lines(course, alloc, lines)
+    take_lines(course, alloc, draws, lines)
 }
 
 /// How a schedule comes out whose world is brought to rest behind its last line, where that is asked.
-fn ended(alloc: Global, schedule: &Schedule, settle: bool) -> Result<Course, AllocError>
+fn ended(
+    alloc: Global,
+    schedule: &Schedule,
+    draws: &[Option<Drawn>],
+    settle: bool,
+) -> Result<Course, AllocError>
     requires { IsReplayable schedule.now }
-    ensures { IfOk result (λ course. course ≡ course_with settle schedule.now) }
+    ensures { IfOk result (λ course. course ≡ course_with settle draws.now schedule.now) }
 {
-    let course = ran(alloc, schedule)?;
+    let course = ran(alloc, schedule, draws)?;
     if settle {
         course.come_to_rest(alloc)
     } else {
@@ -135,24 +171,28 @@ fn ended(alloc: Global, schedule: &Schedule, settle: bool) -> Result<Course, All
     }
 }
 
+#[tactic(auto, using(crate::proofs::LineDraws::is_report))]
 fn reported(alloc: Global, schedule: &Schedule, settle: bool) -> Result<Lines, AllocError>
     requires { IsReplayable schedule.now }
-    ensures { IfOk result (λ lines. lines ≡ report_with settle schedule.now) }
+    ensures { IfOk result (IsReport settle schedule.now) }
 {
-    let course = ended(alloc, schedule, settle)?;
-    course.whole(alloc)
+    let draws = draw_all(alloc, schedule.as_slice())?;
+    let course = ended(alloc, schedule, draws.as_slice(), settle)?;
+    let lines = course.whole(alloc)?;
+    Ok(lines)
 }
 
-/// The report of a schedule. Its world is that of a run, and what holds of every run holds of it (`safe`): no two participants of
+/// The report of a schedule, whose lines that bring bytes to a node are taken by what these bytes draw. Its world is that of a run,
+/// and what holds of every run holds of it (`safe`): no two participants of
 /// one transaction ended differently, through any depth of interposition (WS-AtomicTransaction 1.2, section 1).
 ///
 /// With `settle` the events that bring the world to rest happen behind the last line, and are reported as others are. Behind them
 /// nobody is in doubt (`rests`).
 pub fn replay(alloc: Global, schedule: &Schedule, settle: bool) -> Result<Lines, AllocError>
     requires { IsReplayable schedule.now }
-    ensures text { IfOk result (λ lines. lines ≡ report_with settle schedule.now) }
-    ensures safe { IsSafe (nodes_of schedule.now) (world_with settle schedule.now) }
-    ensures rests { ComesToRest schedule.now }
+    ensures text { IfOk result (IsReport settle schedule.now) }
+    ensures safe { (draws : List (Option Drew)) → IsSafe (nodes_of schedule.now) (world_with settle draws schedule.now) }
+    ensures rests { (draws : List (Option Drew)) → ComesToRest draws schedule.now }
 {
     reports_are_safe();
     reports_come_to_rest();
@@ -175,7 +215,8 @@ fn summed(alloc: Global, seed: u64, steps: u16) -> Result<Lines, AllocError>
     ensures { IfOk result (λ lines. lines ≡ summary_of seed steps) }
 {
     let schedule = made(alloc, seed, steps)?;
-    let course = ran(alloc, &schedule)?;
+    let draws = quiet(alloc, schedule.as_slice())?;
+    let course = ran(alloc, &schedule, draws.as_slice())?;
     course.summed(alloc, steps)
 }
 
@@ -184,7 +225,7 @@ fn summed(alloc: Global, seed: u64, steps: u16) -> Result<Lines, AllocError>
 pub fn summary(alloc: Global, seed: u64, steps: u16) -> Result<Lines, AllocError>
     requires { steps ≤ 9999 }
     ensures text { IfOk result (λ lines. lines ≡ summary_of seed steps) }
-    ensures safe { IsSafe 4 (world_of (made seed steps)) }
+    ensures safe { IsSafe 4 (world_made seed steps) }
 {
     reports_are_safe();
     summed(alloc, seed, steps)

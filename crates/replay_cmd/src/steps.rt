@@ -21,7 +21,7 @@ fn status_of(answer: &Option<Answer>) -> u16
 }
 
 /// The HTTP status that a turn of these steps answers.
-fn status_in(steps: &[Counted]) -> u16
+pub fn status_in(steps: &[Counted]) -> u16
     ensures { result ≡ status_in steps.now }
 {
     match steps.first() {
@@ -41,21 +41,14 @@ fn cut_by(fault: Option<Fault>) -> Outcome
     }
 }
 
-/// How a turn of these steps came out at a node that was up in this incarnation before, and is in that one behind it.
-pub fn outcome_of(
-    fault: Option<Fault>,
-    was: Option<u32>,
-    is: Option<u32>,
-    steps: &[Counted],
-) -> Outcome
-    ensures { result ≡ outcome_of fault was is steps.now }
+/// How a turn that answers this status came out at a node that was up in this incarnation before, and is in that one behind it.
+pub fn outcome_of(fault: Option<Fault>, was: Option<u32>, is: Option<u32>, status: u16) -> Outcome
+    ensures { result ≡ outcome_of fault was is status }
 {
     match (was, is) {
         (None, _) => Outcome::Down,
         (Some(_), None) => cut_by(fault),
-        (Some(_), Some(_)) => Outcome::Answered {
-            status: status_in(steps),
-        },
+        (Some(_), Some(_)) => Outcome::Answered { status },
     }
 }
 

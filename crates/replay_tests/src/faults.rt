@@ -131,6 +131,21 @@ deliver 12 3 202\n\
 end messages 13 committed 0 aborted 0 lost 0\n\
 ",
     ),
+    // The interim line that a client waits for is a call before the answer, and no step comes where the node stops at it.
+    (
+        "stop 3 1 keep\ninject 3 504f5354202f776f726b20485454502f312e310d0a486f73743a20610d0a4578706563743a203130302d636f6e74696e75650d0a436f6e74656e742d4c656e6774683a20300d0a0d0a\nup 3\nfail 3 1\ninject 3 504f5354202f776f726b20485454502f312e310d0a486f73743a20610d0a4578706563743a203130302d636f6e74696e75650d0a436f6e74656e742d4c656e6774683a20300d0a0d0a\nstop 3 3 drop\ninject 3 504f5354202f776f726b20485454502f312e310d0a486f73743a20610d0a4578706563743a203130302d636f6e74696e75650d0a436f6e74656e742d4c656e6774683a20300d0a0d0a\ninject 3 00\ninject 3 504f5354202f776f726b20485454502f312e310d0a486f73743a20610d0a4578706563743a203130302d636f6e74696e75650d0a436f6e74656e742d4c656e6774683a20300d0a0d0a\n",
+        "msg 9 ",
+        "\
+inject 3 stopped\n\
+leaf 3 1-1 d lost\n\
+up 3 2\n\
+inject 3 500\n\
+inject 3 500\n\
+inject 3 stopped\n\
+inject 3 down\n\
+end messages 9 committed 0 aborted 0 lost 1\n\
+",
+    ),
     // A crash disarms; one of a node that is down doesn't. What is armed while a node is down counts from its start: two syncs
     // of its files, and four calls for its Start. A stop that keeps its gate leaves the Start, and the next incarnation is one more.
     (

@@ -59,6 +59,39 @@ deliver 14 2 202\n\
 end messages 14 committed 1 aborted 0 lost 0\n\
 ",
     ),
+    // Bytes that are refused; `/tick` isn't handed over.
+    (
+        "\
+nodes 1\n\
+inject 1 00\n\
+inject 1 \n\
+inject 1 504f5354202f776f726b20485454502f312e310d0a486f73743a206e312e6578616d706c650d0a436f6e74656e742d4c656e6774683a20330d0a0d0a3c613e\n\
+inject 1 474554202f20485454502f312e310d0a486f73743a20610d0a0d0a\n\
+inject 1 504F5354202F20485454502F312E310D0A486F73743A20610D0A0D0A\n\
+inject 1 504f5354202f20485454502f312e310d0a486f73743a20610d0a436f6e74656e742d4c656e6774683a2036353533370d0a0d0a\n\
+inject 1 504f5354202f20485454502f312e310d0a486f73743a20610d0a436f6e74656e742d456e636f64696e673a20677a69700d0a0d0a\n\
+inject 1 504f5354202f7469636b20485454502f312e300d0a436f6e74656e742d4c656e6774683a20300d0a0d0a\n\
+crash 1\n\
+inject 1 00\n\
+inject 1 504f5354202f7469636b20485454502f312e300d0a436f6e74656e742d4c656e6774683a20300d0a0d0a\n\
+",
+        "",
+        "\
+up 1 1\n\
+inject 1 400\n\
+inject 1 400\n\
+inject 1 500\n\
+inject 1 405\n\
+inject 1 411\n\
+inject 1 413\n\
+inject 1 415\n\
+inject 1 forged\n\
+down 1\n\
+inject 1 down\n\
+inject 1 forged\n\
+end messages 0 committed 0 aborted 0 lost 0\n\
+",
+    ),
     // No participant.
     (
         "\

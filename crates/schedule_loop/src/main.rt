@@ -3,7 +3,7 @@
 //!
 //! `schedule_loop` reads the schedule from standard input. It prints results and posts in order, a post with the numbers of its
 //! sender and its receiver and its bytes in hexadecimal, and then all effects in order, but for those of turns in which a
-//! node went down.
+//! node went down. Bytes that a line brings are handed over whatever they are, so they are to be some that a node refuses.
 #![tactic(auto)]
 
 mod host;

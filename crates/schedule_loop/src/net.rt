@@ -5,6 +5,7 @@ use at_base::event::Local;
 use replay_cmd::lines::Lines;
 use replay_cmd::requests::{begin, interpose, work};
 use schedules::line::{Leaves, Line};
+use schedules::values::bytes_in;
 use site_memory::arm::Choice;
 use std::alloc::{AllocError, Global};
 
@@ -300,6 +301,18 @@ impl Net {
         Ok(())
     }
 
+    fn inject(&mut self, alloc: Global, number: u8, digits: &str) -> Result<(), AllocError> {
+        let bytes = bytes_in(alloc, digits)?;
+        let Some(host) = self.host(number) else {
+            return Ok(());
+        };
+        let given = host.take(alloc, bytes.as_slice())?;
+        let word = word_of(alloc, given)?;
+        let line = format!(in alloc; "inject {number} {}", word.as_str())?;
+        self.print(line.as_str())?;
+        self.end(alloc, number, given)
+    }
+
     fn fail(&mut self, number: u8, call: u32) {
         if let Some(host) = self.host(number) {
             host.fail(call);
@@ -328,6 +341,7 @@ impl Net {
                 self.stop(*node, *call, *leaves);
                 Ok(())
             }
+            Line::Inject { node, digits } => self.inject(alloc, *node, digits.as_str()),
             _ => match request(alloc, line)? {
                 Some((node, local)) => self.ask(alloc, node, &local),
                 None => Ok(()),

@@ -2,6 +2,7 @@
 
 use at_base::id::Id;
 use at_base::notice::{Kind, Vote};
+use at_base::text::Text;
 use schedules::line::{Leaves, Line, ScheduleError};
 use schedules::reader::read_schedule;
 use std::alloc::{AllocError, Global};
@@ -9,7 +10,7 @@ use std::test::Fail;
 
 /// A line of each word, each number at a bound, the last line without its line feed.
 const EACH: &[u8] =
-    b"nodes 8\nbegin 1 8 4294967295\ninterpose 8 1-1 1\nwork 1 4294967295-1 8 d prepared\nwork 2 1-2 3 v readonly\nwork 3 1-3 1 v aborted\ncommit 1 1-1\nrollback 8 2-10\ndeliver 1\ndeliver 1000000\nflush 0\nflush 10000\ntick 8 0\ntick 1 4294967295\ncrash 8\nup 1\nstop 1 1 keep\nstop 8 1000000 drop\nstop 1 2 fill 0\nstop 1 2 fill 255\nfail 8 1000000";
+    b"nodes 8\nbegin 1 8 4294967295\ninterpose 8 1-1 1\nwork 1 4294967295-1 8 d prepared\nwork 2 1-2 3 v readonly\nwork 3 1-3 1 v aborted\ncommit 1 1-1\nrollback 8 2-10\ndeliver 1\ndeliver 1000000\nflush 0\nflush 10000\ntick 8 0\ntick 1 4294967295\ncrash 8\nup 1\nstop 1 1 keep\nstop 8 1000000 drop\nstop 1 2 fill 0\nstop 1 2 fill 255\ninject 8 00fFaB\ninject 1 \nfail 8 1000000";
 
 /// Texts with their first bad line and its cause; line 0 where there is none.
 const ROWS: &[(&[u8], u32, u8)] = &[
@@ -36,6 +37,13 @@ const ROWS: &[(&[u8], u32, u8)] = &[
     (b"nodes 1\nstop 1 1 foo", 2, 5),
     (b"nodes 1\nstop 1 1 foo 3", 2, 5),
     (b"nodes 1\nstop 1 1 foo x", 2, 5),
+    (b"nodes 1\ninject 1", 2, 2),
+    (b"nodes 1\ninject 1 00 00", 2, 2),
+    (b"nodes 1\ninject 1 0", 2, 6),
+    (b"nodes 1\ninject 1 0g", 2, 6),
+    (b"nodes 1\ninject 2 0g", 2, 3),
+    (b"nodes 1\ninject 1 ", 0, 0),
+    (b"nodes 1\ninject 1 09aFAf", 0, 0),
     (b"", 1, 7),
     (b"flush 1", 1, 7),
     (b"nodes 1\nflush 1\nnodes 1", 3, 7),
@@ -215,6 +223,14 @@ fn each_line(alloc: Global) -> Result<Vec<Line>, AllocError> {
     lines.push(stop(8, 1_000_000, Leaves::Drop))?;
     lines.push(stop(1, 2, Leaves::Fill { byte: 0 }))?;
     lines.push(stop(1, 2, Leaves::Fill { byte: 255 }))?;
+    lines.push(Line::Inject {
+        node: 8,
+        digits: Text::copied(alloc, "00fFaB")?,
+    })?;
+    lines.push(Line::Inject {
+        node: 1,
+        digits: Text::copied(alloc, "")?,
+    })?;
     lines.push(Line::Fail {
         node: 8,
         call: 1_000_000,

@@ -4,6 +4,8 @@ use Rattle.std.specs.Fmt.{decimal}
 use Rattle.std.proofs.lemmas.Slice.Eq.{bytes_eq-Decides}
 use Rattle.std.proofs.lemmas.Bool.Decides.{nat_tests}
 use Rattle.at_base.specs.IdText.{SpellsId, id_text}
+use Rattle.hex.specs.Hex.{decode_of}
+use Rattle.hex.specs.declared.error.FromHexError.{FromHexError}
 use Rattle.at_base.specs.Numbers.{Numbers}
 use Rattle.at_base.specs.declared.notice.Kind.{Kind}
 use Rattle.at_base.specs.declared.notice.Kind.TheVariants as kinds
@@ -15,9 +17,9 @@ use Rattle.schedules.specs.declared.line.Leaves.{Leaves}
 use Rattle.schedules.specs.declared.line.Leaves.TheVariants as leaves
 use Rattle.schedules.specs.declared.line.Line.{Line}
 use Rattle.schedules.specs.declared.line.Line.TheVariants as lines
-use Rattle.schedules.specs.Meanings.{◌>>=◌, count_of, begin_line, interpose_line, work_line, commit_line, rollback_line, deliver_line, flush_line, tick_line, crash_line, up_line, stop_so, filled, stop_filled, stop_line, fail_line, meaning}
-use Rattle.schedules.specs.Values.{decimal_of, within, number_in, node_in, call_in, id_in, numbers_of, is_part, kind_in, vote_in, leaves_in, largest}
-use Rattle.schedules.specs.LineTexts.{kind_word, vote_word, leaves_words, words_in, IsNode, IsNext, IsLeft}
+use Rattle.schedules.specs.Meanings.{◌>>=◌, count_of, begin_line, interpose_line, work_line, commit_line, rollback_line, deliver_line, flush_line, tick_line, crash_line, up_line, stop_so, filled, stop_filled, stop_line, fail_line, inject_line, meaning}
+use Rattle.schedules.specs.Values.{decimal_of, within, number_in, node_in, call_in, id_in, numbers_of, is_part, kind_in, vote_in, leaves_in, if_decoded, hex_in, largest}
+use Rattle.schedules.specs.LineTexts.{kind_word, vote_word, leaves_words, words_in, IsHex, IsNode, IsNext, IsLeft}
 use Rattle.schedules.proofs.Decimals.{spelled}
 use Rattle.schedules.proofs.Ids.{is_id}
 
@@ -296,6 +298,27 @@ stop_read nodes (n ∷ k ∷ w ∷ []) l e = so_read nodes n k w l e
 stop_read nodes (n ∷ k ∷ w ∷ b ∷ []) l e = filled_read nodes n k w b l e
 stop_read nodes (n ∷ k ∷ w ∷ b ∷ x ∷ more) l e = absurd cc
 
+hex_read : (w d : List ℕ) → hex_in w ≡ Ok d → IsHex d × (w ≡ d)
+hex_read w d e = by_case (decode_of w) refl e
+  where
+    by_case : (r : Result (List ℕ) FromHexError) → decode_of w ≡ r → if_decoded w r ≡ Ok d → IsHex d × (w ≡ d)
+    by_case (Ok bytes) f e = let here : w ≡ d = same w d e in (subst IsHex here (ap (if_decoded w) f), here)
+    by_case (Err x) f e = absurd cc
+
+inject_read : (nodes : ℕ) (ws : List (List ℕ)) (l : Line) → inject_line nodes ws ≡ Ok l → IsRead nodes (codes "inject") ws l
+inject_read nodes (n ∷ h ∷ []) l e =
+    let b = bound (node_in nodes n) _ l e in
+    let d = bound (hex_in h) _ l b.rest in
+    let i = number 1 nodes n b.value b.read in
+    let j = hex_read h d.value d.read in
+    subst (IsRead nodes (codes "inject") (n ∷ h ∷ [])) (same _ l d.rest) (record {
+      next = ((i.0, i.1), j.0);
+      text = λ t. codes "inject" ∷ i.2 t ∷ j.1 t ∷ [];
+    })
+inject_read nodes [] l e = absurd cc
+inject_read nodes (n ∷ []) l e = absurd cc
+inject_read nodes (n ∷ h ∷ x ∷ more) l e = absurd cc
+
 fail_read : (nodes : ℕ) (ws : List (List ℕ)) (l : Line) → fail_line nodes ws ≡ Ok l → IsRead nodes (codes "fail") ws l
 fail_read nodes (n ∷ k ∷ []) l e =
     let b = bound (node_in nodes n) _ l e in
@@ -325,6 +348,7 @@ Reads nodes ws l w r = r ≡ Ok l → IsRead nodes w ws l
 
 pub meaning_read : (nodes : ℕ) (w : List ℕ) (ws : List (List ℕ)) (l : Line) → meaning nodes w ws ≡ Ok l → IsRead nodes w ws l
 meaning_read nodes w ws l =
+    arm w (codes "inject") _ _ (Reads nodes ws l) (inject_read nodes ws l) (
     arm w (codes "begin") _ _ (Reads nodes ws l) (begin_read nodes ws l) (
     arm w (codes "interpose") _ _ (Reads nodes ws l) (interpose_read nodes ws l) (
     arm w (codes "work") _ _ (Reads nodes ws l) (work_read nodes ws l) (
@@ -336,4 +360,4 @@ meaning_read nodes w ws l =
     arm w (codes "crash") _ _ (Reads nodes ws l) (crash_read nodes ws l) (
     arm w (codes "up") _ _ (Reads nodes ws l) (up_read nodes ws l) (
     arm w (codes "stop") _ _ (Reads nodes ws l) (stop_read nodes ws l) (
-    arm w (codes "fail") _ _ (Reads nodes ws l) (fail_read nodes ws l) (λ e. absurd cc))))))))))))
+    arm w (codes "fail") _ _ (Reads nodes ws l) (fail_read nodes ws l) (λ e. absurd cc)))))))))))))

@@ -1,13 +1,17 @@
 -- What is written of a schedule is read as it.
-use Rattle.std.proofs.Common.{ℕ, List, [], ◌∷◌, ◌++◌, ◌≡◌, ◌⊎◌, inl, inr, ◌<◌, ◌≤◌, ◌+◌, ◌^◌, ◌==◌, ◌&&◌, nat_le, nat_lt, not, Bool, true, false, Some, Result, Ok, sym, ◌∙◌, ap, arith, refl, length, map}
+use Rattle.std.proofs.Common.{ℕ, List, [], ◌∷◌, ◌++◌, ◌≡◌, ◌⊎◌, inl, inr, ◌<◌, ◌≤◌, ◌+◌, ◌-◌, ◌^◌, ◌==◌, ◌&&◌, nat_le, nat_lt, not, Bool, true, false, cond, is_some, Some, None, Result, Ok, Err, sym, ◌∙◌, ap, arith, refl, length, map}
 use Rattle.std.specs.Fmt.{decimal}
 use Rattle.std.specs.Str.{all_ascii_digits}
 use Rattle.std.specs.Char.{is_ascii_digit}
-use Rattle.std.specs.List.{AllByRecursion, join_with_byte, list_all}
+use Rattle.std.specs.List.{AllByRecursion, AllPass, join_with_byte, list_all}
+use Rattle.std.proofs.lemmas.List.Elements.{All-head, All-tail}
 use Rattle.std.proofs.lemmas.Bool.Decides.{nat_tests}
 use Rattle.std.proofs.lemmas.Fmt.{digits_decimal, digits_value-decimal}
 use Rattle.std.proofs.lemmas.List.Folds.{list_all-append}
 use Rattle.at_base.specs.IdText.{IsId, id_text, hyphen}
+use Rattle.hex.specs.Hex.{decode_of, is_hex_digit}
+use Rattle.hex.specs.declared.error.FromHexError.{FromHexError}
+use Rattle.hex.proofs.HexLemmas.{decode_of-ok}
 use Rattle.at_base.specs.Numbers.{Numbers}
 use Rattle.at_base.specs.declared.notice.Kind.{Kind}
 use Rattle.at_base.specs.declared.notice.Kind.TheVariants as kinds
@@ -18,14 +22,17 @@ use Rattle.schedules.specs.declared.line.Line.{Line}
 use Rattle.schedules.specs.declared.line.Line.TheVariants as lines
 use Rattle.schedules.specs.Meanings.{◌>>=◌}
 use Rattle.schedules.specs.Schedules.{at_line, first_line, first_words, lines_from, next_line, next_words, schedule_in, schedule_of}
-use Rattle.schedules.specs.Values.{decimal_of, within, number_in, node_in, call_in, id_in, kind_in, vote_in, largest}
+use Rattle.schedules.specs.Values.{decimal_of, within, number_in, node_in, call_in, id_in, if_decoded, kind_in, vote_in, hex_in, largest}
 use Rattle.schedules.specs.Words.{unless_empty, is_plain, is_printable, lines_of, words_of}
-use Rattle.schedules.specs.LineTexts.{IsCall, IsNext, IsNode, IsSchedule, kind_word, line_text, vote_word, words_in, written}
+use Rattle.schedules.specs.LineTexts.{IsCall, IsHex, IsNext, IsNode, IsSchedule, kind_word, line_text, vote_word, words_in, written}
 use Rattle.schedules.specs.InitiatorLineTexts.{are_visible, is_visible}
 use Rattle.schedules.proofs.Decimals.{own, valued}
 use Rattle.schedules.proofs.Ids.{id_there}
 use Rattle.schedules.proofs.Texts.{IsKept, IsPlain, all_texts, first_part, is_free, lines_are as texts_are, one_part}
 use Rattle.schedules.proofs.Wholes.{fed, fed_written}
+
+abbrev digit_holds : ℕ → Type 0
+digit_holds c = is_hex_digit c ≡ true
 
 both : (a b : Bool) → (a && b) ≡ true → (a ≡ true) × (b ≡ true)
 both true b e = (refl, e)
@@ -94,6 +101,30 @@ number_there least most n low high small =
 
 id_back : (i : Numbers) → IsId i → id_in (id_text i) ≡ Ok i
 id_back i h = id_there (id_text i) i (record { numbers = h; text = refl })
+
+-- hexadecimal digits
+digit_visible : (c : ℕ) → is_hex_digit c ≡ true → is_visible c ≡ true
+digit_visible c h =
+    by_case (nat_le 65 c && nat_le c 70) (nat_le 97 c && nat_le c 102) (nat_le 48 c && nat_le c 57) refl refl refl h
+  where
+    by_case : (p q r : Bool) → (nat_le 65 c && nat_le c 70) ≡ p → (nat_le 97 c && nat_le c 102) ≡ q → (nat_le 48 c && nat_le c 57) ≡ r
+        → is_some (cond p (Some (c - 55)) (cond q (Some (c - 87)) (cond r (Some (c - 48)) None))) ≡ true → is_visible c ≡ true
+    by_case true q r e f g h = let p = both (nat_le 65 c) (nat_le c 70) e in grind (arith, nat_tests, p.0, p.1)
+    by_case false true r e f g h = let p = both (nat_le 97 c) (nat_le c 102) f in grind (arith, nat_tests, p.0, p.1)
+    by_case false false true e f g h = let p = both (nat_le 48 c) (nat_le c 57) g in grind (arith, nat_tests, p.0, p.1)
+    by_case false false false e f g h = absurd cc
+
+all_visible : (w : List ℕ) → AllPass is_hex_digit w → are_visible w ≡ true
+all_visible [] h = refl
+all_visible (c ∷ cs) h =
+    rw (digit_visible c (All-head digit_holds c cs h)) (all_visible cs (All-tail digit_holds c cs h))
+
+hex_visible : (w : List ℕ) → IsHex w → are_visible w ≡ true
+hex_visible w h = by_case (decode_of w) refl h
+  where
+    by_case : (r : Result (List ℕ) FromHexError) → decode_of w ≡ r → if_decoded w r ≡ Ok w → are_visible w ≡ true
+    by_case (Ok bytes) d e = all_visible w (decode_of-ok w bytes d).1
+    by_case (Err x) d e = absurd cc
 
 pub kind_there : (k : Kind) → kind_in (kind_word k) ≡ Ok k
 kind_there kinds.Durable = refl
@@ -208,6 +239,12 @@ next_back nodes (lines.Stop n k (leaves.Fill b)) few (h, m, t) =
       read = then_ (node_in nodes (decimal n)) _ n _ p.0 (then_ (call_in (decimal k)) _ k _ q.0
           (then_ (number_in 0 255 (decimal b)) _ b _ (number_there 0 255 b (omega arith) t (omega (arith, t))) refl));
     }
+next_back nodes (lines.Inject n d) few (h, m) =
+    let p = node_back nodes n few h in
+    record {
+      visible = rw p.1 (rw (hex_visible d m) refl);
+      read = then_ (node_in nodes (decimal n)) _ n _ p.0 (then_ (hex_in d) _ d _ m refl);
+    }
 next_back nodes (lines.Fail n k) few (h, m) =
     let p = node_back nodes n few h in
     let q = call_back k m in
@@ -237,6 +274,7 @@ has_words (lines.Crash n) = record { word = _; more = _; are = refl; kept = refl
 has_words (lines.Up n) = record { word = _; more = _; are = refl; kept = refl }
 has_words (lines.Stop n k left) = record { word = _; more = _; are = refl; kept = refl }
 has_words (lines.Fail n k) = record { word = _; more = _; are = refl; kept = refl }
+has_words (lines.Inject n d) = record { word = _; more = _; are = refl; kept = refl }
 
 plain_line : (l : Line) → list_all are_visible (words_in l) ≡ true → is_plain (line_text l) ≡ true
 plain_line l e =
@@ -286,6 +324,7 @@ schedule_back (lines.Crash n ∷ rest) h = absurd h
 schedule_back (lines.Up n ∷ rest) h = absurd h
 schedule_back (lines.Stop n k left ∷ rest) h = absurd h
 schedule_back (lines.Fail n k ∷ rest) h = absurd h
+schedule_back (lines.Inject n d ∷ rest) h = absurd h
 
 abbrev pub IsPlainLine : Line → Type 0
 IsPlainLine l = IsPlain (line_text l)
@@ -309,6 +348,7 @@ all_plain (lines.Crash n ∷ rest) h = absurd h
 all_plain (lines.Up n ∷ rest) h = absurd h
 all_plain (lines.Stop n k left ∷ rest) h = absurd h
 all_plain (lines.Fail n k ∷ rest) h = absurd h
+all_plain (lines.Inject n d ∷ rest) h = absurd h
 
 all_kept : (ls : List Line) → AllByRecursion (λ l. IsKept (line_text l)) ls
 all_kept [] = tt

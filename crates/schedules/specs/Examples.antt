@@ -1,6 +1,7 @@
 -- Worked schedules: what is read of them, and the first bad line.
 use Rattle.std.specs.Prelude.{ℕ, List, [], ◌∷◌, ◌++◌, ◌≡◌, Ok, Err, codes, refl}
 use Rattle.std.specs.Fmt.{digits}
+use Rattle.hex.specs.Hex.{decode_pairs}
 use Rattle.at_base.specs.declared.notice.Kind.TheVariants as kinds
 use Rattle.at_base.specs.declared.notice.Vote.TheVariants as votes
 use Rattle.schedules.specs.declared.line.Cause.TheVariants as causes
@@ -46,6 +47,20 @@ pub faults_read : schedule_of (codes "nodes 2\nstop 2 3 fill 1\nstop 1 1 keep\nf
     ∷ [])
 unfolding digits
 faults_read = refl
+
+-- bytes in either case, and none
+pub bytes_read : schedule_of (codes "nodes 1\ninject 1 0aF0\ninject 1 ") ≡ Ok (
+    lines.Nodes 1
+    ∷ lines.Inject 1 (codes "0aF0")
+    ∷ lines.Inject 1 []
+    ∷ [])
+unfolding digits decode_pairs
+bytes_read = refl
+
+-- two digits for each byte
+pub half_a_byte : schedule_of (codes "nodes 1\ninject 1 123") ≡ Err (record { line = 2; cause = causes.Hexadecimal })
+unfolding digits
+half_a_byte = refl
 
 -- a byte stands behind `fill`, and behind nothing else
 pub no_byte : schedule_of (codes "nodes 1\nstop 1 1 fill") ≡ Err (record { line = 2; cause = causes.WordCount })

@@ -1,5 +1,5 @@
 -- How lines are written, and which lists of lines are schedules.
-use Rattle.std.specs.Prelude.{ℕ, List, [], ◌∷◌, ◌++◌, ◌≤◌, codes, decimal, flat_map, length}
+use Rattle.std.specs.Prelude.{ℕ, List, [], ◌∷◌, ◌++◌, ◌≡◌, ◌≤◌, Ok, codes, decimal, flat_map, length}
 use Rattle.std.specs.List.{AllByRecursion, join_with_byte}
 use Rattle.at_base.specs.IdText.{IsId, id_text}
 use Rattle.at_base.specs.declared.notice.Kind.{Kind}
@@ -10,7 +10,7 @@ use Rattle.schedules.specs.declared.line.Leaves.{Leaves}
 use Rattle.schedules.specs.declared.line.Leaves.TheVariants as leaves
 use Rattle.schedules.specs.declared.line.Line.{Line}
 use Rattle.schedules.specs.declared.line.Line.TheVariants as lines
-use Rattle.schedules.specs.Values.{largest}
+use Rattle.schedules.specs.Values.{hex_in, largest}
 
 abbrev pub kind_word : Kind → List ℕ
 kind_word kinds.Durable = codes "d"
@@ -42,6 +42,7 @@ words_in (lines.Crash node) = codes "crash" ∷ decimal node ∷ []
 words_in (lines.Up node) = codes "up" ∷ decimal node ∷ []
 words_in (lines.Stop node call left) = codes "stop" ∷ decimal node ∷ decimal call ∷ leaves_words left
 words_in (lines.Fail node call) = codes "fail" ∷ decimal node ∷ decimal call ∷ []
+words_in (lines.Inject node digits) = codes "inject" ∷ decimal node ∷ digits ∷ []
 
 -- the words, separated by one space
 abbrev pub line_text : Line → List ℕ
@@ -62,6 +63,10 @@ IsLeft leaves.Keep = Unit {0}
 IsLeft leaves.Drop = Unit {0}
 IsLeft (leaves.Fill byte) = byte ≤ 255
 
+-- hexadecimal digits, two of each byte
+abbrev pub IsHex : List ℕ → Type 0
+IsHex digits = hex_in digits ≡ Ok digits
+
 -- a line behind the first, where there are so many nodes
 abbrev pub IsNext : ℕ → Line → Type 0
 IsNext nodes (lines.Nodes count) = ⊥
@@ -77,6 +82,7 @@ IsNext nodes (lines.Crash node) = IsNode nodes node
 IsNext nodes (lines.Up node) = IsNode nodes node
 IsNext nodes (lines.Stop node call left) = IsNode nodes node × IsCall call × IsLeft left
 IsNext nodes (lines.Fail node call) = IsNode nodes node × IsCall call
+IsNext nodes (lines.Inject node digits) = IsNode nodes node × IsHex digits
 
 -- `nodes` stands first and once, all numbers are within their bounds, and there are at most 10,000 lines
 abbrev pub IsSchedule : List Line → Type 0

@@ -5,7 +5,7 @@ use Rattle.schedules.specs.declared.line.Cause.TheVariants.{UnknownWord, WordCou
 use Rattle.schedules.specs.declared.line.Leaves.TheVariants as leaves
 use Rattle.schedules.specs.declared.line.Line.{Line}
 use Rattle.schedules.specs.declared.line.Line.TheVariants as lines
-use Rattle.schedules.specs.Values.{number_in, node_in, call_in, id_in, kind_in, vote_in, leaves_in, largest}
+use Rattle.schedules.specs.Values.{number_in, node_in, call_in, id_in, kind_in, vote_in, leaves_in, hex_in, largest}
 
 infixl 10 ◌>>=◌
 abbrev pub ◌>>=◌ : {A B E : Type 0} → Result A E → (A → Result B E) → Result B E
@@ -128,9 +128,16 @@ fail_line nodes (n ∷ k ∷ []) = do
   Ok (lines.Fail node call)
 fail_line nodes _ = Err WordCount
 
+abbrev pub inject_line : ℕ → List (List ℕ) → Result Line Cause
+inject_line nodes (n ∷ h ∷ []) = do
+  node ← node_in nodes n
+  digits ← hex_in h
+  Ok (lines.Inject node digits)
+inject_line nodes _ = Err WordCount
+
 -- `nodes` stands on the first line alone, and so isn't among these
-abbrev pub meaning : ℕ → List ℕ → List (List ℕ) → Result Line Cause
-meaning nodes word rest =
+abbrev pub plain_meaning : ℕ → List ℕ → List (List ℕ) → Result Line Cause
+plain_meaning nodes word rest =
     if bytes_eq word (codes "begin") then begin_line nodes rest
     else if bytes_eq word (codes "interpose") then interpose_line nodes rest
     else if bytes_eq word (codes "work") then work_line nodes rest
@@ -144,3 +151,8 @@ meaning nodes word rest =
     else if bytes_eq word (codes "stop") then stop_line nodes rest
     else if bytes_eq word (codes "fail") then fail_line nodes rest
     else Err UnknownWord
+
+-- a line may also bring bytes
+abbrev pub meaning : ℕ → List ℕ → List (List ℕ) → Result Line Cause
+meaning nodes word rest =
+    if bytes_eq word (codes "inject") then inject_line nodes rest else plain_meaning nodes word rest

@@ -1,15 +1,17 @@
 -- What one word says: a number, an id, a kind or a vote.
-use Rattle.std.specs.Prelude.{ℕ, List, Bool, ◌&&◌, ◌==◌, ◌-◌, ◌^◌, nat_le, Option, Some, None, Result, Ok, Err, if◌then◌else◌, bytes_eq, codes, decimal}
+use Rattle.std.specs.Prelude.{ℕ, List, [], Bool, ◌&&◌, ◌==◌, ◌-◌, ◌^◌, nat_le, Option, Some, None, Result, Ok, Err, if◌then◌else◌, bytes_eq, codes, decimal}
 use Rattle.std.specs.List.{before_first, after_first}
 use Rattle.std.specs.Str.Parse.{digits_value}
 use Rattle.at_base.specs.IdText.{hyphen, id_text}
+use Rattle.hex.specs.Hex.{decode_of}
+use Rattle.hex.specs.declared.error.FromHexError.{FromHexError}
 use Rattle.at_base.specs.Numbers.{Numbers}
 use Rattle.at_base.specs.declared.notice.Kind.{Kind}
 use Rattle.at_base.specs.declared.notice.Kind.TheVariants as kinds
 use Rattle.at_base.specs.declared.notice.Vote.{Vote}
 use Rattle.at_base.specs.declared.notice.Vote.TheVariants as votes
 use Rattle.schedules.specs.declared.line.Cause.{Cause}
-use Rattle.schedules.specs.declared.line.Cause.TheVariants.{Number, Identifier, Keyword}
+use Rattle.schedules.specs.declared.line.Cause.TheVariants.{Number, Identifier, Keyword, Hexadecimal}
 use Rattle.schedules.specs.declared.line.Leaves.{Leaves}
 use Rattle.schedules.specs.declared.line.Leaves.TheVariants as leaves
 
@@ -72,3 +74,20 @@ leaves_in word =
     if bytes_eq word (codes "keep") then Ok leaves.Keep
     else if bytes_eq word (codes "drop") then Ok leaves.Drop
     else Err Keyword
+
+-- the word itself, where it says bytes
+abbrev pub if_decoded : List ℕ → Result (List ℕ) FromHexError → Result (List ℕ) Cause
+if_decoded word (Ok bytes) = Ok word
+if_decoded word (Err e) = Err Hexadecimal
+
+-- bytes in hexadecimal, two digits each, in either case
+abbrev pub hex_in : List ℕ → Result (List ℕ) Cause
+hex_in word = if_decoded word (decode_of word)
+
+abbrev pub bytes_or_none : Result (List ℕ) FromHexError → List ℕ
+bytes_or_none (Ok bytes) = bytes
+bytes_or_none (Err e) = []
+
+-- the bytes that a word says
+abbrev pub bytes_in : List ℕ → List ℕ
+bytes_in word = bytes_or_none (decode_of word)

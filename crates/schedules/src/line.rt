@@ -5,6 +5,7 @@ ghost use Rattle.schedules.specs.Causes.{number_of_cause};
 
 use at_base::id::Id;
 use at_base::notice::{Kind, Vote};
+use at_base::text::Text;
 use std::alloc::AllocError;
 use std::marker::Model;
 
@@ -79,6 +80,12 @@ pub enum Line {
         node: u8,
         call: u32,
     },
+    /// `inject NODE HEX`: a connection that brings these bytes comes to the node. Two hexadecimal digits each, in either case;
+    /// there may be none.
+    Inject {
+        node: u8,
+        digits: Text,
+    },
 }
 
 /// What a stop leaves of the bytes that are pending on the disk, and of the call at which it comes.
@@ -143,7 +150,7 @@ pub enum Cause {
     Identifier,
     /// None of the words that may stand here.
     Keyword,
-    /// No bytes in hexadecimal.
+    /// No bytes in hexadecimal: an odd number of digits, or another character.
     Hexadecimal,
     /// `nodes` is missing on the first line, or stands on another.
     Nodes,

@@ -1,13 +1,14 @@
 //! The meaning of a line's words, given the number of nodes.
 
-ghost use Rattle.std.specs.Prelude.{◌≡◌, map};
-ghost use Rattle.schedules.specs.Meanings.{count_of, begin_line, interpose_line, work_line, task, commit_line, rollback_line, deliver_line, flush_line, tick_line, crash_line, up_line, stop_line, fail_line, stop_so, stop_filled, meaning};
+ghost use Rattle.std.specs.Prelude.{◌≡◌, IfOk, map};
+ghost use Rattle.schedules.specs.Meanings.{count_of, begin_line, interpose_line, work_line, task, commit_line, rollback_line, deliver_line, flush_line, tick_line, crash_line, up_line, stop_line, fail_line, inject_line, stop_so, stop_filled, meaning, plain_meaning};
 
 use crate::line::{Cause, Leaves, Line};
 use crate::values::{
-    read_byte, read_call, read_id, read_kind, read_leaves, read_node, read_number, read_small,
-    read_vote,
+    read_byte, read_call, read_hex, read_id, read_kind, read_leaves, read_node, read_number,
+    read_small, read_vote,
 };
+use std::alloc::{AllocError, Global};
 
 /// The greatest message that a line may name.
 const MOST_MESSAGES: u32 = 1_000_000;
@@ -215,9 +216,40 @@ fn read_fail(nodes: u8, words: &[&str]) -> Result<Line, Cause>
     Ok(Line::Fail { node, call })
 }
 
+fn read_inject(alloc: Global, nodes: u8, words: &[&str]) -> Result<Result<Line, Cause>, AllocError>
+    ensures { IfOk result (λ r. r ≡ inject_line nodes (map (λ w. w.now) words.now)) }
+{
+    let [node, digits] = words else {
+        return Ok(Err(Cause::WordCount));
+    };
+    let node = match read_node(nodes, node) {
+        Ok(node) => node,
+        Err(cause) => return Ok(Err(cause)),
+    };
+    match read_hex(alloc, digits)? {
+        Ok(digits) => Ok(Ok(Line::Inject { node, digits })),
+        Err(cause) => Ok(Err(cause)),
+    }
+}
+
 /// The line of this first word, which isn't `nodes`, and the words behind it.
-pub fn read_meaning(nodes: u8, word: &str, words: &[&str]) -> Result<Line, Cause>
-    ensures { result ≡ meaning nodes word.now (map (λ w. w.now) words.now) }
+pub fn read_meaning(
+    alloc: Global,
+    nodes: u8,
+    word: &str,
+    words: &[&str],
+) -> Result<Result<Line, Cause>, AllocError>
+    ensures { IfOk result (λ r. r ≡ meaning nodes word.now (map (λ w. w.now) words.now)) }
+{
+    match word {
+        "inject" => read_inject(alloc, nodes, words),
+        _ => Ok(read_plain_meaning(nodes, word, words)),
+    }
+}
+
+/// The same of a line that takes no memory.
+fn read_plain_meaning(nodes: u8, word: &str, words: &[&str]) -> Result<Line, Cause>
+    ensures { result ≡ plain_meaning nodes word.now (map (λ w. w.now) words.now) }
 {
     match word {
         "begin" => read_begin(nodes, words),

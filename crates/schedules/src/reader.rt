@@ -28,16 +28,16 @@ fn first_words(words: &[&str]) -> Result<u8, Cause>
     }
 }
 
-fn next_words(nodes: u8, words: &[&str]) -> Result<Line, Cause>
-    ensures { result ≡ next_words nodes (map (λ w. w.now) words.now) }
+fn next_words(alloc: Global, nodes: u8, words: &[&str]) -> Result<Result<Line, Cause>, AllocError>
+    ensures { IfOk result (λ r. r ≡ next_words nodes (map (λ w. w.now) words.now)) }
 {
     let Some((word, rest)) = words.split_first() else {
-        return Err(Cause::UnknownWord);
+        return Ok(Err(Cause::UnknownWord));
     };
     if *word == "nodes" {
-        return Err(Cause::Nodes);
+        return Ok(Err(Cause::Nodes));
     }
-    read_meaning(nodes, word, rest)
+    read_meaning(alloc, nodes, word, rest)
 }
 
 fn read_first(alloc: Global, line: &[u8]) -> Result<u8, ScheduleError>
@@ -63,7 +63,7 @@ fn read_next(alloc: Global, nodes: u8, number: u32, line: &[u8]) -> Result<Line,
         return Err(bad(number, Cause::TooManyLines));
     }
     let words = words_of(alloc, plain)?;
-    match next_words(nodes, words.as_slice()) {
+    match next_words(alloc, nodes, words.as_slice())? {
         Ok(line) => Ok(line),
         Err(cause) => Err(bad(number, cause)),
     }

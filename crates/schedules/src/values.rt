@@ -1,11 +1,14 @@
 //! What one word says: a number, an id, a kind or a vote.
 
-ghost use Rattle.std.specs.Prelude.{ℕ, ◌≡◌, ◌<◌, ◌^◌, IfSome, Some};
-ghost use Rattle.schedules.specs.Values.{decimal_of, number_in, node_in, call_in, id_in, kind_in, vote_in, leaves_in};
+ghost use Rattle.std.specs.Prelude.{ℕ, ◌≡◌, ◌<◌, ◌^◌, IfOk, IfSome, Some};
+ghost use Rattle.schedules.specs.Values.{decimal_of, number_in, node_in, call_in, id_in, kind_in, vote_in, leaves_in, hex_in, bytes_in};
 
 use crate::line::{Cause, Leaves};
 use at_base::id::Id;
 use at_base::notice::{Kind, Vote};
+use at_base::text::Text;
+use hex::FromHexError;
+use std::alloc::{AllocError, Global};
 
 /// The number that the word spells in decimal, without sign or leading zeros.
 fn read_decimal(word: &str) -> Option<u64>
@@ -109,5 +112,27 @@ pub fn read_leaves(word: &str) -> Result<Leaves, Cause>
         "keep" => Ok(Leaves::Keep),
         "drop" => Ok(Leaves::Drop),
         _ => Err(Cause::Keyword),
+    }
+}
+
+/// Bytes in hexadecimal.
+pub fn read_hex(alloc: Global, word: &str) -> Result<Result<Text, Cause>, AllocError>
+    ensures { IfOk result (λ r. r ≡ hex_in word.now) }
+{
+    match hex::decode(alloc, word) {
+        Ok(_bytes) => Ok(Ok(Text::copied(alloc, word)?)),
+        Err(FromHexError::OutOfMemory) => Err(AllocError),
+        Err(_fault) => Ok(Err(Cause::Hexadecimal)),
+    }
+}
+
+/// The bytes that a word says in hexadecimal; none where it says no bytes.
+pub fn bytes_in(alloc: Global, word: &str) -> Result<Vec<u8>, AllocError>
+    ensures { IfOk result (λ bytes. bytes.items ≡ bytes_in word.now) }
+{
+    match hex::decode(alloc, word) {
+        Ok(bytes) => Ok(bytes),
+        Err(FromHexError::OutOfMemory) => Err(AllocError),
+        Err(_fault) => Ok(Vec::new(alloc)),
     }
 }

@@ -207,6 +207,20 @@ impl MemSite {
         self.device.file(file)
     }
 
+    /// How many calls it made or failed to make since it was opened.
+    pub fn calls(&self) -> usize
+        ensures { result ≡ length (calls_in self.now.device) }
+    {
+        self.device.log.len()
+    }
+
+    /// How many answers and posts failed.
+    pub fn failed_sends(&self) -> u64
+        ensures { result ≡ self.now.tally.link }
+    {
+        self.tally.link
+    }
+
     /// All answers so far, in order.
     pub fn answers(&self) -> &[Bytes]
         ensures { result.now ≡ self.now.answers.items }

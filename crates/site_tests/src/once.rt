@@ -21,7 +21,8 @@ fn serves(alloc: Global) -> Result<bool, AllocError> {
     let sent = site.send(b"yes").is_ok() && site.post("n2.example", 80, b"post").is_ok();
     site.close();
     let closed = site.take() == Ok(Taken::Closed);
-    Ok(opened && first && second && end && sent && closed && holds(&site))
+    let counted = site.calls() == 2 && site.failed_sends() == 0;
+    Ok(opened && first && second && end && sent && closed && counted && holds(&site))
 }
 
 /// What that sent is kept.
