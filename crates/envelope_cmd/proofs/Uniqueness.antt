@@ -22,7 +22,7 @@ use Rattle.envelope_cmd.specs.Cells.{IsCellOf, IsCellTold, IsMetPrinted, IsPoste
 use Rattle.envelope_cmd.specs.Checks.{IsCheckOf, check_of}
 use Rattle.envelope_cmd.specs.Output.{Output, accepted, refused}
 use Rattle.envelope_cmd.specs.Refusals.{refusal_line}
-use Rattle.envelope_cmd.specs.RequestMeanings.{Says}
+use Rattle.envelope_cmd.specs.RequestMeanings.{IsTold, SayOneThing, Says}
 
 abbrev pub OneTree : Type 0
 OneTree = (bytes : List ℕ) → (t : Tree) → (u : Tree) → Spells bytes t → Spells bytes u → t ≡ u
@@ -34,10 +34,6 @@ OneText = (post : Post) → (x : List ℕ) → (y : List ℕ) → IsTextOf post 
 abbrev IsKnown : TreeRefusal → Type 0
 IsKnown trees.NoMemory = ⊥
 IsKnown r = Unit {0}
-
-abbrev IsTold : Result Arrival Refusal → Type 0
-IsTold (Ok a) = Unit {0}
-IsTold (Err r) = (line : List ℕ) × (refusal_line r ≡ Some line)
 
 both_deep : OneTree → (bytes : List ℕ) → IsTooDeep bytes → (u : Tree) → Spells bytes u → 32 < levels_of u
 both_deep one bytes h u k = subst (λ t. 32 < levels_of t) (one bytes h.tree u h.spells k) h.deep
@@ -127,8 +123,7 @@ one_origin one bytes path said other (inl h) (inr k) = absurd (reads_none one by
 one_origin one bytes path said other (inr h) (inl k) = absurd (reads_none one bytes h.tree k.cause h.reads k.refuses k.known)
 one_origin one bytes path said other (inr h) (inr k) = one_meaning one bytes path said other h k
 
-one_said : OneTree → (bytes path : List ℕ) (said other : Result Arrival Refusal) → Says bytes path said → Says bytes path other
-    → IsTold said → IsTold other → said ≡ other
+pub one_said : OneTree → SayOneThing
 one_said one bytes path said other h k told also =
     one_origin one bytes path said other (origin bytes path said h told) (origin bytes path other k also)
 
