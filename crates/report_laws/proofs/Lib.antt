@@ -1,0 +1,2 @@
+mod DrawnThings
+mod Reports
