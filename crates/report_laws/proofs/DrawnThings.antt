@@ -1,21 +1,17 @@
 -- Bytes mean one thing to a node in all roles, and so they draw one thing.
-use Rattle.std.proofs.Common.{◌≡◌, refl, sym, ap, subst, ◌∙◌, ℕ, List, Option, Some, None, Bool, true, false, Result, Ok, Err}
+use Rattle.std.proofs.Common.{◌≡◌, refl, ap, subst, ℕ, List, Option, None, Bool, true, false, Result, Ok, Err}
 use Rattle.at_base.specs.declared.event.Event.TheVariants as events
 use Rattle.arrivals.specs.BookArrivals.{reaches}
-use Rattle.wire_msgs.specs.declared.decode.Arrival.{Arrival}
 use Rattle.wire_msgs.specs.declared.refusal.Refusal.{Refusal}
 use Rattle.wire_msgs.specs.declared.refusal.Refusal.TheVariants as faults
 use Rattle.wire_posts.specs.Faults.{refusal_status, refusal_text}
 use Rattle.envelope_cmd.specs.RequestMeanings.{IsTold, SayOneThing}
 use Rattle.http_post.specs.Laws.{AskOneThing, WaitOrNot}
 use Rattle.http_post.specs.Requests.{Asked}
-use Rattle.http_post.specs.declared.refusal.HttpRefusal.{HttpRefusal}
 use Rattle.node_at.specs.Meanings.{Meaning, Means, Says, is_answered, is_refused, is_request, request, says, says_elsewhere, says_nothing, status_of, ticks}
 use Rattle.node_at.specs.Meanings.Meaning.{Refused, Steps}
 use Rattle.node_at.specs.Roles.{serves}
 use Rattle.node_at.specs.declared.role.Role.TheVariants.{All}
-use Rattle.raw_requests.specs.Draws.{Draws}
-use Rattle.raw_requests.specs.declared.Drawn.{Drawn}
 use Rattle.raw_requests.specs.declared.Drawn.TheVariants as drawns
 use Rattle.report_laws.specs.Laws.{DrawOneThing}
 

@@ -1,10 +1,10 @@
 -- The lines of a schedule draw one list of things, and so it has one report.
-use Rattle.std.proofs.Common.{◌≡◌, refl, sym, ap, ◌∙◌, ℕ, List, [], ◌∷◌, Option, Some, None, Bool}
+use Rattle.std.proofs.Common.{◌≡◌, refl, sym, ap, ◌∙◌, ℕ, List, [], ◌∷◌, Option, Some, None}
 use Rattle.raw_requests.specs.declared.Drawn.{Drawn}
 use Rattle.schedules.specs.Values.{bytes_in}
 use Rattle.schedules.specs.declared.line.Line.{Line}
 use Rattle.schedules.specs.declared.line.Line.TheVariants as lines
-use Rattle.replay_cmd.specs.Laws.{AreDrawn, IsDrawn, IsReport}
+use Rattle.replay_cmd.specs.Laws.{AreDrawn, IsDrawn}
 use Rattle.replay_cmd.specs.ReportOf.{report_with}
 use Rattle.report_laws.specs.Laws.{DrawOneThing, HaveOneReport}
 

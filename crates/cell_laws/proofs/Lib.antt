@@ -1,0 +1,7 @@
+mod Fitting
+mod Leaves
+mod Activities
+mod Advances
+mod Seats
+mod Completions
+mod Links
