@@ -59,6 +59,25 @@ deliver 14 2 202\n\
 end messages 14 committed 1 aborted 0 lost 0\n\
 ",
     ),
+    // An initiator that asks for the commit again hears of it, also once the transaction is gone.
+    (
+        "\
+nodes 3\n\
+begin 1 2 60000\n\
+flush 99\n\
+work 1 1-1 3 d prepared\n\
+flush 99\n\
+commit 1 1-1\n\
+flush 99\n\
+deliver 9\n\
+",
+        "\ndeliver 14 ",
+        "\
+deliver 9 2 202\n\
+msg 15 2>1 Committed /i/1-1\n\
+end messages 15 committed 1 aborted 0 lost 0\n\
+",
+    ),
     // Bytes that are refused; `/tick` isn't handed over.
     (
         "\
