@@ -12,7 +12,7 @@ begin() {
   "$top/atx" "$role" --listen "127.0.0.1:$port" --journal "$room/$role" --turns "$turns" >"$room/$role.out" </dev/null &
   printf -v "$role" '%s' $!
   for waited in $(seq 100); do
-    grep -q '^up ' "$room/$role.out" && return
+    grep -qs '^up ' "$room/$role.out" && return
     kill -0 "${!role}" 2>/dev/null || break
     sleep 0.1
   done
