@@ -2,6 +2,7 @@
 use Rattle.std.specs.Prelude.{ℕ, List, Option, Some, None, ◌≡◌, ◌⊎◌, refl}
 use Rattle.std.specs.List.{AllByRecursion}
 use Rattle.std.proofs.Common.{inl, inr, sym, subst, ap, ◌∙◌}
+use Rattle.at_base.specs.declared.fault.Fault.TheVariants.{InvalidState}
 use Rattle.at_base.specs.declared.epr.Epr.{Epr}
 use Rattle.at_base.specs.declared.notice.Notice.{Notice}
 use Rattle.at_base.specs.declared.notice.Notice.TheVariants as notices
@@ -10,14 +11,14 @@ use Rattle.at_base.specs.declared.event.Event.{Event}
 use Rattle.at_base.specs.declared.event.Moment.{Moment}
 use Rattle.at_base.specs.declared.outs.Post.{Post}
 use Rattle.at_model.specs.Book.{Activity}
-use Rattle.at_model.specs.Posts.{fault_post, invalid_state, stored_or, to_each}
+use Rattle.at_model.specs.Posts.{fault_post, stored_or, to_each}
 use Rattle.at_model.specs.Moves.{Change}
 use Rattle.agreement.specs.ActivityDeeds.{Completes, ActivityIdles, rests, misled, created, interposed, registered, registers_again, asks_again, works, asks, ActivityDeed, idles, tells, ActivitySays, completing, tells_nothing}
 
 abbrev Says : Moment → Activity → Change Activity → List Post → Type 0
 Says m a c ps = AllByRecursion (ActivitySays m a c) ps
 
-answers_fault : (m : Moment) (a : Activity) (c : Change Activity) (id : Option (List ℕ)) (to : Option Epr) → Says m a c (to_each to (λ x. fault_post (Some x) id invalid_state))
+answers_fault : (m : Moment) (a : Activity) (c : Change Activity) (id : Option (List ℕ)) (to : Option Epr) → Says m a c (to_each to (λ x. fault_post (Some x) id InvalidState))
 answers_fault m a c id (Some to) = (tells_nothing tt, tt)
 answers_fault m a c id None = tt
 

@@ -2,6 +2,8 @@
 use Rattle.std.specs.Prelude.{ℕ, List, ◌+◌, Option, Some, None, Bool, true, false, ◌≡◌, ◌⊎◌, refl, ◌&&◌, if◌then◌else◌, bytes_eq}
 use Rattle.std.proofs.Common.{inl, inr, sym, subst, ap, ◌∙◌}
 use Rattle.std.proofs.lemmas.Slice.Eq.{bytes_eq-Decides}
+use Rattle.at_base.specs.declared.fault.Fault.TheVariants.{UnknownTransaction}
+use Rattle.at_base.specs.Names.{fault_name}
 use Rattle.at_base.specs.declared.epr.Epr.{Epr}
 use Rattle.at_base.specs.declared.notice.Kind.{Kind}
 use Rattle.at_base.specs.declared.notice.Vote.{Vote}
@@ -22,10 +24,9 @@ use Rattle.at_base.specs.declared.outs.Told.TheVariants as tellings
 use Rattle.at_tables.specs.declared.cells.State.TheVariants as states
 use Rattle.at_tables.specs.Tables.{initiator_of}
 use Rattle.at_model.specs.Book.{Book, Activity, Progress}
-use Rattle.at_model.specs.Posts.{unknown_transaction}
 use Rattle.at_model.specs.Moves.{Decision, Goes, ignored}
 use Rattle.at_model.specs.Activities.{activity_target, activity_act, activity_notice, activity_created, activity_fault, activity_registered, is_active, is_begun, on_activity, on_ask, on_complete, told, Refusal, Stale}
-use Rattle.at_model.specs.Addresses.{create_id, register_id}
+use Rattle.endpoints.specs.Addresses.{create_id, register_id}
 use Rattle.at_model.specs.Arrivals.{relates_to}
 use Rattle.at_model.specs.Due.{Expired, Unanswered, Nothing, has_come, is_quiet, activity_due, activity_reached}
 use Rattle.at_model.specs.Step.{at_time, put_activity, activity_at, moment_of, only_begun, refuses_named, works_left}
@@ -153,8 +154,8 @@ running_message m e r a context to (messages.RegisterResponse other) f g h = idl
 running_message m e r a context to (messages.Fault name) f g h = idle m e (running a context to)
 running_message m e r a context to other f g h = idle m e (running a context to)
 
-same_name : (e : Event) (a : Activity) (name : List ℕ) → bytes_eq name unknown_transaction ≡ true → CameToActivity e a (messages.Fault name) → CameToActivity e a (messages.Fault unknown_transaction)
-same_name e a name f came = subst (λ x. CameToActivity e a (messages.Fault x)) ((bytes_eq-Decides name unknown_transaction).0 f) came
+same_name : (e : Event) (a : Activity) (name : List ℕ) → bytes_eq name (fault_name UnknownTransaction) ≡ true → CameToActivity e a (messages.Fault name) → CameToActivity e a (messages.Fault UnknownTransaction)
+same_name e a name f came = subst (λ x. CameToActivity e a (messages.Fault x)) ((bytes_eq-Decides name UnknownTransaction).0 f) came
 
 completing_message : (m : Moment) (e : Event) (r : Arrived) (a : Activity) (asked : Notice) (context : Context) (to : Epr) (x : Message) → e ≡ events.Arrived r → r.target ≡ activity_target a → r.message ≡ x
     → Does m e (completing a asked context to) (on_activity m r (completing a asked context to) x)
@@ -163,7 +164,7 @@ completing_message m e r a asked context to (messages.Notice n) f g h = completi
 completing_message m e r a asked context to (messages.CreateResponse new) f g h = idle m e (completing a asked context to)
 completing_message m e r a asked context to (messages.RegisterResponse other) f g h = idle m e (completing a asked context to)
 completing_message m e r a asked context to (messages.Fault name) f g h =
-    either m e (completing a asked context to) (bytes_eq name unknown_transaction) _ _
+    either m e (completing a asked context to) (bytes_eq name (fault_name UnknownTransaction)) _ _
     (λ k. tell m e (completing a asked context to) tellings.Unknown
     (unknown asked (same_name e (completing a asked context to) name k (came_to e r (completing a asked context to) _ f g h)) refl refl))
     (λ k. idle m e (completing a asked context to))

@@ -25,10 +25,11 @@ use Rattle.at_tables.specs.declared.cells.State.TheVariants as states
 use Rattle.at_tables.specs.declared.cells.Act.{Act}
 use Rattle.at_tables.specs.declared.cells.Act.TheVariants as acts
 use Rattle.at_tables.specs.declared.cells.Cell.{Cell}
-use Rattle.at_tables.specs.Names.{is_kind, is_state}
+use Rattle.at_tables.specs.Names.{is_state}
+use Rattle.at_base.specs.Names.{is_kind}
 use Rattle.at_tables.specs.Tables.{coordinator_of, participant_of, completion_of}
 use Rattle.at_model.specs.Book.{Completion, Enlistment, Phase, Superior, Transaction}
-use Rattle.at_model.specs.Addresses.{atomic, register_id}
+use Rattle.endpoints.specs.Addresses.{atomic, register_id}
 use Rattle.at_model.specs.Moves.{Moving, Decision, begin, become, stays, forgotten}
 use Rattle.at_model.specs.Seats.{answered, all_left, completion_in, in_phase, in_state, is_of, is_open, is_prepared_durable, link_in, link_of, move_if, moved, prepared, seat_in, seated, set_link, under}
 use Rattle.at_model.specs.Abort.{Reason, Alone, Asked, until_rolled_back, abort}

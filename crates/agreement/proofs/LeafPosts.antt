@@ -2,6 +2,7 @@
 use Rattle.std.specs.Prelude.{ℕ, List, [], ◌∷◌, Option, Some, None, ◌≡◌, refl}
 use Rattle.std.specs.List.{AllByRecursion}
 use Rattle.std.proofs.Common.{inl, inr, sym, subst, ap, ◌∙◌}
+use Rattle.at_base.specs.declared.fault.Fault.TheVariants.{InvalidState}
 use Rattle.at_base.specs.declared.epr.Epr.{Epr}
 use Rattle.at_base.specs.declared.notice.Notice.TheVariants as notices
 use Rattle.at_base.specs.declared.record.Record.{Record}
@@ -10,7 +11,7 @@ use Rattle.at_base.specs.declared.event.Moment.{Moment}
 use Rattle.at_base.specs.declared.outs.Post.{Post}
 use Rattle.at_base.specs.declared.outs.Ending.TheVariants as endings
 use Rattle.at_model.specs.Book.{Leaf}
-use Rattle.at_model.specs.Posts.{fault_post, invalid_state, stored_or, to_each}
+use Rattle.at_model.specs.Posts.{fault_post, stored_or, to_each}
 use Rattle.at_model.specs.Moves.{Change}
 use Rattle.at_model.specs.Leaves.{leaf_ended}
 use Rattle.agreement.specs.LeafDeeds.{Notified, LeafIdles, rests, registered, registers_again, votes_again, LeafAborts, asked, misled, unprepared, refused, expired, gave_up, LeafDeed, idles, aborts, prepares, leaves, dropped, commits, rolls_back, LeafSays, prepared, read_only, committed, aborted, tells_nothing, leaf_notice_to}
@@ -30,7 +31,7 @@ answers_rollback m e l c came (Some to) from k f item effects = (aborted to (inl
 answers_rollback m e l c came None (Some to) k f item effects = (aborted to (inr (came, f)) refl item effects, tt)
 answers_rollback m e l c came None None k f item effects = tt
 
-answers_fault : (m : Moment) (e : Event) (l : Leaf) (c : Change Leaf) (id : Option (List ℕ)) (to : Option Epr) → Says m e l c (to_each to (λ x. fault_post (Some x) id invalid_state))
+answers_fault : (m : Moment) (e : Event) (l : Leaf) (c : Change Leaf) (id : Option (List ℕ)) (to : Option Epr) → Says m e l c (to_each to (λ x. fault_post (Some x) id InvalidState))
 answers_fault m e l c id (Some to) = (tells_nothing tt, tt)
 answers_fault m e l c id None = tt
 

@@ -2,6 +2,8 @@
 use Rattle.std.specs.Prelude.{ℕ, List, Option, Some, None, Bool, true, false, ◌≡◌, refl, ◌&&◌, if◌then◌else◌, bytes_eq}
 use Rattle.std.proofs.Common.{inl, inr, sym, subst, ap, ◌∙◌}
 use Rattle.std.proofs.lemmas.Slice.Eq.{bytes_eq-Decides}
+use Rattle.at_base.specs.declared.fault.Fault.TheVariants.{UnknownTransaction}
+use Rattle.at_base.specs.Names.{fault_name, is_kind}
 use Rattle.at_base.specs.declared.epr.Epr.{Epr}
 use Rattle.at_base.specs.declared.notice.Kind.{Kind}
 use Rattle.at_base.specs.declared.notice.Kind.TheVariants as kinds
@@ -18,10 +20,8 @@ use Rattle.at_base.specs.declared.event.Event.TheVariants as events
 use Rattle.at_base.specs.declared.event.Moment.{Moment}
 use Rattle.at_base.specs.declared.record.Record.TheVariants as records
 use Rattle.at_tables.specs.declared.cells.State.TheVariants as states
-use Rattle.at_tables.specs.Names.{is_kind}
 use Rattle.at_tables.specs.Tables.{participant_of}
 use Rattle.at_model.specs.Book.{Book, Leaf, WorkRequest}
-use Rattle.at_model.specs.Posts.{unknown_transaction}
 use Rattle.at_model.specs.Moves.{Decision, Goes, begin, forgotten, ignored}
 use Rattle.at_model.specs.Leaves.{leaf_target, leaf_votes, leaf_commit, leaf_roll_back, leaf_act, leaf_notice, answers_leaf, leaf_registered, drops_leaf, leaf_fault, on_leaf}
 use Rattle.at_model.specs.Due.{Expired, Unanswered, Nothing, has_come, is_quiet, leaf_due, leaf_reached}
@@ -127,13 +127,13 @@ either m e l true d x h k = h refl
 either m e l false d x h k = k refl
 
 -- faults
-same_name : (e : Event) (l : Leaf) (name : List ℕ) → bytes_eq name unknown_transaction ≡ true → CameTo e l (messages.Fault name) → CameTo e l (messages.Fault unknown_transaction)
-same_name e l name f came = subst (λ x. CameTo e l (messages.Fault x)) ((bytes_eq-Decides name unknown_transaction).0 f) came
+same_name : (e : Event) (l : Leaf) (name : List ℕ) → bytes_eq name (fault_name UnknownTransaction) ≡ true → CameTo e l (messages.Fault name) → CameTo e l (messages.Fault UnknownTransaction)
+same_name e l name f came = subst (λ x. CameTo e l (messages.Fault x)) ((bytes_eq-Decides name UnknownTransaction).0 f) came
 
 else_dropped : (m : Moment) (e : Event) (l : Leaf) (name : List ℕ) → CameTo e l (messages.Fault name) → Does m e l (if drops_leaf l name then Goes (forgotten (begin l)) else ignored l)
 else_dropped m e l name came =
     either m e l (drops_leaf l name) (Goes (forgotten (begin l))) (ignored l)
-    (λ f. dropped (same_name e l name (second_true (is_kind l.kind kinds.Volatile) _ f) came) (same_kind l.kind kinds.Volatile (first_true _ (bytes_eq name unknown_transaction) f)) refl refl refl refl)
+    (λ f. dropped (same_name e l name (second_true (is_kind l.kind kinds.Volatile) _ f) came) (same_kind l.kind kinds.Volatile (first_true _ (bytes_eq name (fault_name UnknownTransaction)) f)) refl refl refl refl)
     (λ f. idle m e l)
 
 registering_fault : (m : Moment) (e : Event) (a : Arrived) (l : Leaf) (r : WorkRequest) (name : List ℕ) → (came : CameTo e (registering l r) (messages.Fault name)) → came.arrived ≡ a

@@ -29,7 +29,7 @@ use Rattle.at_model.specs.Create.{Creation, create_in, create_under, on_create, 
 use Rattle.at_model.specs.Due.{may_expire}
 use Rattle.at_model.specs.Leaves.{Employment, leaf_ended, on_work, refuse_work, work_for}
 use Rattle.at_model.specs.Activities.{Refusal}
-use Rattle.at_model.specs.Addresses.{atomic}
+use Rattle.endpoints.specs.Addresses.{atomic}
 use Rattle.at_model.specs.Moves.{Change}
 use Rattle.at_model.specs.Posts.{accepted}
 use Rattle.at_model.specs.Register.{Registration, accept, held_seat, may_register, on_register, protocol_named, register_again, register_new}

@@ -3,6 +3,8 @@ use Rattle.std.specs.Prelude.{ℕ, List, [], ◌∷◌, ◌++◌, Option, Some, 
 use Rattle.std.specs.List.{AllByRecursion}
 use Rattle.std.proofs.Common.{sym, subst, ap, ◌∙◌}
 use Rattle.std.proofs.lemmas.Option.{option_and_then_some}
+use Rattle.at_base.specs.declared.fault.Fault.{Fault}
+use Rattle.at_base.specs.declared.fault.Fault.TheVariants.{CannotRegisterParticipant, InvalidParameters, InvalidProtocol}
 use Rattle.at_base.specs.Numbers.{Numbers}
 use Rattle.at_base.specs.declared.epr.Epr.{Epr}
 use Rattle.at_base.specs.declared.notice.Kind.{Kind}
@@ -21,11 +23,12 @@ use Rattle.at_base.specs.declared.outs.Post.{Post}
 use Rattle.at_base.specs.declared.outs.Out.{Out}
 use Rattle.at_tables.specs.declared.cells.State.TheVariants as states
 use Rattle.at_model.specs.Moves.{Decision}
-use Rattle.at_model.specs.Posts.{invalid_protocol, invalid_parameters, cannot_register}
 use Rattle.at_model.specs.Book.{Book, Transaction, Leaf, Activity, Enlistment, Completion, transaction_id, put_by}
 use Rattle.at_model.specs.Register.{Registration, accept, refuse_register, register_new, register_again, held_seat, new_seat, on_register, protocol_named, may_register}
 use Rattle.at_model.specs.Step.{Plan, plain, still, at_time, moment_of, registration_outcome, transaction_at, branch, plan, step}
-use Rattle.at_model.specs.World.{Node, Accepted, who_of, target_at, takes, arrival_of, decoded_at, decoded, accepted_seat, accepted_completion, accepted_by, accepted_in}
+use Rattle.at_model.specs.World.{Node, Accepted, who_of, arrival_of, decoded_at, decoded, accepted_seat, accepted_completion, accepted_by, accepted_in}
+use Rattle.endpoints.specs.Addresses.{target_at}
+use Rattle.endpoints.specs.Forms.{takes}
 use Rattle.model_laws.specs.Order.{IsInOrder}
 use Rattle.model_laws.specs.Shapes.{MovesTransaction, at_seat, at_link, at_completion, when_due, MovesLeaf, at_leaf, leaf_when_due, MovesActivity, at_activity, activity_when_due, works, completes, MakesActivity, begins, interposes, Shape, nothing_moves, time_moves, time_passes, transaction_moves, leaf_moves, activity_moves, transaction_registers, transaction_made, leaf_made, activity_made}
 use Rattle.model_laws.proofs.DecisionLaws.{found_id, all_more, all_put}
@@ -49,8 +52,8 @@ behind_all : {A : Type 0} (xs ys : List A) → drop (length xs) (xs ++ ys) ≡ y
 behind_all [] ys = refl
 behind_all (x ∷ xs) ys = behind_all xs ys
 
-refuses : (a : Arrived) (r : Register) (t : Transaction) (name : List ℕ) → Accepts r t (refuse_register a t name)
-refuses a r t name n nodes = nothing_new (IsNew n nodes t.id r) n nodes t t refl refl
+refuses : (a : Arrived) (r : Register) (t : Transaction) (drawn : Fault) → Accepts r t (refuse_register a t drawn)
+refuses a r t drawn n nodes = nothing_new (IsNew n nodes t.id r) n nodes t t refl refl
 
 initiator_new : (n : ℕ) (nodes : List Node) (id : Numbers) (r : Register) (before : Option Completion) (c : Completion) → protocol_named r.protocol ≡ Some None → c.initiator ≡ r.participant
     → AllByRecursion (IsNew n nodes id r) (accepted_completion n nodes id before (Some c))
@@ -70,13 +73,13 @@ accepts m a r t None e n nodes =
 
 new_accepts : (m : Moment) (a : Arrived) (r : Register) (t : Transaction) (kind : Option (Option Kind)) → protocol_named r.protocol ≡ kind → Accepts r t (register_new m a r t kind)
 unfolding register_new
-new_accepts m a r t None e = refuses a r t invalid_protocol
+new_accepts m a r t None e = refuses a r t InvalidProtocol
 new_accepts m a r t (Some kind) e = by_tests (not a.postable) (may_register t kind)
   where
-    by_tests : (b c : Bool) → Accepts r t (if b then refuse_register a t invalid_parameters else if c then accept m a t r.participant kind else refuse_register a t cannot_register)
-    by_tests true c = refuses a r t invalid_parameters
+    by_tests : (b c : Bool) → Accepts r t (if b then refuse_register a t InvalidParameters else if c then accept m a t r.participant kind else refuse_register a t CannotRegisterParticipant)
+    by_tests true c = refuses a r t InvalidParameters
     by_tests false true = accepts m a r t kind e
-    by_tests false false = refuses a r t cannot_register
+    by_tests false false = refuses a r t CannotRegisterParticipant
 
 again_accepts : (m : Moment) (a : Arrived) (r : Register) (t : Transaction) (kind : Option (Option Kind)) (held : Option Epr) → protocol_named r.protocol ≡ kind
     → Accepts r t (register_again m a r t kind held)

@@ -4,9 +4,9 @@ use Rattle.std.proofs.Common.{ap, subst, ◌∙◌, arith}
 use Rattle.std.proofs.lemmas.Bool.{eqb-true, eqb-false}
 use Rattle.at_base.specs.declared.target.Target.{Target}
 use Rattle.at_base.specs.declared.target.Target.TheVariants as targets
-use Rattle.at_model.specs.Addresses.{path_of, target_of}
-use Rattle.at_model.specs.World.{target_at}
-use Rattle.model_laws.proofs.Addresses.{IsWritten, IsPlace, place_is, other_base, prefix_back, target_back}
+use Rattle.endpoints.specs.Addresses.{path_of, target_of, target_at, IsWritten}
+use Rattle.model_laws.proofs.Addresses.{IsPlace, place_is, other_base}
+use Rattle.endpoints.proofs.Inverses.{prefix_back, target_back}
 use Rattle.agreement.specs.Places.{AddressesLeadHome, HasPath}
 
 -- targets

@@ -3,6 +3,7 @@ use Rattle.std.specs.Prelude.{is_none, ℕ, List, [], ◌∷◌, ◌++◌, Optio
 use Rattle.std.specs.List.{AllByRecursion}
 use Rattle.std.proofs.Common.{subst}
 use Rattle.std.proofs.lemmas.Slice.Eq.{bytes_eq-Decides}
+use Rattle.at_base.specs.declared.fault.Fault.TheVariants.{CannotCreateContext, CannotRegisterParticipant, InvalidParameters, InvalidProtocol, InvalidState}
 use Rattle.at_base.specs.Numbers.{Numbers}
 use Rattle.at_base.specs.declared.epr.Epr.{Epr}
 use Rattle.at_base.specs.declared.epr.Reply.{Reply}
@@ -33,8 +34,8 @@ use Rattle.at_tables.specs.declared.cells.Cell.{Cell}
 use Rattle.at_tables.specs.Names.{is_state}
 use Rattle.at_tables.specs.Tables.{initiator_of}
 use Rattle.at_model.specs.Book.{Transaction, Leaf, Activity, Enlistment, Superior, Link, Request, WorkRequest, Phase, Progress}
-use Rattle.at_model.specs.Addresses.{atomic, register_id, create_id, protocol_of, completion_protocol}
-use Rattle.at_model.specs.Posts.{notice_post, fault_post, reply_post, register_post, replied, stored_or, to_each, invalid_state, invalid_protocol, invalid_parameters, cannot_create, cannot_register}
+use Rattle.endpoints.specs.Addresses.{atomic, register_id, create_id, protocol_of, completion_protocol}
+use Rattle.at_model.specs.Posts.{notice_post, fault_post, reply_post, register_post, replied, stored_or, to_each}
 use Rattle.at_model.specs.Moves.{Change, Decision, Goes, Records, begin, ignored}
 use Rattle.at_model.specs.Seats.{under}
 use Rattle.at_model.specs.Abort.{Alone, abort}
@@ -244,7 +245,7 @@ activity_act_whose : (P : Target → Numbers → Type 0) (m : Moment) (from : Op
 unfolding activity_act
 activity_act_whose P m from i a acts.TellCommitted = tt
 activity_act_whose P m from i a acts.TellAborted = tt
-activity_act_whose P m from i a acts.FaultInvalidState = to_each_whose P m.base (stored_or a.coordinator from) (λ to. fault_post (Some to) i invalid_state) (λ to. tt)
+activity_act_whose P m from i a acts.FaultInvalidState = to_each_whose P m.base (stored_or a.coordinator from) (λ to. fault_post (Some to) i InvalidState) (λ to. tt)
 activity_act_whose P m from i a other = tt
 
 activity_notice_whose : (P : Target → Numbers → Type 0) (m : Moment) (from : Option Epr) (i : Option (List ℕ)) (a : Activity) (c : Option Cell) → Says P m.base (activity_notice m from i a c)
@@ -329,13 +330,13 @@ accept_none m a t participant None = replied_none a.reply a.id (completion_endpo
 
 register_new_none : (m : Moment) (a : Arrived) (r : Register) (t : Transaction) (kind : Option (Option Kind)) → AreOuts NoRegister (register_new m a r t kind).outs
 unfolding register_new
-register_new_none m a r t None = faulted_says NoRegister a.fault a.id invalid_protocol
+register_new_none m a r t None = faulted_says NoRegister a.fault a.id InvalidProtocol
 register_new_none m a r t (Some kind) = by_tests (not a.postable) (may_register t kind)
   where
-    by_tests : (b c : Bool) → AreOuts NoRegister (if b then refuse_register a t invalid_parameters else if c then accept m a t r.participant kind else refuse_register a t cannot_register).outs
-    by_tests true c = faulted_says NoRegister a.fault a.id invalid_parameters
+    by_tests : (b c : Bool) → AreOuts NoRegister (if b then refuse_register a t InvalidParameters else if c then accept m a t r.participant kind else refuse_register a t CannotRegisterParticipant).outs
+    by_tests true c = faulted_says NoRegister a.fault a.id InvalidParameters
     by_tests false true = accept_none m a t r.participant kind
-    by_tests false false = faulted_says NoRegister a.fault a.id cannot_register
+    by_tests false false = faulted_says NoRegister a.fault a.id CannotRegisterParticipant
 
 register_again_none : (m : Moment) (a : Arrived) (r : Register) (t : Transaction) (kind : Option (Option Kind)) (held : Option Epr) → AreOuts NoRegister (register_again m a r t kind held).outs
 unfolding register_again
@@ -348,8 +349,8 @@ register_none m a r t = register_again_none m a r t (protocol_named r.protocol) 
 
 pub unknown_none : (a : Arrived) (r : Register) (kind : Option (Option Kind)) → AreOuts NoRegister (register_unknown a r kind)
 unfolding register_unknown
-unknown_none a r None = faulted_says NoRegister a.fault a.id invalid_protocol
-unknown_none a r (Some kind) = faulted_says NoRegister a.fault a.id (if a.postable then cannot_register else invalid_parameters)
+unknown_none a r None = faulted_says NoRegister a.fault a.id InvalidProtocol
+unknown_none a r (Some kind) = faulted_says NoRegister a.fault a.id (if a.postable then CannotRegisterParticipant else InvalidParameters)
 
 -- what is made
 under_whose_made : (P : Target → Numbers → Type 0) (m : Moment) (id : Numbers) (a : Arrived) (c : Create) (current : Context) (r : Reply) → ((t : Transaction) → (create_under m id a c current r).transaction ≡ Some t → is_none t.superior ≡ false → (kind : Kind) → P (targets.Participant id kind) id)
@@ -362,8 +363,8 @@ under_whose_made P m id a c current (replies.At reply) known = (
     (own_register P m.base (targets.Participant id kinds.Durable) id (protocol_of kinds.Durable) current.registration (refl, refl) (known _ refl refl kinds.Durable), tt),
   ),
 )
-under_whose_made P m id a c current replies.Anonymous known = outs_whose P m.base (refuse_create a).outs (faulted_says NoRegister a.fault a.id cannot_create)
-under_whose_made P m id a c current replies.Nobody known = outs_whose P m.base (refuse_create a).outs (faulted_says NoRegister a.fault a.id cannot_create)
+under_whose_made P m id a c current replies.Anonymous known = outs_whose P m.base (refuse_create a).outs (faulted_says NoRegister a.fault a.id CannotCreateContext)
+under_whose_made P m id a c current replies.Nobody known = outs_whose P m.base (refuse_create a).outs (faulted_says NoRegister a.fault a.id CannotCreateContext)
 
 create_in_whose : (P : Target → Numbers → Type 0) (m : Moment) (id : Numbers) (a : Arrived) (c : Create) (current : Option Context) → ((t : Transaction) → (create_in m id a c current).transaction ≡ Some t → is_none t.superior ≡ false → (kind : Kind) → P (targets.Participant id kind) id)
     → OutsWhose P m.base (create_in m id a c current).outs
@@ -377,13 +378,13 @@ pub create_whose : (P : Target → Numbers → Type 0) (m : Moment) (live : ℕ)
     → ((id : Numbers) (t : Transaction) → next ≡ Some id → (on_create m live a c next).transaction ≡ Some t → is_none t.superior ≡ false → (kind : Kind) → P (targets.Participant id kind) id)
     → OutsWhose P m.base (on_create m live a c next).outs
 unfolding on_create
-create_whose P m live a c None known = outs_whose P m.base (refuse_create a).outs (faulted_says NoRegister a.fault a.id cannot_create)
+create_whose P m live a c None known = outs_whose P m.base (refuse_create a).outs (faulted_says NoRegister a.fault a.id CannotCreateContext)
 create_whose P m live a c (Some id) known = by_test (bytes_eq c.coordination atomic && nat_lt live 1024) (λ t e. known id t refl e)
   where
     by_test : (b : Bool) → ((t : Transaction) → (if b then create_in m id a c c.current else refuse_create a).transaction ≡ Some t → is_none t.superior ≡ false → (kind : Kind) → P (targets.Participant id kind) id)
         → OutsWhose P m.base (if b then create_in m id a c c.current else refuse_create a).outs
     by_test true known = create_in_whose P m id a c c.current known
-    by_test false known = outs_whose P m.base (refuse_create a).outs (faulted_says NoRegister a.fault a.id cannot_create)
+    by_test false known = outs_whose P m.base (refuse_create a).outs (faulted_says NoRegister a.fault a.id CannotCreateContext)
 
 work_refused_whose : (P : Target → Numbers → Type 0) (base : List ℕ) (a : Arrived) → OutsWhose P base (refuse_work a).outs
 work_refused_whose P base a = outs_whose P base (refuse_work a).outs (replied_says NoRegister a.reply a.id messages.WorkRefused tt (λ to. tt))

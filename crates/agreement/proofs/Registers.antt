@@ -3,6 +3,7 @@ use Rattle.std.specs.Prelude.{ℕ, List, [], ◌∷◌, ◌++◌, Option, Some, 
 use Rattle.std.specs.List.{AllByRecursion}
 use Rattle.std.proofs.Common.{inl, inr, sym, subst, ap, arith, ◌∙◌}
 use Rattle.std.proofs.lemmas.Bool.{eqb-true, eqb-false, ltb-true}
+use Rattle.at_base.specs.declared.fault.Fault.TheVariants.{InvalidState, UnknownTransaction}
 use Rattle.at_base.specs.Numbers.{Numbers}
 use Rattle.at_base.specs.IdText.{IsId}
 use Rattle.at_base.specs.declared.epr.Epr.{Epr}
@@ -27,7 +28,7 @@ use Rattle.at_tables.specs.declared.cells.Act.{Act}
 use Rattle.at_tables.specs.declared.cells.Act.TheVariants as acts
 use Rattle.at_tables.specs.declared.cells.Cell.{Cell}
 use Rattle.at_model.specs.Book.{Book, Transaction, Leaf, Activity, Request, WorkRequest, transaction_id, leaf_id, activity_id, next_id, last_counter}
-use Rattle.at_model.specs.Posts.{accepted, stranger_post, fault_post, notice_post, invalid_state, unknown_transaction}
+use Rattle.at_model.specs.Posts.{accepted, stranger_post, fault_post, notice_post}
 use Rattle.at_model.specs.Moves.{Decision}
 use Rattle.at_model.specs.Arrivals.{request_of, with_answer}
 use Rattle.at_model.specs.Activities.{on_begin, on_interpose}
@@ -86,7 +87,7 @@ stranger_act_whose : (P : Target → Numbers → Type 0) (base : List ℕ) (own 
 stranger_act_whose P base own from id acts.SendRollback = to_each_whose P base from (λ to. stranger_post base own to notices.Rollback) (λ to. tt)
 stranger_act_whose P base own from id acts.SendCommitted = to_each_whose P base from (λ to. stranger_post base own to notices.Committed) (λ to. tt)
 stranger_act_whose P base own from id acts.SendAborted = to_each_whose P base from (λ to. stranger_post base own to notices.Aborted) (λ to. tt)
-stranger_act_whose P base own from id acts.FaultUnknownTransaction = to_each_whose P base from (λ to. fault_post (Some to) id unknown_transaction) (λ to. tt)
+stranger_act_whose P base own from id acts.FaultUnknownTransaction = to_each_whose P base from (λ to. fault_post (Some to) id UnknownTransaction) (λ to. tt)
 stranger_act_whose P base own from id other = tt
 
 stranger_whose : (P : Target → Numbers → Type 0) (base : List ℕ) (own : Target) (from : Option Epr) (id : Option (List ℕ)) (c : Option Cell) → AreWhose P base (stranger_cell base own from id c)
@@ -95,7 +96,7 @@ stranger_whose P base own from id (Some c) = stranger_act_whose P base own from 
 
 outcome_act_whose : (P : Target → Numbers → Type 0) (base : List ℕ) (own : Target) (from : Option Epr) (id : Option (List ℕ)) (act : Act) → AreWhose P base (outcome_act base own from id act)
 outcome_act_whose P base own from id acts.SendCommitted = to_each_whose P base from (λ to. notice_post base own to notices.Committed) (λ to. tt)
-outcome_act_whose P base own from id acts.FaultInvalidState = to_each_whose P base from (λ to. fault_post (Some to) id invalid_state) (λ to. tt)
+outcome_act_whose P base own from id acts.FaultInvalidState = to_each_whose P base from (λ to. fault_post (Some to) id InvalidState) (λ to. tt)
 outcome_act_whose P base own from id other = tt
 
 outcome_whose : (P : Target → Numbers → Type 0) (base : List ℕ) (own : Target) (from : Option Epr) (id : Option (List ℕ)) (c : Option Cell) → AreWhose P base (outcome_cell base own from id c)

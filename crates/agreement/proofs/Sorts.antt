@@ -18,7 +18,7 @@ use Rattle.at_base.specs.declared.message.Message.TheVariants as messages
 use Rattle.at_base.specs.declared.message.Register.{Register}
 use Rattle.at_base.specs.declared.event.Arrived.{Arrived}
 use Rattle.at_base.specs.declared.event.Event.TheVariants as events
-use Rattle.at_model.specs.Addresses.{endpoint_of, protocol_of}
+use Rattle.endpoints.specs.Addresses.{endpoint_of, protocol_of}
 use Rattle.at_model.specs.Register.{protocol_named}
 use Rattle.model_laws.specs.Agreement.{IsIn}
 use Rattle.model_laws.proofs.EventLaws.{step_gives}

@@ -2,6 +2,7 @@
 use Rattle.std.specs.Prelude.{ℕ, List, [], ◌∷◌, Option, Some, None, Bool, true, false, not, if◌then◌else◌, is_none, length, option_map, ◌≡◌, ◌⊎◌, refl}
 use Rattle.std.specs.List.{AllByRecursion}
 use Rattle.std.proofs.Common.{inl, inr, sym, subst, ap, ◌∙◌}
+use Rattle.at_base.specs.declared.fault.Fault.TheVariants.{CannotRegisterParticipant, InvalidParameters}
 use Rattle.at_base.specs.Numbers.{Numbers}
 use Rattle.at_base.specs.declared.epr.Epr.{Epr}
 use Rattle.at_base.specs.declared.notice.Kind.{Kind}
@@ -20,7 +21,7 @@ use Rattle.at_base.specs.declared.outs.Effect.{Effect}
 use Rattle.at_model.specs.Book.{Book, Transaction, Leaf, Activity, Enlistment, Superior, is_id, put_by, transaction_id, leaf_id, activity_id, next_id}
 use Rattle.at_model.specs.Moves.{Change, Decision, Goes, Records}
 use Rattle.at_model.specs.Seats.{ending_of}
-use Rattle.at_model.specs.Posts.{accepted, invalid_parameters, cannot_register}
+use Rattle.at_model.specs.Posts.{accepted}
 use Rattle.at_model.specs.Arrivals.{with_answer}
 use Rattle.at_model.specs.Register.{accept, refuse_register, register_new, register_again, held_seat, on_register, protocol_named, may_register}
 use Rattle.at_model.specs.Step.{Outcome, Plan, plain, still, at_time, moment_of, is_under, make_transaction, make_leaf, make_activity, put_transaction, put_leaf, put_activity, put_activities, outcome_of, plan_of, transaction_plan, leaf_plan, activity_plan, registration_outcome, transaction_at, leaf_at, activity_at, branch, plan, noting}
@@ -308,7 +309,7 @@ new_superior m a r t None = refl
 new_superior m a r t (Some kind) = by_tests (not a.postable) (may_register t kind)
   where
     by_tests : (b c : Bool)
-        → (if b then refuse_register a t invalid_parameters else if c then accept m a t r.participant kind else refuse_register a t cannot_register).transaction.superior ≡ t.superior
+        → (if b then refuse_register a t InvalidParameters else if c then accept m a t r.participant kind else refuse_register a t CannotRegisterParticipant).transaction.superior ≡ t.superior
     by_tests true c = refl
     by_tests false true = accept_superior m a t r.participant kind
     by_tests false false = refl

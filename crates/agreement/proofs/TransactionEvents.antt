@@ -3,6 +3,8 @@ use Rattle.std.specs.Prelude.{ℕ, List, [], ◌∷◌, ◌++◌, ◌⊎◌, Opt
 use Rattle.std.specs.List.{list_any, AllByRecursion}
 use Rattle.std.proofs.lemmas.Bool.{eqb-true}
 use Rattle.std.proofs.Common.{sym, subst, ap, inl, inr, arith, ◌∙◌}
+use Rattle.at_base.specs.declared.fault.Fault.{Fault}
+use Rattle.at_base.specs.declared.fault.Fault.TheVariants.{InvalidState}
 use Rattle.at_base.specs.Numbers.{Numbers}
 use Rattle.at_base.specs.declared.epr.Epr.{Epr}
 use Rattle.at_base.specs.declared.notice.Kind.{Kind}
@@ -24,12 +26,13 @@ use Rattle.at_tables.specs.declared.cells.State.TheVariants as states
 use Rattle.at_tables.specs.declared.cells.Act.{Act}
 use Rattle.at_tables.specs.declared.cells.Act.TheVariants as acts
 use Rattle.at_tables.specs.declared.cells.Cell.{Cell}
-use Rattle.at_tables.specs.Names.{is_kind, is_state}
+use Rattle.at_tables.specs.Names.{is_state}
+use Rattle.at_base.specs.Names.{is_kind}
 use Rattle.at_tables.specs.Tables.{coordinator_of, participant_of, completion_of}
 use Rattle.at_base.specs.declared.epr.Reply.{Reply}
 use Rattle.at_base.specs.declared.epr.Reply.TheVariants as replies
-use Rattle.at_model.specs.Posts.{fault_post, invalid_state, reply_post, stored_or, stranger_post, to_each}
-use Rattle.at_model.specs.Addresses.{register_id}
+use Rattle.at_model.specs.Posts.{fault_post, reply_post, stored_or, stranger_post, to_each}
+use Rattle.endpoints.specs.Addresses.{register_id}
 use Rattle.at_model.specs.Book.{Book, Completion, Enlistment, Phase, Request, Superior, Transaction, transaction_id}
 use Rattle.at_model.specs.Moves.{Change, Decision, Goes, Records, begin, in_both}
 use Rattle.at_model.specs.Seats.{answered, in_state, link_of, moved, seat_in, set_link, under}
@@ -69,11 +72,11 @@ ignores : (e : Event) (t : Transaction) → Deed e t None (record { item = Some 
 ignores e t = stays_same e t [] tt
 
 -- a fault to whoever is known
-faults_always : (e : Event) (t : Transaction) (o : Option Epr) (id : Option (List ℕ)) (name : List ℕ) → AllByRecursion (Always e t) (to_each o (λ to. fault_post (Some to) id name))
-faults_always e t o id name = to_each_all (Always e t) o (λ to. fault_post (Some to) id name) (λ to f how at. is_no_notice tt)
+faults_always : (e : Event) (t : Transaction) (o : Option Epr) (id : Option (List ℕ)) (drawn : Fault) → AllByRecursion (Always e t) (to_each o (λ to. fault_post (Some to) id drawn))
+faults_always e t o id drawn = to_each_all (Always e t) o (λ to. fault_post (Some to) id drawn) (λ to f how at. is_no_notice tt)
 
-faults : (e : Event) (t : Transaction) (o : Option Epr) (id : Option (List ℕ)) (name : List ℕ) → AllByRecursion (IsPosted e t How.Idles t.seats) (to_each o (λ to. fault_post (Some to) id name))
-faults e t o id name = to_each_all (IsPosted e t How.Idles t.seats) o (λ to. fault_post (Some to) id name) (λ to f. is_no_notice tt)
+faults : (e : Event) (t : Transaction) (o : Option Epr) (id : Option (List ℕ)) (drawn : Fault) → AllByRecursion (IsPosted e t How.Idles t.seats) (to_each o (λ to. fault_post (Some to) id drawn))
+faults e t o id drawn = to_each_all (IsPosted e t How.Idles t.seats) o (λ to. fault_post (Some to) id drawn) (λ to f. is_no_notice tt)
 
 -- A seat that hasn't answered keeps the transaction undecided.
 has_answered : (kind : Kind) (seats : List Enlistment) (number : ℕ) (s : Enlistment) → find_seat number kind seats ≡ Some s → answered kind seats ≡ true → is_unanswered kind s ≡ false
@@ -529,10 +532,10 @@ link_act_does e m from i kind s t n acts.SendPrepared u said k h = stays_sent e 
 link_act_does e m from i kind s t n acts.SendCommitted u said (k, c) h =
     stays_same e t _ (left_link e m from kind s t notices.Committed u k (subst (λ x. SuperiorSaid kind x e t) c said))
 link_act_does e m from i kind s t n acts.SendAborted u said k h = stays_same e t _ (left_link e m from kind s t notices.Aborted u k tt)
-link_act_does e m from i kind s t n acts.FaultInvalidState u said k h = stays_same e t _ (faults e t (stored_or (link_of kind s).coordinator from) i invalid_state)
+link_act_does e m from i kind s t n acts.FaultInvalidState u said k h = stays_same e t _ (faults e t (stored_or (link_of kind s).coordinator from) i InvalidState)
 link_act_does e m from i kind s t n acts.FaultInvalidStateAndAbort u said k h =
     aborts e t m (Faulted kind) _ (may_abort t.phase kind s (known t s u h.linked).0 k)
-    (begins e t _ (faults_always e t (stored_or (link_of kind s).coordinator from) i invalid_state) h)
+    (begins e t _ (faults_always e t (stored_or (link_of kind s).coordinator from) i InvalidState) h)
 link_act_does e m from i kind s t n acts.Gather u said k h =
     go_volatile_does e t m (begin (under (asked kind s) t)) (may_abort t.phase kind s (known t s u h.linked).0 k) (link_asks e kind s t u h)
 link_act_does e m from i kind s t n acts.Commit u said (k, c) h =

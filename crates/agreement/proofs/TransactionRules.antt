@@ -18,7 +18,8 @@ use Rattle.at_base.specs.declared.outs.Ending.{Ending}
 use Rattle.at_base.specs.declared.outs.Ending.TheVariants as endings
 use Rattle.at_tables.specs.declared.cells.State.{State}
 use Rattle.at_tables.specs.declared.cells.State.TheVariants as states
-use Rattle.at_tables.specs.Names.{is_kind, is_state}
+use Rattle.at_tables.specs.Names.{is_state}
+use Rattle.at_base.specs.Names.{is_kind}
 use Rattle.at_model.specs.Book.{Completion, Enlistment, Phase, Superior, Transaction}
 use Rattle.at_model.specs.Moves.{Moving, Change, Decision, Goes, posts, effect, become, stays, forgotten}
 use Rattle.at_model.specs.Seats.{answered, all_left, completion_in, ending, ending_of, in_phase, in_state, initiator_posts, is_of, is_open, is_prepared_durable, link_in, link_of, moved, notices_to, prepared, send_each}

@@ -2,6 +2,7 @@
 -- (WS-AtomicTransaction 1.2, section 3.2), and what is left of it.
 use Rattle.std.specs.Prelude.{ℕ, List, [], ◌∷◌, ◌+◌, Option, Some, None, Bool, true, false, ◌≡◌, ◌⊎◌}
 use Rattle.std.specs.List.{AllByRecursion}
+use Rattle.at_base.specs.declared.fault.Fault.TheVariants.{InvalidState, UnknownTransaction}
 use Rattle.at_base.specs.declared.epr.Epr.{Epr}
 use Rattle.at_base.specs.declared.notice.Kind.{Kind}
 use Rattle.at_base.specs.declared.notice.Vote.{Vote}
@@ -24,8 +25,8 @@ use Rattle.at_base.specs.declared.outs.Told.{Told}
 use Rattle.at_base.specs.declared.outs.Told.TheVariants as tellings
 use Rattle.at_base.specs.declared.outs.Effect.TheVariants as effects
 use Rattle.at_model.specs.Book.{Activity, Book, Progress}
-use Rattle.at_model.specs.Addresses.{create_id, register_id}
-use Rattle.at_model.specs.Posts.{fault_post, notice_post, stored_or, to_each, invalid_state, unknown_transaction}
+use Rattle.endpoints.specs.Addresses.{create_id, register_id}
+use Rattle.at_model.specs.Posts.{fault_post, notice_post, stored_or, to_each}
 use Rattle.at_model.specs.Moves.{Change, Decision}
 use Rattle.at_model.specs.Arrivals.{relates_to}
 use Rattle.at_model.specs.Activities.{activity_target, completion_register, is_begun, work_post}
@@ -72,7 +73,7 @@ pub data ActivityIdles (m : Moment) (e : Event) (a : Activity) (left : Activity)
   rests : left ≡ a → ps ≡ [] → ActivityIdles m e a left ps
   -- a Committed came before it asked for one
   misled : (came : CameToActivity e a (messages.Notice notices.Committed)) → a.progress ≡ Progress.Active → left ≡ a
-      → ps ≡ to_each (stored_or a.coordinator came.arrived.from) (λ to. fault_post (Some to) came.arrived.id invalid_state) → ActivityIdles m e a left ps
+      → ps ≡ to_each (stored_or a.coordinator came.arrived.from) (λ to. fault_post (Some to) came.arrived.id InvalidState) → ActivityIdles m e a left ps
   -- its context came: begun, it registers for Completion
   created : (context : Context) (came : CameToActivity e a (messages.CreateResponse context)) → relates_to came.arrived.relates (create_id m.base (activity_target a)) ≡ true
       → a.progress ≡ Progress.Creating → is_begun a ≡ true → left ≡ record a { progress = Progress.Registering; context = Some context; sent = Some m.now }
@@ -112,7 +113,7 @@ pub data ActivityTells (m : Moment) (e : Event) (a : Activity) (what : Told) : T
   unregistered : (name : List ℕ) (came : CameToActivity e a (messages.Fault name)) → relates_to came.arrived.relates (register_id m.base (activity_target a)) ≡ true
       → a.progress ≡ Progress.Registering → what ≡ tellings.Refused → ActivityTells m e a what
   -- the coordinator knows the transaction no more
-  unknown : (n : Notice) → CameToActivity e a (messages.Fault unknown_transaction) → a.progress ≡ Progress.Completing n → what ≡ tellings.Unknown → ActivityTells m e a what
+  unknown : (n : Notice) → CameToActivity e a (messages.Fault UnknownTransaction) → a.progress ≡ Progress.Completing n → what ≡ tellings.Unknown → ActivityTells m e a what
   -- its time was over before it was registered
   expired : e ≡ events.Due (items.Activity a.id) → is_begun a ≡ true → (a.progress ≡ Progress.Creating) ⊎ (a.progress ≡ Progress.Registering)
       → has_come m.now a.deadline ≡ true → what ≡ tellings.Unknown → ActivityTells m e a what

@@ -2,6 +2,7 @@
 -- which effect and which messages, and what is left of it.
 use Rattle.std.specs.Prelude.{ℕ, List, [], ◌∷◌, Option, Some, None, Bool, true, ◌≡◌, ◌⊎◌}
 use Rattle.std.specs.List.{AllByRecursion}
+use Rattle.at_base.specs.declared.fault.Fault.TheVariants.{InvalidState, UnknownTransaction}
 use Rattle.at_base.specs.declared.epr.Epr.{Epr}
 use Rattle.at_base.specs.declared.notice.Kind.{Kind}
 use Rattle.at_base.specs.declared.notice.Kind.TheVariants as kinds
@@ -22,7 +23,7 @@ use Rattle.at_base.specs.declared.outs.Post.{Post}
 use Rattle.at_base.specs.declared.outs.Ending.TheVariants as endings
 use Rattle.at_tables.specs.declared.cells.State.TheVariants as states
 use Rattle.at_model.specs.Book.{Book, Leaf, WorkRequest}
-use Rattle.at_model.specs.Posts.{fault_post, notice_post, reply_post, stored_or, to_each, unknown_transaction, invalid_state}
+use Rattle.at_model.specs.Posts.{fault_post, notice_post, reply_post, stored_or, to_each}
 use Rattle.at_model.specs.Moves.{Change, Decision}
 use Rattle.at_model.specs.Leaves.{answers_leaf, leaf_ended, leaf_register, leaf_target}
 use Rattle.at_model.specs.Due.{has_come}
@@ -87,7 +88,7 @@ pub data LeafAborts (m : Moment) (e : Event) (l : Leaf) (ps : List Post) : Type 
   asked : (came : Notified e l notices.Rollback) → ps ≡ to_each (stored_or l.coordinator came.arrived.from) (λ to. leaf_notice_to m l to notices.Aborted) → LeafAborts m e l ps
   -- a Commit came, too early
   misled : (came : Notified e l notices.Commit)
-      → ps ≡ to_each (stored_or l.coordinator came.arrived.from) (λ to. fault_post (Some to) came.arrived.id invalid_state) → LeafAborts m e l ps
+      → ps ≡ to_each (stored_or l.coordinator came.arrived.from) (λ to. fault_post (Some to) came.arrived.id InvalidState) → LeafAborts m e l ps
   -- a Prepare came: it votes Aborted, or its vote Prepared isn't recorded
   unprepared : (to : Epr) → Notified e l notices.Prepare → l.state ≡ states.Active → (l.vote ≡ votes.Aborted) ⊎ ((l.vote ≡ votes.Prepared) × (l.kind ≡ kinds.Durable))
       → l.coordinator ≡ Some to → ps ≡ leaf_notice_to m l to notices.Aborted ∷ [] → LeafAborts m e l ps
@@ -114,7 +115,7 @@ pub data LeafDeed (m : Moment) (e : Event) (l : Leaf) (entry : Option Record) (c
   leaves : (to : Epr) → Notified e l notices.Prepare → l.state ≡ states.Active → l.vote ≡ votes.ReadOnly → l.coordinator ≡ Some to → entry ≡ None → c.item ≡ None
       → c.effects ≡ [] → c.posts ≡ leaf_notice_to m l to notices.ReadOnly ∷ [] → LeafDeed m e l entry c
   -- its coordinator knows it no more
-  dropped : CameTo e l (messages.Fault unknown_transaction) → l.kind ≡ kinds.Volatile → entry ≡ None → c.item ≡ None → c.effects ≡ [] → c.posts ≡ [] → LeafDeed m e l entry c
+  dropped : CameTo e l (messages.Fault UnknownTransaction) → l.kind ≡ kinds.Volatile → entry ≡ None → c.item ≡ None → c.effects ≡ [] → c.posts ≡ [] → LeafDeed m e l entry c
   -- it commits on a Commit, where it is durable behind its record
   commits : (to : Epr) → Notified e l notices.Commit → l.state ≡ states.PreparedSuccess → l.coordinator ≡ Some to → entry ≡ for_durable l.kind (records.LeafCommitted l.id)
       → c.item ≡ None → c.effects ≡ leaf_ended l endings.Committed ∷ [] → c.posts ≡ leaf_notice_to m l to notices.Committed ∷ [] → LeafDeed m e l entry c

@@ -3,7 +3,7 @@ use Rattle.std.specs.Prelude.{ℕ, Some, ◌^◌, ◌≡◌, ◌<◌, ◌≤◌}
 use Rattle.at_base.specs.IdText.{IsId}
 use Rattle.at_base.specs.declared.target.Target.{Target}
 use Rattle.at_base.specs.declared.target.Target.TheVariants as targets
-use Rattle.at_model.specs.Addresses.{endpoint_of}
+use Rattle.endpoints.specs.Addresses.{endpoint_of}
 use Rattle.at_model.specs.World.{new_nodes, place_of, Hosts, HaveOwnAddresses, IsNumber}
 
 -- Its numbers are those that a path can name: an id's from 1 up to below 2^32, a seat's from 1 up to below 2^16.

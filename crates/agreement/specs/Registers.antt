@@ -12,7 +12,7 @@ use Rattle.at_base.specs.declared.target.Target.TheVariants as targets
 use Rattle.at_base.specs.declared.record.Record.{Record}
 use Rattle.at_base.specs.declared.outs.Post.{Post}
 use Rattle.at_model.specs.Book.{Book}
-use Rattle.at_model.specs.Addresses.{endpoint_of, protocol_of, completion_protocol}
+use Rattle.endpoints.specs.Addresses.{endpoint_of, protocol_of, completion_protocol}
 use Rattle.at_model.specs.Posts.{register_post}
 use Rattle.at_model.specs.Recovery.{last_incarnation}
 use Rattle.at_model.specs.World.{Node, Posted, World, WorldEvent, nth, run_of, Hosts, HaveOwnAddresses}

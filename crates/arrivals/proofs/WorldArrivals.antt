@@ -9,8 +9,9 @@ use Rattle.at_base.specs.declared.epr.Reply.TheVariants as replies
 use Rattle.at_base.specs.declared.event.Arrived.{Arrived}
 use Rattle.at_base.specs.declared.outs.Post.{Post}
 use Rattle.at_base.specs.declared.target.Target.{Target}
-use Rattle.at_model.specs.Addresses.{after_prefix, target_of}
-use Rattle.at_model.specs.World.{arrival_of, decoded, decoded_at, reply_of as model_reply_of, takes, target_at}
+use Rattle.endpoints.specs.Addresses.{after_prefix, target_of, target_at}
+use Rattle.at_model.specs.World.{arrival_of, decoded, decoded_at, reply_of as model_reply_of}
+use Rattle.endpoints.specs.Forms.{takes}
 use Rattle.addressing.specs.Endpoints.{is_anonymous, is_nobody, reply_of}
 use Rattle.addressing.specs.PostAddresses.{path_in}
 use Rattle.wire_msgs.specs.Targets.{target_at as wire_target_at}

@@ -10,7 +10,7 @@ use Rattle.at_base.specs.declared.message.Message.{Message}
 use Rattle.at_base.specs.declared.message.Message.TheVariants as messages
 use Rattle.at_base.specs.declared.outs.Post.{Post}
 use Rattle.at_base.specs.declared.target.Target.{Target}
-use Rattle.at_model.specs.Addresses.{target_of}
+use Rattle.endpoints.specs.Addresses.{target_of}
 use Rattle.at_model.specs.World.{Hosts, IsNumber}
 use Rattle.addressing.specs.Endpoints.{is_anonymous, is_nobody}
 use Rattle.wire_msgs.specs.declared.decode.Arrival.{Arrival}

@@ -1,2 +1,3 @@
 mod IdText
+mod Names
 mod Numbers

@@ -3,6 +3,7 @@
 
 pub mod epr;
 pub mod event;
+pub mod fault;
 pub mod id;
 pub mod limits;
 pub mod message;

@@ -11,7 +11,8 @@ use Rattle.at_base.specs.declared.event.Moment.{Moment}
 use Rattle.at_base.specs.declared.outs.Post.{Post}
 use Rattle.at_base.specs.declared.outs.Ending.TheVariants as endings
 use Rattle.at_tables.specs.declared.cells.State.TheVariants as states
-use Rattle.at_tables.specs.Names.{is_kind, is_state}
+use Rattle.at_tables.specs.Names.{is_state}
+use Rattle.at_base.specs.Names.{is_kind}
 use Rattle.at_model.specs.Book.{Transaction, Link, Superior, Phase}
 use Rattle.at_model.specs.Posts.{notice_post, stored_or, to_each}
 use Rattle.at_model.specs.Moves.{Moving, Change, posts, effect, become, stays, forgotten}

@@ -1,5 +1,7 @@
 -- Activities: what an initiator runs, and how it is told the outcome.
 use Rattle.std.specs.Prelude.{ℕ, List, [], ◌∷◌, ◌++◌, Option, Some, None, Bool, true, false, nat_eq, ◌+◌, if◌then◌else◌, bytes_eq, codes}
+use Rattle.at_base.specs.declared.fault.Fault.TheVariants.{InvalidState, UnknownTransaction}
+use Rattle.at_base.specs.Names.{fault_name}
 use Rattle.at_base.specs.Numbers.{Numbers}
 use Rattle.at_base.specs.declared.epr.Epr.{Epr}
 use Rattle.at_base.specs.declared.notice.Kind.{Kind}
@@ -23,8 +25,8 @@ use Rattle.at_tables.specs.declared.cells.Act.TheVariants as acts
 use Rattle.at_tables.specs.declared.cells.Cell.{Cell}
 use Rattle.at_tables.specs.Tables.{initiator_of}
 use Rattle.at_model.specs.Book.{Activity, Progress, is_id}
-use Rattle.at_model.specs.Addresses.{create_id, register_id, work_id, completion_protocol, atomic, without_slash}
-use Rattle.at_model.specs.Posts.{notice_post, fault_post, request_post, register_post, stored_or, to_each, invalid_state, unknown_transaction}
+use Rattle.endpoints.specs.Addresses.{create_id, register_id, work_id, completion_protocol, atomic, without_slash}
+use Rattle.at_model.specs.Posts.{notice_post, fault_post, request_post, register_post, stored_or, to_each}
 use Rattle.at_model.specs.Moves.{Change, Decision, Goes, begin, post, posts, effect, stays, forgotten, ignored}
 use Rattle.at_model.specs.Arrivals.{relates_to}
 use Rattle.at_model.specs.Create.{deadline_of}
@@ -52,7 +54,7 @@ unfoldable pub activity_act : Moment → Option Epr → Option (List ℕ) → Ac
 activity_act m from id a acts.TellCommitted = told tellings.Committed a
 activity_act m from id a acts.TellAborted = told tellings.Aborted a
 activity_act m from id a acts.FaultInvalidState =
-    Goes (stays (posts (to_each (stored_or a.coordinator from) (λ to. fault_post (Some to) id invalid_state)) (begin a)))
+    Goes (stays (posts (to_each (stored_or a.coordinator from) (λ to. fault_post (Some to) id InvalidState)) (begin a)))
 activity_act m from id a other = ignored a
 
 unfoldable pub activity_notice : Moment → Option Epr → Option (List ℕ) → Activity → Option Cell → Decision Activity
@@ -94,7 +96,7 @@ activity_fault m relates name a Progress.Registering =
     if relates_to relates (register_id m.base (activity_target a)) then told tellings.Refused a else ignored a
 activity_fault m relates name a Progress.Active = ignored a
 activity_fault m relates name a (Progress.Completing n) =
-    if bytes_eq name unknown_transaction then told tellings.Unknown a else ignored a
+    if bytes_eq name (fault_name UnknownTransaction) then told tellings.Unknown a else ignored a
 
 -- A message at an activity.
 unfoldable pub on_activity : Moment → Arrived → Activity → Message → Decision Activity

@@ -1,5 +1,6 @@
 -- What a message does at a transaction: at one of its seats, at one of its links, or at its completion seat.
 use Rattle.std.specs.Prelude.{ℕ, List, [], ◌∷◌, ◌++◌, Option, Some, None, Bool, false, ◌&&◌, ◌||◌, if◌then◌else◌, bytes_eq}
+use Rattle.at_base.specs.declared.fault.Fault.TheVariants.{CannotCreateContext, InvalidState, UnknownTransaction}
 use Rattle.at_base.specs.declared.epr.Epr.{Epr}
 use Rattle.at_base.specs.declared.epr.Reply.{Reply}
 use Rattle.at_base.specs.declared.epr.Reply.TheVariants as replies
@@ -23,8 +24,8 @@ use Rattle.at_tables.specs.declared.cells.Cell.{Cell}
 use Rattle.at_tables.specs.Names.{is_state}
 use Rattle.at_tables.specs.Tables.{coordinator_of, participant_of, completion_of}
 use Rattle.at_model.specs.Book.{Transaction, Enlistment, Completion, Superior, Request, Phase}
-use Rattle.at_model.specs.Addresses.{endpoint_of, register_id, atomic}
-use Rattle.at_model.specs.Posts.{notice_post, stranger_post, fault_post, reply_post, stored_or, to_each, invalid_state, cannot_create, unknown_transaction}
+use Rattle.endpoints.specs.Addresses.{endpoint_of, register_id, atomic}
+use Rattle.at_model.specs.Posts.{notice_post, stranger_post, fault_post, reply_post, stored_or, to_each}
 use Rattle.at_model.specs.Moves.{Change, Decision, Goes, Records, begin, post, posts, effect, become, stays, ignored, in_both}
 use Rattle.at_model.specs.Seats.{in_state, seat_target, seat_in, sent_now, set_link, link_of, link_in, under, ending}
 use Rattle.at_model.specs.Abort.{abort, Alone, Asked, Faulted}
@@ -50,11 +51,11 @@ seat_act m id t s acts.SendRollback =
 seat_act m id t s acts.SendCommitted = ignored t
 seat_act m id t s acts.SendAborted = ignored t
 seat_act m id t s acts.FaultUnknownTransaction =
-    Goes (stays (post (fault_post (Some s.participant) id unknown_transaction) (begin t)))
+    Goes (stays (post (fault_post (Some s.participant) id UnknownTransaction) (begin t)))
 seat_act m id t s acts.FaultInvalidState =
-    Goes (stays (post (fault_post (Some s.participant) id invalid_state) (begin t)))
+    Goes (stays (post (fault_post (Some s.participant) id InvalidState) (begin t)))
 seat_act m id t s acts.FaultInvalidStateAndAbort =
-    Goes (abort m Alone (post (fault_post (Some s.participant) id invalid_state) (begin t)))
+    Goes (abort m Alone (post (fault_post (Some s.participant) id InvalidState) (begin t)))
 seat_act m id t s acts.Leave = advance m (begin (seat_in s.number states.None t))
 seat_act m id t s acts.LeaveAndAbort = Goes (abort m Alone (begin (seat_in s.number states.None t)))
 seat_act m id t s acts.Vote = advance m (begin (seat_in s.number states.Prepared t))
@@ -101,10 +102,10 @@ link_act m from id kind s t acts.SendAborted =
 link_act m from id kind s t acts.FaultUnknownTransaction = ignored t
 link_act m from id kind s t acts.FaultInvalidState =
     Goes (stays (posts (to_each (stored_or (link_of kind s).coordinator from)
-    (λ to. fault_post (Some to) id invalid_state)) (begin t)))
+    (λ to. fault_post (Some to) id InvalidState)) (begin t)))
 link_act m from id kind s t acts.FaultInvalidStateAndAbort =
     Goes (abort m (Faulted kind)
-    (posts (to_each (stored_or (link_of kind s).coordinator from) (λ to. fault_post (Some to) id invalid_state)) (begin t)))
+    (posts (to_each (stored_or (link_of kind s).coordinator from) (λ to. fault_post (Some to) id InvalidState)) (begin t)))
 link_act m from id kind s t acts.Leave = ignored t
 link_act m from id kind s t acts.LeaveAndAbort = ignored t
 link_act m from id kind s t acts.Vote = ignored t
@@ -128,9 +129,9 @@ unfoldable pub completion_act : Moment → Option Epr → Option (List ℕ) → 
 completion_act m from id c t acts.SendCommitted =
     Goes (stays (posts (to_each from (λ to. notice_post m.base (targets.Completion t.id) to notices.Committed)) (begin t)))
 completion_act m from id c t acts.FaultUnknownTransaction =
-    Goes (stays (post (fault_post (Some c.initiator) id unknown_transaction) (begin t)))
+    Goes (stays (post (fault_post (Some c.initiator) id UnknownTransaction) (begin t)))
 completion_act m from id c t acts.FaultInvalidState =
-    Goes (stays (post (fault_post (Some c.initiator) id invalid_state) (begin t)))
+    Goes (stays (post (fault_post (Some c.initiator) id InvalidState) (begin t)))
 completion_act m from id c t acts.Complete =
     go_volatile m (begin (record t { completion = Some (record c { state = states.Completing }) }))
 completion_act m from id c t acts.AbortAndSendAborted = Goes (abort m Alone (begin t))
@@ -201,7 +202,7 @@ context_of base t expires = record {
 abbrev pub refused_at : Reply → Option (List ℕ) → List Post
 refused_at replies.Anonymous id = []
 refused_at replies.Nobody id = []
-refused_at (replies.At to) id = fault_post (Some to) id cannot_create ∷ []
+refused_at (replies.At to) id = fault_post (Some to) id CannotCreateContext ∷ []
 
 abbrev pub refused_request : Request → List Post
 refused_request r = refused_at r.fault r.id

@@ -1,5 +1,6 @@
 -- CreateCoordinationContext: roots and subordinates.
 use Rattle.std.specs.Prelude.{ℕ, List, [], ◌∷◌, ◌++◌, Option, Some, None, nat_lt, ◌&&◌, ◌+◌, if◌then◌else◌, bytes_eq, option_map, codes}
+use Rattle.at_base.specs.declared.fault.Fault.TheVariants.{CannotCreateContext}
 use Rattle.at_base.specs.Numbers.{Numbers}
 use Rattle.at_base.specs.IdText.{id_text}
 use Rattle.at_base.specs.declared.epr.Epr.{Epr}
@@ -18,8 +19,8 @@ use Rattle.at_base.specs.declared.outs.Out.{Out}
 use Rattle.at_base.specs.declared.outs.Out.TheVariants as outs
 use Rattle.at_tables.specs.declared.cells.State.TheVariants as states
 use Rattle.at_model.specs.Book.{Transaction, Link, Phase}
-use Rattle.at_model.specs.Addresses.{protocol_of, atomic, or_else}
-use Rattle.at_model.specs.Posts.{register_post, accepted, replied, faulted, cannot_create}
+use Rattle.endpoints.specs.Addresses.{protocol_of, atomic, or_else}
+use Rattle.at_model.specs.Posts.{register_post, accepted, replied, faulted}
 use Rattle.at_model.specs.Arrivals.{context_of}
 
 -- when something expires that came now
@@ -91,7 +92,7 @@ pub record Creation : Type 0 where
   pub outs : List Out
 
 abbrev pub refuse_create : Arrived → Creation
-refuse_create a = record { transaction = None; outs = faulted a.fault a.id cannot_create }
+refuse_create a = record { transaction = None; outs = faulted a.fault a.id CannotCreateContext }
 
 abbrev pub create_root : Moment → Numbers → Arrived → Create → Creation
 create_root m id a c = record {

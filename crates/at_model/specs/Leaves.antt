@@ -1,5 +1,7 @@
 -- Leaves: participants that do work of their own (WS-AtomicTransaction 1.2, section 3.3).
 use Rattle.std.specs.Prelude.{ℕ, List, [], ◌∷◌, ◌++◌, Option, Some, None, Bool, nat_lt, ◌&&◌, if◌then◌else◌, bytes_eq}
+use Rattle.at_base.specs.declared.fault.Fault.TheVariants.{InvalidState, UnknownTransaction}
+use Rattle.at_base.specs.Names.{fault_name, is_kind}
 use Rattle.at_base.specs.Numbers.{Numbers}
 use Rattle.at_base.specs.declared.epr.Epr.{Epr}
 use Rattle.at_base.specs.declared.epr.Reply.{Reply}
@@ -29,11 +31,11 @@ use Rattle.at_tables.specs.declared.cells.State.TheVariants as states
 use Rattle.at_tables.specs.declared.cells.Act.{Act}
 use Rattle.at_tables.specs.declared.cells.Act.TheVariants as acts
 use Rattle.at_tables.specs.declared.cells.Cell.{Cell}
-use Rattle.at_tables.specs.Names.{is_kind, is_state}
+use Rattle.at_tables.specs.Names.{is_state}
 use Rattle.at_tables.specs.Tables.{participant_of}
 use Rattle.at_model.specs.Book.{Leaf, WorkRequest}
-use Rattle.at_model.specs.Addresses.{register_id, protocol_of}
-use Rattle.at_model.specs.Posts.{notice_post, fault_post, reply_post, register_post, stored_or, to_each, accepted, replied, invalid_state, unknown_transaction}
+use Rattle.endpoints.specs.Addresses.{register_id, protocol_of}
+use Rattle.at_model.specs.Posts.{notice_post, fault_post, reply_post, register_post, stored_or, to_each, accepted, replied}
 use Rattle.at_model.specs.Moves.{Change, Decision, Goes, Records, begin, posts, effect, stays, forgotten, ignored}
 use Rattle.at_model.specs.Arrivals.{relates_to}
 use Rattle.at_model.specs.Create.{deadline_of}
@@ -50,7 +52,7 @@ abbrev pub leaf_says : Moment → Option Epr → Notice → Leaf → List Post
 leaf_says m from n l = to_each (stored_or l.coordinator from) (λ to. notice_post m.base (leaf_target l) to n)
 
 abbrev pub leaf_faults : Option Epr → Option (List ℕ) → Leaf → List Post
-leaf_faults from id l = to_each (stored_or l.coordinator from) (λ to. fault_post (Some to) id invalid_state)
+leaf_faults from id l = to_each (stored_or l.coordinator from) (λ to. fault_post (Some to) id InvalidState)
 
 -- The answer to the leaf's Work.
 abbrev pub work_answer : Message → Option WorkRequest → List Post
@@ -132,7 +134,7 @@ leaf_refused l =
 
 -- UnknownTransaction drops a volatile leaf without an effect (WS-AtomicTransaction 1.2, section 7.2).
 abbrev pub drops_leaf : Leaf → List ℕ → Bool
-drops_leaf l name = is_kind l.kind kinds.Volatile && bytes_eq name unknown_transaction
+drops_leaf l name = is_kind l.kind kinds.Volatile && bytes_eq name (fault_name UnknownTransaction)
 
 -- A fault that answers the leaf's Register refuses the work; every other fault is ignored, but for UnknownTransaction.
 unfoldable pub leaf_fault : Moment → Option (List ℕ) → List ℕ → Leaf → Decision Leaf

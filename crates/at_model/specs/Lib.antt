@@ -1,6 +1,5 @@
 pub mod Abort
 pub mod Activities
-pub mod Addresses
 pub mod Arrivals
 pub mod Book
 pub mod Create

@@ -1,18 +1,20 @@
 -- The messages that a node sends, and where they go (WS-Addressing 1.0 Core, section 3; this project's profile of which
 -- headers each message has).
 use Rattle.std.specs.Prelude.{ℕ, List, [], ◌∷◌, Option, Some, None, codes}
+use Rattle.at_base.specs.Names.{fault_name}
 use Rattle.at_base.specs.declared.epr.Epr.{Epr}
 use Rattle.at_base.specs.declared.epr.Reply.{Reply}
 use Rattle.at_base.specs.declared.epr.Reply.TheVariants as replies
 use Rattle.at_base.specs.declared.notice.Notice.{Notice}
 use Rattle.at_base.specs.declared.notice.Notice.TheVariants as notices
+use Rattle.at_base.specs.declared.fault.Fault.{Fault}
 use Rattle.at_base.specs.declared.message.Message.{Message}
 use Rattle.at_base.specs.declared.message.Message.TheVariants as messages
 use Rattle.at_base.specs.declared.target.Target.{Target}
 use Rattle.at_base.specs.declared.outs.Post.{Post}
 use Rattle.at_base.specs.declared.outs.Out.{Out}
 use Rattle.at_base.specs.declared.outs.Out.TheVariants as outs
-use Rattle.at_model.specs.Addresses.{endpoint_of, register_id}
+use Rattle.endpoints.specs.Addresses.{endpoint_of, register_id}
 
 -- From stands on Prepare, Commit, Rollback and Prepared: these may draw an answer where nothing is known.
 abbrev pub from_on : Notice → Epr → Option Epr
@@ -49,15 +51,15 @@ stranger_post base own to n = record {
 }
 
 -- A fault, related to the message that drew it where that had an id.
-abbrev pub fault_post : Option Epr → Option (List ℕ) → List ℕ → Post
-fault_post to relates name = record {
+abbrev pub fault_post : Option Epr → Option (List ℕ) → Fault → Post
+fault_post to relates fault = record {
   own = None;
   to = to;
   id = None;
   relates = relates;
   from = None;
   reply = None;
-  message = messages.Fault name;
+  message = messages.Fault (fault_name fault);
 }
 
 -- An answer to a request.
@@ -112,26 +114,7 @@ replied replies.Nobody relates m = accepted
 replied (replies.At to) relates m = outs.Answer 202 None ∷ outs.Post (reply_post (Some to) relates m) ∷ []
 
 -- A fault that answers a request.
-abbrev pub faulted : Reply → Option (List ℕ) → List ℕ → List Out
-faulted replies.Anonymous relates name = outs.Answer 500 (Some (fault_post None relates name)) ∷ []
-faulted replies.Nobody relates name = accepted
-faulted (replies.At to) relates name = outs.Answer 202 None ∷ outs.Post (fault_post (Some to) relates name) ∷ []
-
--- The faults that are written (WS-Coordination 1.2, section 4; WS-AtomicTransaction 1.2, section 7).
-abbrev pub invalid_state : List ℕ
-invalid_state = codes "InvalidState"
-
-abbrev pub invalid_protocol : List ℕ
-invalid_protocol = codes "InvalidProtocol"
-
-abbrev pub invalid_parameters : List ℕ
-invalid_parameters = codes "InvalidParameters"
-
-abbrev pub cannot_create : List ℕ
-cannot_create = codes "CannotCreateContext"
-
-abbrev pub cannot_register : List ℕ
-cannot_register = codes "CannotRegisterParticipant"
-
-abbrev pub unknown_transaction : List ℕ
-unknown_transaction = codes "UnknownTransaction"
+abbrev pub faulted : Reply → Option (List ℕ) → Fault → List Out
+faulted replies.Anonymous relates fault = outs.Answer 500 (Some (fault_post None relates fault)) ∷ []
+faulted replies.Nobody relates fault = accepted
+faulted (replies.At to) relates fault = outs.Answer 202 None ∷ outs.Post (fault_post (Some to) relates fault) ∷ []

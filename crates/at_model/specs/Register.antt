@@ -1,5 +1,6 @@
 -- Register: which participants a transaction accepts, and what it answers.
 use Rattle.std.specs.Prelude.{ℕ, List, [], ◌∷◌, ◌++◌, Option, Some, None, Bool, true, false, not, nat_lt, ◌&&◌, ◌+◌, if◌then◌else◌, bytes_eq, length, find, option_map, is_none}
+use Rattle.at_base.specs.declared.fault.Fault.TheVariants.{CannotRegisterParticipant, InvalidParameters, InvalidProtocol}
 use Rattle.at_base.specs.Numbers.{Numbers}
 use Rattle.at_base.specs.declared.epr.Epr.{Epr}
 use Rattle.at_base.specs.declared.limits.TheConstants.{MOST_SEATS}
@@ -14,10 +15,10 @@ use Rattle.at_base.specs.declared.event.Moment.{Moment}
 use Rattle.at_base.specs.declared.outs.Out.{Out}
 use Rattle.at_base.specs.declared.outs.Out.TheVariants as outs
 use Rattle.at_tables.specs.declared.cells.State.TheVariants as states
-use Rattle.at_tables.specs.Names.{is_kind}
+use Rattle.at_base.specs.Names.{is_kind}
 use Rattle.at_model.specs.Book.{Transaction, Enlistment, Completion, Phase, is_epr}
-use Rattle.at_model.specs.Addresses.{endpoint_of, protocol_of, completion_protocol}
-use Rattle.at_model.specs.Posts.{notice_post, replied, faulted, invalid_protocol, invalid_parameters, cannot_register}
+use Rattle.endpoints.specs.Addresses.{endpoint_of, protocol_of, completion_protocol}
+use Rattle.at_model.specs.Posts.{notice_post, replied, faulted}
 use Rattle.at_model.specs.Seats.{seat_target}
 
 -- The protocol that a Register names: Some kind, or Some None for Completion; none where it is unknown.
@@ -112,11 +113,11 @@ abbrev pub refuse_register : Arrived → Transaction → List ℕ → Registrati
 refuse_register a t name = record { transaction = t; outs = faulted a.fault a.id name }
 
 unfoldable pub register_new : Moment → Arrived → Register → Transaction → Option (Option Kind) → Registration
-register_new m a r t None = refuse_register a t invalid_protocol
+register_new m a r t None = refuse_register a t InvalidProtocol
 register_new m a r t (Some kind) =
-    if not a.postable then refuse_register a t invalid_parameters
+    if not a.postable then refuse_register a t InvalidParameters
     else if may_register t kind then accept m a t r.participant kind
-    else refuse_register a t cannot_register
+    else refuse_register a t CannotRegisterParticipant
 
 -- A repeated Register, of an endpoint for a protocol that it has a seat for, gets the same answer in every phase and
 -- changes nothing.
@@ -134,5 +135,5 @@ on_register m a r t = register_again m a r t (protocol_named r.protocol) (held_s
 
 -- Register where no such transaction is known.
 unfoldable pub register_unknown : Arrived → Register → Option (Option Kind) → List Out
-register_unknown a r None = faulted a.fault a.id invalid_protocol
-register_unknown a r (Some kind) = faulted a.fault a.id (if a.postable then cannot_register else invalid_parameters)
+register_unknown a r None = faulted a.fault a.id InvalidProtocol
+register_unknown a r (Some kind) = faulted a.fault a.id (if a.postable then CannotRegisterParticipant else InvalidParameters)

@@ -15,7 +15,8 @@ use Rattle.at_base.specs.declared.outs.Effect.{Effect}
 use Rattle.at_base.specs.declared.outs.Effect.TheVariants as effects
 use Rattle.at_tables.specs.declared.cells.State.{State}
 use Rattle.at_tables.specs.declared.cells.State.TheVariants as states
-use Rattle.at_tables.specs.Names.{is_kind, is_state}
+use Rattle.at_tables.specs.Names.{is_state}
+use Rattle.at_base.specs.Names.{is_kind}
 use Rattle.at_model.specs.Book.{Transaction, Enlistment, Completion, Link, Superior, Phase}
 use Rattle.at_model.specs.Posts.{notice_post}
 use Rattle.at_model.specs.Moves.{Moving, posts, become}

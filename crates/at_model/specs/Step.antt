@@ -1,5 +1,6 @@
 -- A step: what an event does to a book, what it records, sends and brings about.
 use Rattle.std.specs.Prelude.{ℕ, List, [], ◌∷◌, ◌++◌, Option, Some, None, Bool, true, false, not, nat_eq, nat_lt, ◌&&◌, ◌||◌, ◌+◌, if◌then◌else◌, length, map, filter, find, max, is_none}
+use Rattle.at_base.specs.declared.fault.Fault.TheVariants.{InvalidState, UnknownTransaction}
 use Rattle.at_base.specs.Numbers.{Numbers}
 use Rattle.at_base.specs.declared.epr.Epr.{Epr}
 use Rattle.at_base.specs.declared.notice.Kind.{Kind}
@@ -26,11 +27,11 @@ use Rattle.at_tables.specs.declared.cells.State.TheVariants as states
 use Rattle.at_tables.specs.declared.cells.Act.{Act}
 use Rattle.at_tables.specs.declared.cells.Act.TheVariants as acts
 use Rattle.at_tables.specs.declared.cells.Cell.{Cell}
-use Rattle.at_tables.specs.Names.{is_kind}
+use Rattle.at_base.specs.Names.{is_kind}
 use Rattle.at_tables.specs.Tables.{coordinator_of, participant_of, completion_of, initiator_of}
 use Rattle.at_model.specs.Book.{Book, Transaction, Leaf, Activity, Enlistment, Completion, Superior, Phase, is_id, find_by, put_by, transaction_id, leaf_id, activity_id, next_id, last_counter}
 use Rattle.at_model.specs.Outcomes.{is_kept, noted}
-use Rattle.at_model.specs.Posts.{notice_post, stranger_post, fault_post, to_each, accepted, invalid_state, unknown_transaction}
+use Rattle.at_model.specs.Posts.{notice_post, stranger_post, fault_post, to_each, accepted}
 use Rattle.at_model.specs.Moves.{Change, Decision, Goes, Records}
 use Rattle.at_model.specs.Arrivals.{on_link, on_seat, on_completion, with_answer}
 use Rattle.at_model.specs.Register.{protocol_named, Registration, on_register, register_unknown}
@@ -140,7 +141,7 @@ abbrev pub stranger_act : List ℕ → Target → Option Epr → Option (List �
 stranger_act base own from id acts.SendRollback = to_each from (λ to. stranger_post base own to notices.Rollback)
 stranger_act base own from id acts.SendCommitted = to_each from (λ to. stranger_post base own to notices.Committed)
 stranger_act base own from id acts.SendAborted = to_each from (λ to. stranger_post base own to notices.Aborted)
-stranger_act base own from id acts.FaultUnknownTransaction = to_each from (λ to. fault_post (Some to) id unknown_transaction)
+stranger_act base own from id acts.FaultUnknownTransaction = to_each from (λ to. fault_post (Some to) id UnknownTransaction)
 stranger_act base own from id other = []
 
 abbrev pub stranger_cell : List ℕ → Target → Option Epr → Option (List ℕ) → Option Cell → List Post
@@ -184,7 +185,7 @@ registration_plan b now a other t = nothing b now
 -- message's From.
 abbrev pub outcome_act : List ℕ → Target → Option Epr → Option (List ℕ) → Act → List Post
 outcome_act base own from id acts.SendCommitted = to_each from (λ to. notice_post base own to notices.Committed)
-outcome_act base own from id acts.FaultInvalidState = to_each from (λ to. fault_post (Some to) id invalid_state)
+outcome_act base own from id acts.FaultInvalidState = to_each from (λ to. fault_post (Some to) id InvalidState)
 outcome_act base own from id other = []
 
 abbrev pub outcome_cell : List ℕ → Target → Option Epr → Option (List ℕ) → Option Cell → List Post

@@ -1,5 +1,6 @@
 -- Schedules, and what a report shows of a world.
 use Rattle.std.specs.Prelude.{ℕ, List, [], ◌∷◌, Option, Some, None, true, false, nat_eq, ◌+◌, ◌-◌, if◌then◌else◌, length, map, codes, drop}
+use Rattle.at_base.specs.Names.{notice_name}
 use Rattle.at_base.specs.Numbers.{Numbers}
 use Rattle.at_base.specs.declared.epr.Epr.{Epr}
 use Rattle.at_base.specs.declared.notice.Kind.{Kind}
@@ -11,7 +12,7 @@ use Rattle.at_base.specs.declared.message.Message.TheVariants as messages
 use Rattle.at_base.specs.declared.event.Local.{Local}
 use Rattle.at_base.specs.declared.event.Local.TheVariants as locals
 use Rattle.at_base.specs.declared.outs.Effect.{Effect}
-use Rattle.at_model.specs.Addresses.{slash}
+use Rattle.endpoints.specs.Addresses.{slash}
 use Rattle.at_model.specs.Activities.{service}
 use Rattle.at_model.specs.World.{Posted, Happened, World, example_base, WorldEvent, Deliver, Tick, Turn, Ask, Up}
 
@@ -25,15 +26,6 @@ pub record Line : Type 0 where
 
 abbrev pub line : ℕ → ℕ → List ℕ → List ℕ → Line
 line i j name path = record { sender = i; receiver = j; name = name; path = path }
-
-abbrev pub notice_name : Notice → List ℕ
-notice_name notices.Prepare = codes "Prepare"
-notice_name notices.Commit = codes "Commit"
-notice_name notices.Rollback = codes "Rollback"
-notice_name notices.Prepared = codes "Prepared"
-notice_name notices.ReadOnly = codes "ReadOnly"
-notice_name notices.Aborted = codes "Aborted"
-notice_name notices.Committed = codes "Committed"
 
 abbrev pub message_name : Message → List ℕ
 message_name (messages.Create c) = codes "CreateCoordinationContext"

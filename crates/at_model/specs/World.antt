@@ -22,9 +22,10 @@ use Rattle.at_base.specs.declared.outs.Out.TheVariants as outs
 use Rattle.at_base.specs.declared.outs.Ending.TheVariants as endings
 use Rattle.at_base.specs.declared.outs.Effect.{Effect}
 use Rattle.at_tables.specs.declared.cells.State.TheVariants as states
-use Rattle.at_tables.specs.Names.{is_state, is_notice}
+use Rattle.at_tables.specs.Names.{is_state}
 use Rattle.at_model.specs.Book.{Book, Transaction, Leaf, Enlistment, Completion, last_counter}
-use Rattle.at_model.specs.Addresses.{target_of, after_prefix}
+use Rattle.endpoints.specs.Addresses.{target_at, target_of}
+use Rattle.endpoints.specs.Forms.{takes}
 use Rattle.at_model.specs.Seats.{ending}
 use Rattle.at_model.specs.Leaves.{leaf_ended}
 use Rattle.at_model.specs.Due.{may_expire}
@@ -108,10 +109,6 @@ abbrev pub put_nth : {A : Type 0} → ℕ → A → List A → List A
 put_nth n y [] = []
 put_nth n y (x ∷ xs) = if nat_eq n 1 then y ∷ xs else x ∷ put_nth (n - 1) y xs
 
--- the target on a node that an address names
-abbrev pub target_at : List ℕ → List ℕ → Option Target
-target_at base address = option_and_then target_of (after_prefix base address)
-
 abbrev pub place_or : ℕ → Option Target → Option (ℕ × Target) → Option (ℕ × Target)
 place_or n None rest = rest
 place_or n (Some target) rest = Some (n, target)
@@ -137,28 +134,6 @@ who_at (Some p) = option_map (λ id. record { node = p.0; id = id }) (item_at p.
 
 abbrev pub who_of : List Node → Epr → Option Who
 who_of nodes epr = who_at (place_of 1 nodes epr.address)
-
--- What decoding a message gives. Whether the target takes a message of this kind.
-abbrev pub takes : Target → Message → Bool
-takes targets.Activation (messages.Create c) = true
-takes (targets.Registration id) (messages.Register r) = true
-takes (targets.Completion id) (messages.Notice n) = is_notice n notices.Commit || is_notice n notices.Rollback
-takes (targets.Completion id) (messages.Fault name) = true
-takes (targets.Coordinator id seat) (messages.Notice n) =
-    is_notice n notices.Prepared || (is_notice n notices.ReadOnly || (is_notice n notices.Aborted || is_notice n notices.Committed))
-takes (targets.Coordinator id seat) (messages.Fault name) = true
-takes (targets.Participant id kind) (messages.Notice n) =
-    is_notice n notices.Prepare || (is_notice n notices.Commit || is_notice n notices.Rollback)
-takes (targets.Participant id kind) (messages.RegisterResponse epr) = true
-takes (targets.Participant id kind) (messages.Fault name) = true
-takes (targets.Initiator id) (messages.CreateResponse context) = true
-takes (targets.Initiator id) (messages.RegisterResponse epr) = true
-takes (targets.Initiator id) (messages.Notice n) = is_notice n notices.Committed || is_notice n notices.Aborted
-takes (targets.Initiator id) messages.WorkDone = true
-takes (targets.Initiator id) messages.WorkRefused = true
-takes (targets.Initiator id) (messages.Fault name) = true
-takes targets.Work (messages.Work w) = true
-takes target m = false
 
 -- Without ReplyTo the reply goes back on the connection (WS-Addressing 1.0 Core, section 3.3).
 abbrev pub reply_of : Option Reply → Reply

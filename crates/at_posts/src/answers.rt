@@ -3,6 +3,7 @@
 
 ghost use Rattle.std.specs.Prelude.{◌≡◌, ◌∷◌, [], IfOk, Some, None};
 ghost use Rattle.at_base.specs.declared.outs.Out.TheVariants as out;
+ghost use Rattle.at_model.specs.Arrivals.{relates_to};
 ghost use Rattle.at_model.specs.Posts.{accepted, replied, faulted};
 
 use crate::posts::{fault_post, push_fault, push_reply, reply_post};
@@ -65,5 +66,15 @@ pub fn faulted(
             push_fault(alloc, &mut outs, to, id, name)?;
             Ok(outs)
         }
+    }
+}
+
+/// Whether a message answers the request of this MessageID (WS-Addressing 1.0 Core, section 3.3).
+pub fn relates_to(relates: &Option<Text>, id: &Text) -> bool
+    ensures { result ≡ relates_to relates.now id.now }
+{
+    match relates {
+        Some(text) => text.as_str() == id.as_str(),
+        None => false,
     }
 }

@@ -2,10 +2,10 @@
 
 ghost use Rattle.std.specs.Prelude.{◌≡◌, ◌++◌, ◌∷◌, [], IfOk, OnOk, Some, option_copied};
 ghost use Rattle.at_base.specs.declared.outs.Out.TheVariants as out;
-ghost use Rattle.at_model.specs.Addresses.{endpoint_of};
+ghost use Rattle.endpoints.specs.Addresses.{endpoint_of};
 ghost use Rattle.at_model.specs.Posts.{from_on, notice_post, stranger_post, fault_post, reply_post, request_post, register_post, stored_or};
 
-use crate::addresses::{endpoint_of, register_id};
+use endpoints::addresses::{endpoint_of, register_id};
 use at_base::epr::{Epr, Reply};
 use at_base::message::{Message, Register, cloned_option};
 use at_base::notice::Notice;

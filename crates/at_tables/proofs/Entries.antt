@@ -9,7 +9,8 @@ use Rattle.at_tables.specs.declared.cells.Act.{Act}
 use Rattle.at_tables.specs.declared.cells.Cell.{Cell}
 use Rattle.at_tables.specs.declared.cells.State.TheVariants as states
 use Rattle.at_tables.specs.declared.cells.Act.TheVariants as acts
-use Rattle.at_tables.specs.Names.{is_state, is_notice, is_act}
+use Rattle.at_tables.specs.Names.{is_state, is_act}
+use Rattle.at_base.specs.Names.{is_notice}
 use Rattle.at_tables.specs.Tables.{coordinator_of, participant_of, completion_of, initiator_of}
 use Rattle.at_tables.specs.Laws.{NoMessageCommits, VotesAtPreparing, CommittedEnds, DecisionStands, CommitAfterDecision, PresumesAbort, NothingBegins, PreparedAfterVote, CommitsWhenTold, StaysInDoubt, CommittedWhenDone, CommitIsFinal, ToldCommittedWhenAsked, CompletesOnce, OutcomeStays, FaultKeepsState}
 

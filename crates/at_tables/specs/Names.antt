@@ -1,26 +1,9 @@
--- Which state, message, kind and act one is: their places in the order of their declaration.
+-- Which state and act one is: their places in the order of their declaration.
 use Rattle.std.specs.Prelude.{ℕ, Bool, nat_eq}
-use Rattle.at_base.specs.declared.notice.Kind.{Kind}
-use Rattle.at_base.specs.declared.notice.Notice.{Notice}
-use Rattle.at_base.specs.declared.notice.Kind.TheVariants as kinds
-use Rattle.at_base.specs.declared.notice.Notice.TheVariants as notices
 use Rattle.at_tables.specs.declared.cells.State.{State}
 use Rattle.at_tables.specs.declared.cells.Act.{Act}
 use Rattle.at_tables.specs.declared.cells.State.TheVariants as states
 use Rattle.at_tables.specs.declared.cells.Act.TheVariants as acts
-
-abbrev pub kind_place : Kind → ℕ
-kind_place kinds.Volatile = 0
-kind_place kinds.Durable = 1
-
-abbrev pub notice_place : Notice → ℕ
-notice_place notices.Prepare = 0
-notice_place notices.Commit = 1
-notice_place notices.Rollback = 2
-notice_place notices.Prepared = 3
-notice_place notices.ReadOnly = 4
-notice_place notices.Aborted = 5
-notice_place notices.Committed = 6
 
 abbrev pub state_place : State → ℕ
 state_place states.None = 0
@@ -54,12 +37,6 @@ act_place acts.RecordAndSendAborted = 15
 act_place acts.Complete = 16
 act_place acts.TellCommitted = 17
 act_place acts.TellAborted = 18
-
-abbrev pub is_kind : Kind → Kind → Bool
-is_kind a b = nat_eq (kind_place a) (kind_place b)
-
-abbrev pub is_notice : Notice → Notice → Bool
-is_notice a b = nat_eq (notice_place a) (notice_place b)
 
 abbrev pub is_state : State → State → Bool
 is_state a b = nat_eq (state_place a) (state_place b)

@@ -9,25 +9,13 @@ use at_base::record::{Record, Seats};
 use completion_at::requests::Refusal;
 use std::alloc::{AllocError, Global};
 
-fn notice_name(notice: Notice) -> &'static str {
-    match notice {
-        Notice::Prepare => "Prepare",
-        Notice::Commit => "Commit",
-        Notice::Rollback => "Rollback",
-        Notice::Prepared => "Prepared",
-        Notice::ReadOnly => "ReadOnly",
-        Notice::Aborted => "Aborted",
-        Notice::Committed => "Committed",
-    }
-}
-
 fn message_name(message: &Message) -> &str {
     match message {
         Message::Create(_) => "CreateCoordinationContext",
         Message::CreateResponse(_) => "CreateCoordinationContextResponse",
         Message::Register(_) => "Register",
         Message::RegisterResponse(_) => "RegisterResponse",
-        Message::Notice(notice) => notice_name(*notice),
+        Message::Notice(notice) => notice.name(),
         Message::Work(_) => "Work",
         Message::WorkDone => "WorkDone",
         Message::WorkRefused => "WorkRefused",
@@ -115,13 +103,6 @@ fn told_name(told: Told) -> &'static str {
     }
 }
 
-fn letter(kind: Kind) -> &'static str {
-    match kind {
-        Kind::Volatile => "v",
-        Kind::Durable => "d",
-    }
-}
-
 /// The line of an effect at this node.
 pub fn effect_line(alloc: Global, node: usize, effect: &Effect) -> Result<String, AllocError> {
     match effect {
@@ -130,7 +111,7 @@ pub fn effect_line(alloc: Global, node: usize, effect: &Effect) -> Result<String
         }
         Effect::Sub { id, what } => format!(in alloc; "sub {node} {id} {}", ending_name(*what)),
         Effect::Leaf { id, kind, what } => {
-            format!(in alloc; "leaf {node} {id} {} {}", letter(*kind), ending_name(*what))
+            format!(in alloc; "leaf {node} {id} {} {}", kind.letter(), ending_name(*what))
         }
         Effect::Told { id, what } => format!(in alloc; "told {node} {id} {}", told_name(*what)),
     }

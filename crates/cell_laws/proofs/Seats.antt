@@ -9,7 +9,8 @@ use Rattle.at_tables.specs.declared.cells.State.{State}
 use Rattle.at_tables.specs.declared.cells.State.TheVariants as states
 use Rattle.at_tables.specs.declared.cells.Act.{Act}
 use Rattle.at_tables.specs.declared.cells.Act.TheVariants as acts
-use Rattle.at_tables.specs.Names.{is_kind, is_state}
+use Rattle.at_tables.specs.Names.{is_state}
+use Rattle.at_base.specs.Names.{is_kind}
 use Rattle.settling.proofs.Entries.{state_is}
 use Rattle.at_model.specs.Book.{Transaction, Enlistment}
 use Rattle.at_model.specs.Moves.{Change, Moving}

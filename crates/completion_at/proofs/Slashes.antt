@@ -1,7 +1,7 @@
 -- A base without a slash at its end.
 use Rattle.std.proofs.Common.{ℕ, List, [], ◌∷◌, ◌++◌, Bool, true, false, ◌≡◌, ◌≢◌, refl, ap, nat_eq, if◌then◌else◌}
 use Rattle.std.proofs.lemmas.Bool.{eqb-true}
-use Rattle.at_model.specs.Addresses.{without_slash}
+use Rattle.endpoints.specs.Addresses.{without_slash}
 
 -- one slash is cut
 pub cut : (xs : List ℕ) → without_slash (xs ++ 47 ∷ []) ≡ xs

@@ -17,7 +17,7 @@ use Rattle.at_base.specs.declared.message.Work.{Work}
 use Rattle.at_base.specs.declared.outs.Post.{Post}
 use Rattle.at_base.specs.declared.outs.Out.TheVariants as outs
 use Rattle.at_model.specs.Book.{Activity, find_by, activity_id}
-use Rattle.at_model.specs.Addresses.{work_id}
+use Rattle.endpoints.specs.Addresses.{work_id}
 use Rattle.at_model.specs.Posts.{accepted, request_post}
 use Rattle.at_model.specs.Moves.{Change, Goes}
 use Rattle.at_model.specs.Activities.{activity_target, service, Refusal, Full, Spent, Beginning, on_activity, on_begin, on_interpose, on_ask, on_complete}

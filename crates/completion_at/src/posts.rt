@@ -1,9 +1,10 @@
 //! What an activity sends again, and the faults that it sends.
 
 ghost use Rattle.std.specs.Prelude.{◌≡◌, ◌++◌, ◌∷◌, [], OnOk, Some, map};
+ghost use Rattle.at_base.specs.declared.fault.Fault.TheVariants.{InvalidState};
 ghost use Rattle.at_base.specs.declared.outs.Out.TheVariants as out;
 ghost use Rattle.at_model.specs.Activities.{activity_target, completion_register, complete_posts};
-ghost use Rattle.at_model.specs.Posts.{fault_post, stored_or, to_each, invalid_state};
+ghost use Rattle.at_model.specs.Posts.{fault_post, stored_or, to_each};
 
 use crate::activity::Activity;
 use at_base::epr::Epr;
@@ -12,7 +13,8 @@ use at_base::notice::Notice;
 use at_base::outs::OutList;
 use at_base::target::Target;
 use at_base::text::Text;
-use at_posts::names::{completion_protocol, invalid_state};
+use at_base::fault::Fault;
+use endpoints::uris::completion_protocol;
 use at_posts::posts::{push_fault, push_notice, push_register, stored_or};
 use std::alloc::{AllocError, Global};
 
@@ -70,10 +72,10 @@ pub fn push_invalid_state(
         (outs.new
         ≡ outs.old
         ++ map out.Post
-        (to_each (stored_or activity.now.coordinator from.now) (λ to. fault_post (Some to) id.now invalid_state))) }
+        (to_each (stored_or activity.now.coordinator from.now) (λ to. fault_post (Some to) id.now InvalidState))) }
 {
     match stored_or(&activity.coordinator, from) {
-        Some(to) => push_fault(alloc, outs, to, id, invalid_state()),
+        Some(to) => push_fault(alloc, outs, to, id, Fault::InvalidState),
         None => Ok(()),
     }
 }

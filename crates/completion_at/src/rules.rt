@@ -1,14 +1,16 @@
 //! What a message does to one activity (WS-AtomicTransaction 1.2, sections 3.2 and 10).
 
 ghost use Rattle.std.specs.Prelude.{◌≡◌, ◌++◌, ◌∷◌, IfOk, [], Some, None, map, if◌then◌else◌, bytes_eq};
+ghost use Rattle.at_base.specs.declared.fault.Fault.TheVariants.{InvalidState, UnknownTransaction};
+ghost use Rattle.at_base.specs.Names.{fault_name};
 ghost use Rattle.at_base.specs.declared.outs.Out.TheVariants as outcome;
 ghost use Rattle.at_base.specs.declared.outs.Told.TheVariants as tellings;
 ghost use Rattle.at_model.specs.Activities.{activity_target, activity_state, is_begun, told, activity_act, activity_notice, completion_register, with_context, activity_created, activity_registered, activity_fault, on_activity};
-ghost use Rattle.at_model.specs.Addresses.{create_id, register_id};
+ghost use Rattle.endpoints.specs.Addresses.{create_id, register_id};
 ghost use Rattle.at_model.specs.Arrivals.{relates_to};
 ghost use Rattle.at_model.specs.Book.{Progress as Stage};
 ghost use Rattle.at_model.specs.Moves.{begin, ignored, stays, Goes};
-ghost use Rattle.at_model.specs.Posts.{fault_post, stored_or, to_each, invalid_state, unknown_transaction};
+ghost use Rattle.at_model.specs.Posts.{fault_post, stored_or, to_each};
 ghost use Rattle.at_tables.specs.Tables.{initiator_of};
 ghost use Rattle.by_id.specs.Plans.{changed, decided, unchanged};
 ghost use Rattle.completion_at.specs.Branches.{kept, ended};
@@ -22,7 +24,8 @@ use at_base::message::{Context, Message};
 use at_base::notice::Notice;
 use at_base::outs::{Effect, Effects, OutList, Outs, Told};
 use at_base::text::Text;
-use at_posts::addresses::{create_id, register_id, relates_to};
+use at_posts::answers::relates_to;
+use endpoints::addresses::{create_id, register_id};
 use at_tables::cells::{Act, State, initiator_cell};
 use by_id::list::{Alteration, is_same};
 use by_id::plan::{Branch, Plan};
@@ -136,7 +139,7 @@ fn faults(
         ≡ kept activity.now
         (outs
         ++ map outcome.Post
-        (to_each (stored_or activity.now.coordinator from.now) (λ to. fault_post (Some to) id.now invalid_state)))) }
+        (to_each (stored_or activity.now.coordinator from.now) (λ to. fault_post (Some to) id.now InvalidState)))) }
 {
     push_invalid_state(alloc, &mut outs, from, id, activity)?;
     let same = activity.clone()?;
@@ -409,7 +412,7 @@ fn told_if(
 
 /// Whether a fault says that the transaction is unknown (WS-AtomicTransaction 1.2, section 7.2).
 fn is_unknown(name: &Text) -> bool
-    ensures { result ≡ bytes_eq name.now unknown_transaction }
+    ensures { result ≡ bytes_eq name.now (fault_name UnknownTransaction) }
 {
     name.as_str() == "UnknownTransaction"
 }

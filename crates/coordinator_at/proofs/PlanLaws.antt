@@ -17,7 +17,7 @@ use Rattle.at_base.specs.declared.event.Item.{Item}
 use Rattle.at_base.specs.declared.event.Item.TheVariants as items
 use Rattle.at_base.specs.declared.event.Event.TheVariants as events
 use Rattle.at_base.specs.declared.outs.Out.{Out}
-use Rattle.at_model.specs.Addresses.{atomic}
+use Rattle.endpoints.specs.Addresses.{atomic}
 use Rattle.at_model.specs.Arrivals.{on_link, on_seat, on_completion, with_answer}
 use Rattle.at_model.specs.Book.{Book, Transaction, Leaf, Enlistment, Completion, Superior, next_id}
 use Rattle.at_model.specs.Create.{Creation, create_in, create_under, on_create}

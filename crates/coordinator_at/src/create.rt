@@ -1,9 +1,10 @@
 //! CreateCoordinationContext: new transactions, roots and subordinates (WS-Coordination 1.2, section 3.1).
 
 ghost use Rattle.std.specs.Prelude.{◌≡◌, ◌++◌, ◌∷◌, ◌&&◌, IfOk, OnOk, [], nat_lt, bytes_eq};
+ghost use Rattle.at_base.specs.declared.fault.Fault.TheVariants.{CannotCreateContext};
 ghost use Rattle.at_base.specs.declared.message.Message.TheVariants as messages;
 ghost use Rattle.at_base.specs.declared.outs.Out.TheVariants as outcome;
-ghost use Rattle.at_model.specs.Addresses.{atomic};
+ghost use Rattle.endpoints.specs.Addresses.{atomic};
 ghost use Rattle.at_model.specs.Arrivals.{context_of};
 ghost use Rattle.at_model.specs.Create.{identifier_of, new_root, expires_under, new_link, new_subordinate, link_register, subordinate_posts, refuse_create, create_root, create_under, create_in, on_create};
 ghost use Rattle.at_model.specs.Posts.{accepted, replied};
@@ -20,7 +21,8 @@ use at_base::outs::{Effects, OutList, Outs};
 use at_base::target::Target;
 use at_base::text::Text;
 use at_posts::answers::{accepted, faulted, replied};
-use at_posts::names::{atomic, cannot_create, protocol_of};
+use at_base::fault::Fault;
+use endpoints::uris::{atomic, protocol_of};
 use at_posts::posts::push_register;
 use at_tables::cells::State;
 use by_id::list::{Alteration, MOST};
@@ -78,7 +80,7 @@ fn added(alloc: Global, transaction: Transaction, outs: OutList) -> Plan<Transac
 fn refuse_create(alloc: Global, arrived: &Arrived) -> Result<Plan<Transaction>, AllocError>
     ensures { IfOk result (λ plan. plan ≡ created (refuse_create arrived.now)) }
 {
-    let outs = faulted(alloc, &arrived.fault, &arrived.id, cannot_create())?;
+    let outs = faulted(alloc, &arrived.fault, &arrived.id, Fault::CannotCreateContext)?;
     Ok(Plan::Plain(unchanged(alloc, outs)))
 }
 

@@ -14,7 +14,7 @@ use at_base::id::Id;
 use at_base::notice::{Kind, Notice};
 use at_base::target::Target;
 use at_posts::list::PostList;
-use at_posts::names::protocol_of;
+use endpoints::uris::protocol_of;
 use at_posts::posts::register_post;
 use at_tables::cells::State;
 use by_id::moves::{Change, Decision, Moving};

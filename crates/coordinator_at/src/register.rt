@@ -1,11 +1,11 @@
 //! Register: which participants a transaction accepts, and what it answers (WS-Coordination 1.2, section 3.2).
 
 ghost use Rattle.std.specs.Prelude.{◌≡◌, ◌<◌, ◌++◌, ◌&&◌, if◌then◌else◌, IfOk, OnOk, Some, None, find, length, nat_lt, option_copied, option_map, is_none};
+ghost use Rattle.at_base.specs.declared.fault.Fault.TheVariants.{CannotRegisterParticipant, InvalidParameters, InvalidProtocol};
 ghost use Rattle.at_base.specs.declared.limits.TheConstants.{MOST_SEATS};
 ghost use Rattle.at_model.specs.Book.{is_epr};
-ghost use Rattle.at_model.specs.Posts.{invalid_protocol, invalid_parameters, cannot_register};
 ghost use Rattle.at_model.specs.Register.{protocol_named, seat_endpoint, completion_endpoint, seat_for, accepts, may_complete, may_register, registered_reply, is_late, new_seat, late_prepare, with_seat, accept_seat, accept, refuse_register, register_new, register_again, held_seat, on_register, register_unknown};
-ghost use Rattle.at_tables.specs.Names.{is_kind};
+ghost use Rattle.at_base.specs.Names.{is_kind};
 ghost use Rattle.at_tables.specs.declared.cells.State.TheVariants as states;
 ghost use Rattle.coordinator_at.specs.Registrations.{given_anew, registered};
 ghost use Rattle.transaction_at.specs.PhaseNames.{phase_of};
@@ -15,16 +15,14 @@ use at_base::event::{Arrived, Moment};
 use at_base::id::Id;
 use at_base::limits::MOST_SEATS;
 use at_base::message::{Message, Register};
-use at_base::notice::{Kind, Notice};
 use at_base::outs::{Effects, OutList, Outs};
 use at_base::target::Target;
 use at_base::text::Text;
-use at_posts::addresses::endpoint_of;
+use endpoints::addresses::endpoint_of;
 use at_posts::answers::{faulted, replied};
-use at_posts::names::{
-    cannot_register, completion_protocol, invalid_parameters, invalid_protocol, is_kind,
-    protocol_of,
-};
+use at_base::fault::Fault;
+use endpoints::uris::{completion_protocol, protocol_of};
+use at_base::notice::{Kind, Notice, is_kind};
 use at_posts::posts::push_notice;
 use at_tables::cells::State;
 use by_id::list::Alteration;
@@ -409,10 +407,10 @@ fn register_new(
         (register_new moment.entry.now arrived.now register.now transaction.now protocol)) }
 {
     let Some(protocol) = protocol else {
-        return refuse_register(alloc, arrived, transaction, invalid_protocol());
+        return refuse_register(alloc, arrived, transaction, Fault::InvalidProtocol);
     };
     if !arrived.postable {
-        return refuse_register(alloc, arrived, transaction, invalid_parameters());
+        return refuse_register(alloc, arrived, transaction, Fault::InvalidParameters);
     }
     if may_register(transaction, protocol) {
         accept(
@@ -424,7 +422,7 @@ fn register_new(
             protocol,
         )
     } else {
-        refuse_register(alloc, arrived, transaction, cannot_register())
+        refuse_register(alloc, arrived, transaction, Fault::CannotRegisterParticipant)
     }
 }
 
@@ -483,16 +481,16 @@ pub fn on_register(
 /// The fault that a Register draws where no such transaction is known.
 fn refusal_of(arrived: &Arrived, protocol: Option<Protocol>) -> &'static str
     ensures { result.now
-        ≡ if is_none protocol then invalid_protocol
-        else if arrived.now.postable then cannot_register else invalid_parameters }
+        ≡ if is_none protocol then InvalidProtocol
+        else if arrived.now.postable then CannotRegisterParticipant else InvalidParameters }
 {
     match protocol {
-        None => invalid_protocol(),
+        None => Fault::InvalidProtocol,
         Some(_) => {
             if arrived.postable {
-                cannot_register()
+                Fault::CannotRegisterParticipant
             } else {
-                invalid_parameters()
+                Fault::InvalidParameters
             }
         }
     }

@@ -2,11 +2,9 @@
 #![tactic(auto)]
 
 ghost use Rattle.std.specs.Prelude.{◌≡◌};
-ghost use Rattle.at_model.specs.Addresses.{kind_letter};
 ghost use Rattle.completion_at.specs.Names.{refusal_of};
 ghost use Rattle.effect_words.specs.Words.{ending_word, refusal_word, told_word};
 
-use at_base::notice::Kind;
 use at_base::outs::{Ending, Told};
 use completion_at::requests::Refusal;
 
@@ -41,15 +39,5 @@ pub fn refusal_word(refusal: Refusal) -> &'static str
         Refusal::Full => "full",
         Refusal::Stale => "state",
         Refusal::Spent => "spent",
-    }
-}
-
-/// A leaf's kind.
-pub fn kind_letter(kind: Kind) -> &'static str
-    ensures { result.now ≡ kind_letter kind }
-{
-    match kind {
-        Kind::Durable => "d",
-        Kind::Volatile => "v",
     }
 }

@@ -11,7 +11,7 @@ use Rattle.at_base.specs.declared.event.Moment.{Moment}
 use Rattle.at_base.specs.declared.outs.Post.{Post}
 use Rattle.at_base.specs.declared.target.Target.{Target}
 use Rattle.at_base.specs.declared.target.Target.TheVariants as targets
-use Rattle.at_model.specs.Addresses.{endpoint_of}
+use Rattle.endpoints.specs.Addresses.{endpoint_of}
 use Rattle.at_model.specs.Book.{Book, Transaction, find_by, transaction_id}
 use Rattle.at_model.specs.Register.{Registration}
 use Rattle.at_model.specs.Seats.{seat_target}

@@ -13,7 +13,9 @@ use Rattle.at_base.specs.declared.target.Target.{Target}
 use Rattle.at_model.specs.Book.{Book}
 use Rattle.at_model.specs.Recovery.{last_incarnation}
 use Rattle.at_model.specs.Step.{plan, step}
-use Rattle.at_model.specs.World.{Node, Posted, World, arrival_of, decoded, decoded_at, lost_in, new_nodes, nth, place_of, put_book, put_nth, receiver_of, reply_of, started, takes, target_at, up_after, Hosts, HaveOwnAddresses, IsNumber}
+use Rattle.at_model.specs.World.{Node, Posted, World, arrival_of, decoded, decoded_at, lost_in, new_nodes, nth, place_of, put_book, put_nth, receiver_of, reply_of, started, up_after, Hosts, HaveOwnAddresses, IsNumber}
+use Rattle.endpoints.specs.Addresses.{target_at}
+use Rattle.endpoints.specs.Forms.{takes}
 use Rattle.model_laws.specs.Agreement.{IsIn}
 use Rattle.model_laws.specs.DrawnIds.{with_entry}
 use Rattle.model_laws.specs.ReachedWorlds.{Heard, Reached, counts, stepped}

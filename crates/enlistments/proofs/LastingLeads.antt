@@ -7,7 +7,7 @@ use Rattle.at_base.specs.declared.epr.Epr.{Epr}
 use Rattle.at_base.specs.declared.notice.Kind.{Kind}
 use Rattle.at_base.specs.declared.target.Target.{Target}
 use Rattle.at_base.specs.declared.target.Target.TheVariants as targets
-use Rattle.at_model.specs.Addresses.{endpoint_of}
+use Rattle.endpoints.specs.Addresses.{endpoint_of}
 use Rattle.at_model.specs.Book.{Book, Completion, Enlistment, Transaction, find_by, is_id, put_by}
 use Rattle.at_model.specs.Seats.{seat_target}
 use Rattle.at_model.specs.World.{Node, Who, World, accepted_completion, accepted_seat, new_nodes, nth, who_at, who_of, Hosts, HaveOwnAddresses}

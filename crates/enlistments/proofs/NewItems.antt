@@ -16,7 +16,7 @@ use Rattle.at_base.specs.declared.event.Moment.{Moment}
 use Rattle.at_base.specs.declared.outs.Out.{Out}
 use Rattle.at_base.specs.declared.record.Record.{Record}
 use Rattle.at_model.specs.Activities.{on_begin, on_interpose}
-use Rattle.at_model.specs.Addresses.{atomic}
+use Rattle.endpoints.specs.Addresses.{atomic}
 use Rattle.at_model.specs.Book.{Activity, Book, Leaf, Transaction}
 use Rattle.at_model.specs.Create.{create_in, create_under, new_subordinate, on_create, refuse_create}
 use Rattle.at_model.specs.Leaves.{on_work, refuse_work, work_for}

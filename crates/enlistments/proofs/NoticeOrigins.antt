@@ -2,6 +2,7 @@
 use Rattle.std.specs.Prelude.{ℕ, List, Option, Some, None, false, is_none, ◌≡◌, refl}
 use Rattle.std.specs.List.{AllByRecursion}
 use Rattle.std.proofs.Common.{inl, inr, sym, subst, ap, ◌∙◌}
+use Rattle.at_base.specs.declared.fault.Fault.TheVariants.{InvalidState}
 use Rattle.at_base.specs.declared.epr.Epr.{Epr}
 use Rattle.at_base.specs.declared.notice.Kind.{Kind}
 use Rattle.at_base.specs.declared.notice.Notice.{Notice}
@@ -17,10 +18,10 @@ use Rattle.at_base.specs.declared.record.Record.{Record}
 use Rattle.at_base.specs.declared.target.Target.{Target}
 use Rattle.at_base.specs.declared.target.Target.TheVariants as targets
 use Rattle.at_tables.specs.declared.cells.State.TheVariants as states
-use Rattle.at_model.specs.Addresses.{endpoint_of}
+use Rattle.endpoints.specs.Addresses.{endpoint_of}
 use Rattle.at_model.specs.Book.{Activity, Book, Leaf, Superior, Transaction}
 use Rattle.at_model.specs.Moves.{Change}
-use Rattle.at_model.specs.Posts.{fault_post, from_on, invalid_state, stored_or, to_each}
+use Rattle.at_model.specs.Posts.{fault_post, from_on, stored_or, to_each}
 use Rattle.at_model.specs.Seats.{link_of, seat_target}
 use Rattle.at_model.specs.Step.{Outcome, moment_of}
 use Rattle.model_laws.proofs.DecisionLaws.{all_both}
@@ -140,7 +141,7 @@ IsNoResponse other = Unit {0}
 abbrev NoResponse : Post → Type 0
 NoResponse p = IsNoResponse p.message
 
-no_faults : (to : Option Epr) (id : Option (List ℕ)) → AllByRecursion NoResponse (to_each to (λ x. fault_post (Some x) id invalid_state))
+no_faults : (to : Option Epr) (id : Option (List ℕ)) → AllByRecursion NoResponse (to_each to (λ x. fault_post (Some x) id InvalidState))
 no_faults to id = to_each_all NoResponse to _ (λ x f. tt)
 
 -- a leaf

@@ -1,6 +1,7 @@
 -- A transaction's notifications are signed by their senders' own endpoints, and go where they should.
 use Rattle.std.specs.Prelude.{ℕ, List, [], ◌∷◌, ◌++◌, Option, Some, None, if◌then◌else◌, ◌&&◌, ◌≡◌, ◌⊎◌, refl}
 use Rattle.std.proofs.Common.{inl, inr, sym, ap, ◌∙◌}
+use Rattle.at_base.specs.declared.fault.Fault.TheVariants.{InvalidState}
 use Rattle.at_base.specs.Numbers.{Numbers}
 use Rattle.at_base.specs.declared.epr.Epr.{Epr}
 use Rattle.at_base.specs.declared.epr.Reply.{Reply}
@@ -25,12 +26,12 @@ use Rattle.at_tables.specs.Names.{is_state}
 use Rattle.at_tables.specs.Tables.{completion_of, coordinator_of, participant_of}
 use Rattle.at_model.specs.Abort.{Alone, Asked, Faulted}
 use Rattle.at_model.specs.Arrivals.{answer_left_seat, answer_request, answer_seat, asked, commit_voted, completion_act, completion_notice, context_of, is_registering, link_act, link_fault, link_notice, link_registered, on_completion, on_link, on_seat, refused_at, refused_request, relates_to, request_answered, request_left, request_of, request_stands, request_under, seat_act, seat_notice, with_answer}
-use Rattle.at_model.specs.Addresses.{register_id}
+use Rattle.endpoints.specs.Addresses.{register_id}
 use Rattle.at_model.specs.Book.{Completion, Enlistment, Link, Phase, Request, Superior, Transaction}
 use Rattle.at_model.specs.Due.{Expired, Nothing, Over, Reached, Unanswered, link_again, links_again, register_again_at, seat_again, seats_again, transaction_reached, unanswered_seat}
 use Rattle.at_model.specs.Moves.{Change, Decision, begin, ignored}
 use Rattle.at_model.specs.Phases.{upwards}
-use Rattle.at_model.specs.Posts.{fault_post, invalid_state, reply_post, stored_or, stranger_post, to_each}
+use Rattle.at_model.specs.Posts.{fault_post, reply_post, stored_or, stranger_post, to_each}
 use Rattle.at_model.specs.Seats.{in_state, link_in, link_of, seat_in, seat_target, under}
 use Rattle.model_laws.proofs.DecisionLaws.{all_if, all_join, both_say, either_left}
 use Rattle.model_laws.proofs.OtherEnds.{Anything}
@@ -107,10 +108,10 @@ link_act_signed m e a kind s t acts.SendPrepared came at said u =
 link_act_signed m e a kind s t acts.SendCommitted came at said u = stored_signed m e t kind a notices.Committed (link_of kind s).coordinator came at said (sym (ap (coordinator_at kind) u))
 link_act_signed m e a kind s t acts.SendAborted came at said u = stored_signed m e t kind a notices.Aborted (link_of kind s).coordinator came at said (sym (ap (coordinator_at kind) u))
 link_act_signed m e a kind s t acts.FaultInvalidState came at said u =
-    faults_signed m e t (targets.Participant t.id kind) (stored_or (link_of kind s).coordinator a.from) a.id invalid_state
+    faults_signed m e t (targets.Participant t.id kind) (stored_or (link_of kind s).coordinator a.from) a.id InvalidState
 link_act_signed m e a kind s t acts.FaultInvalidStateAndAbort came at said u =
     abort_signed m e t (targets.Participant t.id kind) (Faulted kind) _ tt
-    (record { above = λ k. refl; sent = faults_signed m e t (targets.Participant t.id kind) (stored_or (link_of kind s).coordinator a.from) a.id invalid_state })
+    (record { above = λ k. refl; sent = faults_signed m e t (targets.Participant t.id kind) (stored_or (link_of kind s).coordinator a.from) a.id InvalidState })
 link_act_signed m e a kind s t acts.Gather came at said u =
     go_volatile_signed m e t (targets.Participant t.id kind) (begin (under (asked kind s) t))
     (begun m e t (under (asked kind s) t) (targets.Participant t.id kind) (λ own. asked_above kind own s ∙ sym (ap (coordinator_at own) u)))

@@ -8,8 +8,7 @@ use Rattle.at_base.specs.declared.notice.Kind.{Kind}
 use Rattle.at_base.specs.declared.notice.Kind.TheVariants as kinds
 use Rattle.at_base.specs.declared.target.Target.{Target}
 use Rattle.at_base.specs.declared.target.Target.TheVariants as targets
-use Rattle.at_model.specs.Addresses.{after_prefix, behind, digits_value, id_of, number_of, or_else, seat_of, slash, split_at, target_of}
-use Rattle.at_model.specs.World.{target_at}
+use Rattle.endpoints.specs.Addresses.{after_prefix, behind, digits_value, id_of, number_of, or_else, seat_of, slash, split_at, target_of, target_at}
 use Rattle.model_laws.proofs.DecisionLaws.{IfThere}
 use Rattle.agreement.specs.Places.{HasPath}
 

@@ -18,7 +18,8 @@ use Rattle.at_base.specs.declared.target.Target.{Target}
 use Rattle.at_base.specs.declared.target.Target.TheVariants as targets
 use Rattle.at_tables.specs.declared.cells.State.{State}
 use Rattle.at_tables.specs.declared.cells.State.TheVariants as states
-use Rattle.at_tables.specs.Names.{is_kind, is_state}
+use Rattle.at_tables.specs.Names.{is_state}
+use Rattle.at_base.specs.Names.{is_kind}
 use Rattle.at_model.specs.Abort.{Alone, Asked, Faulted, Reason, abort, from_of, is_silent, link_aborted, links_aborted, until_rolled_back, without_links}
 use Rattle.at_model.specs.Book.{Completion, Enlistment, Link, Phase, Superior, Transaction}
 use Rattle.at_model.specs.Moves.{Decision, Moving, become, begin, forgotten, posts, effect, stays}

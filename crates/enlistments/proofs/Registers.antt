@@ -14,7 +14,7 @@ use Rattle.at_base.specs.declared.event.Event.{Event}
 use Rattle.at_base.specs.declared.event.Event.TheVariants as events
 use Rattle.at_base.specs.declared.target.Target.{Target}
 use Rattle.at_base.specs.declared.target.Target.TheVariants as targets
-use Rattle.at_model.specs.Addresses.{protocol_of}
+use Rattle.endpoints.specs.Addresses.{protocol_of}
 use Rattle.at_model.specs.Book.{Book}
 use Rattle.at_model.specs.Register.{protocol_named}
 use Rattle.at_model.specs.World.{Node, Posted, World, new_nodes, place_of, reply_of, Hosts, IsNumber}

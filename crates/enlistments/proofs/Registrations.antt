@@ -2,14 +2,14 @@
 use Rattle.std.specs.Prelude.{Option, Some, None, Bool, true, false, not, ◌&&◌, if◌then◌else◌, bytes_eq, find, option_map, ◌≡◌, refl}
 use Rattle.std.proofs.Common.{sym}
 use Rattle.std.proofs.lemmas.Slice.Eq.{bytes_eq-Decides}
+use Rattle.at_base.specs.declared.fault.Fault.TheVariants.{CannotRegisterParticipant, InvalidParameters, InvalidProtocol}
 use Rattle.at_base.specs.declared.epr.Epr.{Epr}
 use Rattle.at_base.specs.declared.notice.Kind.{Kind}
 use Rattle.at_base.specs.declared.message.Register.{Register}
 use Rattle.at_base.specs.declared.event.Arrived.{Arrived}
 use Rattle.at_base.specs.declared.event.Moment.{Moment}
-use Rattle.at_tables.specs.Names.{is_kind}
+use Rattle.at_base.specs.Names.{is_kind}
 use Rattle.at_model.specs.Book.{Completion, Enlistment, Transaction, is_epr}
-use Rattle.at_model.specs.Posts.{cannot_register, invalid_parameters, invalid_protocol}
 use Rattle.at_model.specs.Register.{accept, completion_endpoint, held_seat, may_register, on_register, protocol_named, register_again, register_new, registered_reply, seat_endpoint, seat_for}
 use Rattle.model_laws.proofs.DecisionLaws.{either_of, same_kind}
 use Rattle.enlistments.specs.Registrations.{Enrolls, has_completion, has_seat, refuses, takes_completion, takes_seat}
@@ -30,10 +30,10 @@ accept_enrolls m a r t None f h = takes_completion f h refl
 
 new_enrolls : (m : Moment) (a : Arrived) (r : Register) (t : Transaction) (kind : Option (Option Kind)) → protocol_named r.protocol ≡ kind → Enrolls m a r t (register_new m a r t kind)
 unfolding register_new
-new_enrolls m a r t None f = refuses invalid_protocol refl
+new_enrolls m a r t None f = refuses InvalidProtocol refl
 new_enrolls m a r t (Some kind) f =
-    either_of (Enrolls m a r t) (not a.postable) _ _ (λ e. refuses invalid_parameters refl)
-    (λ e. either_of (Enrolls m a r t) (may_register t kind) _ _ (λ h. accept_enrolls m a r t kind f h) (λ h. refuses cannot_register refl))
+    either_of (Enrolls m a r t) (not a.postable) _ _ (λ e. refuses InvalidParameters refl)
+    (λ e. either_of (Enrolls m a r t) (may_register t kind) _ _ (λ h. accept_enrolls m a r t kind f h) (λ h. refuses CannotRegisterParticipant refl))
 
 -- the seat that it has
 seat_held : (m : Moment) (a : Arrived) (r : Register) (t : Transaction) (kind : Kind) (o : Option Enlistment) (c : Epr) → protocol_named r.protocol ≡ Some (Some kind)

@@ -3,7 +3,7 @@ use Rattle.std.specs.Prelude.{ℕ, List, [], ◌∷◌, Some, Bool, true, false,
 use Rattle.std.proofs.Common.{inl, inr, sym, subst}
 use Rattle.std.proofs.lemmas.Bool.{eqb-true}
 use Rattle.at_base.specs.declared.notice.Kind.{Kind}
-use Rattle.at_tables.specs.Names.{is_kind}
+use Rattle.at_base.specs.Names.{is_kind}
 use Rattle.at_model.specs.Book.{Enlistment}
 use Rattle.at_model.specs.Step.{find_seat}
 use Rattle.model_laws.specs.Agreement.{IsIn}

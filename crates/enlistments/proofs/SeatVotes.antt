@@ -13,7 +13,7 @@ use Rattle.at_base.specs.declared.outs.Post.{Post}
 use Rattle.at_base.specs.declared.target.Seat.{Seat}
 use Rattle.at_base.specs.declared.target.Target.{Target}
 use Rattle.at_base.specs.declared.target.Target.TheVariants as targets
-use Rattle.at_model.specs.Addresses.{endpoint_of}
+use Rattle.endpoints.specs.Addresses.{endpoint_of}
 use Rattle.at_model.specs.Book.{Book, leaf_id, transaction_id}
 use Rattle.at_model.specs.Posts.{from_on}
 use Rattle.at_model.specs.Step.{plan, step}

@@ -2,6 +2,7 @@
 use Rattle.std.specs.Prelude.{ℕ, List, [], ◌∷◌, ◌++◌, Option, Some, None, Bool, true, false, nat_lt, ◌&&◌, if◌then◌else◌, bytes_eq, length, map, ◌≡◌, refl}
 use Rattle.std.specs.List.{AllByRecursion}
 use Rattle.std.proofs.Common.{inl, inr, sym, subst, ap, ◌∙◌}
+use Rattle.at_base.specs.declared.fault.Fault.{Fault}
 use Rattle.at_base.specs.Numbers.{Numbers}
 use Rattle.at_base.specs.declared.epr.Epr.{Epr}
 use Rattle.at_base.specs.declared.epr.Reply.{Reply}
@@ -29,7 +30,7 @@ use Rattle.at_base.specs.declared.target.Target.TheVariants as targets
 use Rattle.at_tables.specs.Tables.{completion_of}
 use Rattle.at_tables.specs.declared.cells.State.TheVariants as states
 use Rattle.at_model.specs.Activities.{on_begin, on_interpose}
-use Rattle.at_model.specs.Addresses.{atomic}
+use Rattle.endpoints.specs.Addresses.{atomic}
 use Rattle.at_model.specs.Book.{Activity, Book, Enlistment}
 use Rattle.at_model.specs.Create.{create_in, create_under, on_create, refuse_create}
 use Rattle.at_model.specs.Leaves.{on_work, refuse_work, work_for}
@@ -93,10 +94,10 @@ replied_silent replies.Anonymous id x h = (tt, tt)
 replied_silent replies.Nobody id x h = (tt, tt)
 replied_silent (replies.At to) id x h = (tt, (h, tt))
 
-faulted_silent : (r : Reply) (id : Option (List ℕ)) (name : List ℕ) → AllSilent (faulted r id name)
-faulted_silent replies.Anonymous id name = (tt, tt)
-faulted_silent replies.Nobody id name = (tt, tt)
-faulted_silent (replies.At to) id name = (tt, (tt, tt))
+faulted_silent : (r : Reply) (id : Option (List ℕ)) (drawn : Fault) → AllSilent (faulted r id drawn)
+faulted_silent replies.Anonymous id drawn = (tt, tt)
+faulted_silent replies.Nobody id drawn = (tt, tt)
+faulted_silent (replies.At to) id drawn = (tt, (tt, tt))
 
 either_silent : (c : Bool) (os qs : List Out) → AllSilent os → AllSilent qs → AllSilent (if c then os else qs)
 either_silent true os qs h k = h

@@ -20,7 +20,7 @@ use Rattle.at_base.specs.declared.outs.Post.{Post}
 use Rattle.at_base.specs.declared.record.Record.{Record}
 use Rattle.at_base.specs.declared.target.Target.{Target}
 use Rattle.at_base.specs.declared.target.Target.TheVariants as targets
-use Rattle.at_model.specs.Addresses.{endpoint_of}
+use Rattle.endpoints.specs.Addresses.{endpoint_of}
 use Rattle.at_model.specs.Book.{Activity, Book, Leaf, Transaction, leaf_id, next_id, put_by, transaction_id}
 use Rattle.at_model.specs.Create.{on_create}
 use Rattle.at_model.specs.Leaves.{on_work}

@@ -21,7 +21,7 @@ use Rattle.at_base.specs.declared.target.Seat.{Seat}
 use Rattle.at_base.specs.declared.target.Target.{Target}
 use Rattle.at_base.specs.declared.target.Target.TheVariants as targets
 use Rattle.at_tables.specs.declared.cells.State.TheVariants as states
-use Rattle.at_model.specs.Addresses.{endpoint_of}
+use Rattle.endpoints.specs.Addresses.{endpoint_of}
 use Rattle.at_model.specs.Book.{Book, Completion, Enlistment, Superior, Transaction}
 use Rattle.at_model.specs.Posts.{from_on, notice_post, reply_post, stranger_post}
 use Rattle.at_model.specs.Register.{completion_endpoint, is_late, new_seat, protocol_named, seat_endpoint}

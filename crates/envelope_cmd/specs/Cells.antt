@@ -2,6 +2,7 @@
 -- the first refusal.
 use Rattle.std.specs.Prelude.{ℕ, List, [], ◌++◌, Option, Some, None, Result, Ok, Err, codes, ◌≡◌}
 use Rattle.std.specs.Option.{option_map}
+use Rattle.at_base.specs.declared.fault.Fault.TheVariants.{InvalidState, UnknownTransaction}
 use Rattle.at_base.specs.declared.epr.Epr.{Epr}
 use Rattle.at_base.specs.declared.epr.Reply.TheVariants.{Nobody}
 use Rattle.at_base.specs.declared.message.Message.{Message}
@@ -11,7 +12,7 @@ use Rattle.at_base.specs.declared.notice.Notice.TheVariants as notices
 use Rattle.at_base.specs.declared.outs.Post.{Post}
 use Rattle.at_base.specs.declared.target.Target.{Target}
 use Rattle.at_base.specs.declared.target.Target.TheVariants as targets
-use Rattle.at_model.specs.Posts.{fault_post, from_on, invalid_state, unknown_transaction}
+use Rattle.at_model.specs.Posts.{fault_post, from_on}
 use Rattle.at_tables.specs.declared.cells.Act.{Act}
 use Rattle.at_tables.specs.declared.cells.Act.TheVariants as acts
 use Rattle.at_tables.specs.declared.cells.Cell.{Cell}
@@ -75,9 +76,9 @@ notice_of act = None
 
 -- the fault that an act posts
 abbrev pub fault_of : Act → Option (List ℕ)
-fault_of acts.FaultUnknownTransaction = Some unknown_transaction
-fault_of acts.FaultInvalidState = Some invalid_state
-fault_of acts.FaultInvalidStateAndAbort = Some invalid_state
+fault_of acts.FaultUnknownTransaction = Some UnknownTransaction
+fault_of acts.FaultInvalidState = Some InvalidState
+fault_of acts.FaultInvalidStateAndAbort = Some InvalidState
 fault_of act = None
 
 -- one of these to an endpoint: a notification from an own one, a fault related to the message's id

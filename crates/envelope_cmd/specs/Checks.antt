@@ -10,7 +10,8 @@ use Rattle.at_base.specs.declared.message.Work.{Work}
 use Rattle.wire_msgs.specs.declared.decode.Arrival.{Arrival}
 use Rattle.wire_msgs.specs.declared.refusal.Refusal.{Refusal}
 use Rattle.envelope_cmd.specs.Lines.{address_line, line, text_line, where_some}
-use Rattle.envelope_cmd.specs.Names.{kind_name, message_name, printed_target, vote_name}
+use Rattle.envelope_cmd.specs.Names.{message_name, printed_target}
+use Rattle.at_base.specs.Names.{kind_name, vote_name}
 use Rattle.envelope_cmd.specs.Output.{Output, accepted, refused}
 use Rattle.envelope_cmd.specs.RequestMeanings.{Says}
 use Rattle.envelope_cmd.specs.Refusals.{refusal_line}

@@ -2,6 +2,7 @@
 use Rattle.std.specs.Prelude.{ℕ, List, ◌++◌, Option, Some, None, codes, decimal, ◌≡◌, refl}
 use Rattle.std.specs.Fmt.{digits}
 use Rattle.at_base.specs.IdText.{id_text}
+use Rattle.at_base.specs.Names.{kind_name}
 use Rattle.at_base.specs.declared.message.Message.{Message}
 use Rattle.at_base.specs.declared.notice.Kind.{Kind}
 use Rattle.at_base.specs.declared.notice.Kind.TheVariants as kinds
@@ -9,18 +10,9 @@ use Rattle.at_base.specs.declared.notice.Vote.{Vote}
 use Rattle.at_base.specs.declared.notice.Vote.TheVariants as votes
 use Rattle.at_base.specs.declared.target.Target.{Target}
 use Rattle.at_base.specs.declared.target.Target.TheVariants as targets
-use Rattle.at_targets.specs.declared.form.Form.{Form}
-use Rattle.at_targets.specs.Forms.{form_of}
+use Rattle.endpoints.specs.declared.form.Form.{Form}
+use Rattle.endpoints.specs.Forms.{form_of}
 use Rattle.wire_msgs.specs.Forms.{local_of}
-
-abbrev pub kind_name : Kind → List ℕ
-kind_name kinds.Durable = codes "durable"
-kind_name kinds.Volatile = codes "volatile"
-
-abbrev pub vote_name : Vote → List ℕ
-vote_name votes.Prepared = codes "prepared"
-vote_name votes.ReadOnly = codes "readonly"
-vote_name votes.Aborted = codes "aborted"
 
 -- the local name of a body's element; a fault has none of its own (SOAP 1.1, section 4.4)
 abbrev pub form_name : Option Form → List ℕ

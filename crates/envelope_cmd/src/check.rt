@@ -4,7 +4,8 @@ ghost use Rattle.std.specs.Prelude.{◌≡◌, ◌++◌, IfOk, OnOk, Some, codes
 ghost use Rattle.std.specs.Option.{option_map};
 ghost use Rattle.envelope_cmd.specs.Checks.{IsCheckOf, check_lines, context_lines, create_lines, expires_line, header_lines, identifier_line, message_lines, register_lines, registration_line, type_line, work_lines};
 ghost use Rattle.envelope_cmd.specs.Lines.{line, where_some};
-ghost use Rattle.envelope_cmd.specs.Names.{kind_name, printed_target, vote_name};
+ghost use Rattle.envelope_cmd.specs.Names.{printed_target};
+ghost use Rattle.at_base.specs.Names.{kind_name, vote_name};
 ghost use Rattle.envelope_cmd.specs.Output.{Output, accepted, refused};
 ghost use Rattle.envelope_cmd.specs.Refusals.{refusal_line};
 

@@ -3,38 +3,18 @@
 ghost use Rattle.std.specs.Prelude.{◌≡◌, ◌++◌, OnOk, codes};
 ghost use Rattle.at_base.specs.IdText.{id_text};
 ghost use Rattle.at_base.specs.declared.target.Target.TheVariants.{Coordinator};
-ghost use Rattle.envelope_cmd.specs.Names.{kind_name, message_name, printed_target, vote_name};
+ghost use Rattle.envelope_cmd.specs.Names.{message_name, printed_target};
+ghost use Rattle.at_base.specs.Names.{kind_name, vote_name};
 
 use crate::lines::push;
 use at_base::id::Id;
 use at_base::message::Message;
 use at_base::notice::{Kind, Vote};
 use at_base::target::{Seat, Target};
-use at_targets::form::Form;
+use endpoints::form::Form;
 use itoa::Buffer;
 use std::alloc::{AllocError, Global};
 use wire_msgs::form::local_of;
-
-/// The name of a protocol's kind.
-pub fn kind_name(kind: Kind) -> &'static str
-    ensures { result.now ≡ kind_name kind }
-{
-    match kind {
-        Kind::Durable => "durable",
-        Kind::Volatile => "volatile",
-    }
-}
-
-/// The name of a vote.
-pub fn vote_name(vote: Vote) -> &'static str
-    ensures { result.now ≡ vote_name vote }
-{
-    match vote {
-        Vote::Prepared => "prepared",
-        Vote::ReadOnly => "readonly",
-        Vote::Aborted => "aborted",
-    }
-}
 
 /// The local name of the element in a message's body, or `Fault`.
 pub fn message_name(message: &Message) -> &'static str
@@ -74,7 +54,7 @@ fn push_item(alloc: Global, name: &str, id: &Id, out: &mut Vec<u8>) -> Result<()
 fn push_party(alloc: Global, kind: Kind, id: &Id, out: &mut Vec<u8>) -> Result<(), AllocError>
     ensures { OnOk result (out.new.items ≡ out.old.items ++ (kind_name kind ++ (codes " " ++ id_text id.now))) }
 {
-    push(kind_name(kind), out)?;
+    push(kind.name(), out)?;
     push(" ", out)?;
     id.put(alloc, out)
 }

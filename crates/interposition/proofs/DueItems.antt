@@ -7,7 +7,7 @@ use Rattle.at_base.specs.Numbers.{Numbers}
 use Rattle.at_base.specs.declared.event.Item.{Item}
 use Rattle.at_base.specs.declared.event.Item.TheVariants as items
 use Rattle.at_model.specs.Book.{Book, is_id, find_by, transaction_id, leaf_id, activity_id}
-use Rattle.at_model.specs.Addresses.{or_else}
+use Rattle.endpoints.specs.Addresses.{or_else}
 use Rattle.at_model.specs.Due.{transaction_due, leaf_due, activity_due}
 use Rattle.model_laws.specs.Order.{AreRising, IsRising}
 use Rattle.at_model.specs.Recovery.{is_before}

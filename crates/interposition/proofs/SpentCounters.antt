@@ -25,7 +25,7 @@ use Rattle.at_model.specs.Leaves.{on_leaf, on_work}
 use Rattle.at_model.specs.Activities.{Refusal, on_activity, on_ask, on_complete}
 use Rattle.at_model.specs.Due.{transaction_due, transaction_reached, leaf_due, leaf_reached, activity_due, activity_reached}
 use Rattle.at_model.specs.Step.{find_seat}
-use Rattle.at_tables.specs.Names.{is_kind}
+use Rattle.at_base.specs.Names.{is_kind}
 use Rattle.by_id.specs.Plans.{decided}
 use Rattle.by_id.specs.declared.plan.Plan.{Plan as Planned}
 use Rattle.participant_at.specs.LeafPlans.{leaves_plan, arrived_at as leaf_arrived_at, work_arrived, leaf_arrived, leaf_asked}

@@ -5,7 +5,7 @@ use Rattle.at_base.specs.declared.event.Event.TheVariants as events
 use Rattle.at_base.specs.declared.event.Item.{Item}
 use Rattle.at_base.specs.declared.event.Item.TheVariants as items
 use Rattle.at_model.specs.Book.{Book, transaction_id, leaf_id, activity_id}
-use Rattle.at_model.specs.Addresses.{or_else}
+use Rattle.endpoints.specs.Addresses.{or_else}
 use Rattle.at_model.specs.Due.{transaction_due, leaf_due, activity_due}
 use Rattle.model_laws.specs.Order.{IsRising}
 use Rattle.at_model.specs.Recovery.{is_before}

@@ -14,7 +14,7 @@ use at_base::notice::Notice;
 use at_base::outs::{Effects, Out, OutList, Outs};
 use at_base::target::Target;
 use at_posts::answers::accepted;
-use at_posts::names::{invalid_state, unknown_transaction};
+use at_base::fault::Fault;
 use at_posts::posts::{notice_post, push_fault, push_stranger};
 use at_tables::cells::{
     Act, Cell, State, completion_cell, coordinator_cell, initiator_cell, participant_cell,
@@ -92,7 +92,7 @@ fn push_act_to(
             outs,
             to,
             &arrived.id,
-            unknown_transaction(),
+            Fault::UnknownTransaction,
         ),
         _ => Ok(()),
     }
@@ -168,7 +168,7 @@ fn push_outcome_to(
             let post = notice_post(alloc, &moment.base, &arrived.target, to, Notice::Committed)?;
             outs.push(Out::Post(post))
         }
-        Act::FaultInvalidState => push_fault(alloc, outs, to, &arrived.id, invalid_state()),
+        Act::FaultInvalidState => push_fault(alloc, outs, to, &arrived.id, Fault::InvalidState),
         _ => Ok(()),
     }
 }

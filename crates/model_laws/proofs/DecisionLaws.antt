@@ -9,7 +9,7 @@ use Rattle.at_base.specs.declared.record.Record.{Record}
 use Rattle.at_base.specs.declared.event.Moment.{Moment}
 use Rattle.at_base.specs.declared.outs.Out.{Out}
 use Rattle.at_base.specs.declared.message.Message.TheVariants as messages
-use Rattle.at_tables.specs.Names.{is_kind}
+use Rattle.at_base.specs.Names.{is_kind}
 use Rattle.at_model.specs.Book.{Book, Transaction, Superior, Request, Phase, find_by, put_by, is_id}
 use Rattle.at_model.specs.Posts.{reply_post}
 use Rattle.at_model.specs.Seats.{under}

@@ -4,6 +4,8 @@ use Rattle.std.specs.List.{AllByRecursion}
 use Rattle.std.proofs.Common.{inl, inr, sym, subst, ap, arith, ◌∙◌}
 use Rattle.std.proofs.lemmas.Bool.{ltb-true}
 use Rattle.std.proofs.Math.Seq.{take-append_seam}
+use Rattle.at_base.specs.declared.fault.Fault.{Fault}
+use Rattle.at_base.specs.declared.fault.Fault.TheVariants.{CannotCreateContext, CannotRegisterParticipant, InvalidParameters, InvalidProtocol, InvalidState, UnknownTransaction}
 use Rattle.at_base.specs.Numbers.{Numbers}
 use Rattle.at_base.specs.declared.epr.Epr.{Epr}
 use Rattle.at_base.specs.declared.epr.Reply.{Reply}
@@ -34,13 +36,13 @@ use Rattle.at_tables.specs.declared.cells.State.TheVariants as states
 use Rattle.at_tables.specs.declared.cells.Act.{Act}
 use Rattle.at_tables.specs.declared.cells.Act.TheVariants as acts
 use Rattle.at_tables.specs.declared.cells.Cell.{Cell}
-use Rattle.at_tables.specs.Names.{is_kind}
+use Rattle.at_base.specs.Names.{is_kind}
 use Rattle.at_tables.specs.Tables.{coordinator_of, participant_of, completion_of, initiator_of}
 use Rattle.at_base.specs.declared.limits.TheConstants.{MOST_SEATS}
 use Rattle.at_base.specs.declared.outs.Post.{Post}
 use Rattle.at_model.specs.Book.{Book, Transaction, Leaf, Activity, Enlistment, Completion, Superior, is_id, find_by, put_by, transaction_id, leaf_id, next_id, last_counter}
-use Rattle.at_model.specs.Addresses.{endpoint_of, atomic}
-use Rattle.at_model.specs.Posts.{accepted, replied, stranger_post, fault_post, unknown_transaction, invalid_protocol, invalid_parameters, cannot_create, cannot_register, notice_post, invalid_state}
+use Rattle.endpoints.specs.Addresses.{endpoint_of, atomic}
+use Rattle.at_model.specs.Posts.{accepted, replied, stranger_post, fault_post, notice_post}
 use Rattle.at_model.specs.Moves.{Change, Decision, Goes}
 use Rattle.at_model.specs.Arrivals.{on_link, on_seat, on_completion, request_of, with_answer, context_of}
 use Rattle.at_model.specs.Register.{accepts, protocol_named, Registration, seat_endpoint, completion_endpoint, may_register, is_late, new_seat, late_prepare, accept, refuse_register, register_new, register_again, held_seat, on_register, register_unknown}
@@ -218,7 +220,7 @@ abbrev CreationSays : List ℕ → Numbers → Creation → Type 0
 CreationSays base id c = CreationOf base id c.transaction c.outs
 
 refused_says : (base : List ℕ) (id : Numbers) (a : Arrived) → CreationSays base id (refuse_create a)
-refused_says base id a = faulted_says NoRegister a.fault a.id cannot_create
+refused_says base id a = faulted_says NoRegister a.fault a.id CannotCreateContext
 
 under_says : (m : Moment) (id : Numbers) (a : Arrived) (c : Create) (current : Context) (r : Reply) → CreationSays m.base id (create_under m id a c current r)
 unfolding create_under
@@ -264,7 +266,7 @@ activation_gives base e s b now a (messages.Create c) h = by_next (next_id b) re
     by_next None f =
         subst (λ (x : Creation). Both (Gives base e s b) (created_plan b now x.transaction x.outs)) (sym (creation_refused (moment_of b now) (length b.transactions) a c))
         (plain_both (Gives base e s b) (still (at_time now b) (refuse_create a).outs)
-        (time_gives base e s b now (refuse_create a).outs h (faulted_says NoRegister a.fault a.id cannot_create)))
+        (time_gives base e s b now (refuse_create a).outs h (faulted_says NoRegister a.fault a.id CannotCreateContext)))
     by_next (Some id) f =
         created_gives base e s b now id _ _ h f (create_says (moment_of b now) (length b.transactions) a c id)
 activation_gives base e s b now a other h = nothing_gives base e s b now h
@@ -371,24 +373,24 @@ accept_says m a t participant None may = record {
     free None e = tt
     free (Some c) e = absurd cc
 
-refuses_says : (participant : Epr) (a : Arrived) (t : Transaction) (name : List ℕ) → RegistrationSays participant t (refuse_register a t name)
-refuses_says participant a t name = record {
+refuses_says : (participant : Epr) (a : Arrived) (t : Transaction) (drawn : Fault) → RegistrationSays participant t (refuse_register a t drawn)
+refuses_says participant a t drawn = record {
   superior = refl;
-  outs = faulted_says NoRegister a.fault a.id name;
+  outs = faulted_says NoRegister a.fault a.id drawn;
   accepts = λ n nodes. nothing_new (IsNew n nodes t.id participant) n nodes t t refl refl;
   grown = grown_like t t refl refl;
 }
 
 register_new_says : (m : Moment) (a : Arrived) (r : Register) (t : Transaction) (kind : Option (Option Kind)) → RegistrationSays r.participant t (register_new m a r t kind)
 unfolding register_new
-register_new_says m a r t None = refuses_says r.participant a t invalid_protocol
+register_new_says m a r t None = refuses_says r.participant a t InvalidProtocol
 register_new_says m a r t (Some kind) = by_tests (not a.postable) (may_register t kind) refl
   where
     by_tests : (b c : Bool) → may_register t kind ≡ c → RegistrationSays r.participant t
-        (if b then refuse_register a t invalid_parameters else if c then accept m a t r.participant kind else refuse_register a t cannot_register)
-    by_tests true c e = refuses_says r.participant a t invalid_parameters
+        (if b then refuse_register a t InvalidParameters else if c then accept m a t r.participant kind else refuse_register a t CannotRegisterParticipant)
+    by_tests true c e = refuses_says r.participant a t InvalidParameters
     by_tests false true e = accept_says m a t r.participant kind e
-    by_tests false false e = refuses_says r.participant a t cannot_register
+    by_tests false false e = refuses_says r.participant a t CannotRegisterParticipant
 
 register_again_says : (m : Moment) (a : Arrived) (r : Register) (t : Transaction) (kind : Option (Option Kind)) (held : Option Epr)
     → RegistrationSays r.participant t (register_again m a r t kind held)
@@ -446,8 +448,8 @@ registers_gives base s b now a r id t h says target stands x same k =
 
 unknown_says : (a : Arrived) (r : Register) (kind : Option (Option Kind)) → AreOuts NoRegister (register_unknown a r kind)
 unfolding register_unknown
-unknown_says a r None = faulted_says NoRegister a.fault a.id invalid_protocol
-unknown_says a r (Some kind) = faulted_says NoRegister a.fault a.id (if a.postable then cannot_register else invalid_parameters)
+unknown_says a r None = faulted_says NoRegister a.fault a.id InvalidProtocol
+unknown_says a r (Some kind) = faulted_says NoRegister a.fault a.id (if a.postable then CannotRegisterParticipant else InvalidParameters)
 
 registration_gives : (base : List ℕ) (s : Numbers → Standing) (b : Book) (now : ℕ) (a : Arrived) (id : Numbers) (x : Message) (t : Option Transaction) → Says base s b → a.message ≡ x
     → a.target ≡ targets.Registration id → transaction_at b id ≡ t → Both (Gives base (events.Arrived a) s b) (registration_plan b now a x t)
@@ -469,7 +471,7 @@ cell_fine base own from id (Some c) = act_fine c.act
     act_fine acts.SendRollback = to_each_fine NoRegister from (λ to. stranger_post base own to notices.Rollback) (λ to. tt)
     act_fine acts.SendCommitted = to_each_fine NoRegister from (λ to. stranger_post base own to notices.Committed) (λ to. tt)
     act_fine acts.SendAborted = to_each_fine NoRegister from (λ to. stranger_post base own to notices.Aborted) (λ to. tt)
-    act_fine acts.FaultUnknownTransaction = to_each_fine NoRegister from (λ to. fault_post (Some to) id unknown_transaction) (λ to. tt)
+    act_fine acts.FaultUnknownTransaction = to_each_fine NoRegister from (λ to. fault_post (Some to) id UnknownTransaction) (λ to. tt)
     act_fine other = tt
 
 stranger_gives : (base : List ℕ) (e : Event) (s : Numbers → Standing) (b : Book) (now : ℕ) (a : Arrived) (table : Notice → Option Cell) (x : Message) → Says base s b
@@ -506,7 +508,7 @@ kept_fine base own from id (Some c) = act_fine c.act
   where
     act_fine : (act : Act) → AreFine NoRegister (outcome_act base own from id act)
     act_fine acts.SendCommitted = to_each_fine NoRegister from (λ to. notice_post base own to notices.Committed) (λ to. tt)
-    act_fine acts.FaultInvalidState = to_each_fine NoRegister from (λ to. fault_post (Some to) id invalid_state) (λ to. tt)
+    act_fine acts.FaultInvalidState = to_each_fine NoRegister from (λ to. fault_post (Some to) id InvalidState) (λ to. tt)
     act_fine other = tt
 
 outcome_gives : (base : List ℕ) (s : Numbers → Standing) (b : Book) (now : ℕ) (a : Arrived) (x : Message) → Says base s b → Both (Gives base (events.Arrived a) s b) (outcome_plan b now a x)

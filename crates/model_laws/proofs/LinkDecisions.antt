@@ -33,7 +33,7 @@ use Rattle.model_laws.specs.Links.{IsJoining, IsIdle, AreIn, AreLinked}
 use Rattle.at_model.specs.Arrivals.{asked, relates_to}
 use Rattle.at_tables.specs.Tables.{participant_of}
 use Rattle.at_base.specs.declared.target.Target.TheVariants as targets
-use Rattle.at_model.specs.Addresses.{register_id}
+use Rattle.endpoints.specs.Addresses.{register_id}
 use Rattle.at_model.specs.Moves.{Goes, ignored}
 use Rattle.model_laws.proofs.ParticipantTable.{ActsAt, CellAt, table_acts}
 use Rattle.model_laws.proofs.DecisionLaws.{first_true, DecisionHas, IfThere, either_has, either_change, with_answer_has}

@@ -20,7 +20,7 @@ use Rattle.at_tables.specs.declared.cells.State.TheVariants as states
 use Rattle.at_base.specs.declared.limits.TheConstants.{MOST_SEATS}
 use Rattle.at_model.specs.Posts.{accepted}
 use Rattle.at_model.specs.Book.{Book, Transaction, transaction_id}
-use Rattle.at_model.specs.Addresses.{atomic}
+use Rattle.endpoints.specs.Addresses.{atomic}
 use Rattle.at_model.specs.Moves.{Decision}
 use Rattle.at_model.specs.Arrivals.{with_answer}
 use Rattle.at_model.specs.Register.{Registration, accepts, may_complete, may_register, accept, register_new, register_again, on_register, protocol_named, held_seat}

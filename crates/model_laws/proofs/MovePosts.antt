@@ -3,6 +3,7 @@
 use Rattle.std.specs.Prelude.{ℕ, List, [], ◌∷◌, ◌++◌, Option, Some, None, Bool, if◌then◌else◌, map, filter, option_map, ◌≡◌, ◌⊎◌, refl}
 use Rattle.std.specs.List.{list_any, AllByRecursion}
 use Rattle.std.proofs.Common.{inl, inr, sym, ap, ◌∙◌}
+use Rattle.at_base.specs.declared.fault.Fault.TheVariants.{InvalidState}
 use Rattle.at_base.specs.Numbers.{Numbers}
 use Rattle.at_base.specs.declared.epr.Epr.{Epr}
 use Rattle.at_base.specs.declared.epr.Reply.{Reply}
@@ -31,8 +32,8 @@ use Rattle.at_tables.specs.declared.cells.Cell.{Cell}
 use Rattle.at_tables.specs.Names.{is_state}
 use Rattle.at_tables.specs.Tables.{coordinator_of, participant_of, completion_of, initiator_of}
 use Rattle.at_model.specs.Book.{Transaction, Leaf, Activity, Enlistment, Completion, Superior, Link, Request, WorkRequest, Phase, Progress}
-use Rattle.at_model.specs.Addresses.{endpoint_of, register_id, create_id}
-use Rattle.at_model.specs.Posts.{notice_post, stranger_post, fault_post, reply_post, stored_or, to_each, invalid_state}
+use Rattle.endpoints.specs.Addresses.{endpoint_of, register_id, create_id}
+use Rattle.at_model.specs.Posts.{notice_post, stranger_post, fault_post, reply_post, stored_or, to_each}
 use Rattle.at_model.specs.Moves.{Moving, Change, Decision, Goes, Records, begin, post, posts, effect, become, stays, forgotten, ignored}
 use Rattle.at_model.specs.Seats.{answered, all_left, is_open, is_of, in_state, is_prepared_durable, prepared, moved, seat_target, notices_to, send_each, seat_in, in_phase, set_link, link_of, link_in, under, ending, initiator_posts, completion_in}
 use Rattle.at_model.specs.Abort.{Reason, Alone, Asked, Faulted, link_aborted, links_aborted, from_of, without_links, until_rolled_back, abort}
@@ -296,7 +297,7 @@ seat_act_like Q q k z m i t s acts.SendAborted h = (tt, h)
 seat_act_like Q q k z m i t s acts.FaultUnknownTransaction h = ((tt, tt), h)
 seat_act_like Q q k z m i t s acts.FaultInvalidState h = ((tt, tt), h)
 seat_act_like Q q k z m i t s acts.FaultInvalidStateAndAbort h =
-    abort_like Q q k z m Alone (post (fault_post (Some s.participant) i invalid_state) (begin t)) ((tt, tt), h)
+    abort_like Q q k z m Alone (post (fault_post (Some s.participant) i InvalidState) (begin t)) ((tt, tt), h)
 seat_act_like Q q k z m i t s acts.Leave h =
     advance_like Q q k z m (seat_in s.number states.None t).phase (begin (seat_in s.number states.None t)) (tt, seat_in_like q k z s.number states.None t h)
 seat_act_like Q q k z m i t s acts.LeaveAndAbort h =
@@ -336,10 +337,10 @@ link_act_like Q q k z m from i kind s t acts.SendAborted e h =
     (to_each_fine Q (stored_or (link_of kind s).coordinator from) (λ to. stranger_post m.base (targets.Participant t.id kind) to notices.Aborted) (λ to. tt), h)
 link_act_like Q q k z m from i kind s t acts.FaultUnknownTransaction e h = (tt, h)
 link_act_like Q q k z m from i kind s t acts.FaultInvalidState e h =
-    (to_each_fine Q (stored_or (link_of kind s).coordinator from) (λ to. fault_post (Some to) i invalid_state) (λ to. tt), h)
+    (to_each_fine Q (stored_or (link_of kind s).coordinator from) (λ to. fault_post (Some to) i InvalidState) (λ to. tt), h)
 link_act_like Q q k z m from i kind s t acts.FaultInvalidStateAndAbort e h =
-    abort_like Q q k z m (Faulted kind) (posts (to_each (stored_or (link_of kind s).coordinator from) (λ to. fault_post (Some to) i invalid_state)) (begin t))
-    (to_each_fine Q (stored_or (link_of kind s).coordinator from) (λ to. fault_post (Some to) i invalid_state) (λ to. tt), h)
+    abort_like Q q k z m (Faulted kind) (posts (to_each (stored_or (link_of kind s).coordinator from) (λ to. fault_post (Some to) i InvalidState)) (begin t))
+    (to_each_fine Q (stored_or (link_of kind s).coordinator from) (λ to. fault_post (Some to) i InvalidState) (λ to. tt), h)
 link_act_like Q q k z m from i kind s t acts.Leave e h = (tt, h)
 link_act_like Q q k z m from i kind s t acts.LeaveAndAbort e h = (tt, h)
 link_act_like Q q k z m from i kind s t acts.Vote e h = (tt, h)
@@ -518,7 +519,7 @@ says_fine : (Q : Epr → Option Epr → Type 0) (m : Moment) (from : Option Epr)
 says_fine Q m from n l = to_each_fine Q (stored_or l.coordinator from) (λ to. notice_post m.base (leaf_target l) to n) (λ to. tt)
 
 faults_fine : (Q : Epr → Option Epr → Type 0) (from : Option Epr) (i : Option (List ℕ)) (l : Leaf) → AreFine Q (leaf_faults from i l)
-faults_fine Q from i l = to_each_fine Q (stored_or l.coordinator from) (λ to. fault_post (Some to) i invalid_state) (λ to. tt)
+faults_fine Q from i l = to_each_fine Q (stored_or l.coordinator from) (λ to. fault_post (Some to) i InvalidState) (λ to. tt)
 
 work_done_fine : (Q : Epr → Option Epr → Type 0) (r : Option WorkRequest) → AreFine Q (work_answer messages.WorkDone r)
 work_done_fine Q None = tt
@@ -662,7 +663,7 @@ unfolding activity_act
 activity_act_like m from i a acts.TellCommitted = tt
 activity_act_like m from i a acts.TellAborted = tt
 activity_act_like m from i a acts.FaultInvalidState =
-    (to_each_fine (OwnsActivity m.base a a) (stored_or a.coordinator from) (λ to. fault_post (Some to) i invalid_state) (λ to. tt), inr refl)
+    (to_each_fine (OwnsActivity m.base a a) (stored_or a.coordinator from) (λ to. fault_post (Some to) i InvalidState) (λ to. tt), inr refl)
 activity_act_like m from i a other = (tt, inr refl)
 
 activity_notice_like : (m : Moment) (from : Option Epr) (i : Option (List ℕ)) (a : Activity) (c : Option Cell) → AreActivityLike m.base a (activity_notice m from i a c)

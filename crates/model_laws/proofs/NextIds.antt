@@ -10,7 +10,7 @@ use Rattle.at_base.specs.declared.message.Create.{Create}
 use Rattle.at_base.specs.declared.message.Work.{Work}
 use Rattle.at_base.specs.declared.message.Context.{Context}
 use Rattle.at_model.specs.Book.{Book, next_id, last_counter}
-use Rattle.at_model.specs.Addresses.{atomic}
+use Rattle.endpoints.specs.Addresses.{atomic}
 use Rattle.at_model.specs.Create.{Creation, on_create, create_in, create_under, refuse_create}
 use Rattle.at_model.specs.Leaves.{Employment, on_work, work_for, refuse_work}
 use Rattle.at_model.specs.Activities.{on_begin, on_interpose}

@@ -20,7 +20,7 @@ use Rattle.at_tables.specs.declared.cells.Cell.{Cell}
 use Rattle.at_tables.specs.Names.{is_state}
 use Rattle.at_tables.specs.Tables.{participant_of, initiator_of}
 use Rattle.at_model.specs.Book.{Leaf, Activity, Progress}
-use Rattle.at_model.specs.Addresses.{register_id}
+use Rattle.endpoints.specs.Addresses.{register_id}
 use Rattle.at_model.specs.Moves.{Decision, Goes, begin, stays, forgotten, ignored}
 use Rattle.at_model.specs.Arrivals.{relates_to}
 use Rattle.at_model.specs.Leaves.{leaf_votes, leaf_records_vote, leaf_commit, leaf_roll_back, leaf_act, leaf_notice, answers_leaf, leaf_registered, drops_leaf, leaf_fault, on_leaf}

@@ -23,7 +23,7 @@ use Rattle.at_base.specs.declared.limits.TheConstants.{MOST_SEATS}
 use Rattle.at_model.specs.Posts.{accepted}
 use Rattle.at_model.specs.Outcomes.{noted}
 use Rattle.at_model.specs.Book.{Book, Transaction, Enlistment, Phase, is_id, find_by, put_by, transaction_id}
-use Rattle.at_model.specs.Addresses.{atomic}
+use Rattle.endpoints.specs.Addresses.{atomic}
 use Rattle.at_model.specs.Moves.{Change, Decision}
 use Rattle.at_model.specs.Seats.{answered}
 use Rattle.at_model.specs.Arrivals.{with_answer}
@@ -38,7 +38,8 @@ use Rattle.model_laws.proofs.ItemIds.{IsOfLeaf, NamesLeaf, HasBoth, NoRecord}
 use Rattle.model_laws.proofs.DrawnItems.{leaf_moved_kept, activity_moved_kept}
 use Rattle.model_laws.proofs.DrawnIds.{all_in_order, no_entry}
 use Rattle.at_tables.specs.declared.cells.State.{State}
-use Rattle.at_tables.specs.Names.{is_kind, is_state}
+use Rattle.at_tables.specs.Names.{is_state}
+use Rattle.at_base.specs.Names.{is_kind}
 use Rattle.model_laws.proofs.LinkDecisions.{Linked}
 use Rattle.model_laws.proofs.LinkPhases.{links_follow_phases}
 use Rattle.model_laws.proofs.PhaseDecisions.{is_unanswered, none_either, neither, IsTold, CommitsBehind, Left, Fine, Stands, IsBehind, IsLeft, AtDecided, AtVoted, seat_fine, link_fine, completion_fine, due_fine, with_answer_fine}

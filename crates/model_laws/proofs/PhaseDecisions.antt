@@ -17,7 +17,8 @@ use Rattle.at_tables.specs.declared.cells.State.TheVariants as states
 use Rattle.at_tables.specs.declared.cells.Act.{Act}
 use Rattle.at_tables.specs.declared.cells.Act.TheVariants as acts
 use Rattle.at_tables.specs.declared.cells.Cell.{Cell}
-use Rattle.at_tables.specs.Names.{is_kind, is_state}
+use Rattle.at_tables.specs.Names.{is_state}
+use Rattle.at_base.specs.Names.{is_kind}
 use Rattle.at_tables.specs.Tables.{coordinator_of, completion_of}
 use Rattle.at_model.specs.Book.{Completion, Enlistment, Phase, Request, Superior, Transaction}
 use Rattle.at_model.specs.Moves.{Moving, Change, Decision, begin, become, stays, forgotten}

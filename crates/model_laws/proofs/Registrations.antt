@@ -32,13 +32,15 @@ use Rattle.model_laws.specs.ReachedWorlds.{Heard, counts, Reached}
 use Rattle.model_laws.proofs.ReachedWorlds.{run_reached}
 use Rattle.at_model.specs.Recovery.{recover, last_incarnation, live, is_sub_committed, transactions_of, leaves_of, recovered_voted, recovered_transactions, recovered_leaves}
 use Rattle.at_model.specs.Step.{plan, step}
-use Rattle.at_model.specs.World.{with_post, Node, Who, Posted, Accepted, World, nth, put_nth, new_node, new_nodes, opening, target_at, place_of, item_at, receiver_of, who_at, who_of, takes, arrival_of, decoded_at, decoded, accepted_in, put_book, goes_down, lost_in, started, up_after, run_of, Hosts, HaveOwnAddresses}
+use Rattle.at_model.specs.World.{with_post, Node, Who, Posted, Accepted, World, nth, put_nth, new_node, new_nodes, opening, place_of, item_at, receiver_of, who_at, who_of, arrival_of, decoded_at, decoded, accepted_in, put_book, goes_down, lost_in, started, up_after, run_of, Hosts, HaveOwnAddresses}
+use Rattle.endpoints.specs.Addresses.{target_at, IsWritten}
+use Rattle.endpoints.specs.Forms.{takes}
 use Rattle.model_laws.proofs.EventLaws.{step_gives, says_on}
 use Rattle.model_laws.proofs.DecisionLaws.{all_join, all_more}
 use Rattle.model_laws.proofs.StepRegistrations.{fine_more, outs_more, transaction_standing, leaf_standing, Meets, Says, Registers, OutSays, AcceptedBy, Gives, same_at}
 use Rattle.model_laws.proofs.DrawnIds.{all_in_order}
 use Rattle.model_laws.proofs.WorldInvariants.{Law, OutFine, holds}
-use Rattle.model_laws.proofs.Addresses.{IsWritten, leads_home, place_is, HaveBases}
+use Rattle.model_laws.proofs.Addresses.{leads_home, place_is, HaveBases}
 use Rattle.model_laws.proofs.Nodes.{each_put, same_bases, bases_put, receiver_same, who_same}
 use Rattle.model_laws.proofs.MadeIds.{entry_rises}
 use Rattle.model_laws.proofs.Order.{ids_rise}

@@ -15,7 +15,8 @@ use Rattle.at_base.specs.declared.outs.Out.{Out}
 use Rattle.at_base.specs.declared.outs.Out.TheVariants as outs
 use Rattle.at_tables.specs.declared.cells.State.{State}
 use Rattle.at_tables.specs.declared.cells.State.TheVariants as states
-use Rattle.at_tables.specs.Names.{is_kind, is_state}
+use Rattle.at_tables.specs.Names.{is_state}
+use Rattle.at_base.specs.Names.{is_kind}
 use Rattle.at_model.specs.Book.{Book, Transaction, Enlistment, Completion, transaction_id}
 use Rattle.at_model.specs.Seats.{is_prepared_durable, seated, prepared}
 use Rattle.at_model.specs.Recovery.{last_incarnation, live, is_sub_committed, recovered_seat, recovered_voted, transactions_of}

@@ -5,6 +5,7 @@ use Rattle.std.proofs.Common.{inl, inr, sym, subst, ap, ◌∙◌}
 use Rattle.std.proofs.lemmas.Bool.{true≢false}
 use Rattle.std.proofs.lemmas.List.{length-map}
 use Rattle.std.proofs.Math.Seq.{take-length}
+use Rattle.at_base.specs.declared.fault.Fault.{Fault}
 use Rattle.at_base.specs.Numbers.{Numbers}
 use Rattle.at_base.specs.declared.epr.Epr.{Epr}
 use Rattle.at_base.specs.declared.epr.Reply.{Reply}
@@ -22,7 +23,7 @@ use Rattle.at_base.specs.declared.outs.Post.{Post}
 use Rattle.at_base.specs.declared.outs.Out.{Out}
 use Rattle.at_base.specs.declared.outs.Out.TheVariants as outs
 use Rattle.at_model.specs.Book.{Book, Transaction, Leaf, Activity, Completion, Enlistment, Request, WorkRequest, is_id, find_by, put_by, transaction_id, leaf_id, activity_id, last_counter}
-use Rattle.at_model.specs.Addresses.{endpoint_of}
+use Rattle.endpoints.specs.Addresses.{endpoint_of}
 use Rattle.at_model.specs.Posts.{replied, faulted}
 use Rattle.at_model.specs.Moves.{Change, Decision, Goes, Records}
 use Rattle.at_model.specs.Arrivals.{request_of, with_answer}
@@ -276,10 +277,10 @@ replied_says Q replies.Anonymous id x h k = (tt, tt)
 replied_says Q replies.Nobody id x h k = (tt, tt)
 replied_says Q (replies.At to) id x h k = (tt, (k to, tt))
 
-pub faulted_says : (Q : Epr → Option Epr → Type 0) (r : Reply) (id : Option (List ℕ)) (name : List ℕ) → AreOuts Q (faulted r id name)
-faulted_says Q replies.Anonymous id name = (tt, tt)
-faulted_says Q replies.Nobody id name = (tt, tt)
-faulted_says Q (replies.At to) id name = (tt, (tt, tt))
+pub faulted_says : (Q : Epr → Option Epr → Type 0) (r : Reply) (id : Option (List ℕ)) (drawn : Fault) → AreOuts Q (faulted r id drawn)
+faulted_says Q replies.Anonymous id drawn = (tt, tt)
+faulted_says Q replies.Nobody id drawn = (tt, tt)
+faulted_says Q (replies.At to) id drawn = (tt, (tt, tt))
 
 -- what a step accepts, transaction by transaction
 pub accepted_all : (R : Accepted → Type 0) (n : ℕ) (nodes : List Node) (b : Book) (ts : List Transaction)

@@ -1,5 +1,7 @@
 -- Every step touches one item at most; so it sends its answer first, and draws at most one id.
 use Rattle.std.specs.Prelude.{ℕ, List, [], ◌∷◌, ◌++◌, Option, Some, None, Bool, true, false, not, nat_lt, ◌&&◌, ◌+◌, if◌then◌else◌, bytes_eq, length, map, ◌≡◌, ◌≤◌}
+use Rattle.at_base.specs.declared.fault.Fault.{Fault}
+use Rattle.at_base.specs.declared.fault.Fault.TheVariants.{CannotCreateContext, CannotRegisterParticipant, InvalidParameters, InvalidProtocol}
 use Rattle.at_base.specs.Numbers.{Numbers}
 use Rattle.at_base.specs.declared.epr.Epr.{Epr}
 use Rattle.at_base.specs.declared.epr.Reply.{Reply}
@@ -27,11 +29,11 @@ use Rattle.at_base.specs.declared.outs.Post.{Post}
 use Rattle.at_base.specs.declared.outs.Out.{Out}
 use Rattle.at_base.specs.declared.outs.Out.TheVariants as outs
 use Rattle.at_tables.specs.declared.cells.State.TheVariants as states
-use Rattle.at_tables.specs.Names.{is_kind}
+use Rattle.at_base.specs.Names.{is_kind}
 use Rattle.at_tables.specs.Tables.{participant_of, completion_of}
 use Rattle.at_model.specs.Book.{Book, Transaction, Leaf, Activity, Enlistment, Completion, Superior, next_id, transaction_id, leaf_id, activity_id}
-use Rattle.at_model.specs.Addresses.{atomic}
-use Rattle.at_model.specs.Posts.{accepted, replied, faulted, invalid_protocol, invalid_parameters, cannot_create, cannot_register}
+use Rattle.endpoints.specs.Addresses.{atomic}
+use Rattle.at_model.specs.Posts.{accepted, replied, faulted}
 use Rattle.at_model.specs.Moves.{Change, Goes}
 use Rattle.at_model.specs.Register.{protocol_named, Registration, seat_endpoint, completion_endpoint, may_register, is_late, new_seat, late_prepare, accept, refuse_register, register_new, register_again, held_seat, on_register, register_unknown}
 use Rattle.at_model.specs.Create.{new_root, Creation, refuse_create, create_under, create_in, on_create}
@@ -61,10 +63,10 @@ replied_in_order replies.Anonymous id x = tt
 replied_in_order replies.Nobody id x = tt
 replied_in_order (replies.At to) id x = tt
 
-faulted_in_order : (r : Reply) (id : Option (List ℕ)) (name : List ℕ) → IsOrdered (faulted r id name)
-faulted_in_order replies.Anonymous id name = tt
-faulted_in_order replies.Nobody id name = tt
-faulted_in_order (replies.At to) id name = tt
+faulted_in_order : (r : Reply) (id : Option (List ℕ)) (drawn : Fault) → IsOrdered (faulted r id drawn)
+faulted_in_order replies.Anonymous id drawn = tt
+faulted_in_order replies.Nobody id drawn = tt
+faulted_in_order (replies.At to) id drawn = tt
 
 late_posts : (m : Moment) (id : Numbers) (late : Bool) (s : Enlistment) → ArePosts (late_prepare m id late s)
 late_posts m id true s = tt
@@ -94,13 +96,13 @@ either false x y h k = k
 
 register_new_in_order : (m : Moment) (a : Arrived) (r : Register) (t : Transaction) (kind : Option (Option Kind)) → IsOrdered (register_new m a r t kind).outs
 unfolding register_new
-register_new_in_order m a r t None = faulted_in_order a.fault a.id invalid_protocol
+register_new_in_order m a r t None = faulted_in_order a.fault a.id InvalidProtocol
 register_new_in_order m a r t (Some kind) =
-    either (not a.postable) (refuse_register a t invalid_parameters)
-    (if may_register t kind then accept m a t r.participant kind else refuse_register a t cannot_register)
-    (faulted_in_order a.fault a.id invalid_parameters)
-    (either (may_register t kind) (accept m a t r.participant kind) (refuse_register a t cannot_register)
-    (accept_in_order m a t r.participant kind) (faulted_in_order a.fault a.id cannot_register))
+    either (not a.postable) (refuse_register a t InvalidParameters)
+    (if may_register t kind then accept m a t r.participant kind else refuse_register a t CannotRegisterParticipant)
+    (faulted_in_order a.fault a.id InvalidParameters)
+    (either (may_register t kind) (accept m a t r.participant kind) (refuse_register a t CannotRegisterParticipant)
+    (accept_in_order m a t r.participant kind) (faulted_in_order a.fault a.id CannotRegisterParticipant))
 
 register_again_in_order : (m : Moment) (a : Arrived) (r : Register) (t : Transaction) (kind : Option (Option Kind)) (held : Option Epr)
     → IsOrdered (register_again m a r t kind held).outs
@@ -114,8 +116,8 @@ register_in_order m a r t = register_again_in_order m a r t (protocol_named r.pr
 
 register_unknown_in_order : (a : Arrived) (r : Register) (kind : Option (Option Kind)) → IsOrdered (register_unknown a r kind)
 unfolding register_unknown
-register_unknown_in_order a r None = faulted_in_order a.fault a.id invalid_protocol
-register_unknown_in_order a r (Some kind) = faulted_in_order a.fault a.id (if a.postable then cannot_register else invalid_parameters)
+register_unknown_in_order a r None = faulted_in_order a.fault a.id InvalidProtocol
+register_unknown_in_order a r (Some kind) = faulted_in_order a.fault a.id (if a.postable then CannotRegisterParticipant else InvalidParameters)
 
 -- creation
 either_creation : (b : Bool) (x y : Creation) → IsOrdered x.outs → IsOrdered y.outs → IsOrdered (if b then x else y).outs
@@ -125,8 +127,8 @@ either_creation false x y h k = k
 create_under_in_order : (m : Moment) (id : Numbers) (a : Arrived) (c : Create) (current : Context) (r : Reply) → IsOrdered (create_under m id a c current r).outs
 unfolding create_under
 create_under_in_order m id a c current (replies.At reply) = tt
-create_under_in_order m id a c current replies.Anonymous = faulted_in_order a.fault a.id cannot_create
-create_under_in_order m id a c current replies.Nobody = faulted_in_order a.fault a.id cannot_create
+create_under_in_order m id a c current replies.Anonymous = faulted_in_order a.fault a.id CannotCreateContext
+create_under_in_order m id a c current replies.Nobody = faulted_in_order a.fault a.id CannotCreateContext
 
 create_in_in_order : (m : Moment) (id : Numbers) (a : Arrived) (c : Create) (current : Option Context) → IsOrdered (create_in m id a c current).outs
 unfolding create_in
@@ -135,10 +137,10 @@ create_in_in_order m id a c (Some current) = create_under_in_order m id a c curr
 
 create_in_order : (m : Moment) (live : ℕ) (a : Arrived) (c : Create) (next : Option Numbers) → IsOrdered (on_create m live a c next).outs
 unfolding on_create
-create_in_order m live a c None = faulted_in_order a.fault a.id cannot_create
+create_in_order m live a c None = faulted_in_order a.fault a.id CannotCreateContext
 create_in_order m live a c (Some id) =
     either_creation (bytes_eq c.coordination atomic && nat_lt live 1024) (create_in m id a c c.current) (refuse_create a)
-    (create_in_in_order m id a c c.current) (faulted_in_order a.fault a.id cannot_create)
+    (create_in_in_order m id a c c.current) (faulted_in_order a.fault a.id CannotCreateContext)
 
 -- work
 either_work : (b : Bool) (x y : Employment) → IsOrdered x.outs → IsOrdered y.outs → IsOrdered (if b then x else y).outs

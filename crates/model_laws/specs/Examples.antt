@@ -11,7 +11,7 @@ use Rattle.at_base.specs.declared.record.Record.TheVariants as records
 use Rattle.at_base.specs.declared.outs.Ending.TheVariants as endings
 use Rattle.at_base.specs.declared.outs.Told.TheVariants as tellings
 use Rattle.at_base.specs.declared.outs.Effect.TheVariants as effects
-use Rattle.at_model.specs.Addresses.{endpoint_of}
+use Rattle.endpoints.specs.Addresses.{endpoint_of}
 use Rattle.at_model.specs.World.{Node, World, nth, WorldEvent, run_on, run_of, Deliver, Turn, Crash, example_base, example_hosts}
 use Rattle.model_laws.specs.Settlement.{settle, is_settled, settle_rounds, most_deliveries, waiting, all_up}
 use Rattle.at_model.specs.Views.{line, lines_from, at, id_at, up, deliver_to, tick_at, begin_at, work_at, interpose_at, commit_at}

@@ -19,7 +19,7 @@ use Rattle.at_base.specs.declared.outs.Out.TheVariants as outs
 use Rattle.at_tables.specs.declared.cells.State.{State}
 use Rattle.at_tables.specs.declared.cells.State.TheVariants as states
 use Rattle.at_model.specs.Book.{Book, Enlistment, Phase}
-use Rattle.at_model.specs.Addresses.{endpoint_of}
+use Rattle.endpoints.specs.Addresses.{endpoint_of}
 use Rattle.at_model.specs.Step.{step}
 use Rattle.at_model.specs.Recovery.{recover}
 use Rattle.at_model.specs.World.{example_base}

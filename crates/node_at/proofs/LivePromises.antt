@@ -18,10 +18,11 @@ use Rattle.at_base.specs.declared.outs.Out.{Out}
 use Rattle.at_base.specs.declared.outs.Post.{Post}
 use Rattle.at_base.specs.declared.record.Record.{Record}
 use Rattle.at_base.specs.declared.record.Record.TheVariants as records
-use Rattle.at_tables.specs.Names.{is_kind, is_state}
+use Rattle.at_tables.specs.Names.{is_state}
+use Rattle.at_base.specs.Names.{is_kind}
 use Rattle.at_tables.specs.declared.cells.State.{State}
 use Rattle.at_tables.specs.declared.cells.State.TheVariants as states
-use Rattle.at_model.specs.Addresses.{atomic}
+use Rattle.endpoints.specs.Addresses.{atomic}
 use Rattle.at_model.specs.Arrivals.{with_answer}
 use Rattle.at_model.specs.Book.{Activity, Book, Completion, Enlistment, Leaf, Phase, Superior, Transaction, is_id, leaf_id, put_by, transaction_id}
 use Rattle.at_model.specs.Create.{create_in, create_under, on_create, refuse_create}

@@ -1,5 +1,7 @@
 -- How each plan answers.
 use Rattle.std.proofs.Common.{ℕ, List, [], ◌∷◌, ◌++◌, inl, inr, Bool, true, false, not, ◌&&◌, nat_lt, bytes_eq, Option, Some, None, refl, map, length, if◌then◌else◌}
+use Rattle.at_base.specs.declared.fault.Fault.{Fault}
+use Rattle.at_base.specs.declared.fault.Fault.TheVariants.{CannotCreateContext, CannotRegisterParticipant, InvalidParameters, InvalidProtocol}
 use Rattle.at_base.specs.Numbers.{Numbers}
 use Rattle.at_base.specs.declared.epr.Epr.{Epr}
 use Rattle.at_base.specs.declared.epr.Reply.{Reply}
@@ -24,11 +26,11 @@ use Rattle.at_base.specs.declared.outs.Out.{Out}
 use Rattle.at_base.specs.declared.outs.Out.TheVariants as outs
 use Rattle.at_tables.specs.declared.cells.Cell.{Cell}
 use Rattle.at_tables.specs.declared.cells.State.TheVariants as states
-use Rattle.at_tables.specs.Names.{is_kind}
+use Rattle.at_base.specs.Names.{is_kind}
 use Rattle.at_tables.specs.Tables.{participant_of, completion_of, coordinator_of, initiator_of}
 use Rattle.at_model.specs.Book.{Book, Transaction, Leaf, Activity, Enlistment, Completion, Superior, next_id}
-use Rattle.at_model.specs.Addresses.{atomic}
-use Rattle.at_model.specs.Posts.{accepted, replied, faulted, invalid_protocol, invalid_parameters, cannot_create, cannot_register}
+use Rattle.endpoints.specs.Addresses.{atomic}
+use Rattle.at_model.specs.Posts.{accepted, replied, faulted}
 use Rattle.at_model.specs.Moves.{Decision}
 use Rattle.at_model.specs.Moves.Decision.{Goes, Records}
 use Rattle.at_model.specs.Register.{protocol_named, Registration, seat_endpoint, completion_endpoint, may_register, is_late, new_seat, late_prepare, accept, refuse_register, register_new, register_again, held_seat, on_register, register_unknown}
@@ -58,10 +60,10 @@ replied_alone replies.Anonymous id x = (inl refl, tt)
 replied_alone replies.Nobody id x = (inr (inl refl), tt)
 replied_alone (replies.At to) id x = (inr (inl refl), tt)
 
-faulted_so : (r : Reply) (id : Option (List ℕ)) (name : List ℕ) → IsReply (faulted r id name)
-faulted_so replies.Anonymous id name = (inr (inr refl), tt)
-faulted_so replies.Nobody id name = (inr (inl refl), tt)
-faulted_so (replies.At to) id name = (inr (inl refl), tt)
+faulted_so : (r : Reply) (id : Option (List ℕ)) (drawn : Fault) → IsReply (faulted r id drawn)
+faulted_so replies.Anonymous id drawn = (inr (inr refl), tt)
+faulted_so replies.Nobody id drawn = (inr (inl refl), tt)
+faulted_so (replies.At to) id drawn = (inr (inl refl), tt)
 
 late_posts : (m : Moment) (id : Numbers) (late : Bool) (s : Enlistment) → ArePosts (late_prepare m id late s)
 late_posts m id true s = tt
@@ -100,13 +102,13 @@ either false x y h k = k
 
 register_new_so : (m : Moment) (a : Arrived) (r : Register) (t : Transaction) (kind : Option (Option Kind)) → IsReply (register_new m a r t kind).outs
 unfolding register_new
-register_new_so m a r t None = faulted_so a.fault a.id invalid_protocol
+register_new_so m a r t None = faulted_so a.fault a.id InvalidProtocol
 register_new_so m a r t (Some kind) =
-    either (not a.postable) (refuse_register a t invalid_parameters)
-    (if may_register t kind then accept m a t r.participant kind else refuse_register a t cannot_register)
-    (faulted_so a.fault a.id invalid_parameters)
-    (either (may_register t kind) (accept m a t r.participant kind) (refuse_register a t cannot_register)
-    (accept_so m a t r.participant kind) (faulted_so a.fault a.id cannot_register))
+    either (not a.postable) (refuse_register a t InvalidParameters)
+    (if may_register t kind then accept m a t r.participant kind else refuse_register a t CannotRegisterParticipant)
+    (faulted_so a.fault a.id InvalidParameters)
+    (either (may_register t kind) (accept m a t r.participant kind) (refuse_register a t CannotRegisterParticipant)
+    (accept_so m a t r.participant kind) (faulted_so a.fault a.id CannotRegisterParticipant))
 
 register_again_so : (m : Moment) (a : Arrived) (r : Register) (t : Transaction) (kind : Option (Option Kind)) (held : Option Epr)
     → IsReply (register_again m a r t kind held).outs
@@ -120,8 +122,8 @@ register_so m a r t = register_again_so m a r t (protocol_named r.protocol) (hel
 
 register_unknown_so : (a : Arrived) (r : Register) (kind : Option (Option Kind)) → IsReply (register_unknown a r kind)
 unfolding register_unknown
-register_unknown_so a r None = faulted_so a.fault a.id invalid_protocol
-register_unknown_so a r (Some kind) = faulted_so a.fault a.id (if a.postable then cannot_register else invalid_parameters)
+register_unknown_so a r None = faulted_so a.fault a.id InvalidProtocol
+register_unknown_so a r (Some kind) = faulted_so a.fault a.id (if a.postable then CannotRegisterParticipant else InvalidParameters)
 
 -- creation
 either_creation : (b : Bool) (x y : Creation) → IsReply x.outs → IsReply y.outs → IsReply (if b then x else y).outs
@@ -131,8 +133,8 @@ either_creation false x y h k = k
 create_under_so : (m : Moment) (id : Numbers) (a : Arrived) (c : Create) (current : Context) (r : Reply) → IsReply (create_under m id a c current r).outs
 unfolding create_under
 create_under_so m id a c current (replies.At reply) = (inr (inl refl), tt)
-create_under_so m id a c current replies.Anonymous = faulted_so a.fault a.id cannot_create
-create_under_so m id a c current replies.Nobody = faulted_so a.fault a.id cannot_create
+create_under_so m id a c current replies.Anonymous = faulted_so a.fault a.id CannotCreateContext
+create_under_so m id a c current replies.Nobody = faulted_so a.fault a.id CannotCreateContext
 
 create_in_so : (m : Moment) (id : Numbers) (a : Arrived) (c : Create) (current : Option Context) → IsReply (create_in m id a c current).outs
 unfolding create_in
@@ -141,10 +143,10 @@ create_in_so m id a c (Some current) = create_under_so m id a c current a.reply
 
 create_so : (m : Moment) (live : ℕ) (a : Arrived) (c : Create) (next : Option Numbers) → IsReply (on_create m live a c next).outs
 unfolding on_create
-create_so m live a c None = faulted_so a.fault a.id cannot_create
+create_so m live a c None = faulted_so a.fault a.id CannotCreateContext
 create_so m live a c (Some id) =
     either_creation (bytes_eq c.coordination atomic && nat_lt live 1024) (create_in m id a c c.current) (refuse_create a)
-    (create_in_so m id a c c.current) (faulted_so a.fault a.id cannot_create)
+    (create_in_so m id a c c.current) (faulted_so a.fault a.id CannotCreateContext)
 
 -- work
 either_work : (b : Bool) (x y : Employment) → IsReply x.outs → IsReply y.outs → IsReply (if b then x else y).outs

@@ -11,7 +11,7 @@ use at_base::epr::Epr;
 use at_base::message::Message;
 use at_base::outs::{Out, Post};
 use at_base::text::Text;
-use at_targets::form::Form;
+use endpoints::form::Form;
 use http_post::writer::{answer_bytes, post_bytes};
 use std::alloc::{AllocError, Global};
 use std::marker::Model;

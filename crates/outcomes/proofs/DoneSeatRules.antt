@@ -12,7 +12,7 @@ use Rattle.at_base.specs.declared.message.Register.{Register}
 use Rattle.at_base.specs.declared.notice.Kind.{Kind}
 use Rattle.at_base.specs.declared.record.Record.{Record}
 use Rattle.at_model.specs.Abort.{Alone, Asked, Reason, abort, until_rolled_back}
-use Rattle.at_model.specs.Addresses.{atomic, register_id}
+use Rattle.endpoints.specs.Addresses.{atomic, register_id}
 use Rattle.at_model.specs.Arrivals.{asked, commit_voted, completion_act, completion_notice, link_act, link_fault, link_notice, link_registered, on_completion, on_link, on_seat, relates_to, seat_act, seat_notice, with_answer}
 use Rattle.at_model.specs.Book.{Book, Completion, Enlistment, Phase, Superior, Transaction}
 use Rattle.at_model.specs.Create.{create_in, create_under, on_create, refuse_create}

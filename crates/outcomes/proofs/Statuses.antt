@@ -15,7 +15,7 @@ use Rattle.at_base.specs.declared.outs.Effect.{Effect}
 use Rattle.at_base.specs.declared.outs.Effect.TheVariants as effects
 use Rattle.at_base.specs.declared.target.Target.{Target}
 use Rattle.at_base.specs.declared.target.Target.TheVariants as targets
-use Rattle.at_tables.specs.Names.{is_notice}
+use Rattle.at_base.specs.Names.{is_notice}
 use Rattle.at_model.specs.Book.{is_id}
 use Rattle.at_model.specs.World.{Happened, Node, Posted, Who, World, happened_at, nth}
 use Rattle.model_laws.specs.Agreement.{HasAborted, HasCommitted, HasEnded, HasPosted, IsIn}

@@ -16,7 +16,8 @@ use Rattle.at_base.specs.declared.target.Target.TheVariants as targets
 use Rattle.at_model.specs.Book.{Activity, Book, Transaction, leaf_id}
 use Rattle.at_model.specs.Moves.{Change}
 use Rattle.at_model.specs.Step.{moment_of, plan, step, transaction_at}
-use Rattle.at_model.specs.World.{Node, Who, World, takes, Hosts}
+use Rattle.at_model.specs.World.{Node, Who, World, Hosts}
+use Rattle.endpoints.specs.Forms.{takes}
 use Rattle.model_laws.proofs.DecisionLaws.{all_find}
 use Rattle.agreement.specs.ActivityDeeds.{ActivitySays, Completes as AsksTo, completing, tells_nothing as asks_nothing}
 use Rattle.agreement.specs.StepDeeds.{standing}

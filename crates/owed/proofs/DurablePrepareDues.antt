@@ -16,7 +16,8 @@ use Rattle.at_base.specs.declared.event.Moment.{Moment}
 use Rattle.at_base.specs.declared.outs.Post.{Post}
 use Rattle.at_tables.specs.declared.cells.State.{State}
 use Rattle.at_tables.specs.declared.cells.State.TheVariants as states
-use Rattle.at_tables.specs.Names.{is_kind, is_state}
+use Rattle.at_tables.specs.Names.{is_state}
+use Rattle.at_base.specs.Names.{is_kind}
 use Rattle.at_model.specs.Book.{Book, Enlistment, Link, Phase, Request, Superior, Transaction, transaction_id}
 use Rattle.at_model.specs.Create.{link_register}
 use Rattle.at_model.specs.Moves.{Change, Decision, Goes, Records, begin}

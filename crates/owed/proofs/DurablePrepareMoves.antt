@@ -1,6 +1,7 @@
 -- So goes whatever moves a transaction.
 use Rattle.std.specs.Prelude.{ℕ, List, [], ◌∷◌, Option, Some, None, Bool, true, false, ◌&&◌, ◌||◌, if◌then◌else◌, ◌≡◌, ◌⊎◌, refl}
 use Rattle.std.proofs.Common.{inl, inr, ap, sym, subst, ◌∙◌}
+use Rattle.at_base.specs.declared.fault.Fault.TheVariants.{InvalidState, UnknownTransaction}
 use Rattle.at_base.specs.declared.epr.Epr.{Epr}
 use Rattle.at_base.specs.declared.notice.Kind.{Kind}
 use Rattle.at_base.specs.declared.notice.Kind.TheVariants as kinds
@@ -18,10 +19,10 @@ use Rattle.at_tables.specs.declared.cells.Act.TheVariants as acts
 use Rattle.at_tables.specs.declared.cells.Cell.{Cell}
 use Rattle.at_tables.specs.Names.{is_state}
 use Rattle.at_tables.specs.Tables.{completion_of, coordinator_of, participant_of}
-use Rattle.at_model.specs.Addresses.{register_id}
+use Rattle.endpoints.specs.Addresses.{register_id}
 use Rattle.at_model.specs.Book.{Completion, Enlistment, Phase, Superior, Transaction}
 use Rattle.at_model.specs.Moves.{begin, post, posts}
-use Rattle.at_model.specs.Posts.{fault_post, invalid_state, notice_post, stored_or, stranger_post, to_each, unknown_transaction}
+use Rattle.at_model.specs.Posts.{fault_post, notice_post, stored_or, stranger_post, to_each}
 use Rattle.at_model.specs.Seats.{in_state, link_of, notices_to, seat_in, seat_target, set_link, under}
 use Rattle.at_model.specs.Abort.{Alone, Asked, Faulted}
 use Rattle.at_model.specs.Phases.{go_volatile, upwards}
@@ -49,8 +50,8 @@ seat_act_goes m i t s acts.Vote = advance_goes t.id m t.phase (begin (seat_in s.
 seat_act_goes m i t s acts.Leave = advance_goes t.id m t.phase (begin (seat_in s.number states.None t)) refl refl tt
 seat_act_goes m i t s acts.LeaveAndAbort = abort_goes (has_asked t.phase) t.id m Alone (begin (seat_in s.number states.None t)) refl tt
 seat_act_goes m i t s acts.FaultInvalidStateAndAbort =
-    abort_goes (has_asked t.phase) t.id m Alone (post (fault_post (Some s.participant) i invalid_state) (begin t)) refl
-    (clean_mine t.id (fault_post (Some s.participant) i invalid_state ∷ []) (no_own (fault_post (Some s.participant) i invalid_state) refl, tt))
+    abort_goes (has_asked t.phase) t.id m Alone (post (fault_post (Some s.participant) i InvalidState) (begin t)) refl
+    (clean_mine t.id (fault_post (Some s.participant) i InvalidState ∷ []) (no_own (fault_post (Some s.participant) i InvalidState) refl, tt))
 seat_act_goes m i t s acts.SendCommit =
     stays_goes t t (notice_post m.base (seat_target t.id s) s.participant notices.Commit ∷ []) refl (other_notice notices.Commit (notice_post m.base (seat_target t.id s) s.participant notices.Commit) refl (λ f. cc), tt)
 seat_act_goes m i t s acts.SendRollback =
@@ -58,8 +59,8 @@ seat_act_goes m i t s acts.SendRollback =
     (λ f. stays_goes t t (stranger_post m.base (seat_target t.id s) s.participant notices.Rollback ∷ []) refl (no_own (stranger_post m.base (seat_target t.id s) s.participant notices.Rollback) refl, tt))
     (λ f. stays_goes t t (notice_post m.base (seat_target t.id s) s.participant notices.Rollback ∷ []) refl
     (other_notice notices.Rollback (notice_post m.base (seat_target t.id s) s.participant notices.Rollback) refl (λ g. cc), tt))
-seat_act_goes m i t s acts.FaultUnknownTransaction = stays_goes t t (fault_post (Some s.participant) i unknown_transaction ∷ []) refl (no_own (fault_post (Some s.participant) i unknown_transaction) refl, tt)
-seat_act_goes m i t s acts.FaultInvalidState = stays_goes t t (fault_post (Some s.participant) i invalid_state ∷ []) refl (no_own (fault_post (Some s.participant) i invalid_state) refl, tt)
+seat_act_goes m i t s acts.FaultUnknownTransaction = stays_goes t t (fault_post (Some s.participant) i UnknownTransaction ∷ []) refl (no_own (fault_post (Some s.participant) i UnknownTransaction) refl, tt)
+seat_act_goes m i t s acts.FaultInvalidState = stays_goes t t (fault_post (Some s.participant) i InvalidState ∷ []) refl (no_own (fault_post (Some s.participant) i InvalidState) refl, tt)
 seat_act_goes m i t s other = stays_goes t t [] refl tt
 
 seat_notice_goes : (m : Moment) (i : Option (List ℕ)) (t : Transaction) (s : Enlistment) (c : Option Cell) → AllGo (has_asked t.phase) t.id (seat_notice m i t s c)
@@ -105,8 +106,8 @@ link_act_goes m from i kind s t n acts.Commit u l k = commit_goes (has_asked t.p
 link_act_goes m from i kind s t n acts.AbortAndSendAborted u l k = abort_goes (has_asked t.phase) t.id m (Asked kind from) (begin t) refl tt
 link_act_goes m from i kind s t n acts.RecordAndSendAborted u l k = record { entry = tt; landed = abort_goes (has_asked t.phase) t.id m (Asked kind from) (begin t) refl tt; otherwise = tt }
 link_act_goes m from i kind s t n acts.FaultInvalidStateAndAbort u l k =
-    abort_goes (has_asked t.phase) t.id m (Faulted kind) (posts (to_each (stored_or (link_of kind s).coordinator from) (λ to. fault_post (Some to) i invalid_state)) (begin t)) refl
-    (clean_mine t.id _ (each_clean (stored_or (link_of kind s).coordinator from) (λ to. fault_post (Some to) i invalid_state) (λ to. no_own _ refl)))
+    abort_goes (has_asked t.phase) t.id m (Faulted kind) (posts (to_each (stored_or (link_of kind s).coordinator from) (λ to. fault_post (Some to) i InvalidState)) (begin t)) refl
+    (clean_mine t.id _ (each_clean (stored_or (link_of kind s).coordinator from) (λ to. fault_post (Some to) i InvalidState) (λ to. no_own _ refl)))
 link_act_goes m from i kind s t n acts.SendPrepared u l k = stays_goes t t (upwards m.base t.id kind notices.Prepared (link_of kind s)) refl (upwards_clean m.base t.id kind notices.Prepared (link_of kind s))
 link_act_goes m from i kind s t n acts.SendCommitted u l k =
     stays_goes t t (to_each (stored_or (link_of kind s).coordinator from) (λ to. stranger_post m.base (targets.Participant t.id kind) to notices.Committed)) refl
@@ -115,8 +116,8 @@ link_act_goes m from i kind s t n acts.SendAborted u l k =
     stays_goes t t (to_each (stored_or (link_of kind s).coordinator from) (λ to. stranger_post m.base (targets.Participant t.id kind) to notices.Aborted)) refl
     (each_clean (stored_or (link_of kind s).coordinator from) (λ to. stranger_post m.base (targets.Participant t.id kind) to notices.Aborted) (λ to. no_own _ refl))
 link_act_goes m from i kind s t n acts.FaultInvalidState u l k =
-    stays_goes t t (to_each (stored_or (link_of kind s).coordinator from) (λ to. fault_post (Some to) i invalid_state)) refl
-    (each_clean (stored_or (link_of kind s).coordinator from) (λ to. fault_post (Some to) i invalid_state) (λ to. no_own _ refl))
+    stays_goes t t (to_each (stored_or (link_of kind s).coordinator from) (λ to. fault_post (Some to) i InvalidState)) refl
+    (each_clean (stored_or (link_of kind s).coordinator from) (λ to. fault_post (Some to) i InvalidState) (λ to. no_own _ refl))
 link_act_goes m from i kind s t n other u l k = stays_goes t t [] refl tt
 
 link_notice_goes : (m : Moment) (from : Option Epr) (i : Option (List ℕ)) (kind : Kind) (s : Superior) (t : Transaction) (n : Notice) (c : Option Cell) → t.superior ≡ Some s → Linked t
@@ -172,8 +173,8 @@ completion_act_goes m from i c t acts.AbortAndSendAborted there l h k = abort_go
 completion_act_goes m from i c t acts.SendCommitted there l h k =
     stays_goes t t (to_each from (λ to. notice_post m.base (targets.Completion t.id) to notices.Committed)) refl
     (each_clean from (λ to. notice_post m.base (targets.Completion t.id) to notices.Committed) (λ to. other_own (targets.Completion t.id) _ refl (λ x. x)))
-completion_act_goes m from i c t acts.FaultUnknownTransaction there l h k = stays_goes t t (fault_post (Some c.initiator) i unknown_transaction ∷ []) refl (no_own (fault_post (Some c.initiator) i unknown_transaction) refl, tt)
-completion_act_goes m from i c t acts.FaultInvalidState there l h k = stays_goes t t (fault_post (Some c.initiator) i invalid_state ∷ []) refl (no_own (fault_post (Some c.initiator) i invalid_state) refl, tt)
+completion_act_goes m from i c t acts.FaultUnknownTransaction there l h k = stays_goes t t (fault_post (Some c.initiator) i UnknownTransaction ∷ []) refl (no_own (fault_post (Some c.initiator) i UnknownTransaction) refl, tt)
+completion_act_goes m from i c t acts.FaultInvalidState there l h k = stays_goes t t (fault_post (Some c.initiator) i InvalidState ∷ []) refl (no_own (fault_post (Some c.initiator) i InvalidState) refl, tt)
 completion_act_goes m from i c t other there l h k = stays_goes t t [] refl tt
 
 completion_notice_goes : (m : Moment) (from : Option Epr) (i : Option (List ℕ)) (c : Completion) (t : Transaction) (cell : Option Cell) → t.completion ≡ Some c → Linked t → IsShaped t

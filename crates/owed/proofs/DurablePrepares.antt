@@ -14,7 +14,8 @@ use Rattle.at_base.specs.declared.target.Target.TheVariants as targets
 use Rattle.at_base.specs.declared.event.Moment.{Moment}
 use Rattle.at_base.specs.declared.outs.Post.{Post}
 use Rattle.at_tables.specs.declared.cells.State.TheVariants as states
-use Rattle.at_tables.specs.Names.{is_kind, is_state}
+use Rattle.at_tables.specs.Names.{is_state}
+use Rattle.at_base.specs.Names.{is_kind}
 use Rattle.at_model.specs.Book.{Completion, Enlistment, Link, Phase, Superior, Transaction}
 use Rattle.at_model.specs.Moves.{Moving, Decision, become, forgotten, stays}
 use Rattle.at_model.specs.Posts.{notice_post, stored_or, to_each}

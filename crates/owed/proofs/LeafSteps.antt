@@ -20,7 +20,7 @@ use Rattle.at_tables.specs.declared.cells.Act.TheVariants as acts
 use Rattle.at_tables.specs.declared.cells.Cell.{Cell}
 use Rattle.at_tables.specs.Names.{is_state}
 use Rattle.at_tables.specs.Tables.{participant_of}
-use Rattle.at_model.specs.Addresses.{register_id}
+use Rattle.endpoints.specs.Addresses.{register_id}
 use Rattle.at_model.specs.Arrivals.{relates_to}
 use Rattle.at_model.specs.Book.{Book, Leaf, Transaction, find_by, is_id, leaf_id, put_by}
 use Rattle.at_model.specs.Due.{Reached, Expired, Over, Unanswered, Nothing, leaf_again, leaf_due, leaf_reached}

@@ -1,6 +1,7 @@
 -- Whatever moves a subordinate leaves its links busy, or answers upwards.
 use Rattle.std.specs.Prelude.{ℕ, List, [], Option, Some, None, true, false, ◌&&◌, is_none, ◌≡◌, ◌⊎◌, refl}
 use Rattle.std.proofs.Common.{inl, inr, ap, sym, subst, ◌∙◌}
+use Rattle.at_base.specs.declared.fault.Fault.TheVariants.{InvalidState}
 use Rattle.at_base.specs.Numbers.{Numbers}
 use Rattle.at_base.specs.declared.epr.Epr.{Epr}
 use Rattle.at_base.specs.declared.notice.Kind.{Kind}
@@ -21,10 +22,10 @@ use Rattle.at_tables.specs.declared.cells.Act.TheVariants as acts
 use Rattle.at_tables.specs.declared.cells.Cell.{Cell}
 use Rattle.at_tables.specs.Names.{is_state}
 use Rattle.at_tables.specs.Tables.{participant_of}
-use Rattle.at_model.specs.Addresses.{register_id}
+use Rattle.endpoints.specs.Addresses.{register_id}
 use Rattle.at_model.specs.Book.{Superior, Transaction}
 use Rattle.at_model.specs.Moves.{Decision, begin, ignored, posts}
-use Rattle.at_model.specs.Posts.{fault_post, invalid_state, notice_post, stored_or, stranger_post, to_each}
+use Rattle.at_model.specs.Posts.{fault_post, notice_post, stored_or, stranger_post, to_each}
 use Rattle.at_model.specs.Seats.{link_of, set_link, under}
 use Rattle.at_model.specs.Abort.{Alone, Asked, Faulted}
 use Rattle.at_model.specs.Phases.{upwards}
@@ -115,9 +116,9 @@ link_act_up m e from i kind s t n acts.RecordAndSendAborted u l g h f (a, p) = r
 }
 link_act_up m e from i kind s t n acts.FaultInvalidStateAndAbort u l g h f ((a, b), p) =
     fault_aborts m.base e t kind n s _ _ h p b (rolls_uncommitted t.phase kind s (known t s u l).0 a)
-    (aborts_up m s (Faulted kind) (posts (to_each (stored_or (link_of kind s).coordinator from) (λ to. fault_post (Some to) i invalid_state)) (begin t)) u)
+    (aborts_up m s (Faulted kind) (posts (to_each (stored_or (link_of kind s).coordinator from) (λ to. fault_post (Some to) i InvalidState)) (begin t)) u)
 link_act_up m e from i kind s t n acts.FaultInvalidState u l g h f (inl (a, p)) =
-    same_said m.base e t kind n s (to_each (stored_or (link_of kind s).coordinator from) (λ to. fault_post (Some to) i invalid_state)) h u
+    same_said m.base e t kind n s (to_each (stored_or (link_of kind s).coordinator from) (λ to. fault_post (Some to) i InvalidState)) h u
     (says_none e t kind n s _ (Some s) (λ x. let y : notices.Rollback ≡ notices.Prepare = sym p ∙ x in cc) (λ x. let y : notices.Rollback ≡ notices.Commit = sym p ∙ x in cc))
     (λ d. let y : states.Committing ≡ states.PreparedSuccess = sym a ∙ d in absurd cc)
 link_act_up m e from i kind s t n acts.FaultInvalidState u l g h f (inr (a, p)) = absurd (no_prepared (link_of kind s).state (link_state t.phase kind s (known t s u l).0) a)

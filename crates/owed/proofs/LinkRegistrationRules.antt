@@ -14,7 +14,7 @@ use Rattle.at_base.specs.declared.event.Moment.{Moment}
 use Rattle.at_tables.specs.declared.cells.State.TheVariants as states
 use Rattle.at_tables.specs.Names.{is_state}
 use Rattle.at_tables.specs.Tables.{participant_of}
-use Rattle.at_model.specs.Addresses.{register_id}
+use Rattle.endpoints.specs.Addresses.{register_id}
 use Rattle.at_model.specs.Book.{Book, Phase, Request, Superior, Transaction}
 use Rattle.at_model.specs.Moves.{Change, Decision, Goes, Records, begin, forgotten, post, posts, stays}
 use Rattle.at_model.specs.Posts.{reply_post}

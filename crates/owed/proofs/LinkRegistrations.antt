@@ -1,6 +1,7 @@
 -- A link that registers goes on to, until its Register is answered.
 use Rattle.std.specs.Prelude.{ℕ, List, Option, Some, None, Bool, true, false, if◌then◌else◌, ◌≡◌, refl}
 use Rattle.std.proofs.Common.{sym, subst}
+use Rattle.at_base.specs.declared.fault.Fault.TheVariants.{InvalidState}
 use Rattle.at_base.specs.declared.epr.Epr.{Epr}
 use Rattle.at_base.specs.declared.notice.Kind.{Kind}
 use Rattle.at_base.specs.declared.notice.Kind.TheVariants as kinds
@@ -17,7 +18,7 @@ use Rattle.at_tables.specs.declared.cells.Cell.{Cell}
 use Rattle.at_tables.specs.Names.{is_state}
 use Rattle.at_model.specs.Book.{Enlistment, Phase, Superior, Transaction}
 use Rattle.at_model.specs.Moves.{Change, Decision, Goes, begin, forgotten, post, posts, stays}
-use Rattle.at_model.specs.Posts.{fault_post, invalid_state, stored_or, to_each}
+use Rattle.at_model.specs.Posts.{fault_post, stored_or, to_each}
 use Rattle.at_model.specs.Seats.{link_in, link_of, under}
 use Rattle.at_model.specs.Abort.{Reason, Alone, Asked, Faulted, abort}
 use Rattle.at_model.specs.Phases.{go_volatile, upwards}
@@ -136,7 +137,7 @@ unfolding seat_act
 seat_act_since m i t s x acts.Vote u = advance_since m s t.phase (begin (seat_in x.number states.Prepared t)) u
 seat_act_since m i t s x acts.Leave u = advance_since m s t.phase (begin (seat_in x.number states.None t)) u
 seat_act_since m i t s x acts.LeaveAndAbort u = abort_since m s Alone (begin (seat_in x.number states.None t)) u
-seat_act_since m i t s x acts.FaultInvalidStateAndAbort u = abort_since m s Alone (post (fault_post (Some x.participant) i invalid_state) (begin t)) u
+seat_act_since m i t s x acts.FaultInvalidStateAndAbort u = abort_since m s Alone (post (fault_post (Some x.participant) i InvalidState) (begin t)) u
 seat_act_since m i t s x acts.SendRollback u = either s (in_state states.None x) _ _ (λ f. same_since s t.superior u) (λ f. same_since s t.superior u)
 seat_act_since m i t s x acts.SendCommit u = same_since s t.superior u
 seat_act_since m i t s x acts.FaultUnknownTransaction u = same_since s t.superior u
@@ -166,7 +167,7 @@ link_act_since m from i kind s t acts.Commit u = commit_since m s t
 link_act_since m from i kind s t acts.AbortAndSendAborted u = abort_since m s (Asked kind from) (begin t) u
 link_act_since m from i kind s t acts.RecordAndSendAborted u = record { entry = tt; landed = abort_since m s (Asked kind from) (begin t) u; otherwise = tt }
 link_act_since m from i kind s t acts.FaultInvalidStateAndAbort u =
-    abort_since m s (Faulted kind) (posts (to_each (stored_or (link_of kind s).coordinator from) (λ to. fault_post (Some to) i invalid_state)) (begin t)) u
+    abort_since m s (Faulted kind) (posts (to_each (stored_or (link_of kind s).coordinator from) (λ to. fault_post (Some to) i InvalidState)) (begin t)) u
 link_act_since m from i kind s t acts.SendPrepared u = same_since s t.superior u
 link_act_since m from i kind s t acts.SendCommitted u = same_since s t.superior u
 link_act_since m from i kind s t acts.SendAborted u = same_since s t.superior u

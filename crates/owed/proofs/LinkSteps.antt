@@ -1,6 +1,7 @@
 -- Each step leaves links busy, or answers upwards.
 use Rattle.std.specs.Prelude.{ℕ, List, [], ◌∷◌, ◌++◌, Option, Some, None, true, ◌≡◌, ◌⊎◌, refl}
 use Rattle.std.proofs.Common.{inl, inr, ap, sym, subst, ◌∙◌}
+use Rattle.at_base.specs.declared.fault.Fault.TheVariants.{InvalidState, UnknownTransaction}
 use Rattle.at_base.specs.Numbers.{Numbers}
 use Rattle.at_base.specs.declared.epr.Epr.{Epr}
 use Rattle.at_base.specs.declared.notice.Kind.{Kind}
@@ -22,7 +23,7 @@ use Rattle.at_tables.specs.declared.cells.Act.TheVariants as acts
 use Rattle.at_tables.specs.declared.cells.Cell.{Cell}
 use Rattle.at_model.specs.Book.{Book, Enlistment, Phase, Request, Superior, Transaction}
 use Rattle.at_model.specs.Moves.{Change, Decision, Goes, Records, begin}
-use Rattle.at_model.specs.Posts.{fault_post, invalid_state, notice_post, reply_post, unknown_transaction, stranger_post}
+use Rattle.at_model.specs.Posts.{fault_post, notice_post, reply_post, stranger_post}
 use Rattle.at_model.specs.Seats.{link_of, under}
 use Rattle.at_model.specs.Abort.{Alone, abort}
 use Rattle.at_model.specs.Arrivals.{on_link, answer_request, context_of, is_registering, on_seat, refused_request, request_answered, request_left, request_of, request_stands, request_under, seat_act, seat_notice, with_answer}
@@ -78,12 +79,12 @@ unfolding seat_act
 seat_act_keeps m i t s x n acts.Vote u l h sits k = advance_keeps m t.id s t.phase (begin (seat_in x.number states.Prepared t)) refl u (known t s u l).0
 seat_act_keeps m i t s x n acts.Leave u l h sits k = advance_keeps m t.id s t.phase (begin (seat_in x.number states.None t)) refl u (known t s u l).0
 seat_act_keeps m i t s x n acts.LeaveAndAbort u l h sits k = seat_aborts m t s x (seat_in x.number states.None t) [] u l h sits k.0 refl
-seat_act_keeps m i t s x n acts.FaultInvalidStateAndAbort u l h sits k = seat_aborts m t s x t (fault_post (Some x.participant) i invalid_state ∷ []) u l h sits k refl
+seat_act_keeps m i t s x n acts.FaultInvalidStateAndAbort u l h sits k = seat_aborts m t s x t (fault_post (Some x.participant) i InvalidState ∷ []) u l h sits k refl
 seat_act_keeps m i t s x n acts.SendCommit u l h sits k = same_rel m.base t.id s (notice_post m.base (seat_target t.id x) x.participant notices.Commit ∷ []) t.superior u
 seat_act_keeps m i t s x n acts.SendRollback u l h sits k =
     Rattle.owed.proofs.LinkRules.either m.base t.id s (in_state states.None x) _ _ (λ f. same_rel m.base t.id s (stranger_post m.base (seat_target t.id x) x.participant notices.Rollback ∷ []) t.superior u) (λ f. same_rel m.base t.id s (notice_post m.base (seat_target t.id x) x.participant notices.Rollback ∷ []) t.superior u)
-seat_act_keeps m i t s x n acts.FaultUnknownTransaction u l h sits k = same_rel m.base t.id s (fault_post (Some x.participant) i unknown_transaction ∷ []) t.superior u
-seat_act_keeps m i t s x n acts.FaultInvalidState u l h sits k = same_rel m.base t.id s (fault_post (Some x.participant) i invalid_state ∷ []) t.superior u
+seat_act_keeps m i t s x n acts.FaultUnknownTransaction u l h sits k = same_rel m.base t.id s (fault_post (Some x.participant) i UnknownTransaction ∷ []) t.superior u
+seat_act_keeps m i t s x n acts.FaultInvalidState u l h sits k = same_rel m.base t.id s (fault_post (Some x.participant) i InvalidState ∷ []) t.superior u
 seat_act_keeps m i t s x n other u l h sits k = same_rel m.base t.id s [] t.superior u
 
 seat_notice_keeps : (m : Moment) (i : Option (List ℕ)) (t : Transaction) (s : Superior) (x : Enlistment) (n : Notice) (c : Option Cell) → t.superior ≡ Some s → Linked t → IsShaped t → IsIn x t.seats

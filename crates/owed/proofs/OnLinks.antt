@@ -2,6 +2,7 @@
 use Rattle.std.specs.Prelude.{ℕ, List, [], ◌∷◌, Option, Some, None, true, false, ◌≡◌, refl}
 use Rattle.std.specs.List.{list_any, AllByRecursion}
 use Rattle.std.proofs.Common.{inl, inr, sym, subst, ◌∙◌}
+use Rattle.at_base.specs.declared.fault.Fault.TheVariants.{InvalidState}
 use Rattle.at_base.specs.declared.epr.Epr.{Epr}
 use Rattle.at_base.specs.declared.notice.Kind.{Kind}
 use Rattle.at_base.specs.declared.notice.Kind.TheVariants as kinds
@@ -20,7 +21,7 @@ use Rattle.at_tables.specs.declared.cells.Cell.{Cell}
 use Rattle.at_tables.specs.Names.{is_state}
 use Rattle.at_model.specs.Book.{Enlistment, Phase, Superior, Transaction}
 use Rattle.at_model.specs.Moves.{begin, effect, become}
-use Rattle.at_model.specs.Posts.{fault_post, invalid_state, stored_or, stranger_post, to_each}
+use Rattle.at_model.specs.Posts.{fault_post, stored_or, stranger_post, to_each}
 use Rattle.at_model.specs.Seats.{ending, is_prepared_durable, link_in, link_of, under}
 use Rattle.at_model.specs.Abort.{Reason, Asked, Faulted}
 use Rattle.at_model.specs.Phases.{upwards, commit_seats, go_volatile}
@@ -148,9 +149,9 @@ link_act_owes m e from i kind s t n acts.RecordAndSendAborted u l h q k = record
   otherwise = tt;
 }
 link_act_owes m e from i kind s t n acts.FaultInvalidStateAndAbort u l h q k =
-    aborts_from m e (Faulted kind) t (to_each (stored_or (link_of kind s).coordinator from) (λ to. fault_post (Some to) i invalid_state)) h q (rolls_undecided t.phase kind s (known t s u l).0 k.0.0)
+    aborts_from m e (Faulted kind) t (to_each (stored_or (link_of kind s).coordinator from) (λ to. fault_post (Some to) i InvalidState)) h q (rolls_undecided t.phase kind s (known t s u l).0 k.0.0)
 link_act_owes m e from i kind s t n acts.FaultInvalidState u l h q k =
-    still_left m e t t.sent (to_each (stored_or (link_of kind s).coordinator from) (λ to. fault_post (Some to) i invalid_state)) h q
+    still_left m e t t.sent (to_each (stored_or (link_of kind s).coordinator from) (λ to. fault_post (Some to) i InvalidState)) h q
 link_act_owes m e from i kind s t n other u l h q k = still_left m e t t.sent [] h q
 
 pub link_notice_owes : (m : Moment) (e : Event) (from : Option Epr) (i : Option (List ℕ)) (kind : Kind) (s : Superior) (t : Transaction) (n : Notice) (c : Option Cell) → t.superior ≡ Some s → Linked t

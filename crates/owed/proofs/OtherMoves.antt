@@ -1,6 +1,7 @@
 -- What else moves a transaction: an answer to its Register, its initiator, and time; and the answer to its request.
 use Rattle.std.specs.Prelude.{ℕ, List, [], ◌∷◌, Option, Some, None, Bool, true, false, ◌&&◌, ◌||◌, if◌then◌else◌, ◌≡◌, refl}
 use Rattle.std.proofs.Common.{sym, subst, ◌∙◌}
+use Rattle.at_base.specs.declared.fault.Fault.TheVariants.{InvalidState, UnknownTransaction}
 use Rattle.at_base.specs.declared.epr.Epr.{Epr}
 use Rattle.at_base.specs.declared.notice.Kind.{Kind}
 use Rattle.at_base.specs.declared.notice.Kind.TheVariants as kinds
@@ -19,10 +20,10 @@ use Rattle.at_tables.specs.declared.cells.Act.TheVariants as acts
 use Rattle.at_tables.specs.declared.cells.Cell.{Cell}
 use Rattle.at_tables.specs.Names.{is_state}
 use Rattle.at_tables.specs.Tables.{completion_of, participant_of}
-use Rattle.at_model.specs.Addresses.{register_id}
+use Rattle.endpoints.specs.Addresses.{register_id}
 use Rattle.at_model.specs.Book.{Completion, Phase, Superior, Transaction}
 use Rattle.at_model.specs.Moves.{begin}
-use Rattle.at_model.specs.Posts.{fault_post, invalid_state, notice_post, to_each, unknown_transaction}
+use Rattle.at_model.specs.Posts.{fault_post, notice_post, to_each}
 use Rattle.at_model.specs.Seats.{link_of, set_link}
 use Rattle.at_model.specs.Abort.{Alone}
 use Rattle.at_model.specs.Arrivals.{completion_act, completion_notice, link_fault, link_registered, on_completion, on_link, registered, relates_to}
@@ -162,8 +163,8 @@ completion_act_owes m e from i c t acts.AbortAndSendAborted there l h q k =
     aborts_from m e Alone t [] h q (λ f. let g : Phase.Active ≡ Phase.Committing = sym (is_active t c there l h k) ∙ f in cc)
 completion_act_owes m e from i c t acts.SendCommitted there l h q k =
     still_left m e t t.sent (to_each from (λ to. notice_post m.base (targets.Completion t.id) to notices.Committed)) h q
-completion_act_owes m e from i c t acts.FaultUnknownTransaction there l h q k = still_left m e t t.sent (fault_post (Some c.initiator) i unknown_transaction ∷ []) h q
-completion_act_owes m e from i c t acts.FaultInvalidState there l h q k = still_left m e t t.sent (fault_post (Some c.initiator) i invalid_state ∷ []) h q
+completion_act_owes m e from i c t acts.FaultUnknownTransaction there l h q k = still_left m e t t.sent (fault_post (Some c.initiator) i UnknownTransaction ∷ []) h q
+completion_act_owes m e from i c t acts.FaultInvalidState there l h q k = still_left m e t t.sent (fault_post (Some c.initiator) i InvalidState ∷ []) h q
 completion_act_owes m e from i c t other there l h q k = still_left m e t t.sent [] h q
 
 completion_notice_owes : (m : Moment) (e : Event) (from : Option Epr) (i : Option (List ℕ)) (c : Completion) (t : Transaction) (cell : Option Cell) → t.completion ≡ Some c → Linked t → IsShaped t

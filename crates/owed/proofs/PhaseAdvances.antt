@@ -12,7 +12,8 @@ use Rattle.at_base.specs.declared.event.Moment.{Moment}
 use Rattle.at_base.specs.declared.outs.Post.{Post}
 use Rattle.at_tables.specs.declared.cells.State.{State}
 use Rattle.at_tables.specs.declared.cells.State.TheVariants as states
-use Rattle.at_tables.specs.Names.{is_kind, is_state}
+use Rattle.at_tables.specs.Names.{is_state}
+use Rattle.at_base.specs.Names.{is_kind}
 use Rattle.at_model.specs.Book.{Completion, Enlistment, Phase, Superior, Transaction}
 use Rattle.at_model.specs.Moves.{Moving, become, posts, stays, forgotten}
 use Rattle.at_model.specs.Seats.{answered, all_left, completion_in, in_phase, in_state, initiator_posts, is_of, is_prepared_durable, link_in, moved, notices_to, prepared, seated}

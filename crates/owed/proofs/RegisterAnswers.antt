@@ -1,6 +1,8 @@
 -- Every Register is answered; and each step answers for its leaves.
 use Rattle.std.specs.Prelude.{ℕ, List, ◌++◌, Option, Some, None, Bool, true, false, if◌then◌else◌, ◌&&◌, ◌≡◌, refl}
 use Rattle.std.proofs.Common.{inl, ap, sym, subst, ◌∙◌}
+use Rattle.at_base.specs.declared.fault.Fault.{Fault}
+use Rattle.at_base.specs.declared.fault.Fault.TheVariants.{CannotRegisterParticipant, InvalidParameters, InvalidProtocol}
 use Rattle.at_base.specs.Numbers.{Numbers}
 use Rattle.at_base.specs.declared.epr.Epr.{Epr}
 use Rattle.at_base.specs.declared.epr.Reply.{Reply}
@@ -16,10 +18,10 @@ use Rattle.at_base.specs.declared.message.Register.{Register}
 use Rattle.at_base.specs.declared.outs.Out.{Out}
 use Rattle.at_base.specs.declared.target.Target.{Target}
 use Rattle.at_base.specs.declared.target.Target.TheVariants as targets
-use Rattle.at_tables.specs.Names.{is_kind}
+use Rattle.at_base.specs.Names.{is_kind}
 use Rattle.at_model.specs.Book.{Book, Leaf, Transaction, is_id}
 use Rattle.at_model.specs.Leaves.{leaf_target}
-use Rattle.at_model.specs.Posts.{cannot_register, fault_post, faulted, invalid_parameters, invalid_protocol, replied, reply_post}
+use Rattle.at_model.specs.Posts.{fault_post, faulted, replied, reply_post}
 use Rattle.at_model.specs.Register.{Registration, completion_endpoint, late_prepare, is_late, new_seat, on_register, protocol_named, register_unknown, seat_endpoint}
 use Rattle.at_model.specs.Step.{Plan, arrived_plan, leaf_at, moment_of, plan, registration_plan, transaction_at}
 use Rattle.model_laws.proofs.DecisionLaws.{same_kind}
@@ -42,8 +44,8 @@ replies_alone : (reply : Reply) (id : Option (List ℕ)) (c to : Epr) → reply 
 replies_alone reply id c to e =
     subst (λ r. TellsRegistered to id (posts_of (replied r id (messages.RegisterResponse c)))) (sym e) (reply_post (Some to) id (messages.RegisterResponse c), inl refl, refl, refl, tt)
 
-faults_to : (reply : Reply) (id : Option (List ℕ)) (name : List ℕ) (to : Epr) → reply ≡ replies.At to → TellsRegistered to id (posts_of (faulted reply id name))
-faults_to reply id name to e = subst (λ r. TellsRegistered to id (posts_of (faulted r id name))) (sym e) (fault_post (Some to) id name, inl refl, refl, refl, tt)
+faults_to : (reply : Reply) (id : Option (List ℕ)) (drawn : Fault) (to : Epr) → reply ≡ replies.At to → TellsRegistered to id (posts_of (faulted reply id drawn))
+faults_to reply id drawn to e = subst (λ r. TellsRegistered to id (posts_of (faulted r id drawn))) (sym e) (fault_post (Some to) id drawn, inl refl, refl, refl, tt)
 
 enrolls_replies : (m : Moment) (a : Arrived) (r : Register) (t : Transaction) (g : Registration) (to : Epr) → a.reply ≡ replies.At to → a.fault ≡ replies.At to → Enrolls m a r t g
     → TellsRegistered to a.id (posts_of g.outs)
@@ -58,8 +60,8 @@ enrolls_replies m a r t g to e f (refuses name is) = subst (λ x. TellsRegistere
 
 unknown_replies : (a : Arrived) (r : Register) (kind : Option (Option Kind)) (to : Epr) → a.fault ≡ replies.At to → TellsRegistered to a.id (posts_of (register_unknown a r kind))
 unfolding register_unknown
-unknown_replies a r None to f = faults_to a.fault a.id invalid_protocol to f
-unknown_replies a r (Some kind) to f = faults_to a.fault a.id (if a.postable then cannot_register else invalid_parameters) to f
+unknown_replies a r None to f = faults_to a.fault a.id InvalidProtocol to f
+unknown_replies a r (Some kind) to f = faults_to a.fault a.id (if a.postable then CannotRegisterParticipant else InvalidParameters) to f
 
 plan_replies : (b : Book) (now : ℕ) (a : Arrived) (r : Register) (o : Option Transaction) (to : Epr) → a.reply ≡ replies.At to → a.fault ≡ replies.At to
     → TellsRegistered to a.id (posts_of (registration_plan b now a (messages.Register r) o).landed.outs)

@@ -12,7 +12,8 @@ use Rattle.at_base.specs.declared.outs.Post.{Post}
 use Rattle.at_base.specs.declared.outs.Ending.TheVariants as endings
 use Rattle.at_tables.specs.declared.cells.State.{State}
 use Rattle.at_tables.specs.declared.cells.State.TheVariants as states
-use Rattle.at_tables.specs.Names.{is_kind, is_state}
+use Rattle.at_tables.specs.Names.{is_state}
+use Rattle.at_base.specs.Names.{is_kind}
 use Rattle.at_model.specs.Book.{Completion, Enlistment, Phase, Superior, Transaction}
 use Rattle.at_model.specs.Moves.{Moving, Change, Decision, become, effect, posts, stays, forgotten}
 use Rattle.at_model.specs.Seats.{completion_in, ending, in_state, initiator_posts, is_open, moved, send_each}

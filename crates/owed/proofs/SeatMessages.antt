@@ -2,6 +2,7 @@
 use Rattle.std.specs.Prelude.{ℕ, List, [], ◌∷◌, Option, Some, None, Bool, true, false, not, nat_eq, ◌&&◌, ◌||◌, if◌then◌else◌, ◌≡◌, ◌⊎◌, ◌<◌, ◌≤◌, refl}
 use Rattle.std.specs.List.{AllByRecursion}
 use Rattle.std.proofs.Common.{arith, inl, inr, sym, subst, ◌∙◌}
+use Rattle.at_base.specs.declared.fault.Fault.TheVariants.{InvalidState, UnknownTransaction}
 use Rattle.at_base.specs.declared.notice.Kind.{Kind}
 use Rattle.at_base.specs.declared.notice.Kind.TheVariants as kinds
 use Rattle.at_base.specs.declared.notice.Notice.{Notice}
@@ -17,11 +18,12 @@ use Rattle.at_tables.specs.declared.cells.State.TheVariants as states
 use Rattle.at_tables.specs.declared.cells.Act.{Act}
 use Rattle.at_tables.specs.declared.cells.Act.TheVariants as acts
 use Rattle.at_tables.specs.declared.cells.Cell.{Cell}
-use Rattle.at_tables.specs.Names.{is_kind, is_state}
+use Rattle.at_tables.specs.Names.{is_state}
+use Rattle.at_base.specs.Names.{is_kind}
 use Rattle.at_tables.specs.Tables.{coordinator_of}
 use Rattle.at_model.specs.Book.{Enlistment, Phase, Transaction}
 use Rattle.at_model.specs.Moves.{begin, post}
-use Rattle.at_model.specs.Posts.{fault_post, invalid_state, notice_post, stranger_post, unknown_transaction}
+use Rattle.at_model.specs.Posts.{fault_post, notice_post, stranger_post}
 use Rattle.at_model.specs.Seats.{in_state, is_open, moved, seat_in, seat_target}
 use Rattle.at_model.specs.Abort.{Alone}
 use Rattle.at_model.specs.Phases.{advance}
@@ -350,17 +352,17 @@ seat_act_owes m e i t s n acts.LeaveAndAbort h l at (u, k) =
     (moves_along m e t s n states.None h at ((λ x. absurd cc), ((λ x. absurd cc), (unprepared s.state (unanswered_moves s.state u), never n states.None k))) (may_leave t.phase s.kind s.state suited)).0
 seat_act_owes m e i t s n acts.FaultInvalidStateAndAbort h l at u =
     let suited : suits t.phase s.kind s.state ≡ true = are_in (suits t.phase) t.seats s h.0 at.sits in
-    aborts_open m e t (suits t.phase) Alone (post (fault_post (Some s.participant) i invalid_state) (begin t)) (unanswered_loose t.phase s.kind s.state suited u)
-    (refl, (h.0, open_pairs e t s n (fault_post (Some s.participant) i invalid_state ∷ []) t.seats at.said at.only (unanswered_opens s u)))
+    aborts_open m e t (suits t.phase) Alone (post (fault_post (Some s.participant) i InvalidState) (begin t)) (unanswered_loose t.phase s.kind s.state suited u)
+    (refl, (h.0, open_pairs e t s n (fault_post (Some s.participant) i InvalidState ∷ []) t.seats at.said at.only (unanswered_opens s u)))
 seat_act_owes m e i t s n acts.SendCommit h l at (k, p) =
     stands_still m e t s n (Some m.now) (notice_post m.base (seat_target t.id s) s.participant notices.Commit ∷ []) h at
     (answered_so (notice_post m.base (seat_target t.id s) s.participant notices.Commit ∷ []) s n states.Committing k refl (λ x y. let z : notices.Prepared ≡ notices.Committed = sym p ∙ y in absurd cc)
     (inl (notice_post m.base (seat_target t.id s) s.participant notices.Commit, inl refl, refl, refl)))
 seat_act_owes m e i t s n acts.SendRollback h l at k = rolls_again m e t s n h at k
 seat_act_owes m e i t s n acts.FaultUnknownTransaction h l at k =
-    stands_still m e t s n t.sent (fault_post (Some s.participant) i unknown_transaction ∷ []) h at (as_it_was (fault_post (Some s.participant) i unknown_transaction ∷ []) s n k)
+    stands_still m e t s n t.sent (fault_post (Some s.participant) i UnknownTransaction ∷ []) h at (as_it_was (fault_post (Some s.participant) i UnknownTransaction ∷ []) s n k)
 seat_act_owes m e i t s n acts.FaultInvalidState h l at k =
-    stands_still m e t s n t.sent (fault_post (Some s.participant) i invalid_state ∷ []) h at (as_it_was (fault_post (Some s.participant) i invalid_state ∷ []) s n k)
+    stands_still m e t s n t.sent (fault_post (Some s.participant) i InvalidState ∷ []) h at (as_it_was (fault_post (Some s.participant) i InvalidState ∷ []) s n k)
 seat_act_owes m e i t s n other h l at k = stands_still m e t s n t.sent [] h at (as_it_was [] s n k)
 
 seat_notice_owes : (m : Moment) (e : Event) (i : Option (List ℕ)) (t : Transaction) (s : Enlistment) (n : Notice) (c : Option Cell) → IsShaped t → Linked t → AtSeat e t s n

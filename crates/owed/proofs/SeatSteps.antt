@@ -27,7 +27,7 @@ use Rattle.at_base.specs.declared.outs.Post.{Post}
 use Rattle.at_tables.specs.declared.cells.State.{State}
 use Rattle.at_tables.specs.declared.cells.State.TheVariants as states
 use Rattle.at_tables.specs.Tables.{coordinator_of}
-use Rattle.at_model.specs.Addresses.{atomic}
+use Rattle.endpoints.specs.Addresses.{atomic}
 use Rattle.at_model.specs.Book.{Book, Enlistment, Transaction, find_by, put_by, transaction_id}
 use Rattle.at_model.specs.Create.{create_in, create_under, on_create, refuse_create}
 use Rattle.at_model.specs.Moves.{Decision, Goes, Records}

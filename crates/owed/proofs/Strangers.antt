@@ -11,7 +11,7 @@ use Rattle.at_base.specs.declared.message.Message.TheVariants as messages
 use Rattle.at_base.specs.declared.target.Target.TheVariants as targets
 use Rattle.at_base.specs.declared.event.Arrived.{Arrived}
 use Rattle.at_tables.specs.declared.cells.State.TheVariants as states
-use Rattle.at_tables.specs.Names.{is_kind}
+use Rattle.at_base.specs.Names.{is_kind}
 use Rattle.at_tables.specs.Tables.{participant_of}
 use Rattle.at_model.specs.Book.{Book, Leaf, Transaction}
 use Rattle.at_model.specs.Leaves.{on_leaf}

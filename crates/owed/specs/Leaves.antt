@@ -9,7 +9,7 @@ use Rattle.at_base.specs.declared.message.Message.TheVariants as messages
 use Rattle.at_base.specs.declared.notice.Notice.TheVariants as notices
 use Rattle.at_base.specs.declared.outs.Post.{Post}
 use Rattle.at_tables.specs.declared.cells.State.TheVariants as states
-use Rattle.at_model.specs.Addresses.{register_id}
+use Rattle.endpoints.specs.Addresses.{register_id}
 use Rattle.at_model.specs.Arrivals.{relates_to}
 use Rattle.at_model.specs.Book.{Book, Leaf}
 use Rattle.at_model.specs.Leaves.{leaf_target}

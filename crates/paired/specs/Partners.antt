@@ -6,7 +6,7 @@ use Rattle.at_base.specs.declared.epr.Epr.{Epr}
 use Rattle.at_base.specs.declared.notice.Kind.{Kind}
 use Rattle.at_base.specs.declared.target.Target.TheVariants as targets
 use Rattle.at_tables.specs.declared.cells.State.TheVariants as states
-use Rattle.at_model.specs.Addresses.{endpoint_of}
+use Rattle.endpoints.specs.Addresses.{endpoint_of}
 use Rattle.at_model.specs.Book.{Book, Enlistment, Leaf, Transaction}
 use Rattle.at_model.specs.Due.{may_expire}
 use Rattle.at_model.specs.Step.{leaf_at, transaction_at}

@@ -16,7 +16,7 @@ use Rattle.at_base.specs.declared.event.Item.{Item}
 use Rattle.at_base.specs.declared.event.Item.TheVariants as items
 use Rattle.at_base.specs.declared.event.Event.TheVariants as events
 use Rattle.at_base.specs.declared.outs.Out.{Out}
-use Rattle.at_tables.specs.Names.{is_kind}
+use Rattle.at_base.specs.Names.{is_kind}
 use Rattle.at_model.specs.Book.{Book, Transaction, Leaf, next_id}
 use Rattle.at_model.specs.Moves.{Decision, Goes, Records}
 use Rattle.at_model.specs.Leaves.{Employment, work_for, on_work, on_leaf}

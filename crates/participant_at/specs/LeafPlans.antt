@@ -13,7 +13,7 @@ use Rattle.at_base.specs.declared.event.Event.{Event}
 use Rattle.at_base.specs.declared.event.Event.TheVariants as events
 use Rattle.at_base.specs.declared.outs.Effect.{Effect}
 use Rattle.at_base.specs.declared.outs.Ending.TheVariants as endings
-use Rattle.at_tables.specs.Names.{is_kind}
+use Rattle.at_base.specs.Names.{is_kind}
 use Rattle.at_model.specs.Book.{Leaf, find_by, leaf_id}
 use Rattle.at_model.specs.Posts.{accepted}
 use Rattle.at_model.specs.Leaves.{on_leaf, on_work, leaf_ended}

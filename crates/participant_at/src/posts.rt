@@ -1,8 +1,9 @@
 //! What a leaf sends (WS-Addressing 1.0 Core, section 3).
 
 ghost use Rattle.std.specs.Prelude.{◌≡◌, ◌++◌, ◌∷◌, [], IfOk, OnOk, map};
+ghost use Rattle.at_base.specs.declared.fault.Fault.TheVariants.{InvalidState};
 ghost use Rattle.at_base.specs.declared.outs.Out.TheVariants as out;
-ghost use Rattle.at_model.specs.Addresses.{protocol_of, register_id};
+ghost use Rattle.endpoints.specs.Addresses.{protocol_of, register_id};
 ghost use Rattle.at_model.specs.Posts.{replied};
 ghost use Rattle.at_model.specs.Leaves.{leaf_target, leaf_says, leaf_faults, leaf_register, work_answer};
 ghost use Rattle.participant_at.specs.Answers.{answer_message};
@@ -15,7 +16,8 @@ use at_base::notice::Notice;
 use at_base::outs::OutList;
 use at_base::target::Target;
 use at_base::text::Text;
-use at_posts::names::{invalid_state, protocol_of};
+use at_base::fault::Fault;
+use endpoints::uris::protocol_of;
 use at_posts::posts::{self, push_fault, push_notice, push_reply, stored_or};
 use at_posts::{addresses, answers};
 use std::alloc::{AllocError, Global};
@@ -67,7 +69,7 @@ pub fn say_fault(
     ensures { OnOk result (outs.new ≡ outs.old ++ map out.Post (leaf_faults from.now id.now leaf.now)) }
 {
     match stored_or(&leaf.coordinator, from) {
-        Some(to) => push_fault(alloc, outs, to, id, invalid_state()),
+        Some(to) => push_fault(alloc, outs, to, id, Fault::InvalidState),
         None => Ok(()),
     }
 }

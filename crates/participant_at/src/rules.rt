@@ -24,7 +24,7 @@ use at_base::notice::{Kind, Notice, Vote};
 use at_base::outs::{Effect, Effects, Ending, OutList, Outs};
 use at_base::record::Record;
 use at_base::text::Text;
-use at_posts::addresses::relates_to;
+use at_posts::answers::relates_to;
 use at_tables::cells::{Act, State, participant_cell};
 use by_id::list::Alteration;
 use by_id::moves::unchanged;

@@ -8,13 +8,11 @@ use at_base::notice::{Kind, Notice};
 use at_base::outs::{Out, OutList, Post};
 use at_base::target::{Seat, Target};
 use at_base::text::Text;
-use at_posts::addresses::{address_of, create_id, endpoint_of, register_id, work_id};
+use endpoints::addresses::{address_of, create_id, endpoint_of, register_id, work_id};
 use at_posts::answers::{accepted, faulted, replied};
 use at_posts::list::PostList;
-use at_posts::names::{
-    atomic, cannot_create, cannot_register, completion_protocol, invalid_parameters,
-    invalid_protocol, invalid_state, protocol_of, unknown_transaction,
-};
+use at_base::fault::Fault;
+use endpoints::uris::{atomic, completion_protocol, protocol_of};
 use at_posts::posts::{
     fault_post, notice_post, push_fault, push_notice, push_register, push_reply, push_request,
     push_stranger, register_post, reply_post, request_post, stored_or, stranger_post,
@@ -229,7 +227,7 @@ fn push_named(alloc: Global, outs: &mut OutList, s: &Sender, name: &str) -> Resu
         "notice" => push_notice(alloc, outs, &s.base, &s.own, &s.to, Notice::Prepared),
         "stranger" => push_stranger(alloc, outs, &s.base, &s.own, &s.to, Notice::Aborted),
         "reply" => push_reply(outs, &s.to, &s.id, Message::WorkDone),
-        "fault" => push_fault(alloc, outs, &s.to, &s.id, invalid_state()),
+        "fault" => push_fault(alloc, outs, &s.to, &s.id, Fault::InvalidState),
         "request" => push_request_to(alloc, outs, s),
         _ => push_register(alloc, outs, &s.base, &s.own, completion_protocol(), &s.to),
     }
@@ -284,7 +282,7 @@ fn named(alloc: Global, s: &Sender, name: &str) -> Result<Post, AllocError> {
         "notice" => notice_post(alloc, &s.base, &s.own, &s.to, Notice::Aborted),
         "stranger" => stranger_post(alloc, &s.base, &s.own, &s.to, Notice::Rollback),
         "reply" => reply_post(None, &s.id, Message::WorkDone),
-        "fault" => fault_post(alloc, None, &None, unknown_transaction()),
+        "fault" => fault_post(alloc, None, &None, Fault::UnknownTransaction),
         "request" => request_of(alloc, s),
         _ => register_post(alloc, &s.base, &s.own, protocol_of(Kind::Volatile), &s.to),
     }
@@ -359,7 +357,7 @@ fn replies(alloc: Global, line: &mut String, name: &str) -> Result<(), AllocErro
 
 fn faults(alloc: Global, line: &mut String, name: &str) -> Result<(), AllocError> {
     let reply = reply_named(alloc, name)?;
-    let outs = faulted(alloc, &reply, &None, cannot_create())?;
+    let outs = faulted(alloc, &reply, &None, Fault::CannotCreateContext)?;
     push_lines(alloc, line, &outs)
 }
 
@@ -405,9 +403,9 @@ fn what_is_answered(rt: HostRuntime) -> Result<(), Fail> {
 fn names(rt: HostRuntime) -> Result<(), Fail> {
     let uris = atomic() == "http://docs.oasis-open.org/ws-tx/wsat/2006/06"
         && protocol_of(Kind::Durable) == "http://docs.oasis-open.org/ws-tx/wsat/2006/06/Durable2PC";
-    let faults = invalid_protocol() == "InvalidProtocol"
-        && invalid_parameters() == "InvalidParameters"
-        && cannot_register() == "CannotRegisterParticipant";
+    let faults = Fault::InvalidProtocol == "InvalidProtocol"
+        && Fault::InvalidParameters == "InvalidParameters"
+        && Fault::CannotRegisterParticipant == "CannotRegisterParticipant";
     assert!(rt; uris && faults);
     Ok(())
 }

@@ -2,7 +2,7 @@
 
 ghost use Rattle.std.specs.Prelude.{ℕ, ◌≡◌, ◌++◌, [], OnOk, codes};
 ghost use Rattle.at_base.specs.declared.outs.Effect.TheVariants as effects;
-ghost use Rattle.at_model.specs.Views.{behind_slash, line_of, message_name, notice_name, path_in, receiver_number};
+ghost use Rattle.at_model.specs.Views.{behind_slash, line_of, message_name, path_in, receiver_number};
 ghost use Rattle.replay_cmd.specs.Lines.{deliver_line, down_line, effect_line, end_line, forged_line, inject_line, item_line, leaf_words, message_line, message_start, no_message_line, refused_line, summary_line, tick_line, up_already_line, up_line};
 
 use at_base::epr::Epr;
@@ -10,7 +10,7 @@ use at_base::id::Id;
 use at_base::message::Message;
 use at_base::notice::{Kind, Notice};
 use at_base::outs::{Effect, Ending};
-use effect_words::{ending_word, kind_letter, told_word};
+use effect_words::{ending_word, told_word};
 use std::alloc::{AllocError, Global};
 use std::marker::Model;
 use world_laws::posts::Posted;
@@ -53,20 +53,6 @@ impl Model for Lines {
     ghost view = { λ l. l.bytes.items };
 }
 
-fn notice_name(notice: Notice) -> &'static str
-    ensures { result.now ≡ notice_name notice }
-{
-    match notice {
-        Notice::Prepare => "Prepare",
-        Notice::Commit => "Commit",
-        Notice::Rollback => "Rollback",
-        Notice::Prepared => "Prepared",
-        Notice::ReadOnly => "ReadOnly",
-        Notice::Aborted => "Aborted",
-        Notice::Committed => "Committed",
-    }
-}
-
 /// The local name of a message's body; of a fault, that of its code.
 fn message_name(message: &Message) -> &str
     ensures { result.now ≡ message_name message.entry.now }
@@ -76,7 +62,7 @@ fn message_name(message: &Message) -> &str
         Message::CreateResponse(_) => "CreateCoordinationContextResponse",
         Message::Register(_) => "Register",
         Message::RegisterResponse(_) => "RegisterResponse",
-        Message::Notice(notice) => notice_name(*notice),
+        Message::Notice(notice) => notice.name(),
         Message::Work(_) => "Work",
         Message::WorkDone => "WorkDone",
         Message::WorkRefused => "WorkRefused",
@@ -303,7 +289,7 @@ impl Lines {
     ) -> Result<(), AllocError>
         ensures { OnOk result (self.new ≡ self.old ++ effect_line node (effects.Leaf id kind what)) }
     {
-        let words = format!(in alloc; "{} {}", kind_letter(kind), ending_word(what))?;
+        let words = format!(in alloc; "{} {}", kind.letter(), ending_word(what))?;
         self.push_item(alloc, "leaf", node, id, words.as_str())
     }
 

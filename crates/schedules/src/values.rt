@@ -86,21 +86,18 @@ pub fn read_id(word: &str) -> Result<Id, Cause>
 pub fn read_kind(word: &str) -> Result<Kind, Cause>
     ensures { result ≡ kind_in word.now }
 {
-    match word {
-        "d" => Ok(Kind::Durable),
-        "v" => Ok(Kind::Volatile),
-        _ => Err(Cause::Keyword),
+    match Kind::lettered(word) {
+        Some(kind) => Ok(kind),
+        None => Err(Cause::Keyword),
     }
 }
 
 pub fn read_vote(word: &str) -> Result<Vote, Cause>
     ensures { result ≡ vote_in word.now }
 {
-    match word {
-        "prepared" => Ok(Vote::Prepared),
-        "readonly" => Ok(Vote::ReadOnly),
-        "aborted" => Ok(Vote::Aborted),
-        _ => Err(Cause::Keyword),
+    match Vote::named(word) {
+        Some(vote) => Ok(vote),
+        None => Err(Cause::Keyword),
     }
 }
 

@@ -6,7 +6,7 @@ use Rattle.at_base.specs.declared.notice.Kind.{Kind}
 use Rattle.at_base.specs.declared.outs.Effect.{Effect}
 use Rattle.at_base.specs.declared.outs.Effect.TheVariants as effects
 use Rattle.at_base.specs.declared.outs.Ending.{Ending}
-use Rattle.at_model.specs.Addresses.{kind_letter}
+use Rattle.at_base.specs.Names.{kind_letter}
 use Rattle.effect_words.specs.Words.{ending_word, told_word}
 use Rattle.node_at.specs.declared.fault.StartFault.{StartFault}
 use Rattle.node_at.specs.declared.fault.StartFault.TheVariants as faults

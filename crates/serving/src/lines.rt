@@ -8,7 +8,7 @@ use crate::answer::Answer;
 use at_base::id::Id;
 use at_base::notice::Kind;
 use at_base::outs::{Effect, Ending};
-use effect_words::{ending_word, kind_letter, refusal_word, told_word};
+use effect_words::{ending_word, refusal_word, told_word};
 use node_at::fault::StartFault;
 use node_at::local::Locally;
 use std::alloc::{AllocError, Global};
@@ -32,7 +32,7 @@ fn item_line(alloc: Global, item: &str, id: Id, words: &str) -> Result<String, A
 fn leaf_words(alloc: Global, kind: Kind, what: Ending) -> Result<String, AllocError>
     ensures { IfOk result (λ text. string_bytes text ≡ leaf_words kind what) }
 {
-    format!(in alloc; "{} {}", kind_letter(kind), ending_word(what))
+    format!(in alloc; "{} {}", kind.letter(), ending_word(what))
 }
 
 /// What happened for good on the node.

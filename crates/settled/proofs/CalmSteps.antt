@@ -13,11 +13,12 @@ use Rattle.at_base.specs.declared.event.Event.TheVariants as events
 use Rattle.at_base.specs.declared.outs.Post.{Post}
 use Rattle.at_base.specs.declared.target.Target.{Target}
 use Rattle.at_base.specs.declared.target.Target.TheVariants as targets
-use Rattle.at_model.specs.Addresses.{endpoint_of}
+use Rattle.endpoints.specs.Addresses.{endpoint_of, target_at}
 use Rattle.at_model.specs.Book.{Book, Enlistment}
 use Rattle.at_model.specs.Seats.{seat_target}
 use Rattle.at_model.specs.Step.{plan, step}
-use Rattle.at_model.specs.World.{Node, Posted, Who, World, arrival_of, decoded, decoded_at, new_nodes, nth, put_nth, receiver_of, takes, target_at, Hosts, HaveOwnAddresses}
+use Rattle.at_model.specs.World.{Node, Posted, Who, World, arrival_of, decoded, decoded_at, new_nodes, nth, put_nth, receiver_of, Hosts, HaveOwnAddresses}
+use Rattle.endpoints.specs.Forms.{takes}
 use Rattle.model_laws.specs.Agreement.{IsIn}
 use Rattle.model_laws.specs.DrawnIds.{with_entry}
 use Rattle.model_laws.specs.ReachedWorlds.{counts, post_all}

@@ -17,7 +17,9 @@ use Rattle.std.proofs.lemmas.Bool.{eq-eqb}
 use Rattle.at_model.specs.Book.{Book}
 use Rattle.at_model.specs.Due.{resend_after}
 use Rattle.at_model.specs.Step.{Outcome, Plan, is_due, items_of, plan}
-use Rattle.at_model.specs.World.{Deliver, Node, Posted, Tick, Turn, Turning, World, accepted_in, answer_plan, arrival_of, arrival_plan, decoded_at, new_nodes, takes, target_at, at_some_node, counted, decoded, deliver, due_step, due_steps, happened_at, is_receiver, later, nth, on_book, put_book, put_nth, send_all, step_by, take_step, take_turn, ticked, turned, with_post, with_record, world_step, Hosts, HaveOwnAddresses}
+use Rattle.at_model.specs.World.{Deliver, Node, Posted, Tick, Turn, Turning, World, accepted_in, answer_plan, arrival_of, arrival_plan, decoded_at, new_nodes, at_some_node, counted, decoded, deliver, due_step, due_steps, happened_at, is_receiver, later, nth, on_book, put_book, put_nth, send_all, step_by, take_step, take_turn, ticked, turned, with_post, with_record, world_step, Hosts, HaveOwnAddresses}
+use Rattle.endpoints.specs.Addresses.{target_at}
+use Rattle.endpoints.specs.Forms.{takes}
 use Rattle.model_laws.specs.Agreement.{IsIn}
 use Rattle.model_laws.specs.DrawnIds.{with_entry}
 use Rattle.model_laws.specs.ReachedWorlds.{Heard, Reached, counts, post_all, stepped, waited}

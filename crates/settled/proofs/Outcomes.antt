@@ -13,7 +13,7 @@ use Rattle.at_base.specs.declared.event.Event.TheVariants as events
 use Rattle.at_base.specs.declared.target.Seat.{Seat}
 use Rattle.at_base.specs.declared.target.Target.TheVariants as targets
 use Rattle.at_tables.specs.declared.cells.State.TheVariants as states
-use Rattle.at_model.specs.Addresses.{endpoint_of}
+use Rattle.endpoints.specs.Addresses.{endpoint_of}
 use Rattle.at_model.specs.Book.{Book, Enlistment, Leaf, Superior, Transaction, leaf_id, transaction_id}
 use Rattle.at_model.specs.Leaves.{leaf_target}
 use Rattle.at_model.specs.Posts.{notice_post}

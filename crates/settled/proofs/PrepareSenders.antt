@@ -2,6 +2,9 @@
 use Rattle.std.specs.Prelude.{ℕ, List, [], ◌∷◌, ◌++◌, Option, Some, None, Bool, true, false, length, map, bytes_eq, ◌≡◌, refl}
 use Rattle.std.specs.List.{AllByRecursion}
 use Rattle.std.proofs.Common.{inl, inr, sym, subst, ap, ◌∙◌}
+use Rattle.at_base.specs.declared.fault.Fault.{Fault}
+use Rattle.at_base.specs.declared.fault.Fault.TheVariants.{InvalidState, UnknownTransaction}
+use Rattle.at_base.specs.Names.{fault_name}
 use Rattle.at_base.specs.Numbers.{Numbers}
 use Rattle.at_base.specs.declared.epr.Epr.{Epr}
 use Rattle.at_base.specs.declared.epr.Reply.{Reply}
@@ -33,14 +36,14 @@ use Rattle.at_tables.specs.declared.cells.Act.TheVariants as acts
 use Rattle.at_tables.specs.declared.cells.Cell.{Cell}
 use Rattle.at_tables.specs.Tables.{completion_of, initiator_of}
 use Rattle.at_model.specs.Activities.{activity_act, activity_created, activity_fault, activity_notice, activity_registered, activity_state, activity_target, complete_posts, is_begun, on_activity, on_ask, on_begin, on_complete, on_interpose, with_context}
-use Rattle.at_model.specs.Addresses.{create_id, register_id}
+use Rattle.endpoints.specs.Addresses.{create_id, register_id}
 use Rattle.at_model.specs.Arrivals.{relates_to, with_answer}
 use Rattle.at_model.specs.Book.{Activity, Book, Enlistment, Leaf, Phase, Progress, Transaction, leaf_id, transaction_id}
 use Rattle.at_model.specs.Create.{create_in, create_under, on_create, refuse_create}
 use Rattle.at_model.specs.Due.{Expired, Nothing, Over, Reached as Due, Unanswered, activity_again, activity_due, activity_reached, completion_register_again}
 use Rattle.at_model.specs.Leaves.{on_work, refuse_work, work_for}
 use Rattle.at_model.specs.Moves.{Change, Decision, Goes, Records}
-use Rattle.at_model.specs.Posts.{accepted, fault_post, faulted, invalid_state, notice_post, replied, stored_or, stranger_post, to_each, unknown_transaction}
+use Rattle.at_model.specs.Posts.{accepted, fault_post, faulted, notice_post, replied, stored_or, stranger_post, to_each}
 use Rattle.at_model.specs.Register.{Registration, is_late, late_prepare, new_seat, on_register, register_unknown, registered_reply, seat_endpoint}
 use Rattle.at_model.specs.Step.{Outcome, Plan, at_time, make_activity, make_leaf, make_transaction, moment_of, outcome_act, outcome_cell, plain, plan, plan_of, put_activity, put_leaf, put_transaction, registration_outcome, step, still, stranger_act, stranger_cell, transaction_at}
 use Rattle.model_laws.specs.Agreement.{IsIn}
@@ -96,17 +99,17 @@ replied_never replies.Anonymous relates m = (tt, tt)
 replied_never replies.Nobody relates m = (tt, tt)
 replied_never (replies.At to) relates m = (tt, (quiet_never _ tt, tt))
 
-faulted_never : (r : Reply) (relates : Option (List ℕ)) (name : List ℕ) → Never (faulted r relates name)
-faulted_never replies.Anonymous relates name = (tt, tt)
-faulted_never replies.Nobody relates name = (tt, tt)
-faulted_never (replies.At to) relates name = (tt, (quiet_never _ tt, tt))
+faulted_never : (r : Reply) (relates : Option (List ℕ)) (drawn : Fault) → Never (faulted r relates drawn)
+faulted_never replies.Anonymous relates drawn = (tt, tt)
+faulted_never replies.Nobody relates drawn = (tt, tt)
+faulted_never (replies.At to) relates drawn = (tt, (quiet_never _ tt, tt))
 
 -- where nothing is known
 stranger_quiet : (base : List ℕ) (own : Target) (from : Option Epr) (id : Option (List ℕ)) (act : Act) → AllByRecursion IsQuiet (stranger_act base own from id act)
 stranger_quiet base own from id acts.SendRollback = each_quiet from (λ to. stranger_post base own to notices.Rollback) (λ to. tt)
 stranger_quiet base own from id acts.SendCommitted = each_quiet from (λ to. stranger_post base own to notices.Committed) (λ to. tt)
 stranger_quiet base own from id acts.SendAborted = each_quiet from (λ to. stranger_post base own to notices.Aborted) (λ to. tt)
-stranger_quiet base own from id acts.FaultUnknownTransaction = each_quiet from (λ to. fault_post (Some to) id unknown_transaction) (λ to. tt)
+stranger_quiet base own from id acts.FaultUnknownTransaction = each_quiet from (λ to. fault_post (Some to) id UnknownTransaction) (λ to. tt)
 stranger_quiet base own from id other = tt
 
 strangers_quiet : (base : List ℕ) (own : Target) (from : Option Epr) (id : Option (List ℕ)) (c : Option Cell) → AllByRecursion IsQuiet (stranger_cell base own from id c)
@@ -115,7 +118,7 @@ strangers_quiet base own from id (Some c) = stranger_quiet base own from id c.ac
 
 outcome_quiet : (base : List ℕ) (i : Numbers) (from : Option Epr) (id : Option (List ℕ)) (act : Act) → AllByRecursion IsQuiet (outcome_act base (targets.Completion i) from id act)
 outcome_quiet base i from id acts.SendCommitted = each_quiet from (λ to. notice_post base (targets.Completion i) to notices.Committed) (λ to. tt)
-outcome_quiet base i from id acts.FaultInvalidState = each_quiet from (λ to. fault_post (Some to) id invalid_state) (λ to. tt)
+outcome_quiet base i from id acts.FaultInvalidState = each_quiet from (λ to. fault_post (Some to) id InvalidState) (λ to. tt)
 outcome_quiet base i from id other = tt
 
 outcomes_quiet : (base : List ℕ) (i : Numbers) (from : Option Epr) (id : Option (List ℕ)) (c : Option Cell) → AllByRecursion IsQuiet (outcome_cell base (targets.Completion i) from id c)
@@ -231,7 +234,7 @@ told_never : (m : Moment) (from : Option Epr) (id : Option (List ℕ)) (a : Acti
 unfolding activity_act
 told_never m from id a acts.TellCommitted = tt
 told_never m from id a acts.TellAborted = tt
-told_never m from id a acts.FaultInvalidState = posts_never _ (each_quiet (stored_or a.coordinator from) (λ to. fault_post (Some to) id invalid_state) (λ to. tt))
+told_never m from id a acts.FaultInvalidState = posts_never _ (each_quiet (stored_or a.coordinator from) (λ to. fault_post (Some to) id InvalidState) (λ to. tt))
 told_never m from id a other = tt
 
 notice_never : (m : Moment) (from : Option Epr) (id : Option (List ℕ)) (a : Activity) (c : Option Cell) → BothNever (activity_notice m from id a c)
@@ -257,7 +260,7 @@ unfolding activity_fault
 fault_never m relates name a Progress.Creating = either_of BothNever (relates_to relates (create_id m.base (activity_target a))) _ _ (λ e. tt) (λ e. tt)
 fault_never m relates name a Progress.Registering = either_of BothNever (relates_to relates (register_id m.base (activity_target a))) _ _ (λ e. tt) (λ e. tt)
 fault_never m relates name a Progress.Active = tt
-fault_never m relates name a (Progress.Completing n) = either_of BothNever (bytes_eq name unknown_transaction) _ _ (λ e. tt) (λ e. tt)
+fault_never m relates name a (Progress.Completing n) = either_of BothNever (bytes_eq name (fault_name UnknownTransaction)) _ _ (λ e. tt) (λ e. tt)
 
 message_never : (m : Moment) (r : Arrived) (a : Activity) (x : Message) → BothNever (on_activity m r a x)
 unfolding on_activity

@@ -10,7 +10,8 @@ use Rattle.at_base.specs.declared.notice.Kind.{Kind}
 use Rattle.at_base.specs.declared.notice.Kind.TheVariants as kinds
 use Rattle.at_tables.specs.declared.cells.State.{State}
 use Rattle.at_tables.specs.declared.cells.State.TheVariants as states
-use Rattle.at_tables.specs.Names.{is_kind, is_state}
+use Rattle.at_tables.specs.Names.{is_state}
+use Rattle.at_base.specs.Names.{is_kind}
 use Rattle.at_model.specs.Book.{Book, Enlistment, Leaf, Phase, Superior, Transaction, leaf_id, transaction_id}
 use Rattle.at_model.specs.Seats.{is_of, is_prepared_durable, link_of}
 use Rattle.at_model.specs.Step.{leaf_at, transaction_at}

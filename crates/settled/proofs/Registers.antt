@@ -10,13 +10,14 @@ use Rattle.at_base.specs.declared.event.Arrived.{Arrived}
 use Rattle.at_base.specs.declared.event.Event.TheVariants as events
 use Rattle.at_base.specs.declared.target.Target.TheVariants as targets
 use Rattle.at_tables.specs.declared.cells.State.TheVariants as states
-use Rattle.at_model.specs.Addresses.{register_id}
+use Rattle.endpoints.specs.Addresses.{register_id}
 use Rattle.at_model.specs.Arrivals.{relates_to}
 use Rattle.at_model.specs.Book.{Book, Leaf, Request, Superior, Transaction, WorkRequest, leaf_id, transaction_id}
 use Rattle.at_model.specs.Leaves.{leaf_target}
 use Rattle.at_model.specs.Seats.{link_of}
 use Rattle.at_model.specs.Step.{leaf_at, step, transaction_at}
-use Rattle.at_model.specs.World.{Posted, Who, World, takes, Hosts}
+use Rattle.at_model.specs.World.{Posted, Who, World, Hosts}
+use Rattle.endpoints.specs.Forms.{takes}
 use Rattle.model_laws.proofs.DecisionLaws.{found_id}
 use Rattle.enlistments.specs.Leads.{LeadsTo}
 use Rattle.owed.specs.LinkRegistrations.{IsAnsweredOn, JoinsStill}

@@ -7,7 +7,8 @@ use Rattle.at_base.specs.declared.outs.Post.{Post}
 use Rattle.at_base.specs.declared.target.Target.{Target}
 use Rattle.at_model.specs.Recovery.{last_incarnation}
 use Rattle.at_model.specs.Step.{plan, step}
-use Rattle.at_model.specs.World.{Node, Posted, World, arrival_of, decoded, lost_in, new_nodes, nth, put_book, put_nth, receiver_of, started, takes, up_after, Hosts}
+use Rattle.at_model.specs.World.{Node, Posted, World, arrival_of, decoded, lost_in, new_nodes, nth, put_book, put_nth, receiver_of, started, up_after, Hosts}
+use Rattle.endpoints.specs.Forms.{takes}
 use Rattle.model_laws.specs.Agreement.{IsIn}
 use Rattle.model_laws.specs.DrawnIds.{with_entry}
 use Rattle.model_laws.specs.ReachedWorlds.{Reached, counts}

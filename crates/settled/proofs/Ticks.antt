@@ -16,7 +16,7 @@ use Rattle.at_base.specs.declared.target.Target.TheVariants as targets
 use Rattle.at_tables.specs.declared.cells.State.{State}
 use Rattle.at_tables.specs.declared.cells.State.TheVariants as states
 use Rattle.at_tables.specs.Names.{is_state}
-use Rattle.at_model.specs.Addresses.{endpoint_of, protocol_of, register_id}
+use Rattle.endpoints.specs.Addresses.{endpoint_of, protocol_of, register_id}
 use Rattle.at_model.specs.Book.{Book, Enlistment, Leaf, Link, Phase, Request, Superior, Transaction, WorkRequest, transaction_id}
 use Rattle.at_model.specs.Create.{link_register}
 use Rattle.at_model.specs.Due.{leaf_again, leaf_register_again, link_again, links_again, register_again_at, seat_again, seats_again, transaction_again, unanswered_seat}
@@ -25,7 +25,8 @@ use Rattle.at_model.specs.Phases.{upwards}
 use Rattle.at_model.specs.Posts.{notice_post, register_post, stored_or, to_each}
 use Rattle.at_model.specs.Seats.{link_of, seat_target}
 use Rattle.at_model.specs.Step.{leaf_at, moment_of, transaction_at}
-use Rattle.at_model.specs.World.{Posted, Who, World, WorldEvent, arrival_of, run_of, takes, Hosts, HaveOwnAddresses}
+use Rattle.at_model.specs.World.{Posted, Who, World, WorldEvent, arrival_of, run_of, Hosts, HaveOwnAddresses}
+use Rattle.endpoints.specs.Forms.{takes}
 use Rattle.model_laws.specs.Agreement.{IsIn}
 use Rattle.model_laws.specs.Links.{AreIn, AreLinked}
 use Rattle.model_laws.specs.ReachedWorlds.{Reached}

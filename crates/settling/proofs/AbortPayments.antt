@@ -14,7 +14,8 @@ use Rattle.at_base.specs.declared.outs.Post.{Post}
 use Rattle.at_base.specs.declared.target.Target.TheVariants as targets
 use Rattle.at_tables.specs.declared.cells.State.{State}
 use Rattle.at_tables.specs.declared.cells.State.TheVariants as states
-use Rattle.at_tables.specs.Names.{is_kind, is_state}
+use Rattle.at_tables.specs.Names.{is_state}
+use Rattle.at_base.specs.Names.{is_kind}
 use Rattle.settling.proofs.Entries.{state_is}
 use Rattle.at_model.specs.Abort.{Reason, abort, is_silent, from_of, link_aborted, links_aborted, until_rolled_back, without_links}
 use Rattle.at_model.specs.Arrivals.{request_of}

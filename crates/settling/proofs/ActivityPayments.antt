@@ -1,6 +1,8 @@
 -- An activity pays for what it posts.
 use Rattle.std.specs.Prelude.{ℕ, List, Option, Some, None, true, false, ◌+◌, bytes_eq, ◌≡◌, ◌≤◌, refl}
 use Rattle.std.proofs.Common.{arith, ap}
+use Rattle.at_base.specs.declared.fault.Fault.TheVariants.{InvalidState, UnknownTransaction}
+use Rattle.at_base.specs.Names.{fault_name}
 use Rattle.at_base.specs.declared.epr.Epr.{Epr}
 use Rattle.at_base.specs.declared.event.Arrived.{Arrived}
 use Rattle.at_base.specs.declared.event.Moment.{Moment}
@@ -15,12 +17,12 @@ use Rattle.at_tables.specs.declared.cells.Act.TheVariants as acts
 use Rattle.at_tables.specs.declared.cells.Cell.{Cell}
 use Rattle.at_tables.specs.Tables.{initiator_of}
 use Rattle.at_model.specs.Activities.{activity_act, activity_created, activity_fault, activity_notice, activity_registered, activity_state, activity_target, completion_register, is_begun, on_activity, told, with_context}
-use Rattle.at_model.specs.Addresses.{create_id, register_id}
+use Rattle.endpoints.specs.Addresses.{create_id, register_id}
 use Rattle.at_model.specs.Arrivals.{relates_to}
 use Rattle.at_model.specs.Book.{Activity, Progress}
 use Rattle.at_model.specs.Due.{Expired, Nothing, Over, Reached, Unanswered, activity_again, activity_due, activity_reached, completion_register_again, is_quiet}
 use Rattle.at_model.specs.Moves.{Change, Decision, ignored}
-use Rattle.at_model.specs.Posts.{fault_post, invalid_state, notice_post, stored_or, unknown_transaction}
+use Rattle.at_model.specs.Posts.{fault_post, notice_post, stored_or}
 use Rattle.model_laws.proofs.DecisionLaws.{DecisionSays, either_says}
 use Rattle.settling.specs.Load.{Prices, activity_load, notice_weight, progress_load, weights}
 use Rattle.settling.proofs.SeatPayments.{spends}
@@ -51,7 +53,7 @@ unfolding activity_act
 activity_act_paid P m free from i a acts.TellCommitted h = told_paid P m free tellings.Committed a
 activity_act_paid P m free from i a acts.TellAborted h = told_paid P m free tellings.Aborted a
 activity_act_paid P m free from i a acts.FaultInvalidState h =
-    record { paid = omega (arith, h, to_each_weighs P (stored_or a.coordinator from) (λ to. fault_post (Some to) i invalid_state) 1 (λ x. omega arith)) }
+    record { paid = omega (arith, h, to_each_weighs P (stored_or a.coordinator from) (λ to. fault_post (Some to) i InvalidState) 1 (λ x. omega arith)) }
 activity_act_paid P m free from i a other h = activity_ignored P m free a
 
 activity_notice_paid : (P : Prices) (m : Moment) (n : Notice) (from : Option Epr) (i : Option (List ℕ)) (a : Activity) (c : Option Cell) → Within n c
@@ -99,7 +101,7 @@ activity_fault_paid P m relates name a Progress.Registering =
     (λ k. told_paid P m 0 tellings.Refused a) (λ k. activity_ignored P m 0 a)
 activity_fault_paid P m relates name a Progress.Active = activity_ignored P m 0 a
 activity_fault_paid P m relates name a (Progress.Completing n) =
-    either_says (ActivityCovers P m.now (activity_load P m.now a + 0)) AnyEntry (bytes_eq name unknown_transaction) _ _
+    either_says (ActivityCovers P m.now (activity_load P m.now a + 0)) AnyEntry (bytes_eq name (fault_name UnknownTransaction)) _ _
     (λ k. told_paid P m 0 tellings.Unknown a) (λ k. activity_ignored P m 0 a)
 
 pub activity_paid : (P : Prices) (m : Moment) (r : Arrived) (a : Activity) (x : Message) → ActivityActed P m (spends x) a (on_activity m r a x)

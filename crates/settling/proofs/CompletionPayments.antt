@@ -2,6 +2,7 @@
 use Rattle.std.specs.Prelude.{ℕ, List, [], ◌∷◌, ◌++◌, Option, Some, None, Bool, true, false, ◌+◌, ◌&&◌, if◌then◌else◌, ◌≡◌, ◌≤◌, refl}
 use Rattle.std.proofs.Common.{arith, sym, subst, ap}
 use Rattle.std.proofs.lemmas.List.Sums.{sum_by-cons}
+use Rattle.at_base.specs.declared.fault.Fault.TheVariants.{CannotCreateContext, InvalidState, UnknownTransaction}
 use Rattle.at_base.specs.Numbers.{Numbers}
 use Rattle.at_base.specs.declared.epr.Epr.{Epr}
 use Rattle.at_base.specs.declared.event.Arrived.{Arrived}
@@ -27,7 +28,7 @@ use Rattle.at_model.specs.Book.{Completion, Enlistment, Phase, Request, Superior
 use Rattle.at_model.specs.Due.{is_quiet}
 use Rattle.at_model.specs.Moves.{Decision, Goes, become, begin, posts, stays}
 use Rattle.at_model.specs.Phases.{go_volatile}
-use Rattle.at_model.specs.Posts.{fault_post, invalid_state, notice_post, to_each, unknown_transaction}
+use Rattle.at_model.specs.Posts.{fault_post, notice_post, to_each}
 use Rattle.at_model.specs.Seats.{in_phase, seat_target, sent_now, under}
 use Rattle.model_laws.specs.Links.{AreLinked}
 use Rattle.model_laws.proofs.LinkDecisions.{Linked}
@@ -41,7 +42,7 @@ use Rattle.at_model.specs.Arrivals.{answer_request, context_of, is_registering, 
 use Rattle.at_model.specs.Due.{Expired, Nothing, Over, Reached, Unanswered, link_again, links_again, register_again_at, seat_again, seats_again, transaction_again, transaction_due, transaction_reached, unanswered_seat}
 use Rattle.at_model.specs.Moves.{Change, Records, in_both}
 use Rattle.at_model.specs.Create.{link_register}
-use Rattle.at_model.specs.Posts.{cannot_create, reply_post}
+use Rattle.at_model.specs.Posts.{reply_post}
 use Rattle.at_base.specs.declared.epr.Reply.{Reply}
 use Rattle.at_base.specs.declared.epr.Reply.TheVariants as replies
 use Rattle.model_laws.proofs.DecisionLaws.{DecisionSays, IfThere, either_left}
@@ -71,8 +72,8 @@ unfolding completion_act
 completion_act_paid P m free from i c t acts.SendCommitted e l k h =
     posted_paid P m free t (to_each from (λ to. notice_post m.base (targets.Completion t.id) to notices.Committed))
     (to_each_weighs P from (λ to. notice_post m.base (targets.Completion t.id) to notices.Committed) free (λ x. h))
-completion_act_paid P m free from i c t acts.FaultUnknownTransaction e l k h = fault_paid P m free t (Some c.initiator) i unknown_transaction h
-completion_act_paid P m free from i c t acts.FaultInvalidState e l k h = fault_paid P m free t (Some c.initiator) i invalid_state h
+completion_act_paid P m free from i c t acts.FaultUnknownTransaction e l k h = fault_paid P m free t (Some c.initiator) i UnknownTransaction h
+completion_act_paid P m free from i c t acts.FaultInvalidState e l k h = fault_paid P m free t (Some c.initiator) i InvalidState h
 completion_act_paid P m free from i c t acts.Complete e l k h = complete_paid P m free c t e l k h
 completion_act_paid P m free from i c t acts.AbortAndSendAborted e l k h = aborts_alone P m free Alone t
 completion_act_paid P m free from i c t other e l k h = ignored_paid P m free t
@@ -174,7 +175,7 @@ pub record Covers (P : Prices) (now limit : ℕ) (c : Change Transaction) : Type
 refused_weighs : (P : Prices) (to : Reply) (id : Option (List ℕ)) → weights P (refused_at to id) ≤ 1
 refused_weighs P replies.Anonymous id = omega arith
 refused_weighs P replies.Nobody id = omega arith
-refused_weighs P (replies.At to) id = omega (arith, weights_one P (fault_post (Some to) id cannot_create))
+refused_weighs P (replies.At to) id = omega (arith, weights_one P (fault_post (Some to) id CannotCreateContext))
 
 kept_load : (P : Prices) (now limit : ℕ) (r : Option Request) (c : Change Transaction) (o : Option Transaction) → weights P c.posts + left_held P now o ≤ limit → IfThere (Asks r) o
     → weights P c.posts + left_load P now o ≤ limit + request_load r

@@ -16,7 +16,7 @@ use Rattle.at_base.specs.declared.record.Record.TheVariants as records
 use Rattle.at_base.specs.declared.record.Seated.{Seated}
 use Rattle.at_base.specs.declared.target.Target.{Target}
 use Rattle.at_base.specs.declared.target.Target.TheVariants as targets
-use Rattle.at_model.specs.Addresses.{endpoint_of}
+use Rattle.endpoints.specs.Addresses.{endpoint_of, IsWritten}
 use Rattle.at_model.specs.Book.{Book, Enlistment, Leaf, Transaction}
 use Rattle.at_model.specs.Moves.{Change}
 use Rattle.at_model.specs.Recovery.{recovered_voted}
@@ -28,7 +28,7 @@ use Rattle.model_laws.specs.Agreement.{IsIn}
 use Rattle.model_laws.specs.PhaseAnswers.{accepted_as}
 use Rattle.model_laws.specs.ReachedWorlds.{Reached, counts}
 use Rattle.model_laws.proofs.DecisionLaws.{IfThere}
-use Rattle.model_laws.proofs.Addresses.{IsWritten, leads_home}
+use Rattle.model_laws.proofs.Addresses.{leads_home}
 use Rattle.agreement.specs.Deeds.{How, KeepsLink, KeepsLinksIfLeft, coordinator_at, recorded, superior_at}
 use Rattle.agreement.specs.StepDeeds.{standing}
 use Rattle.agreement.specs.LeafDeeds.{LeafDeed, aborts, commits, dropped, for_durable, idles, leaves, prepares, rolls_back}

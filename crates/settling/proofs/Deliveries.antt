@@ -13,7 +13,9 @@ use Rattle.at_base.specs.declared.outs.Post.{Post}
 use Rattle.at_base.specs.declared.target.Target.{Target}
 use Rattle.at_model.specs.Book.{Book}
 use Rattle.at_model.specs.Step.{plan}
-use Rattle.at_model.specs.World.{Deliver, Node, Posted, Turn, World, answer_plan, arrival_of, arrival_plan, at_some_node, decoded, decoded_at, deliver, is_receiver, nth, on_book, put_nth, take_turn, takes, target_at, turn_from, world_step}
+use Rattle.at_model.specs.World.{Deliver, Node, Posted, Turn, World, answer_plan, arrival_of, arrival_plan, at_some_node, decoded, decoded_at, deliver, is_receiver, nth, on_book, put_nth, take_turn, turn_from, world_step}
+use Rattle.endpoints.specs.Addresses.{target_at}
+use Rattle.endpoints.specs.Forms.{takes}
 use Rattle.model_laws.specs.Settlement.{first_received}
 use Rattle.model_laws.proofs.DecisionLaws.{IfThere}
 use Rattle.settling.specs.Load.{Prices, load, weight}

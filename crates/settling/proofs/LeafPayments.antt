@@ -1,6 +1,7 @@
 -- A leaf pays for what it posts.
 use Rattle.std.specs.Prelude.{ℕ, List, [], Option, Some, None, Bool, true, false, ◌+◌, ◌&&◌, ◌||◌, if◌then◌else◌, ◌≡◌, ◌≤◌, refl}
 use Rattle.std.proofs.Common.{arith, ap}
+use Rattle.at_base.specs.declared.fault.Fault.TheVariants.{InvalidState}
 use Rattle.at_base.specs.declared.epr.Epr.{Epr}
 use Rattle.at_base.specs.declared.event.Arrived.{Arrived}
 use Rattle.at_base.specs.declared.event.Moment.{Moment}
@@ -24,7 +25,7 @@ use Rattle.at_model.specs.Book.{Leaf, WorkRequest}
 use Rattle.at_model.specs.Due.{Expired, Nothing, Over, Reached, Unanswered, is_quiet, leaf_again, leaf_due, leaf_reached, leaf_register_again}
 use Rattle.at_model.specs.Leaves.{answers_leaf, drops_leaf, leaf_act, leaf_aborts, leaf_commit, leaf_commits, leaf_fault, leaf_faults, leaf_notice, leaf_prepares, leaf_records_vote, leaf_refused, leaf_register, leaf_registered, leaf_roll_back, leaf_says, leaf_target, leaf_votes, on_leaf, work_answer}
 use Rattle.at_model.specs.Moves.{Change, Decision, ignored}
-use Rattle.at_model.specs.Posts.{fault_post, invalid_state, notice_post, reply_post, stored_or}
+use Rattle.at_model.specs.Posts.{fault_post, notice_post, reply_post, stored_or}
 use Rattle.model_laws.proofs.DecisionLaws.{DecisionSays, either_left, either_says, first_true}
 use Rattle.settling.specs.Load.{Prices, again, leaf_load, leaf_rest, link_repeats, notice_weight, post_weight, weight, weights}
 use Rattle.settling.proofs.SeatPayments.{spends}
@@ -51,7 +52,7 @@ says_weighs : (P : Prices) (m : Moment) (from : Option Epr) (n : Notice) (l : Le
 says_weighs P m from n l = to_each_weighs P (stored_or l.coordinator from) (λ to. notice_post m.base (leaf_target l) to n) (notice_weight n) (λ x. omega arith)
 
 faults_weigh : (P : Prices) (from : Option Epr) (i : Option (List ℕ)) (l : Leaf) → weights P (leaf_faults from i l) ≤ 1
-faults_weigh P from i l = to_each_weighs P (stored_or l.coordinator from) (λ to. fault_post (Some to) i invalid_state) 1 (λ x. omega arith)
+faults_weigh P from i l = to_each_weighs P (stored_or l.coordinator from) (λ to. fault_post (Some to) i InvalidState) 1 (λ x. omega arith)
 
 answer_weighs : (P : Prices) (x : Message) (r : Option WorkRequest) → ((p : Post) → p.message ≡ x → post_weight P p ≤ 1) → weights P (work_answer x r) ≤ 1
 answer_weighs P x None h = omega arith

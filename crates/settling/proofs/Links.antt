@@ -1,6 +1,7 @@
 -- A subordinate pays for what it posts at a message on one of its links.
 use Rattle.std.specs.Prelude.{ℕ, List, [], ◌∷◌, Option, Some, None, Bool, ◌+◌, ◌&&◌, ◌≡◌, ◌≤◌, refl}
 use Rattle.std.proofs.Common.{arith, sym, subst, ap, inl, inr, ◌∙◌}
+use Rattle.at_base.specs.declared.fault.Fault.TheVariants.{InvalidState}
 use Rattle.at_base.specs.declared.epr.Epr.{Epr}
 use Rattle.at_base.specs.declared.event.Arrived.{Arrived}
 use Rattle.at_base.specs.declared.event.Moment.{Moment}
@@ -20,13 +21,13 @@ use Rattle.at_tables.specs.declared.cells.State.TheVariants as states
 use Rattle.at_tables.specs.Names.{is_state}
 use Rattle.at_tables.specs.Tables.{participant_of}
 use Rattle.at_model.specs.Abort.{Alone, Asked, Faulted, Reason, abort}
-use Rattle.at_model.specs.Addresses.{register_id}
+use Rattle.endpoints.specs.Addresses.{register_id}
 use Rattle.at_model.specs.Arrivals.{asked, commit_voted, link_act, link_fault, link_notice, link_registered, on_link, registered, relates_to, request_of}
 use Rattle.at_model.specs.Book.{Link, Phase, Request, Superior, Transaction}
 use Rattle.at_model.specs.Due.{is_quiet}
 use Rattle.at_model.specs.Moves.{Goes, Moving, become, begin, effect, ignored, posts, stays}
 use Rattle.at_model.specs.Phases.{commit_seats, go_volatile, upwards}
-use Rattle.at_model.specs.Posts.{fault_post, invalid_state, stored_or, stranger_post, to_each}
+use Rattle.at_model.specs.Posts.{fault_post, stored_or, stranger_post, to_each}
 use Rattle.at_model.specs.Seats.{ending, in_phase, in_state, link_in, link_of, sent_now, set_link, under}
 use Rattle.model_laws.specs.Links.{AreIn, IsJoining}
 use Rattle.model_laws.proofs.ParticipantTable.{ActsAt, CellAt, table_acts}
@@ -143,10 +144,10 @@ link_act_paid P m free from i kind s t acts.SendAborted e l k h =
     told_paid P m free t (link_of kind s) from (λ to. stranger_post m.base (targets.Participant t.id kind) to notices.Aborted)
     (λ x. omega (arith, h, weights_one P (stranger_post m.base (targets.Participant t.id kind) x notices.Aborted)))
 link_act_paid P m free from i kind s t acts.FaultInvalidState e l k h =
-    told_paid P m free t (link_of kind s) from (λ to. fault_post (Some to) i invalid_state) (λ x. omega (arith, h, weights_one P (fault_post (Some x) i invalid_state)))
+    told_paid P m free t (link_of kind s) from (λ to. fault_post (Some to) i InvalidState) (λ x. omega (arith, h, weights_one P (fault_post (Some x) i InvalidState)))
 link_act_paid P m free from i kind s t acts.FaultInvalidStateAndAbort e l k h =
-    link_aborts P m free (Faulted kind) t (to_each (stored_or (link_of kind s).coordinator from) (λ to. fault_post (Some to) i invalid_state))
-    (told_weighs P (link_of kind s) from (λ to. fault_post (Some to) i invalid_state) free (λ x. omega (arith, h, weights_one P (fault_post (Some x) i invalid_state))))
+    link_aborts P m free (Faulted kind) t (to_each (stored_or (link_of kind s).coordinator from) (λ to. fault_post (Some to) i InvalidState))
+    (told_weighs P (link_of kind s) from (λ to. fault_post (Some to) i InvalidState) free (λ x. omega (arith, h, weights_one P (fault_post (Some x) i InvalidState))))
 link_act_paid P m free from i kind s t acts.Gather e l k h = gather_paid P m free kind s t e (known t s e l).1 k (asked_in t.phase kind s (known t s e l).0 k) h
 link_act_paid P m free from i kind s t acts.Commit e l k h = commit_paid P m free s t e (durable_voted t.phase kind s (known t s e l).0 k) (known t s e l).1
 link_act_paid P m free from i kind s t acts.AbortAndSendAborted e l k h = aborts_alone P m free (Asked kind from) t

@@ -1,6 +1,8 @@
 -- A Register is answered, in each state of the transaction, also where it is unknown.
 use Rattle.std.specs.Prelude.{ℕ, List, ◌++◌, Option, Some, None, Bool, true, false, not, if◌then◌else◌, ◌≡◌, refl}
 use Rattle.std.proofs.Common.{sym, subst, inl}
+use Rattle.at_base.specs.declared.fault.Fault.{Fault}
+use Rattle.at_base.specs.declared.fault.Fault.TheVariants.{CannotRegisterParticipant, InvalidParameters, InvalidProtocol}
 use Rattle.at_base.specs.Numbers.{Numbers}
 use Rattle.at_base.specs.declared.epr.Epr.{Epr}
 use Rattle.at_base.specs.declared.epr.Reply.{Reply}
@@ -15,7 +17,7 @@ use Rattle.at_base.specs.declared.outs.Out.{Out}
 use Rattle.at_base.specs.declared.outs.Post.{Post}
 use Rattle.at_base.specs.declared.target.Target.TheVariants as targets
 use Rattle.at_model.specs.Book.{Book, Transaction}
-use Rattle.at_model.specs.Posts.{cannot_register, fault_post, faulted, invalid_parameters, invalid_protocol, replied, reply_post}
+use Rattle.at_model.specs.Posts.{fault_post, faulted, replied, reply_post}
 use Rattle.at_model.specs.Register.{Registration, accept, completion_endpoint, held_seat, is_late, late_prepare, may_register, new_seat, on_register, protocol_named, refuse_register, register_again, register_new, register_unknown, registered_reply, seat_endpoint}
 use Rattle.at_model.specs.Step.{arrived_plan, branch, moment_of, registration_plan, step, transaction_at}
 use Rattle.model_laws.proofs.DecisionLaws.{either_of}
@@ -30,9 +32,9 @@ replied_here a to reply coordinator more e =
     subst (λ x. IsAnswered a to (posts_in (replied x a.id (messages.RegisterResponse coordinator)) ++ more)) (sym e)
     (record { post = reply_post (Some to) a.id (messages.RegisterResponse coordinator); posted = inl refl; sent = refl; relates = refl; ends = tt })
 
-faulted_here : (a : Arrived) (to : Epr) (fault : Reply) (name : List ℕ) → fault ≡ replies.At to → IsAnswered a to (posts_in (faulted fault a.id name))
-faulted_here a to fault name e =
-    subst (λ x. IsAnswered a to (posts_in (faulted x a.id name))) (sym e) (record { post = fault_post (Some to) a.id name; posted = inl refl; sent = refl; relates = refl; ends = tt })
+faulted_here : (a : Arrived) (to : Epr) (fault : Reply) (drawn : Fault) → fault ≡ replies.At to → IsAnswered a to (posts_in (faulted fault a.id drawn))
+faulted_here a to fault drawn e =
+    subst (λ x. IsAnswered a to (posts_in (faulted x a.id drawn))) (sym e) (record { post = fault_post (Some to) a.id drawn; posted = inl refl; sent = refl; relates = refl; ends = tt })
 
 -- what a Register gives
 abbrev Answers : Arrived → Epr → Registration → Type 0
@@ -56,12 +58,12 @@ accept_answers m a to t participant None e = only_answers a to t (completion_end
 new_answers : (m : Moment) (a : Arrived) (to : Epr) (r : Register) (t : Transaction) (kind : Option (Option Kind)) → a.reply ≡ replies.At to → a.fault ≡ replies.At to
     → Answers a to (register_new m a r t kind)
 unfolding register_new
-new_answers m a to r t None e f = faulted_here a to a.fault invalid_protocol f
+new_answers m a to r t None e f = faulted_here a to a.fault InvalidProtocol f
 new_answers m a to r t (Some kind) e f =
-    either_of (Answers a to) (not a.postable) (refuse_register a t invalid_parameters) (if may_register t kind then accept m a t r.participant kind else refuse_register a t cannot_register)
-    (λ k. faulted_here a to a.fault invalid_parameters f)
-    (λ k. either_of (Answers a to) (may_register t kind) (accept m a t r.participant kind) (refuse_register a t cannot_register)
-    (λ j. accept_answers m a to t r.participant kind e) (λ j. faulted_here a to a.fault cannot_register f))
+    either_of (Answers a to) (not a.postable) (refuse_register a t InvalidParameters) (if may_register t kind then accept m a t r.participant kind else refuse_register a t CannotRegisterParticipant)
+    (λ k. faulted_here a to a.fault InvalidParameters f)
+    (λ k. either_of (Answers a to) (may_register t kind) (accept m a t r.participant kind) (refuse_register a t CannotRegisterParticipant)
+    (λ j. accept_answers m a to t r.participant kind e) (λ j. faulted_here a to a.fault CannotRegisterParticipant f))
 
 again_answers : (m : Moment) (a : Arrived) (to : Epr) (r : Register) (t : Transaction) (kind : Option (Option Kind)) (o : Option Epr) → a.reply ≡ replies.At to → a.fault ≡ replies.At to
     → Answers a to (register_again m a r t kind o)
@@ -75,8 +77,8 @@ register_answers m a to r t e f = again_answers m a to r t (protocol_named r.pro
 
 unknown_answers : (a : Arrived) (to : Epr) (r : Register) (kind : Option (Option Kind)) → a.fault ≡ replies.At to → IsAnswered a to (posts_in (register_unknown a r kind))
 unfolding register_unknown
-unknown_answers a to r None f = faulted_here a to a.fault invalid_protocol f
-unknown_answers a to r (Some kind) f = faulted_here a to a.fault (if a.postable then cannot_register else invalid_parameters) f
+unknown_answers a to r None f = faulted_here a to a.fault InvalidProtocol f
+unknown_answers a to r (Some kind) f = faulted_here a to a.fault (if a.postable then CannotRegisterParticipant else InvalidParameters) f
 
 -- a step
 plan_answers : (b : Book) (now : ℕ) (a : Arrived) (to : Epr) (r : Register) (o : Option Transaction) (landed : Bool) → a.reply ≡ replies.At to → a.fault ≡ replies.At to

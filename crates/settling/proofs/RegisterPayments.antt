@@ -2,6 +2,8 @@
 use Rattle.std.specs.Prelude.{ℕ, List, [], ◌∷◌, ◌++◌, Option, Some, None, Bool, true, false, not, ◌+◌, if◌then◌else◌, map, length, ◌≡◌, ◌≤◌, refl}
 use Rattle.std.proofs.Common.{arith, ap, inl, inr, ◌∙◌}
 use Rattle.std.proofs.lemmas.List.Sums.{sum_by_push}
+use Rattle.at_base.specs.declared.fault.Fault.{Fault}
+use Rattle.at_base.specs.declared.fault.Fault.TheVariants.{CannotRegisterParticipant, InvalidParameters, InvalidProtocol, InvalidState, UnknownTransaction}
 use Rattle.at_base.specs.declared.epr.Epr.{Epr}
 use Rattle.at_base.specs.declared.epr.Reply.{Reply}
 use Rattle.at_base.specs.declared.epr.Reply.TheVariants as replies
@@ -23,7 +25,7 @@ use Rattle.at_tables.specs.declared.cells.Cell.{Cell}
 use Rattle.at_tables.specs.declared.cells.State.TheVariants as states
 use Rattle.at_model.specs.Book.{Enlistment, Phase, Transaction}
 use Rattle.at_model.specs.Due.{is_quiet}
-use Rattle.at_model.specs.Posts.{accepted, cannot_register, fault_post, faulted, invalid_parameters, invalid_protocol, invalid_state, notice_post, replied, reply_post, stranger_post, unknown_transaction}
+use Rattle.at_model.specs.Posts.{accepted, fault_post, faulted, notice_post, replied, reply_post, stranger_post}
 use Rattle.at_model.specs.Register.{Registration, accept, completion_endpoint, held_seat, is_late, late_prepare, may_register, on_register, protocol_named, refuse_register, register_again, register_new, register_unknown, registered_reply, seat_endpoint}
 use Rattle.at_model.specs.Seats.{seat_target}
 use Rattle.at_model.specs.Step.{outcome_act, outcome_cell, stranger_act, stranger_cell}
@@ -57,10 +59,10 @@ replied_weighs P replies.Anonymous i coordinator = omega arith
 replied_weighs P replies.Nobody i coordinator = omega arith
 replied_weighs P (replies.At to) i coordinator = omega (arith, weights_one P (reply_post (Some to) i (messages.RegisterResponse coordinator)))
 
-faulted_weighs : (P : Prices) (to : Reply) (i : Option (List ℕ)) (name : List ℕ) → weights P (posts_in (faulted to i name)) ≤ 1
-faulted_weighs P replies.Anonymous i name = omega arith
-faulted_weighs P replies.Nobody i name = omega arith
-faulted_weighs P (replies.At to) i name = omega (arith, weights_one P (fault_post (Some to) i name))
+faulted_weighs : (P : Prices) (to : Reply) (i : Option (List ℕ)) (drawn : Fault) → weights P (posts_in (faulted to i drawn)) ≤ 1
+faulted_weighs P replies.Anonymous i drawn = omega arith
+faulted_weighs P replies.Nobody i drawn = omega arith
+faulted_weighs P (replies.At to) i drawn = omega (arith, weights_one P (fault_post (Some to) i drawn))
 
 -- what a Register gives is within the limit
 pub record RegisterCovers (P : Prices) (now limit : ℕ) (g : Registration) : Type 0 where
@@ -69,8 +71,8 @@ pub record RegisterCovers (P : Prices) (now limit : ℕ) (g : Registration) : Ty
 abbrev pub Enrolled : Prices → Moment → Transaction → Registration → Type 0
 Enrolled P m t g = RegisterCovers P m.now (transaction_load P m.now t + (9 + P.seat)) g
 
-refused_paid : (P : Prices) (m : Moment) (a : Arrived) (t : Transaction) (name : List ℕ) → Enrolled P m t (refuse_register a t name)
-refused_paid P m a t name = record { paid = omega (arith, faulted_weighs P a.fault a.id name) }
+refused_paid : (P : Prices) (m : Moment) (a : Arrived) (t : Transaction) (drawn : Fault) → Enrolled P m t (refuse_register a t drawn)
+refused_paid P m a t drawn = record { paid = omega (arith, faulted_weighs P a.fault a.id drawn) }
 
 repeated_paid : (P : Prices) (m : Moment) (a : Arrived) (t : Transaction) (coordinator : Epr) → Enrolled P m t (record { transaction = t; outs = registered_reply a coordinator })
 repeated_paid P m a t coordinator = record { paid = omega (arith, replied_weighs P a.reply a.id coordinator) }
@@ -120,12 +122,12 @@ accept_paid P m a t participant None =
 
 new_paid : (P : Prices) (m : Moment) (a : Arrived) (r : Register) (t : Transaction) (kind : Option (Option Kind)) → Enrolled P m t (register_new m a r t kind)
 unfolding register_new
-new_paid P m a r t None = refused_paid P m a t invalid_protocol
+new_paid P m a r t None = refused_paid P m a t InvalidProtocol
 new_paid P m a r t (Some kind) =
-    either_of (Enrolled P m t) (not a.postable) (refuse_register a t invalid_parameters) (if may_register t kind then accept m a t r.participant kind else refuse_register a t cannot_register)
-    (λ k. refused_paid P m a t invalid_parameters)
-    (λ k. either_of (Enrolled P m t) (may_register t kind) (accept m a t r.participant kind) (refuse_register a t cannot_register)
-    (λ j. accept_paid P m a t r.participant kind) (λ j. refused_paid P m a t cannot_register))
+    either_of (Enrolled P m t) (not a.postable) (refuse_register a t InvalidParameters) (if may_register t kind then accept m a t r.participant kind else refuse_register a t CannotRegisterParticipant)
+    (λ k. refused_paid P m a t InvalidParameters)
+    (λ k. either_of (Enrolled P m t) (may_register t kind) (accept m a t r.participant kind) (refuse_register a t CannotRegisterParticipant)
+    (λ j. accept_paid P m a t r.participant kind) (λ j. refused_paid P m a t CannotRegisterParticipant))
 
 again_paid : (P : Prices) (m : Moment) (a : Arrived) (r : Register) (t : Transaction) (kind : Option (Option Kind)) (o : Option Epr) → Enrolled P m t (register_again m a r t kind o)
 unfolding register_again
@@ -138,15 +140,15 @@ register_paid P m a r t = again_paid P m a r t (protocol_named r.protocol) (held
 
 pub unknown_weighs : (P : Prices) (a : Arrived) (r : Register) (kind : Option (Option Kind)) → weights P (posts_in (register_unknown a r kind)) ≤ 1
 unfolding register_unknown
-unknown_weighs P a r None = faulted_weighs P a.fault a.id invalid_protocol
-unknown_weighs P a r (Some kind) = faulted_weighs P a.fault a.id (if a.postable then cannot_register else invalid_parameters)
+unknown_weighs P a r None = faulted_weighs P a.fault a.id InvalidProtocol
+unknown_weighs P a r (Some kind) = faulted_weighs P a.fault a.id (if a.postable then CannotRegisterParticipant else InvalidParameters)
 
 -- what is answered where nothing is known
 stranger_weighs : (P : Prices) (base : List ℕ) (own : Target) (from : Option Epr) (i : Option (List ℕ)) (act : Act) → weights P (stranger_act base own from i act) ≤ cost act
 stranger_weighs P base own from i acts.SendRollback = to_each_weighs P from (λ to. stranger_post base own to notices.Rollback) 3 (λ x. omega arith)
 stranger_weighs P base own from i acts.SendCommitted = to_each_weighs P from (λ to. stranger_post base own to notices.Committed) 2 (λ x. omega arith)
 stranger_weighs P base own from i acts.SendAborted = to_each_weighs P from (λ to. stranger_post base own to notices.Aborted) 2 (λ x. omega arith)
-stranger_weighs P base own from i acts.FaultUnknownTransaction = to_each_weighs P from (λ to. fault_post (Some to) i unknown_transaction) 1 (λ x. omega arith)
+stranger_weighs P base own from i acts.FaultUnknownTransaction = to_each_weighs P from (λ to. fault_post (Some to) i UnknownTransaction) 1 (λ x. omega arith)
 stranger_weighs P base own from i other = omega arith
 
 strangers_weigh : (P : Prices) (base : List ℕ) (own : Target) (from : Option Epr) (i : Option (List ℕ)) (n : Notice) (c : Option Cell) → Within n c
@@ -169,7 +171,7 @@ unknown_paid P base own from i n =
 -- what is answered where a root has committed
 outcome_weighs : (P : Prices) (base : List ℕ) (own : Target) (from : Option Epr) (i : Option (List ℕ)) (act : Act) → weights P (outcome_act base own from i act) ≤ cost act
 outcome_weighs P base own from i acts.SendCommitted = to_each_weighs P from (λ to. notice_post base own to notices.Committed) 2 (λ x. omega arith)
-outcome_weighs P base own from i acts.FaultInvalidState = to_each_weighs P from (λ to. fault_post (Some to) i invalid_state) 1 (λ x. omega arith)
+outcome_weighs P base own from i acts.FaultInvalidState = to_each_weighs P from (λ to. fault_post (Some to) i InvalidState) 1 (λ x. omega arith)
 outcome_weighs P base own from i other = omega arith
 
 outcomes_weigh : (P : Prices) (base : List ℕ) (own : Target) (from : Option Epr) (i : Option (List ℕ)) (n : Notice) (c : Option Cell) → Within n c

@@ -2,7 +2,7 @@
 use Rattle.std.specs.Prelude.{ℕ, List, [], ◌∷◌, Some, Bool, true, false, nat_eq, ◌+◌, ◌&&◌, if◌then◌else◌, ◌≡◌, ◌≤◌, ◌<◌, ◌⊎◌}
 use Rattle.std.proofs.Common.{arith, inl, inr, sym, subst}
 use Rattle.at_base.specs.declared.notice.Kind.{Kind}
-use Rattle.at_tables.specs.Names.{is_kind}
+use Rattle.at_base.specs.Names.{is_kind}
 use Rattle.at_model.specs.Book.{Enlistment, Transaction}
 use Rattle.at_model.specs.Due.{may_expire}
 use Rattle.at_model.specs.Step.{find_seat}

@@ -4,6 +4,7 @@ use Rattle.std.specs.List.{AllByRecursion}
 use Rattle.std.proofs.Common.{arith, ap, ◌∙◌}
 use Rattle.std.proofs.lemmas.Bool.{eqb-true}
 use Rattle.std.proofs.lemmas.List.Sums.{sum_by-cons}
+use Rattle.at_base.specs.declared.fault.Fault.TheVariants.{InvalidState, UnknownTransaction}
 use Rattle.at_base.specs.declared.epr.Epr.{Epr}
 use Rattle.at_base.specs.declared.event.Arrived.{Arrived}
 use Rattle.at_base.specs.declared.event.Moment.{Moment}
@@ -24,7 +25,7 @@ use Rattle.at_model.specs.Book.{Enlistment, Transaction}
 use Rattle.at_model.specs.Due.{is_quiet}
 use Rattle.at_model.specs.Moves.{Decision, Goes, become, begin, ignored, post, posts, stays}
 use Rattle.at_model.specs.Phases.{advance}
-use Rattle.at_model.specs.Posts.{fault_post, invalid_state, notice_post, stranger_post, unknown_transaction}
+use Rattle.at_model.specs.Posts.{fault_post, notice_post, stranger_post}
 use Rattle.at_model.specs.Seats.{in_state, moved, seat_in, seat_target, sent_now}
 use Rattle.model_laws.proofs.LinkDecisions.{Linked}
 use Rattle.settling.specs.Load.{Prices, again, completion_load, held, links_load, seat_load, seat_repeats, seat_rest, seats_load, weights}
@@ -127,10 +128,10 @@ seat_act_paid P m free i t s acts.SendCommit l only v h = answered_paid P m free
 seat_act_paid P m free i t s acts.SendRollback l only v h =
     either P m.now (held P m.now t + free) (request_of t.superior) (in_state states.None s) _ _ (λ k. stranger_paid P m free t s h)
     (λ k. answered_paid P m free t s notices.Rollback (omega (arith, h, weights_one P (notice_post m.base (seat_target t.id s) s.participant notices.Rollback))))
-seat_act_paid P m free i t s acts.FaultUnknownTransaction l only v h = fault_paid P m free t (Some s.participant) i unknown_transaction h
-seat_act_paid P m free i t s acts.FaultInvalidState l only v h = fault_paid P m free t (Some s.participant) i invalid_state h
+seat_act_paid P m free i t s acts.FaultUnknownTransaction l only v h = fault_paid P m free t (Some s.participant) i UnknownTransaction h
+seat_act_paid P m free i t s acts.FaultInvalidState l only v h = fault_paid P m free t (Some s.participant) i InvalidState h
 seat_act_paid P m free i t s acts.FaultInvalidStateAndAbort l only v h =
-    let p : Post = fault_post (Some s.participant) i invalid_state in
+    let p : Post = fault_post (Some s.participant) i InvalidState in
     abort_paid P m Alone (held P m.now t + free) (request_of t.superior) (post p (begin t)) (omega (arith, h, worth_post P m.now p (begin t), worth_begin P m.now t)) refl
 seat_act_paid P m free i t s acts.Leave l only v h = seat_advances P m free s.number states.None t l (seats_leave P (is_quiet m.now t.sent) s.number t.seats)
 seat_act_paid P m free i t s acts.LeaveAndAbort l only v h = seat_aborts P m free s.number t

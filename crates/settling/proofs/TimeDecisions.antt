@@ -25,7 +25,7 @@ use Rattle.at_tables.specs.declared.cells.Cell.{Cell}
 use Rattle.at_tables.specs.Names.{is_state}
 use Rattle.at_tables.specs.Tables.{coordinator_of, participant_of, completion_of}
 use Rattle.at_model.specs.Book.{Completion, Enlistment, Phase, Superior, Transaction}
-use Rattle.at_model.specs.Addresses.{atomic, register_id}
+use Rattle.endpoints.specs.Addresses.{atomic, register_id}
 use Rattle.at_model.specs.Moves.{Moving, Decision, begin, become, stays, forgotten}
 use Rattle.at_model.specs.Seats.{answered, all_left, in_phase, in_state, is_of, is_prepared_durable, link_of, seat_in, under}
 use Rattle.at_model.specs.Abort.{Reason, Alone, Asked, until_rolled_back, abort}

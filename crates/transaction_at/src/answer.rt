@@ -2,6 +2,7 @@
 //! neither link is Registering, with CannotCreateContext where the subordinate ended before.
 
 ghost use Rattle.std.specs.Prelude.{◌≡◌, ◌++◌, ◌∷◌, [], List, IfOk, OnOk, Some, None, if◌then◌else◌, option_copied, option_map};
+ghost use Rattle.at_base.specs.declared.fault.Fault.TheVariants.{CannotCreateContext};
 ghost use Rattle.at_base.specs.declared.message.Message.TheVariants as messages;
 ghost use Rattle.at_model.specs.Arrivals.{answer_request, context_of, refused_request, request_answered, request_left, request_of, request_stands, request_under, with_answer};
 ghost use Rattle.at_base.specs.declared.outs.Effect.{Effect};
@@ -20,9 +21,10 @@ use at_base::message::{Context, Message};
 use at_base::record::Record;
 use at_base::target::Target;
 use at_base::text::Text;
-use at_posts::addresses::endpoint_of;
+use endpoints::addresses::endpoint_of;
 use at_posts::list::PostList;
-use at_posts::names::{atomic, cannot_create};
+use at_base::fault::Fault;
+use endpoints::uris::atomic;
 use at_posts::posts::{fault_post, reply_post};
 use by_id::moves::{Change, Decision};
 use std::alloc::{AllocError, Global};
@@ -55,7 +57,7 @@ fn push_refused(alloc: Global, posts: &mut PostList, request: &Request) -> Resul
         Reply::Anonymous | Reply::Nobody => Ok(()),
         Reply::At(to) => {
             let to = to.clone()?;
-            posts.push(fault_post(alloc, Some(to), &request.id, cannot_create())?)
+            posts.push(fault_post(alloc, Some(to), &request.id, Fault::CannotCreateContext)?)
         }
     }
 }

@@ -18,7 +18,7 @@ use at_base::event::{Arrived, Moment};
 use at_base::message::Message;
 use at_base::notice::Notice;
 use at_base::target::Target;
-use at_posts::names::{invalid_state, unknown_transaction};
+use at_base::fault::Fault;
 use at_posts::posts::{fault_post, notice_post};
 use at_tables::cells::{Act, State, completion_cell};
 use by_id::moves::{Decision, Moving};
@@ -138,9 +138,9 @@ fn acts(
             arrived,
             completion,
             transaction,
-            unknown_transaction(),
+            Fault::UnknownTransaction,
         ),
-        Act::FaultInvalidState => faults(alloc, arrived, completion, transaction, invalid_state()),
+        Act::FaultInvalidState => faults(alloc, arrived, completion, transaction, Fault::InvalidState),
         Act::Complete => completes(alloc, moment, completion, transaction),
         Act::AbortAndSendAborted => aborts(alloc, moment, still(alloc, transaction)?),
         Act::Ignore

@@ -1,6 +1,7 @@
 //! What a message does at a subordinate's link to its superior (WS-AtomicTransaction 1.2, sections 3.3.3 and 10).
 
 ghost use Rattle.std.specs.Prelude.{◌≡◌, IfOk, Some, None, ◌&&◌};
+ghost use Rattle.at_base.specs.declared.fault.Fault.TheVariants.{InvalidState};
 ghost use Rattle.at_base.specs.declared.notice.Kind.TheVariants as kinds;
 ghost use Rattle.at_base.specs.declared.notice.Notice.TheVariants as notices;
 ghost use Rattle.at_base.specs.declared.outs.Ending.TheVariants as endings;
@@ -11,10 +12,10 @@ ghost use Rattle.at_tables.specs.declared.cells.State.TheVariants as states;
 ghost use Rattle.at_model.specs.Book.{Phase as Stage};
 ghost use Rattle.at_model.specs.Abort.{abort, Asked, Faulted};
 ghost use Rattle.at_model.specs.Arrivals.{asked, commit_voted, is_registering, link_act, link_fault, link_notice, link_registered, on_link, registered, relates_to};
-ghost use Rattle.at_model.specs.Addresses.{register_id};
+ghost use Rattle.endpoints.specs.Addresses.{register_id};
 ghost use Rattle.at_model.specs.Moves.{Goes, Records, become, begin, posts, stays};
 ghost use Rattle.at_model.specs.Phases.{commit_seats, go_volatile, upwards};
-ghost use Rattle.at_model.specs.Posts.{fault_post, invalid_state, stored_or, stranger_post, to_each};
+ghost use Rattle.at_model.specs.Posts.{fault_post, stored_or, stranger_post, to_each};
 ghost use Rattle.at_model.specs.Seats.{ending, link_in, link_of, sent_now, set_link, under};
 ghost use Rattle.at_tables.specs.Names.{is_state};
 ghost use Rattle.by_id.specs.Decisions.{decision_of};
@@ -33,8 +34,9 @@ use at_base::outs::Ending;
 use at_base::record::Record;
 use at_base::target::Target;
 use at_base::text::Text;
-use at_posts::addresses::{register_id, relates_to};
-use at_posts::names::invalid_state;
+use at_posts::answers::relates_to;
+use endpoints::addresses::register_id;
+use at_base::fault::Fault;
 use at_posts::posts::{fault_post, stored_or, stranger_post};
 use at_tables::cells::{Act, State, participant_cell};
 use by_id::moves::{Decision, Moving};
@@ -108,13 +110,13 @@ fn with_fault(
     ensures { IfOk result
         (λ moving. moving
         ≡ posts (to_each (stored_or (link_of kind superior.now).coordinator arrived.now.from)
-        (λ to. fault_post (Some to) arrived.now.id invalid_state)) (begin transaction.now)) }
+        (λ to. fault_post (Some to) arrived.now.id InvalidState)) (begin transaction.now)) }
 {
     let Some(to) = stored_or(&superior.link(kind).coordinator, &arrived.from) else {
         return still(alloc, transaction);
     };
     let to = to.clone()?;
-    let message = fault_post(alloc, Some(to), &arrived.id, invalid_state())?;
+    let message = fault_post(alloc, Some(to), &arrived.id, Fault::InvalidState)?;
     let next = transaction.clone()?;
     posting(alloc, next, message)
 }
@@ -130,7 +132,7 @@ fn faults(
     ensures { IfOk result
         (λ decision. decision_of decision
         ≡ Goes (stays (posts (to_each (stored_or (link_of kind superior.now).coordinator arrived.now.from)
-        (λ to. fault_post (Some to) arrived.now.id invalid_state)) (begin transaction.now)))) }
+        (λ to. fault_post (Some to) arrived.now.id InvalidState)) (begin transaction.now)))) }
 {
     Ok(Decision::Goes(with_fault(alloc, arrived, kind, superior, transaction)?.stays()))
 }
@@ -147,7 +149,7 @@ fn faults_and_aborts(
     ensures { IfOk result
         (λ decision. decision_of decision
         ≡ Goes (abort moment.entry.now (Faulted kind) (posts (to_each (stored_or (link_of kind superior.now).coordinator arrived.now.from)
-        (λ to. fault_post (Some to) arrived.now.id invalid_state)) (begin transaction.now)))) }
+        (λ to. fault_post (Some to) arrived.now.id InvalidState)) (begin transaction.now)))) }
 {
     let moving = with_fault(alloc, arrived, kind, superior, transaction)?;
     Ok(Decision::Goes(abort(alloc, moment, &Reason::Faulted(kind), moving)?))

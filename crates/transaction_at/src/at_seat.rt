@@ -1,6 +1,7 @@
 //! What a message does at a seat of a transaction (WS-AtomicTransaction 1.2, section 10).
 
 ghost use Rattle.std.specs.Prelude.{◌≡◌, IfOk, Some, if◌then◌else◌};
+ghost use Rattle.at_base.specs.declared.fault.Fault.TheVariants.{InvalidState};
 ghost use Rattle.at_base.specs.declared.notice.Notice.TheVariants as notices;
 ghost use Rattle.at_tables.specs.Tables.{coordinator_of};
 ghost use Rattle.at_tables.specs.declared.cells.State.TheVariants as states;
@@ -8,7 +9,7 @@ ghost use Rattle.at_model.specs.Abort.{abort, Alone};
 ghost use Rattle.at_model.specs.Arrivals.{answer_seat, answer_left_seat, on_seat, seat_act, seat_notice};
 ghost use Rattle.at_model.specs.Moves.{Goes, begin, post, stays};
 ghost use Rattle.at_model.specs.Phases.{advance};
-ghost use Rattle.at_model.specs.Posts.{fault_post, invalid_state};
+ghost use Rattle.at_model.specs.Posts.{fault_post};
 ghost use Rattle.at_model.specs.Seats.{in_state, seat_in};
 ghost use Rattle.by_id.specs.Decisions.{decision_of};
 
@@ -19,7 +20,7 @@ use at_base::event::{Arrived, Moment};
 use at_base::message::Message;
 use at_base::notice::Notice;
 use at_base::text::Text;
-use at_posts::names::{invalid_state, unknown_transaction};
+use at_base::fault::Fault;
 use at_posts::posts::{fault_post, stranger_post};
 use at_tables::cells::{Act, State, coordinator_cell};
 use by_id::moves::{Decision, Moving};
@@ -121,9 +122,9 @@ fn faults_and_aborts(
 ) -> Result<Decision<Transaction>, AllocError>
     ensures { IfOk result
         (λ decision. decision_of decision
-        ≡ Goes (abort moment.entry.now Alone (post (fault_post (Some seat.now.participant) arrived.now.id invalid_state) (begin transaction.now)))) }
+        ≡ Goes (abort moment.entry.now Alone (post (fault_post (Some seat.now.participant) arrived.now.id InvalidState) (begin transaction.now)))) }
 {
-    let moving = with_fault(alloc, arrived, transaction, seat, invalid_state())?;
+    let moving = with_fault(alloc, arrived, transaction, seat, Fault::InvalidState)?;
     aborts(alloc, moment, moving)
 }
 
@@ -180,9 +181,9 @@ fn acts(
             arrived,
             transaction,
             seat,
-            unknown_transaction(),
+            Fault::UnknownTransaction,
         ),
-        Act::FaultInvalidState => faults(alloc, arrived, transaction, seat, invalid_state()),
+        Act::FaultInvalidState => faults(alloc, arrived, transaction, seat, Fault::InvalidState),
         Act::FaultInvalidStateAndAbort => faults_and_aborts(
             alloc,
             moment,

@@ -2,7 +2,8 @@
 
 ghost use Rattle.std.specs.Prelude.{◌≡◌, ◌++◌, IfOk, OnOk, Some};
 ghost use Rattle.std.specs.List.{list_any};
-ghost use Rattle.at_tables.specs.Names.{state_place, is_state, is_kind};
+ghost use Rattle.at_tables.specs.Names.{state_place, is_state};
+ghost use Rattle.at_base.specs.Names.{is_kind};
 ghost use Rattle.at_model.specs.Moves.{begin, effect, ignored, post};
 ghost use Rattle.at_model.specs.Posts.{notice_post};
 ghost use Rattle.at_model.specs.Seats.{is_of, is_open, answered, all_left, is_prepared_durable, prepared, seated, seat_target, notices_to, sent_to, send_each, seat_in, sent_now, moved};
@@ -12,12 +13,11 @@ ghost use Rattle.transaction_at.specs.Groups.{belongs};
 use crate::transaction::{Enlistment, Transaction};
 use at_base::event::Moment;
 use at_base::id::Id;
-use at_base::notice::{Kind, Notice};
 use at_base::outs::{Effect, Effects, Post};
 use at_base::record::{Seated, Seats};
 use at_base::target::{Seat, Target};
 use at_posts::list::PostList;
-use at_posts::names::is_kind;
+use at_base::notice::{Kind, Notice, is_kind};
 use at_posts::posts::notice_post;
 use at_tables::cells::State;
 use by_id::moves::{Decision, Moving, ignored};

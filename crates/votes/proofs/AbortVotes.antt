@@ -15,7 +15,7 @@ use Rattle.at_base.specs.declared.outs.Ending.TheVariants as endings
 use Rattle.at_tables.specs.declared.cells.Act.TheVariants as acts
 use Rattle.at_tables.specs.declared.cells.State.{State}
 use Rattle.at_tables.specs.declared.cells.State.TheVariants as states
-use Rattle.at_tables.specs.Names.{is_kind}
+use Rattle.at_base.specs.Names.{is_kind}
 use Rattle.at_tables.specs.Tables.{coordinator_of}
 use Rattle.at_model.specs.Abort.{Alone, Reason, abort}
 use Rattle.at_model.specs.Arrivals.{on_seat, request_of, seat_act, seat_notice}

@@ -10,7 +10,8 @@ use Rattle.at_base.specs.declared.event.Event.{Event}
 use Rattle.at_base.specs.declared.record.Record.{Record}
 use Rattle.at_tables.specs.declared.cells.State.{State}
 use Rattle.at_tables.specs.declared.cells.State.TheVariants as states
-use Rattle.at_tables.specs.Names.{is_kind, is_state}
+use Rattle.at_tables.specs.Names.{is_state}
+use Rattle.at_base.specs.Names.{is_kind}
 use Rattle.at_model.specs.Book.{Book, Enlistment, Phase, Transaction, find_by, is_id, put_by, transaction_id}
 use Rattle.at_model.specs.Due.{may_expire}
 use Rattle.at_model.specs.Moves.{Change}

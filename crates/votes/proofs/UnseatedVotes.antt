@@ -14,7 +14,7 @@ use Rattle.at_base.specs.declared.notice.Notice.TheVariants as notices
 use Rattle.at_base.specs.declared.message.Message.TheVariants as messages
 use Rattle.at_base.specs.declared.target.Seat.{Seat}
 use Rattle.at_base.specs.declared.target.Target.TheVariants as targets
-use Rattle.at_tables.specs.Names.{is_kind}
+use Rattle.at_base.specs.Names.{is_kind}
 use Rattle.at_model.specs.Book.{Book, Enlistment, Phase, Transaction, transaction_id}
 use Rattle.at_model.specs.Due.{may_expire}
 use Rattle.at_model.specs.Step.{find_seat, transaction_at}

@@ -10,7 +10,7 @@ use Rattle.at_base.specs.declared.outs.Ending.{Ending}
 use Rattle.at_base.specs.declared.outs.Ending.TheVariants as endings
 use Rattle.at_base.specs.declared.record.Record.{Record}
 use Rattle.at_base.specs.declared.record.Record.TheVariants as records
-use Rattle.at_tables.specs.Names.{is_kind}
+use Rattle.at_base.specs.Names.{is_kind}
 use Rattle.at_model.specs.Book.{Book, Leaf, Transaction, leaf_id, transaction_id}
 use Rattle.at_model.specs.Step.{leaf_at, transaction_at}
 use Rattle.at_model.specs.World.{Happened, Node, Who, World, happened_at, nth, Hosts}

@@ -9,8 +9,8 @@ use Rattle.addressing.specs.declared.headers.AddressingRefusal.{AddressingRefusa
 use Rattle.addressing.specs.declared.headers.Header.TheVariants.{MessageId, ReplyTo, FaultTo, CoordinationContext}
 use Rattle.addressing.specs.Message.{Headers}
 use Rattle.addressing.specs.Requests.{answerable_of, create_action, is_answerable, register_action, request_of, required, valid, work_action}
-use Rattle.at_targets.specs.declared.form.Form.{Form}
-use Rattle.at_targets.specs.declared.form.Form.TheVariants as forms
+use Rattle.endpoints.specs.declared.form.Form.{Form}
+use Rattle.endpoints.specs.declared.form.Form.TheVariants as forms
 use Rattle.wire_msgs.specs.Forms.{action_of}
 use Rattle.addressing.specs.Headers.{◌>>=◌}
 

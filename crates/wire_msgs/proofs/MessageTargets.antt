@@ -12,20 +12,18 @@ use Rattle.context.specs.Bodies.{create_of, create_response_of, register_of, reg
 use Rattle.at_base.specs.declared.message.Message.{Message}
 use Rattle.at_base.specs.declared.message.Message.TheVariants as messages
 use Rattle.at_base.specs.declared.target.Target.{Target}
-use Rattle.at_model.specs.World.{takes}
 use Rattle.wire_msgs.specs.declared.decode.Arrival.{Arrival}
-use Rattle.at_targets.specs.declared.form.Form.{Form}
-use Rattle.at_targets.specs.declared.form.Form.TheVariants as forms
+use Rattle.endpoints.specs.declared.form.Form.{Form}
+use Rattle.endpoints.specs.declared.form.Form.TheVariants as forms
 use Rattle.wire_msgs.specs.declared.refusal.ParameterName.TheVariants.{Body}
 use Rattle.wire_msgs.specs.declared.refusal.Refusal.{Refusal}
 use Rattle.wire_msgs.specs.declared.refusal.Refusal.TheVariants.{Action, Parameters}
 use Rattle.wire_msgs.specs.Arrivals.{Arrives, arrival_of, arrival_in, arrival_under, arrived, fault_at, message_of, named_at, said_at, said_in, targeted}
 use Rattle.wire_msgs.specs.Bodies.{body_of, work_of}
-use Rattle.at_targets.specs.Forms.{form_of, takes_any, takes_fault, takes_form}
+use Rattle.endpoints.specs.Forms.{form_of, takes_any, takes_fault, takes_form, takes}
 use Rattle.wire_msgs.specs.Forms.{form_at, local_of, space_of}
 use Rattle.wire_msgs.specs.Refusals.{Answers, addressing, coordination, fault, soap, ◌>>=◌}
 use Rattle.wire_msgs.specs.Targets.{target_at}
-use Rattle.at_targets.proofs.Forms.{takes_as_modelled}
 
 -- a chain that ends well has begun well
 both_ok : {A B : Type 0} (first : Result A Refusal) (next : A → Result B Refusal) (b : B) → (first >>= next) ≡ Ok b
@@ -77,9 +75,6 @@ message_by : (b : Bool) (form : Option Form) (context : Option Tree) (target : T
 message_by true form context target t m e = fault_taken target t m e
 message_by false form context target t m e = said_taken form context target t m e
 
-as_modelled : (target : Target) (m : Message) → takes_any target (form_of m) ≡ true → takes target m ≡ true
-as_modelled target m h = takes_as_modelled target m ∙ h
-
 arrival_taken : (t : Tree) (path : List ℕ) (a : Arrival) → arrival_of t path ≡ Ok a → takes a.target a.message ≡ true
 arrival_taken t path a e =
     let (envelope, f, inside) = both_ok (soap (envelope_of t)) (λ x. arrival_in x path) a e in
@@ -94,7 +89,7 @@ arrival_taken t path a e =
     let taken : takes_any target (form_of message) ≡ true =
     message_by (is_named envelope.body.name soap_space (codes "Fault")) (form_at headers.action) headers.context target envelope.body message k in
     subst (λ (x : Arrival). takes x.target x.message ≡ true) same_arrival
-    (subst (λ (x : Target × Message). takes x.0 x.1 ≡ true) same (as_modelled target message taken))
+    (subst (λ (x : Target × Message). takes x.0 x.1 ≡ true) same taken)
 
 pub is_taken : (t : Tree) (path : List ℕ) (result : Result Arrival Refusal) → Answers (arrival_of t path) result
     → IfOk result (λ a. takes a.target a.message ≡ true)

@@ -25,8 +25,8 @@ use Rattle.addressing.specs.Requests.{request_of}
 use Rattle.context.specs.declared.parameter.ContextFault.{ContextFault}
 use Rattle.context.specs.Bodies.{context_of, create_of, create_response_of, register_of, register_response_of}
 use Rattle.wire_msgs.specs.declared.decode.Arrival.{Arrival}
-use Rattle.at_targets.specs.declared.form.Form.{Form}
-use Rattle.at_targets.specs.declared.form.Form.TheVariants as forms
+use Rattle.endpoints.specs.declared.form.Form.{Form}
+use Rattle.endpoints.specs.declared.form.Form.TheVariants as forms
 use Rattle.wire_msgs.specs.declared.part.Part.{Part}
 use Rattle.wire_msgs.specs.declared.part.Part.TheVariants as parts
 use Rattle.wire_msgs.specs.declared.refusal.ParameterName.TheVariants.{Body}
@@ -34,7 +34,7 @@ use Rattle.wire_msgs.specs.declared.refusal.Refusal.{Refusal}
 use Rattle.wire_msgs.specs.declared.refusal.Refusal.TheVariants.{Action, Parameters}
 use Rattle.wire_msgs.specs.Arrivals.{Arrives, arrival_of, arrival_in, arrival_under, arrived, fault_at, message_of, said_at, said_in, targeted}
 use Rattle.wire_msgs.specs.Bodies.{body_of, kind_in, readable, required, short, short_in, text_in, vote_in, work_of}
-use Rattle.at_targets.specs.Forms.{takes_fault, takes_form}
+use Rattle.endpoints.specs.Forms.{takes_fault, takes_form}
 use Rattle.wire_msgs.specs.Forms.{action_of, form_at, local_of, space_of}
 use Rattle.wire_msgs.specs.Parts.{child_in, part_name}
 use Rattle.wire_msgs.specs.Refusals.{Answers, addressing, coordination, fault, soap, ◌>>=◌}

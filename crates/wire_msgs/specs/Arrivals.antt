@@ -15,12 +15,12 @@ use Rattle.at_base.specs.declared.message.Message.{Message}
 use Rattle.at_base.specs.declared.message.Message.TheVariants.{Fault}
 use Rattle.at_base.specs.declared.target.Target.{Target}
 use Rattle.wire_msgs.specs.declared.decode.Arrival.{Arrival}
-use Rattle.at_targets.specs.declared.form.Form.{Form}
+use Rattle.endpoints.specs.declared.form.Form.{Form}
 use Rattle.wire_msgs.specs.declared.refusal.ParameterName.TheVariants.{Body}
 use Rattle.wire_msgs.specs.declared.refusal.Refusal.{Refusal}
 use Rattle.wire_msgs.specs.declared.refusal.Refusal.TheVariants.{TooLong, NotUtf8, NotSpelled, TooDeep, TooMany, VersionMismatch, NotEnvelope, MustUnderstand, MissingHeader, InvalidHeader, NoTarget, Action, Parameters, NoMemory}
 use Rattle.wire_msgs.specs.Bodies.{body_of}
-use Rattle.at_targets.specs.Forms.{takes_fault, takes_form}
+use Rattle.endpoints.specs.Forms.{takes_fault, takes_form}
 use Rattle.wire_msgs.specs.Forms.{form_at, local_of, space_of}
 use Rattle.wire_msgs.specs.Refusals.{addressing, fault, soap, ◌>>=◌}
 use Rattle.wire_msgs.specs.Targets.{target_at}

@@ -2,6 +2,7 @@
 -- Children stand in any order, and others are skipped.
 use Rattle.std.specs.Prelude.{ℕ, List, nat_le, length, Option, Some, None, Result, Ok, Err, if◌then◌else◌, codes}
 use Rattle.std.specs.Str.{bytes_eq}
+use Rattle.at_base.specs.Names.{kind_named, vote_named}
 use Rattle.xml_profile.specs.declared.tree.Tree.{Tree}
 use Rattle.soap_profile.specs.Values.{text_value}
 use Rattle.addressing.specs.declared.headers.Header.TheVariants.{CoordinationContext}
@@ -13,8 +14,8 @@ use Rattle.at_base.specs.declared.message.Message.{Message}
 use Rattle.at_base.specs.declared.message.Message.TheVariants as messages
 use Rattle.at_base.specs.declared.message.Work.{Work}
 use Rattle.context.specs.Bodies.{context_of, create_of, create_response_of, register_of, register_response_of}
-use Rattle.at_targets.specs.declared.form.Form.{Form}
-use Rattle.at_targets.specs.declared.form.Form.TheVariants as forms
+use Rattle.endpoints.specs.declared.form.Form.{Form}
+use Rattle.endpoints.specs.declared.form.Form.TheVariants as forms
 use Rattle.wire_msgs.specs.declared.part.Part.{Part}
 use Rattle.wire_msgs.specs.declared.part.Part.TheVariants as parts
 use Rattle.wire_msgs.specs.declared.refusal.ParameterName.TheVariants as names
@@ -52,23 +53,10 @@ short_in t part = do
   text ← text_in t part
   readable part (short text)
 
-abbrev pub kind_named : List ℕ → Option Kind
-kind_named name =
-    if bytes_eq name (codes "durable") then Some kinds.Durable
-    else if bytes_eq name (codes "volatile") then Some kinds.Volatile
-    else None
-
 abbrev pub kind_in : Tree → Result Kind Refusal
 kind_in t = do
   name ← text_in t parts.Kind
   readable parts.Kind (kind_named name)
-
-abbrev pub vote_named : List ℕ → Option Vote
-vote_named name =
-    if bytes_eq name (codes "prepared") then Some votes.Prepared
-    else if bytes_eq name (codes "readonly") then Some votes.ReadOnly
-    else if bytes_eq name (codes "aborted") then Some votes.Aborted
-    else None
 
 abbrev pub vote_in : Tree → Result Vote Refusal
 vote_in t = do

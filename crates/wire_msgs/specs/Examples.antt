@@ -12,8 +12,8 @@ use Rattle.at_base.specs.declared.notice.Kind.TheVariants as kinds
 use Rattle.at_base.specs.declared.notice.Notice.TheVariants as notices
 use Rattle.at_base.specs.declared.target.Target.TheVariants as targets
 use Rattle.addressing.specs.declared.headers.Header.TheVariants as headers
-use Rattle.at_targets.specs.declared.form.Form.{Form}
-use Rattle.at_targets.specs.declared.form.Form.TheVariants as forms
+use Rattle.endpoints.specs.declared.form.Form.{Form}
+use Rattle.endpoints.specs.declared.form.Form.TheVariants as forms
 use Rattle.wire_msgs.specs.declared.refusal.ParameterName.TheVariants as names
 use Rattle.wire_msgs.specs.declared.refusal.Refusal.TheVariants as refusals
 use Rattle.wire_msgs.specs.Arrivals.{arrival_of}

@@ -3,11 +3,11 @@ use Rattle.std.specs.Prelude.{ℕ, List, [], ◌∷◌, ◌++◌, Option, Some, 
 use Rattle.std.specs.List.{find}
 use Rattle.std.specs.Str.{bytes_eq}
 use Rattle.xml_profile.specs.Prefixes.{coordination, transaction, work}
-use Rattle.at_base.specs.declared.notice.Notice.{Notice}
+use Rattle.at_base.specs.Names.{notice_name}
 use Rattle.at_base.specs.declared.notice.Notice.TheVariants as notices
-use Rattle.at_model.specs.Addresses.{slash}
-use Rattle.at_targets.specs.declared.form.Form.{Form}
-use Rattle.at_targets.specs.declared.form.Form.TheVariants as forms
+use Rattle.endpoints.specs.Addresses.{slash}
+use Rattle.endpoints.specs.declared.form.Form.{Form}
+use Rattle.endpoints.specs.declared.form.Form.TheVariants as forms
 
 -- the namespace of the element in the body
 abbrev pub space_of : Form → List ℕ
@@ -19,15 +19,6 @@ space_of (forms.Notice notice) = transaction
 space_of forms.Work = work
 space_of forms.WorkDone = work
 space_of forms.WorkRefused = work
-
-abbrev pub notice_name : Notice → List ℕ
-notice_name notices.Prepare = codes "Prepare"
-notice_name notices.Commit = codes "Commit"
-notice_name notices.Rollback = codes "Rollback"
-notice_name notices.Prepared = codes "Prepared"
-notice_name notices.ReadOnly = codes "ReadOnly"
-notice_name notices.Aborted = codes "Aborted"
-notice_name notices.Committed = codes "Committed"
 
 -- its local name
 abbrev pub local_of : Form → List ℕ

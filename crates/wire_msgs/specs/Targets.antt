@@ -7,7 +7,7 @@ use Rattle.addressing.specs.PostAddresses.{path_in}
 use Rattle.at_base.specs.declared.notice.Kind.TheVariants as kinds
 use Rattle.at_base.specs.declared.target.Target.{Target}
 use Rattle.at_base.specs.declared.target.Target.TheVariants as targets
-use Rattle.at_model.specs.Addresses.{target_of}
+use Rattle.endpoints.specs.Addresses.{target_of}
 
 -- a path without its query (RFC 3986, section 3.4), which begins with `?`
 abbrev pub without_query : List ℕ → List ℕ

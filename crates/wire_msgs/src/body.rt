@@ -2,7 +2,7 @@
 
 ghost use Rattle.std.specs.Prelude.{◌≡◌};
 ghost use Rattle.std.specs.Option.{option_copied};
-ghost use Rattle.wire_msgs.specs.Bodies.{body_of, kind_in, kind_named, short_in, text_in, unreadable, vote_in, vote_named, work_of};
+ghost use Rattle.wire_msgs.specs.Bodies.{body_of, kind_in, short_in, text_in, unreadable, vote_in, work_of};
 ghost use Rattle.wire_msgs.specs.Refusals.{Answers};
 
 use crate::part::{Part, child_in};
@@ -11,7 +11,7 @@ use addressing::headers::Header;
 use at_base::message::{Message, Work};
 use at_base::notice::{Kind, Vote};
 use at_base::text::Text;
-use at_targets::form::Form;
+use endpoints::form::Form;
 use context::reader::{
     read_context, read_create, read_create_response, read_register, read_register_response,
 };
@@ -98,19 +98,9 @@ fn read_kind(alloc: Global, body: &Tree) -> Result<Kind, Refusal>
     ensures { Answers (kind_in body.now) result }
 {
     let name = read_text(alloc, body, Part::Kind)?;
-    match kind_named(name.as_str()) {
+    match Kind::named(name.as_str()) {
         Some(kind) => Ok(kind),
         None => Err(unreadable(Part::Kind)),
-    }
-}
-
-fn kind_named(name: &str) -> Option<Kind>
-    ensures { result ≡ kind_named name.now }
-{
-    match name {
-        "durable" => Some(Kind::Durable),
-        "volatile" => Some(Kind::Volatile),
-        _ => None,
     }
 }
 
@@ -118,19 +108,8 @@ fn read_vote(alloc: Global, body: &Tree) -> Result<Vote, Refusal>
     ensures { Answers (vote_in body.now) result }
 {
     let name = read_text(alloc, body, Part::Vote)?;
-    match vote_named(name.as_str()) {
+    match Vote::named(name.as_str()) {
         Some(vote) => Ok(vote),
         None => Err(unreadable(Part::Vote)),
-    }
-}
-
-fn vote_named(name: &str) -> Option<Vote>
-    ensures { result ≡ vote_named name.now }
-{
-    match name {
-        "prepared" => Some(Vote::Prepared),
-        "readonly" => Some(Vote::ReadOnly),
-        "aborted" => Some(Vote::Aborted),
-        _ => None,
     }
 }

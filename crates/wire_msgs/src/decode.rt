@@ -2,7 +2,7 @@
 
 ghost use Rattle.std.specs.Prelude.{◌≡◌, IfErr, IfOk, Some, true};
 ghost use Rattle.std.specs.Option.{option_copied};
-ghost use Rattle.at_model.specs.World.{takes};
+ghost use Rattle.endpoints.specs.Forms.{takes};
 ghost use Rattle.xml_grammar.specs.Refusals.{Reads};
 ghost use Rattle.xml_profile.specs.declared.tree.Tree.{Tree};
 ghost use Rattle.wire_msgs.specs.Arrivals.{Arrives, IsRefused, arrival_in, arrival_of, arrival_under, arrived, fault_at, message_of, said_at, said_in, targeted};
@@ -21,7 +21,7 @@ use at_base::epr::Epr;
 use at_base::message::Message;
 use at_base::target::Target;
 use at_base::text::Text;
-use at_targets::form::{Form, takes_fault, takes_form};
+use endpoints::form::{Form, takes_fault, takes_form};
 use soap_profile::envelope::{Envelope, open_envelope};
 use soap_profile::fault::{is_fault, read_fault};
 use soap_profile::value::is_named;

@@ -1,13 +1,13 @@
 //! The names and the action of each message (WS-Coordination 1.2, section 3; WS-AtomicTransaction 1.2, section 3).
 
 ghost use Rattle.std.specs.Prelude.{◌≡◌, IfSome, Some};
-ghost use Rattle.wire_msgs.specs.Forms.{ActionsDiffer, action_of, every_notice, first_at, form_at, local_of, notice_name, space_of};
-ghost use Rattle.at_targets.specs.declared.form.Form.{Form};
-ghost use Rattle.at_targets.specs.declared.form.Form.TheVariants as forms;
+ghost use Rattle.wire_msgs.specs.Forms.{ActionsDiffer, action_of, every_notice, first_at, form_at, local_of, space_of};
+ghost use Rattle.endpoints.specs.declared.form.Form.{Form};
+ghost use Rattle.endpoints.specs.declared.form.Form.TheVariants as forms;
 
 use addressing::request::{CREATE_ACTION, REGISTER_ACTION, WORK_ACTION};
 use at_base::notice::Notice;
-use at_targets::form::Form;
+use endpoints::form::Form;
 use xml_profile::names::{COORDINATION, TRANSACTION, WORK};
 
 /// The message that an action names. None exactly where none has it.
@@ -42,7 +42,7 @@ pub fn local_of(form: Form) -> &'static str
         Form::CreateResponse => "CreateCoordinationContextResponse",
         Form::Register => "Register",
         Form::RegisterResponse => "RegisterResponse",
-        Form::Notice(notice) => notice_name(notice),
+        Form::Notice(notice) => notice.name(),
         Form::Work => "Work",
         Form::WorkDone => "WorkDone",
         Form::WorkRefused => "WorkRefused",
@@ -118,20 +118,6 @@ fn notice_at(action: &str) -> Option<Form>
         _ => return None,
     };
     Some(Form::Notice(notice))
-}
-
-fn notice_name(notice: Notice) -> &'static str
-    ensures { result.now ≡ notice_name notice }
-{
-    match notice {
-        Notice::Prepare => "Prepare",
-        Notice::Commit => "Commit",
-        Notice::Rollback => "Rollback",
-        Notice::Prepared => "Prepared",
-        Notice::ReadOnly => "ReadOnly",
-        Notice::Aborted => "Aborted",
-        Notice::Committed => "Committed",
-    }
 }
 
 /// Each message has an action of its own.

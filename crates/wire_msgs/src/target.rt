@@ -1,12 +1,12 @@
 //! The service or the item that a message is for.
 
 ghost use Rattle.std.specs.Prelude.{◌≡◌};
-ghost use Rattle.at_model.specs.Addresses.{target_of};
+ghost use Rattle.endpoints.specs.Addresses.{target_of};
 ghost use Rattle.wire_msgs.specs.Targets.{target_at, without_query};
 
 use addressing::destination::Destination;
 use at_base::target::Target;
-use at_targets::target::target_of;
+use endpoints::target::target_of;
 
 /// What a message is for: what the path of its To names, or where it has none or an anonymous one, the path of the
 /// request. None where the path names nothing.

@@ -16,6 +16,7 @@ use Rattle.soap_profile.specs.BuiltElements.{children_of, qualified}
 use Rattle.soap_profile.specs.Envelopes.{enveloped, envelope_of, envelope_tree, judged, not_understood, opened, sole}
 use Rattle.soap_profile.specs.Values.{elements, is_empty, is_named}
 use Rattle.soap_profile.proofs.Lists.{elements_of_children}
+use Rattle.at_base.specs.declared.fault.Fault.TheVariants as faults
 use Rattle.at_base.specs.declared.epr.Epr.{Epr}
 use Rattle.at_base.specs.declared.epr.Reply.{Reply}
 use Rattle.at_base.specs.declared.epr.Reply.TheVariants as replies
@@ -26,8 +27,7 @@ use Rattle.at_base.specs.declared.notice.Notice.{Notice}
 use Rattle.at_base.specs.declared.notice.Notice.TheVariants as notices
 use Rattle.at_base.specs.declared.outs.Post.{Post}
 use Rattle.at_base.specs.declared.target.Target.{Target}
-use Rattle.at_model.specs.Addresses.{target_of}
-use Rattle.at_model.specs.World.{takes}
+use Rattle.endpoints.specs.Addresses.{target_of}
 use Rattle.addressing.specs.Message.{Headers}
 use Rattle.addressing.specs.declared.writer.Endpoint.{Endpoint}
 use Rattle.addressing.specs.declared.writer.OutgoingHeaders.{OutgoingHeaders}
@@ -39,20 +39,19 @@ use Rattle.addressing.specs.OutgoingHeaders.{AreLegible, IsContext, IsDestinatio
 use Rattle.addressing.proofs.HeaderRoundtrip.{headers_return}
 use Rattle.addressing.proofs.UnderstoodBlocks.{all_understood}
 use Rattle.wire_msgs.specs.declared.decode.Arrival.{Arrival}
-use Rattle.at_targets.specs.declared.form.Form.{Form}
-use Rattle.at_targets.specs.declared.form.Form.TheVariants as forms
+use Rattle.endpoints.specs.declared.form.Form.{Form}
+use Rattle.endpoints.specs.declared.form.Form.TheVariants as forms
 use Rattle.wire_msgs.specs.declared.refusal.Refusal.{Refusal}
 use Rattle.wire_msgs.specs.Arrivals.{Arrives, arrival_in, arrival_of, arrival_under, arrived, message_of, targeted}
-use Rattle.at_targets.specs.Forms.{form_of, takes_any}
+use Rattle.endpoints.specs.Forms.{form_of, takes_any, takes}
 use Rattle.wire_msgs.specs.Forms.{action_of, local_of, space_of}
 use Rattle.wire_msgs.specs.Refusals.{addressing, soap, ◌>>=◌}
 use Rattle.addressing.specs.PostAddresses.{path_in}
 use Rattle.wire_msgs.specs.Targets.{target_at}
-use Rattle.at_targets.proofs.Forms.{takes_as_modelled}
 use Rattle.wire_posts.specs.declared.fault.WrittenFault.{WrittenFault}
-use Rattle.wire_posts.specs.declared.fault.WrittenFault.TheVariants.{NotProfileDocument, VersionMismatch, NotEnvelope, MustUnderstand, HeaderRequired, InvalidHeader, ActionNotSupported, InvalidState, InvalidProtocol, InvalidParameters, CannotCreateContext, CannotRegisterParticipant, UnknownTransaction, Other}
+use Rattle.wire_posts.specs.declared.fault.WrittenFault.TheVariants.{NotProfileDocument, VersionMismatch, NotEnvelope, MustUnderstand, HeaderRequired, InvalidHeader, ActionNotSupported, Protocol, Other}
 use Rattle.wire_posts.specs.Envelopes.{AreBoth, AreHeadersOf, IsBodyOf, IsEnvelopeOf, IsReplyOf, IsTextOf, IsWorkContext, action_in, context_in, reply_epr}
-use Rattle.wire_posts.specs.Faults.{fault_action, fault_named}
+use Rattle.wire_posts.specs.Faults.{fault_action, written_named}
 use Rattle.wire_msgs.specs.WholeMessages.{IsClean, IsSource}
 use Rattle.wire_posts.specs.Returns.{CanBeWritten, CanReturn, IsAnswerable, IsRequest, IsWholeReply, Returns, returned, written_to}
 use Rattle.wire_posts.proofs.Bodies.{ContextRead, contexts_read, fault_message, named, said_body, said_message}
@@ -185,12 +184,12 @@ fault_trimmed MustUnderstand = (refl, refl)
 fault_trimmed HeaderRequired = (refl, refl)
 fault_trimmed InvalidHeader = (refl, refl)
 fault_trimmed ActionNotSupported = (refl, refl)
-fault_trimmed InvalidState = (refl, refl)
-fault_trimmed InvalidProtocol = (refl, refl)
-fault_trimmed InvalidParameters = (refl, refl)
-fault_trimmed CannotCreateContext = (refl, refl)
-fault_trimmed CannotRegisterParticipant = (refl, refl)
-fault_trimmed UnknownTransaction = (refl, refl)
+fault_trimmed (Protocol faults.InvalidState) = (refl, refl)
+fault_trimmed (Protocol faults.InvalidProtocol) = (refl, refl)
+fault_trimmed (Protocol faults.InvalidParameters) = (refl, refl)
+fault_trimmed (Protocol faults.CannotCreateContext) = (refl, refl)
+fault_trimmed (Protocol faults.CannotRegisterParticipant) = (refl, refl)
+fault_trimmed (Protocol faults.UnknownTransaction) = (refl, refl)
 fault_trimmed Other = (refl, refl)
 
 action_trimmed : (message : Message) → IsTrimmed (action_in message) × (is_empty (action_in message) ≡ false)
@@ -202,7 +201,7 @@ action_trimmed (messages.Notice notice) = form_trimmed (forms.Notice notice)
 action_trimmed (messages.Work body) = form_trimmed forms.Work
 action_trimmed messages.WorkDone = form_trimmed forms.WorkDone
 action_trimmed messages.WorkRefused = form_trimmed forms.WorkRefused
-action_trimmed (messages.Fault name) = fault_trimmed (fault_named name)
+action_trimmed (messages.Fault name) = fault_trimmed (written_named name)
 
 from_legible : (from : Option Epr) (out : Option Endpoint) → AreBoth IsEndpointOf from out → IfSome from IsSource → IfSome out IsLegible
 from_legible None None h w = tt
@@ -292,7 +291,7 @@ asked messages.WorkDone headers body a h k = unasked headers (action_of forms.Wo
 asked messages.WorkRefused headers body a h k =
     unasked headers (action_of forms.WorkRefused) body.name (form_name forms.WorkRefused) a (ap named h) refl
 asked (messages.Fault name) headers body a h k =
-    unasked headers (fault_action (fault_named name)) body.name (qualified soap_space (codes "Fault")) a (ap named h) refl
+    unasked headers (fault_action (written_named name)) body.name (qualified soap_space (codes "Fault")) a (ap named h) refl
 
 -- an answerable post has such headers
 answers : (post : Post) (context : Option Tree) → IsAnswerable post
@@ -325,7 +324,7 @@ of_form : (message : Message) (form : Form) (headers : Headers) (target : Target
     → ContextRead message headers.context → message_of headers target body ≡ Ok message
 of_form message form headers target body e a t h w k =
     said_message form headers target message body (said_body message form e headers.context body h w k) a
-    (ap (takes_any target) (sym e) ∙ (sym (takes_as_modelled target message) ∙ t))
+    (ap (takes_any target) (sym e) ∙ t)
 
 message_read : (message : Message) (headers : Headers) (target : Target) (body : Tree) → headers.action ≡ action_in message
     → takes target message ≡ true → IsBodyOf message body → CanBeWritten message → ContextRead message headers.context
@@ -344,7 +343,7 @@ message_read messages.WorkDone headers target body a t h w k = of_form messages.
 message_read messages.WorkRefused headers target body a t h w k = of_form messages.WorkRefused forms.WorkRefused headers target body refl a t h w k
 message_read (messages.Fault name) headers target body a t h w k =
     ap (message_of headers target) h
-    ∙ fault_message name headers target w (sym (takes_as_modelled target (messages.Fault name)) ∙ t)
+    ∙ fault_message name headers target w t
 
 -- all together
 

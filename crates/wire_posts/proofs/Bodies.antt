@@ -11,6 +11,9 @@ use Rattle.xml_profile.specs.Prefixes.{coordination as coordination_space, soap 
 use Rattle.soap_profile.specs.BuiltElements.{qualified, text_children}
 use Rattle.soap_profile.specs.Faults.{fault_of}
 use Rattle.soap_profile.specs.Values.{direct_text, is_named, text_value, trim}
+use Rattle.at_base.specs.Names.{fault_name}
+use Rattle.at_base.specs.declared.fault.Fault.{Fault}
+use Rattle.at_base.specs.declared.fault.Fault.TheVariants as faults
 use Rattle.at_base.specs.declared.epr.Epr.{Epr}
 use Rattle.at_base.specs.declared.message.Context.{Context}
 use Rattle.at_base.specs.declared.message.Create.{Create}
@@ -36,8 +39,8 @@ use Rattle.context.specs.declared.writer.OutgoingRegister.{OutgoingRegister}
 use Rattle.context.specs.Bodies.{context_of, create_of, create_response_of, is_identifier, readable as context_readable, register_of, register_response_of}
 use Rattle.context.specs.BodyTrees.{CurrentReturns, IsLegibleContext, IsLegibleCreate, IsLegibleRegister, IsNarrow, context_in as context_read_in, context_tree, create_in, create_tree, parameter_name, register_in, register_response_tree, register_tree}
 use Rattle.context.proofs.BodyRoundtrip.{context_returns, create_returns, register_returns}
-use Rattle.at_targets.specs.declared.form.Form.{Form}
-use Rattle.at_targets.specs.declared.form.Form.TheVariants as forms
+use Rattle.endpoints.specs.declared.form.Form.{Form}
+use Rattle.endpoints.specs.declared.form.Form.TheVariants as forms
 use Rattle.wire_msgs.specs.declared.part.Part.{Part}
 use Rattle.wire_msgs.specs.declared.part.Part.TheVariants as parts
 use Rattle.wire_msgs.specs.declared.refusal.ParameterName.TheVariants.{Body}
@@ -45,14 +48,12 @@ use Rattle.wire_msgs.specs.declared.refusal.Refusal.{Refusal}
 use Rattle.wire_msgs.specs.declared.refusal.Refusal.TheVariants.{Action, Parameters}
 use Rattle.wire_msgs.specs.Arrivals.{fault_at, message_of, named_at, said_at}
 use Rattle.wire_msgs.specs.Bodies.{body_of, kind_in, readable, short, vote_in, work_of}
-use Rattle.at_targets.specs.Forms.{form_of, takes_fault, takes_form}
+use Rattle.endpoints.specs.Forms.{form_of, takes_fault, takes_form}
 use Rattle.wire_msgs.specs.Forms.{action_of, form_at, local_of, space_of}
 use Rattle.wire_msgs.specs.Refusals.{coordination, fault, ◌>>=◌}
 use Rattle.wire_msgs.proofs.Forms.{actions_differ}
-use Rattle.wire_posts.specs.declared.fault.WrittenFault.{WrittenFault}
-use Rattle.wire_posts.specs.declared.fault.WrittenFault.TheVariants.{InvalidState, InvalidProtocol, InvalidParameters, CannotCreateContext, CannotRegisterParticipant, UnknownTransaction}
 use Rattle.wire_posts.specs.Envelopes.{AreBoth, IsBodyOf, IsContextOf, IsCreateOf, IsRegisterOf, IsWorkContext, context_in, work_part, work_tree}
-use Rattle.wire_posts.specs.Faults.{detail_of, fault_body, fault_named, name_of}
+use Rattle.wire_posts.specs.Faults.{fault_body, written_named}
 use Rattle.wire_msgs.specs.WholeMessages.{IsWholeContext, IsWholeCreate, IsWholeEndpoint, IsWholeRegister, IsWholeWork}
 use Rattle.wire_posts.specs.Returns.{CanBeWritten, IsProtocolFault}
 use Rattle.wire_posts.proofs.Ends.{IsRead, is_read}
@@ -221,14 +222,13 @@ contexts_read message out h w = tt
 
 -- faults
 
-fault_read : (fault : WrittenFault) → is_some (detail_of fault) ≡ true → fault_of (fault_body (fault_named (name_of fault))) ≡ Ok (name_of fault)
-fault_read InvalidState h = refl
-fault_read InvalidProtocol h = refl
-fault_read InvalidParameters h = refl
-fault_read CannotCreateContext h = refl
-fault_read CannotRegisterParticipant h = refl
-fault_read UnknownTransaction h = refl
-fault_read fault h = absurd cc
+fault_read : (fault : Fault) → fault_of (fault_body (written_named (fault_name fault))) ≡ Ok (fault_name fault)
+fault_read faults.InvalidState = refl
+fault_read faults.InvalidProtocol = refl
+fault_read faults.InvalidParameters = refl
+fault_read faults.CannotCreateContext = refl
+fault_read faults.CannotRegisterParticipant = refl
+fault_read faults.UnknownTransaction = refl
 
 -- each message, as the headers name it
 
@@ -258,11 +258,11 @@ said_message form headers target message body h a t =
     ∙ (ap (λ b. cond b (body_of form headers.context body) (Err (Parameters Body))) own ∙ h.said)))
 
 pub fault_message : (name : List ℕ) (headers : Headers) (target : Target) → IsProtocolFault name → takes_fault target ≡ true
-    → message_of headers target (fault_body (fault_named name)) ≡ Ok (messages.Fault name)
+    → message_of headers target (fault_body (written_named name)) ≡ Ok (messages.Fault name)
 fault_message name headers target h t =
-    let body : Tree = fault_body (fault_named name) in
+    let body : Tree = fault_body (written_named name) in
     let said : fault_of body ≡ Ok name =
-    subst (λ n. fault_of (fault_body (fault_named n)) ≡ Ok n) (sym h.named) (fault_read h.fault h.protocol) in
+    subst (λ n. fault_of (fault_body (written_named n)) ≡ Ok n) (sym h.named) (fault_read h.fault) in
     ap (λ b. cond b (fault (fault_of body) >>= λ n. Ok (messages.Fault n)) (Err Action)) t
     ∙ ap (λ r. fault r >>= λ n. Ok (messages.Fault n)) said
 

@@ -3,7 +3,6 @@ pub mod Bodies
 pub mod Bools
 pub mod Ends
 pub mod MarkedParameters
-pub mod FaultNames
 pub mod Uniqueness
 pub mod SpellableParts
 pub mod SpellableEnvelopes

@@ -12,6 +12,7 @@ use Rattle.xml_profile.specs.SpellableTrees.{is_content, is_name, is_tag, is_tex
 use Rattle.soap_profile.specs.BuiltElements.{children_of, element, qualified}
 use Rattle.soap_profile.specs.Envelopes.{envelope_tree}
 use Rattle.soap_profile.specs.Values.{elements}
+use Rattle.at_base.specs.declared.fault.Fault.TheVariants as faults
 use Rattle.at_base.specs.declared.epr.Epr.{Epr}
 use Rattle.at_base.specs.declared.epr.Reply.{Reply}
 use Rattle.at_base.specs.declared.epr.Reply.TheVariants as replies
@@ -39,16 +40,17 @@ use Rattle.context.specs.declared.writer.OutgoingContext.{OutgoingContext}
 use Rattle.context.specs.declared.writer.OutgoingCreate.{OutgoingCreate}
 use Rattle.context.specs.declared.writer.OutgoingRegister.{OutgoingRegister}
 use Rattle.context.specs.BodyTrees.{IsNarrow, context_tree, create_tree, current_parameter, endpoint_parameter, expires_parameter, parameter_name, register_tree, text_parameter}
-use Rattle.at_targets.specs.declared.form.Form.{Form}
-use Rattle.at_targets.specs.declared.form.Form.TheVariants as forms
+use Rattle.endpoints.specs.declared.form.Form.{Form}
+use Rattle.endpoints.specs.declared.form.Form.TheVariants as forms
 use Rattle.wire_msgs.specs.declared.part.Part.{Part}
 use Rattle.wire_msgs.specs.declared.part.Part.TheVariants as parts
 use Rattle.wire_msgs.specs.Forms.{action_of, local_of, space_of}
 use Rattle.wire_msgs.specs.Parts.{part_name}
 use Rattle.wire_posts.specs.declared.fault.WrittenFault.{WrittenFault}
-use Rattle.wire_posts.specs.declared.fault.WrittenFault.TheVariants.{NotProfileDocument, VersionMismatch, NotEnvelope, MustUnderstand, HeaderRequired, InvalidHeader, ActionNotSupported, InvalidState, InvalidProtocol, InvalidParameters, CannotCreateContext, CannotRegisterParticipant, UnknownTransaction, Other}
-use Rattle.wire_posts.specs.Envelopes.{AreBoth, AreHeadersOf, IsBodyOf, IsContextOf, IsCreateOf, IsRegisterOf, IsReplyOf, IsWorkContext, action_in, context_in, empty_tree, kind_name, reply_epr, vote_name, work_part, work_tree}
-use Rattle.wire_posts.specs.Faults.{fault_action, fault_body, fault_named}
+use Rattle.wire_posts.specs.declared.fault.WrittenFault.TheVariants.{NotProfileDocument, VersionMismatch, NotEnvelope, MustUnderstand, HeaderRequired, InvalidHeader, ActionNotSupported, Protocol, Other}
+use Rattle.wire_posts.specs.Envelopes.{AreBoth, AreHeadersOf, IsBodyOf, IsContextOf, IsCreateOf, IsRegisterOf, IsReplyOf, IsWorkContext, action_in, context_in, empty_tree, reply_epr, work_part, work_tree}
+use Rattle.at_base.specs.Names.{kind_name, vote_name}
+use Rattle.wire_posts.specs.Faults.{fault_action, fault_body, written_named}
 use Rattle.wire_msgs.specs.WholeMessages.{IsClean, IsSource, IsWholeContext, IsWholeCreate, IsWholeRegister, IsWholeWork}
 use Rattle.wire_posts.specs.Returns.{CanBeWritten, CanReturn, IsWholeReply}
 use Rattle.wire_posts.proofs.Ends.{IsSpelled, is_spelled}
@@ -162,12 +164,12 @@ of_fault MustUnderstand = refl
 of_fault HeaderRequired = refl
 of_fault InvalidHeader = refl
 of_fault ActionNotSupported = refl
-of_fault InvalidState = refl
-of_fault InvalidProtocol = refl
-of_fault InvalidParameters = refl
-of_fault CannotCreateContext = refl
-of_fault CannotRegisterParticipant = refl
-of_fault UnknownTransaction = refl
+of_fault (Protocol faults.InvalidState) = refl
+of_fault (Protocol faults.InvalidProtocol) = refl
+of_fault (Protocol faults.InvalidParameters) = refl
+of_fault (Protocol faults.CannotCreateContext) = refl
+of_fault (Protocol faults.CannotRegisterParticipant) = refl
+of_fault (Protocol faults.UnknownTransaction) = refl
 of_fault Other = refl
 
 action_text : (message : Message) → is_text (action_in message) ≡ true
@@ -179,7 +181,7 @@ action_text (messages.Notice notice) = form_action (forms.Notice notice)
 action_text (messages.Work body) = form_action forms.Work
 action_text messages.WorkDone = form_action forms.WorkDone
 action_text messages.WorkRefused = form_action forms.WorkRefused
-action_text (messages.Fault name) = of_fault (fault_named name)
+action_text (messages.Fault name) = of_fault (written_named name)
 
 kind_text : (kind : Kind) → is_text (kind_name kind) ≡ true
 unfolding chars is_utf8 lib.Utf8.encode
@@ -287,12 +289,12 @@ fault_can MustUnderstand = refl
 fault_can HeaderRequired = refl
 fault_can InvalidHeader = refl
 fault_can ActionNotSupported = refl
-fault_can InvalidState = refl
-fault_can InvalidProtocol = refl
-fault_can InvalidParameters = refl
-fault_can CannotCreateContext = refl
-fault_can CannotRegisterParticipant = refl
-fault_can UnknownTransaction = refl
+fault_can (Protocol faults.InvalidState) = refl
+fault_can (Protocol faults.InvalidProtocol) = refl
+fault_can (Protocol faults.InvalidParameters) = refl
+fault_can (Protocol faults.CannotCreateContext) = refl
+fault_can (Protocol faults.CannotRegisterParticipant) = refl
+fault_can (Protocol faults.UnknownTransaction) = refl
 fault_can Other = refl
 
 pub body_can : (message : Message) (body : Tree) → IsBodyOf message body → CanBeWritten message → Can body
@@ -310,7 +312,7 @@ body_can (messages.Notice notice) body h w = subst Can (sym h) (empty_can (forms
 body_can (messages.Work work) body h w = subst Can (sym h) (work_can work w)
 body_can messages.WorkDone body h w = subst Can (sym h) (empty_can forms.WorkDone)
 body_can messages.WorkRefused body h w = subst Can (sym h) (empty_can forms.WorkRefused)
-body_can (messages.Fault name) body h w = subst Can (sym h) (fault_can (fault_named name))
+body_can (messages.Fault name) body h w = subst Can (sym h) (fault_can (written_named name))
 
 -- header blocks
 

@@ -2,6 +2,7 @@
 -- WS-AtomicTransaction 1.2, section 3).
 use Rattle.std.specs.Prelude.{◌≡◌, ℕ, List, [], ◌∷◌, Option, Some, None, codes}
 use Rattle.std.specs.Option.{option_map}
+use Rattle.at_base.specs.Names.{kind_name, vote_name}
 use Rattle.xml_profile.specs.declared.tree.Tree.{Tree}
 use Rattle.xml_profile.specs.CanonicalText.{canonical_text}
 use Rattle.xml_profile.specs.Forest.Forest.{End}
@@ -31,8 +32,8 @@ use Rattle.context.specs.declared.writer.OutgoingContext.{OutgoingContext}
 use Rattle.context.specs.declared.writer.OutgoingCreate.{OutgoingCreate}
 use Rattle.context.specs.declared.writer.OutgoingRegister.{OutgoingRegister}
 use Rattle.context.specs.BodyTrees.{context_tree, create_response_tree, create_tree, register_response_tree, register_tree}
-use Rattle.at_targets.specs.declared.form.Form.{Form}
-use Rattle.at_targets.specs.declared.form.Form.TheVariants as forms
+use Rattle.endpoints.specs.declared.form.Form.{Form}
+use Rattle.endpoints.specs.declared.form.Form.TheVariants as forms
 use Rattle.wire_msgs.specs.declared.part.Part.{Part}
 use Rattle.wire_msgs.specs.declared.part.Part.TheVariants as parts
 use Rattle.wire_msgs.specs.Forms.{action_of, local_of, space_of}
@@ -41,7 +42,7 @@ use Rattle.wire_posts.specs.declared.encode.Encoded.{Encoded}
 use Rattle.wire_posts.specs.declared.encode.Encoded.TheVariants as encoded
 use Rattle.wire_posts.specs.declared.encode.Outgoing.{Outgoing}
 use Rattle.wire_posts.specs.declared.encode.Outgoing.TheVariants as outgoing
-use Rattle.wire_posts.specs.Faults.{fault_action, fault_body, fault_named, refusal_status, refusal_text}
+use Rattle.wire_posts.specs.Faults.{fault_action, fault_body, written_named, refusal_status, refusal_text}
 
 -- both are absent, or one is the other's
 abbrev pub AreBoth : {A B : Type 0} → (A → B → Type 0) → Option A → Option B → Type 0
@@ -73,7 +74,7 @@ action_in (messages.Notice notice) = action_of (forms.Notice notice)
 action_in (messages.Work body) = action_of forms.Work
 action_in messages.WorkDone = action_of forms.WorkDone
 action_in messages.WorkRefused = action_of forms.WorkRefused
-action_in (messages.Fault name) = fault_action (fault_named name)
+action_in (messages.Fault name) = fault_action (written_named name)
 
 -- a context, its registration service as an element
 pub record IsContextOf (context : Context) (out : OutgoingContext) : Type 0 where
@@ -107,15 +108,6 @@ pub record AreHeadersOf (post : Post) (out : OutgoingHeaders) : Type 0 where
   -- of requests, and of notifications, where it is none
   pub reply : AreBoth IsReplyOf post.reply out.reply
   pub context : AreBoth IsWorkContext (context_in post.message) out.context
-
-abbrev pub kind_name : Kind → List ℕ
-kind_name kinds.Volatile = codes "volatile"
-kind_name kinds.Durable = codes "durable"
-
-abbrev pub vote_name : Vote → List ℕ
-vote_name votes.Prepared = codes "prepared"
-vote_name votes.ReadOnly = codes "readonly"
-vote_name votes.Aborted = codes "aborted"
 
 abbrev pub work_part : Part → List ℕ → Tree
 work_part part text = element (qualified work (part_name part)) (text_children text)
@@ -155,7 +147,7 @@ IsBodyOf (messages.Notice notice) t = t ≡ empty_tree (forms.Notice notice)
 IsBodyOf (messages.Work body) t = t ≡ work_tree body
 IsBodyOf messages.WorkDone t = t ≡ empty_tree forms.WorkDone
 IsBodyOf messages.WorkRefused t = t ≡ empty_tree forms.WorkRefused
-IsBodyOf (messages.Fault name) t = t ≡ fault_body (fault_named name)
+IsBodyOf (messages.Fault name) t = t ≡ fault_body (written_named name)
 
 -- the envelope of a post
 pub record IsEnvelopeOf (post : Post) (t : Tree) : Type 0 where

@@ -9,7 +9,7 @@ use Rattle.at_base.specs.declared.outs.Post.{Post}
 use Rattle.addressing.specs.declared.writer.OutgoingHeaders.{OutgoingHeaders}
 use Rattle.addressing.specs.Endpoints.{nobody}
 use Rattle.addressing.specs.OutgoingHeaders.{blocks_of, endpoint_with}
-use Rattle.at_targets.specs.declared.form.Form.TheVariants as forms
+use Rattle.endpoints.specs.declared.form.Form.TheVariants as forms
 use Rattle.wire_msgs.specs.Forms.{action_of}
 use Rattle.wire_posts.specs.Envelopes.{IsEnvelopeOf, IsTextOf, addressed, empty_tree}
 

@@ -1,9 +1,12 @@
 -- The faults that are written (SOAP 1.1, section 4.4; WS-Addressing 1.0 SOAP Binding, section 6.4; WS-Coordination 1.2,
--- section 4; WS-AtomicTransaction 1.2, section 7), and which of them a refusal is.
+-- section 4; WS-AtomicTransaction 1.2, section 5), and which of them a refusal is.
 use Rattle.std.specs.Prelude.{◌≡◌, refl, ℕ, List, [], ◌∷◌, ◌++◌, ◌||◌, Option, Some, None, if◌then◌else◌, codes}
 use Rattle.std.specs.List.{find}
 use Rattle.std.specs.Option.{unwrap_or}
 use Rattle.std.specs.Str.{bytes_eq}
+use Rattle.at_base.specs.Names.{fault_name, fault_named}
+use Rattle.at_base.specs.declared.fault.Fault.{Fault}
+use Rattle.at_base.specs.declared.fault.Fault.TheVariants as faults
 use Rattle.xml_profile.specs.declared.name.QName.{QName}
 use Rattle.xml_profile.specs.declared.tree.Tree.{Tree}
 use Rattle.xml_profile.specs.CanonicalText.{canonical_text}
@@ -15,7 +18,25 @@ use Rattle.addressing.specs.OutgoingHeaders.{text_element}
 use Rattle.wire_msgs.specs.declared.refusal.Refusal.{Refusal}
 use Rattle.wire_msgs.specs.declared.refusal.Refusal.TheVariants as refusals
 use Rattle.wire_posts.specs.declared.fault.WrittenFault.{WrittenFault}
-use Rattle.wire_posts.specs.declared.fault.WrittenFault.TheVariants.{NotProfileDocument, VersionMismatch, NotEnvelope, MustUnderstand, HeaderRequired, InvalidHeader, ActionNotSupported, InvalidState, InvalidProtocol, InvalidParameters, CannotCreateContext, CannotRegisterParticipant, UnknownTransaction, Other}
+use Rattle.wire_posts.specs.declared.fault.WrittenFault.TheVariants.{NotProfileDocument, VersionMismatch, NotEnvelope, MustUnderstand, HeaderRequired, InvalidHeader, ActionNotSupported, Protocol, Other}
+
+-- the namespace of a protocol's fault
+abbrev pub protocol_space : Fault → List ℕ
+protocol_space faults.InvalidState = coordination
+protocol_space faults.InvalidProtocol = coordination
+protocol_space faults.InvalidParameters = coordination
+protocol_space faults.CannotCreateContext = coordination
+protocol_space faults.CannotRegisterParticipant = coordination
+protocol_space faults.UnknownTransaction = transaction
+
+-- the text that a reader is told of it
+abbrev pub protocol_text : Fault → List ℕ
+protocol_text faults.InvalidState = codes "invalid state"
+protocol_text faults.InvalidProtocol = codes "invalid protocol"
+protocol_text faults.InvalidParameters = codes "invalid parameters"
+protocol_text faults.CannotCreateContext = codes "cannot create context"
+protocol_text faults.CannotRegisterParticipant = codes "cannot register participant"
+protocol_text faults.UnknownTransaction = codes "unknown transaction"
 
 -- the namespace of its code
 abbrev pub space_of : WrittenFault → List ℕ
@@ -26,12 +47,7 @@ space_of MustUnderstand = soap
 space_of HeaderRequired = addressing
 space_of InvalidHeader = addressing
 space_of ActionNotSupported = addressing
-space_of InvalidState = coordination
-space_of InvalidProtocol = coordination
-space_of InvalidParameters = coordination
-space_of CannotCreateContext = coordination
-space_of CannotRegisterParticipant = coordination
-space_of UnknownTransaction = transaction
+space_of (Protocol fault) = protocol_space fault
 space_of Other = soap
 
 -- the local name of its code
@@ -43,12 +59,7 @@ name_of MustUnderstand = codes "MustUnderstand"
 name_of HeaderRequired = codes "MessageAddressingHeaderRequired"
 name_of InvalidHeader = codes "InvalidAddressingHeader"
 name_of ActionNotSupported = codes "ActionNotSupported"
-name_of InvalidState = codes "InvalidState"
-name_of InvalidProtocol = codes "InvalidProtocol"
-name_of InvalidParameters = codes "InvalidParameters"
-name_of CannotCreateContext = codes "CannotCreateContext"
-name_of CannotRegisterParticipant = codes "CannotRegisterParticipant"
-name_of UnknownTransaction = codes "UnknownTransaction"
+name_of (Protocol fault) = fault_name fault
 name_of Other = codes "Server"
 
 -- the text that a reader is told
@@ -60,12 +71,7 @@ text_of MustUnderstand = codes "header not understood"
 text_of HeaderRequired = codes "header required"
 text_of InvalidHeader = codes "invalid header"
 text_of ActionNotSupported = codes "action not supported"
-text_of InvalidState = codes "invalid state"
-text_of InvalidProtocol = codes "invalid protocol"
-text_of InvalidParameters = codes "invalid parameters"
-text_of CannotCreateContext = codes "cannot create context"
-text_of CannotRegisterParticipant = codes "cannot register participant"
-text_of UnknownTransaction = codes "unknown transaction"
+text_of (Protocol fault) = protocol_text fault
 text_of Other = codes "other fault"
 
 -- the action: a fault of SOAP has one of WS-Addressing's (SOAP Binding, section 6), another that of its namespace
@@ -75,23 +81,17 @@ fault_action fault =
 
 -- the name of the element in its detail: a protocol's fault has one, of its own name
 abbrev pub detail_of : WrittenFault → Option QName
-detail_of fault =
-    if bytes_eq (space_of fault) coordination || bytes_eq (space_of fault) transaction
-    then Some (qualified (space_of fault) (name_of fault))
-    else None
+detail_of (Protocol fault) = Some (qualified (protocol_space fault) (fault_name fault))
+detail_of fault = None
 
--- the faults of the protocols that are written
-abbrev pub protocol_faults : List WrittenFault
-protocol_faults =
-    InvalidState ∷ InvalidProtocol ∷ InvalidParameters ∷ CannotCreateContext ∷ CannotRegisterParticipant ∷ UnknownTransaction ∷ []
+-- a fault of a protocol, or another
+abbrev pub protocol_or : Option Fault → WrittenFault
+protocol_or (Some fault) = Protocol fault
+protocol_or None = Other
 
--- the one of a name
-abbrev pub first_named : List ℕ → List WrittenFault → Option WrittenFault
-first_named name faults = find (λ fault. bytes_eq name (name_of fault)) faults
-
--- the fault of a name: one of these, or another
-abbrev pub fault_named : List ℕ → WrittenFault
-fault_named name = unwrap_or (first_named name protocol_faults) Other
+-- the fault of a name
+abbrev pub written_named : List ℕ → WrittenFault
+written_named name = protocol_or (fault_named name)
 
 abbrev pub fault_body : WrittenFault → Tree
 fault_body fault = fault_tree (space_of fault) (name_of fault) (text_of fault) (detail_of fault)
@@ -110,7 +110,7 @@ refusal_fault (refusals.MissingHeader name) = Some HeaderRequired
 refusal_fault (refusals.InvalidHeader name) = Some InvalidHeader
 refusal_fault refusals.NoTarget = None
 refusal_fault refusals.Action = Some ActionNotSupported
-refusal_fault (refusals.Parameters name) = Some InvalidParameters
+refusal_fault (refusals.Parameters name) = Some (Protocol faults.InvalidParameters)
 refusal_fault refusals.NoMemory = None
 
 -- its only header is the action

@@ -5,6 +5,8 @@ use Rattle.std.specs.Str.{bytes_eq}
 use Rattle.xml_profile.specs.declared.tree.Tree.{Tree}
 use Rattle.xml_grammar.specs.Limits.{IsWithin}
 use Rattle.xml_grammar.specs.Refusals.{IsShort}
+use Rattle.at_base.specs.Names.{fault_name}
+use Rattle.at_base.specs.declared.fault.Fault.{Fault}
 use Rattle.at_base.specs.declared.epr.Epr.{Epr}
 use Rattle.at_base.specs.declared.epr.Reply.{Reply}
 use Rattle.at_base.specs.declared.epr.Reply.TheVariants as replies
@@ -12,7 +14,7 @@ use Rattle.at_base.specs.declared.message.Message.{Message}
 use Rattle.at_base.specs.declared.message.Message.TheVariants as messages
 use Rattle.at_base.specs.declared.outs.Post.{Post}
 use Rattle.at_base.specs.declared.target.Target.{Target}
-use Rattle.at_model.specs.World.{takes}
+use Rattle.endpoints.specs.Forms.{takes}
 use Rattle.addressing.specs.Endpoints.{anonymous}
 use Rattle.addressing.specs.Requests.{is_answerable}
 use Rattle.wire_msgs.specs.declared.decode.Arrival.{Arrival}
@@ -23,9 +25,7 @@ use Rattle.wire_posts.specs.declared.encode.Encoded.{Encoded}
 use Rattle.wire_posts.specs.declared.encode.Encoded.TheVariants as encoded
 use Rattle.wire_posts.specs.declared.encode.Outgoing.{Outgoing}
 use Rattle.wire_posts.specs.declared.encode.Outgoing.TheVariants as outgoing
-use Rattle.wire_posts.specs.declared.fault.WrittenFault.{WrittenFault}
 use Rattle.wire_posts.specs.Envelopes.{IsEnvelopeOf, reply_epr}
-use Rattle.wire_posts.specs.Faults.{detail_of, name_of}
 
 -- what arrives
 
@@ -55,11 +55,10 @@ IsWholeReply replies.Anonymous = Unit {0}
 IsWholeReply replies.Nobody = Unit {0}
 IsWholeReply (replies.At epr) = IsWholeEndpoint epr
 
--- the name of a fault of the protocols, which are those that have a detail
+-- the name of a fault of the protocols
 pub record IsProtocolFault (name : List ℕ) : Type 0 where
-  pub fault : WrittenFault
-  pub protocol : is_some (detail_of fault) ≡ true
-  pub named : name ≡ name_of fault
+  pub fault : Fault
+  pub named : name ≡ fault_name fault
 
 -- what a body keeps when it is read; a fault that is written is one of the protocols'
 abbrev pub CanBeWritten : Message → Type 0

@@ -3,7 +3,7 @@
 ghost use Rattle.std.specs.Prelude.{◌≡◌, IfOk};
 ghost use Rattle.addressing.specs.StoredEndpoints.{IsEndpointOf};
 ghost use Rattle.context.specs.BodyTrees.{create_response_tree, create_tree, register_response_tree, register_tree};
-ghost use Rattle.wire_posts.specs.Envelopes.{AreBoth, IsBodyOf, IsContextOf, IsCreateOf, IsMadeOf, IsRegisterOf, empty_tree, kind_name, vote_name, work_part, work_tree};
+ghost use Rattle.wire_posts.specs.Envelopes.{AreBoth, IsBodyOf, IsContextOf, IsCreateOf, IsMadeOf, IsRegisterOf, empty_tree, work_part, work_tree};
 
 use crate::fault::WrittenFault;
 use crate::headers::outgoing_context;
@@ -11,7 +11,7 @@ use addressing::stored_endpoint::endpoint_of;
 use at_base::epr::Epr;
 use at_base::message::{Context, Create, Message, Register, Work};
 use at_base::notice::{Kind, Vote};
-use at_targets::form::Form;
+use endpoints::form::Form;
 use context::writer::{
     OutgoingContext, OutgoingCreate, OutgoingRegister, write_create, write_create_response,
     write_register, write_register_response,
@@ -115,8 +115,8 @@ fn work_body(alloc: Global, body: &Work) -> Result<Tree, AllocError>
 {
     let key = work_part(alloc, Part::Key, body.key.as_str())?;
     let value = work_part(alloc, Part::Value, body.value.as_str())?;
-    let kind = work_part(alloc, Part::Kind, kind_name(body.kind))?;
-    let vote = work_part(alloc, Part::Vote, vote_name(body.vote))?;
+    let kind = work_part(alloc, Part::Kind, body.kind.name())?;
+    let vote = work_part(alloc, Part::Vote, body.vote.name())?;
     let children = children_of(alloc, vec![in alloc; key, value, kind, vote]?)?;
     let name = qualified(alloc, WORK, "Work")?;
     Ok(element(alloc, name, children))
@@ -128,23 +128,4 @@ fn work_part(alloc: Global, part: Part, text: &str) -> Result<Tree, AllocError>
     let name = qualified(alloc, WORK, part.local_name())?;
     let children = text_children(alloc, text)?;
     Ok(element(alloc, name, children))
-}
-
-fn kind_name(kind: Kind) -> &'static str
-    ensures { result.now ≡ kind_name kind }
-{
-    match kind {
-        Kind::Durable => "durable",
-        Kind::Volatile => "volatile",
-    }
-}
-
-fn vote_name(vote: Vote) -> &'static str
-    ensures { result.now ≡ vote_name vote }
-{
-    match vote {
-        Vote::Prepared => "prepared",
-        Vote::ReadOnly => "readonly",
-        Vote::Aborted => "aborted",
-    }
 }

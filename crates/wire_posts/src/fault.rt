@@ -1,9 +1,10 @@
 //! The faults that are written (SOAP 1.1, section 4.4; WS-Addressing 1.0 SOAP Binding, section 6.4; WS-Coordination 1.2,
-//! section 4; WS-AtomicTransaction 1.2, section 7).
+//! section 4; WS-AtomicTransaction 1.2, section 5).
 
 ghost use Rattle.std.specs.Prelude.{◌≡◌, IfOk};
-ghost use Rattle.wire_posts.specs.Faults.{detail_of, fault_action, fault_body, fault_named, first_named, name_of, protocol_faults, refusal_fault, space_of, text_of};
+ghost use Rattle.wire_posts.specs.Faults.{detail_of, fault_action, fault_body, name_of, protocol_space, protocol_text, refusal_fault, space_of, text_of, written_named};
 
+use at_base::fault::Fault;
 use soap_profile::build::qualified;
 use soap_profile::fault::fault_tree;
 use std::alloc::{AllocError, Global};
@@ -23,12 +24,8 @@ pub enum WrittenFault {
     HeaderRequired,
     InvalidHeader,
     ActionNotSupported,
-    InvalidState,
-    InvalidProtocol,
-    InvalidParameters,
-    CannotCreateContext,
-    CannotRegisterParticipant,
-    UnknownTransaction,
+    /// One of WS-Coordination or of WS-AtomicTransaction.
+    Protocol(Fault),
     /// One of any other name. A node of this project sends none.
     Other,
 }
@@ -36,10 +33,10 @@ pub enum WrittenFault {
 impl WrittenFault {
     /// The fault of this local name: one of the protocols', or [`WrittenFault::Other`].
     pub fn named(name: &str) -> WrittenFault
-        ensures { result ≡ fault_named name.now }
+        ensures { result ≡ written_named name.now }
     {
-        match protocol_fault(name) {
-            Some(fault) => fault,
+        match Fault::named(name) {
+            Some(fault) => WrittenFault::Protocol(fault),
             None => WrittenFault::Other,
         }
     }
@@ -58,7 +55,7 @@ impl WrittenFault {
             Refusal::MissingHeader { .. } => Some(WrittenFault::HeaderRequired),
             Refusal::InvalidHeader { .. } => Some(WrittenFault::InvalidHeader),
             Refusal::Action => Some(WrittenFault::ActionNotSupported),
-            Refusal::Parameters { .. } => Some(WrittenFault::InvalidParameters),
+            Refusal::Parameters { .. } => Some(WrittenFault::Protocol(Fault::InvalidParameters)),
         }
     }
 
@@ -74,18 +71,13 @@ impl WrittenFault {
             WrittenFault::HeaderRequired => "header required",
             WrittenFault::InvalidHeader => "invalid header",
             WrittenFault::ActionNotSupported => "action not supported",
-            WrittenFault::InvalidState => "invalid state",
-            WrittenFault::InvalidProtocol => "invalid protocol",
-            WrittenFault::InvalidParameters => "invalid parameters",
-            WrittenFault::CannotCreateContext => "cannot create context",
-            WrittenFault::CannotRegisterParticipant => "cannot register participant",
-            WrittenFault::UnknownTransaction => "unknown transaction",
+            WrittenFault::Protocol(fault) => protocol_text(fault),
             WrittenFault::Other => "other fault",
         }
     }
 
     /// The action of a message that is this fault (WS-Addressing 1.0 SOAP Binding, section 6; WS-Coordination 1.2,
-    /// section 4; WS-AtomicTransaction 1.2, section 7).
+    /// section 4; WS-AtomicTransaction 1.2, section 5).
     pub fn action(self) -> &'static str
         ensures { result.now ≡ fault_action self }
     {
@@ -98,16 +90,10 @@ impl WrittenFault {
             WrittenFault::HeaderRequired
             | WrittenFault::InvalidHeader
             | WrittenFault::ActionNotSupported => "http://www.w3.org/2005/08/addressing/fault",
-            WrittenFault::InvalidState
-            | WrittenFault::InvalidProtocol
-            | WrittenFault::InvalidParameters
-            | WrittenFault::CannotCreateContext
-            | WrittenFault::CannotRegisterParticipant => {
-                "http://docs.oasis-open.org/ws-tx/wscoor/2006/06/fault"
-            }
-            WrittenFault::UnknownTransaction => {
+            WrittenFault::Protocol(Fault::UnknownTransaction) => {
                 "http://docs.oasis-open.org/ws-tx/wsat/2006/06/fault"
             }
+            WrittenFault::Protocol(_) => "http://docs.oasis-open.org/ws-tx/wscoor/2006/06/fault",
         }
     }
 
@@ -124,12 +110,7 @@ impl WrittenFault {
             WrittenFault::HeaderRequired
             | WrittenFault::InvalidHeader
             | WrittenFault::ActionNotSupported => ADDRESSING,
-            WrittenFault::InvalidState
-            | WrittenFault::InvalidProtocol
-            | WrittenFault::InvalidParameters
-            | WrittenFault::CannotCreateContext
-            | WrittenFault::CannotRegisterParticipant => COORDINATION,
-            WrittenFault::UnknownTransaction => TRANSACTION,
+            WrittenFault::Protocol(fault) => protocol_space(fault),
         }
     }
 
@@ -144,12 +125,7 @@ impl WrittenFault {
             WrittenFault::HeaderRequired => "MessageAddressingHeaderRequired",
             WrittenFault::InvalidHeader => "InvalidAddressingHeader",
             WrittenFault::ActionNotSupported => "ActionNotSupported",
-            WrittenFault::InvalidState => "InvalidState",
-            WrittenFault::InvalidProtocol => "InvalidProtocol",
-            WrittenFault::InvalidParameters => "InvalidParameters",
-            WrittenFault::CannotCreateContext => "CannotCreateContext",
-            WrittenFault::CannotRegisterParticipant => "CannotRegisterParticipant",
-            WrittenFault::UnknownTransaction => "UnknownTransaction",
+            WrittenFault::Protocol(fault) => fault.name(),
             WrittenFault::Other => "Server",
         }
     }
@@ -158,11 +134,13 @@ impl WrittenFault {
     fn detail(self, alloc: Global) -> Result<Option<QName>, AllocError>
         ensures { IfOk result (λ detail. detail ≡ detail_of self) }
     {
-        let space = self.space();
-        if space == COORDINATION || space == TRANSACTION {
-            Ok(Some(qualified(alloc, space, self.local())?))
-        } else {
-            Ok(None)
+        match self {
+            WrittenFault::Protocol(fault) => Ok(Some(qualified(
+                alloc,
+                protocol_space(fault),
+                fault.name(),
+            )?)),
+            _ => Ok(None),
         }
     }
 
@@ -181,17 +159,30 @@ impl WrittenFault {
     }
 }
 
-fn protocol_fault(name: &str) -> Option<WrittenFault>
-    ensures { result ≡ first_named name.now protocol_faults }
+/// The namespace of a protocol's fault.
+fn protocol_space(fault: Fault) -> &'static str
+    ensures { result.now ≡ protocol_space fault }
 {
-    let fault = match name {
-        "InvalidState" => WrittenFault::InvalidState,
-        "InvalidProtocol" => WrittenFault::InvalidProtocol,
-        "InvalidParameters" => WrittenFault::InvalidParameters,
-        "CannotCreateContext" => WrittenFault::CannotCreateContext,
-        "CannotRegisterParticipant" => WrittenFault::CannotRegisterParticipant,
-        "UnknownTransaction" => WrittenFault::UnknownTransaction,
-        _ => return None,
-    };
-    Some(fault)
+    match fault {
+        Fault::InvalidState
+        | Fault::InvalidProtocol
+        | Fault::InvalidParameters
+        | Fault::CannotCreateContext
+        | Fault::CannotRegisterParticipant => COORDINATION,
+        Fault::UnknownTransaction => TRANSACTION,
+    }
+}
+
+/// The text that a reader is told of a protocol's fault.
+fn protocol_text(fault: Fault) -> &'static str
+    ensures { result.now ≡ protocol_text fault }
+{
+    match fault {
+        Fault::InvalidState => "invalid state",
+        Fault::InvalidProtocol => "invalid protocol",
+        Fault::InvalidParameters => "invalid parameters",
+        Fault::CannotCreateContext => "cannot create context",
+        Fault::CannotRegisterParticipant => "cannot register participant",
+        Fault::UnknownTransaction => "unknown transaction",
+    }
 }

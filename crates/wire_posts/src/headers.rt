@@ -12,7 +12,7 @@ use at_base::epr::{Epr, Reply};
 use at_base::message::{Context, Message, cloned_option};
 use at_base::outs::Post;
 use at_base::text::Text;
-use at_targets::form::Form;
+use endpoints::form::Form;
 use context::writer::{OutgoingContext, write_context};
 use soap_profile::build::qualified;
 use std::alloc::{AllocError, Global};

@@ -3,7 +3,7 @@ use at_base::message::{Message, Work};
 use at_base::notice::{Kind, Vote};
 use at_base::target::Target;
 use at_base::text::Text;
-use at_targets::form::Form;
+use endpoints::form::Form;
 use std::alloc::{AllocError, Global};
 use std::test::Fail;
 use wire_msgs::decode::{Arrival, decode};

@@ -3,7 +3,8 @@ use Rattle.std.proofs.Common.{ℕ, List, ◌∷◌, ◌≡◌, ◌+◌, ◌<◌,
 use Rattle.std.specs.Prelude.{is_some, option_map}
 use Rattle.std.proofs.lemmas.List.{drop_more}
 use Rattle.at_base.specs.declared.target.Target.{Target}
-use Rattle.at_model.specs.World.{Node, place_of, place_or, target_at}
+use Rattle.at_model.specs.World.{Node, place_of, place_or}
+use Rattle.endpoints.specs.Addresses.{target_at}
 
 here : (k : ℕ) (o : Option Target) (rest : Option (ℕ × Target)) → is_some o ≡ true
     → option_map (λ p. p.0) (place_or k o rest) ≡ Some k

@@ -3,7 +3,8 @@ use Rattle.std.proofs.Common.{ℕ, suc, length, List, [], ◌∷◌, ◌≡◌, 
 use Rattle.std.specs.Prelude.{nat_eq, map}
 use Rattle.at_base.specs.declared.epr.Epr.{Epr}
 use Rattle.at_base.specs.declared.outs.Post.{Post}
-use Rattle.at_model.specs.World.{Node, Posted, WorldEvent, node_of, nth, put_nth, target_at, place_or, place_of, receiver_of}
+use Rattle.at_model.specs.World.{Node, Posted, WorldEvent, node_of, nth, put_nth, place_or, place_of, receiver_of}
+use Rattle.endpoints.specs.Addresses.{target_at}
 use Rattle.world_laws.specs.Moves.{move_of, nodes_by, posted_at}
 
 pub some_is : {A : Type 0} (x y : A) → Some x ≡ Some y → x ≡ y

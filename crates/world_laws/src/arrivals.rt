@@ -9,7 +9,7 @@ use at_base::message::cloned_option;
 use at_base::outs::Post;
 use at_base::target::Target;
 use at_base::text::Text;
-use at_targets::target::{takes, target_at};
+use endpoints::target::{takes, target_at};
 use std::alloc::AllocError;
 
 /// Without ReplyTo the reply goes back on the connection (WS-Addressing 1.0 Core, section 3.3).

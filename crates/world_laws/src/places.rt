@@ -1,11 +1,12 @@
 //! The nodes that addresses name.
 
 ghost use Rattle.std.specs.Prelude.{◌≡◌, ◌≤◌, length, is_some, option_map};
-ghost use Rattle.at_model.specs.World.{place_of, receiver_of, target_at};
+ghost use Rattle.at_model.specs.World.{place_of, receiver_of};
+ghost use Rattle.endpoints.specs.Addresses.{target_at};
 
 use crate::node::Node;
 use at_base::epr::Epr;
-use at_targets::target::target_at;
+use endpoints::target::target_at;
 
 /// Whether an address names a target on a node.
 fn has(node: &Node, address: &str) -> bool

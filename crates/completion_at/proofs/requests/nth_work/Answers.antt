@@ -2,7 +2,7 @@ use Rattle.std.proofs.Common.{◌≡◌, ◌∙◌, ◌∷◌, [], ap}
 use Rattle.at_base.specs.declared.message.Message.TheVariants as messages
 use Rattle.at_base.specs.declared.outs.Out.TheVariants as outs
 use Rattle.at_model.specs.Activities.{activity_target}
-use Rattle.at_model.specs.Addresses.{work_id}
+use Rattle.endpoints.specs.Addresses.{work_id}
 use Rattle.at_model.specs.Posts.{request_post}
 use Rattle.completion_at.specs.ActivityPlans.{nth_work}
 use Rattle.completion_at.proofs.EqualAnswers.{given}

@@ -1,6 +1,6 @@
 use Rattle.std.proofs.Common.{◌∙◌, ap, sym, arith}
 use Rattle.std.proofs.lemmas.Str.Pattern.{strip_suffix_char}
-use Rattle.at_model.specs.Addresses.{without_slash}
+use Rattle.endpoints.specs.Addresses.{without_slash}
 use Rattle.completion_at.proofs.Slashes.{cut, left}
 use Rattle.completion_at.proofs.requests.without_slash.Goals as goal
 

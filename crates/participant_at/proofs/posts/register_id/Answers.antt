@@ -1,4 +1,4 @@
-use Rattle.at_model.specs.Addresses.{register_id}
+use Rattle.endpoints.specs.Addresses.{register_id}
 use Rattle.participant_at.proofs.EqualAnswers.{named}
 use Rattle.participant_at.proofs.posts.register_id.Goals as goal
 

@@ -1,4 +1,4 @@
-use Rattle.at_targets.specs.declared.form.Form.TheVariants as forms
+use Rattle.endpoints.specs.declared.form.Form.TheVariants as forms
 use Rattle.wire_msgs.proofs.Forms.{passes}
 use Rattle.wire_msgs.proofs.form.form_at.Goals as goal
 

@@ -1,6 +1,6 @@
 use Rattle.std.proofs.Common.{refl}
 use Rattle.at_base.specs.declared.notice.Notice.TheVariants as notices
-use Rattle.at_targets.specs.declared.form.Form.TheVariants as forms
+use Rattle.endpoints.specs.declared.form.Form.TheVariants as forms
 use Rattle.wire_msgs.proofs.Forms.{passes}
 use Rattle.wire_msgs.proofs.form.notice_at.Goals as goal
 

@@ -1,7 +1,0 @@
-use Rattle.std.proofs.Common.{◌∙◌}
-use Rattle.at_posts.proofs.MessageIds.{renamed}
-use Rattle.at_posts.proofs.addresses.register_id.Goals as goal
-
-pub returns : goal.returns
-returns c =
-    renamed c.message_id.result _ _ (c.as_bytes.ensures.value ∙ (c.as_str.ensures ∙ c.in_ok-name.ensures)) c.message_id.ensures

@@ -1,7 +1,0 @@
-use Rattle.std.proofs.Common.{arith}
-use Rattle.at_model.specs.Addresses.{slash}
-use Rattle.at_targets.proofs.TextSplits.{both_parts}
-use Rattle.at_targets.proofs.target.at_slash.Goals as goal
-
-pub returns : goal.returns
-returns c = both_parts slash c.args.text.now c.split_once.result c.split_once.ensures.cases (omega arith)

@@ -1,0 +1,4 @@
+pub mod MessageIds
+pub mod Numbers
+pub mod TextSplits
+pub mod Inverses
