@@ -6,6 +6,7 @@ use Rattle.std.proofs.lemmas.List.Folds.{list_any-append}
 use Rattle.std.proofs.lemmas.Slice.Eq.{bytes_eq-Decides}
 use Rattle.std.specs.List.{flat_map, list_all, list_any}
 use Rattle.std.specs.Str.{bytes_eq}
+use Rattle.at_base.specs.declared.limits.TheConstants.{MOST_ENDPOINT}
 use Rattle.soap_profile.specs.Values.{is_empty}
 use Rattle.xml_profile.specs.CanonicalText.{attribute_text, canonical_text, content_text, declaration_text, declared_by, end_text, equals_text, is_end, name_text, numbered_by, prefix_of, spaces_at, spaces_in, spaces_of, start_text, text_byte, value_byte, value_text}
 use Rattle.xml_profile.specs.Declarations.{is_declared}
@@ -117,20 +118,20 @@ whole_holds t =
 
 record IsLong (xs : List (List ℕ)) : Type 0 where
   space : List ℕ
-  long : 2048 < length space
+  long : MOST_ENDPOINT < length space
   there : list_any (bytes_eq space) xs ≡ true
 
-is_more : (n : ℕ) → nat_lt 2048 n ≡ true → 2048 < n
+is_more : (n : ℕ) → nat_lt MOST_ENDPOINT n ≡ true → MOST_ENDPOINT < n
 is_more n e = grind (arith, nat_tests, e)
 
-not_xml : (s : List ℕ) (xs : List (List ℕ)) (b : Bool) → bytes_eq s xml ≡ b → 2048 < length s → (b || list_any (bytes_eq s) xs) ≡ true → list_any (bytes_eq s) xs ≡ true
+not_xml : (s : List ℕ) (xs : List (List ℕ)) (b : Bool) → bytes_eq s xml ≡ b → MOST_ENDPOINT < length s → (b || list_any (bytes_eq s) xs) ≡ true → list_any (bytes_eq s) xs ≡ true
 not_xml s xs true e long h =
     let same : length s ≡ length xml = ap length ((bytes_eq-Decides s xml).0 e) in
     let short : length xml ≡ 36 = refl in
     absurd (omega (arith, long, same, short))
 not_xml s xs false e long h = h
 
-at_space : (s : List ℕ) (os : List (Option (List ℕ))) (xs : List (List ℕ)) (b c : Bool) → nat_lt 2048 (length s) ≡ b → is_declared xs (Some s) ≡ c
+at_space : (s : List ℕ) (os : List (Option (List ℕ))) (xs : List (List ℕ)) (b c : Bool) → nat_lt MOST_ENDPOINT (length s) ≡ b → is_declared xs (Some s) ≡ c
     → (list_all (is_declared xs) os ≡ true → list_any is_long os ≡ true → IsLong xs) → (c && list_all (is_declared xs) os) ≡ true → (b || list_any is_long os) ≡ true → IsLong xs
 at_space s os xs true true e f later h k = record { space = s; long = is_more (length s) e; there = not_xml s xs (bytes_eq s xml) refl (is_more (length s) e) f }
 at_space s os xs false true e f later h k = later h k
@@ -139,9 +140,9 @@ at_space s os xs b false e f later h k = absurd cc
 long_one : (os : List (Option (List ℕ))) (xs : List (List ℕ)) → list_all (is_declared xs) os ≡ true → list_any is_long os ≡ true → IsLong xs
 long_one [] xs h k = absurd cc
 long_one (None ∷ os) xs h k = long_one os xs h k
-long_one (Some s ∷ os) xs h k = at_space s os xs (nat_lt 2048 (length s)) (is_declared xs (Some s)) refl refl (long_one os xs) h k
+long_one (Some s ∷ os) xs h k = at_space s os xs (nat_lt MOST_ENDPOINT (length s)) (is_declared xs (Some s)) refl refl (long_one os xs) h k
 
-pub is_longer : (t : Tree) (b : Bool) → list_all (is_declared (declared_by t)) (spaces_of t) ≡ true → b ≡ list_any is_long (spaces_of t) → IsTrue b → 2048 < length (canonical_text t)
+pub is_longer : (t : Tree) (b : Bool) → list_all (is_declared (declared_by t)) (spaces_of t) ≡ true → b ≡ list_any is_long (spaces_of t) → IsTrue b → MOST_ENDPOINT < length (canonical_text t)
 is_longer t true h e k =
     let found = long_one (spaces_of t) (declared_by t) h (sym e) in
     omega (arith, found.long, declarations_hold (numbered_by t) found.space (declared_by t) found.there, whole_holds t)
@@ -149,14 +150,14 @@ is_longer t false h e k = absurd cc
 
 -- what is too long is no endpoint
 
-too_many : (n : ℕ) (address : List ℕ) → 2048 < n → nat_le (length address + n) 2048 ≡ false
+too_many : (n : ℕ) (address : List ℕ) → MOST_ENDPOINT < n → nat_le (length address + n) MOST_ENDPOINT ≡ false
 too_many n address h = grind (arith, nat_tests, h)
 
 no_room : (b : Bool) → (b && false) ≡ false
 no_room true = refl
 no_room false = refl
 
-pub no_endpoint : (address params : List ℕ) → 2048 < length params → bounded address params ≡ None
+pub no_endpoint : (address params : List ℕ) → MOST_ENDPOINT < length params → bounded address params ≡ None
 no_endpoint address params h =
     let outside : is_within address params ≡ false =
     ap (λ b. not (is_empty address) && b) (too_many (length params) address h) ∙ no_room (not (is_empty address)) in

@@ -6,6 +6,7 @@ use Rattle.xml_profile.specs.CanonicalText.{canonical_text}
 use Rattle.xml_profile.specs.Prefixes.{addressing}
 use Rattle.soap_profile.specs.Children.{child_of}
 use Rattle.soap_profile.specs.Values.{is_empty, text_value}
+use Rattle.at_base.specs.declared.limits.TheConstants.{MOST_ENDPOINT}
 use Rattle.at_base.specs.declared.epr.Epr.{Epr}
 use Rattle.at_base.specs.declared.epr.Reply.{Reply}
 use Rattle.at_base.specs.declared.epr.Reply.TheVariants.{Anonymous, Nobody, At}
@@ -20,7 +21,7 @@ params_of (Some t) = canonical_text t
 
 -- an address isn't empty, and address and parameters have at most 2,048 bytes together
 abbrev pub is_within : List ℕ → List ℕ → Bool
-is_within address params = not (is_empty address) && nat_le (length address + length params) 2048
+is_within address params = not (is_empty address) && nat_le (length address + length params) MOST_ENDPOINT
 
 abbrev pub bounded : List ℕ → List ℕ → Option Epr
 bounded address params = if is_within address params then Some (record { address = address; params = params }) else None

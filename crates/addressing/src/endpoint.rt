@@ -2,11 +2,13 @@
 
 ghost use Rattle.std.specs.Prelude.{◌≡◌, ◌<◌, IfOk, IsTrue, IsUtf8, Some, length};
 ghost use Rattle.std.specs.Option.{option_copied, option_map};
+ghost use Rattle.at_base.specs.declared.limits.TheConstants.{MOST_ENDPOINT};
 ghost use Rattle.soap_profile.specs.Values.{text_value};
 ghost use Rattle.addressing.specs.Endpoints.{bounded, epr_of, fault_of, is_anonymous, is_nobody, joined, params_of, reply_at, reply_of};
 
 use crate::long_space::has_long_space;
 use at_base::epr::{Epr, Reply};
+use at_base::limits::MOST_ENDPOINT;
 use at_base::text::Text;
 use soap_profile::elements::child;
 use soap_profile::value::text_value;
@@ -20,9 +22,6 @@ use xml_profile::writer::write_tree;
 pub const ANONYMOUS: &str = "http://www.w3.org/2005/08/addressing/anonymous";
 /// The address of nowhere (WS-Addressing 1.0 Core, section 2.1).
 pub const NONE: &str = "http://www.w3.org/2005/08/addressing/none";
-
-/// The most bytes that address and reference parameters of an endpoint have together.
-const MOST_BYTES: usize = 2048;
 
 /// The endpoint that an element spells, or none where it is unreadable: without exactly one address that isn't empty,
 /// with reference parameters or metadata twice, or with more than 2,048 bytes in address and canonical parameters.
@@ -70,7 +69,7 @@ fn spelled(alloc: Global, address: &Tree, params: Option<&Tree>) -> Result<Optio
 
 /// Whether the parameters have no room in an endpoint, as a namespace in them shows.
 fn are_too_long(params: Option<&Tree>) -> bool
-    ensures { IsTrue result → 2048 < length (params_of (option_copied params.entry)) }
+    ensures { IsTrue result → MOST_ENDPOINT < length (params_of (option_copied params.entry)) }
 {
     match params {
         Some(tree) => has_long_space(tree),
@@ -95,7 +94,7 @@ fn bounded(alloc: Global, address: Text, params: &[u8]) -> Result<Option<Epr>, A
     ensures { IfOk result (λ epr. epr ≡ bounded address params.now) }
 {
     let length = address.as_str().len();
-    if length == 0 || length > MOST_BYTES || params.len() > MOST_BYTES - length {
+    if length == 0 || length > MOST_ENDPOINT || params.len() > MOST_ENDPOINT - length {
         return Ok(None);
     }
     let params = Text::copied(alloc, unsafe { str::from_utf8_unchecked(params) })?;

@@ -2,22 +2,21 @@
 
 ghost use Rattle.std.specs.Prelude.{◌≡◌, ◌<◌, IsTrue, length};
 ghost use Rattle.std.specs.List.{list_any};
+ghost use Rattle.at_base.specs.declared.limits.TheConstants.{MOST_ENDPOINT};
 ghost use Rattle.xml_profile.specs.CanonicalText.{canonical_text, spaces_at, spaces_in, spaces_of};
 ghost use Rattle.addressing.specs.Lengths.{is_long};
 
+use at_base::limits::MOST_ENDPOINT;
 use xml_profile::laws::declarations;
 use xml_profile::name::{Attributes, QName};
 use xml_profile::tree::{Child, Children, Tree};
-
-/// The most bytes of a namespace in it.
-const MOST_BYTES: usize = 2048;
 
 /// Whether the canonical text has more than 2,048 bytes since the namespace of a name does, which the root declares.
 ///
 /// So a text is never written where each of many names has one of many bytes.
 pub fn has_long_space(tree: &Tree) -> bool
     ensures value { result ≡ list_any is_long (spaces_of tree.now) }
-    ensures long { IsTrue result → 2048 < length (canonical_text tree.now) }
+    ensures long { IsTrue result → MOST_ENDPOINT < length (canonical_text tree.now) }
 {
     declarations(tree);
     is_long_within(tree)
@@ -65,7 +64,7 @@ fn is_long(name: &QName) -> bool
     ensures { result ≡ is_long name.now.space }
 {
     match &name.space {
-        Some(space) => space.as_str().len() > MOST_BYTES,
+        Some(space) => space.as_str().len() > MOST_ENDPOINT,
         None => false,
     }
 }

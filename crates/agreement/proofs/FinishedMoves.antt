@@ -2,6 +2,7 @@
 use Rattle.std.specs.Prelude.{ℕ, List, [], ◌∷◌, ◌++◌, Option, Some, None, Bool, true, false, ◌≡◌, refl, if◌then◌else◌, not, ◌&&◌, ◌||◌, bytes_eq, nat_eq, nat_lt, ◌+◌, length, map, filter, ◌≤◌, ◌<◌, ◌⊎◌}
 use Rattle.std.specs.List.{list_any}
 use Rattle.std.proofs.Common.{sym, subst, ap, inl, inr, arith, ◌∙◌}
+use Rattle.at_base.specs.declared.limits.TheConstants.{MOST_ITEMS}
 use Rattle.at_base.specs.Numbers.{Numbers}
 use Rattle.at_base.specs.WellFormed.{Rises}
 use Rattle.at_base.specs.declared.epr.Epr.{Epr}
@@ -540,7 +541,7 @@ created_finished : (m : Moment) (live : ℕ) (a : Arrived) (c : Create) (id : Nu
 unfolding on_create
 created_finished m live a c id t e =
     subst (IfThere Finished) e
-    (either_of (λ x. IfThere Finished x.transaction) (bytes_eq c.coordination atomic && nat_lt live 1024) (create_in m id a c c.current) (refuse_create a)
+    (either_of (λ x. IfThere Finished x.transaction) (bytes_eq c.coordination atomic && nat_lt live MOST_ITEMS) (create_in m id a c c.current) (refuse_create a)
     (λ k. in_finished m id a c c.current) (λ k. tt))
 
 pub created_ends : (m : Moment) (live : ℕ) (a : Arrived) (c : Create) (id : Numbers) (t : Transaction) → (on_create m live a c (Some id)).transaction ≡ Some t → IsFinished t

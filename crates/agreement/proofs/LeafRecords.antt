@@ -3,6 +3,7 @@ use Rattle.std.specs.Prelude.{ℕ, List, [], ◌∷◌, ◌++◌, Option, Some, 
 use Rattle.std.specs.List.{list_any, AllByRecursion}
 use Rattle.std.proofs.Common.{inl, inr, sym, subst, ap, ◌∙◌}
 use Rattle.std.proofs.lemmas.List.{append-nil}
+use Rattle.at_base.specs.declared.limits.TheConstants.{MOST_ITEMS}
 use Rattle.at_base.specs.Numbers.{Numbers}
 use Rattle.at_base.specs.declared.epr.Epr.{Epr}
 use Rattle.at_base.specs.declared.epr.Reply.{Reply}
@@ -339,7 +340,7 @@ made_registers : (m : Moment) (live : ℕ) (a : Arrived) (w : Work) (id : Number
 unfolding on_work
 made_registers m live a w id l e =
     subst (IfThere IsRegistering) e
-    (either_of (λ x. IfThere IsRegistering x.leaf) (nat_lt live 1024) (work_for m id a w a.reply) (refuse_work a) (λ k. for_registers m id a w a.reply) (λ k. tt))
+    (either_of (λ x. IfThere IsRegistering x.leaf) (nat_lt live MOST_ITEMS) (work_for m id a w a.reply) (refuse_work a) (λ k. for_registers m id a w a.reply) (λ k. tt))
 
 pub made_backed : (b : Book) (rs : List Record) (m : Moment) (live : ℕ) (a : Arrived) (w : Work) (id : Numbers) (l : Leaf) → AllByRecursion (IsDrawnRecord b) rs → next_id b ≡ Some id
     → (on_work m live a w (Some id)).leaf ≡ Some l → LeafBacked rs l

@@ -2,6 +2,7 @@
 use Rattle.std.specs.Prelude.{ℕ, List, [], ◌∷◌, Option, Some, None, Bool, length, ◌≡◌, refl, nat_lt}
 use Rattle.std.specs.List.{AllByRecursion}
 use Rattle.std.proofs.Common.{sym, subst}
+use Rattle.at_base.specs.declared.limits.TheConstants.{MOST_ITEMS}
 use Rattle.at_base.specs.Numbers.{Numbers}
 use Rattle.at_base.specs.declared.epr.Reply.{Reply}
 use Rattle.at_base.specs.declared.epr.Reply.TheVariants as replies
@@ -82,7 +83,7 @@ made_stands : (m : Moment) (live : ℕ) (a : Arrived) (w : Work) (id : Numbers) 
 unfolding on_work
 made_stands m live a w id l e =
     subst (IfThere LeafStands) e
-    (either_of (λ x. IfThere LeafStands x.leaf) (nat_lt live 1024) (work_for m id a w a.reply) (refuse_work a) (λ k. for_stands m id a w a.reply) (λ k. tt))
+    (either_of (λ x. IfThere LeafStands x.leaf) (nat_lt live MOST_ITEMS) (work_for m id a w a.reply) (refuse_work a) (λ k. for_stands m id a w a.reply) (λ k. tt))
 
 -- a step
 StandAfter : Outcome → Type 0

@@ -3,6 +3,7 @@ use Rattle.std.specs.Prelude.{ℕ, List, [], ◌∷◌, ◌++◌, Option, Some, 
 use Rattle.std.specs.List.{AllByRecursion}
 use Rattle.std.proofs.Common.{inl, inr, sym, subst, ap, ◌∙◌}
 use Rattle.std.proofs.lemmas.List.{append-nil}
+use Rattle.at_base.specs.declared.limits.TheConstants.{MOST_ITEMS}
 use Rattle.at_base.specs.Numbers.{Numbers}
 use Rattle.at_base.specs.declared.epr.Epr.{Epr}
 use Rattle.at_base.specs.declared.notice.Kind.{Kind}
@@ -326,7 +327,7 @@ either_open id false x y h k = k
 
 create_open : (m : Moment) (live : ℕ) (a : Arrived) (c : Create) (id : Numbers) → MadeOpen id (on_create m live a c (Some id)).transaction
 unfolding on_create
-create_open m live a c id = either_open id (bytes_eq c.coordination atomic && nat_lt live 1024) (create_in m id a c c.current) (refuse_create a) (in_open m id a c c.current) tt
+create_open m live a c id = either_open id (bytes_eq c.coordination atomic && nat_lt live MOST_ITEMS) (create_in m id a c c.current) (refuse_create a) (in_open m id a c c.current) tt
 
 abbrev MadeWorking : Numbers → Option Leaf → Type 0
 MadeWorking id o = IfThere (λ l. (l.id ≡ id) × (l.state ≡ states.Registering)) o
@@ -342,7 +343,7 @@ either_working id false x y h k = k
 
 work_working : (m : Moment) (live : ℕ) (a : Arrived) (w : Work) (id : Numbers) → MadeWorking id (on_work m live a w (Some id)).leaf
 unfolding on_work
-work_working m live a w id = either_working id (nat_lt live 1024) (work_for m id a w a.reply) (refuse_work a) (employed_working m id a w a.reply) tt
+work_working m live a w id = either_working id (nat_lt live MOST_ITEMS) (work_for m id a w a.reply) (refuse_work a) (employed_working m id a w a.reply) tt
 
 pub unfound : {A : Type 0} (key : A → Numbers) (b : Book) (id : Numbers) (xs : List A) → AllByRecursion (λ x. IsDrawn b (key x)) xs → (IsDrawn b id → ⊥) → find_by key id xs ≡ None
 unfound {A = A} key b id xs h new = by_case (find_by key id xs) refl

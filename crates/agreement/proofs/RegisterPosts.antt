@@ -3,6 +3,7 @@ use Rattle.std.specs.Prelude.{is_none, ℕ, List, [], ◌∷◌, ◌++◌, Optio
 use Rattle.std.specs.List.{AllByRecursion}
 use Rattle.std.proofs.Common.{subst}
 use Rattle.std.proofs.lemmas.Slice.Eq.{bytes_eq-Decides}
+use Rattle.at_base.specs.declared.limits.TheConstants.{MOST_ITEMS}
 use Rattle.at_base.specs.declared.fault.Fault.TheVariants.{CannotCreateContext, CannotRegisterParticipant, InvalidParameters, InvalidProtocol, InvalidState}
 use Rattle.at_base.specs.Numbers.{Numbers}
 use Rattle.at_base.specs.declared.epr.Epr.{Epr}
@@ -379,7 +380,7 @@ pub create_whose : (P : Target → Numbers → Type 0) (m : Moment) (live : ℕ)
     → OutsWhose P m.base (on_create m live a c next).outs
 unfolding on_create
 create_whose P m live a c None known = outs_whose P m.base (refuse_create a).outs (faulted_says NoRegister a.fault a.id CannotCreateContext)
-create_whose P m live a c (Some id) known = by_test (bytes_eq c.coordination atomic && nat_lt live 1024) (λ t e. known id t refl e)
+create_whose P m live a c (Some id) known = by_test (bytes_eq c.coordination atomic && nat_lt live MOST_ITEMS) (λ t e. known id t refl e)
   where
     by_test : (b : Bool) → ((t : Transaction) → (if b then create_in m id a c c.current else refuse_create a).transaction ≡ Some t → is_none t.superior ≡ false → (kind : Kind) → P (targets.Participant id kind) id)
         → OutsWhose P m.base (if b then create_in m id a c c.current else refuse_create a).outs
@@ -401,7 +402,7 @@ pub work_whose : (P : Target → Numbers → Type 0) (m : Moment) (live : ℕ) (
     → OutsWhose P m.base (on_work m live a w next).outs
 unfolding on_work
 work_whose P m live a w None known = work_refused_whose P m.base a
-work_whose P m live a w (Some id) known = by_test (nat_lt live 1024) (λ l e. known id l refl e)
+work_whose P m live a w (Some id) known = by_test (nat_lt live MOST_ITEMS) (λ l e. known id l refl e)
   where
     by_test : (b : Bool) → ((l : Leaf) → (if b then work_for m id a w a.reply else refuse_work a).leaf ≡ Some l → P (targets.Participant id l.kind) id)
         → OutsWhose P m.base (if b then work_for m id a w a.reply else refuse_work a).outs

@@ -4,6 +4,7 @@ use Rattle.std.specs.Prelude.{◌⊎◌}
 use Rattle.std.specs.List.{list_all}
 use Rattle.std.specs.Str.{chars, is_utf8}
 use Rattle.std.proofs.lemmas.Bool.{leb-true}
+use Rattle.at_base.specs.declared.limits.TheConstants.{MOST_ENDPOINT, MOST_FIELD}
 use Rattle.at_base.specs.Chars.{is_xml_char, IsXmlText}
 use Rattle.at_base.specs.WellFormed.{IsEndpoint, IsField}
 use Rattle.at_base.specs.declared.epr.Epr.{Epr}
@@ -35,15 +36,15 @@ some_byte (c ∷ cs) h = omega arith
 
 endpoint_sound : (epr : Epr) → IsWholeEndpoint epr → IsEndpoint epr
 endpoint_sound epr w =
-    let bound = and_true (not (is_empty epr.address)) (nat_le (length epr.address + length epr.params) 2048) w.kept.within in
+    let bound = and_true (not (is_empty epr.address)) (nat_le (length epr.address + length epr.params) MOST_ENDPOINT) w.kept.within in
     record {
       some = some_byte epr.address bound.0;
-      fits = leb-true (length epr.address + length epr.params) 2048 bound.1;
+      fits = leb-true (length epr.address + length epr.params) MOST_ENDPOINT bound.1;
       address = text_characters epr.address w.spelled;
       params = params_characters epr.params w.kept.params;
     }
 
-field_sound : (text : List ℕ) → IsClean text → length text ≤ 256 → IsField text
+field_sound : (text : List ℕ) → IsClean text → length text ≤ MOST_FIELD → IsField text
 field_sound text c h = record { fits = h; spelled = text_characters text c.spelled }
 
 sound : (message : Message) → IsWholeMessage message → IsSoundMessage message

@@ -1,5 +1,6 @@
 -- CreateCoordinationContext: roots and subordinates.
 use Rattle.std.specs.Prelude.{ℕ, List, [], ◌∷◌, ◌++◌, Option, Some, None, nat_lt, ◌&&◌, ◌+◌, if◌then◌else◌, bytes_eq, option_map, codes}
+use Rattle.at_base.specs.declared.limits.TheConstants.{MOST_ITEMS}
 use Rattle.at_base.specs.declared.fault.Fault.TheVariants.{CannotCreateContext}
 use Rattle.at_base.specs.Numbers.{Numbers}
 use Rattle.at_base.specs.IdText.{id_text}
@@ -117,4 +118,4 @@ create_in m id a c (Some current) = create_under m id a c current a.reply
 unfoldable pub on_create : Moment → ℕ → Arrived → Create → Option Numbers → Creation
 on_create m live a c None = refuse_create a
 on_create m live a c (Some id) =
-    if bytes_eq c.coordination atomic && nat_lt live 1024 then create_in m id a c c.current else refuse_create a
+    if bytes_eq c.coordination atomic && nat_lt live MOST_ITEMS then create_in m id a c c.current else refuse_create a

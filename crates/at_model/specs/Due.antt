@@ -1,5 +1,6 @@
 -- What is due: expiry, the end of aborting, and sending again.
 use Rattle.std.specs.Prelude.{ℕ, List, [], ◌∷◌, ◌++◌, Option, Some, None, Bool, true, false, nat_le, ◌&&◌, ◌||◌, ◌+◌, if◌then◌else◌}
+use Rattle.at_base.specs.declared.limits.TheConstants.{RESEND_AFTER, ABORTING_FOR}
 use Rattle.at_base.specs.Numbers.{Numbers}
 use Rattle.at_base.specs.declared.notice.Kind.{Kind}
 use Rattle.at_base.specs.declared.notice.Kind.TheVariants as kinds
@@ -22,14 +23,6 @@ use Rattle.at_model.specs.Create.{link_register}
 use Rattle.at_model.specs.Leaves.{leaf_says, leaf_aborts, leaf_refused, leaf_register}
 use Rattle.at_model.specs.Activities.{is_begun, told, completion_register, complete_posts}
 
--- how long an item waits for an answer before it sends again, in milliseconds (this project's profile)
-abbrev pub resend_after : ℕ
-resend_after = 5000
-
--- how long a transaction is Aborting, in milliseconds (this project's profile)
-abbrev pub aborting_for : ℕ
-aborting_for = 60000
-
 abbrev pub has_come : ℕ → Option ℕ → Bool
 has_come now None = false
 has_come now (Some time) = nat_le time now
@@ -37,11 +30,11 @@ has_come now (Some time) = nat_le time now
 -- It hasn't sent since it was recovered, or its last sending is old.
 abbrev pub is_quiet : ℕ → Option ℕ → Bool
 is_quiet now None = true
-is_quiet now (Some sent) = nat_le (sent + resend_after) now
+is_quiet now (Some sent) = nat_le (sent + RESEND_AFTER) now
 
 abbrev pub is_over : ℕ → Option ℕ → Bool
 is_over now None = false
-is_over now (Some aborted) = nat_le (aborted + aborting_for) now
+is_over now (Some aborted) = nat_le (aborted + ABORTING_FOR) now
 
 -- An undecided transaction expires (WS-Coordination 1.2, section 2).
 abbrev pub may_expire : Phase → Bool

@@ -1,5 +1,6 @@
 -- Leaves: participants that do work of their own (WS-AtomicTransaction 1.2, section 3.3).
 use Rattle.std.specs.Prelude.{ℕ, List, [], ◌∷◌, ◌++◌, Option, Some, None, Bool, nat_lt, ◌&&◌, if◌then◌else◌, bytes_eq}
+use Rattle.at_base.specs.declared.limits.TheConstants.{MOST_ITEMS}
 use Rattle.at_base.specs.declared.fault.Fault.TheVariants.{InvalidState, UnknownTransaction}
 use Rattle.at_base.specs.Names.{fault_name, is_kind}
 use Rattle.at_base.specs.Numbers.{Numbers}
@@ -186,4 +187,4 @@ work_for m id a w other = refuse_work a
 -- where its answer has no endpoint, where 1,024 leaves live, and where the node has no id left (this project's profile).
 unfoldable pub on_work : Moment → ℕ → Arrived → Work → Option Numbers → Employment
 on_work m live a w None = refuse_work a
-on_work m live a w (Some id) = if nat_lt live 1024 then work_for m id a w a.reply else refuse_work a
+on_work m live a w (Some id) = if nat_lt live MOST_ITEMS then work_for m id a w a.reply else refuse_work a

@@ -1,6 +1,6 @@
 -- The messages that a node sends, and where they go (WS-Addressing 1.0 Core, section 3; this project's profile of which
 -- headers each message has).
-use Rattle.std.specs.Prelude.{ℕ, List, [], ◌∷◌, Option, Some, None, codes}
+use Rattle.std.specs.Prelude.{ℕ, List, [], ◌∷◌, Option, Some, None}
 use Rattle.at_base.specs.Names.{fault_name}
 use Rattle.at_base.specs.declared.epr.Epr.{Epr}
 use Rattle.at_base.specs.declared.epr.Reply.{Reply}

@@ -1,5 +1,6 @@
 -- Register: which participants a transaction accepts, and what it answers.
 use Rattle.std.specs.Prelude.{ℕ, List, [], ◌∷◌, ◌++◌, Option, Some, None, Bool, true, false, not, nat_lt, ◌&&◌, ◌+◌, if◌then◌else◌, bytes_eq, length, find, option_map, is_none}
+use Rattle.at_base.specs.declared.fault.Fault.{Fault}
 use Rattle.at_base.specs.declared.fault.Fault.TheVariants.{CannotRegisterParticipant, InvalidParameters, InvalidProtocol}
 use Rattle.at_base.specs.Numbers.{Numbers}
 use Rattle.at_base.specs.declared.epr.Epr.{Epr}
@@ -109,8 +110,8 @@ accept m a t participant None = record {
   outs = registered_reply a (completion_endpoint m.base t.id);
 }
 
-abbrev pub refuse_register : Arrived → Transaction → List ℕ → Registration
-refuse_register a t name = record { transaction = t; outs = faulted a.fault a.id name }
+abbrev pub refuse_register : Arrived → Transaction → Fault → Registration
+refuse_register a t fault = record { transaction = t; outs = faulted a.fault a.id fault }
 
 unfoldable pub register_new : Moment → Arrived → Register → Transaction → Option (Option Kind) → Registration
 register_new m a r t None = refuse_register a t InvalidProtocol

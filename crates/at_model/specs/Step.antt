@@ -1,5 +1,6 @@
 -- A step: what an event does to a book, what it records, sends and brings about.
 use Rattle.std.specs.Prelude.{ℕ, List, [], ◌∷◌, ◌++◌, Option, Some, None, Bool, true, false, not, nat_eq, nat_lt, ◌&&◌, ◌||◌, ◌+◌, if◌then◌else◌, length, map, filter, find, max, is_none}
+use Rattle.at_base.specs.declared.limits.TheConstants.{MOST_ACTIVITIES}
 use Rattle.at_base.specs.declared.fault.Fault.TheVariants.{InvalidState, UnknownTransaction}
 use Rattle.at_base.specs.Numbers.{Numbers}
 use Rattle.at_base.specs.declared.epr.Epr.{Epr}
@@ -283,8 +284,8 @@ arrived_plan b now a targets.Work = work_plan b now a a.message
 
 -- A node has at most 256 activities.
 abbrev pub no_room : Book → Option Numbers → Option Refusal
-no_room b None = if nat_lt (length b.activities) 256 then Some Spent else Some Full
-no_room b (Some id) = if nat_lt (length b.activities) 256 then None else Some Full
+no_room b None = if nat_lt (length b.activities) MOST_ACTIVITIES then Some Spent else Some Full
+no_room b (Some id) = if nat_lt (length b.activities) MOST_ACTIVITIES then None else Some Full
 
 -- the activity that a request names may take it
 abbrev pub refuses_named : Option Activity → Option Refusal → Option Refusal

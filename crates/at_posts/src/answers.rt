@@ -8,6 +8,7 @@ ghost use Rattle.at_model.specs.Posts.{accepted, replied, faulted};
 
 use crate::posts::{fault_post, push_fault, push_reply, reply_post};
 use at_base::epr::Reply;
+use at_base::fault::Fault;
 use at_base::message::Message;
 use at_base::outs::{Out, OutList, Post};
 use at_base::text::Text;
@@ -54,16 +55,16 @@ pub fn faulted(
     alloc: Global,
     reply: &Reply,
     id: &Option<Text>,
-    name: &str,
+    fault: Fault,
 ) -> Result<OutList, AllocError>
-    ensures { IfOk result (λ outs. outs ≡ faulted reply.now id.now name.now) }
+    ensures { IfOk result (λ outs. outs ≡ faulted reply.now id.now fault) }
 {
     match reply {
-        Reply::Anonymous => answer(alloc, 500, Some(fault_post(alloc, None, id, name)?)),
+        Reply::Anonymous => answer(alloc, 500, Some(fault_post(alloc, None, id, fault)?)),
         Reply::Nobody => accepted(alloc),
         Reply::At(to) => {
             let mut outs = accepted(alloc)?;
-            push_fault(alloc, &mut outs, to, id, name)?;
+            push_fault(alloc, &mut outs, to, id, fault)?;
             Ok(outs)
         }
     }

@@ -5,13 +5,14 @@ ghost use Rattle.at_base.specs.declared.outs.Out.TheVariants as out;
 ghost use Rattle.endpoints.specs.Addresses.{endpoint_of};
 ghost use Rattle.at_model.specs.Posts.{from_on, notice_post, stranger_post, fault_post, reply_post, request_post, register_post, stored_or};
 
-use endpoints::addresses::{endpoint_of, register_id};
 use at_base::epr::{Epr, Reply};
+use at_base::fault::Fault;
 use at_base::message::{Message, Register, cloned_option};
 use at_base::notice::Notice;
 use at_base::outs::{Out, OutList, Post};
 use at_base::target::Target;
 use at_base::text::Text;
+use endpoints::addresses::{endpoint_of, register_id};
 use std::alloc::{AllocError, Global};
 
 /// The From of a notification: it stands where the notification may draw an answer from one that knows nothing.
@@ -102,11 +103,11 @@ pub fn fault_post(
     alloc: Global,
     to: Option<Epr>,
     id: &Option<Text>,
-    name: &str,
+    fault: Fault,
 ) -> Result<Post, AllocError>
-    ensures { IfOk result (λ post. post ≡ fault_post to id.now name.now) }
+    ensures { IfOk result (λ post. post ≡ fault_post to id.now fault) }
 {
-    let name = Text::copied(alloc, name)?;
+    let name = Text::copied(alloc, fault.name())?;
     reply_post(to, id, Message::Fault { name })
 }
 
@@ -216,11 +217,11 @@ pub fn push_fault(
     outs: &mut OutList,
     to: &Epr,
     id: &Option<Text>,
-    name: &str,
+    fault: Fault,
 ) -> Result<(), AllocError>
-    ensures { OnOk result (outs.new ≡ outs.old ++ out.Post (fault_post (Some to.now) id.now name.now) ∷ []) }
+    ensures { OnOk result (outs.new ≡ outs.old ++ out.Post (fault_post (Some to.now) id.now fault) ∷ []) }
 {
-    outs.push(Out::Post(fault_post(alloc, Some(to.clone()?), id, name)?))
+    outs.push(Out::Post(fault_post(alloc, Some(to.clone()?), id, fault)?))
 }
 
 /// Adds a request.

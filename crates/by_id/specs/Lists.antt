@@ -1,5 +1,6 @@
 -- Lists of live items that are found by their ids, in the order of making, as the model's book has them.
 use Rattle.std.specs.Prelude.{ℕ, List, [], ◌∷◌, ◌++◌, Option, Some, None, Bool, true, nat_lt, ◌&&◌, if◌then◌else◌, length, suc}
+use Rattle.at_base.specs.declared.limits.TheConstants.{MOST_ITEMS}
 use Rattle.at_base.specs.Numbers.{Numbers}
 use Rattle.at_model.specs.Book.{is_id, put_by}
 use Rattle.at_model.specs.Recovery.{is_before}
@@ -13,7 +14,7 @@ place_by key id (x ∷ xs) = if is_id (key x) id then 0 else suc (place_by key i
 
 -- one more at the end, where fewer than 1,024 live (this project's profile)
 abbrev pub add_to : {A : Type 0} → A → List A → List A
-add_to x xs = if nat_lt (length xs) 1024 then xs ++ x ∷ [] else xs
+add_to x xs = if nat_lt (length xs) MOST_ITEMS then xs ++ x ∷ [] else xs
 
 -- what becomes of a list
 abbrev pub altered : {A : Type 0} → (A → Numbers) → Alteration A → List A → List A

@@ -11,6 +11,7 @@ ghost use Rattle.by_id.specs.Lists.{place_by, add_to, altered, is_behind, next_d
 
 use at_base::event::Moment;
 use at_base::id::Id;
+use at_base::limits::MOST_ITEMS;
 use std::alloc::{AllocError, Global};
 use std::marker::Model;
 
@@ -29,9 +30,6 @@ pub trait Identified {
         ensures { result ≡ is_due_at moment.entry.now self.now };
 }
 
-/// How many items of one list may be made: a longer list, of a recovered node, takes no more.
-pub const MOST: usize = 1024;
-
 /// What becomes of a list.
 #[derive(Debug, PartialEq, Eq, Drop)]
 pub enum Alteration<T> {
@@ -45,7 +43,7 @@ pub enum Alteration<T> {
 
 /// Live items in the order of making.
 ///
-/// It is made with the room that `MOST` items need, so that adding one takes no memory.
+/// It is made with the room that `MOST_ITEMS` items need, so that adding one takes no memory.
 #[derive(Drop)]
 pub struct ById<T> {
     items: Vec<T>,
@@ -54,29 +52,30 @@ pub struct ById<T> {
 impl<T> Model for ById<T> {
     ghost use Rattle.std.specs.Prelude.{List, ◌≤◌};
     ghost use Rattle.std.specs.Vec.{vec_capacity};
+    ghost use Rattle.at_base.specs.declared.limits.TheConstants.{MOST_ITEMS};
 
     ghost Value = { List T };
 
     ghost view = { λ k. k.items.items };
 
-    ghost invariant = { λ k. 1024 ≤ vec_capacity k.items };
+    ghost invariant = { λ k. MOST_ITEMS ≤ vec_capacity k.items };
 }
 
 impl<T: Identified + Drop> ById<T> {
-    /// No items, and room for `MOST`.
+    /// No items, and room for `MOST_ITEMS`.
     pub fn new(alloc: Global) -> Result<ById<T>, AllocError>
         ensures { IfOk result (λ list. list ≡ []) }
     {
         Ok(ById {
-            items: Vec::with_capacity(alloc, MOST)?,
+            items: Vec::with_capacity(alloc, MOST_ITEMS)?,
         })
     }
 
-    /// The items of a recovered node, with room for `MOST`.
+    /// The items of a recovered node, with room for `MOST_ITEMS`.
     pub fn from_vec(mut items: Vec<T>) -> Result<ById<T>, AllocError>
         ensures { IfOk result (λ list. list ≡ items.items) }
     {
-        items.reserve(MOST)?;
+        items.reserve(MOST_ITEMS)?;
         Ok(ById { items })
     }
 
@@ -152,11 +151,11 @@ impl<T: Identified + Drop> ById<T> {
         }
     }
 
-    /// Adds an item at the end, which takes no memory; nothing where `MOST` live.
+    /// Adds an item at the end, which takes no memory; nothing where `MOST_ITEMS` live.
     pub fn add(&mut self, item: T)
         ensures { self.new ≡ add_to item self.old }
     {
-        if self.items.len() < MOST {
+        if self.items.len() < MOST_ITEMS {
             let Ok(()) = self.items.push(item) else {
                 unreachable!()
             };

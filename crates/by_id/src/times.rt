@@ -5,8 +5,7 @@ ghost use Rattle.std.specs.Prelude.{◌≡◌};
 ghost use Rattle.at_model.specs.Create.{deadline_of};
 ghost use Rattle.at_model.specs.Due.{has_come, is_quiet};
 
-/// How long an item waits for an answer before it sends again, in milliseconds.
-pub const RESEND_AFTER: u64 = 5000;
+use at_base::limits::RESEND_AFTER;
 
 /// When something expires that came now, in milliseconds; never, where it has no Expires.
 pub fn deadline_of(now: u64, expires: Option<u32>) -> Option<u128>
@@ -33,7 +32,10 @@ pub fn is_quiet(now: u64, sent: Option<u64>) -> bool
     ensures { result ≡ is_quiet now sent }
 {
     match sent {
-        Some(sent) => RESEND_AFTER <= now && sent <= now - RESEND_AFTER,
+        Some(sent) => {
+            let wait = u64::from(RESEND_AFTER);
+            wait <= now && sent <= now - wait
+        }
         None => true,
     }
 }

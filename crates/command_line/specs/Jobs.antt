@@ -1,6 +1,7 @@
 -- What the words are: a job, a question for the help or the version, or faulty.
 use Rattle.std.specs.Prelude.{ℕ, List, [], ◌∷◌, ◌++◌, ◌-◌, ◌^◌, ◌≡◌, Bool, true, false, ◌&&◌, ◌||◌, ◌==◌, bytes_eq, decimal, nat_le, length, if◌then◌else◌, Option, Some, None, Ok, codes, IsSomeAnd, IsTrue}
 use Rattle.std.specs.List.{list_all}
+use Rattle.at_base.specs.declared.limits.TheConstants.{MOST_ENDPOINT}
 use Rattle.addressing.specs.PostAddresses.{post_to_of}
 use Rattle.addressing.specs.declared.post_to.PostTo.{PostTo}
 use Rattle.arrivals.specs.Worlds.{IsBase}
@@ -71,7 +72,7 @@ abbrev pub tick_address : List ℕ → List ℕ
 tick_address url = url ++ codes "/tick"
 
 abbrev pub tick_to : List ℕ → Option PostTo
-tick_to url = if nat_le (length (tick_address url)) 2048 then post_to_of (tick_address url) else None
+tick_to url = if nat_le (length (tick_address url)) MOST_ENDPOINT then post_to_of (tick_address url) else None
 
 abbrev pub is_visible : ℕ → Bool
 is_visible b = nat_le 33 b && nat_le b 126

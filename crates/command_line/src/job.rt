@@ -20,6 +20,7 @@ use crate::commands::whole;
 use addressing::post_to::{PostTo, post_to};
 use arrivals::laws::heads_are_bases;
 use at_base::epr::Epr;
+use at_base::limits::MOST_ENDPOINT;
 use at_base::text::Text;
 use at_tables::cells::State;
 use clap::error::ErrorKind;
@@ -95,9 +96,6 @@ const MOST_STEPS: u16 = 9_999;
 /// The most bytes of the address at which a node listens (this profile).
 const LISTEN_BYTES: usize = 1000;
 
-/// The most bytes of an address (this profile).
-const ADDRESS_BYTES: usize = 2048;
-
 fn parsed<'a>(alloc: Global, words: &'a [String]) -> Result<ArgMatches<'a>, Error>
     ensures found { IfOk result (λ m. (fault_of whole (map string_bytes words.entry.now) ≡ []) × (subcommand_rows_of m ≡ subcommand_of whole (map string_bytes words.entry.now))) }
     ensures refused { IfErr result (HasKind (fault_of whole (map string_bytes words.entry.now))) }
@@ -145,7 +143,7 @@ fn tick_to(alloc: Global, url: &str) -> Result<Option<PostTo>, AllocError>
 {
     let mut address = Text::copied(alloc, url)?;
     address.push_str("/tick")?;
-    if address.as_str().len() > ADDRESS_BYTES {
+    if address.as_str().len() > MOST_ENDPOINT {
         return Ok(None);
     }
     let params = Text::from_string(String::new(alloc));

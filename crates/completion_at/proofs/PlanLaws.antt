@@ -1,6 +1,7 @@
 -- The plan of the activities is the model's plan of the whole book.
 use Rattle.std.proofs.Common.{ℕ, List, [], Option, Some, None, Bool, true, false, nat_lt, length, ◌≡◌, ◌∙◌, refl, sym, ap, IsTrue, if◌then◌else◌, arith}
 use Rattle.std.specs.Prelude.{is_some}
+use Rattle.at_base.specs.declared.limits.TheConstants.{MOST_ITEMS, MOST_ACTIVITIES}
 use Rattle.at_base.specs.Numbers.{Numbers}
 use Rattle.at_base.specs.declared.target.Target.{Target}
 use Rattle.at_base.specs.declared.target.Target.TheVariants as targets
@@ -71,7 +72,7 @@ pub leaves_the_book : LeavesTheBook
 leaves_the_book b l now why h = ap (local_plan b now l) (refuses_as_the_model b l ∙ h)
 
 -- a list with room for one activity has room in memory
-fits : (n : ℕ) → nat_lt n 256 ≡ true → nat_lt n 1024 ≡ true
+fits : (n : ℕ) → nat_lt n MOST_ACTIVITIES ≡ true → nat_lt n MOST_ITEMS ≡ true
 fits n h = grind (arith)
 
 few : (flag : Bool) → (if flag then None else Some Full) ≡ None → flag ≡ true
@@ -82,12 +83,12 @@ spent : (flag : Bool) → (if flag then Some Spent else Some Full) ≡ None → 
 spent true e = absurd cc
 spent false e = absurd cc
 
-made : (b : Book) (now : ℕ) (x : Beginning) → nat_lt (length b.activities) 1024 ≡ true → begun_plan b now x ≡ whole b now (begun x)
+made : (b : Book) (now : ℕ) (x : Beginning) → nat_lt (length b.activities) MOST_ITEMS ≡ true → begun_plan b now x ≡ whole b now (begun x)
 made b now x e = rw e refl
 
 begins : (b : Book) (now : ℕ) (coordinator : List ℕ) (ms : ℕ) (next : Option Numbers) → no_room b next ≡ None → begin_plan b now coordinator ms next ≡ whole b now (begin_asked (moment_of b now) coordinator ms next)
-begins b now coordinator ms None h = absurd (spent (nat_lt (length b.activities) 256) h)
-begins b now coordinator ms (Some id) h = made b now (on_begin (moment_of b now) id coordinator ms) (fits (length b.activities) (few (nat_lt (length b.activities) 256) h))
+begins b now coordinator ms None h = absurd (spent (nat_lt (length b.activities) MOST_ACTIVITIES) h)
+begins b now coordinator ms (Some id) h = made b now (on_begin (moment_of b now) id coordinator ms) (fits (length b.activities) (few (nat_lt (length b.activities) MOST_ACTIVITIES) h))
 
 -- an activity that refuses nothing of itself
 active : (flag : Bool) (more : Option Refusal) → (if flag then more else Some Stale) ≡ None → more ≡ None
@@ -95,8 +96,8 @@ active true more e = e
 active false more e = absurd cc
 
 interposes_in : (b : Book) (now : ℕ) (coordinator : List ℕ) (next : Option Numbers) (a : Activity) → no_room b next ≡ None → interpose_plan b now coordinator next (Some a) ≡ whole b now (interpose_asked (moment_of b now) coordinator next (Some a))
-interposes_in b now coordinator None a h = absurd (spent (nat_lt (length b.activities) 256) h)
-interposes_in b now coordinator (Some id) a h = made b now (on_interpose (moment_of b now) id coordinator a.root a.context) (fits (length b.activities) (few (nat_lt (length b.activities) 256) h))
+interposes_in b now coordinator None a h = absurd (spent (nat_lt (length b.activities) MOST_ACTIVITIES) h)
+interposes_in b now coordinator (Some id) a h = made b now (on_interpose (moment_of b now) id coordinator a.root a.context) (fits (length b.activities) (few (nat_lt (length b.activities) MOST_ACTIVITIES) h))
 
 interposes : (b : Book) (now : ℕ) (coordinator : List ℕ) (next : Option Numbers) (a : Option Activity) → refuses_named a (no_room b next) ≡ None → interpose_plan b now coordinator next a ≡ whole b now (interpose_asked (moment_of b now) coordinator next a)
 interposes b now coordinator next (Some a) h = interposes_in b now coordinator next a (active (is_active a.progress) (no_room b next) h)

@@ -1,5 +1,6 @@
 -- What an event does to the live activities of a node.
 use Rattle.std.specs.Prelude.{ℕ, List, [], Option, Some, None, nat_lt, if◌then◌else◌, length, map, codes}
+use Rattle.at_base.specs.declared.limits.TheConstants.{MOST_ACTIVITIES}
 use Rattle.at_base.specs.Numbers.{Numbers}
 use Rattle.at_base.specs.declared.notice.Notice.TheVariants as notices
 use Rattle.at_base.specs.declared.target.Target.{Target}
@@ -60,8 +61,8 @@ item_asked m xs other = nothing
 
 -- A node has at most 256 activities, and as many as it has ids for.
 abbrev pub no_room : ℕ → Option Numbers → Option Refusal
-no_room live None = if nat_lt live 256 then Some Spent else Some Full
-no_room live (Some id) = if nat_lt live 256 then None else Some Full
+no_room live None = if nat_lt live MOST_ACTIVITIES then Some Spent else Some Full
+no_room live (Some id) = if nat_lt live MOST_ACTIVITIES then None else Some Full
 
 -- Why a request is refused, the first that holds: the state of the activity that it names, no room, nothing left to
 -- count with.

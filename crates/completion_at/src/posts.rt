@@ -9,13 +9,13 @@ ghost use Rattle.at_model.specs.Posts.{fault_post, stored_or, to_each};
 use crate::activity::Activity;
 use at_base::epr::Epr;
 use at_base::event::Moment;
+use at_base::fault::Fault;
 use at_base::notice::Notice;
 use at_base::outs::OutList;
 use at_base::target::Target;
 use at_base::text::Text;
-use at_base::fault::Fault;
-use endpoints::uris::completion_protocol;
 use at_posts::posts::{push_fault, push_notice, push_register, stored_or};
+use endpoints::uris::completion_protocol;
 use std::alloc::{AllocError, Global};
 
 /// What an activity's endpoint names.

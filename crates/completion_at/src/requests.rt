@@ -19,20 +19,18 @@ use crate::rules::{ignores, is_begun, kept, silent, unchanged};
 use at_base::epr::Epr;
 use at_base::event::Moment;
 use at_base::id::Id;
+use at_base::limits::MOST_ACTIVITIES;
 use at_base::message::{Context, Create, Message, Work, cloned_option};
 use at_base::notice::{Kind, Notice, Vote};
 use at_base::outs::{Out, OutList, Post};
 use at_base::text::Text;
-use endpoints::addresses::{create_id, work_id};
-use endpoints::uris::atomic;
 use at_posts::posts::request_post;
 use by_id::list::Alteration;
 use by_id::plan::{Branch, Plan};
 use by_id::times::deadline_of;
+use endpoints::addresses::{create_id, work_id};
+use endpoints::uris::atomic;
 use std::alloc::{AllocError, Global};
-
-/// How many activities a node has at most.
-pub const MOST: usize = 256;
 
 /// Why a request is refused.
 #[derive(Clone, Copy, Debug, PartialEq, Eq)]
@@ -66,7 +64,7 @@ fn is_active(progress: Progress) -> bool
 pub fn no_room(live: usize, next: Option<Id>) -> Option<Refusal>
     ensures { option_map refusal_of result ≡ no_room live next }
 {
-    if live >= MOST {
+    if live >= MOST_ACTIVITIES {
         return Some(Refusal::Full);
     }
     match next {
@@ -285,7 +283,7 @@ pub fn begin(
         (begin_asked moment.entry.now coordinator.now ms moment.entry.now.next)) }
 {
     match moment.next {
-        Some(id) if live < MOST => on_begin(alloc, moment, id, coordinator, ms),
+        Some(id) if live < MOST_ACTIVITIES => on_begin(alloc, moment, id, coordinator, ms),
         _ => Ok(nothing(alloc)),
     }
 }
@@ -304,7 +302,7 @@ fn interpose_in(
         (interpose_asked moment.entry.now coordinator.now moment.entry.now.next (Some above.now))) }
 {
     match moment.next {
-        Some(id) if live < MOST => on_interpose(alloc, moment, id, coordinator, above),
+        Some(id) if live < MOST_ACTIVITIES => on_interpose(alloc, moment, id, coordinator, above),
         _ => Ok(nothing(alloc)),
     }
 }

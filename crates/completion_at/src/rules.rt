@@ -25,10 +25,10 @@ use at_base::notice::Notice;
 use at_base::outs::{Effect, Effects, OutList, Outs, Told};
 use at_base::text::Text;
 use at_posts::answers::relates_to;
-use endpoints::addresses::{create_id, register_id};
 use at_tables::cells::{Act, State, initiator_cell};
 use by_id::list::{Alteration, is_same};
 use by_id::plan::{Branch, Plan};
+use endpoints::addresses::{create_id, register_id};
 use std::alloc::{AllocError, Global};
 
 /// What is sent, with no effect.

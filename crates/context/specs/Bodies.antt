@@ -4,6 +4,7 @@ use Rattle.std.specs.Str.{all_ascii_digits}
 use Rattle.std.specs.Str.Parse.{digits_value, without_leading_plus}
 use Rattle.xml_profile.specs.declared.tree.Tree.{Tree}
 use Rattle.soap_profile.specs.Values.{is_empty, text_value}
+use Rattle.at_base.specs.declared.limits.TheConstants.{MOST_IDENTIFIER}
 use Rattle.at_base.specs.declared.epr.Epr.{Epr}
 use Rattle.at_base.specs.declared.message.Context.{Context}
 use Rattle.at_base.specs.declared.message.Create.{Create}
@@ -50,7 +51,7 @@ endpoint_in t parameter = do
 
 -- an Identifier has 1 to 2,048 bytes
 abbrev pub is_identifier : List ℕ → Bool
-is_identifier text = not (is_empty text) && nat_le (length text) 2048
+is_identifier text = not (is_empty text) && nat_le (length text) MOST_IDENTIFIER
 
 abbrev pub identifier : List ℕ → Option (List ℕ)
 identifier text = if is_identifier text then Some text else None

@@ -7,14 +7,12 @@ use crate::children::{optional, required};
 use crate::parameter::{ContextFault, Parameter};
 use addressing::endpoint::read_epr;
 use at_base::epr::Epr;
+use at_base::limits::MOST_IDENTIFIER;
 use at_base::message::{Context, Create, Register};
 use at_base::text::Text;
 use soap_profile::value::text_value;
 use std::alloc::Global;
 use xml_profile::tree::Tree;
-
-/// The most bytes that an Identifier has.
-const MOST_BYTES: usize = 2048;
 
 /// A coordination context, whatever the name of its element (WS-Coordination 1.2, section 2).
 pub fn read_context(alloc: Global, tree: &Tree) -> Result<Context, ContextFault>
@@ -92,7 +90,7 @@ fn read_identifier(alloc: Global, tree: &Tree) -> Result<Text, ContextFault>
 {
     let text = read_text(alloc, tree, Parameter::Identifier)?;
     let length = text.as_str().len();
-    if length == 0 || length > MOST_BYTES {
+    if length == 0 || length > MOST_IDENTIFIER {
         return Err(ContextFault::Parameters {
             name: Parameter::Identifier,
         });

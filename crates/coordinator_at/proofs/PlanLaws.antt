@@ -1,6 +1,7 @@
 -- The plan of the transactions is the model's plan of the whole book.
 use Rattle.std.proofs.Common.{ℕ, List, [], Option, Some, None, Bool, true, false, nat_lt, length, bytes_eq, ◌≡◌, refl, IsTrue}
 use Rattle.std.specs.Prelude.{is_some}
+use Rattle.at_base.specs.declared.limits.TheConstants.{MOST_ITEMS}
 use Rattle.at_base.specs.Numbers.{Numbers}
 use Rattle.at_base.specs.declared.epr.Reply.{Reply}
 use Rattle.at_base.specs.declared.epr.Reply.TheVariants as replies
@@ -43,18 +44,18 @@ decides b now answer t d = settles b now answer t (with_answer (moment_of b now)
 abbrev Creates : Book → ℕ → Creation → Type 0
 Creates b now e = created_plan b now e.transaction e.outs ≡ whole b now (created e)
 
-creates_under : (b : Book) (now : ℕ) (m : Moment) (id : Numbers) (a : Arrived) (c : Create) (current : Context) (reply : Reply) → nat_lt (length b.transactions) 1024 ≡ true → Creates b now (create_under m id a c current reply)
+creates_under : (b : Book) (now : ℕ) (m : Moment) (id : Numbers) (a : Arrived) (c : Create) (current : Context) (reply : Reply) → nat_lt (length b.transactions) MOST_ITEMS ≡ true → Creates b now (create_under m id a c current reply)
 unfolding create_under
 creates_under b now m id a c current (replies.At to) e = rw e refl
 creates_under b now m id a c current replies.Anonymous e = refl
 creates_under b now m id a c current replies.Nobody e = refl
 
-creates_in : (b : Book) (now : ℕ) (m : Moment) (id : Numbers) (a : Arrived) (c : Create) (current : Option Context) → nat_lt (length b.transactions) 1024 ≡ true → Creates b now (create_in m id a c current)
+creates_in : (b : Book) (now : ℕ) (m : Moment) (id : Numbers) (a : Arrived) (c : Create) (current : Option Context) → nat_lt (length b.transactions) MOST_ITEMS ≡ true → Creates b now (create_in m id a c current)
 unfolding create_in
 creates_in b now m id a c None e = rw e refl
 creates_in b now m id a c (Some current) e = creates_under b now m id a c current a.reply e
 
-creates_if : (b : Book) (now : ℕ) (m : Moment) (id : Numbers) (a : Arrived) (c : Create) (same few : Bool) → bytes_eq c.coordination atomic ≡ same → nat_lt (length b.transactions) 1024 ≡ few → Creates b now (on_create m (length b.transactions) a c (Some id))
+creates_if : (b : Book) (now : ℕ) (m : Moment) (id : Numbers) (a : Arrived) (c : Create) (same few : Bool) → bytes_eq c.coordination atomic ≡ same → nat_lt (length b.transactions) MOST_ITEMS ≡ few → Creates b now (on_create m (length b.transactions) a c (Some id))
 unfolding on_create
 creates_if b now m id a c true true e f = rw e (rw f (creates_in b now m id a c c.current f))
 creates_if b now m id a c true false e f = rw e (rw f refl)
@@ -63,7 +64,7 @@ creates_if b now m id a c false few e f = rw e refl
 creates : (b : Book) (now : ℕ) (m : Moment) (a : Arrived) (c : Create) (next : Option Numbers) → Creates b now (on_create m (length b.transactions) a c next)
 unfolding on_create
 creates b now m a c None = refl
-creates b now m a c (Some id) = creates_if b now m id a c (bytes_eq c.coordination atomic) (nat_lt (length b.transactions) 1024) refl refl
+creates b now m a c (Some id) = creates_if b now m id a c (bytes_eq c.coordination atomic) (nat_lt (length b.transactions) MOST_ITEMS) refl refl
 
 activates : (b : Book) (now : ℕ) (a : Arrived) (message : Message) → IsCreate message → activation_plan b now a message ≡ whole b now (creation_arrived (moment_of b now) a (length b.transactions) message)
 unfolding activation_plan

@@ -1,6 +1,7 @@
 //! CreateCoordinationContext: new transactions, roots and subordinates (WS-Coordination 1.2, section 3.1).
 
 ghost use Rattle.std.specs.Prelude.{◌≡◌, ◌++◌, ◌∷◌, ◌&&◌, IfOk, OnOk, [], nat_lt, bytes_eq};
+ghost use Rattle.at_base.specs.declared.limits.TheConstants.{MOST_ITEMS};
 ghost use Rattle.at_base.specs.declared.fault.Fault.TheVariants.{CannotCreateContext};
 ghost use Rattle.at_base.specs.declared.message.Message.TheVariants as messages;
 ghost use Rattle.at_base.specs.declared.outs.Out.TheVariants as outcome;
@@ -14,21 +15,22 @@ ghost use Rattle.coordinator_at.specs.Creations.{created};
 
 use at_base::epr::{Epr, Reply};
 use at_base::event::{Arrived, Moment};
+use at_base::fault::Fault;
 use at_base::id::Id;
+use at_base::limits::MOST_ITEMS;
 use at_base::message::{Context, Create, Message, cloned_option};
 use at_base::notice::Kind;
 use at_base::outs::{Effects, OutList, Outs};
 use at_base::target::Target;
 use at_base::text::Text;
 use at_posts::answers::{accepted, faulted, replied};
-use at_base::fault::Fault;
-use endpoints::uris::{atomic, protocol_of};
 use at_posts::posts::push_register;
 use at_tables::cells::State;
-use by_id::list::{Alteration, MOST};
+use by_id::list::Alteration;
 use by_id::moves::unchanged;
 use by_id::plan::{Branch, Plan};
 use by_id::times::deadline_of;
+use endpoints::uris::{atomic, protocol_of};
 use std::alloc::{AllocError, Global};
 use transaction_at::answer::context_of;
 use transaction_at::transaction::{Link, Phase, Request, Seats, Superior, Transaction};
@@ -80,7 +82,12 @@ fn added(alloc: Global, transaction: Transaction, outs: OutList) -> Plan<Transac
 fn refuse_create(alloc: Global, arrived: &Arrived) -> Result<Plan<Transaction>, AllocError>
     ensures { IfOk result (λ plan. plan ≡ created (refuse_create arrived.now)) }
 {
-    let outs = faulted(alloc, &arrived.fault, &arrived.id, Fault::CannotCreateContext)?;
+    let outs = faulted(
+        alloc,
+        &arrived.fault,
+        &arrived.id,
+        Fault::CannotCreateContext,
+    )?;
     Ok(Plan::Plain(unchanged(alloc, outs)))
 }
 
@@ -307,9 +314,9 @@ fn is_atomic(create: &Create) -> bool
 
 /// Whether a transaction is made: of the coordination type of atomic transactions, and with fewer than 1,024 alive.
 fn may_create(create: &Create, live: usize) -> bool
-    ensures { result ≡ (bytes_eq create.now.coordination atomic && nat_lt live 1024) }
+    ensures { result ≡ (bytes_eq create.now.coordination atomic && nat_lt live MOST_ITEMS) }
 {
-    is_atomic(create) && live < MOST
+    is_atomic(create) && live < MOST_ITEMS
 }
 
 /// CreateCoordinationContext where so many transactions live.

@@ -12,21 +12,21 @@ ghost use Rattle.transaction_at.specs.PhaseNames.{phase_of};
 
 use at_base::epr::Epr;
 use at_base::event::{Arrived, Moment};
+use at_base::fault::Fault;
 use at_base::id::Id;
 use at_base::limits::MOST_SEATS;
 use at_base::message::{Message, Register};
+use at_base::notice::{Kind, Notice, is_kind};
 use at_base::outs::{Effects, OutList, Outs};
 use at_base::target::Target;
 use at_base::text::Text;
-use endpoints::addresses::endpoint_of;
 use at_posts::answers::{faulted, replied};
-use at_base::fault::Fault;
-use endpoints::uris::{completion_protocol, protocol_of};
-use at_base::notice::{Kind, Notice, is_kind};
 use at_posts::posts::push_notice;
 use at_tables::cells::State;
 use by_id::list::Alteration;
 use by_id::plan::{Branch, Plan};
+use endpoints::addresses::endpoint_of;
+use endpoints::uris::{completion_protocol, protocol_of};
 use std::alloc::{AllocError, Global};
 use transaction_at::seats::seat_target;
 use transaction_at::transaction::{Completion, Enlistment, Phase, Transaction};
@@ -382,11 +382,11 @@ fn refuse_register(
     alloc: Global,
     arrived: &Arrived,
     transaction: &Transaction,
-    name: &str,
+    fault: Fault,
 ) -> Result<Plan<Transaction>, AllocError>
-    ensures { IfOk result (λ plan. plan ≡ registered (refuse_register arrived.now transaction.now name.now)) }
+    ensures { IfOk result (λ plan. plan ≡ registered (refuse_register arrived.now transaction.now fault)) }
 {
-    let outs = faulted(alloc, &arrived.fault, &arrived.id, name)?;
+    let outs = faulted(alloc, &arrived.fault, &arrived.id, fault)?;
     let same = transaction.clone()?;
     Ok(given_anew(alloc, same, outs))
 }
@@ -422,7 +422,12 @@ fn register_new(
             protocol,
         )
     } else {
-        refuse_register(alloc, arrived, transaction, Fault::CannotRegisterParticipant)
+        refuse_register(
+            alloc,
+            arrived,
+            transaction,
+            Fault::CannotRegisterParticipant,
+        )
     }
 }
 
@@ -479,8 +484,8 @@ pub fn on_register(
 }
 
 /// The fault that a Register draws where no such transaction is known.
-fn refusal_of(arrived: &Arrived, protocol: Option<Protocol>) -> &'static str
-    ensures { result.now
+fn refusal_of(arrived: &Arrived, protocol: Option<Protocol>) -> Fault
+    ensures { result
         ≡ if is_none protocol then InvalidProtocol
         else if arrived.now.postable then CannotRegisterParticipant else InvalidParameters }
 {
@@ -507,6 +512,6 @@ pub fn register_unknown(
         (λ outs. outs
         ≡ register_unknown arrived.now register.now (protocol_named register.now.protocol)) }
 {
-    let name = refusal_of(arrived, protocol_named(&register.protocol));
-    faulted(alloc, &arrived.fault, &arrived.id, name)
+    let fault = refusal_of(arrived, protocol_named(&register.protocol));
+    faulted(alloc, &arrived.fault, &arrived.id, fault)
 }

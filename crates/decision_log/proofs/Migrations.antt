@@ -2,6 +2,7 @@
 use Rattle.std.proofs.Common.{ℕ, zero, suc, List, [], ◌∷◌, ◌≡◌, ◌++◌, ◌+◌, ◌-◌, ◌<◌, ◌≤◌, Bool, true, false, not, refl, sym, ◌∙◌, ap, drop, length, arith, if◌then◌else◌}
 use Rattle.std.specs.List.{AllByRecursion, filter, list_any}
 use Rattle.std.proofs.lemmas.List.{append_assoc, append-nil, length-append, length-drop, drop-append-le, drop-drop}
+use Rattle.at_base.specs.declared.limits.TheConstants.{MOST_OUTCOMES}
 use Rattle.at_base.specs.Numbers.{Numbers}
 use Rattle.at_base.specs.WellFormed.{IsWellFormed}
 use Rattle.at_base.specs.declared.record.Record.{Record}
@@ -22,13 +23,13 @@ use Rattle.decision_log.proofs.SubCommits.{AreNotAbout, none_about}
 newest_push : (ids : List Numbers) (id : Numbers) → newest (newest ids ++ id ∷ []) ≡ newest (ids ++ id ∷ [])
 newest_push ids id =
     let n = length ids in
-    let inside : newest ids ++ id ∷ [] ≡ drop (n - 1024) (ids ++ id ∷ []) = sym (drop-append-le (n - 1024) ids (id ∷ []) (omega arith)) in
-    let long : length (newest ids ++ id ∷ []) ≡ (n - (n - 1024)) + 1 = length-append (newest ids) (id ∷ []) ∙ ap (λ m. m + 1) (length-drop (n - 1024) ids) in
+    let inside : newest ids ++ id ∷ [] ≡ drop (n - MOST_OUTCOMES) (ids ++ id ∷ []) = sym (drop-append-le (n - MOST_OUTCOMES) ids (id ∷ []) (omega arith)) in
+    let long : length (newest ids ++ id ∷ []) ≡ (n - (n - MOST_OUTCOMES)) + 1 = length-append (newest ids) (id ∷ []) ∙ ap (λ m. m + 1) (length-drop (n - MOST_OUTCOMES) ids) in
     let whole : length (ids ++ id ∷ []) ≡ n + 1 = length-append ids (id ∷ []) in
-    (λ i. drop (long i - 1024) (inside i)) ∙ drop-drop ((n - (n - 1024)) + 1 - 1024) (n - 1024) (ids ++ id ∷ [])
-    ∙ (λ i. drop (sums i) (ids ++ id ∷ [])) ∙ (λ i. drop (sym whole i - 1024) (ids ++ id ∷ []))
+    (λ i. drop (long i - MOST_OUTCOMES) (inside i)) ∙ drop-drop ((n - (n - MOST_OUTCOMES)) + 1 - MOST_OUTCOMES) (n - MOST_OUTCOMES) (ids ++ id ∷ [])
+    ∙ (λ i. drop (sums i) (ids ++ id ∷ [])) ∙ (λ i. drop (sym whole i - MOST_OUTCOMES) (ids ++ id ∷ []))
   where
-    sums : (length ids - 1024) + ((length ids - (length ids - 1024)) + 1 - 1024) ≡ length ids + 1 - 1024
+    sums : (length ids - MOST_OUTCOMES) + ((length ids - (length ids - MOST_OUTCOMES)) + 1 - MOST_OUTCOMES) ≡ length ids + 1 - MOST_OUTCOMES
     sums = omega arith
 
 -- none of these is that id
@@ -48,7 +49,7 @@ none_out id (i ∷ ids) (h, k) = by_case (is_id i id) refl (none_out id ids k) w
   by_case false e f = ap (λ z. i ∷ z) f
 
 put_new : (id : Numbers) (ids : List Numbers) → AreOthers id ids → put_last id (newest ids) ≡ newest (ids ++ id ∷ [])
-put_new id ids h = ap (λ z. newest (z ++ id ∷ [])) (none_out id (newest ids) (others_drop id (length ids - 1024) ids h)) ∙ newest_push ids id
+put_new id ids h = ap (λ z. newest (z ++ id ∷ [])) (none_out id (newest ids) (others_drop id (length ids - MOST_OUTCOMES) ids h)) ∙ newest_push ids id
 
 -- each is new when it comes
 abbrev AreNew : List Numbers → List Numbers → Type 0

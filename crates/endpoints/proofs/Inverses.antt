@@ -1,6 +1,6 @@
 -- A path names the target that it was written for, and no other path does.
-use Rattle.std.proofs.Common.{ℕ, List, [], ◌∷◌, ◌++◌, ◌≡◌, ◌⊎◌, inl, inr, ◌<◌, ◌≤◌, ◌^◌, length, take, drop, get_or, Bool, true, false, Option, Some, None, cond, sym, ap, subst, ◌∙◌, arith, refl, suc, zero}
-use Rattle.std.specs.Prelude.{◌≢◌, bytes_eq, codes, decimal, option_map, option_and_then}
+use Rattle.std.proofs.Common.{ℕ, List, [], ◌∷◌, ◌++◌, ◌≡◌, ◌⊎◌, inl, inr, ◌<◌, ◌^◌, length, take, drop, get_or, Bool, true, false, Option, Some, None, cond, sym, ap, subst, ◌∙◌, arith, refl, suc, zero}
+use Rattle.std.specs.Prelude.{◌≢◌, bytes_eq, codes, decimal, option_map}
 use Rattle.std.proofs.lemmas.List.{take-append-drop}
 use Rattle.std.proofs.lemmas.Option.{option_and_then_some}
 use Rattle.std.proofs.lemmas.Slice.Eq.{bytes_eq-Decides}

@@ -1,6 +1,7 @@
 -- What is made knows nobody yet, and has no seat.
 use Rattle.std.specs.Prelude.{ℕ, List, [], Option, Some, None, Bool, true, false, nat_lt, ◌&&◌, if◌then◌else◌, bytes_eq, length, ◌≡◌, refl}
 use Rattle.std.proofs.Common.{subst, ap}
+use Rattle.at_base.specs.declared.limits.TheConstants.{MOST_ITEMS}
 use Rattle.at_base.specs.Numbers.{Numbers}
 use Rattle.at_base.specs.declared.epr.Epr.{Epr}
 use Rattle.at_base.specs.declared.epr.Reply.{Reply}
@@ -49,7 +50,7 @@ in_fresh m id a c (Some current) = under_fresh m id a c current a.reply
 
 create_fresh : (m : Moment) (live : ℕ) (a : Arrived) (c : Create) (id : Numbers) → IfThere (IsFresh id) (on_create m live a c (Some id)).transaction
 unfolding on_create
-create_fresh m live a c id = by_test (bytes_eq c.coordination atomic && nat_lt live 1024)
+create_fresh m live a c id = by_test (bytes_eq c.coordination atomic && nat_lt live MOST_ITEMS)
   where
     by_test : (t : Bool) → IfThere (IsFresh id) (if t then create_in m id a c c.current else refuse_create a).transaction
     by_test true = in_fresh m id a c c.current
@@ -72,7 +73,7 @@ work_for_fresh m id a w replies.Nobody = tt
 
 work_fresh : (m : Moment) (live : ℕ) (a : Arrived) (w : Work) (id : Numbers) → IfThere (IsFreshLeaf id) (on_work m live a w (Some id)).leaf
 unfolding on_work
-work_fresh m live a w id = by_test (nat_lt live 1024)
+work_fresh m live a w id = by_test (nat_lt live MOST_ITEMS)
   where
     by_test : (t : Bool) → IfThere (IsFreshLeaf id) (if t then work_for m id a w a.reply else refuse_work a).leaf
     by_test true = work_for_fresh m id a w a.reply

@@ -2,6 +2,7 @@
 use Rattle.std.specs.Prelude.{ℕ, List, [], ◌∷◌, ◌++◌, Option, Some, None, Bool, true, false, nat_lt, ◌&&◌, if◌then◌else◌, bytes_eq, length, map, ◌≡◌, refl}
 use Rattle.std.specs.List.{AllByRecursion}
 use Rattle.std.proofs.Common.{inl, inr, sym, subst, ap, ◌∙◌}
+use Rattle.at_base.specs.declared.limits.TheConstants.{MOST_ITEMS}
 use Rattle.at_base.specs.declared.fault.Fault.{Fault}
 use Rattle.at_base.specs.Numbers.{Numbers}
 use Rattle.at_base.specs.declared.epr.Epr.{Epr}
@@ -118,7 +119,7 @@ create_in_silent m id a c (Some current) = under_silent m id a c current a.reply
 create_silent : (m : Moment) (live : ℕ) (a : Arrived) (c : Create) (next : Option Numbers) → AllSilent (on_create m live a c next).outs
 unfolding on_create
 create_silent m live a c None = faulted_silent a.fault a.id _
-create_silent m live a c (Some id) = by_test (bytes_eq c.coordination atomic && nat_lt live 1024)
+create_silent m live a c (Some id) = by_test (bytes_eq c.coordination atomic && nat_lt live MOST_ITEMS)
   where
     by_test : (t : Bool) → AllSilent (if t then create_in m id a c c.current else refuse_create a).outs
     by_test true = create_in_silent m id a c c.current
@@ -132,7 +133,7 @@ work_for_silent m id a w replies.Nobody = replied_silent a.reply a.id messages.W
 work_silent : (m : Moment) (live : ℕ) (a : Arrived) (w : Work) (next : Option Numbers) → AllSilent (on_work m live a w next).outs
 unfolding on_work
 work_silent m live a w None = replied_silent a.reply a.id messages.WorkRefused tt
-work_silent m live a w (Some id) = by_test (nat_lt live 1024)
+work_silent m live a w (Some id) = by_test (nat_lt live MOST_ITEMS)
   where
     by_test : (t : Bool) → AllSilent (if t then work_for m id a w a.reply else refuse_work a).outs
     by_test true = work_for_silent m id a w a.reply

@@ -2,6 +2,7 @@
 -- the first refusal.
 use Rattle.std.specs.Prelude.{ℕ, List, [], ◌++◌, Option, Some, None, Result, Ok, Err, codes, ◌≡◌}
 use Rattle.std.specs.Option.{option_map}
+use Rattle.at_base.specs.declared.fault.Fault.{Fault}
 use Rattle.at_base.specs.declared.fault.Fault.TheVariants.{InvalidState, UnknownTransaction}
 use Rattle.at_base.specs.declared.epr.Epr.{Epr}
 use Rattle.at_base.specs.declared.epr.Reply.TheVariants.{Nobody}
@@ -75,14 +76,14 @@ notice_of acts.RecordAndSendAborted = Some notices.Aborted
 notice_of act = None
 
 -- the fault that an act posts
-abbrev pub fault_of : Act → Option (List ℕ)
+abbrev pub fault_of : Act → Option Fault
 fault_of acts.FaultUnknownTransaction = Some UnknownTransaction
 fault_of acts.FaultInvalidState = Some InvalidState
 fault_of acts.FaultInvalidStateAndAbort = Some InvalidState
 fault_of act = None
 
 -- one of these to an endpoint: a notification from an own one, a fault related to the message's id
-abbrev pub sent : Option Notice → Option (List ℕ) → Epr → Epr → Option (List ℕ) → Option Post
+abbrev pub sent : Option Notice → Option Fault → Epr → Epr → Option (List ℕ) → Option Post
 sent (Some notice) fault to own id = Some (notification to own notice)
 sent None (Some fault) to own id = Some (fault_post (Some to) id fault)
 sent None None to own id = None

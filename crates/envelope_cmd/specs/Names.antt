@@ -4,10 +4,7 @@ use Rattle.std.specs.Fmt.{digits}
 use Rattle.at_base.specs.IdText.{id_text}
 use Rattle.at_base.specs.Names.{kind_name}
 use Rattle.at_base.specs.declared.message.Message.{Message}
-use Rattle.at_base.specs.declared.notice.Kind.{Kind}
 use Rattle.at_base.specs.declared.notice.Kind.TheVariants as kinds
-use Rattle.at_base.specs.declared.notice.Vote.{Vote}
-use Rattle.at_base.specs.declared.notice.Vote.TheVariants as votes
 use Rattle.at_base.specs.declared.target.Target.{Target}
 use Rattle.at_base.specs.declared.target.Target.TheVariants as targets
 use Rattle.endpoints.specs.declared.form.Form.{Form}

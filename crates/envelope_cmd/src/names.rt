@@ -4,7 +4,7 @@ ghost use Rattle.std.specs.Prelude.{◌≡◌, ◌++◌, OnOk, codes};
 ghost use Rattle.at_base.specs.IdText.{id_text};
 ghost use Rattle.at_base.specs.declared.target.Target.TheVariants.{Coordinator};
 ghost use Rattle.envelope_cmd.specs.Names.{message_name, printed_target};
-ghost use Rattle.at_base.specs.Names.{kind_name, vote_name};
+ghost use Rattle.at_base.specs.Names.{kind_name};
 
 use crate::lines::push;
 use at_base::id::Id;

@@ -1,13 +1,13 @@
 //! The cell that a message meets, and what the cell posts.
 
 ghost use Rattle.std.specs.Prelude.{◌≡◌, IfOk, Some};
-ghost use Rattle.std.specs.Option.{option_map};
 ghost use Rattle.at_model.specs.Posts.{fault_post, from_on};
 ghost use Rattle.envelope_cmd.specs.Cells.{cell_at, fault_of, meets, notice_of, notification, posted, sent};
 ghost use Rattle.envelope_cmd.specs.Cells.{no_row_line};
 
 use addressing::post_to::post_to;
 use at_base::epr::{Epr, Reply};
+use at_base::fault::Fault;
 use at_base::message::{Message, cloned_option};
 use at_base::notice::Notice;
 use at_base::outs::Post;
@@ -91,7 +91,7 @@ fn sent(
 {
     match (notice_of(act), fault_of(act)) {
         (Some(notice), _) => Ok(Some(notification(to, own, notice)?)),
-        (None, Some(name)) => Ok(Some(fault(alloc, to, id, name)?)),
+        (None, Some(drawn)) => Ok(Some(fault(alloc, to, id, drawn)?)),
         (None, None) => Ok(None),
     }
 }
@@ -112,13 +112,13 @@ fn notice_of(act: Act) -> Option<Notice>
     }
 }
 
-/// The name of the fault that an act posts, if any.
-fn fault_of(act: Act) -> Option<&'static str>
-    ensures { option_map (λ name. name.now) result ≡ fault_of act }
+/// The fault that an act posts, if any.
+fn fault_of(act: Act) -> Option<Fault>
+    ensures { result ≡ fault_of act }
 {
     match act {
-        Act::FaultUnknownTransaction => Some("UnknownTransaction"),
-        Act::FaultInvalidState | Act::FaultInvalidStateAndAbort => Some("InvalidState"),
+        Act::FaultUnknownTransaction => Some(Fault::UnknownTransaction),
+        Act::FaultInvalidState | Act::FaultInvalidStateAndAbort => Some(Fault::InvalidState),
         _ => None,
     }
 }
@@ -151,12 +151,12 @@ fn from_on(notice: Notice, own: &Epr) -> Result<Option<Epr>, AllocError>
     }
 }
 
-fn fault(alloc: Global, to: &Epr, id: &Option<Text>, name: &str) -> Result<Post, AllocError>
-    ensures { IfOk result (λ post. post ≡ fault_post (Some to.now) id.now name.now) }
+fn fault(alloc: Global, to: &Epr, id: &Option<Text>, drawn: Fault) -> Result<Post, AllocError>
+    ensures { IfOk result (λ post. post ≡ fault_post (Some to.now) id.now drawn) }
 {
     let to = to.clone()?;
     let relates = cloned_option(id)?;
-    let name = Text::copied(alloc, name)?;
+    let name = Text::copied(alloc, drawn.name())?;
     Ok(Post {
         own: None,
         to: Some(to),

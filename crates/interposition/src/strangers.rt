@@ -9,12 +9,12 @@ ghost use Rattle.interposition.specs.Plans.{answered, cell_of_none, committed, n
 use crate::plan::Part;
 use at_base::epr::Epr;
 use at_base::event::{Arrived, Moment};
+use at_base::fault::Fault;
 use at_base::message::Message;
 use at_base::notice::Notice;
 use at_base::outs::{Effects, Out, OutList, Outs};
 use at_base::target::Target;
 use at_posts::answers::accepted;
-use at_base::fault::Fault;
 use at_posts::posts::{notice_post, push_fault, push_stranger};
 use at_tables::cells::{
     Act, Cell, State, completion_cell, coordinator_cell, initiator_cell, participant_cell,

@@ -5,9 +5,7 @@ use Rattle.std.specs.Str.Parse.{digits_value_after}
 use Rattle.std.proofs.lemmas.Bool.{eqb-true, eqb-false}
 use Rattle.std.proofs.lemmas.List.{append_assoc}
 use Rattle.std.proofs.lemmas.Fmt.{decimal_is_IsNumeral}
-use Rattle.at_base.specs.declared.notice.Kind.TheVariants as kinds
 use Rattle.at_base.specs.declared.target.Target.{Target}
-use Rattle.at_base.specs.declared.target.Target.TheVariants as targets
 use Rattle.endpoints.specs.Addresses.{IsWritten, path_of, endpoint_of, after_prefix, split_at, target_of, target_at}
 use Rattle.at_model.specs.World.{Node, new_nodes, place_or, place_of, Hosts, HaveOwnAddresses, IsNumber, example_base}
 use Rattle.endpoints.proofs.Inverses.{behind_prefix, no_digit, prefix_back, target_back}

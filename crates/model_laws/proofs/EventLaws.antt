@@ -38,7 +38,7 @@ use Rattle.at_tables.specs.declared.cells.Act.TheVariants as acts
 use Rattle.at_tables.specs.declared.cells.Cell.{Cell}
 use Rattle.at_base.specs.Names.{is_kind}
 use Rattle.at_tables.specs.Tables.{coordinator_of, participant_of, completion_of, initiator_of}
-use Rattle.at_base.specs.declared.limits.TheConstants.{MOST_SEATS}
+use Rattle.at_base.specs.declared.limits.TheConstants.{MOST_SEATS, MOST_ITEMS}
 use Rattle.at_base.specs.declared.outs.Post.{Post}
 use Rattle.at_model.specs.Book.{Book, Transaction, Leaf, Activity, Enlistment, Completion, Superior, is_id, find_by, put_by, transaction_id, leaf_id, next_id, last_counter}
 use Rattle.endpoints.specs.Addresses.{endpoint_of, atomic}
@@ -237,7 +237,7 @@ in_says m id a c (Some current) = under_says m id a c current a.reply
 
 create_says : (m : Moment) (live : ℕ) (a : Arrived) (c : Create) (id : Numbers) → CreationSays m.base id (on_create m live a c (Some id))
 unfolding on_create
-create_says m live a c id = by_test (bytes_eq c.coordination atomic && nat_lt live 1024)
+create_says m live a c id = by_test (bytes_eq c.coordination atomic && nat_lt live MOST_ITEMS)
   where
     by_test : (b : Bool) → CreationSays m.base id (if b then create_in m id a c c.current else refuse_create a)
     by_test true = in_says m id a c c.current
@@ -289,7 +289,7 @@ work_for_says m id a w replies.Nobody = work_refused m.base id a
 
 work_says : (m : Moment) (live : ℕ) (a : Arrived) (w : Work) (id : Numbers) → WorkSays m.base id (on_work m live a w (Some id))
 unfolding on_work
-work_says m live a w id = by_test (nat_lt live 1024)
+work_says m live a w id = by_test (nat_lt live MOST_ITEMS)
   where
     by_test : (b : Bool) → WorkSays m.base id (if b then work_for m id a w a.reply else refuse_work a)
     by_test true = work_for_says m id a w a.reply

@@ -1,6 +1,7 @@
 -- What a sound leaf becomes is sound, and what it records is well-formed.
 use Rattle.std.specs.Prelude.{ℕ, List, Option, Some, None, Bool, if◌then◌else◌, nat_lt, ◌≡◌}
 use Rattle.std.proofs.Common.{subst}
+use Rattle.at_base.specs.declared.limits.TheConstants.{MOST_ITEMS}
 use Rattle.at_base.specs.Numbers.{Numbers}
 use Rattle.at_base.specs.declared.epr.Epr.{Epr}
 use Rattle.at_base.specs.declared.epr.Reply.{Reply}
@@ -116,4 +117,4 @@ pub employed_sound : (m : Moment) (live : ℕ) (a : Arrived) (w : Work) (id : Nu
     → IsSoundLeaf l
 unfolding on_work
 employed_sound m live a w id l h k v e =
-    subst (IfThere IsSoundLeaf) e (either_of (λ x. IfThere IsSoundLeaf x.leaf) (nat_lt live 1024) (work_for m id a w a.reply) (refuse_work a) (λ i. for_sound m id a w a.reply h k v) (λ i. tt))
+    subst (IfThere IsSoundLeaf) e (either_of (λ x. IfThere IsSoundLeaf x.leaf) (nat_lt live MOST_ITEMS) (work_for m id a w a.reply) (refuse_work a) (λ i. for_sound m id a w a.reply h k v) (λ i. tt))

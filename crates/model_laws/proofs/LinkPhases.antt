@@ -17,7 +17,7 @@ use Rattle.at_base.specs.declared.event.Arrived.{Arrived}
 use Rattle.at_base.specs.declared.event.Event.{Event}
 use Rattle.at_base.specs.declared.event.Moment.{Moment}
 use Rattle.at_tables.specs.declared.cells.State.TheVariants as states
-use Rattle.at_base.specs.declared.limits.TheConstants.{MOST_SEATS}
+use Rattle.at_base.specs.declared.limits.TheConstants.{MOST_SEATS, MOST_ITEMS}
 use Rattle.at_model.specs.Posts.{accepted}
 use Rattle.at_model.specs.Book.{Book, Transaction, transaction_id}
 use Rattle.endpoints.specs.Addresses.{atomic}
@@ -97,7 +97,7 @@ created_linked : (m : Moment) (live : ℕ) (a : Arrived) (c : Create) (id : Numb
 unfolding on_create
 created_linked m live a c id t e =
     subst (IfThere Linked) e
-    (either_of (λ x. IfThere Linked x.transaction) (bytes_eq c.coordination atomic && nat_lt live 1024) (create_in m id a c c.current) (refuse_create a) (λ k. (in_linked m id a c c.current)) (λ k. tt))
+    (either_of (λ x. IfThere Linked x.transaction) (bytes_eq c.coordination atomic && nat_lt live MOST_ITEMS) (create_in m id a c c.current) (refuse_create a) (λ k. (in_linked m id a c c.current)) (λ k. tt))
 
 -- a step
 LinkedAfter : Outcome → Type 0

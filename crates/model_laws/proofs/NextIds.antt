@@ -1,6 +1,7 @@
 -- What is made has the next id, which is none that was drawn.
 use Rattle.std.specs.Prelude.{ℕ, Option, Some, None, Bool, true, false, ◌≡◌, refl, if◌then◌else◌, ◌+◌, nat_lt, ◌&&◌, bytes_eq}
 use Rattle.std.proofs.Common.{inl, inr, ap, sym, arith}
+use Rattle.at_base.specs.declared.limits.TheConstants.{MOST_ITEMS}
 use Rattle.at_base.specs.Numbers.{Numbers}
 use Rattle.at_base.specs.declared.epr.Reply.{Reply}
 use Rattle.at_base.specs.declared.epr.Reply.TheVariants as replies
@@ -52,7 +53,7 @@ created m id a c (Some current) = under m id a c current a.reply
 transaction_made : (m : Moment) (live : ℕ) (a : Arrived) (c : Create) (id : Numbers) → HasId id (on_create m live a c (Some id)).transaction
 unfolding on_create
 transaction_made m live a c id =
-    either id (bytes_eq c.coordination atomic && nat_lt live 1024) (create_in m id a c c.current) (refuse_create a) (created m id a c c.current) tt
+    either id (bytes_eq c.coordination atomic && nat_lt live MOST_ITEMS) (create_in m id a c c.current) (refuse_create a) (created m id a c c.current) tt
 
 either_leaf : (id : Numbers) (b : Bool) (x y : Employment) → HasLeafId id x.leaf → HasLeafId id y.leaf → HasLeafId id (if b then x else y).leaf
 either_leaf id true x y h k = h
@@ -65,7 +66,7 @@ employed m id a w replies.Nobody = tt
 
 leaf_made : (m : Moment) (live : ℕ) (a : Arrived) (w : Work) (id : Numbers) → HasLeafId id (on_work m live a w (Some id)).leaf
 unfolding on_work
-leaf_made m live a w id = either_leaf id (nat_lt live 1024) (work_for m id a w a.reply) (refuse_work a) (employed m id a w a.reply) tt
+leaf_made m live a w id = either_leaf id (nat_lt live MOST_ITEMS) (work_for m id a w a.reply) (refuse_work a) (employed m id a w a.reply) tt
 
 pub makes_under_the_next_id : MakesUnderTheNextId
 unfolding on_begin on_interpose on_create on_work

@@ -19,7 +19,7 @@ use Rattle.at_base.specs.declared.event.Event.{Event}
 use Rattle.at_base.specs.declared.event.Moment.{Moment}
 use Rattle.at_base.specs.declared.outs.Out.{Out}
 use Rattle.at_tables.specs.declared.cells.State.TheVariants as states
-use Rattle.at_base.specs.declared.limits.TheConstants.{MOST_SEATS}
+use Rattle.at_base.specs.declared.limits.TheConstants.{MOST_SEATS, MOST_ITEMS}
 use Rattle.at_model.specs.Posts.{accepted}
 use Rattle.at_model.specs.Outcomes.{noted}
 use Rattle.at_model.specs.Book.{Book, Transaction, Enlistment, Phase, is_id, find_by, put_by, transaction_id}
@@ -123,7 +123,7 @@ created_stands : (m : Moment) (live : ℕ) (a : Arrived) (c : Create) (id : Numb
 unfolding on_create
 created_stands m live a c id t e =
     subst (IfThere InPhase) e
-    (either_of (λ x. IfThere InPhase x.transaction) (bytes_eq c.coordination atomic && nat_lt live 1024) (create_in m id a c c.current) (refuse_create a) (λ k. (in_stands m id a c c.current)) (λ k. tt))
+    (either_of (λ x. IfThere InPhase x.transaction) (bytes_eq c.coordination atomic && nat_lt live MOST_ITEMS) (create_in m id a c c.current) (refuse_create a) (λ k. (in_stands m id a c c.current)) (λ k. tt))
 
 -- a step
 left_stands : (old : Transaction) (t : Option Transaction) → IfThere (Stands old) t → IfThere InPhase t

@@ -1,5 +1,6 @@
 -- Every step touches one item at most; so it sends its answer first, and draws at most one id.
 use Rattle.std.specs.Prelude.{ℕ, List, [], ◌∷◌, ◌++◌, Option, Some, None, Bool, true, false, not, nat_lt, ◌&&◌, ◌+◌, if◌then◌else◌, bytes_eq, length, map, ◌≡◌, ◌≤◌}
+use Rattle.at_base.specs.declared.limits.TheConstants.{MOST_ITEMS}
 use Rattle.at_base.specs.declared.fault.Fault.{Fault}
 use Rattle.at_base.specs.declared.fault.Fault.TheVariants.{CannotCreateContext, CannotRegisterParticipant, InvalidParameters, InvalidProtocol}
 use Rattle.at_base.specs.Numbers.{Numbers}
@@ -139,7 +140,7 @@ create_in_order : (m : Moment) (live : ℕ) (a : Arrived) (c : Create) (next : O
 unfolding on_create
 create_in_order m live a c None = faulted_in_order a.fault a.id CannotCreateContext
 create_in_order m live a c (Some id) =
-    either_creation (bytes_eq c.coordination atomic && nat_lt live 1024) (create_in m id a c c.current) (refuse_create a)
+    either_creation (bytes_eq c.coordination atomic && nat_lt live MOST_ITEMS) (create_in m id a c c.current) (refuse_create a)
     (create_in_in_order m id a c c.current) (faulted_in_order a.fault a.id CannotCreateContext)
 
 -- work
@@ -156,7 +157,7 @@ work_in_order : (m : Moment) (live : ℕ) (a : Arrived) (w : Work) (next : Optio
 unfolding on_work
 work_in_order m live a w None = replied_in_order a.reply a.id messages.WorkRefused
 work_in_order m live a w (Some id) =
-    either_work (nat_lt live 1024) (work_for m id a w a.reply) (refuse_work a)
+    either_work (nat_lt live MOST_ITEMS) (work_for m id a w a.reply) (refuse_work a)
     (work_for_in_order m id a w a.reply) (replied_in_order a.reply a.id messages.WorkRefused)
 
 -- each plan

@@ -22,7 +22,7 @@ use Rattle.at_tables.specs.declared.cells.Act.TheVariants as acts
 use Rattle.at_tables.specs.declared.cells.Cell.{Cell}
 use Rattle.at_tables.specs.Names.{is_state}
 use Rattle.at_tables.specs.Tables.{coordinator_of, participant_of, completion_of}
-use Rattle.at_base.specs.declared.limits.TheConstants.{MOST_SEATS}
+use Rattle.at_base.specs.declared.limits.TheConstants.{MOST_SEATS, MOST_ITEMS}
 use Rattle.at_model.specs.Book.{Transaction, Enlistment, Completion, Superior, Phase}
 use Rattle.endpoints.specs.Addresses.{register_id}
 use Rattle.at_model.specs.Moves.{Moving, Decision, Goes, begin, become, stays, forgotten, ignored}
@@ -649,4 +649,4 @@ pub created_sound : (m : Moment) (live : ℕ) (a : Arrived) (c : Create) (id : N
 unfolding on_create
 created_sound m live a c id t h e =
     subst (IfThere IsSoundTransaction) e
-    (either_of (λ x. IfThere IsSoundTransaction x.transaction) (bytes_eq c.coordination atomic && nat_lt live 1024) (create_in m id a c c.current) (refuse_create a) (λ k. (in_sound m id a c c.current h)) (λ k. tt))
+    (either_of (λ x. IfThere IsSoundTransaction x.transaction) (bytes_eq c.coordination atomic && nat_lt live MOST_ITEMS) (create_in m id a c c.current) (refuse_create a) (λ k. (in_sound m id a c c.current h)) (λ k. tt))

@@ -6,7 +6,7 @@ use Rattle.at_tables.specs.declared.cells.State.TheVariants as states
 use Rattle.at_tables.specs.Names.{is_state}
 use Rattle.at_base.specs.Names.{is_kind}
 use Rattle.at_model.specs.Book.{Book, Transaction, Leaf, Completion, Superior, Phase, last_counter}
-use Rattle.at_model.specs.Due.{resend_after}
+use Rattle.at_base.specs.declared.limits.TheConstants.{RESEND_AFTER}
 use Rattle.at_model.specs.Recovery.{last_incarnation}
 use Rattle.at_model.specs.World.{Node, Posted, World, WorldEvent, world_step, Deliver, Tick, Turn, Up, run_on, run_of, Hosts, HaveOwnAddresses}
 
@@ -34,7 +34,7 @@ ups n (x ∷ xs) = up_if n x.book ++ ups (n + 1) xs
 -- A tick at each node, long enough that all sends again.
 abbrev pub ticks : ℕ → List Node → List WorldEvent
 ticks n [] = []
-ticks n (x ∷ xs) = Turn n (Tick resend_after) [] None ∷ ticks (n + 1) xs
+ticks n (x ∷ xs) = Turn n (Tick RESEND_AFTER) [] None ∷ ticks (n + 1) xs
 
 -- How much may wait for an answer: seats and completion seats; and links, leaves and activities.
 abbrev pub completions_held : Option Completion → ℕ

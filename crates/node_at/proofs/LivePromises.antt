@@ -1,6 +1,7 @@
 -- The promises of a book stay live over a step.
 use Rattle.std.proofs.Common.{ℕ, List, filter, [], ◌∷◌, ◌≡◌, ◌⊎◌, inl, inr, ⊎_elim, Bool, true, false, not, Option, Some, None, refl, sym, ◌∙◌, ap, subst, map, option_map, is_none, true≢false, ◌&&◌, ◌||◌, if◌then◌else◌, length, nat_lt, bytes_eq}
 use Rattle.std.specs.List.{AllByRecursion, list_any}
+use Rattle.at_base.specs.declared.limits.TheConstants.{MOST_ITEMS}
 use Rattle.at_base.specs.Numbers.{Numbers}
 use Rattle.at_base.specs.declared.epr.Epr.{Epr}
 use Rattle.at_base.specs.declared.epr.Reply.{Reply}
@@ -418,7 +419,7 @@ module _ (ts : List Token) where
 
   create_new : (m : Moment) (live : ℕ) (a : Arrived) (c : Create) (id : Numbers) → IfThere (Holds ts) (on_create m live a c (Some id)).transaction
   unfolding on_create
-  create_new m live a c id = by_test (bytes_eq c.coordination atomic && nat_lt live 1024) where
+  create_new m live a c id = by_test (bytes_eq c.coordination atomic && nat_lt live MOST_ITEMS) where
     by_test : (t : Bool) → IfThere (Holds ts) (if t then create_in m id a c c.current else refuse_create a).transaction
     by_test true = in_new m id a c c.current
     by_test false = tt
@@ -430,7 +431,7 @@ module _ (ts : List Token) where
 
   work_new : (m : Moment) (live : ℕ) (a : Arrived) (w : Work) (id : Numbers) → IfThere (IsLeafPromised ts) (on_work m live a w (Some id)).leaf
   unfolding on_work
-  work_new m live a w id = by_test (nat_lt live 1024) where
+  work_new m live a w id = by_test (nat_lt live MOST_ITEMS) where
     by_test : (t : Bool) → IfThere (IsLeafPromised ts) (if t then work_for m id a w a.reply else refuse_work a).leaf
     by_test true = work_for_new m id a w a.reply
     by_test false = tt

@@ -1,5 +1,6 @@
 -- How each plan answers.
 use Rattle.std.proofs.Common.{ℕ, List, [], ◌∷◌, ◌++◌, inl, inr, Bool, true, false, not, ◌&&◌, nat_lt, bytes_eq, Option, Some, None, refl, map, length, if◌then◌else◌}
+use Rattle.at_base.specs.declared.limits.TheConstants.{MOST_ITEMS}
 use Rattle.at_base.specs.declared.fault.Fault.{Fault}
 use Rattle.at_base.specs.declared.fault.Fault.TheVariants.{CannotCreateContext, CannotRegisterParticipant, InvalidParameters, InvalidProtocol}
 use Rattle.at_base.specs.Numbers.{Numbers}
@@ -145,7 +146,7 @@ create_so : (m : Moment) (live : ℕ) (a : Arrived) (c : Create) (next : Option 
 unfolding on_create
 create_so m live a c None = faulted_so a.fault a.id CannotCreateContext
 create_so m live a c (Some id) =
-    either_creation (bytes_eq c.coordination atomic && nat_lt live 1024) (create_in m id a c c.current) (refuse_create a)
+    either_creation (bytes_eq c.coordination atomic && nat_lt live MOST_ITEMS) (create_in m id a c c.current) (refuse_create a)
     (create_in_so m id a c c.current) (faulted_so a.fault a.id CannotCreateContext)
 
 -- work
@@ -162,7 +163,7 @@ work_so : (m : Moment) (live : ℕ) (a : Arrived) (w : Work) (next : Option Numb
 unfolding on_work
 work_so m live a w None = replied_alone a.reply a.id messages.WorkRefused
 work_so m live a w (Some id) =
-    either_work (nat_lt live 1024) (work_for m id a w a.reply) (refuse_work a)
+    either_work (nat_lt live MOST_ITEMS) (work_for m id a w a.reply) (refuse_work a)
     (work_for_so m id a w a.reply) (replied_alone a.reply a.id messages.WorkRefused)
 
 -- each plan

@@ -1,4 +1,5 @@
 -- A completion seat in Done is that of a transaction that commits: what the rules of a transaction leave of it.
+use Rattle.at_base.specs.declared.limits.TheConstants.{MOST_ITEMS}
 use Rattle.at_base.specs.Numbers.{Numbers}
 use Rattle.at_base.specs.declared.epr.Epr.{Epr}
 use Rattle.at_base.specs.declared.epr.Reply.{Reply}
@@ -278,5 +279,5 @@ pub created_sits : (m : Moment) (live : ℕ) (a : Arrived) (c : Create) (id : Nu
 unfolding on_create
 created_sits m live a c id t e =
     subst (IfThere Fits) e
-    (either_of (λ x. IfThere Fits x.transaction) (bytes_eq c.coordination atomic && nat_lt live 1024) (create_in m id a c c.current) (refuse_create a)
+    (either_of (λ x. IfThere Fits x.transaction) (bytes_eq c.coordination atomic && nat_lt live MOST_ITEMS) (create_in m id a c c.current) (refuse_create a)
     (λ k. in_sits m id a c c.current) (λ k. tt))

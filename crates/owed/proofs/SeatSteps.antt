@@ -2,6 +2,7 @@
 use Rattle.std.specs.Prelude.{ℕ, List, [], ◌∷◌, ◌++◌, Option, Some, None, Bool, true, false, if◌then◌else◌, length, map, nat_lt, bytes_eq, ◌&&◌, ◌≡◌, refl}
 use Rattle.std.specs.List.{AllByRecursion}
 use Rattle.std.proofs.Common.{inl, ap, sym, subst, ◌∙◌}
+use Rattle.at_base.specs.declared.limits.TheConstants.{MOST_ITEMS}
 use Rattle.at_base.specs.Numbers.{Numbers}
 use Rattle.at_base.specs.declared.epr.Epr.{Epr}
 use Rattle.at_base.specs.declared.epr.Reply.{Reply}
@@ -130,7 +131,7 @@ made_empty : (m : Moment) (live : ℕ) (a : Arrived) (c : Create) (id : Numbers)
 unfolding on_create
 made_empty m live a c id t e =
     subst (IfThere HasNoSeats) e
-    (either_of (λ x. IfThere HasNoSeats x.transaction) (bytes_eq c.coordination atomic && nat_lt live 1024) (create_in m id a c c.current) (refuse_create a) (λ k. (in_empty m id a c c.current)) (λ k. tt))
+    (either_of (λ x. IfThere HasNoSeats x.transaction) (bytes_eq c.coordination atomic && nat_lt live MOST_ITEMS) (create_in m id a c c.current) (refuse_create a) (λ k. (in_empty m id a c c.current)) (λ k. tt))
 
 -- behind the others
 joined_owed : (m : Moment) (e : Event) (ps : List Post) (i : Numbers) (t : Transaction) (xs : List Transaction) → HasNoSeats t → ((u : Transaction) → IsQuiet e u)

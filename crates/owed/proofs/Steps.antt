@@ -20,7 +20,7 @@ use Rattle.at_base.specs.declared.event.Arrived.{Arrived}
 use Rattle.at_base.specs.declared.event.Event.{Event}
 use Rattle.at_base.specs.declared.event.Event.TheVariants as events
 use Rattle.at_base.specs.declared.event.Moment.{Moment}
-use Rattle.at_base.specs.declared.limits.TheConstants.{MOST_SEATS}
+use Rattle.at_base.specs.declared.limits.TheConstants.{MOST_SEATS, MOST_ITEMS}
 use Rattle.at_base.specs.declared.outs.Post.{Post}
 use Rattle.at_tables.specs.declared.cells.State.{State}
 use Rattle.at_tables.specs.declared.cells.State.TheVariants as states
@@ -277,4 +277,4 @@ pub created_shaped : (m : Moment) (live : ℕ) (a : Arrived) (c : Create) (id : 
 unfolding on_create
 created_shaped m live a c id t e =
     subst (IfThere IsShaped) e
-    (either_of (λ x. IfThere IsShaped x.transaction) (bytes_eq c.coordination atomic && nat_lt live 1024) (create_in m id a c c.current) (refuse_create a) (λ k. (in_shaped m id a c c.current)) (λ k. tt))
+    (either_of (λ x. IfThere IsShaped x.transaction) (bytes_eq c.coordination atomic && nat_lt live MOST_ITEMS) (create_in m id a c c.current) (refuse_create a) (λ k. (in_shaped m id a c c.current)) (λ k. tt))

@@ -1,6 +1,7 @@
 -- The plan of the leaves is the model's plan of the whole book.
 use Rattle.std.proofs.Common.{ℕ, List, [], Option, Some, None, Bool, true, false, nat_lt, length, ◌≡◌, refl, IsTrue}
 use Rattle.std.specs.Prelude.{is_some}
+use Rattle.at_base.specs.declared.limits.TheConstants.{MOST_ITEMS}
 use Rattle.at_base.specs.Numbers.{Numbers}
 use Rattle.at_base.specs.declared.epr.Reply.{Reply}
 use Rattle.at_base.specs.declared.epr.Reply.TheVariants as replies
@@ -38,12 +39,12 @@ abbrev Employs : Book → ℕ → Employment → Type 0
 Employs b now e = employed_plan b now e.leaf e.outs ≡ whole b now (employed e)
 
 -- where fewer than 1,024 live
-employs_for : (b : Book) (now : ℕ) (m : Moment) (id : Numbers) (a : Arrived) (w : Work) (reply : Reply) → nat_lt (length b.leaves) 1024 ≡ true → Employs b now (work_for m id a w reply)
+employs_for : (b : Book) (now : ℕ) (m : Moment) (id : Numbers) (a : Arrived) (w : Work) (reply : Reply) → nat_lt (length b.leaves) MOST_ITEMS ≡ true → Employs b now (work_for m id a w reply)
 employs_for b now m id a w (replies.At to) e = rw e refl
 employs_for b now m id a w replies.Anonymous e = refl
 employs_for b now m id a w replies.Nobody e = refl
 
-employs_if : (b : Book) (now : ℕ) (m : Moment) (id : Numbers) (a : Arrived) (w : Work) (few : Bool) → nat_lt (length b.leaves) 1024 ≡ few → Employs b now (on_work m (length b.leaves) a w (Some id))
+employs_if : (b : Book) (now : ℕ) (m : Moment) (id : Numbers) (a : Arrived) (w : Work) (few : Bool) → nat_lt (length b.leaves) MOST_ITEMS ≡ few → Employs b now (on_work m (length b.leaves) a w (Some id))
 unfolding on_work
 employs_if b now m id a w true e = rw e (employs_for b now m id a w a.reply e)
 employs_if b now m id a w false e = rw e refl
@@ -51,7 +52,7 @@ employs_if b now m id a w false e = rw e refl
 employs : (b : Book) (now : ℕ) (m : Moment) (a : Arrived) (w : Work) (next : Option Numbers) → Employs b now (on_work m (length b.leaves) a w next)
 unfolding on_work
 employs b now m a w None = refl
-employs b now m a w (Some id) = employs_if b now m id a w (nat_lt (length b.leaves) 1024) refl
+employs b now m a w (Some id) = employs_if b now m id a w (nat_lt (length b.leaves) MOST_ITEMS) refl
 
 -- Work
 works : (b : Book) (now : ℕ) (a : Arrived) (message : Message) → IsWork message → work_plan b now a message ≡ whole b now (work_arrived (moment_of b now) a (length b.leaves) message)

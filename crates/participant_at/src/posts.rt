@@ -11,15 +11,15 @@ ghost use Rattle.participant_at.specs.Answers.{answer_message};
 use crate::leaf::Leaf;
 use at_base::epr::{Epr, Reply};
 use at_base::event::Moment;
+use at_base::fault::Fault;
 use at_base::message::Message;
 use at_base::notice::Notice;
 use at_base::outs::OutList;
 use at_base::target::Target;
 use at_base::text::Text;
-use at_base::fault::Fault;
-use endpoints::uris::protocol_of;
 use at_posts::posts::{self, push_fault, push_notice, push_reply, stored_or};
 use at_posts::{addresses, answers};
+use endpoints::uris::protocol_of;
 use std::alloc::{AllocError, Global};
 
 /// What a leaf's endpoint names.

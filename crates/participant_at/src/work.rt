@@ -12,11 +12,12 @@ use crate::rules::silent;
 use at_base::epr::{Epr, Reply};
 use at_base::event::{Arrived, Moment};
 use at_base::id::Id;
+use at_base::limits::MOST_ITEMS;
 use at_base::message::{Work, cloned_option};
 use at_base::outs::OutList;
 use at_posts::answers::accepted;
 use at_tables::cells::State;
-use by_id::list::{Alteration, MOST};
+use by_id::list::Alteration;
 use by_id::moves::unchanged;
 use by_id::plan::{Branch, Plan};
 use by_id::times::deadline_of;
@@ -143,7 +144,7 @@ pub fn on_work(
         ≡ employed (on_work moment.entry.now live arrived.now work.now moment.entry.now.next)) }
 {
     match moment.next {
-        Some(id) if live < MOST => employ_for(alloc, moment, id, arrived, work),
+        Some(id) if live < MOST_ITEMS => employ_for(alloc, moment, id, arrived, work),
         _ => refuse(alloc, arrived),
     }
 }

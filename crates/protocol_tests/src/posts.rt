@@ -2,21 +2,21 @@
 
 use crate::shared::{address_in, epr, message_name, reply_named};
 use at_base::epr::{Epr, Reply};
+use at_base::fault::Fault;
 use at_base::id::Id;
 use at_base::message::Message;
 use at_base::notice::{Kind, Notice};
 use at_base::outs::{Out, OutList, Post};
 use at_base::target::{Seat, Target};
 use at_base::text::Text;
-use endpoints::addresses::{address_of, create_id, endpoint_of, register_id, work_id};
 use at_posts::answers::{accepted, faulted, replied};
 use at_posts::list::PostList;
-use at_base::fault::Fault;
-use endpoints::uris::{atomic, completion_protocol, protocol_of};
 use at_posts::posts::{
     fault_post, notice_post, push_fault, push_notice, push_register, push_reply, push_request,
     push_stranger, register_post, reply_post, request_post, stored_or, stranger_post,
 };
+use endpoints::addresses::{address_of, create_id, endpoint_of, register_id, work_id};
+use endpoints::uris::{atomic, completion_protocol, protocol_of};
 use std::alloc::{AllocError, Global};
 use std::test::Fail;
 
@@ -398,15 +398,31 @@ fn what_is_answered(rt: HostRuntime) -> Result<(), Fail> {
     Ok(())
 }
 
-// The URIs of WS-AtomicTransaction 1.2 and the faults of WS-Coordination 1.2, section 5.
+/// Each fault, and its name.
+const FAULTS: &[(Fault, &str)] = &[
+    (Fault::InvalidState, "InvalidState"),
+    (Fault::InvalidProtocol, "InvalidProtocol"),
+    (Fault::InvalidParameters, "InvalidParameters"),
+    (Fault::CannotCreateContext, "CannotCreateContext"),
+    (
+        Fault::CannotRegisterParticipant,
+        "CannotRegisterParticipant",
+    ),
+    (Fault::UnknownTransaction, "UnknownTransaction"),
+];
+
+// The URIs of WS-AtomicTransaction 1.2, and the faults of WS-Coordination 1.2, section 4, and WS-AtomicTransaction 1.2, section 5.
 #[test]
 fn names(rt: HostRuntime) -> Result<(), Fail> {
     let uris = atomic() == "http://docs.oasis-open.org/ws-tx/wsat/2006/06"
         && protocol_of(Kind::Durable) == "http://docs.oasis-open.org/ws-tx/wsat/2006/06/Durable2PC";
-    let faults = Fault::InvalidProtocol == "InvalidProtocol"
-        && Fault::InvalidParameters == "InvalidParameters"
-        && Fault::CannotRegisterParticipant == "CannotRegisterParticipant";
-    assert!(rt; uris && faults);
+    assert!(rt; uris);
+    for (fault, name) in FAULTS {
+        let both = fault.name() == *name && Fault::named(name) == Some(*fault);
+        assert!(rt; both, "{name}");
+    }
+    let other = Fault::named("Server").is_none();
+    assert!(rt; other);
     Ok(())
 }
 

@@ -18,8 +18,9 @@ use Rattle.schedules.specs.declared.line.Leaves.TheVariants as leaves
 use Rattle.schedules.specs.declared.line.Line.{Line}
 use Rattle.schedules.specs.declared.line.Line.TheVariants as lines
 use Rattle.schedules.specs.Meanings.{◌>>=◌, count_of, begin_line, interpose_line, work_line, commit_line, rollback_line, deliver_line, flush_line, tick_line, crash_line, up_line, stop_so, filled, stop_filled, stop_line, fail_line, inject_line, meaning}
-use Rattle.schedules.specs.Values.{decimal_of, within, number_in, node_in, call_in, id_in, numbers_of, is_part, kind_in, vote_in, leaves_in, if_decoded, hex_in, largest}
-use Rattle.schedules.specs.LineTexts.{kind_word, vote_word, leaves_words, words_in, IsHex, IsNode, IsNext, IsLeft}
+use Rattle.schedules.specs.Values.{keyword, decimal_of, within, number_in, node_in, call_in, id_in, numbers_of, is_part, kind_in, vote_in, leaves_in, if_decoded, hex_in, largest}
+use Rattle.schedules.specs.LineTexts.{leaves_words, words_in, IsHex, IsNode, IsNext, IsLeft}
+use Rattle.at_base.specs.Names.{kind_letter, vote_name}
 use Rattle.schedules.proofs.Decimals.{spelled}
 use Rattle.schedules.proofs.Ids.{is_id}
 
@@ -64,23 +65,23 @@ id w i e =
     by_case j true false c p q t e = absurd cc
     by_case j false b c p q t e = absurd cc
 
-pub kind : (w : List ℕ) (k : Kind) → kind_in w ≡ Ok k → w ≡ kind_word k
+pub kind : (w : List ℕ) (k : Kind) → kind_in w ≡ Ok k → w ≡ kind_letter k
 kind w k e = by_case (bytes_eq w (codes "d")) (bytes_eq w (codes "v")) refl refl e
   where
     by_case : (a b : Bool) → bytes_eq w (codes "d") ≡ a → bytes_eq w (codes "v") ≡ b
-        → cond a (Ok kinds.Durable) (cond b (Ok kinds.Volatile) (Err causes.Keyword)) ≡ Ok k → w ≡ kind_word k
-    by_case true b p q e = (bytes_eq-Decides w (codes "d")).0 p ∙ ap kind_word (same kinds.Durable k e)
-    by_case false true p q e = (bytes_eq-Decides w (codes "v")).0 q ∙ ap kind_word (same kinds.Volatile k e)
+        → keyword (cond a (Some kinds.Durable) (cond b (Some kinds.Volatile) None)) ≡ Ok k → w ≡ kind_letter k
+    by_case true b p q e = (bytes_eq-Decides w (codes "d")).0 p ∙ ap kind_letter (same kinds.Durable k e)
+    by_case false true p q e = (bytes_eq-Decides w (codes "v")).0 q ∙ ap kind_letter (same kinds.Volatile k e)
     by_case false false p q e = absurd cc
 
-pub vote : (w : List ℕ) (k : Vote) → vote_in w ≡ Ok k → w ≡ vote_word k
+pub vote : (w : List ℕ) (k : Vote) → vote_in w ≡ Ok k → w ≡ vote_name k
 vote w k e = by_case (bytes_eq w (codes "prepared")) (bytes_eq w (codes "readonly")) (bytes_eq w (codes "aborted")) refl refl refl e
   where
     by_case : (a b c : Bool) → bytes_eq w (codes "prepared") ≡ a → bytes_eq w (codes "readonly") ≡ b → bytes_eq w (codes "aborted") ≡ c
-        → cond a (Ok votes.Prepared) (cond b (Ok votes.ReadOnly) (cond c (Ok votes.Aborted) (Err causes.Keyword))) ≡ Ok k → w ≡ vote_word k
-    by_case true b c p q r e = (bytes_eq-Decides w (codes "prepared")).0 p ∙ ap vote_word (same votes.Prepared k e)
-    by_case false true c p q r e = (bytes_eq-Decides w (codes "readonly")).0 q ∙ ap vote_word (same votes.ReadOnly k e)
-    by_case false false true p q r e = (bytes_eq-Decides w (codes "aborted")).0 r ∙ ap vote_word (same votes.Aborted k e)
+        → keyword (cond a (Some votes.Prepared) (cond b (Some votes.ReadOnly) (cond c (Some votes.Aborted) None))) ≡ Ok k → w ≡ vote_name k
+    by_case true b c p q r e = (bytes_eq-Decides w (codes "prepared")).0 p ∙ ap vote_name (same votes.Prepared k e)
+    by_case false true c p q r e = (bytes_eq-Decides w (codes "readonly")).0 q ∙ ap vote_name (same votes.ReadOnly k e)
+    by_case false false true p q r e = (bytes_eq-Decides w (codes "aborted")).0 r ∙ ap vote_name (same votes.Aborted k e)
     by_case false false false p q r e = absurd cc
 
 -- one word that says what a stop leaves

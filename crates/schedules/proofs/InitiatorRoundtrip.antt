@@ -9,7 +9,7 @@ use Rattle.schedules.specs.InitiatorLineTexts.{AreAsked, IsAsked, IsMade, are_vi
 use Rattle.schedules.specs.Schedules.{at_line}
 use Rattle.schedules.specs.Values.{kind_in, largest, number_in, vote_in}
 use Rattle.schedules.specs.Words.{is_plain, unless_empty, words_of}
-use Rattle.schedules.specs.LineTexts.{kind_word, vote_word}
+use Rattle.at_base.specs.Names.{kind_letter, vote_name}
 use Rattle.schedules.proofs.ScheduleRoundtrip.{all_words, decimal_visible, kind_there, kind_visible, ms_back, number_there, then_, vote_there, vote_visible, words_plain}
 use Rattle.schedules.proofs.InitiatorWholes.{fed_written}
 use Rattle.schedules.proofs.InitiatorRest.{one_more}
@@ -41,7 +41,7 @@ asked_back made (lines.Work a url k v key value) few (h, (seen, fits), (key_seen
     let all : (is_content key && is_content value && is_base url) ≡ true = rw key_fits (rw value_fits fits) in
     record {
       visible = rw p.1 (rw seen (rw (kind_visible k) (rw (vote_visible v) (rw key_seen (rw value_seen refl)))));
-      read = then_ (number_in 1 made (decimal a)) _ a _ p.0 (then_ (kind_in (kind_word k)) _ k _ (kind_there k) (then_ (vote_in (vote_word v)) _ v _ (vote_there v)
+      read = then_ (number_in 1 made (decimal a)) _ a _ p.0 (then_ (kind_in (kind_letter k)) _ k _ (kind_there k) (then_ (vote_in (vote_name v)) _ v _ (vote_there v)
           (then_ (allowed (is_content key && is_content value && is_base url)) _ tt _ (ap allowed all) refl)));
     }
 asked_back made (lines.Commit a) few h =

@@ -15,7 +15,7 @@ use Rattle.schedules.specs.InitiatorLineTexts.{AreAsked, IsAsked, are_visible, i
 use Rattle.schedules.specs.Schedules.{Answers, at_line}
 use Rattle.schedules.specs.Values.{kind_in, largest, number_in, vote_in}
 use Rattle.schedules.specs.Words.{is_plain, is_printable, lines_of, words_of}
-use Rattle.schedules.specs.LineTexts.{kind_word, vote_word}
+use Rattle.at_base.specs.Names.{kind_letter, vote_name}
 use Rattle.schedules.proofs.Bounds.{arm, bound, kind, number, same, vote}
 use Rattle.schedules.proofs.Wholes.{fed, fed_ended, gives, placed, same_lines}
 
@@ -79,8 +79,8 @@ interpose_read made (a ∷ url ∷ x ∷ more) l v e = absurd cc
 record IsTask (url k v key value : List ℕ) (activity : ℕ) (l : InitiatorLine) : Type 0 where
   kind : Kind
   vote : Vote
-  kind_is : k ≡ kind_word kind
-  vote_is : v ≡ vote_word vote
+  kind_is : k ≡ kind_letter kind
+  vote_is : v ≡ vote_name vote
   fits : (is_content key && is_content value && is_base url) ≡ true
   line : lines.Work activity url kind vote key value ≡ l
 

@@ -24,7 +24,8 @@ use Rattle.schedules.specs.Meanings.{◌>>=◌}
 use Rattle.schedules.specs.Schedules.{at_line, first_line, first_words, lines_from, next_line, next_words, schedule_in, schedule_of}
 use Rattle.schedules.specs.Values.{decimal_of, within, number_in, node_in, call_in, id_in, if_decoded, kind_in, vote_in, hex_in, largest}
 use Rattle.schedules.specs.Words.{unless_empty, is_plain, is_printable, lines_of, words_of}
-use Rattle.schedules.specs.LineTexts.{IsCall, IsHex, IsNext, IsNode, IsSchedule, kind_word, line_text, vote_word, words_in, written}
+use Rattle.schedules.specs.LineTexts.{IsCall, IsHex, IsNext, IsNode, IsSchedule, line_text, words_in, written}
+use Rattle.at_base.specs.Names.{kind_letter, vote_name}
 use Rattle.schedules.specs.InitiatorLineTexts.{are_visible, is_visible}
 use Rattle.schedules.proofs.Decimals.{own, valued}
 use Rattle.schedules.proofs.Ids.{id_there}
@@ -55,11 +56,11 @@ id_visible i h =
     list_all-append is_visible (decimal i.incarnation) (hyphen ∷ decimal i.counter)
     ∙ rw (decimal_visible i.incarnation (omega arith)) (decimal_visible i.counter (omega arith))
 
-pub kind_visible : (k : Kind) → are_visible (kind_word k) ≡ true
+pub kind_visible : (k : Kind) → are_visible (kind_letter k) ≡ true
 kind_visible kinds.Durable = refl
 kind_visible kinds.Volatile = refl
 
-pub vote_visible : (v : Vote) → are_visible (vote_word v) ≡ true
+pub vote_visible : (v : Vote) → are_visible (vote_name v) ≡ true
 vote_visible votes.Prepared = refl
 vote_visible votes.ReadOnly = refl
 vote_visible votes.Aborted = refl
@@ -126,11 +127,11 @@ hex_visible w h = by_case (decode_of w) refl h
     by_case (Ok bytes) d e = all_visible w (decode_of-ok w bytes d).1
     by_case (Err x) d e = absurd cc
 
-pub kind_there : (k : Kind) → kind_in (kind_word k) ≡ Ok k
+pub kind_there : (k : Kind) → kind_in (kind_letter k) ≡ Ok k
 kind_there kinds.Durable = refl
 kind_there kinds.Volatile = refl
 
-pub vote_there : (v : Vote) → vote_in (vote_word v) ≡ Ok v
+pub vote_there : (v : Vote) → vote_in (vote_name v) ≡ Ok v
 vote_there votes.Prepared = refl
 vote_there votes.ReadOnly = refl
 vote_there votes.Aborted = refl
@@ -174,7 +175,7 @@ next_back nodes (lines.Work i a s k v) few (h, j, m) =
     record {
       visible = rw p.1 (rw (id_visible a j) (rw q.1 (rw (kind_visible k) (rw (vote_visible v) refl))));
       read = then_ (node_in nodes (decimal i)) _ i _ p.0 (then_ (node_in nodes (decimal s)) _ s _ q.0 (then_ (id_in (id_text a)) _ a _ (id_back a j)
-          (then_ (kind_in (kind_word k)) _ k _ (kind_there k) (then_ (vote_in (vote_word v)) _ v _ (vote_there v) refl))));
+          (then_ (kind_in (kind_letter k)) _ k _ (kind_there k) (then_ (vote_in (vote_name v)) _ v _ (vote_there v) refl))));
     }
 next_back nodes (lines.Commit i a) few (h, k) =
     let p = node_back nodes i few h in

@@ -5,13 +5,13 @@ use Rattle.schedules.specs.declared.initiator_line.InitiatorLine.{InitiatorLine}
 use Rattle.schedules.specs.declared.initiator_line.InitiatorLine.TheVariants as lines
 use Rattle.schedules.specs.InitiatorLines.{is_base, is_content, made_by}
 use Rattle.schedules.specs.Values.{largest}
-use Rattle.schedules.specs.LineTexts.{kind_word, vote_word}
+use Rattle.at_base.specs.Names.{kind_letter, vote_name}
 
 abbrev pub words_in : InitiatorLine → List (List ℕ)
 words_in (lines.Begin url ms) = codes "begin" ∷ url ∷ decimal ms ∷ []
 words_in (lines.Interpose a url) = codes "interpose" ∷ decimal a ∷ url ∷ []
 words_in (lines.Work a url kind vote key value) =
-    codes "work" ∷ decimal a ∷ url ∷ kind_word kind ∷ vote_word vote ∷ key ∷ value ∷ []
+    codes "work" ∷ decimal a ∷ url ∷ kind_letter kind ∷ vote_name vote ∷ key ∷ value ∷ []
 words_in (lines.Commit a) = codes "commit" ∷ decimal a ∷ []
 words_in (lines.Rollback a) = codes "rollback" ∷ decimal a ∷ []
 words_in lines.Wait = codes "wait" ∷ []

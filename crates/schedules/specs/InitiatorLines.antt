@@ -1,5 +1,6 @@
 -- What a text says as the lines of an initiator: the lines, or the first bad one with the first cause that holds of it.
 use Rattle.std.specs.Prelude.{ℕ, List, [], ◌∷◌, ◌++◌, ◌+◌, ◌≡◌, Bool, true, false, ◌&&◌, not, nat_le, Option, Some, None, Result, Ok, Err, if◌then◌else◌, bytes_eq, codes, length}
+use Rattle.at_base.specs.declared.limits.TheConstants.{MOST_BASE, MOST_FIELD}
 use Rattle.url.specs.Parts.{Parts}
 use Rattle.url.specs.Parser.{Parsed, parse_url}
 use Rattle.schedules.specs.declared.initiator_line.InitiatorLine.{InitiatorLine}
@@ -29,11 +30,11 @@ is_parsed_base (Err fault) = false
 
 -- the base URL of a node
 abbrev pub is_base : List ℕ → Bool
-is_base word = nat_le (length word) 1024 && is_parsed_base (parse_url None word)
+is_base word = nat_le (length word) MOST_BASE && is_parsed_base (parse_url None word)
 
 -- the key or the value of a Work
 abbrev pub is_content : List ℕ → Bool
-is_content word = nat_le (length word) 256
+is_content word = nat_le (length word) MOST_FIELD
 
 -- what may not stand there
 abbrev pub allowed : Bool → Result (Unit {0}) Cause

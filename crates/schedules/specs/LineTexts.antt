@@ -1,25 +1,13 @@
 -- How lines are written, and which lists of lines are schedules.
 use Rattle.std.specs.Prelude.{ℕ, List, [], ◌∷◌, ◌++◌, ◌≡◌, ◌≤◌, Ok, codes, decimal, flat_map, length}
 use Rattle.std.specs.List.{AllByRecursion, join_with_byte}
+use Rattle.at_base.specs.Names.{kind_letter, vote_name}
 use Rattle.at_base.specs.IdText.{IsId, id_text}
-use Rattle.at_base.specs.declared.notice.Kind.{Kind}
-use Rattle.at_base.specs.declared.notice.Kind.TheVariants as kinds
-use Rattle.at_base.specs.declared.notice.Vote.{Vote}
-use Rattle.at_base.specs.declared.notice.Vote.TheVariants as votes
 use Rattle.schedules.specs.declared.line.Leaves.{Leaves}
 use Rattle.schedules.specs.declared.line.Leaves.TheVariants as leaves
 use Rattle.schedules.specs.declared.line.Line.{Line}
 use Rattle.schedules.specs.declared.line.Line.TheVariants as lines
 use Rattle.schedules.specs.Values.{hex_in, largest}
-
-abbrev pub kind_word : Kind → List ℕ
-kind_word kinds.Durable = codes "d"
-kind_word kinds.Volatile = codes "v"
-
-abbrev pub vote_word : Vote → List ℕ
-vote_word votes.Prepared = codes "prepared"
-vote_word votes.ReadOnly = codes "readonly"
-vote_word votes.Aborted = codes "aborted"
 
 abbrev pub leaves_words : Leaves → List (List ℕ)
 leaves_words leaves.Keep = codes "keep" ∷ []
@@ -32,7 +20,7 @@ words_in (lines.Begin node coordinator ms) = codes "begin" ∷ decimal node ∷ 
 words_in (lines.Interpose node activity coordinator) =
     codes "interpose" ∷ decimal node ∷ id_text activity ∷ decimal coordinator ∷ []
 words_in (lines.Work node activity service kind vote) =
-    codes "work" ∷ decimal node ∷ id_text activity ∷ decimal service ∷ kind_word kind ∷ vote_word vote ∷ []
+    codes "work" ∷ decimal node ∷ id_text activity ∷ decimal service ∷ kind_letter kind ∷ vote_name vote ∷ []
 words_in (lines.Commit node activity) = codes "commit" ∷ decimal node ∷ id_text activity ∷ []
 words_in (lines.Rollback node activity) = codes "rollback" ∷ decimal node ∷ id_text activity ∷ []
 words_in (lines.Deliver message) = codes "deliver" ∷ decimal message ∷ []

@@ -6,10 +6,9 @@ use Rattle.at_base.specs.IdText.{hyphen, id_text}
 use Rattle.hex.specs.Hex.{decode_of}
 use Rattle.hex.specs.declared.error.FromHexError.{FromHexError}
 use Rattle.at_base.specs.Numbers.{Numbers}
+use Rattle.at_base.specs.Names.{kind_lettered, vote_named}
 use Rattle.at_base.specs.declared.notice.Kind.{Kind}
-use Rattle.at_base.specs.declared.notice.Kind.TheVariants as kinds
 use Rattle.at_base.specs.declared.notice.Vote.{Vote}
-use Rattle.at_base.specs.declared.notice.Vote.TheVariants as votes
 use Rattle.schedules.specs.declared.line.Cause.{Cause}
 use Rattle.schedules.specs.declared.line.Cause.TheVariants.{Number, Identifier, Keyword, Hexadecimal}
 use Rattle.schedules.specs.declared.line.Leaves.{Leaves}
@@ -55,18 +54,16 @@ spelled_id id word =
 abbrev pub id_in : List ℕ → Result Numbers Cause
 id_in word = spelled_id (numbers_of word) word
 
+-- what a word says, where it says something
+abbrev pub keyword : {A : Type 0} → Option A → Result A Cause
+keyword (Some a) = Ok a
+keyword None = Err Keyword
+
 abbrev pub kind_in : List ℕ → Result Kind Cause
-kind_in word =
-    if bytes_eq word (codes "d") then Ok kinds.Durable
-    else if bytes_eq word (codes "v") then Ok kinds.Volatile
-    else Err Keyword
+kind_in word = keyword (kind_lettered word)
 
 abbrev pub vote_in : List ℕ → Result Vote Cause
-vote_in word =
-    if bytes_eq word (codes "prepared") then Ok votes.Prepared
-    else if bytes_eq word (codes "readonly") then Ok votes.ReadOnly
-    else if bytes_eq word (codes "aborted") then Ok votes.Aborted
-    else Err Keyword
+vote_in word = keyword (vote_named word)
 
 -- what a stop leaves, where one word says it
 abbrev pub leaves_in : List ℕ → Result Leaves Cause

@@ -9,16 +9,11 @@ ghost use Rattle.schedules.specs.declared.initiator_line.WordFault.TheVariants.{
 use crate::initiator_line::{InitiatorLine, WordFault};
 use crate::line::Cause;
 use crate::values::{read_kind, read_number, read_vote};
+use at_base::limits::{MOST_BASE, MOST_FIELD};
 use at_base::notice::{Kind, Vote};
 use at_base::text::Text;
 use std::alloc::{AllocError, Global};
 use url::{ParseError, Url};
-
-/// The most bytes of a base URL.
-const BASE_BYTES: usize = 1024;
-
-/// The most bytes of a key and of a value.
-const CONTENT_BYTES: usize = 256;
 
 fn wrong(cause: Cause) -> WordFault
     ensures { result ≡ Wrong cause }
@@ -74,7 +69,7 @@ fn is_plain_http(url: &Url) -> bool
 fn is_base(alloc: Global, word: &str) -> Result<bool, AllocError>
     ensures { IfOk result (λ is. is ≡ is_base word.now) }
 {
-    if word.len() > BASE_BYTES {
+    if word.len() > MOST_BASE {
         return Ok(false);
     }
     match Url::parse(alloc, word) {
@@ -97,7 +92,7 @@ fn base(alloc: Global, word: &str) -> Result<(), WordFault>
 fn parts(alloc: Global, key: &str, value: &str, url: &str) -> Result<(), WordFault>
     ensures { Finds (allowed (is_content key.now && is_content value.now && is_base url.now)) result }
 {
-    if key.len() > CONTENT_BYTES || value.len() > CONTENT_BYTES {
+    if key.len() > MOST_FIELD || value.len() > MOST_FIELD {
         return Err(wrong(Cause::Keyword));
     }
     base(alloc, url)

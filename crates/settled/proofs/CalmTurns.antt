@@ -15,7 +15,7 @@ use Rattle.at_base.specs.declared.epr.Epr.{Epr}
 use Rattle.at_base.specs.declared.target.Target.{Target}
 use Rattle.std.proofs.lemmas.Bool.{eq-eqb}
 use Rattle.at_model.specs.Book.{Book}
-use Rattle.at_model.specs.Due.{resend_after}
+use Rattle.at_base.specs.declared.limits.TheConstants.{RESEND_AFTER}
 use Rattle.at_model.specs.Step.{Outcome, Plan, is_due, items_of, plan}
 use Rattle.at_model.specs.World.{Deliver, Node, Posted, Tick, Turn, Turning, World, accepted_in, answer_plan, arrival_of, arrival_plan, decoded_at, new_nodes, at_some_node, counted, decoded, deliver, due_step, due_steps, happened_at, is_receiver, later, nth, on_book, put_book, put_nth, send_all, step_by, take_step, take_turn, ticked, turned, with_post, with_record, world_step, Hosts, HaveOwnAddresses}
 use Rattle.endpoints.specs.Addresses.{target_at}
@@ -326,24 +326,24 @@ tick_plan_stands hosts inv n k w x b now distinct found up a =
     take_stands hosts inv n k w x b events.Tick now (drop k w.posted) distinct found (subst (Reached hosts) (begins w n x b found up) a.reached) a.passed tt tt (λ q i. inl i)
     (subst (λ (z : World). inv.Of z (drop k w.posted)) (begins w n x b found up) a.holds)
 
-pub tick_after : (hosts : Hosts) (inv : Invariant hosts) (n k : ℕ) (w : World) → HaveOwnAddresses hosts → After hosts inv k w → After hosts inv k (world_step w (Turn n (Tick resend_after) [] None))
+pub tick_after : (hosts : Hosts) (inv : Invariant hosts) (n k : ℕ) (w : World) → HaveOwnAddresses hosts → After hosts inv k w → After hosts inv k (world_step w (Turn n (Tick RESEND_AFTER) [] None))
 unfolding world_step
 tick_after hosts inv n k w distinct a = by_node (nth n w.nodes) refl
   where
     by_book : (x : Node) (o : Option Book) → nth n w.nodes ≡ Some x → x.book ≡ o
-        → After hosts inv k (on_book o (λ b. take_turn n (x.clock + resend_after) (plan b events.Tick (x.clock + resend_after)) (calm (ticked n (later resend_after x) w) b)) w)
+        → After hosts inv k (on_book o (λ b. take_turn n (x.clock + RESEND_AFTER) (plan b events.Tick (x.clock + RESEND_AFTER)) (calm (ticked n (later RESEND_AFTER x) w) b)) w)
     by_book x None found up = a
     by_book x (Some b) found up =
-        let v : World = ticked n (later resend_after x) w in
-        taken_after hosts inv n k (x.clock + resend_after) (plan b events.Tick (x.clock + resend_after)) (calm v b) distinct
-        (tick_plan_stands hosts inv n k v (later resend_after x) b (x.clock + resend_after) distinct (put_this w.nodes n x (later resend_after x) found) up
+        let v : World = ticked n (later RESEND_AFTER x) w in
+        taken_after hosts inv n k (x.clock + RESEND_AFTER) (plan b events.Tick (x.clock + RESEND_AFTER)) (calm v b) distinct
+        (tick_plan_stands hosts inv n k v (later RESEND_AFTER x) b (x.clock + RESEND_AFTER) distinct (put_this w.nodes n x (later RESEND_AFTER x) found) up
         (record {
-          reached = waited w n x (x.clock + resend_after) a.reached found refl;
+          reached = waited w n x (x.clock + RESEND_AFTER) a.reached found refl;
           passed = a.passed;
-          holds = inv.waits w n x (x.clock + resend_after) (drop k w.posted) found a.holds;
+          holds = inv.waits w n x (x.clock + RESEND_AFTER) (drop k w.posted) found a.holds;
         }))
 
-    by_node : (o : Option Node) → nth n w.nodes ≡ o → After hosts inv k (at_some_node (Turn n (Tick resend_after) [] None) o w)
+    by_node : (o : Option Node) → nth n w.nodes ≡ o → After hosts inv k (at_some_node (Turn n (Tick RESEND_AFTER) [] None) o w)
     by_node None found = a
     by_node (Some x) found = by_book x x.book found refl
 

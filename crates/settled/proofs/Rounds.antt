@@ -13,7 +13,7 @@ use Rattle.at_base.specs.declared.message.Message.{Message}
 use Rattle.at_base.specs.declared.message.Message.TheVariants as messages
 use Rattle.at_base.specs.declared.target.Target.{Target}
 use Rattle.at_model.specs.Book.{Book}
-use Rattle.at_model.specs.Due.{resend_after}
+use Rattle.at_base.specs.declared.limits.TheConstants.{RESEND_AFTER}
 use Rattle.at_model.specs.World.{Deliver, Node, Posted, Tick, Turn, Who, World, WorldEvent, new_nodes, nth, place_of, receiver_of, run_of, run_on, world_step, Hosts, HaveOwnAddresses}
 use Rattle.model_laws.specs.Agreement.{IsIn}
 use Rattle.model_laws.specs.ReachedWorlds.{Reached}
@@ -49,9 +49,9 @@ record Family (hosts : Hosts) : Type 1 where
       → (inv (u + 1)).Of (ticked_at (u + 1) (run_of hosts es)) (drop j (ticked_at (u + 1) (run_of hosts es)).posted)
 
 tick_walk : (hosts : Hosts) (f : Family hosts) (u j : ℕ) (w : World) → HaveOwnAddresses hosts → IsOfRun hosts w → After hosts (f.inv u) j w
-    → After hosts (f.inv (u + 1)) j (world_step w (Turn (u + 1) (Tick resend_after) [] None))
+    → After hosts (f.inv (u + 1)) j (world_step w (Turn (u + 1) (Tick RESEND_AFTER) [] None))
 tick_walk hosts f u j w distinct r a =
-    subst (λ z. After hosts (f.inv u) j z → After hosts (f.inv (u + 1)) j (world_step z (Turn (u + 1) (Tick resend_after) [] None))) (sym r.is) of_run a
+    subst (λ z. After hosts (f.inv u) j z → After hosts (f.inv (u + 1)) j (world_step z (Turn (u + 1) (Tick RESEND_AFTER) [] None))) (sym r.is) of_run a
   where
     of_run : After hosts (f.inv u) j (run_of hosts r.events) → After hosts (f.inv (u + 1)) j (ticked_at (u + 1) (run_of hosts r.events))
     of_run b =
@@ -62,7 +62,7 @@ ticks_walk : (hosts : Hosts) (f : Family hosts) (j u m : ℕ) (xs : List Node) (
     → After hosts (f.inv m) j (all_also (ticks (u + 1) xs) s).world
 ticks_walk hosts f j u m [] s distinct r e a = let same : u ≡ m = omega (arith, e) in subst (λ k. After hosts (f.inv k) j s.world) same a
 ticks_walk hosts f j u m (x ∷ xs) s distinct r e a =
-    let tick : WorldEvent = Turn (u + 1) (Tick resend_after) [] None in
+    let tick : WorldEvent = Turn (u + 1) (Tick RESEND_AFTER) [] None in
     ticks_walk hosts f j (u + 1) m xs (also tick s) distinct (further_run hosts s.world tick r) (omega (arith, e)) (tick_walk hosts f u j s.world distinct r a)
 
 -- the deliveries

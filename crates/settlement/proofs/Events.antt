@@ -2,6 +2,7 @@
 use Rattle.std.proofs.Common.{ℕ, zero, suc, ◌+◌, ◌-◌, ◌<◌, ◌≤◌, ◌≡◌, refl, List, [], ◌∷◌, ◌++◌, length, map, drop, ap, ◌∙◌, sym, arith}
 use Rattle.std.proofs.lemmas.List.{append-nil, append_assoc, map-append}
 use Rattle.std.specs.Prelude.{None, option_and_then}
+use Rattle.at_base.specs.declared.limits.TheConstants.{RESEND_AFTER}
 use Rattle.at_model.specs.World.{Node, Tick, Turn, WorldEvent, nth, run_of, example_hosts}
 use Rattle.model_laws.specs.Settlement.{ticks, up_if, ups}
 use Rattle.settling.proofs.Places.{nth_behind}
@@ -54,23 +55,23 @@ no_more_ups (x ∷ xs) zero m old all h e = absurd (omega (arith, h))
 no_more_ups (x ∷ xs) (suc place) m old all h e = no_more_ups xs place m old all (omega (arith, h)) e
 
 ticks_from : (place m : ℕ) (nodes : List Node) → place < length nodes
-    → ticks m (drop place nodes) ≡ Turn m (Tick 5000) [] None ∷ ticks (m + 1) (drop (place + 1) nodes)
+    → ticks m (drop place nodes) ≡ Turn m (Tick RESEND_AFTER) [] None ∷ ticks (m + 1) (drop (place + 1) nodes)
 ticks_from place m [] h = absurd (omega (arith, h))
 ticks_from zero m (x ∷ xs) h = refl
 ticks_from (suc place) m (x ∷ xs) h =
     let more : suc (place + 1) ≡ suc place + 1 = omega arith in
-    ticks_from place m xs (omega (arith, h)) ∙ ap (λ k. Turn m (Tick 5000) [] None ∷ ticks (m + 1) (drop k (x ∷ xs))) more
+    ticks_from place m xs (omega (arith, h)) ∙ ap (λ k. Turn m (Tick RESEND_AFTER) [] None ∷ ticks (m + 1) (drop k (x ∷ xs))) more
 
 tick_behind : (place : ℕ) (nodes : List Node) (old new all : List WorldEvent) → place < length nodes
-    → new ≡ old ++ Turn (place + 1) (Tick 5000) [] None ∷ []
+    → new ≡ old ++ Turn (place + 1) (Tick RESEND_AFTER) [] None ∷ []
     → old ++ ticks (place + 1) (drop place nodes) ≡ all → new ++ ticks (place + 1 + 1) (drop (place + 1) nodes) ≡ all
 tick_behind place nodes old new all h e k =
     ap (λ es. es ++ ticks (place + 1 + 1) (drop (place + 1) nodes)) e
-    ∙ (append_assoc old (Turn (place + 1) (Tick 5000) [] None ∷ []) (ticks (place + 1 + 1) (drop (place + 1) nodes))
+    ∙ (append_assoc old (Turn (place + 1) (Tick RESEND_AFTER) [] None ∷ []) (ticks (place + 1 + 1) (drop (place + 1) nodes))
     ∙ (ap (λ es. old ++ es) (sym (ticks_from place (place + 1) nodes h)) ∙ k))
 
 pub tick_more : (place : ℕ) (r : Run) (old new all : List WorldEvent) → place < r.count
-    → new ≡ old ++ Turn (place + 1) (Tick 5000) [] None ∷ []
+    → new ≡ old ++ Turn (place + 1) (Tick RESEND_AFTER) [] None ∷ []
     → old ++ ticks (place + 1) (drop place (world_of r).nodes) ≡ all → new ++ ticks (place + 1 + 1) (drop (place + 1) (world_of r).nodes) ≡ all
 tick_more place r old new all h e k = tick_behind place (world_of r).nodes old new all (omega (arith, h, nodes_counted r)) e k
 

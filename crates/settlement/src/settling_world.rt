@@ -1,6 +1,7 @@
 //! A world on its way to rest.
 
 ghost use Rattle.std.specs.Prelude.{ℕ, ◌≡◌, ◌≤◌, ◌<◌, ◌+◌, ◌++◌, ◌∷◌, [], IfOk, IfSome, OnOk, Some, None, length, map, drop};
+ghost use Rattle.at_base.specs.declared.limits.TheConstants.{RESEND_AFTER};
 ghost use Rattle.at_model.specs.World.{Deliver, Tick, Turn, Up, world_step};
 ghost use Rattle.model_laws.specs.Settlement.{all_also, all_up, also, first_received, settle_rounds, ticks, up_if, ups};
 ghost use Rattle.settlement.specs.Holdings.{held_up};
@@ -8,6 +9,7 @@ ghost use Rattle.settling.specs.Drains.{Delivers, IsDrained};
 ghost use Rattle.world_laws.specs.Events.{event_of, input_of};
 ghost use Rattle.world_laws.specs.Runs.{book_at, world_of};
 
+use at_base::limits::RESEND_AFTER;
 use std::alloc::{AllocError, Global};
 use std::marker::Model;
 use world_laws::event::{Fates, Input, WorldEvent};
@@ -16,9 +18,6 @@ use world_laws::world::{Stepped, World, run_world};
 
 /// A world takes no more events.
 const MOST: usize = 4_294_967_295;
-
-/// How long each node waits before it sends again, in milliseconds.
-const WAIT: u32 = 5_000;
 
 /// How often each node ticks.
 const ROUNDS: u8 = 8;
@@ -53,9 +52,9 @@ fn turn(alloc: Global, node: u8, input: Input) -> WorldEvent
 }
 
 fn tick(alloc: Global, node: u8) -> WorldEvent
-    ensures { event_of result ≡ Turn node (Tick 5000) [] None }
+    ensures { event_of result ≡ Turn node (Tick RESEND_AFTER) [] None }
 {
-    turn(alloc, node, Input::Tick(WAIT))
+    turn(alloc, node, Input::Tick(RESEND_AFTER))
 }
 
 fn deliver(alloc: Global, number: u64, node: u8) -> WorldEvent

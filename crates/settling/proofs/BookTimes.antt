@@ -2,6 +2,7 @@
 use Rattle.std.specs.Prelude.{ℕ, List, [], ◌∷◌, Option, Some, None, Bool, true, false, nat_lt, if◌then◌else◌, ◌≡◌, ◌≤◌}
 use Rattle.std.specs.List.{AllByRecursion}
 use Rattle.std.proofs.Common.{arith, sym, subst}
+use Rattle.at_base.specs.declared.limits.TheConstants.{MOST_ITEMS}
 use Rattle.at_base.specs.Numbers.{Numbers}
 use Rattle.at_base.specs.declared.event.Arrived.{Arrived}
 use Rattle.at_base.specs.declared.event.Event.{Event}
@@ -159,7 +160,7 @@ made_leaf : (m : Moment) (live : ℕ) (a : Arrived) (w : Work) (id : Numbers) (l
 unfolding on_work LeafIn
 made_leaf m live a w id l e =
     subst (IfThere (LeafIn m.now)) e
-    (either_of (λ x. IfThere (LeafIn m.now) x.leaf) (nat_lt live 1024) (work_for m id a w a.reply) (refuse_work a) (λ k. by_reply a.reply) (λ k. tt))
+    (either_of (λ x. IfThere (LeafIn m.now) x.leaf) (nat_lt live MOST_ITEMS) (work_for m id a w a.reply) (refuse_work a) (λ k. by_reply a.reply) (λ k. tt))
   where
     by_reply : (r : Reply) → IfThere (LeafIn m.now) (work_for m id a w r).leaf
     by_reply (replies.At reply) = now_by m.now

@@ -2,6 +2,7 @@
 use Rattle.std.specs.Prelude.{ℕ, List, [], ◌∷◌, Option, Some, None, Bool, true, false, is_none, ◌≡◌, refl, if◌then◌else◌, ◌&&◌, bytes_eq, nat_lt}
 use Rattle.std.specs.List.{list_any, AllByRecursion}
 use Rattle.std.proofs.Common.{sym, subst}
+use Rattle.at_base.specs.declared.limits.TheConstants.{MOST_ITEMS}
 use Rattle.at_base.specs.Numbers.{Numbers}
 use Rattle.at_base.specs.declared.epr.Epr.{Epr}
 use Rattle.at_base.specs.declared.epr.Reply.{Reply}
@@ -279,7 +280,7 @@ pub created_joined : (m : Moment) (live : ℕ) (a : Arrived) (c : Create) (id : 
 unfolding on_create
 created_joined m live a c id t e =
     subst (IfThere Joined) e
-    (either_of (λ x. IfThere Joined x.transaction) (bytes_eq c.coordination atomic && nat_lt live 1024) (create_in m id a c c.current) (refuse_create a)
+    (either_of (λ x. IfThere Joined x.transaction) (bytes_eq c.coordination atomic && nat_lt live MOST_ITEMS) (create_in m id a c c.current) (refuse_create a)
     (λ k. in_joined m id a c c.current) (λ k. tt))
 
 voted_joined : (id : Numbers) (superior : Epr) (seats : List Seated) (committed : Bool) → Joined (recovered_voted id superior seats committed)

@@ -20,7 +20,8 @@ use Rattle.at_tables.specs.Names.{is_state}
 use Rattle.at_model.specs.Abort.{Alone, abort, until_rolled_back}
 use Rattle.at_model.specs.Arrivals.{answer_request, context_of, is_registering, request_answered, request_left, request_of, request_stands, request_under}
 use Rattle.at_model.specs.Book.{Activity, Book, is_id, Leaf, Link, Phase, Request, Superior, Transaction, transaction_id}
-use Rattle.at_model.specs.Due.{activity_due, activity_reached, Expired, Nothing, Over, Reached, Unanswered, is_quiet, is_some_post, leaf_due, leaf_reached, link_again, links_again, register_again_at, resend_after, seats_again, transaction_again, transaction_due, transaction_reached}
+use Rattle.at_model.specs.Due.{activity_due, activity_reached, Expired, Nothing, Over, Reached, Unanswered, is_quiet, is_some_post, leaf_due, leaf_reached, link_again, links_again, register_again_at, seats_again, transaction_again, transaction_due, transaction_reached}
+use Rattle.at_base.specs.declared.limits.TheConstants.{RESEND_AFTER}
 use Rattle.at_model.specs.Moves.{Change, Decision, Goes, Records, Moving, begin, forgotten, posts, stays}
 use Rattle.at_model.specs.Phases.{upwards}
 use Rattle.at_model.specs.Posts.{reply_post}
@@ -60,7 +61,7 @@ behind_among all ps = among ps (λ p i. in_behind all ps p i)
 -- later it is quiet as well
 pub quiet_later : (now later : ℕ) (o : Option ℕ) → now ≤ later → is_quiet now o ≡ true → is_quiet later o ≡ true
 quiet_later now later None h e = refl
-quiet_later now later (Some s) h e = let old : s + resend_after ≤ now = leb-true (s + resend_after) now e in le-leb (s + resend_after) later (omega (arith, old, h))
+quiet_later now later (Some s) h e = let old : s + RESEND_AFTER ≤ now = leb-true (s + RESEND_AFTER) now e in le-leb (s + RESEND_AFTER) later (omega (arith, old, h))
 
 -- what is left has asked, or aborts
 abbrev pub HasAsked : List ℕ → List Post → Transaction → Type 0

@@ -9,7 +9,7 @@ use Rattle.at_base.specs.declared.event.Event.TheVariants as events
 use Rattle.at_base.specs.declared.record.Record.{Record}
 use Rattle.at_base.specs.declared.record.Record.TheVariants as records
 use Rattle.at_model.specs.Book.{Book, last_counter}
-use Rattle.at_model.specs.Due.{resend_after}
+use Rattle.at_base.specs.declared.limits.TheConstants.{RESEND_AFTER}
 use Rattle.at_model.specs.Recovery.{incarnation_of, last_incarnation}
 use Rattle.at_model.specs.Step.{Plan, plan, step}
 use Rattle.at_model.specs.World.{Deliver, Node, Posted, Tick, Turn, Up, World, WorldEvent, answer_plan, arrival_plan, at_some_node, decoded, deliver, down_only, is_receiver, later, nth, on_book, put_nth, run_of, start, started, take_turn, ticked, turn, turn_from, up_after, world_step, Hosts}
@@ -159,8 +159,8 @@ tick_up hosts n ms w r h = by_node (nth n w.nodes) refl
 ticks_up : (hosts : Hosts) (n : ℕ) (xs : List Node) (s : Settling) → IsOfRun hosts s.world → AllUp s.world → AllUp (all_also (ticks n xs) s).world
 ticks_up hosts n [] s r h = h
 ticks_up hosts n (x ∷ xs) s r h =
-    let e : WorldEvent = Turn n (Tick resend_after) [] None in
-    ticks_up hosts (n + 1) xs (also e s) (further_run hosts s.world e r) (tick_up hosts n resend_after s.world r h)
+    let e : WorldEvent = Turn n (Tick RESEND_AFTER) [] None in
+    ticks_up hosts (n + 1) xs (also e s) (further_run hosts s.world e r) (tick_up hosts n RESEND_AFTER s.world r h)
 
 deliveries_up : (hosts : Hosts) (most j : ℕ) (s : Settling) → IsOfRun hosts s.world → AllUp s.world → AllUp (deliveries_from most j s).world
 unfolding deliveries_from

@@ -5,7 +5,7 @@ use Rattle.std.proofs.Common.{arith, sym, subst, ap}
 use Rattle.std.proofs.lemmas.List.{drop_all}
 use Rattle.std.proofs.lemmas.List.Sums.{sum_by-cons}
 use Rattle.at_model.specs.Book.{Book}
-use Rattle.at_model.specs.Due.{resend_after}
+use Rattle.at_base.specs.declared.limits.TheConstants.{RESEND_AFTER}
 use Rattle.at_model.specs.World.{Deliver, Node, Tick, Turn, World, WorldEvent, world_step, Hosts}
 use Rattle.model_laws.specs.Settlement.{Settling, all_also, also, deliver_next, deliveries_from, first_received, others_in, seats_in, ticks}
 use Rattle.settling.specs.Drains.{Delivers, none_left, one_more}
@@ -72,7 +72,7 @@ ticked_all : (P : Prices) (hosts : Hosts) (j limit u : ℕ) (xs : List Node) (s 
     → Ticks P j hosts.count limit (all_also (ticks (u + 1) xs) s).world
 ticked_all P hosts j limit u [] s r e t = let same : u ≡ hosts.count = omega (arith, e) in subst (λ k. Ticks P j k limit s.world) same t
 ticked_all P hosts j limit u (x ∷ xs) s r e t =
-    let tick : WorldEvent = Turn (u + 1) (Tick resend_after) [] None in
+    let tick : WorldEvent = Turn (u + 1) (Tick RESEND_AFTER) [] None in
     let there : u + 1 ≤ length s.world.nodes = omega (arith, e, run_length hosts s.world r) in
     let more : suc u ≡ u + 1 = omega arith in
     let one : Ticks P j (u + 1) limit (world_step s.world tick) = subst (λ k. Ticks P j k limit (world_step s.world tick)) more (tick_on P j u limit s.world there t) in

@@ -9,7 +9,8 @@ use Rattle.at_base.specs.declared.event.Item.{Item}
 use Rattle.at_base.specs.declared.event.Item.TheVariants as items
 use Rattle.at_base.specs.declared.outs.Post.{Post}
 use Rattle.at_model.specs.Book.{Book, Leaf, Phase, Transaction, leaf_id, transaction_id}
-use Rattle.at_model.specs.Due.{is_quiet, leaf_again, resend_after, transaction_again}
+use Rattle.at_model.specs.Due.{is_quiet, leaf_again, transaction_again}
+use Rattle.at_base.specs.declared.limits.TheConstants.{RESEND_AFTER}
 use Rattle.at_model.specs.Step.{activity_item, at_time, items_of, leaf_at, leaf_item, moment_of, plan, transaction_at, transaction_item}
 use Rattle.at_model.specs.World.{Node, Posted, Tick, Turn, Turning, World, WorldEvent, due_steps, nth, run_of, take_step, Hosts}
 use Rattle.model_laws.specs.Agreement.{IsIn}
@@ -33,9 +34,9 @@ use Rattle.settling.proofs.BookPayments.{steady_books}
 use Rattle.settling.proofs.Times.{times_pass}
 
 -- all is quiet by then
-quiet_after : (seen clock : ℕ) (o : Option ℕ) → IsBy seen o → seen ≤ clock → is_quiet (clock + resend_after) o ≡ true
+quiet_after : (seen clock : ℕ) (o : Option ℕ) → IsBy seen o → seen ≤ clock → is_quiet (clock + RESEND_AFTER) o ≡ true
 quiet_after seen clock None h k = refl
-quiet_after seen clock (Some s) h k = le-leb (s + resend_after) (clock + resend_after) (omega (arith, h, k))
+quiet_after seen clock (Some s) h k = le-leb (s + RESEND_AFTER) (clock + RESEND_AFTER) (omega (arith, h, k))
 
 -- each item of a book is asked whether it is due
 in_front : (x : Item) (xs ys : List Item) → IsIn x xs → IsIn x (xs ++ ys)
@@ -93,10 +94,10 @@ turn_asks n now base w v r same a =
     }))
 
 tick_asks : (n : ℕ) (w : World) (x : Node) (b : Book) → nth n w.nodes ≡ Some x → x.book ≡ Some b → IsSteady b → SentBy b.seen b → b.seen ≤ x.clock
-    → HasTicked n w (turn n (Tick resend_after) [] None x b w)
+    → HasTicked n w (turn n (Tick RESEND_AFTER) [] None x b w)
 tick_asks n w x b found up g sent seen =
-    let now : ℕ = x.clock + resend_after in
-    let y : Node = later resend_after x in
+    let now : ℕ = x.clock + RESEND_AFTER in
+    let y : Node = later RESEND_AFTER x in
     let v : World = ticked n y w in
     let c : Book = at_time now b in
     let there : nth n v.nodes ≡ Some y = put_this w.nodes n x y found in
@@ -139,16 +140,16 @@ world_ticked hosts es n y c = by_node (nth n w.nodes) refl
     w : World
     w = run_of hosts es
 
-    by_book : (x : Node) (o : Option Book) → nth n w.nodes ≡ Some x → x.book ≡ o → nth n (on_book o (λ b. turn n (Tick resend_after) [] None x b w) w).nodes ≡ Some y → y.book ≡ Some c
-        → HasTicked n w (on_book o (λ b. turn n (Tick resend_after) [] None x b w) w)
+    by_book : (x : Node) (o : Option Book) → nth n w.nodes ≡ Some x → x.book ≡ o → nth n (on_book o (λ b. turn n (Tick RESEND_AFTER) [] None x b w) w).nodes ≡ Some y → y.book ≡ Some c
+        → HasTicked n w (on_book o (λ b. turn n (Tick RESEND_AFTER) [] None x b w) w)
     by_book x None found down there up =
         let one : x ≡ y = same_some x y (sym found ∙ there) in
         absurd (none_there y.book c (sym (ap (λ (z : Node). z.book) one) ∙ down) up)
     by_book x (Some b) found up there more =
         tick_asks n w x b found up (steady_books hosts w (run_reached hosts es) n x b found up) (times_pass.sent hosts es n x b found up) (times_pass.seen hosts es n x b found up)
 
-    by_node : (o : Option Node) → nth n w.nodes ≡ o → nth n (at_some_node (Turn n (Tick resend_after) [] None) o w).nodes ≡ Some y → y.book ≡ Some c
-        → HasTicked n w (at_some_node (Turn n (Tick resend_after) [] None) o w)
+    by_node : (o : Option Node) → nth n w.nodes ≡ o → nth n (at_some_node (Turn n (Tick RESEND_AFTER) [] None) o w).nodes ≡ Some y → y.book ≡ Some c
+        → HasTicked n w (at_some_node (Turn n (Tick RESEND_AFTER) [] None) o w)
     by_node None found there up = absurd (none_there (nth n w.nodes) y found there)
     by_node (Some x) found there up = by_book x x.book found refl there up
 

@@ -6,7 +6,7 @@ use Rattle.std.proofs.lemmas.Bool.{eqb-true}
 use Rattle.std.proofs.lemmas.List.Sums.{sum_by-cons}
 use Rattle.at_base.specs.declared.event.Event.TheVariants as events
 use Rattle.at_model.specs.Book.{Book}
-use Rattle.at_model.specs.Due.{resend_after}
+use Rattle.at_base.specs.declared.limits.TheConstants.{RESEND_AFTER}
 use Rattle.at_model.specs.Step.{plan}
 use Rattle.at_model.specs.World.{Node, Tick, Turn, World, at_some_node, later, nth, on_book, put_nth, take_turn, ticked, turn, turn_from, world_step}
 use Rattle.model_laws.specs.Settlement.{others_in, seats_in}
@@ -81,11 +81,11 @@ stays_ticked P j u limit w x found t =
     record { passed = t.passed; paid = omega (arith, t.paid, put, mixed_put P u x x w.nodes found, held_most P x.clock x.book); steady = t.steady }
 
 tick_ends : (P : Prices) (j u limit : ℕ) (w : World) (x : Node) (b : Book) → nth (u + 1) w.nodes ≡ Some x → x.book ≡ Some b → Ticks P j u limit w
-    → Ticks P j (suc u) limit (turn (u + 1) (Tick resend_after) [] None x b w)
+    → Ticks P j (suc u) limit (turn (u + 1) (Tick RESEND_AFTER) [] None x b w)
 tick_ends P j u limit w x b found up t =
     let n : ℕ = u + 1 in
-    let now : ℕ = x.clock + resend_after in
-    let y : Node = later resend_after x in
+    let now : ℕ = x.clock + RESEND_AFTER in
+    let y : Node = later RESEND_AFTER x in
     let v : World = ticked n y w in
     let good : IsSteady b = subst (IfThere IsSteady) up (all_nth IsSteadyNode n x w.nodes t.steady found) in
     let e : Turned P n now (load P now b) v (take_turn n now (plan b events.Tick now) (turn_from v b [] None)) =
@@ -102,13 +102,13 @@ tick_ends P j u limit w x b found up t =
       steady = subst (AllByRecursion IsSteadyNode) (sym nodes) (all_put_nth IsSteadyNode n e.node w.nodes (subst (IfThere IsSteady) (sym e.up) e.steady) t.steady);
     }
 
-pub tick_on : (P : Prices) (j u limit : ℕ) (w : World) → u + 1 ≤ length w.nodes → Ticks P j u limit w → Ticks P j (suc u) limit (world_step w (Turn (u + 1) (Tick resend_after) [] None))
+pub tick_on : (P : Prices) (j u limit : ℕ) (w : World) → u + 1 ≤ length w.nodes → Ticks P j u limit w → Ticks P j (suc u) limit (world_step w (Turn (u + 1) (Tick RESEND_AFTER) [] None))
 unfolding world_step
 tick_on P j u limit w h t = by_node (nth_there u w.nodes h)
   where
-    by_book : (x : Node) (o : Option Book) → nth (u + 1) w.nodes ≡ Some x → x.book ≡ o → Ticks P j (suc u) limit (on_book o (λ b. turn (u + 1) (Tick resend_after) [] None x b w) w)
+    by_book : (x : Node) (o : Option Book) → nth (u + 1) w.nodes ≡ Some x → x.book ≡ o → Ticks P j (suc u) limit (on_book o (λ b. turn (u + 1) (Tick RESEND_AFTER) [] None x b w) w)
     by_book x None found up = stays_ticked P j u limit w x found t
     by_book x (Some b) found up = tick_ends P j u limit w x b found up t
 
-    by_node : (x : Node) × (nth (u + 1) w.nodes ≡ Some x) → Ticks P j (suc u) limit (at_some_node (Turn (u + 1) (Tick resend_after) [] None) (nth (u + 1) w.nodes) w)
-    by_node (x, found) = subst (λ o. Ticks P j (suc u) limit (at_some_node (Turn (u + 1) (Tick resend_after) [] None) o w)) (sym found) (by_book x x.book found refl)
+    by_node : (x : Node) × (nth (u + 1) w.nodes ≡ Some x) → Ticks P j (suc u) limit (at_some_node (Turn (u + 1) (Tick RESEND_AFTER) [] None) (nth (u + 1) w.nodes) w)
+    by_node (x, found) = subst (λ o. Ticks P j (suc u) limit (at_some_node (Turn (u + 1) (Tick RESEND_AFTER) [] None) o w)) (sym found) (by_book x x.book found refl)

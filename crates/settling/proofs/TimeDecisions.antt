@@ -2,6 +2,7 @@
 use Rattle.std.specs.Prelude.{ℕ, List, [], ◌∷◌, Option, Some, None, Bool, true, false, ◌≡◌, if◌then◌else◌, ◌&&◌, bytes_eq, nat_lt}
 use Rattle.std.specs.List.{list_any, AllByRecursion}
 use Rattle.std.proofs.Common.{arith, subst}
+use Rattle.at_base.specs.declared.limits.TheConstants.{MOST_ITEMS}
 use Rattle.at_base.specs.Numbers.{Numbers}
 use Rattle.at_base.specs.declared.epr.Epr.{Epr}
 use Rattle.at_base.specs.declared.epr.Reply.{Reply}
@@ -206,7 +207,7 @@ pub created_times : (m : Moment) (live : ℕ) (a : Arrived) (c : Create) (id : N
 unfolding on_create
 created_times m live a c id t e =
     subst (IfThere (InTime m.now)) e
-    (either_of (λ x. IfThere (InTime m.now) x.transaction) (bytes_eq c.coordination atomic && nat_lt live 1024) (create_in m id a c c.current) (refuse_create a)
+    (either_of (λ x. IfThere (InTime m.now) x.transaction) (bytes_eq c.coordination atomic && nat_lt live MOST_ITEMS) (create_in m id a c c.current) (refuse_create a)
     (λ k. in_times m id a c c.current) (λ k. tt))
 
 voted_times : (id : Numbers) (superior : Epr) (seats : List Seated) (committed : Bool) → InTime 0 (recovered_voted id superior seats committed)

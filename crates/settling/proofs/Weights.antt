@@ -4,6 +4,7 @@ use Rattle.std.specs.List.{list_any, sum_by}
 use Rattle.std.proofs.Common.{arith, sym, subst, ap, inl, inr}
 use Rattle.std.proofs.lemmas.Bool.{leb-true}
 use Rattle.std.proofs.lemmas.List.Sums.{sum_by-cons, sum_by-append}
+use Rattle.at_base.specs.declared.limits.TheConstants.{RESEND_AFTER}
 use Rattle.at_base.specs.Numbers.{Numbers}
 use Rattle.at_base.specs.declared.event.Moment.{Moment}
 use Rattle.at_base.specs.declared.notice.Notice.{Notice}
@@ -78,7 +79,7 @@ pub not_quiet : (now : ℕ) → is_quiet now (Some now) ≡ false
 not_quiet now = by_test (is_quiet now (Some now)) refl
   where
     by_test : (b : Bool) → is_quiet now (Some now) ≡ b → b ≡ false
-    by_test true e = let late : now + 5000 ≤ now = leb-true (now + 5000) now e in absurd (omega (arith, late))
+    by_test true e = let late : now + RESEND_AFTER ≤ now = leb-true (now + RESEND_AFTER) now e in absurd (omega (arith, late))
     by_test false e = refl
 
 pub none_again : (q : Bool) → again q 0 ≤ 0

@@ -4,7 +4,8 @@ use Rattle.std.specs.List.{AllByRecursion}
 use Rattle.at_base.specs.Numbers.{Numbers}
 use Rattle.at_base.specs.declared.outs.Post.{Post}
 use Rattle.at_model.specs.Book.{Book, Leaf, Phase, Transaction}
-use Rattle.at_model.specs.Due.{leaf_again, resend_after, transaction_again}
+use Rattle.at_model.specs.Due.{leaf_again, transaction_again}
+use Rattle.at_base.specs.declared.limits.TheConstants.{RESEND_AFTER}
 use Rattle.at_model.specs.Step.{leaf_at, moment_of, transaction_at}
 use Rattle.at_model.specs.World.{Node, Posted, Tick, Turn, World, WorldEvent, nth, run_of, world_step, Hosts}
 use Rattle.model_laws.specs.Agreement.{IsIn}
@@ -20,7 +21,7 @@ pub record ArePosted (w v : World) (ps : List Post) : Type 0 where
   pub each : AllByRecursion (HasPosted new) ps
 
 abbrev pub ticked_at : ℕ → World → World
-ticked_at n w = world_step w (Turn n (Tick resend_after) [] None)
+ticked_at n w = world_step w (Turn n (Tick RESEND_AFTER) [] None)
 
 -- In every run; a transaction that aborts asks nobody for an answer.
 pub record TicksAsk : Type 0 where

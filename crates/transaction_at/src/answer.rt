@@ -17,16 +17,16 @@ use crate::phases::or_undone;
 use crate::transaction::{Phase, Request, Superior, Transaction};
 use at_base::epr::Reply;
 use at_base::event::Moment;
+use at_base::fault::Fault;
 use at_base::message::{Context, Message};
 use at_base::record::Record;
 use at_base::target::Target;
 use at_base::text::Text;
-use endpoints::addresses::endpoint_of;
 use at_posts::list::PostList;
-use at_base::fault::Fault;
-use endpoints::uris::atomic;
 use at_posts::posts::{fault_post, reply_post};
 use by_id::moves::{Change, Decision};
+use endpoints::addresses::endpoint_of;
+use endpoints::uris::atomic;
 use std::alloc::{AllocError, Global};
 
 /// The context of a transaction, which lasts this many milliseconds, or any time.

@@ -15,10 +15,10 @@ use crate::phases::{aborts, go_volatile};
 use crate::seats::{ignores, posting, still};
 use crate::transaction::{Completion, Transaction};
 use at_base::event::{Arrived, Moment};
+use at_base::fault::Fault;
 use at_base::message::Message;
 use at_base::notice::Notice;
 use at_base::target::Target;
-use at_base::fault::Fault;
 use at_posts::posts::{fault_post, notice_post};
 use at_tables::cells::{Act, State, completion_cell};
 use by_id::moves::{Decision, Moving};
@@ -30,14 +30,14 @@ fn faults(
     arrived: &Arrived,
     completion: &Completion,
     transaction: &Transaction,
-    name: &str,
+    fault: Fault,
 ) -> Result<Decision<Transaction>, AllocError>
     ensures { IfOk result
         (λ decision. decision_of decision
-        ≡ Goes (stays (post (fault_post (Some completion.now.initiator) arrived.now.id name.now) (begin transaction.now)))) }
+        ≡ Goes (stays (post (fault_post (Some completion.now.initiator) arrived.now.id fault) (begin transaction.now)))) }
 {
     let to = completion.initiator.clone()?;
-    let message = fault_post(alloc, Some(to), &arrived.id, name)?;
+    let message = fault_post(alloc, Some(to), &arrived.id, fault)?;
     let next = transaction.clone()?;
     Ok(Decision::Goes(posting(alloc, next, message)?.stays()))
 }
@@ -140,7 +140,13 @@ fn acts(
             transaction,
             Fault::UnknownTransaction,
         ),
-        Act::FaultInvalidState => faults(alloc, arrived, completion, transaction, Fault::InvalidState),
+        Act::FaultInvalidState => faults(
+            alloc,
+            arrived,
+            completion,
+            transaction,
+            Fault::InvalidState,
+        ),
         Act::Complete => completes(alloc, moment, completion, transaction),
         Act::AbortAndSendAborted => aborts(alloc, moment, still(alloc, transaction)?),
         Act::Ignore

@@ -28,6 +28,7 @@ use crate::seats::{happening, ignores, is_state, posting, sent_now, still};
 use crate::transaction::{Phase, Superior, Transaction};
 use at_base::epr::Epr;
 use at_base::event::{Arrived, Moment};
+use at_base::fault::Fault;
 use at_base::message::{Message, cloned_option};
 use at_base::notice::{Kind, Notice};
 use at_base::outs::Ending;
@@ -35,11 +36,10 @@ use at_base::record::Record;
 use at_base::target::Target;
 use at_base::text::Text;
 use at_posts::answers::relates_to;
-use endpoints::addresses::register_id;
-use at_base::fault::Fault;
 use at_posts::posts::{fault_post, stored_or, stranger_post};
 use at_tables::cells::{Act, State, participant_cell};
 use by_id::moves::{Decision, Moving};
+use endpoints::addresses::register_id;
 use std::alloc::{AllocError, Global};
 
 /// The link answers Prepared once more, which counts as a sending.

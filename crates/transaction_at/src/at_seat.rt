@@ -17,10 +17,10 @@ use crate::phases::{aborts, advance};
 use crate::seats::{ignores, is_state, posting, seat_in, seat_notice, seat_target, sent_now};
 use crate::transaction::{Enlistment, Transaction};
 use at_base::event::{Arrived, Moment};
+use at_base::fault::Fault;
 use at_base::message::Message;
 use at_base::notice::Notice;
 use at_base::text::Text;
-use at_base::fault::Fault;
 use at_posts::posts::{fault_post, stranger_post};
 use at_tables::cells::{Act, State, coordinator_cell};
 use by_id::moves::{Decision, Moving};
@@ -85,14 +85,14 @@ fn with_fault(
     arrived: &Arrived,
     transaction: &Transaction,
     seat: &Enlistment,
-    name: &str,
+    fault: Fault,
 ) -> Result<Moving<Transaction>, AllocError>
     ensures { IfOk result
         (λ moving. moving
-        ≡ post (fault_post (Some seat.now.participant) arrived.now.id name.now) (begin transaction.now)) }
+        ≡ post (fault_post (Some seat.now.participant) arrived.now.id fault) (begin transaction.now)) }
 {
     let to = seat.participant.clone()?;
-    let message = fault_post(alloc, Some(to), &arrived.id, name)?;
+    let message = fault_post(alloc, Some(to), &arrived.id, fault)?;
     let next = transaction.clone()?;
     posting(alloc, next, message)
 }
@@ -103,13 +103,13 @@ fn faults(
     arrived: &Arrived,
     transaction: &Transaction,
     seat: &Enlistment,
-    name: &str,
+    fault: Fault,
 ) -> Result<Decision<Transaction>, AllocError>
     ensures { IfOk result
         (λ decision. decision_of decision
-        ≡ Goes (stays (post (fault_post (Some seat.now.participant) arrived.now.id name.now) (begin transaction.now)))) }
+        ≡ Goes (stays (post (fault_post (Some seat.now.participant) arrived.now.id fault) (begin transaction.now)))) }
 {
-    Ok(Decision::Goes(with_fault(alloc, arrived, transaction, seat, name)?.stays()))
+    Ok(Decision::Goes(with_fault(alloc, arrived, transaction, seat, fault)?.stays()))
 }
 
 /// The fault InvalidState to the participant, which aborts the transaction.

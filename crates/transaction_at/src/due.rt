@@ -11,13 +11,11 @@ ghost use Rattle.transaction_at.specs.PhaseNames.{phase_of};
 use crate::transaction::{Enlistment, Link, Phase, Request, Superior, Transaction};
 use at_base::event::Moment;
 use at_base::id::Id;
+use at_base::limits::ABORTING_FOR;
 use at_base::notice::Notice;
 use at_tables::cells::State;
 use by_id::list::Identified;
 use by_id::times::{has_come, is_quiet};
-
-/// How long a transaction is Aborting, in milliseconds.
-pub const ABORTING_FOR: u64 = 60000;
 
 /// Why a transaction is due.
 #[derive(Clone, Copy, Debug, PartialEq, Eq)]

@@ -4,6 +4,7 @@ use Rattle.std.specs.Prelude.{codes, ◌⊎◌}
 use Rattle.std.specs.Str.{all_ascii_digits}
 use Rattle.std.specs.Str.Parse.{digits_value, without_leading_plus}
 use Rattle.std.proofs.lemmas.Bool.{leb-true}
+use Rattle.at_base.specs.declared.limits.TheConstants.{MOST_ENDPOINT}
 use Rattle.xml_profile.specs.declared.tree.Tree.{Tree}
 use Rattle.xml_profile.specs.CanonicalText.{canonical_text}
 use Rattle.xml_profile.specs.Prefixes.{addressing as addressing_space, coordination as coordination_space}
@@ -27,12 +28,12 @@ use Rattle.wire_msgs.proofs.FittingTrees.{Fit, child_fit, FitNamed, IfOne, fit_e
 abbrev KeptParams : List ℕ → Type 0
 KeptParams params = (params ≡ []) ⊎ ((t : Tree) × AreKept params t)
 
-few : (a p : ℕ) → nat_le (a + p) 2048 ≡ true → p ≤ 65536
-few a p h = let l = leb-true (a + p) 2048 h in omega (arith, l)
+few : (a p : ℕ) → nat_le (a + p) MOST_ENDPOINT ≡ true → p ≤ 65536
+few a p h = let l = leb-true (a + p) MOST_ENDPOINT h in omega (arith, l)
 
 short_params : (address params : List ℕ) → is_within address params ≡ true → length params ≤ 65536
 short_params address params w =
-    few (length address) (length params) (and_true (not (is_empty address)) (nat_le (length address + length params) 2048) w).1
+    few (length address) (length params) (and_true (not (is_empty address)) (nat_le (length address + length params) MOST_ENDPOINT) w).1
 
 params_kept : (address : List ℕ) (params : Option Tree) → IfSome params (FitNamed addressing_space (codes "ReferenceParameters"))
     → is_within address (params_of params) ≡ true → KeptParams (params_of params)

@@ -15,6 +15,7 @@ use Rattle.soap_profile.specs.Faults as faults
 use Rattle.soap_profile.specs.Faults.{fault_of}
 use Rattle.soap_profile.specs.Envelopes.{enveloped, envelope_of, first_of, judged, not_understood, opened, parts_of, root_refusal, rooted, sole, with_body}
 use Rattle.soap_profile.specs.Values.{elements, is_named, text_value}
+use Rattle.at_base.specs.declared.limits.TheConstants.{MOST_FIELD}
 use Rattle.at_base.specs.declared.message.Message.{Message}
 use Rattle.at_base.specs.declared.message.Message.TheVariants as messages
 use Rattle.at_base.specs.declared.target.Target.{Target}
@@ -136,17 +137,17 @@ text_clean t part f =
 
 record IsShortText (text : List ℕ) : Type 0 where
   clean : IsClean text
-  within : length text ≤ 256
+  within : length text ≤ MOST_FIELD
 
 readable_keeps : {A : Type 0} (P : A → Type 0) (part : Part) (value : Option A) → IfSome value P → IfOk (readable part value) P
 readable_keeps P part None h = tt
 readable_keeps P part (Some x) h = h
 
 short_fits : (text : List ℕ) → IsClean text → IfSome (short text) IsShortText
-short_fits text c = by_test (nat_le (length text) 256) refl
+short_fits text c = by_test (nat_le (length text) MOST_FIELD) refl
   where
-    by_test : (b : Bool) → nat_le (length text) 256 ≡ b → IfSome (cond b (Some text) None) IsShortText
-    by_test true e = record { clean = c; within = leb-true (length text) 256 e }
+    by_test : (b : Bool) → nat_le (length text) MOST_FIELD ≡ b → IfSome (cond b (Some text) None) IsShortText
+    by_test true e = record { clean = c; within = leb-true (length text) MOST_FIELD e }
     by_test false e = tt
 
 short_kept : (t : Tree) (part : Part) → Fit t → IfOk (short_in t part) IsShortText

@@ -1,15 +1,13 @@
 -- What the body of each message but a fault says (WS-Coordination 1.2, section 3; this project's Work).
 -- Children stand in any order, and others are skipped.
-use Rattle.std.specs.Prelude.{ℕ, List, nat_le, length, Option, Some, None, Result, Ok, Err, if◌then◌else◌, codes}
-use Rattle.std.specs.Str.{bytes_eq}
+use Rattle.std.specs.Prelude.{ℕ, List, nat_le, length, Option, Some, None, Result, Ok, Err, if◌then◌else◌}
+use Rattle.at_base.specs.declared.limits.TheConstants.{MOST_FIELD}
 use Rattle.at_base.specs.Names.{kind_named, vote_named}
 use Rattle.xml_profile.specs.declared.tree.Tree.{Tree}
 use Rattle.soap_profile.specs.Values.{text_value}
 use Rattle.addressing.specs.declared.headers.Header.TheVariants.{CoordinationContext}
 use Rattle.at_base.specs.declared.notice.Kind.{Kind}
-use Rattle.at_base.specs.declared.notice.Kind.TheVariants as kinds
 use Rattle.at_base.specs.declared.notice.Vote.{Vote}
-use Rattle.at_base.specs.declared.notice.Vote.TheVariants as votes
 use Rattle.at_base.specs.declared.message.Message.{Message}
 use Rattle.at_base.specs.declared.message.Message.TheVariants as messages
 use Rattle.at_base.specs.declared.message.Work.{Work}
@@ -46,7 +44,7 @@ text_in t part = do
 
 -- a text of at most 256 bytes
 abbrev pub short : List ℕ → Option (List ℕ)
-short text = if nat_le (length text) 256 then Some text else None
+short text = if nat_le (length text) MOST_FIELD then Some text else None
 
 abbrev pub short_in : Tree → Part → Result (List ℕ) Refusal
 short_in t part = do

@@ -1,6 +1,7 @@
 -- What decoding keeps: the lengths and characters of what arrives, and that it is read back where it is written.
 use Rattle.std.specs.Prelude.{◌≡◌, ◌≤◌, ◌||◌, ℕ, List, true, false, IfSome, is_some, length}
 use Rattle.xml_profile.specs.SpellableTrees.{is_text}
+use Rattle.at_base.specs.declared.limits.TheConstants.{MOST_FIELD}
 use Rattle.at_base.specs.declared.epr.Epr.{Epr}
 use Rattle.at_base.specs.declared.message.Context.{Context}
 use Rattle.at_base.specs.declared.message.Create.{Create}
@@ -53,9 +54,9 @@ pub record IsWholeRegister (body : Register) : Type 0 where
 pub record IsWholeWork (body : Work) : Type 0 where
   pub context : IsWholeContext body.context
   pub key : IsClean body.key
-  pub short_key : length body.key ≤ 256
+  pub short_key : length body.key ≤ MOST_FIELD
   pub value : IsClean body.value
-  pub short_value : length body.value ≤ 256
+  pub short_value : length body.value ≤ MOST_FIELD
 
 -- a fault may have any name of such characters
 abbrev pub IsWholeMessage : Message → Type 0

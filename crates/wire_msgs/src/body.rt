@@ -8,19 +8,17 @@ ghost use Rattle.wire_msgs.specs.Refusals.{Answers};
 use crate::part::{Part, child_in};
 use crate::refusal::{ParameterName, Refusal};
 use addressing::headers::Header;
+use at_base::limits::MOST_FIELD;
 use at_base::message::{Message, Work};
 use at_base::notice::{Kind, Vote};
 use at_base::text::Text;
-use endpoints::form::Form;
 use context::reader::{
     read_context, read_create, read_create_response, read_register, read_register_response,
 };
+use endpoints::form::Form;
 use soap_profile::value::text_value;
 use std::alloc::Global;
 use xml_profile::tree::Tree;
-
-/// The most bytes of a key or a value.
-const MOST_BYTES: usize = 256;
 
 /// The message that a body of this form says. The context of a Work stands in its header.
 pub fn read_body(
@@ -88,7 +86,7 @@ fn read_short(alloc: Global, body: &Tree, part: Part) -> Result<Text, Refusal>
     ensures { Answers (short_in body.now part) result }
 {
     let text = read_text(alloc, body, part)?;
-    if text.as_str().len() > MOST_BYTES {
+    if text.as_str().len() > MOST_FIELD {
         return Err(unreadable(part));
     }
     Ok(text)

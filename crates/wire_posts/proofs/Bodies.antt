@@ -1,6 +1,6 @@
 -- What a body that is written is read as.
 use Rattle.std.proofs.Common.{◌≡◌, ◌≤◌, ℕ, List, [], ◌∷◌, length, Bool, true, false, IfSome, Option, Some, None, Result, Ok, Err, refl, ap, subst, sym, ◌∙◌, cond}
-use Rattle.std.specs.Prelude.{codes, is_some, nat_le}
+use Rattle.std.specs.Prelude.{codes, nat_le}
 use Rattle.std.specs.Option.{option_map}
 use Rattle.std.proofs.lemmas.Bool.{le-leb}
 use Rattle.std.proofs.lemmas.List.{append-nil}
@@ -11,6 +11,7 @@ use Rattle.xml_profile.specs.Prefixes.{coordination as coordination_space, soap 
 use Rattle.soap_profile.specs.BuiltElements.{qualified, text_children}
 use Rattle.soap_profile.specs.Faults.{fault_of}
 use Rattle.soap_profile.specs.Values.{direct_text, is_named, text_value, trim}
+use Rattle.at_base.specs.declared.limits.TheConstants.{MOST_FIELD}
 use Rattle.at_base.specs.Names.{fault_name}
 use Rattle.at_base.specs.declared.fault.Fault.{Fault}
 use Rattle.at_base.specs.declared.fault.Fault.TheVariants as faults
@@ -159,11 +160,11 @@ short_by : (fits : Bool) (part : Part) (text : List ℕ) → fits ≡ true → r
 short_by true part text h = refl
 short_by false part text h = absurd cc
 
-short_returns : (part : Part) (text : List ℕ) → IsTrimmed text → length text ≤ 256
+short_returns : (part : Part) (text : List ℕ) → IsTrimmed text → length text ≤ MOST_FIELD
     → readable part (short (text_value (work_part part text))) ≡ Ok text
 short_returns part text e h =
     ap (λ (t : List ℕ). readable part (short t)) (part_returns part text e)
-    ∙ short_by (nat_le (length text) 256) part text (le-leb (length text) 256 h)
+    ∙ short_by (nat_le (length text) MOST_FIELD) part text (le-leb (length text) MOST_FIELD h)
 
 kind_returns : (key value : List ℕ) (context : Context) (kind : Kind) (vote : Vote)
     → kind_in (work_tree (record { context = context; key = key; value = value; kind = kind; vote = vote })) ≡ Ok kind

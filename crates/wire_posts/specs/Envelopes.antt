@@ -19,9 +19,7 @@ use Rattle.at_base.specs.declared.message.Work.{Work}
 use Rattle.at_base.specs.declared.message.Message.{Message}
 use Rattle.at_base.specs.declared.message.Message.TheVariants as messages
 use Rattle.at_base.specs.declared.notice.Kind.{Kind}
-use Rattle.at_base.specs.declared.notice.Kind.TheVariants as kinds
 use Rattle.at_base.specs.declared.notice.Vote.{Vote}
-use Rattle.at_base.specs.declared.notice.Vote.TheVariants as votes
 use Rattle.at_base.specs.declared.outs.Post.{Post}
 use Rattle.addressing.specs.declared.writer.Endpoint.{Endpoint}
 use Rattle.addressing.specs.declared.writer.OutgoingHeaders.{OutgoingHeaders}

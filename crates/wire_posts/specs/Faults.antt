@@ -1,8 +1,6 @@
 -- The faults that are written (SOAP 1.1, section 4.4; WS-Addressing 1.0 SOAP Binding, section 6.4; WS-Coordination 1.2,
 -- section 4; WS-AtomicTransaction 1.2, section 5), and which of them a refusal is.
-use Rattle.std.specs.Prelude.{◌≡◌, refl, ℕ, List, [], ◌∷◌, ◌++◌, ◌||◌, Option, Some, None, if◌then◌else◌, codes}
-use Rattle.std.specs.List.{find}
-use Rattle.std.specs.Option.{unwrap_or}
+use Rattle.std.specs.Prelude.{◌≡◌, refl, ℕ, List, [], ◌∷◌, ◌++◌, Option, Some, None, if◌then◌else◌, codes}
 use Rattle.std.specs.Str.{bytes_eq}
 use Rattle.at_base.specs.Names.{fault_name, fault_named}
 use Rattle.at_base.specs.declared.fault.Fault.{Fault}

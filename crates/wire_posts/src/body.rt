@@ -11,11 +11,11 @@ use addressing::stored_endpoint::endpoint_of;
 use at_base::epr::Epr;
 use at_base::message::{Context, Create, Message, Register, Work};
 use at_base::notice::{Kind, Vote};
-use endpoints::form::Form;
 use context::writer::{
     OutgoingContext, OutgoingCreate, OutgoingRegister, write_create, write_create_response,
     write_register, write_register_response,
 };
+use endpoints::form::Form;
 use soap_profile::build::{children_of, element, qualified, text_children};
 use std::alloc::{AllocError, Global};
 use wire_msgs::form::{local_of, space_of};
