@@ -23,13 +23,17 @@ check_at_a_path : IsJobOf (codes "check" ∷ codes "--path=/work" ∷ []) (Filte
 unfolding clap_on_literals
 check_at_a_path = (refl, (refl, refl))
 
-replay : IsJobOf (codes "replay" ∷ []) (Filters (Replay false))
+replay : IsJobOf (codes "replay" ∷ []) (Filters (Replay (record { settle = false; bytes = false })))
 unfolding clap_on_literals
-replay = (refl, (refl, refl))
+replay = (refl, (refl, (refl, refl)))
 
-replay_to_rest : IsJobOf (codes "replay" ∷ codes "--settle" ∷ []) (Filters (Replay true))
+replay_to_rest : IsJobOf (codes "replay" ∷ codes "--settle" ∷ []) (Filters (Replay (record { settle = true; bytes = false })))
 unfolding clap_on_literals
-replay_to_rest = (refl, (refl, refl))
+replay_to_rest = (refl, (refl, (refl, refl)))
+
+replay_with_bytes : IsJobOf (codes "replay" ∷ codes "--bytes" ∷ []) (Filters (Replay (record { settle = false; bytes = true })))
+unfolding clap_on_literals
+replay_with_bytes = (refl, (refl, (refl, refl)))
 
 make : IsJobOf (codes "make" ∷ codes "--seed" ∷ codes "18446744073709551615" ∷ codes "--steps=9999" ∷ []) (Make 18446744073709551615 9999)
 unfolding clap_on_literals digits
@@ -63,9 +67,9 @@ unknown_command : fault_of whole (codes "help" ∷ []) ≡ UnknownArgument ∷ I
 unfolding clap_on_literals
 unknown_command = refl
 
-no_option_yet : fault_of whole (codes "replay" ∷ codes "--bytes" ∷ []) ≡ UnknownArgument ∷ []
+no_such_option : fault_of whole (codes "replay" ∷ codes "--trace" ∷ []) ≡ UnknownArgument ∷ []
 unfolding clap_on_literals
-no_option_yet = refl
+no_such_option = refl
 
 no_seed : fault_of whole (codes "make" ∷ codes "--steps" ∷ codes "1" ∷ []) ≡ MissingRequiredArgument ∷ []
 unfolding clap_on_literals

@@ -7,6 +7,7 @@ use Rattle.site_model.specs.Counts.{RisesBy}
 use Rattle.site_model.specs.Source.{IsWhole}
 use Rattle.envelope_cmd.specs.Output.{Output, accepted, refused}
 use Rattle.command_line.specs.Jobs.{Filter}
+use Rattle.replay_cmd.specs.declared.options.Options.{Options}
 use Rattle.replay_cmd.specs.Laws.{ReadIsReplayable, ReportsAreSafe, ReportsComeToRest}
 use Rattle.replay_cmd.specs.Laws.{IsReport as IsReportOf}
 use Rattle.schedules.specs.Schedules.{schedule_of}
@@ -52,26 +53,26 @@ part_printed left before now bytes told job old new output whole t reports (n, (
     (λ input f. record { output = output; reports = reported job bytes told input output t f reports; count = n; within = within; printed = part }) whole.all
 
 pub replay_of :
-    (settle : Bool) (input : List ℕ) (output : Output) → ReadIsReplayable → ReportsAreSafe → ReportsComeToRest → Replays settle (schedule_of input) output
-    → IsReplayOf settle input output
-replay_of settle input output reads safe rests e =
+    (options : Options) (input : List ℕ) (output : Output) → ReadIsReplayable → ReportsAreSafe → ReportsComeToRest → Replays options (schedule_of input) output
+    → IsReplayOf options input output
+replay_of options input output reads safe rests e =
     record {
       is = e;
-      safe = λ draws lines f. safe settle draws lines (reads input lines f);
+      safe = λ draws lines f. safe options.settle draws lines (reads input lines f);
       rests = λ draws lines f. rests draws lines (reads input lines f);
     }
 
 pub replayed_so :
-    (settle : Bool) (lines : List Line) (text : List ℕ) (output : Output) → IsReportOf settle lines text → output ≡ accepted text
-    → IsReplayed settle lines output
-replayed_so settle lines text output h e = record { text = text; report = h; is = e }
+    (options : Options) (lines : List Line) (text : List ℕ) (output : Output) → IsReportOf options lines text → output ≡ accepted text
+    → IsReplayed options lines output
+replayed_so options lines text output h e = record { text = text; report = h; is = e }
 
 pub replays_so :
-    (settle : Bool) (r : Result (List Line) BadLine) (lines : List Line) (output : Output) → r ≡ Ok lines → IsReplayed settle lines output
-    → Replays settle r output
-replays_so settle r lines output e h = subst (λ x. Replays settle x output) (sym e) h
+    (options : Options) (r : Result (List Line) BadLine) (lines : List Line) (output : Output) → r ≡ Ok lines → IsReplayed options lines output
+    → Replays options r output
+replays_so options r lines output e h = subst (λ x. Replays options x output) (sym e) h
 
 pub refuses_so :
-    (settle : Bool) (r : Result (List Line) BadLine) (bad : BadLine) (output : Output) → r ≡ Err bad → output ≡ refused (bad_line bad)
-    → Replays settle r output
-refuses_so settle r bad output e h = subst (λ x. Replays settle x output) (sym e) h
+    (options : Options) (r : Result (List Line) BadLine) (bad : BadLine) (output : Output) → r ≡ Err bad → output ≡ refused (bad_line bad)
+    → Replays options r output
+refuses_so options r bad output e h = subst (λ x. Replays options x output) (sym e) h

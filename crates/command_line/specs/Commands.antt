@@ -30,9 +30,9 @@ cell = with_rule (new_app (codes "cell")) (wanted (codes "state"))
 abbrev pub check : App
 check = with_rule (new_app (codes "check")) (preset (codes "path") (codes "/"))
 
--- `replay [--settle]`
+-- `replay [--settle] [--bytes]`
 abbrev pub replay : App
-replay = with_rule (new_app (codes "replay")) (flag (codes "settle"))
+replay = with_rule (with_rule (new_app (codes "replay")) (flag (codes "settle"))) (flag (codes "bytes"))
 
 -- `make --seed S --steps N`
 abbrev pub make : App

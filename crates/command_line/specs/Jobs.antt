@@ -13,6 +13,7 @@ use Rattle.clap.specs.Simple.{subcommand_of}
 use Rattle.clap.specs.Walk.{Row, Text, first_of}
 use Rattle.clap.specs.declared.error.kind.ErrorKind.{ErrorKind}
 use Rattle.clap.specs.declared.error.kind.ErrorKind.TheVariants.{DisplayHelp, DisplayVersion}
+use Rattle.replay_cmd.specs.declared.options.Options.{Options}
 use Rattle.schedules.specs.Values.{number_in}
 use Rattle.command_line.specs.Commands.{whole}
 
@@ -22,8 +23,8 @@ pub data Filter : Type 0 where
   Cell : State → Filter
   -- what an envelope says, for the path of its request
   Check : List ℕ → Filter
-  -- the report of a schedule, whose world is brought to rest behind it where that is asked
-  Replay : Bool → Filter
+  -- the report of a schedule, with what is asked beside it
+  Replay : Options → Filter
 
 -- what a node that serves is
 pub data Role : Type 0 where
@@ -59,7 +60,10 @@ flag_text false = codes "false"
 abbrev pub MeansFilter : Text → List Row → Filter → Type 0
 MeansFilter name rows (Cell state) = (name ≡ codes "cell") × (first_of (codes "state") rows ≡ Some (state_name state))
 MeansFilter name rows (Check path) = (name ≡ codes "check") × (first_of (codes "path") rows ≡ Some path)
-MeansFilter name rows (Replay settle) = (name ≡ codes "replay") × (first_of (codes "settle") rows ≡ Some (flag_text settle))
+MeansFilter name rows (Replay options) =
+    (name ≡ codes "replay")
+    × (first_of (codes "settle") rows ≡ Some (flag_text options.settle))
+    × (first_of (codes "bytes") rows ≡ Some (flag_text options.bytes))
 
 -- the seed and how many lines, in decimal without sign or leading zeros
 abbrev pub MeansMade : List Row → ℕ → ℕ → Type 0

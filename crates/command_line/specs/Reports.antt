@@ -1,5 +1,5 @@
 -- What a job prints of its input, and the status that it ends with.
-use Rattle.std.specs.Prelude.{ℕ, Bool, List, [], ◌++◌, codes, decimal, Result, Ok, Err, Option, length, take, if◌then◌else◌, ◌≡◌, ◌≤◌, ◌⊎◌}
+use Rattle.std.specs.Prelude.{ℕ, List, [], ◌++◌, codes, decimal, Result, Ok, Err, Option, length, take, if◌then◌else◌, ◌≡◌, ◌≤◌, ◌⊎◌}
 use Rattle.std.specs.Io.KnownBytes.{Appends}
 use Rattle.envelope_cmd.specs.Output.{Output, accepted, refused}
 use Rattle.envelope_cmd.specs.Cells.{IsCellOf}
@@ -7,6 +7,7 @@ use Rattle.envelope_cmd.specs.Checks.{IsCheckOf}
 use Rattle.raw_requests.specs.declared.Drawn.{Drawn}
 use Rattle.replay_cmd.specs.Laws.{ComesToRest, IsSafe}
 use Rattle.replay_cmd.specs.Laws.{IsReport as IsReportOf}
+use Rattle.replay_cmd.specs.declared.options.Options.{Options}
 use Rattle.replay_cmd.specs.ReportOf.{nodes_of, world_with}
 use Rattle.schedules.specs.Causes.{number_of_cause}
 use Rattle.schedules.specs.Schedules.{schedule_of}
@@ -19,29 +20,29 @@ use Rattle.command_line.specs.Jobs.Filter.{Cell, Check, Replay}
 unfoldable pub bad_line : BadLine → List ℕ
 bad_line bad = codes "line " ++ (decimal bad.line ++ (codes " cause " ++ (decimal (number_of_cause bad.cause) ++ codes "\n")))
 
--- the report of a schedule, whose world is brought to rest where that is asked
-pub record IsReplayed (settle : Bool) (lines : List Line) (output : Output) : Type 0 where
+-- the report of a schedule, with what is asked beside it
+pub record IsReplayed (options : Options) (lines : List Line) (output : Output) : Type 0 where
   pub text : List ℕ
-  pub report : IsReportOf settle lines text
+  pub report : IsReportOf options lines text
   pub is : output ≡ accepted text
 
 -- that report, or the line of the first bad line
-abbrev pub Replays : Bool → Result (List Line) BadLine → Output → Type 0
-Replays settle (Ok lines) output = IsReplayed settle lines output
-Replays settle (Err bad) output = output ≡ refused (bad_line bad)
+abbrev pub Replays : Options → Result (List Line) BadLine → Output → Type 0
+Replays options (Ok lines) output = IsReplayed options lines output
+Replays options (Err bad) output = output ≡ refused (bad_line bad)
 
 -- The report of a schedule is of a world in which no two participants of one transaction end differently, with all else that
 -- holds of every run, whatever the bytes draw that its lines bring. A world that is brought to rest is at rest.
-pub record IsReplayOf (settle : Bool) (input : List ℕ) (output : Output) : Type 0 where
-  pub is : Replays settle (schedule_of input) output
-  pub safe : (draws : List (Option Drawn)) (lines : List Line) → schedule_of input ≡ Ok lines → IsSafe (nodes_of lines) (world_with settle draws lines)
+pub record IsReplayOf (options : Options) (input : List ℕ) (output : Output) : Type 0 where
+  pub is : Replays options (schedule_of input) output
+  pub safe : (draws : List (Option Drawn)) (lines : List Line) → schedule_of input ≡ Ok lines → IsSafe (nodes_of lines) (world_with options.settle draws lines)
   pub rests : (draws : List (Option Drawn)) (lines : List Line) → schedule_of input ≡ Ok lines → ComesToRest draws lines
 
 -- a filter prints this of its input
 abbrev pub Reports : Filter → List ℕ → Output → Type 0
 Reports (Cell state) input output = IsCellOf input state output
 Reports (Check path) input output = IsCheckOf input path output
-Reports (Replay settle) input output = IsReplayOf settle input output
+Reports (Replay options) input output = IsReplayOf options input output
 
 -- 0 where it ended, 3 where it refused its input
 abbrev pub status_of : Output → ℕ

@@ -23,7 +23,7 @@ use Rattle.command_line.specs.Jobs.Job.{Filters, Make, Serve, Tick}
 abbrev pub meant_filter : NamedFilter → Filter
 meant_filter (filters.Cell state) = Cell state
 meant_filter (filters.Check path) = Check path.now
-meant_filter (filters.Replay settle) = Replay settle
+meant_filter (filters.Replay options) = Replay options
 
 abbrev pub meant_role : NamedRole → Role
 meant_role roles.Coordinator = Coordinator

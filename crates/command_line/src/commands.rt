@@ -50,14 +50,16 @@ fn check<'a>(alloc: Global) -> Result<Command<'a>, AllocError>
         .arg(path)
 }
 
-/// `replay [--settle]`.
+/// `replay [--settle] [--bytes]`.
 fn replay<'a>(alloc: Global) -> Result<Command<'a>, AllocError>
     ensures { IfOk result (IsCommand replay) }
 {
     let settle = flag(alloc, "settle").help("Bring the world to rest behind the last line");
+    let bytes = flag(alloc, "bytes").help("Print the bytes of each message behind its line");
     Command::new(alloc, "replay")
         .about("Print what the lines of a schedule bring about, line by line")
-        .arg(settle)
+        .arg(settle)?
+        .arg(bytes)
 }
 
 /// `make --seed S --steps N`.

@@ -25,6 +25,7 @@ use at_base::text::Text;
 use at_tables::cells::State;
 use clap::error::ErrorKind;
 use clap::{ArgMatches, Error};
+use replay_cmd::options::Options;
 use schedules::values::{read_long, read_number, read_small};
 use std::alloc::{AllocError, Global};
 use url::{ParseError, Url};
@@ -36,8 +37,8 @@ pub enum Filter<'a> {
     Cell(State),
     /// `check --path P`, or `check`, whose path is `/`.
     Check(&'a str),
-    /// `replay`, or `replay --settle`.
-    Replay { settle: bool },
+    /// `replay`, with what is asked beside its report.
+    Replay(Options),
 }
 
 /// What a node that serves is.
@@ -130,9 +131,10 @@ fn read_filter<'a>(name: &str, found: &ArgMatches<'a>) -> Option<Filter<'a>>
     match name {
         "cell" => Some(Filter::Cell(State::from_name(text_at(found, "state")?)?)),
         "check" => Some(Filter::Check(text_at(found, "path")?)),
-        "replay" => Some(Filter::Replay {
+        "replay" => Some(Filter::Replay(Options {
             settle: flag_at(found, "settle")?,
-        }),
+            bytes: flag_at(found, "bytes")?,
+        })),
         _ => None,
     }
 }

@@ -8,6 +8,7 @@ ghost use Rattle.command_line.specs.Reports.{IsReplayOf, IsReplayed, Replays, ba
 
 use envelope_cmd::output::Printed;
 use replay_cmd::laws::{reports_are_safe, reports_come_to_rest, what_is_read_is_replayable};
+use replay_cmd::options::Options;
 use replay_cmd::replay::replay;
 use schedules::line::{BadLine, Schedule, ScheduleError};
 use schedules::reader::read_schedule;
@@ -22,24 +23,24 @@ pub(crate) fn refusal(alloc: Global, bad: BadLine) -> Result<Printed, AllocError
 }
 
 #[tactic(auto, using(crate::proofs::Reports::replayed_so))]
-fn report(alloc: Global, schedule: &Schedule, settle: bool) -> Result<Printed, AllocError>
+fn report(alloc: Global, schedule: &Schedule, options: Options) -> Result<Printed, AllocError>
     requires { IsReplayable schedule.now }
-    ensures { IfOk result (IsReplayed settle schedule.now) }
+    ensures { IfOk result (IsReplayed options schedule.now) }
 {
-    let lines = replay(alloc, schedule, settle)?;
+    let lines = replay(alloc, schedule, options)?;
     let text = Vec::from_slice(alloc, lines.as_slice())?;
     let printed = Printed::accepted(text);
     Ok(printed)
 }
 
 #[tactic(auto, using(crate::proofs::Reports::replays_so, crate::proofs::Reports::refuses_so))]
-fn printed(alloc: Global, input: &[u8], settle: bool) -> Result<Printed, AllocError>
-    ensures { IfOk result (Replays settle (schedule_of input.now)) }
+fn printed(alloc: Global, input: &[u8], options: Options) -> Result<Printed, AllocError>
+    ensures { IfOk result (Replays options (schedule_of input.now)) }
 {
     what_is_read_is_replayable();
     match read_schedule(alloc, input) {
         Ok(schedule) => {
-            let printed = report(alloc, &schedule, settle)?;
+            let printed = report(alloc, &schedule, options)?;
             Ok(printed)
         }
         Err(ScheduleError::Bad(bad)) => {
@@ -50,16 +51,15 @@ fn printed(alloc: Global, input: &[u8], settle: bool) -> Result<Printed, AllocEr
     }
 }
 
-/// The report of the schedule that the bytes are, whose world is brought to rest behind it where that is asked, or the line of
-/// their first bad line. In the world of the report no two participants of one transaction ended differently
+/// The report of the schedule that the bytes are, with what is asked beside it, or the line of their first bad line. In the world of the report no two participants of one transaction ended differently
 /// (WS-AtomicTransaction 1.2, section 1).
 #[tactic(auto, using(crate::proofs::Reports::replay_of))]
-pub fn replayed(alloc: Global, input: &[u8], settle: bool) -> Result<Printed, AllocError>
-    ensures { IfOk result (λ printed. IsReplayOf settle input.now printed) }
+pub fn replayed(alloc: Global, input: &[u8], options: Options) -> Result<Printed, AllocError>
+    ensures { IfOk result (λ printed. IsReplayOf options input.now printed) }
 {
     what_is_read_is_replayable();
     reports_are_safe();
     reports_come_to_rest();
-    let printed = printed(alloc, input, settle)?;
+    let printed = printed(alloc, input, options)?;
     Ok(printed)
 }

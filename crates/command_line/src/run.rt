@@ -60,7 +60,7 @@ fn report(alloc: Global, filter: &Filter<'_>, input: &[u8]) -> Result<Printed, A
     match filter {
         Filter::Cell(state) => cell(alloc, input, *state),
         Filter::Check(path) => check(alloc, input, path),
-        Filter::Replay { settle } => replayed(alloc, input, *settle),
+        Filter::Replay(options) => replayed(alloc, input, *options),
     }
 }
 

@@ -344,6 +344,10 @@ const FAULTY: &[(&str, &str)] = &[
         "error: the argument '--settle' cannot be used multiple times\n\nUsage: atx replay [OPTIONS]\n",
     ),
     (
+        "replay --bytes --bytes",
+        "error: the argument '--bytes' cannot be used multiple times\n\nUsage: atx replay [OPTIONS]\n",
+    ),
+    (
         "make --steps 1",
         "error: the following required arguments were not provided:\n  --seed <SEED>\n\nUsage: atx make --seed <SEED> --steps <N>\n",
     ),

@@ -68,6 +68,12 @@ const SCHEDULES: &[(&str, &str, u8, &str)] = &[
 tick 1 25000 202\ntick 1 30000 202\ntick 1 35000 202\ntick 1 40000 202\n\
 end messages 0 committed 0 aborted 0 lost 0\n",
     ),
+    (
+        "replay --bytes",
+        "nodes 1\ncommit 1 1-1\n",
+        0,
+        "up 1 1\nrefused state\nend messages 0 committed 0 aborted 0 lost 0\n",
+    ),
     ("replay", "", 3, "line 1 cause 7\n"),
     (
         "replay --settle",

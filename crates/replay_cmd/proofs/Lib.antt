@@ -6,4 +6,5 @@ pub mod RestEvents
 pub mod ReplayRuns
 mod EventLines
 mod LineDraws
+mod MessageTexts
 mod TakenLines

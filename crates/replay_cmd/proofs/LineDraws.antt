@@ -1,11 +1,13 @@
 -- What the bytes of lines draw, line after line.
-use Rattle.std.proofs.Common.{ℕ, List, [], ◌∷◌, ◌++◌, ◌≡◌, ◌≤◌, drop, length, sym, ap, ◌∙◌, subst, Bool}
+use Rattle.std.proofs.Common.{ℕ, List, [], ◌∷◌, ◌++◌, ◌≡◌, ◌≤◌, drop, length, sym, ap, ◌∙◌, subst}
 use Rattle.std.specs.Prelude.{Option, None}
 use Rattle.std.proofs.lemmas.List.{append-nil, append_assoc, drop_all}
 use Rattle.raw_requests.specs.declared.Drawn.{Drawn}
 use Rattle.schedules.specs.declared.line.Line.{Line}
 use Rattle.replay_cmd.specs.Laws.{AreDrawn, IsDrawn, IsReport}
-use Rattle.replay_cmd.specs.ReportOf.{Course, course_with, quiet, whole}
+use Rattle.replay_cmd.specs.MessageBytes.{IsShown}
+use Rattle.replay_cmd.specs.declared.options.Options.{Options}
+use Rattle.replay_cmd.specs.ReportOf.{Course, course_with, quiet}
 
 pub drawn_more :
     (lines behind : List Line) (line : Line) (d : Option Drawn) (front : List (Option Drawn)) (next : List Line) (after : List (Option Drawn))
@@ -34,6 +36,6 @@ pub all_quiet :
 all_quiet lines i front past so = sym (append-nil front) ∙ ap (λ ls. front ++ quiet ls) (sym (drop_all i lines past)) ∙ so
 
 pub is_report :
-    (settle : Bool) (all : List Line) (draws : List (Option Drawn)) (c : Course) (text : List ℕ)
-    → AreDrawn all draws → c ≡ course_with settle draws all → text ≡ whole c → IsReport settle all text
-is_report settle all draws c text h e f = record { draws = draws; are = h; is = f ∙ ap whole e }
+    (options : Options) (all : List Line) (draws : List (Option Drawn)) (c : Course) (text : List ℕ)
+    → AreDrawn all draws → c ≡ course_with options.settle draws all → IsShown options.bytes c text → IsReport options all text
+is_report options all draws c text h e f = record { draws = draws; are = h; shown = subst (λ x. IsShown options.bytes x text) e f }

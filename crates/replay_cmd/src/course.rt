@@ -27,7 +27,7 @@ use settlement::settle::settle;
 use std::alloc::{AllocError, Global};
 use std::marker::Model;
 use world_laws::event::{Fates, Input, WorldEvent};
-use world_laws::posts::Steps;
+use world_laws::posts::{Posted, Steps};
 use world_laws::world::{Stepped, World};
 
 /// A world takes no more events; the lines of a schedule give fewer.
@@ -673,6 +673,13 @@ impl Course {
     {
         let events = settle(alloc, &self.world)?;
         self.all_happen(alloc, events.as_slice())
+    }
+
+    /// The messages that were posted, in order.
+    pub fn all_posted(&self) -> &[Posted]
+        ensures { result.now ≡ self.now.world.posted }
+    {
+        self.world.all_posted()
     }
 
     /// What was printed, with the last line.

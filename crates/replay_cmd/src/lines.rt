@@ -4,6 +4,7 @@ ghost use Rattle.std.specs.Prelude.{ℕ, ◌≡◌, ◌++◌, [], OnOk, codes};
 ghost use Rattle.at_base.specs.declared.outs.Effect.TheVariants as effects;
 ghost use Rattle.at_model.specs.Views.{behind_slash, line_of, message_name, path_in, receiver_number};
 ghost use Rattle.replay_cmd.specs.Lines.{deliver_line, down_line, effect_line, end_line, forged_line, inject_line, item_line, leaf_words, message_line, message_start, no_message_line, refused_line, summary_line, tick_line, up_already_line, up_line};
+ghost use Rattle.replay_cmd.specs.MessageBytes.{bytes_line};
 
 use at_base::epr::Epr;
 use at_base::id::Id;
@@ -132,6 +133,24 @@ impl Lines {
         ensures { OnOk result (self.new ≡ self.old ++ bytes.now) }
     {
         self.bytes.extend_from_slice(bytes)
+    }
+
+    /// A line, with its line feed.
+    pub fn push_line(&mut self, line: &[u8]) -> Result<(), AllocError>
+        ensures { OnOk result (self.new ≡ self.old ++ (line.now ++ codes "\n")) }
+    {
+        self.push_bytes(line)?;
+        self.push("\n")
+    }
+
+    /// The bytes of a message, in hexadecimal.
+    #[tactic(auto, unfolding(crate::specs::MessageBytes::bytes_line))]
+    pub fn push_hex(&mut self, alloc: Global, text: &[u8]) -> Result<(), AllocError>
+        ensures { OnOk result (self.new ≡ self.old ++ bytes_line text.now) }
+    {
+        let digits = hex::encode(alloc, text)?;
+        let line = format!(in alloc; "bytes {}\n", digits)?;
+        self.push(line.as_str())
     }
 
     /// How a node's start came out.

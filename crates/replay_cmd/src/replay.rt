@@ -5,6 +5,7 @@ ghost use Rattle.at_base.specs.declared.event.Local.TheVariants as locals;
 ghost use Rattle.replay_cmd.specs.declared.fault.Fault.TheVariants as faults;
 ghost use Rattle.raw_requests.specs.declared.Drawn.{Drawn as Drew};
 ghost use Rattle.replay_cmd.specs.Laws.{ComesToRest, IsReplayable, IsReport, IsSafe};
+ghost use Rattle.replay_cmd.specs.MessageBytes.{IsShown};
 ghost use Rattle.replay_cmd.specs.ReportOf.{all_taken, course_of, course_with, injects_where, nodes_of, summary_of, taken, world_made, world_with};
 ghost use Rattle.schedules.specs.Generator.{made};
 
@@ -13,6 +14,8 @@ use crate::draws::{draw_all, quiet};
 use crate::fault::{Armed, Fault};
 use crate::laws::{reports_are_safe, reports_come_to_rest};
 use crate::lines::Lines;
+use crate::message_bytes::{texts_of, with_bytes};
+use crate::options::Options;
 use crate::requests::{begin, interpose, work};
 use at_base::event::Local;
 use raw_requests::Drawn;
@@ -171,14 +174,26 @@ fn ended(
     }
 }
 
+/// What was printed of a course, with the envelopes of its messages where they are asked for.
+fn shown(alloc: Global, course: Course, bytes: bool) -> Result<Lines, AllocError>
+    ensures { IfOk result (IsShown bytes course) }
+{
+    if bytes {
+        let texts = texts_of(alloc, course.all_posted())?;
+        let report = course.whole(alloc)?;
+        return with_bytes(alloc, report.as_slice(), texts.as_slice());
+    }
+    course.whole(alloc)
+}
+
 #[tactic(auto, using(crate::proofs::LineDraws::is_report))]
-fn reported(alloc: Global, schedule: &Schedule, settle: bool) -> Result<Lines, AllocError>
+fn reported(alloc: Global, schedule: &Schedule, options: Options) -> Result<Lines, AllocError>
     requires { IsReplayable schedule.now }
-    ensures { IfOk result (IsReport settle schedule.now) }
+    ensures { IfOk result (IsReport options schedule.now) }
 {
     let draws = draw_all(alloc, schedule.as_slice())?;
-    let course = ended(alloc, schedule, draws.as_slice(), settle)?;
-    let lines = course.whole(alloc)?;
+    let course = ended(alloc, schedule, draws.as_slice(), options.settle)?;
+    let lines = shown(alloc, course, options.bytes)?;
     Ok(lines)
 }
 
@@ -187,16 +202,16 @@ fn reported(alloc: Global, schedule: &Schedule, settle: bool) -> Result<Lines, A
 /// one transaction ended differently, through any depth of interposition (WS-AtomicTransaction 1.2, section 1).
 ///
 /// With `settle` the events that bring the world to rest happen behind the last line, and are reported as others are. Behind them
-/// nobody is in doubt (`rests`).
-pub fn replay(alloc: Global, schedule: &Schedule, settle: bool) -> Result<Lines, AllocError>
+/// nobody is in doubt (`rests`). With `bytes` the envelope of each message stands behind its line, in hexadecimal.
+pub fn replay(alloc: Global, schedule: &Schedule, options: Options) -> Result<Lines, AllocError>
     requires { IsReplayable schedule.now }
-    ensures text { IfOk result (IsReport settle schedule.now) }
-    ensures safe { (draws : List (Option Drew)) → IsSafe (nodes_of schedule.now) (world_with settle draws schedule.now) }
+    ensures text { IfOk result (IsReport options schedule.now) }
+    ensures safe { (draws : List (Option Drew)) → IsSafe (nodes_of schedule.now) (world_with options.settle draws schedule.now) }
     ensures rests { (draws : List (Option Drew)) → ComesToRest draws schedule.now }
 {
     reports_are_safe();
     reports_come_to_rest();
-    reported(alloc, schedule, settle)
+    reported(alloc, schedule, options)
 }
 
 /// The schedule of a seed.

@@ -2,6 +2,7 @@
 
 use replay_cmd::laws::what_is_read_is_replayable;
 use replay_cmd::lines::Lines;
+use replay_cmd::options::Options;
 use replay_cmd::replay::replay;
 use schedules::reader::read_schedule;
 use std::alloc::{AllocError, Global};
@@ -211,7 +212,14 @@ fn behind<'a>(text: &'a str, start: &str) -> &'a str {
 fn reported(alloc: Global, script: &str) -> Result<Lines, AllocError> {
     what_is_read_is_replayable();
     match read_schedule(alloc, script.as_bytes()) {
-        Ok(schedule) => replay(alloc, &schedule, false),
+        Ok(schedule) => replay(
+            alloc,
+            &schedule,
+            Options {
+                settle: false,
+                bytes: false,
+            },
+        ),
         Err(_) => Err(AllocError),
     }
 }

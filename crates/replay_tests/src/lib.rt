@@ -4,4 +4,6 @@
 #[cfg(test)]
 mod faults;
 #[cfg(test)]
+mod message_bytes;
+#[cfg(test)]
 mod reports;

@@ -2,6 +2,7 @@
 
 use replay_cmd::laws::what_is_read_is_replayable;
 use replay_cmd::lines::Lines;
+use replay_cmd::options::Options;
 use replay_cmd::replay::{replay, summary};
 use schedules::reader::read_schedule;
 use std::alloc::{AllocError, Global};
@@ -749,7 +750,14 @@ fn behind<'a>(text: &'a str, start: &str) -> &'a str {
 fn reported(alloc: Global, script: &str, settle: bool) -> Result<Lines, AllocError> {
     what_is_read_is_replayable();
     match read_schedule(alloc, script.as_bytes()) {
-        Ok(schedule) => replay(alloc, &schedule, settle),
+        Ok(schedule) => replay(
+            alloc,
+            &schedule,
+            Options {
+                settle,
+                bytes: false,
+            },
+        ),
         Err(_) => Err(AllocError),
     }
 }

@@ -4,6 +4,7 @@ ghost use Rattle.report_laws.specs.Laws.{DrawOneThing, HaveOneReport};
 
 use envelope_cmd::laws::bytes_say_one_thing;
 use http_post::laws::{bytes_ask_one_thing, bytes_wait_or_not};
+use wire_posts::laws::what_is_posted_arrives;
 
 /// What bytes draw is determined by them.
 #[tactic(auto, using(crate::proofs::DrawnThings::draw_one))]
@@ -20,4 +21,5 @@ pub fn schedules_have_one_report()
     ensures { HaveOneReport }
 {
     bytes_draw_one_thing();
+    what_is_posted_arrives();
 }

@@ -11,4 +11,4 @@ pub mod line;
 mod meaning;
 pub mod reader;
 pub mod values;
-mod words;
+pub mod words;
