@@ -18,7 +18,8 @@ use at_base::outs::OutList;
 use at_base::target::Target;
 use at_base::text::Text;
 use at_posts::posts::{self, push_fault, push_notice, push_reply, stored_or};
-use at_posts::{addresses, answers};
+use at_posts::answers;
+use endpoints::addresses;
 use endpoints::uris::protocol_of;
 use std::alloc::{AllocError, Global};
 
