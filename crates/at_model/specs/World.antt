@@ -159,12 +159,22 @@ decoded_at (Some target) p = if takes target p.message then Some (arrival_of tar
 abbrev pub decoded : List ℕ → Post → Option Arrived
 decoded base p = option_and_then (λ to. decoded_at (target_at base to.address) p) p.to
 
--- A turn on its way: the world, the book of the node, the fates that are left, and how many fates stand before the stop.
+-- A step that counted: the book before it, what it came to, and the fates of what it sends, with how many of these stand before
+-- the stop.
+pub record Traced : Type 0 where
+  pub before : Book
+  pub outcome : Outcome
+  pub fates : List Bool
+  pub until : Option ℕ
+
+-- A turn on its way: the world, the book of the node, the fates that are left, how many fates stand before the stop, and the
+-- steps that counted so far.
 pub record Turning : Type 0 where
   pub world : World
   pub book : Book
   pub fates : List Bool
   pub until : Option ℕ
+  pub trace : List Traced
 
 abbrev pub stops : Option ℕ → Bool
 stops None = false
@@ -235,11 +245,15 @@ accepted_in n nodes before [] = []
 accepted_in n nodes before (t ∷ ts) =
     accepted_by n nodes (transaction_at before t.id) t ++ accepted_in n nodes before ts
 
+abbrev pub traced : Outcome → Turning → Traced
+traced o r = record { before = r.book; outcome = o; fates = r.fates; until = r.until }
+
 -- A step that counts: its book, its effects and what it accepted; then its outs, each by its fate.
 abbrev pub counted : ℕ → Outcome → Turning → Turning
 counted n o r =
     send_all n o.outs (record r {
       book = o.book;
+      trace = r.trace ++ traced o r ∷ [];
       world = record r.world {
         accepted = r.world.accepted ++ accepted_in n r.world.nodes r.book o.book.transactions;
         happened = r.world.happened ++ map (happened_at n) o.effects;
@@ -311,14 +325,17 @@ abbrev pub turned : ℕ → Turning → World
 turned n r = if is_stopped r then goes_down n r.book r.world else put_book n (Some r.book) r.world (nth n r.world.nodes)
 
 abbrev pub turn_from : World → Book → List Bool → Option ℕ → Turning
-turn_from w b fates until = record { world = w; book = b; fates = fates; until = until }
+turn_from w b fates until = record { world = w; book = b; fates = fates; until = until; trace = [] }
 
 -- A turn: the step of its input, then the due steps.
-abbrev pub after_input : ℕ → ℕ → Turning → World
-after_input n now r = turned n (due_steps n now (items_of r.book) r)
+abbrev pub after_input : ℕ → ℕ → Turning → Turning
+after_input n now r = due_steps n now (items_of r.book) r
+
+abbrev pub walked : ℕ → ℕ → Plan → Turning → Turning
+walked n now p r = after_input n now (take_step n p r)
 
 abbrev pub take_turn : ℕ → ℕ → Plan → Turning → World
-take_turn n now p r = after_input n now (take_step n p r)
+take_turn n now p r = turned n (walked n now p r)
 
 -- What a turn begins with.
 pub data Input : Type 0 where
@@ -371,6 +388,31 @@ turn n Raw fates until x b w = take_turn n x.clock (answer_plan b 400) (turn_fro
 abbrev pub ask : ℕ → Local → List Bool → Option ℕ → Node → Book → World → World
 ask n l fates until x b w = turned n (take_step n (plan b (events.Local l) x.clock) (turn_from w b fates until))
 
+-- The steps of an event that counted, in order.
+abbrev pub delivery_trace : ℕ → Node → Book → List Bool → Option ℕ → Option Posted → World → List Traced
+delivery_trace n x b fates until None w = []
+delivery_trace n x b fates until (Some p) w =
+    if is_receiver n p.receiver
+    then (walked n x.clock (arrival_plan b x.clock (decoded x.base p.content)) (turn_from w b fates until)).trace
+    else []
+
+abbrev pub turn_trace : ℕ → Input → List Bool → Option ℕ → Node → Book → World → List Traced
+turn_trace n (Deliver k) fates until x b w = delivery_trace n x b fates until (nth k w.posted) w
+turn_trace n (Tick ms) fates until x b w =
+    (walked n (x.clock + ms) (plan b events.Tick (x.clock + ms)) (turn_from (ticked n (later ms x) w) b fates until)).trace
+turn_trace n Raw fates until x b w = (walked n x.clock (answer_plan b 400) (turn_from w b fates until)).trace
+
+abbrev pub trace_while_up : WorldEvent → Node → Option Book → World → List Traced
+trace_while_up e x None w = []
+trace_while_up (Turn n input fates until) x (Some b) w = turn_trace n input fates until x b w
+trace_while_up (Ask n l fates until) x (Some b) w = (take_step n (plan b (events.Local l) x.clock) (turn_from w b fates until)).trace
+trace_while_up (Crash n) x (Some b) w = []
+trace_while_up (Up n landed stop) x (Some b) w = []
+
+abbrev pub trace_at : WorldEvent → Option Node → World → List Traced
+trace_at e None w = []
+trace_at e (Some x) w = trace_while_up e x x.book w
+
 -- the last incarnation leaves no next one
 abbrev pub started : ℕ → Node → Node
 started incarnation x = record x { journal = x.journal ++ records.Start incarnation ∷ [] }
@@ -414,6 +456,9 @@ at_some_node e (Some x) w = at_node e x w
 -- One event of a world.
 unfoldable pub world_step : World → WorldEvent → World
 world_step w e = at_some_node e (nth (node_of e) w.nodes) w
+
+abbrev pub trace_of : World → WorldEvent → List Traced
+trace_of w e = trace_at e (nth (node_of e) w.nodes) w
 
 -- A run: the events in order, from a world, or from the opening one.
 abbrev pub run_on : World → List WorldEvent → World

@@ -19,6 +19,7 @@ pub mod RecordRules
 pub mod NextIds
 pub mod LinkDecisions
 pub mod Order
+pub mod StepMakes
 pub mod NodeLives
 pub mod LinkPhases
 pub mod MovePosts

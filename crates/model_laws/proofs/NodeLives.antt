@@ -17,8 +17,9 @@ use Rattle.model_laws.specs.DrawnIds.{Life, LifeEvent, Stepped, Stopped, Started
 use Rattle.model_laws.specs.Order.{IsInOrderWhileUp}
 use Rattle.at_model.specs.Step.{Outcome, Plan, still, items_of, plan, step, is_due}
 use Rattle.at_model.specs.World.{Node, Posted, World, WorldEvent, Turn, Ask, Crash, Up, Input, Deliver, Tick, Raw, Turning, nth, put_nth, new_node, new_nodes, opening, is_stopped, fate, after_fate, sent, send_all, counted, with_record, landed_step, absent_step, step_by, take_step, due_step, due_steps, put_book, goes_down, lost_in, turned, turn_from, take_turn, ticked, later, answer_plan, arrival_plan, is_receiver, deliver, decoded, turn, ask, started, up_after, start, on_book, down_only, at_node, at_some_node, node_of, world_step, run_on, run_of, Hosts}
-use Rattle.model_laws.specs.MadeIds.{made_by, made_by_due, made_by_turn, made_by_delivery, made_by_input, made_while_up, made_by_event, made_on, HasLived, MakesNoIdTwice}
-use Rattle.model_laws.proofs.MadeIds.{held_all, all_none, no_id_made_twice}
+use Rattle.model_laws.specs.MadeIds.{HasLived, MakesNoIdTwice}
+use Rattle.model_laws.proofs.MadeIds.{no_id_made_twice}
+use Rattle.model_laws.proofs.StepMakes.{counted_book, made_by, made_by_due, made_by_turn, made_by_delivery, made_by_input, made_while_up, none_new, nothing_more, on_makes, stepwise_by_event, stepwise_on}
 use Rattle.model_laws.proofs.Order.{ids_rise}
 
 -- nodes by their numbers
@@ -51,10 +52,6 @@ record Lives (base : List ℕ) (l m : Life) (made : List Numbers) : Type 0 where
   events : List LifeEvent
   life : life_of base events l ≡ m
   makes : made_through base events l ≡ made
-
-nothing_more : (ids : List Numbers) → ids ++ [] ≡ ids
-nothing_more [] = refl
-nothing_more (id ∷ ids) = ap (λ l. id ∷ l) (nothing_more ids)
 
 stays : (base : List ℕ) (l : Life) → Lives base l l []
 stays base l = record { events = []; life = refl; makes = refl }
@@ -106,9 +103,6 @@ goes_then n base x r s t these those h k = record {
   elsewhere = λ m i. k.elsewhere m i ∙ h.elsewhere m i;
 }
 
-none_new : (b : Book) → new_ids b b ≡ []
-none_new b = all_none b b (held_all b)
-
 -- nothing moved but the fates
 same_goes : (n : ℕ) (base : List ℕ) (x : Node) (r t : Turning) → IsAt n base x r → t.book ≡ r.book → t.world.nodes ≡ r.world.nodes → Goes n base x r t (new_ids r.book t.book)
 same_goes n base x r t at e f = record {
@@ -119,16 +113,7 @@ same_goes n base x r t at e f = record {
   elsewhere = λ m i. ap (nth m) f;
 }
 
--- sending leaves nodes and book as they are
-sent_book : (n : ℕ) (os : List Out) (r : Turning) → (send_all n os r).book ≡ r.book
-sent_book n [] r = refl
-sent_book n (o ∷ os) r = at (λ t. sent_book n os t) (is_stopped r)
-  where
-    at : ((t : Turning) → (send_all n os t).book ≡ t.book) → (b : Bool)
-        → (if b then r else send_all n os (record (after_fate r) { world = sent n (fate r.fates) o r.world })).book ≡ r.book
-    at rest true = refl
-    at rest false = rest (record (after_fate r) { world = sent n (fate r.fates) o r.world })
-
+-- sending leaves nodes as they are
 sent_one : (n : ℕ) (f : Bool) (o : Out) (w : World) → (sent n f o w).nodes ≡ w.nodes
 sent_one n true (outs.Post p) w = refl
 sent_one n true (outs.Answer status reply) w = refl
@@ -142,9 +127,6 @@ sent_nodes n (o ∷ os) r = at (λ t. sent_nodes n os t) (is_stopped r)
         → (if b then r else send_all n os (record (after_fate r) { world = sent n (fate r.fates) o r.world })).world.nodes ≡ r.world.nodes
     at rest true = refl
     at rest false = rest (record (after_fate r) { world = sent n (fate r.fates) o r.world }) ∙ sent_one n (fate r.fates) o r.world
-
-counted_book : (n : ℕ) (o : Outcome) (r : Turning) → (counted n o r).book ≡ o.book
-counted_book n o r = sent_book n o.outs _
 
 counted_nodes : (n : ℕ) (o : Outcome) (r : Turning) → (counted n o r).world.nodes ≡ r.world.nodes
 counted_nodes n o r = sent_nodes n o.outs _
@@ -406,13 +388,13 @@ record Ran (n : ℕ) (base : List ℕ) (x : Node) (v : World) (made : List Numbe
   lives : Lives base (life x.journal x.book) (life node.journal node.book) made
 
 abbrev made_at : ℕ → World → WorldEvent → List Numbers
-made_at n w e = if nat_eq (node_of e) n then made_by_event e (nth n w.nodes) w else []
+made_at n w e = if nat_eq (node_of e) n then stepwise_by_event e (nth n w.nodes) w else []
 
 ran_here : (base : List ℕ) (e : WorldEvent) (x : Node) (w : World) → nth (node_of e) w.nodes ≡ Some x → x.base ≡ base
-    → Ran (node_of e) base x (world_step w e) (made_by_event e (nth (node_of e) w.nodes) w)
+    → Ran (node_of e) base x (world_step w e) (stepwise_by_event e (nth (node_of e) w.nodes) w)
 unfolding world_step
 ran_here base e x w h b =
-    subst (λ o. Ran (node_of e) base x (at_some_node e o w) (made_by_event e o w)) (sym h) (ran (event_ends base e x w h b))
+    subst (λ o. Ran (node_of e) base x (at_some_node e o w) (stepwise_by_event e o w)) (sym h) (ran (event_ends base e x w h b))
   where
     ran : Ends (node_of e) base x w (at_node e x w) (made_while_up e x x.book w) → Ran (node_of e) base x (at_node e x w) (made_while_up e x x.book w)
     ran h = record { node = h.node; found = h.found; base_is = h.base_is; lives = h.lives }
@@ -420,9 +402,9 @@ ran_here base e x w h b =
 ran_one : (n : ℕ) (base : List ℕ) (e : WorldEvent) (x : Node) (w : World) → nth n w.nodes ≡ Some x → x.base ≡ base → Ran n base x (world_step w e) (made_at n w e)
 ran_one n base e x w h b = by_number (nat_eq (node_of e) n) refl
   where
-    by_number : (c : Bool) → nat_eq (node_of e) n ≡ c → Ran n base x (world_step w e) (if c then made_by_event e (nth n w.nodes) w else [])
+    by_number : (c : Bool) → nat_eq (node_of e) n ≡ c → Ran n base x (world_step w e) (if c then stepwise_by_event e (nth n w.nodes) w else [])
     by_number true c =
-        subst (λ m. Ran m base x (world_step w e) (made_by_event e (nth m w.nodes) w)) (eqb-true (node_of e) n c)
+        subst (λ m. Ran m base x (world_step w e) (stepwise_by_event e (nth m w.nodes) w)) (eqb-true (node_of e) n c)
         (ran_here base e x w (ap (λ m. nth m w.nodes) (eqb-true (node_of e) n c) ∙ h) b)
     by_number false c = record {
       node = x;
@@ -431,16 +413,16 @@ ran_one n base e x w h b = by_number (nat_eq (node_of e) n) refl
       lives = stays base (life x.journal x.book);
     }
 
-runs : (n : ℕ) (base : List ℕ) (es : List WorldEvent) (x : Node) (w : World) → nth n w.nodes ≡ Some x → x.base ≡ base → Ran n base x (run_on w es) (made_on n w es)
+runs : (n : ℕ) (base : List ℕ) (es : List WorldEvent) (x : Node) (w : World) → nth n w.nodes ≡ Some x → x.base ≡ base → Ran n base x (run_on w es) (stepwise_on n w es)
 runs n base [] x w h b = record { node = x; found = h; base_is = b; lives = stays base (life x.journal x.book) }
 runs n base (e ∷ es) x w h b =
     let one : Ran n base x (world_step w e) (made_at n w e) = ran_one n base e x w h b in
-    let rest : Ran n base one.node (run_on (world_step w e) es) (made_on n (world_step w e) es) = runs n base es one.node (world_step w e) one.found one.base_is in
+    let rest : Ran n base one.node (run_on (world_step w e) es) (stepwise_on n (world_step w e) es) = runs n base es one.node (world_step w e) one.found one.base_is in
     record {
       node = rest.node;
       found = rest.found;
       base_is = rest.base_is;
-      lives = lives_then base (life x.journal x.book) (life one.node.journal one.node.book) (life rest.node.journal rest.node.book) (made_at n w e) (made_on n (world_step w e) es)
+      lives = lives_then base (life x.journal x.book) (life one.node.journal one.node.book) (life rest.node.journal rest.node.book) (made_at n w e) (stepwise_on n (world_step w e) es)
           one.lives rest.lives;
     }
 
@@ -456,15 +438,15 @@ nowhere_one n e w h = by_number (nat_eq (node_of e) n) refl
 nowhere_made : (n : ℕ) (e : WorldEvent) (w : World) → nth n w.nodes ≡ None → made_at n w e ≡ []
 nowhere_made n e w h = by_number (nat_eq (node_of e) n)
   where
-    by_number : (c : Bool) → (if c then made_by_event e (nth n w.nodes) w else []) ≡ []
-    by_number true = ap (λ o. made_by_event e o w) h
+    by_number : (c : Bool) → (if c then stepwise_by_event e (nth n w.nodes) w else []) ≡ []
+    by_number true = ap (λ o. stepwise_by_event e o w) h
     by_number false = refl
 
-nowhere : (n : ℕ) (es : List WorldEvent) (w : World) → nth n w.nodes ≡ None → (nth n (run_on w es).nodes ≡ None) × (made_on n w es ≡ [])
+nowhere : (n : ℕ) (es : List WorldEvent) (w : World) → nth n w.nodes ≡ None → (nth n (run_on w es).nodes ≡ None) × (stepwise_on n w es ≡ [])
 nowhere n [] w h = (h, refl)
 nowhere n (e ∷ es) w h =
     let (left, made) = nowhere n es (world_step w e) (nowhere_one n e w h) in
-    (left, ap (λ ids. ids ++ made_on n (world_step w e) es) (nowhere_made n e w h) ∙ made)
+    (left, ap (λ ids. ids ++ stepwise_on n (world_step w e) es) (nowhere_made n e w h) ∙ made)
 
 -- the opening world
 none_at_zero : (xs : List Node) → nth 0 xs ≡ None
@@ -496,7 +478,7 @@ opening_node hosts zero x e = absurd (none_found (nth 0 (new_nodes hosts.base_of
     none_found o x e f = cc
 opening_node hosts (suc n) x e = opened hosts.base_of hosts.count 1 (suc n) x (omega arith) e ∙ ap (λ i. new_node (hosts.base_of i)) (omega arith)
 
-run_from : (hosts : Hosts) (n : ℕ) (es : List WorldEvent) (x : Node) → nth n (opening hosts).nodes ≡ Some x → Ran n (hosts.base_of n) (new_node (hosts.base_of n)) (run_of hosts es) (made_on n (opening hosts) es)
+run_from : (hosts : Hosts) (n : ℕ) (es : List WorldEvent) (x : Node) → nth n (opening hosts).nodes ≡ Some x → Ran n (hosts.base_of n) (new_node (hosts.base_of n)) (run_of hosts es) (stepwise_on n (opening hosts) es)
 run_from hosts n es x h =
     runs n (hosts.base_of n) es (new_node (hosts.base_of n)) (opening hosts) (subst (λ y. nth n (opening hosts).nodes ≡ Some y) (opening_node hosts n x h) h) refl
 
@@ -506,13 +488,13 @@ same_node o x y e f = cc
 not_there : (o : Option Node) (x : Node) → o ≡ None → o ≡ Some x → ⊥
 not_there o x e f = cc
 
-lived : (hosts : Hosts) (n : ℕ) (es : List WorldEvent) (x : Node) → nth n (run_of hosts es).nodes ≡ Some x → HasLived (hosts.base_of n) x (made_on n (opening hosts) es)
+lived : (hosts : Hosts) (n : ℕ) (es : List WorldEvent) (x : Node) → nth n (run_of hosts es).nodes ≡ Some x → HasLived (hosts.base_of n) x (stepwise_on n (opening hosts) es)
 lived hosts n es x h = by_node (nth n (opening hosts).nodes) refl
   where
-    by_node : (o : Option Node) → nth n (opening hosts).nodes ≡ o → HasLived (hosts.base_of n) x (made_on n (opening hosts) es)
+    by_node : (o : Option Node) → nth n (opening hosts).nodes ≡ o → HasLived (hosts.base_of n) x (stepwise_on n (opening hosts) es)
     by_node None e = absurd (not_there (nth n (run_of hosts es).nodes) x (nowhere n es (opening hosts) e).0 h)
     by_node (Some y) e =
-        let r : Ran n (hosts.base_of n) (new_node (hosts.base_of n)) (run_of hosts es) (made_on n (opening hosts) es) = run_from hosts n es y e in
+        let r : Ran n (hosts.base_of n) (new_node (hosts.base_of n)) (run_of hosts es) (stepwise_on n (opening hosts) es) = run_from hosts n es y e in
         let same : r.node ≡ x = same_node (nth n (run_of hosts es).nodes) r.node x r.found h in
         record {
           events = r.lives.events;
@@ -521,20 +503,20 @@ lived hosts n es x h = by_node (nth n (opening hosts).nodes) refl
           made = r.lives.makes;
         }
 
-apart : (hosts : Hosts) (n : ℕ) (es : List WorldEvent) → AreApart (made_on n (opening hosts) es)
+apart : (hosts : Hosts) (n : ℕ) (es : List WorldEvent) → AreApart (stepwise_on n (opening hosts) es)
 apart hosts n es = by_node (nth n (opening hosts).nodes) refl
   where
-    by_node : (o : Option Node) → nth n (opening hosts).nodes ≡ o → AreApart (made_on n (opening hosts) es)
+    by_node : (o : Option Node) → nth n (opening hosts).nodes ≡ o → AreApart (stepwise_on n (opening hosts) es)
     by_node None e = subst AreApart (sym (nowhere n es (opening hosts) e).1) tt
     by_node (Some y) e =
-        let r : Ran n (hosts.base_of n) (new_node (hosts.base_of n)) (run_of hosts es) (made_on n (opening hosts) es) = run_from hosts n es y e in
+        let r : Ran n (hosts.base_of n) (new_node (hosts.base_of n)) (run_of hosts es) (stepwise_on n (opening hosts) es) = run_from hosts n es y e in
         subst AreApart r.lives.makes (no_id_made_twice.life (hosts.base_of n) r.lives.events)
 
 pub makes_no_id_twice : MakesNoIdTwice
 makes_no_id_twice = record {
-  apart = apart;
-  lived = lived;
+  apart = λ hosts n es. subst AreApart (sym (on_makes n (opening hosts) es)) (apart hosts n es);
+  lived = λ hosts n es x h. subst (HasLived (hosts.base_of n) x) (sym (on_makes n (opening hosts) es)) (lived hosts n es x h);
   order = λ hosts n es x h.
-      let l : HasLived (hosts.base_of n) x (made_on n (opening hosts) es) = lived hosts n es x h in
+      let l : HasLived (hosts.base_of n) x (stepwise_on n (opening hosts) es) = lived hosts n es x h in
       subst IsInOrderWhileUp l.book (ids_rise.life (hosts.base_of n) l.events);
 }

@@ -16,7 +16,7 @@ use Rattle.at_base.specs.declared.outs.Out.TheVariants as outs
 use Rattle.at_model.specs.Book.{Book, last_counter}
 use Rattle.at_model.specs.Recovery.{recover, last_incarnation}
 use Rattle.at_model.specs.Step.{Outcome, Plan, still, items_of, plan, is_due, step}
-use Rattle.at_model.specs.World.{Node, Posted, World, WorldEvent, Turn, Ask, Crash, Up, Input, Deliver, Tick, Raw, Turning, nth, put_nth, opening, with_post, decoded, is_stopped, fate, fates_left, one_nearer, after_fate, sent, send_all, accepted_in, happened_at, counted, with_record, landed_step, absent_step, step_by, take_step, due_step, due_steps, put_book, goes_down, lost_in, turned, turn_from, take_turn, ticked, later, answer_plan, arrival_plan, is_receiver, deliver, turn, ask, started, up_after, start, on_book, down_only, at_node, at_some_node, node_of, world_step, run_on, Hosts}
+use Rattle.at_model.specs.World.{Node, Posted, World, WorldEvent, Turn, Ask, Crash, Up, Input, Deliver, Tick, Raw, Turning, nth, put_nth, opening, with_post, decoded, is_stopped, fate, fates_left, one_nearer, after_fate, sent, send_all, accepted_in, happened_at, counted, with_record, landed_step, absent_step, step_by, take_step, due_step, due_steps, put_book, goes_down, lost_in, turned, turn_from, take_turn, ticked, later, answer_plan, arrival_plan, is_receiver, deliver, turn, ask, started, up_after, start, on_book, down_only, at_node, at_some_node, node_of, world_step, run_on, Hosts, Traced, traced}
 use Rattle.model_laws.specs.Agreement.{IsIn}
 use Rattle.model_laws.specs.PhaseAnswers.{IsInPhase}
 use Rattle.model_laws.specs.DrawnIds.{restarted, with_entry}
@@ -162,15 +162,16 @@ sends n (o ∷ os) x r found = by_stop (λ t f. sends n os x t f) (is_stopped r)
     by_stop rest false false a = sends_none n a os x r (send_all n os (after_fate r)) (rest (after_fate r) found)
 
 -- A step that counts; its record, if any, stands in the journal.
-counted_reached : (c : Closed) (n : ℕ) (r : Turning) (x : Node) (e : Event) (now : ℕ) (landed : Bool) (entry : Option Record) (o : Outcome) (fates : List Bool) (until : Option ℕ)
+counted_reached : (c : Closed) (n : ℕ) (r : Turning) (x : Node) (e : Event) (now : ℕ) (landed : Bool) (entry : Option Record) (o : Outcome) (fates : List Bool) (until : Option ℕ) (trace : List Traced)
     → nth n r.world.nodes ≡ Some x → c.Holds (newest n x r) → Heard (newest n x r) n x e → (plan r.book e now).entry ≡ entry → step r.book e now landed ≡ o
     → TurnReached c n (counted n o (record {
       world = record r.world { nodes = put_nth n (record x { journal = with_entry entry landed x.journal }) r.world.nodes };
       book = r.book;
       fates = fates;
       until = until;
+      trace = trace;
     }))
-counted_reached c n r x e now landed entry o fates until found reached heard entry_is is = record {
+counted_reached c n r x e now landed entry o fates until trace found reached heard entry_is is = record {
   node = y;
   found = ap (nth n) sent.nodes ∙ stands;
   reached = subst c.Holds (sym (sent.is ∙ ap (post_all n sent.ps) (before ∙ ap (λ q. now_counts q) (sym is) ∙ ap entered (sym entry_is))))
@@ -192,6 +193,7 @@ counted_reached c n r x e now landed entry o fates until found reached heard ent
       book = o.book;
       fates = fates;
       until = until;
+      trace = trace ++ record { before = r.book; outcome = o; fates = fates; until = until } ∷ [];
     }
 
     stands : nth n begun.world.nodes ≡ Some y
@@ -250,20 +252,20 @@ absent_reached c n r e now entry h f = by_stop (is_stopped (after_fate r))
     by_stop true = same_reached c n r (after_fate r) refl refl h.at
     by_stop false =
         still_there c n r (after_fate r) h.at.node (plan r.book e now).absent h.at.found
-        (counted_reached c n r h.at.node e now false (Some entry) (plan r.book e now).absent (fates_left r.fates) (one_nearer r.until) h.at.found h.at.reached h.heard f refl)
+        (counted_reached c n r h.at.node e now false (Some entry) (plan r.book e now).absent (fates_left r.fates) (one_nearer r.until) r.trace h.at.found h.at.reached h.heard f refl)
 
 landed_reached : (c : Closed) (n : ℕ) (r : Turning) (e : Event) (now : ℕ) (entry : Record) → TurnHears c n r e → (plan r.book e now).entry ≡ Some entry
     → TurnReached c n (landed_step n entry (plan r.book e now) r)
 landed_reached c n r e now entry h f =
     subst (λ w. TurnReached c n (counted n (plan r.book e now).landed (record (after_fate r) { world = w })))
     (sym (ap (with_record n entry r.world) h.at.found))
-    (counted_reached c n r h.at.node e now true (Some entry) (plan r.book e now).landed (fates_left r.fates) (one_nearer r.until) h.at.found h.at.reached h.heard f refl)
+    (counted_reached c n r h.at.node e now true (Some entry) (plan r.book e now).landed (fates_left r.fates) (one_nearer r.until) r.trace h.at.found h.at.reached h.heard f refl)
 
 entry_reached : (c : Closed) (n : ℕ) (r : Turning) (e : Event) (now : ℕ) (entry : Option Record) → TurnHears c n r e → (plan r.book e now).entry ≡ entry
     → TurnReached c n (step_by n entry (plan r.book e now) r)
 entry_reached c n r e now None h f =
     still_there c n r r h.at.node (plan r.book e now).landed h.at.found
-    (counted_reached c n r h.at.node e now true None (plan r.book e now).landed r.fates r.until h.at.found h.at.reached h.heard f refl)
+    (counted_reached c n r h.at.node e now true None (plan r.book e now).landed r.fates r.until r.trace h.at.found h.at.reached h.heard f refl)
 entry_reached c n r e now (Some entry) h f = by_fate (fate r.fates)
   where
     by_fate : (b : Bool) → TurnReached c n (if b then landed_step n entry (plan r.book e now) r else absent_step n (plan r.book e now) r)
@@ -295,6 +297,7 @@ answer_reached c n r status h = by_stop (is_stopped r)
 
     begun : Turning
     begun = record r {
+      trace = r.trace ++ traced (still r.book (outs.Answer status None ∷ [])) r ∷ [];
       world = record r.world {
         accepted = r.world.accepted ++ accepted_in n r.world.nodes r.book r.book.transactions;
         happened = r.world.happened ++ [];

@@ -17,7 +17,7 @@ use Rattle.std.proofs.lemmas.Bool.{eq-eqb}
 use Rattle.at_model.specs.Book.{Book}
 use Rattle.at_base.specs.declared.limits.TheConstants.{RESEND_AFTER}
 use Rattle.at_model.specs.Step.{Outcome, Plan, is_due, items_of, plan}
-use Rattle.at_model.specs.World.{Deliver, Node, Posted, Tick, Turn, Turning, World, accepted_in, answer_plan, arrival_of, arrival_plan, decoded_at, new_nodes, at_some_node, counted, decoded, deliver, due_step, due_steps, happened_at, is_receiver, later, nth, on_book, put_book, put_nth, send_all, step_by, take_step, take_turn, ticked, turned, with_post, with_record, world_step, Hosts, HaveOwnAddresses}
+use Rattle.at_model.specs.World.{Deliver, Node, Posted, Tick, Turn, Turning, World, accepted_in, answer_plan, arrival_of, arrival_plan, decoded_at, new_nodes, at_some_node, counted, decoded, deliver, due_step, due_steps, happened_at, is_receiver, later, nth, on_book, put_book, put_nth, send_all, step_by, take_step, take_turn, ticked, turned, with_post, with_record, world_step, Hosts, HaveOwnAddresses, Traced, traced}
 use Rattle.endpoints.specs.Addresses.{target_at}
 use Rattle.endpoints.specs.Forms.{takes}
 use Rattle.model_laws.specs.Agreement.{IsIn}
@@ -37,8 +37,8 @@ use Rattle.settled.specs.SettlingInvariants.{Invariant, IsLost}
 use Rattle.settled.specs.CalmSteps.{Goes, HasArrived, MakesNone, posted_as}
 
 -- no fate is told, and no stop comes
-abbrev calm : World → Book → Turning
-calm w b = record { world = w; book = b; fates = []; until = None }
+abbrev calm : World → Book → List Traced → Turning
+calm w b t = record { world = w; book = b; fates = []; until = None; trace = t }
 
 abbrev newest : ℕ → Node → World → Book → World
 newest n x w b = record w { nodes = put_nth n (record x { book = Some b }) w.nodes }
@@ -58,10 +58,10 @@ back_in (suc k) q [] ys h i = absurd (omega (arith, h))
 back_in (suc k) q (x ∷ xs) ys h i = back_in k q xs ys (omega (arith, h)) i
 
 -- what is sent
-send_calm : (n : ℕ) (os : List Out) (w : World) (b : Book) → send_all n os (calm w b) ≡ calm (post_all n (posts_of os) w) b
-send_calm n [] w b = refl
-send_calm n (outs.Post p ∷ os) w b = send_calm n os (with_post n p w) b
-send_calm n (outs.Answer status reply ∷ os) w b = send_calm n os w b
+send_calm : (n : ℕ) (os : List Out) (w : World) (b : Book) (t : List Traced) → send_all n os (calm w b t) ≡ calm (post_all n (posts_of os) w) b t
+send_calm n [] w b t = refl
+send_calm n (outs.Post p ∷ os) w b t = send_calm n os (with_post n p w) b t
+send_calm n (outs.Answer status reply ∷ os) w b t = send_calm n os w b t
 
 posts_nodes : (n : ℕ) (ps : List Post) (w : World) → (post_all n ps w).nodes ≡ w.nodes
 posts_nodes n [] w = refl
@@ -165,7 +165,8 @@ node_base hosts w distinct reached n x found =
 record Standing (hosts : Hosts) (inv : Invariant hosts) (n k : ℕ) (r : Turning) : Type 0 where
   world : World
   book : Book
-  is : r ≡ calm world book
+  trace : List Traced
+  is : r ≡ calm world book trace
   node : Node
   found : nth n world.nodes ≡ Some node
   reached : Reached hosts (newest n node world book)
@@ -188,14 +189,15 @@ all_own (outs.Answer status reply ∷ os) = more os (posts_of os) (all_own os)
     more rest [] h = tt
     more rest (q ∷ qs) (h, k) = (inr h, more rest qs k)
 
-counted_stands : (hosts : Hosts) (inv : Invariant hosts) (n k : ℕ) (u : World) (x : Node) (b : Book) (e : Event) (now : ℕ) (entry : Option Record) (before : List Posted) → HaveOwnAddresses hosts
+counted_stands : (hosts : Hosts) (inv : Invariant hosts) (n k : ℕ) (u : World) (x : Node) (b : Book) (t : List Traced) (e : Event) (now : ℕ) (entry : Option Record) (before : List Posted) → HaveOwnAddresses hosts
     → nth n u.nodes ≡ Some x → (plan b e now).entry ≡ entry → Reached hosts (newest n x u b) → k ≤ length u.posted → Heard (newest n x u b) n x e → MakesNone e
     → Stays hosts n e before (drop k u.posted) → inv.Of (newest n x u b) before
-    → Standing hosts inv n k (counted n (plan b e now).landed (calm (record u { nodes = put_nth n (record x { journal = with_entry entry true x.journal }) u.nodes }) b))
-counted_stands hosts inv n k u x b e now entry before distinct found entry_is reached passed heard makes stays h = record {
+    → Standing hosts inv n k (counted n (plan b e now).landed (calm (record u { nodes = put_nth n (record x { journal = with_entry entry true x.journal }) u.nodes }) b t))
+counted_stands hosts inv n k u x b t e now entry before distinct found entry_is reached passed heard makes stays h = record {
   world = post_all n ps begun;
   book = o.book;
-  is = send_calm n o.outs begun o.book;
+  trace = t ++ traced o (calm u b t) ∷ [];
+  is = send_calm n o.outs begun o.book (t ++ traced o (calm u b t) ∷ []);
   node = y;
   found = ap (nth n) (posts_nodes n ps begun) ∙ there;
   reached = subst (Reached hosts) (sym same) (stepped (newest n x u b) n (record x { book = Some b }) b e now true ps reached standing refl heard (all_own o.outs) refl);
@@ -271,29 +273,29 @@ counted_stands hosts inv n k u x b e now entry before distinct found entry_is re
         by_place q (inl j) = inl (subst (λ zs. IsIn q (drop k zs)) (sym posted) (front_in k q u.posted (map (posted_as n (newest n x u b).nodes) ps) j))
         by_place q (inr arrived) = inr arrived
 
-take_stands : (hosts : Hosts) (inv : Invariant hosts) (n k : ℕ) (u : World) (x : Node) (b : Book) (e : Event) (now : ℕ) (before : List Posted) → HaveOwnAddresses hosts → nth n u.nodes ≡ Some x
+take_stands : (hosts : Hosts) (inv : Invariant hosts) (n k : ℕ) (u : World) (x : Node) (b : Book) (t : List Traced) (e : Event) (now : ℕ) (before : List Posted) → HaveOwnAddresses hosts → nth n u.nodes ≡ Some x
     → Reached hosts (newest n x u b) → k ≤ length u.posted → Heard (newest n x u b) n x e → MakesNone e → Stays hosts n e before (drop k u.posted) → inv.Of (newest n x u b) before
-    → Standing hosts inv n k (take_step n (plan b e now) (calm u b))
+    → Standing hosts inv n k (take_step n (plan b e now) (calm u b t))
 unfolding counted_stands
-take_stands hosts inv n k u x b e now before distinct found reached passed heard makes stays h = by_entry (plan b e now).entry refl
+take_stands hosts inv n k u x b t e now before distinct found reached passed heard makes stays h = by_entry (plan b e now).entry refl
   where
-    by_entry : (entry : Option Record) → (plan b e now).entry ≡ entry → Standing hosts inv n k (step_by n entry (plan b e now) (calm u b))
+    by_entry : (entry : Option Record) → (plan b e now).entry ≡ entry → Standing hosts inv n k (step_by n entry (plan b e now) (calm u b t))
     by_entry None f =
-        subst (λ xs. Standing hosts inv n k (counted n (plan b e now).landed (calm (record u { nodes = xs }) b))) (put_same n x u.nodes found)
-        (counted_stands hosts inv n k u x b e now None before distinct found f reached passed heard makes stays h)
+        subst (λ xs. Standing hosts inv n k (counted n (plan b e now).landed (calm (record u { nodes = xs }) b t))) (put_same n x u.nodes found)
+        (counted_stands hosts inv n k u x b t e now None before distinct found f reached passed heard makes stays h)
     by_entry (Some entry) f =
-        subst (λ w. Standing hosts inv n k (counted n (plan b e now).landed (calm w b))) (sym (ap (with_record n entry u) found))
-        (counted_stands hosts inv n k u x b e now (Some entry) before distinct found f reached passed heard makes stays h)
+        subst (λ w. Standing hosts inv n k (counted n (plan b e now).landed (calm w b t))) (sym (ap (with_record n entry u) found))
+        (counted_stands hosts inv n k u x b t e now (Some entry) before distinct found f reached passed heard makes stays h)
 
 -- the due steps
 due_stands : (hosts : Hosts) (inv : Invariant hosts) (n k now : ℕ) (item : Item) (r : Turning) → HaveOwnAddresses hosts → Standing hosts inv n k r → Standing hosts inv n k (due_step n now item r)
 due_stands hosts inv n k now item r distinct s =
     subst (λ t. Standing hosts inv n k (due_step n now item t)) (sym s.is) (by_due (is_due s.book now item))
   where
-    by_due : (c : Bool) → Standing hosts inv n k (if c then take_step n (plan s.book (events.Due item) now) (calm s.world s.book) else calm s.world s.book)
+    by_due : (c : Bool) → Standing hosts inv n k (if c then take_step n (plan s.book (events.Due item) now) (calm s.world s.book s.trace) else calm s.world s.book s.trace)
     by_due true =
-        take_stands hosts inv n k s.world s.node s.book (events.Due item) now (drop k s.world.posted) distinct s.found s.reached s.passed tt tt (λ q i. inl i) s.holds
-    by_due false = record { world = s.world; book = s.book; is = refl; node = s.node; found = s.found; reached = s.reached; passed = s.passed; holds = s.holds }
+        take_stands hosts inv n k s.world s.node s.book s.trace (events.Due item) now (drop k s.world.posted) distinct s.found s.reached s.passed tt tt (λ q i. inl i) s.holds
+    by_due false = record { world = s.world; book = s.book; trace = s.trace; is = refl; node = s.node; found = s.found; reached = s.reached; passed = s.passed; holds = s.holds }
 
 dues_stand : (hosts : Hosts) (inv : Invariant hosts) (n k now : ℕ) (items : List Item) (r : Turning) → HaveOwnAddresses hosts → Standing hosts inv n k r → Standing hosts inv n k (due_steps n now items r)
 dues_stand hosts inv n k now [] r distinct s = s
@@ -321,9 +323,9 @@ begins w n x b found up = λ i. record w { nodes = (sym (put_same n x w.nodes fo
 
 -- a tick
 tick_plan_stands : (hosts : Hosts) (inv : Invariant hosts) (n k : ℕ) (w : World) (x : Node) (b : Book) (now : ℕ) → HaveOwnAddresses hosts → nth n w.nodes ≡ Some x → x.book ≡ Some b → After hosts inv k w
-    → Standing hosts inv n k (take_step n (plan b events.Tick now) (calm w b))
+    → Standing hosts inv n k (take_step n (plan b events.Tick now) (calm w b []))
 tick_plan_stands hosts inv n k w x b now distinct found up a =
-    take_stands hosts inv n k w x b events.Tick now (drop k w.posted) distinct found (subst (Reached hosts) (begins w n x b found up) a.reached) a.passed tt tt (λ q i. inl i)
+    take_stands hosts inv n k w x b [] events.Tick now (drop k w.posted) distinct found (subst (Reached hosts) (begins w n x b found up) a.reached) a.passed tt tt (λ q i. inl i)
     (subst (λ (z : World). inv.Of z (drop k w.posted)) (begins w n x b found up) a.holds)
 
 pub tick_after : (hosts : Hosts) (inv : Invariant hosts) (n k : ℕ) (w : World) → HaveOwnAddresses hosts → After hosts inv k w → After hosts inv k (world_step w (Turn n (Tick RESEND_AFTER) [] None))
@@ -331,11 +333,11 @@ unfolding world_step
 tick_after hosts inv n k w distinct a = by_node (nth n w.nodes) refl
   where
     by_book : (x : Node) (o : Option Book) → nth n w.nodes ≡ Some x → x.book ≡ o
-        → After hosts inv k (on_book o (λ b. take_turn n (x.clock + RESEND_AFTER) (plan b events.Tick (x.clock + RESEND_AFTER)) (calm (ticked n (later RESEND_AFTER x) w) b)) w)
+        → After hosts inv k (on_book o (λ b. take_turn n (x.clock + RESEND_AFTER) (plan b events.Tick (x.clock + RESEND_AFTER)) (calm (ticked n (later RESEND_AFTER x) w) b [])) w)
     by_book x None found up = a
     by_book x (Some b) found up =
         let v : World = ticked n (later RESEND_AFTER x) w in
-        taken_after hosts inv n k (x.clock + RESEND_AFTER) (plan b events.Tick (x.clock + RESEND_AFTER)) (calm v b) distinct
+        taken_after hosts inv n k (x.clock + RESEND_AFTER) (plan b events.Tick (x.clock + RESEND_AFTER)) (calm v b []) distinct
         (tick_plan_stands hosts inv n k v (later RESEND_AFTER x) b (x.clock + RESEND_AFTER) distinct (put_this w.nodes n x (later RESEND_AFTER x) found) up
         (record {
           reached = waited w n x (x.clock + RESEND_AFTER) a.reached found refl;
@@ -399,7 +401,7 @@ first_at i (p ∷ ps) k n e = by_receiver p.receiver refl e (λ f. first_at (i +
 -- a delivery
 arrival_after : (hosts : Hosts) (inv : Invariant hosts) (n k : ℕ) (w : World) (x : Node) (b : Book) (p : Posted) → HaveOwnAddresses hosts → nth n w.nodes ≡ Some x → x.book ≡ Some b → Reached hosts w
     → k ≤ length w.posted → IsIn p w.posted → p.receiver ≡ Some n → MakesNothing p.content.message → inv.Of w (p ∷ drop k w.posted)
-    → After hosts inv k (take_turn n x.clock (arrival_plan b x.clock (decoded x.base p.content)) (calm w b))
+    → After hosts inv k (take_turn n x.clock (arrival_plan b x.clock (decoded x.base p.content)) (calm w b []))
 arrival_after hosts inv n k w x b p distinct found up reached passed among to plain h = by_decoded (decoded x.base p.content) refl
   where
     base : x.base ≡ hosts.base_of n
@@ -411,10 +413,11 @@ arrival_after hosts inv n k w x b p distinct found up reached passed among to pl
     now_holds : inv.Of (newest n x w b) (p ∷ drop k w.posted)
     now_holds = subst (λ (z : World). inv.Of z (p ∷ drop k w.posted)) (begins w n x b found up) h
 
-    no_answer : decoded x.base p.content ≡ None → Standing hosts inv n k (take_step n (answer_plan b 500) (calm w b))
+    no_answer : decoded x.base p.content ≡ None → Standing hosts inv n k (take_step n (answer_plan b 500) (calm w b []))
     no_answer e = record {
       world = v;
       book = b;
+      trace = traced (answer_plan b 500).landed (calm w b []) ∷ [];
       is = refl;
       node = x;
       found = found;
@@ -444,9 +447,9 @@ arrival_after hosts inv n k w x b p distinct found up reached passed among to pl
             (ap (λ bs. decoded bs p.content) (base ∙ ap hosts.base_of (same_number n m (sym to ∙ ap (λ (y : Posted). y.receiver) (sym is) ∙ r))) ∙ ap (λ (y : Posted). decoded (hosts.base_of m) y.content) (sym is) ∙ d))
         dropped q (inr i) = inl i
 
-    arrived : (a : Arrived) → decoded x.base p.content ≡ Some a → a.message ≡ p.content.message → Standing hosts inv n k (take_step n (plan b (events.Arrived a) x.clock) (calm w b))
+    arrived : (a : Arrived) → decoded x.base p.content ≡ Some a → a.message ≡ p.content.message → Standing hosts inv n k (take_step n (plan b (events.Arrived a) x.clock) (calm w b []))
     arrived a e says =
-        take_stands hosts inv n k w x b (events.Arrived a) x.clock (p ∷ drop k w.posted) distinct found now_reached passed (p, among, to, e) (subst MakesNothing (sym says) plain) stays now_holds
+        take_stands hosts inv n k w x b [] (events.Arrived a) x.clock (p ∷ drop k w.posted) distinct found now_reached passed (p, among, to, e) (subst MakesNothing (sym says) plain) stays now_holds
       where
         same_event : (o : Option Arrived) (c d : Arrived) → o ≡ Some c → o ≡ Some d → events.Arrived c ≡ events.Arrived d
         same_event o c d f g = cc
@@ -459,9 +462,9 @@ arrival_after hosts inv n k w x b p distinct found up reached passed among to pl
             )
         stays q (inr i) = inl i
 
-    by_decoded : (o : Option Arrived) → decoded x.base p.content ≡ o → After hosts inv k (take_turn n x.clock (arrival_plan b x.clock o) (calm w b))
-    by_decoded None e = taken_after hosts inv n k x.clock (answer_plan b 500) (calm w b) distinct (no_answer e)
-    by_decoded (Some a) e = taken_after hosts inv n k x.clock (plan b (events.Arrived a) x.clock) (calm w b) distinct (arrived a e (decoded_message x.base p.content a e))
+    by_decoded : (o : Option Arrived) → decoded x.base p.content ≡ o → After hosts inv k (take_turn n x.clock (arrival_plan b x.clock o) (calm w b []))
+    by_decoded None e = taken_after hosts inv n k x.clock (answer_plan b 500) (calm w b []) distinct (no_answer e)
+    by_decoded (Some a) e = taken_after hosts inv n k x.clock (plan b (events.Arrived a) x.clock) (calm w b []) distinct (arrived a e (decoded_message x.base p.content a e))
 
 pub delivery_after : (hosts : Hosts) (inv : Invariant hosts) (j k n : ℕ) (w : World) (x : Node) (b : Book) (p : Posted) → HaveOwnAddresses hosts → nth n w.nodes ≡ Some x → x.book ≡ Some b
     → (f : FirstAt (j + 1) (drop j w.posted) k n) → MakesNothing f.post.content.message → After hosts inv j w → After hosts inv k (world_step w (Turn n (Deliver k) [] None))
@@ -470,8 +473,8 @@ delivery_after hosts inv j k n w x b p distinct found up f plain a =
     subst (λ o. After hosts inv k (at_some_node (Turn n (Deliver k) [] None) o w)) (sym found)
     (subst (λ o. After hosts inv k (on_book o (λ c. deliver n x c [] None (nth k w.posted) w) w)) (sym up)
     (subst (λ o. After hosts inv k (deliver n x b [] None o w)) (sym at)
-    (subst (λ o. After hosts inv k (if is_receiver n o then take_turn n x.clock (arrival_plan b x.clock (decoded x.base f.post.content)) (calm w b) else w)) (sym f.receiver)
-    (subst (λ c. After hosts inv k (if c then take_turn n x.clock (arrival_plan b x.clock (decoded x.base f.post.content)) (calm w b) else w)) (sym (own_number n))
+    (subst (λ o. After hosts inv k (if is_receiver n o then take_turn n x.clock (arrival_plan b x.clock (decoded x.base f.post.content)) (calm w b []) else w)) (sym f.receiver)
+    (subst (λ c. After hosts inv k (if c then take_turn n x.clock (arrival_plan b x.clock (decoded x.base f.post.content)) (calm w b []) else w)) (sym (own_number n))
     (arrival_after hosts inv n k w x b f.post distinct found up a.reached (nth_within k w.posted f.post at) (is_in_list k f.post w.posted at) f.receiver plain
     (inv.drops w (drop j w.posted) (f.post ∷ drop k w.posted) skipped a.holds))))))
   where

@@ -15,7 +15,7 @@ use Rattle.at_model.specs.Posts.{accepted}
 use Rattle.at_model.specs.Recovery.{last_incarnation}
 use Rattle.at_model.specs.Register.{on_register}
 use Rattle.at_model.specs.Step.{Outcome, Plan, at_time, is_due, items_of, make_activity, make_leaf, make_transaction, moment_of, plan, put_activity, put_leaf, put_transaction, registration_outcome, still, time_of}
-use Rattle.at_model.specs.World.{Ask, Crash, Deliver, Input, Node, Posted, Raw, Tick, Turn, Turning, Up, World, WorldEvent, absent_step, accepted_in, after_fate, answer_plan, arrival_plan, ask, at_node, at_some_node, counted, decoded, deliver, down_only, due_step, due_steps, fate, goes_down, happened_at, is_receiver, is_stopped, landed_step, later, lost_in, new_nodes, node_of, nth, on_book, opening, put_book, put_nth, run_of, run_on, send_all, sent, start, started, step_by, take_step, take_turn, ticked, turn, turn_from, turned, up_after, with_record, world_step, Hosts}
+use Rattle.at_model.specs.World.{Ask, Crash, Deliver, Input, Node, Posted, Raw, Tick, Turn, Turning, Up, World, WorldEvent, absent_step, accepted_in, after_fate, answer_plan, arrival_plan, ask, at_node, at_some_node, counted, decoded, deliver, down_only, due_step, due_steps, fate, goes_down, happened_at, is_receiver, is_stopped, landed_step, later, lost_in, new_nodes, node_of, nth, on_book, opening, put_book, put_nth, run_of, run_on, send_all, sent, start, started, step_by, take_step, take_turn, ticked, turn, turn_from, turned, up_after, with_record, world_step, Hosts, traced}
 use Rattle.model_laws.specs.Shapes.{Shape, activity_made, activity_moves, leaf_made, leaf_moves, nothing_moves, time_moves, time_passes, transaction_made, transaction_moves, transaction_registers}
 use Rattle.model_laws.proofs.DecisionLaws.{Both, IfThere, decision_both, plain_both}
 use Rattle.model_laws.proofs.NodeLives.{put_this}
@@ -109,6 +109,7 @@ counted_goes : (n now : ℕ) (o : Outcome) (r : Turning) → o.book.seen ≤ now
 counted_goes n now o r h g =
     let t : Turning = record r {
       book = o.book;
+      trace = r.trace ++ traced o r ∷ [];
       world = record r.world { accepted = r.world.accepted ++ accepted_in n r.world.nodes r.book o.book.transactions; happened = r.world.happened ++ map (happened_at n) o.effects };
     } in
     goes_same n now t (send_all n o.outs t) (sends_same n o.outs t) (record { node = g.node; found = g.found; clock = g.clock; book = h; nodes = g.nodes })

@@ -222,15 +222,15 @@ due_on n now base w item rest r a =
     o : Outcome
     o = step b (events.Due item) now true
 
-    by_due : (c : Bool) → is_due b now item ≡ c → AsksOn n now base w rest (if c then take_step n (plan b (events.Due item) now) (calm a.goes.world b) else calm a.goes.world b)
+    by_due : (c : Bool) → is_due b now item ≡ c → AsksOn n now base w rest (if c then take_step n (plan b (events.Due item) now) (calm a.goes.world b a.goes.trace) else calm a.goes.world b a.goes.trace)
     by_due true e =
-        took_asked n now (a.budget + 0) base w s.new o (take_step n (plan b (events.Due item) now) (calm a.goes.world b)) rest
-        (take_took no_prices n now a.budget 0 (a.budget + 0) w a.goes.world b (plan b (events.Due item) now) s (stays_steady b (events.Due item) now true s.steady)
+        took_asked n now (a.budget + 0) base w s.new o (take_step n (plan b (events.Due item) now) (calm a.goes.world b a.goes.trace)) rest
+        (take_took no_prices n now a.budget 0 (a.budget + 0) w a.goes.world b a.goes.trace (plan b (events.Due item) now) s (stays_steady b (events.Due item) now true s.steady)
         (step_within no_prices b (events.Due item) now true s.steady tt).paid (omega arith))
         (due_asked b now base (contents s.new) item rest s.steady a.asked)
     by_due false e = record {
       budget = a.budget;
-      goes = record { world = a.goes.world; book = b; is = refl; stands = s };
+      goes = record { world = a.goes.world; book = b; trace = a.goes.trace; is = refl; stands = s };
       asked = undue_asked b now base (contents s.new) item rest e a.asked;
     }
 

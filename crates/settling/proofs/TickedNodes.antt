@@ -112,9 +112,9 @@ tick_asks n w x b found up g sent seen =
       paid = omega arith;
     } in
     let budget : ℕ = load no_prices now b + 0 in
-    let r : Turning = take_step n (plan b events.Tick now) (calm v b) in
+    let r : Turning = take_step n (plan b events.Tick now) (calm v b []) in
     let t : Took no_prices n now budget v [] (plan b events.Tick now).landed r =
-    take_took no_prices n now (load no_prices now b) 0 budget v v b (plan b events.Tick now) begun (stays_steady b events.Tick now true g)
+    take_took no_prices n now (load no_prices now b) 0 budget v v b [] (plan b events.Tick now) begun (stays_steady b events.Tick now true g)
     (step_within no_prices b events.Tick now true g tt).paid (omega arith) in
     let first : Asked now b.base c ([] ++ []) (items_of c) = record {
       based = refl;

@@ -12,7 +12,7 @@ use Rattle.at_base.specs.declared.outs.Post.{Post}
 use Rattle.at_base.specs.declared.record.Record.{Record}
 use Rattle.at_model.specs.Book.{Book}
 use Rattle.at_model.specs.Step.{Outcome, Plan, is_due, items_of, plan}
-use Rattle.at_model.specs.World.{Node, Posted, Turning, World, accepted_in, counted, due_step, due_steps, happened_at, nth, put_book, put_nth, receiver_of, send_all, step_by, take_step, take_turn, turned, with_post, with_record}
+use Rattle.at_model.specs.World.{Node, Posted, Turning, World, accepted_in, counted, due_step, due_steps, happened_at, nth, put_book, put_nth, receiver_of, send_all, step_by, take_step, take_turn, turned, with_post, with_record, Traced, traced}
 use Rattle.model_laws.specs.ReachedWorlds.{post_all}
 use Rattle.model_laws.proofs.Nodes.{put_put, put_same}
 use Rattle.model_laws.proofs.NodeLives.{put_this}
@@ -31,13 +31,13 @@ abbrev pub queued : Prices → List Posted → ℕ
 queued P ps = sum_by (posted_weight P) ps
 
 -- no fate is told, and no stop comes
-abbrev pub calm : World → Book → Turning
-calm w b = record { world = w; book = b; fates = []; until = None }
+abbrev pub calm : World → Book → List Traced → Turning
+calm w b t = record { world = w; book = b; fates = []; until = None; trace = t }
 
-send_calm : (n : ℕ) (os : List Out) (w : World) (b : Book) → send_all n os (calm w b) ≡ calm (post_all n (posts_in os) w) b
-send_calm n [] w b = refl
-send_calm n (outs.Post p ∷ os) w b = send_calm n os (with_post n p w) b
-send_calm n (outs.Answer status reply ∷ os) w b = send_calm n os w b
+send_calm : (n : ℕ) (os : List Out) (w : World) (b : Book) (t : List Traced) → send_all n os (calm w b t) ≡ calm (post_all n (posts_in os) w) b t
+send_calm n [] w b t = refl
+send_calm n (outs.Post p ∷ os) w b t = send_calm n os (with_post n p w) b t
+send_calm n (outs.Answer status reply ∷ os) w b t = send_calm n os w b t
 
 -- what is posted
 abbrev pub posted_by : ℕ → List Node → Post → Posted
@@ -70,7 +70,8 @@ pub record Stands (P : Prices) (n now budget : ℕ) (w u : World) (b : Book) : T
 pub record Goes (P : Prices) (n now budget : ℕ) (w : World) (r : Turning) : Type 0 where
   pub world : World
   pub book : Book
-  pub is : r ≡ calm world book
+  pub trace : List Traced
+  pub is : r ≡ calm world book trace
   pub stands : Stands P n now budget w world book
 
 -- What a step of a turn leads to: this book, with these posts behind the others.
@@ -80,16 +81,17 @@ pub record Took (P : Prices) (n now limit : ℕ) (w : World) (before : List Post
   pub nodes : List Node
   pub new : goes.stands.new ≡ before ++ map (posted_by n nodes) (posts_in o.outs)
 
-counted_took : (P : Prices) (n now budget more limit : ℕ) (w u : World) (b : Book) (o : Outcome) → (s : Stands P n now budget w u b) → IsSteady o.book → after P now o ≤ load P now b + more
-    → budget + more ≤ limit → Took P n now limit w s.new o (counted n o (calm u b))
-counted_took P n now budget more limit w u b o s steady paid less =
+counted_took : (P : Prices) (n now budget more limit : ℕ) (w u : World) (b : Book) (t : List Traced) (o : Outcome) → (s : Stands P n now budget w u b) → IsSteady o.book → after P now o ≤ load P now b + more
+    → budget + more ≤ limit → Took P n now limit w s.new o (counted n o (calm u b t))
+counted_took P n now budget more limit w u b t o s steady paid less =
     let v : World = record u { accepted = u.accepted ++ accepted_in n u.nodes b o.book.transactions; happened = u.happened ++ map (happened_at n) o.effects } in
     let ps : List Post = posts_in o.outs in
     record {
       goes = record {
         world = post_all n ps v;
         book = o.book;
-        is = send_calm n o.outs v o.book;
+        trace = t ++ traced o (calm u b t) ∷ [];
+        is = send_calm n o.outs v o.book (t ++ traced o (calm u b t) ∷ []);
         stands = record {
           steady = steady;
           node = s.node;
@@ -120,35 +122,35 @@ journaled_stands P n now budget w u b entry s =
       paid = s.paid;
     }
 
-pub take_took : (P : Prices) (n now budget more limit : ℕ) (w u : World) (b : Book) (p : Plan) → (s : Stands P n now budget w u b) → IsSteady p.landed.book
-    → after P now p.landed ≤ load P now b + more → budget + more ≤ limit → Took P n now limit w s.new p.landed (take_step n p (calm u b))
+pub take_took : (P : Prices) (n now budget more limit : ℕ) (w u : World) (b : Book) (t : List Traced) (p : Plan) → (s : Stands P n now budget w u b) → IsSteady p.landed.book
+    → after P now p.landed ≤ load P now b + more → budget + more ≤ limit → Took P n now limit w s.new p.landed (take_step n p (calm u b t))
 unfolding journaled_stands
-take_took P n now budget more limit w u b p s steady paid less = by_entry p.entry
+take_took P n now budget more limit w u b t p s steady paid less = by_entry p.entry
   where
-    by_entry : (entry : Option Record) → Took P n now limit w s.new p.landed (step_by n entry p (calm u b))
-    by_entry None = counted_took P n now budget more limit w u b p.landed s steady paid less
+    by_entry : (entry : Option Record) → Took P n now limit w s.new p.landed (step_by n entry p (calm u b t))
+    by_entry None = counted_took P n now budget more limit w u b t p.landed s steady paid less
     by_entry (Some entry) =
-        counted_took P n now budget more limit w (with_record n entry u (nth n u.nodes)) b p.landed (journaled_stands P n now budget w u b entry s) steady paid less
+        counted_took P n now budget more limit w (with_record n entry u (nth n u.nodes)) b t p.landed (journaled_stands P n now budget w u b entry s) steady paid less
 
-take_goes : (P : Prices) (n now budget more limit : ℕ) (w u : World) (b : Book) (p : Plan) → Stands P n now budget w u b → IsSteady p.landed.book
-    → after P now p.landed ≤ load P now b + more → budget + more ≤ limit → Goes P n now limit w (take_step n p (calm u b))
-take_goes P n now budget more limit w u b p s steady paid less = (take_took P n now budget more limit w u b p s steady paid less).goes
+take_goes : (P : Prices) (n now budget more limit : ℕ) (w u : World) (b : Book) (t : List Traced) (p : Plan) → Stands P n now budget w u b → IsSteady p.landed.book
+    → after P now p.landed ≤ load P now b + more → budget + more ≤ limit → Goes P n now limit w (take_step n p (calm u b t))
+take_goes P n now budget more limit w u b t p s steady paid less = (take_took P n now budget more limit w u b t p s steady paid less).goes
 
 -- the due steps
-due_goes : (P : Prices) (n now budget : ℕ) (w u : World) (b : Book) (item : Item) → Stands P n now budget w u b → Goes P n now budget w (due_step n now item (calm u b))
-due_goes P n now budget w u b item s = by_due (is_due b now item)
+due_goes : (P : Prices) (n now budget : ℕ) (w u : World) (b : Book) (t : List Traced) (item : Item) → Stands P n now budget w u b → Goes P n now budget w (due_step n now item (calm u b t))
+due_goes P n now budget w u b t item s = by_due (is_due b now item)
   where
-    by_due : (c : Bool) → Goes P n now budget w (if c then take_step n (plan b (events.Due item) now) (calm u b) else calm u b)
+    by_due : (c : Bool) → Goes P n now budget w (if c then take_step n (plan b (events.Due item) now) (calm u b t) else calm u b t)
     by_due true =
-        take_goes P n now budget 0 budget w u b (plan b (events.Due item) now) s (stays_steady b (events.Due item) now true s.steady)
+        take_goes P n now budget 0 budget w u b t (plan b (events.Due item) now) s (stays_steady b (events.Due item) now true s.steady)
         (step_within P b (events.Due item) now true s.steady tt).paid (omega arith)
-    by_due false = record { world = u; book = b; is = refl; stands = s }
+    by_due false = record { world = u; book = b; trace = t; is = refl; stands = s }
 
 dues_go : (P : Prices) (n now budget : ℕ) (w : World) (items : List Item) (r : Turning) → Goes P n now budget w r → Goes P n now budget w (due_steps n now items r)
 dues_go P n now budget w [] r g = g
 dues_go P n now budget w (item ∷ rest) r g =
     dues_go P n now budget w rest (due_step n now item r)
-    (subst (λ t. Goes P n now budget w (due_step n now item t)) (sym g.is) (due_goes P n now budget w g.world g.book item g.stands))
+    (subst (λ t. Goes P n now budget w (due_step n now item t)) (sym g.is) (due_goes P n now budget w g.world g.book g.trace item g.stands))
 
 -- A turn that is over.
 pub record Turned (P : Prices) (n now budget : ℕ) (w v : World) : Type 0 where
@@ -181,7 +183,7 @@ ends P n now budget w r g =
     }))
 
 pub turn_ends : (P : Prices) (n now more limit : ℕ) (w : World) (x : Node) (b : Book) (p : Plan) → nth n w.nodes ≡ Some x → x.clock ≡ now → IsSteady b → IsSteady p.landed.book
-    → after P now p.landed ≤ load P now b + more → load P now b + more ≤ limit → Turned P n now limit w (take_turn n now p (calm w b))
+    → after P now p.landed ≤ load P now b + more → load P now b + more ≤ limit → Turned P n now limit w (take_turn n now p (calm w b []))
 turn_ends P n now more limit w x b p found clock steady stays paid less =
     let begun : Stands P n now (load P now b) w w b = record {
       steady = steady;
@@ -193,6 +195,6 @@ turn_ends P n now more limit w x b p found clock steady stays paid less =
       posted = sym (append-nil w.posted);
       paid = omega arith;
     } in
-    let r : Turning = take_step n p (calm w b) in
+    let r : Turning = take_step n p (calm w b []) in
     ends P n now limit w (due_steps n now (items_of r.book) r)
-    (dues_go P n now limit w (items_of r.book) r (take_goes P n now (load P now b) more limit w w b p begun stays paid less))
+    (dues_go P n now limit w (items_of r.book) r (take_goes P n now (load P now b) more limit w w b [] p begun stays paid less))
