@@ -154,8 +154,8 @@ running_message m e r a context to (messages.RegisterResponse other) f g h = idl
 running_message m e r a context to (messages.Fault name) f g h = idle m e (running a context to)
 running_message m e r a context to other f g h = idle m e (running a context to)
 
-same_name : (e : Event) (a : Activity) (name : List ℕ) → bytes_eq name (fault_name UnknownTransaction) ≡ true → CameToActivity e a (messages.Fault name) → CameToActivity e a (messages.Fault UnknownTransaction)
-same_name e a name f came = subst (λ x. CameToActivity e a (messages.Fault x)) ((bytes_eq-Decides name UnknownTransaction).0 f) came
+same_name : (e : Event) (a : Activity) (name : List ℕ) → bytes_eq name (fault_name UnknownTransaction) ≡ true → CameToActivity e a (messages.Fault name) → CameToActivity e a (messages.Fault (fault_name UnknownTransaction))
+same_name e a name f came = subst (λ x. CameToActivity e a (messages.Fault x)) ((bytes_eq-Decides name (fault_name UnknownTransaction)).0 f) came
 
 completing_message : (m : Moment) (e : Event) (r : Arrived) (a : Activity) (asked : Notice) (context : Context) (to : Epr) (x : Message) → e ≡ events.Arrived r → r.target ≡ activity_target a → r.message ≡ x
     → Does m e (completing a asked context to) (on_activity m r (completing a asked context to) x)

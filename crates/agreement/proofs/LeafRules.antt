@@ -127,8 +127,8 @@ either m e l true d x h k = h refl
 either m e l false d x h k = k refl
 
 -- faults
-same_name : (e : Event) (l : Leaf) (name : List ℕ) → bytes_eq name (fault_name UnknownTransaction) ≡ true → CameTo e l (messages.Fault name) → CameTo e l (messages.Fault UnknownTransaction)
-same_name e l name f came = subst (λ x. CameTo e l (messages.Fault x)) ((bytes_eq-Decides name UnknownTransaction).0 f) came
+same_name : (e : Event) (l : Leaf) (name : List ℕ) → bytes_eq name (fault_name UnknownTransaction) ≡ true → CameTo e l (messages.Fault name) → CameTo e l (messages.Fault (fault_name UnknownTransaction))
+same_name e l name f came = subst (λ x. CameTo e l (messages.Fault x)) ((bytes_eq-Decides name (fault_name UnknownTransaction)).0 f) came
 
 else_dropped : (m : Moment) (e : Event) (l : Leaf) (name : List ℕ) → CameTo e l (messages.Fault name) → Does m e l (if drops_leaf l name then Goes (forgotten (begin l)) else ignored l)
 else_dropped m e l name came =

@@ -2,6 +2,7 @@
 -- (WS-AtomicTransaction 1.2, section 3.2), and what is left of it.
 use Rattle.std.specs.Prelude.{ℕ, List, [], ◌∷◌, ◌+◌, Option, Some, None, Bool, true, false, ◌≡◌, ◌⊎◌}
 use Rattle.std.specs.List.{AllByRecursion}
+use Rattle.at_base.specs.Names.{fault_name}
 use Rattle.at_base.specs.declared.fault.Fault.TheVariants.{InvalidState, UnknownTransaction}
 use Rattle.at_base.specs.declared.epr.Epr.{Epr}
 use Rattle.at_base.specs.declared.notice.Kind.{Kind}
@@ -113,7 +114,7 @@ pub data ActivityTells (m : Moment) (e : Event) (a : Activity) (what : Told) : T
   unregistered : (name : List ℕ) (came : CameToActivity e a (messages.Fault name)) → relates_to came.arrived.relates (register_id m.base (activity_target a)) ≡ true
       → a.progress ≡ Progress.Registering → what ≡ tellings.Refused → ActivityTells m e a what
   -- the coordinator knows the transaction no more
-  unknown : (n : Notice) → CameToActivity e a (messages.Fault UnknownTransaction) → a.progress ≡ Progress.Completing n → what ≡ tellings.Unknown → ActivityTells m e a what
+  unknown : (n : Notice) → CameToActivity e a (messages.Fault (fault_name UnknownTransaction)) → a.progress ≡ Progress.Completing n → what ≡ tellings.Unknown → ActivityTells m e a what
   -- its time was over before it was registered
   expired : e ≡ events.Due (items.Activity a.id) → is_begun a ≡ true → (a.progress ≡ Progress.Creating) ⊎ (a.progress ≡ Progress.Registering)
       → has_come m.now a.deadline ≡ true → what ≡ tellings.Unknown → ActivityTells m e a what

@@ -2,6 +2,7 @@
 -- which effect and which messages, and what is left of it.
 use Rattle.std.specs.Prelude.{ℕ, List, [], ◌∷◌, Option, Some, None, Bool, true, ◌≡◌, ◌⊎◌}
 use Rattle.std.specs.List.{AllByRecursion}
+use Rattle.at_base.specs.Names.{fault_name}
 use Rattle.at_base.specs.declared.fault.Fault.TheVariants.{InvalidState, UnknownTransaction}
 use Rattle.at_base.specs.declared.epr.Epr.{Epr}
 use Rattle.at_base.specs.declared.notice.Kind.{Kind}
@@ -115,7 +116,7 @@ pub data LeafDeed (m : Moment) (e : Event) (l : Leaf) (entry : Option Record) (c
   leaves : (to : Epr) → Notified e l notices.Prepare → l.state ≡ states.Active → l.vote ≡ votes.ReadOnly → l.coordinator ≡ Some to → entry ≡ None → c.item ≡ None
       → c.effects ≡ [] → c.posts ≡ leaf_notice_to m l to notices.ReadOnly ∷ [] → LeafDeed m e l entry c
   -- its coordinator knows it no more
-  dropped : CameTo e l (messages.Fault UnknownTransaction) → l.kind ≡ kinds.Volatile → entry ≡ None → c.item ≡ None → c.effects ≡ [] → c.posts ≡ [] → LeafDeed m e l entry c
+  dropped : CameTo e l (messages.Fault (fault_name UnknownTransaction)) → l.kind ≡ kinds.Volatile → entry ≡ None → c.item ≡ None → c.effects ≡ [] → c.posts ≡ [] → LeafDeed m e l entry c
   -- it commits on a Commit, where it is durable behind its record
   commits : (to : Epr) → Notified e l notices.Commit → l.state ≡ states.PreparedSuccess → l.coordinator ≡ Some to → entry ≡ for_durable l.kind (records.LeafCommitted l.id)
       → c.item ≡ None → c.effects ≡ leaf_ended l endings.Committed ∷ [] → c.posts ≡ leaf_notice_to m l to notices.Committed ∷ [] → LeafDeed m e l entry c

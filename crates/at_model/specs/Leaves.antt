@@ -133,7 +133,7 @@ abbrev pub leaf_refused : Leaf → Change Leaf
 leaf_refused l =
     forgotten (posts (work_answer messages.WorkRefused l.request) (effect (leaf_ended l endings.Aborted) (begin l)))
 
--- UnknownTransaction drops a volatile leaf without an effect (WS-AtomicTransaction 1.2, section 7.2).
+-- UnknownTransaction drops a volatile leaf without an effect (WS-AtomicTransaction 1.2, section 5.2).
 abbrev pub drops_leaf : Leaf → List ℕ → Bool
 drops_leaf l name = is_kind l.kind kinds.Volatile && bytes_eq name (fault_name UnknownTransaction)
 

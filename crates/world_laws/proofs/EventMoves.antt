@@ -1,6 +1,6 @@
 -- An event changes a world by the moves of its node.
 use Rattle.std.proofs.Common.{ℕ, List, [], ◌∷◌, ◌++◌, ◌≡◌, ◌+◌, Option, Some, None, Bool, true, false, ap, sym, ◌∙◌, refl}
-use Rattle.std.specs.Prelude.{map, nat_lt, ◌&&◌, if◌then◌else◌}
+use Rattle.std.specs.Prelude.{length, map, nat_lt, ◌&&◌, if◌then◌else◌}
 use Rattle.std.proofs.lemmas.List.{append-nil, append_assoc}
 use Rattle.at_base.specs.declared.event.Arrived.{Arrived}
 use Rattle.at_base.specs.declared.event.Local.{Local}
@@ -8,13 +8,14 @@ use Rattle.at_base.specs.declared.event.Event.TheVariants as events
 use Rattle.at_model.specs.Book.{Book, last_counter}
 use Rattle.at_model.specs.Recovery.{last_incarnation}
 use Rattle.at_model.specs.Step.{Plan, plan}
-use Rattle.at_model.specs.World.{World, Node, Posted, WorldEvent, Input, Turn, Ask, Crash, Up, Deliver, Tick, Raw, nth, put_nth, node_of, turn, ask, start, started, up_after, deliver, on_book, down_only, goes_down, put_book, lost_in, turn_from, take_turn, at_node, at_some_node, arrival_plan, answer_plan, decoded, is_receiver, happened_at, later, ticked, world_step}
+use Rattle.at_model.specs.World.{World, Node, Posted, WorldEvent, delivery_trace, trace_at, trace_while_up, turn_trace, walked, Input, Turn, Ask, Crash, Up, Deliver, Tick, Raw, nth, put_nth, node_of, turn, ask, start, started, up_after, deliver, on_book, down_only, goes_down, put_book, lost_in, turn_from, take_turn, at_node, at_some_node, arrival_plan, answer_plan, decoded, is_receiver, happened_at, later, ticked, world_step}
 use Rattle.interposition.specs.ModelSteps.{LosesAsTheModel}
 use Rattle.world_laws.specs.declared.step_outs.Taken.{Taken}
-use Rattle.world_laws.specs.Moves.{ChangesByMoves, Move, Scene, after, arrival_move, crash_move, delivery_move, input_move, luck_of, move_of, moved_by, moved_in, nodes_by, posted_at, quiet, request_move, seen, start_move, turn_move, with_all, with_lost, with_moved, with_taken}
+use Rattle.world_laws.specs.Moves.{ChangesByMoves, Move, Scene, after, arrival_move, crash_move, delivery_move, ended, input_move, later_at, lost_of, luck_of, move_of, moved_by, moved_in, nodes_by, numbered, posted_at, quiet, request_move, seen, start_move, steps_in, steps_of, taken_of, turn_move, with_all, with_lost, with_moved, with_taken}
+use Rattle.world_laws.specs.Walks.{Walk, begin, is_over, stepped, turned}
 use Rattle.world_laws.proofs.Bases.{moved_base}
 use Rattle.world_laws.proofs.Nodes.{nth_put, posts_put, put_put, put_same}
-use Rattle.world_laws.proofs.Walks.{Unrecorded, asked_on, at_move, happened_by, posted_by, turned_on}
+use Rattle.world_laws.proofs.Walks.{Unrecorded, asked_on, at_move, happened_by, posted_by, step_told, turn_told, turned_on}
 
 posted_put : (n : ℕ) (xs : List Node) (y z : Node) (ts : List Taken) → y.base ≡ z.base → nth n xs ≡ Some y
     → posted_by n (put_nth n z xs) ts ≡ posted_by n xs ts
@@ -27,6 +28,45 @@ quiet_shown n w x h = λ i. record {
   posted = sym (append-nil w.posted) i;
   happened = sym (append-nil (w.happened ++ []) ∙ append-nil w.happened) i;
 }
+
+-- what the steps gave stays as it was at the end
+ended_taken : (x : Node) (v : Walk) → (ended x v).moved.taken ≡ v.taken
+ended_taken x v = at (is_over v.luck)
+  where
+    at : (b : Bool)
+        → (if b then record { node = record x { book = None; journal = v.journal }; moved = record { taken = v.taken; lost = lost_of v.book; left = v.luck } }
+        else record { node = record x { book = Some v.book; journal = v.journal }; moved = record { taken = v.taken; lost = []; left = v.luck } }).moved.taken
+        ≡ v.taken
+    at true = refl
+    at false = refl
+
+-- the move of a node, of which it is told apart whether it is up
+abbrev move_with : WorldEvent → List Posted → Node → Option Book → Move
+move_with (Turn n input fates until) posted x o = input_move n input (luck_of fates until) posted x o
+move_with (Ask n r fates until) posted x o = request_move r (luck_of fates until) x o
+move_with (Crash n) posted x o = crash_move x o
+move_with (Up n landed stop) posted x o = start_move landed stop x o
+
+as_moved : (e : WorldEvent) (posted : List Posted) (x : Node) → (move_with e posted x x.book).moved.taken ≡ (move_of e posted x).moved.taken
+as_moved (Turn n input fates until) posted x = refl
+as_moved (Ask n r fates until) posted x = refl
+as_moved (Crash n) posted x = refl
+as_moved (Up n landed stop) posted x = refl
+
+-- a node that is down takes no step
+none_taken : (n : ℕ) (input : Input) (fates : List Bool) (until : Option ℕ) (posted : List Posted) (x : Node)
+    → (input_move n input (luck_of fates until) posted x None).moved.taken ≡ []
+none_taken n (Deliver k) fates until posted x = by_found (nth k posted)
+  where
+    by_found : (o : Option Posted) → (delivery_move n o (luck_of fates until) x None).moved.taken ≡ []
+    by_found None = refl
+    by_found (Some p) = by_receiver (is_receiver n p.receiver)
+      where
+        by_receiver : (c : Bool) → (if c then arrival_move (decoded x.base p.content) (luck_of fates until) x None else quiet x).moved.taken ≡ []
+        by_receiver true = refl
+        by_receiver false = refl
+none_taken n (Tick ms) fates until posted x = refl
+none_taken n Raw fates until posted x = refl
 
 module _ (none : Unrecorded) (loses : LosesAsTheModel) where
   turn_shown : (n : ℕ) (p : Plan) (w : World) (x : Node) (b : Book) (fates : List Bool) (until : Option ℕ) → nth n w.nodes ≡ Some x
@@ -139,6 +179,57 @@ module _ (none : Unrecorded) (loses : LosesAsTheModel) where
   at_any e w None h = λ i. record { nodes = w.nodes; posted = w.posted; happened = sym (append-nil w.happened) i }
   at_any e w (Some x) h = at_one e w x h ∙ kept (node_of e) w x (move_of e w.posted x) h (moved_base e w.posted x)
 
-  pub changes_by_moves : ChangesByMoves
+  -- the trace of an event
+  delivery_told : (n : ℕ) (found : Option Posted) (fates : List Bool) (until : Option ℕ) (w : World) (x : Node) (b : Book) → nth n w.nodes ≡ Some x
+      → map taken_of (delivery_trace n x b fates until found w) ≡ (delivery_move n found (luck_of fates until) x (Some b)).moved.taken
+  delivery_told n None fates until w x b h = refl
+  delivery_told n (Some p) fates until w x b h = by_receiver (is_receiver n p.receiver)
+    where
+      a : Option Arrived
+      a = decoded x.base p.content
+
+      by_receiver : (c : Bool)
+          → map taken_of (if c then (walked n x.clock (arrival_plan b x.clock a) (turn_from w b fates until)).trace else [])
+          ≡ (if c then arrival_move a (luck_of fates until) x (Some b) else quiet x).moved.taken
+      by_receiver true =
+          turn_told n w x h none x.clock (arrival_plan b x.clock a) b fates until
+          ∙ sym (ended_taken x (turned x.clock (arrival_plan b x.clock a) (begin b x.journal (luck_of fates until))))
+      by_receiver false = refl
+
+  turn_told_at : (n : ℕ) (input : Input) (fates : List Bool) (until : Option ℕ) (w : World) (x : Node) (b : Book) → nth n w.nodes ≡ Some x
+      → map taken_of (turn_trace n input fates until x b w) ≡ (input_move n input (luck_of fates until) w.posted x (Some b)).moved.taken
+  turn_told_at n (Deliver k) fates until w x b h = delivery_told n (nth k w.posted) fates until w x b h
+  turn_told_at n (Tick ms) fates until w x b h =
+      turn_told n (ticked n (later ms x) w) (later ms x) (nth_put n w.nodes x (later ms x) h) none (x.clock + ms) (plan b events.Tick (x.clock + ms)) b fates until
+      ∙ sym (ended_taken (later_at (x.clock + ms) x) (turned (x.clock + ms) (plan b events.Tick (x.clock + ms)) (begin b x.journal (luck_of fates until))))
+  turn_told_at n Raw fates until w x b h =
+      turn_told n w x h none x.clock (answer_plan b 400) b fates until
+      ∙ sym (ended_taken x (turned x.clock (answer_plan b 400) (begin b x.journal (luck_of fates until))))
+
+  up_told : (e : WorldEvent) (w : World) (x : Node) (o : Option Book) → x.book ≡ o → nth (node_of e) w.nodes ≡ Some x
+      → map taken_of (trace_while_up e x o w) ≡ (move_with e w.posted x o).moved.taken
+  up_told (Turn n input fates until) w x None up h = sym (none_taken n input fates until w.posted x)
+  up_told (Turn n input fates until) w x (Some b) up h = turn_told_at n input fates until w x b h
+  up_told (Ask n l fates until) w x None up h = refl
+  up_told (Ask n l fates until) w x (Some b) up h =
+      step_told n w x h (plan b (events.Local l) x.clock) b fates until
+      ∙ sym (ended_taken x (stepped (plan b (events.Local l) x.clock) (begin b x.journal (luck_of fates until))))
+  up_told (Crash n) w x None up h = refl
+  up_told (Crash n) w x (Some b) up h = refl
+  up_told (Up n landed stop) w x None up h = refl
+  up_told (Up n landed stop) w x (Some b) up h = refl
+
+  told : (e : WorldEvent) (w : World) (o : Option Node) → nth (node_of e) w.nodes ≡ o → map taken_of (trace_at e o w) ≡ (moved_by e w.posted o).taken
+  told e w None h = refl
+  told e w (Some x) h = up_told e w x x.book refl h ∙ as_moved e w.posted x
+
+  changed : (w : World) (e : WorldEvent) → seen (world_step w e) ≡ after (seen w) e
   unfolding world_step after moved_in
-  changes_by_moves w e = at_any e w (nth (node_of e) w.nodes) refl
+  changed w e = at_any e w (nth (node_of e) w.nodes) refl
+
+  counted_told : (w : World) (e : WorldEvent) → steps_of w e ≡ steps_in (seen w) e
+  unfolding moved_in
+  counted_told w e = ap (numbered (length w.posted)) (told e w (nth (node_of e) w.nodes) refl)
+
+  pub changes_by_moves : ChangesByMoves
+  changes_by_moves = record { seen = changed; traced = counted_told }

@@ -134,7 +134,7 @@ pub stepped : IdsRise → ChangesByMoves → (count : ℕ) (s t : Scene) (events
 stepped ids changes count s t events more e h room short is pushed = rw pushed (record {
   scene = is
       ∙ ap (λ z. after z (event_of e)) h.scene
-      ∙ sym (changes (world_of (record { count = count; events = events })) (event_of e))
+      ∙ sym (changes.seen (world_of (record { count = count; events = events })) (event_of e))
       ∙ ap seen (sym (one_more count events e));
   fit =
       let same : length events + 1 ≡ length (events ++ e ∷ []) = sym (length-append events (e ∷ [])) in

@@ -6,7 +6,7 @@ use Rattle.at_base.specs.declared.outs.Out.{Out}
 use Rattle.at_base.specs.declared.outs.Out.TheVariants as outs
 use Rattle.at_base.specs.declared.outs.Outs.{Outs}
 use Rattle.at_model.specs.Book.{Book}
-use Rattle.at_model.specs.World.{Node, Posted, Accepted, Happened, Turning, send_all, sent, fate, after_fate}
+use Rattle.at_model.specs.World.{Node, Posted, Accepted, Happened, Traced, Turning, send_all, sent, fate, after_fate}
 use Rattle.world_laws.specs.Moves.{posted_at}
 use Rattle.world_laws.specs.Walks.{Luck, Sending, is_over, sending, sends, sent_each, sent_one, used, with_fate}
 
@@ -17,6 +17,7 @@ pub record Amid : Type 0 where
   pub accepted : List Accepted
   pub happened : List Happened
   pub book : Book
+  pub trace : List Traced
 
 abbrev pub amid : ℕ → Amid → Sending → Turning
 amid n a s = record {
@@ -29,6 +30,7 @@ amid n a s = record {
   book = a.book;
   fates = s.luck.fates;
   until = s.luck.until;
+  trace = a.trace;
 }
 
 -- behind the stop nothing is sent
@@ -51,6 +53,7 @@ one_sent n a true (outs.Post p) s =
       book = a.book;
       fates = (used s.luck).fates;
       until = (used s.luck).until;
+      trace = a.trace;
     })
     (append_assoc a.posted (map (posted_at n a.nodes) s.taken.posts) (posted_at n a.nodes p ∷ [])
     ∙ ap (λ ps. a.posted ++ ps) (sym (map-append (posted_at n a.nodes) s.taken.posts (p ∷ []))))

@@ -8,13 +8,13 @@ use Rattle.at_base.specs.declared.outs.Post.{Post}
 use Rattle.at_model.specs.Book.{Book, last_counter}
 use Rattle.at_model.specs.Recovery.{last_incarnation}
 use Rattle.at_model.specs.Step.{Plan, plan}
-use Rattle.at_model.specs.World.{World, Node, Posted, Happened, WorldEvent, Input, Turn, Ask, Crash, Up, Deliver, Tick, Raw, nth, put_nth, node_of, decoded, arrival_plan, answer_plan, is_receiver, receiver_of, happened_at, started, up_after, world_step}
+use Rattle.at_model.specs.World.{World, Node, Posted, Happened, Traced, trace_of, WorldEvent, Input, Turn, Ask, Crash, Up, Deliver, Tick, Raw, nth, put_nth, node_of, decoded, arrival_plan, answer_plan, is_receiver, receiver_of, happened_at, started, up_after, world_step}
 use Rattle.coordinator_at.specs.TransactionPlans.{transactions_lost}
 use Rattle.participant_at.specs.LeafPlans.{leaves_lost}
 use Rattle.world_laws.specs.declared.posts.Counted.{Counted}
 use Rattle.world_laws.specs.declared.step_outs.Moved.{Moved}
 use Rattle.world_laws.specs.declared.step_outs.Taken.{Taken}
-use Rattle.world_laws.specs.Walks.{Luck, Walk, begin, is_over, stepped, turned}
+use Rattle.world_laws.specs.Walks.{Luck, Walk, begin, is_over, outs_of, sends, stepped, turned}
 
 -- A world, but for the registrations that it accepted.
 pub record Scene : Type 0 where
@@ -33,6 +33,10 @@ pub record Move : Type 0 where
 
 abbrev pub nothing : Moved
 nothing = record { taken = []; lost = []; left = record { fates = []; until = None } }
+
+-- What a step that counted gives: its effects, its answer, and the posts that were sent.
+abbrev pub taken_of : Traced → Taken
+taken_of t = (sends (outs_of t.outcome) (record { fates = t.fates; until = t.until })).taken
 
 -- no step
 abbrev pub quiet : Node → Move
@@ -154,12 +158,13 @@ abbrev pub numbered : ℕ → List Taken → List Counted
 numbered k [] = []
 numbered k (t ∷ ts) = counted_in k t ∷ numbered (k + length t.posts) ts
 
--- What the steps of an event gave, and then what going down lost.
+-- What the steps of an event gave, read off its trace, and then what going down lost.
+abbrev pub steps_of : World → WorldEvent → List Counted
+steps_of w e = numbered (length w.posted) (map taken_of (trace_of w e))
+
+-- the same of the moves of its node
 abbrev pub steps_in : Scene → WorldEvent → List Counted
 steps_in s e = numbered (length s.posted) (moved_in s e).taken
-
-abbrev pub steps_of : World → WorldEvent → List Counted
-steps_of w e = steps_in (seen w) e
 
 abbrev pub losses_of : World → WorldEvent → List Effect
 losses_of w e = (moved_in (seen w) e).lost
@@ -168,6 +173,7 @@ losses_of w e = (moved_in (seen w) e).lost
 abbrev pub left_of : World → WorldEvent → Luck
 left_of w e = (moved_in (seen w) e).left
 
--- An event changes a world by the moves of its node, and by nothing else.
-abbrev pub ChangesByMoves : Type 0
-ChangesByMoves = (w : World) (e : WorldEvent) → seen (world_step w e) ≡ after (seen w) e
+-- An event changes a world by the moves of its node, and by nothing else; and these are what its trace says.
+pub record ChangesByMoves : Type 0 where
+  pub seen : (w : World) (e : WorldEvent) → seen (world_step w e) ≡ after (seen w) e
+  pub traced : (w : World) (e : WorldEvent) → steps_of w e ≡ steps_in (seen w) e
