@@ -1,6 +1,7 @@
 -- A transaction's notifications are signed by their senders' own endpoints, and go where they should.
 use Rattle.std.specs.Prelude.{ℕ, List, [], ◌∷◌, ◌++◌, Option, Some, None, if◌then◌else◌, ◌&&◌, ◌≡◌, ◌⊎◌, refl}
 use Rattle.std.proofs.Common.{inl, inr, sym, ap, ◌∙◌}
+use Rattle.at_base.specs.declared.fault.Fault.{Fault}
 use Rattle.at_base.specs.declared.fault.Fault.TheVariants.{InvalidState}
 use Rattle.at_base.specs.Numbers.{Numbers}
 use Rattle.at_base.specs.declared.epr.Epr.{Epr}
@@ -91,9 +92,9 @@ stored_signed m e t kind a n known came target said h =
     out to (inl g) = inl (sym g ∙ h)
     out to (inr g) = inr (a, came, target, sym g, said)
 
-faults_signed : (m : Moment) (e : Event) (t : Transaction) (T : Target) (to : Option Epr) (id : Option (List ℕ)) (name : List ℕ)
-    → AllSigned m e t T (to_each to (λ x. fault_post (Some x) id name))
-faults_signed m e t T to id name = to_each_all (Signed m.base e t T) to _ (λ x f. tt)
+faults_signed : (m : Moment) (e : Event) (t : Transaction) (T : Target) (to : Option Epr) (id : Option (List ℕ)) (drawn : Fault)
+    → AllSigned m e t T (to_each to (λ x. fault_post (Some x) id drawn))
+faults_signed m e t T to id drawn = to_each_all (Signed m.base e t T) to _ (λ x f. tt)
 
 asked_above : (kind own : Kind) (s : Superior) → coordinator_at own (Some (asked kind s)) ≡ coordinator_at own (Some s)
 asked_above kinds.Volatile own s = above_in kinds.Volatile own states.Preparing s

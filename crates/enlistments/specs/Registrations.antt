@@ -1,5 +1,6 @@
 -- What a Register gives (WS-Coordination 1.2, section 3.2).
 use Rattle.std.specs.Prelude.{ℕ, List, Some, None, true, ◌≡◌}
+use Rattle.at_base.specs.declared.fault.Fault.{Fault}
 use Rattle.at_base.specs.declared.notice.Kind.{Kind}
 use Rattle.at_base.specs.declared.message.Register.{Register}
 use Rattle.at_base.specs.declared.event.Arrived.{Arrived}
@@ -25,4 +26,4 @@ pub data Enrolls (m : Moment) (a : Arrived) (r : Register) (t : Transaction) (g 
   has_completion : (c : Completion) → protocol_named r.protocol ≡ Some None → t.completion ≡ Some c → c.initiator ≡ r.participant
       → g ≡ record { transaction = t; outs = registered_reply a (completion_endpoint m.base t.id) } → Enrolls m a r t g
   -- it is refused
-  refuses : (name : List ℕ) → g ≡ refuse_register a t name → Enrolls m a r t g
+  refuses : (drawn : Fault) → g ≡ refuse_register a t drawn → Enrolls m a r t g

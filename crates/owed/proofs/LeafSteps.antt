@@ -33,7 +33,7 @@ use Rattle.owed.specs.Leaves.{IsRegistered, LeafOwed}
 use Rattle.owed.proofs.LinkTable.{IsDeaf, IsDone, LinkHears, LinkHearsCell, Passes, link_hears}
 use Rattle.at_base.specs.declared.outs.Out.{Out}
 use Rattle.at_base.specs.declared.outs.Out.TheVariants as outs
-use Rattle.at_tables.specs.Names.{is_kind}
+use Rattle.at_base.specs.Names.{is_kind}
 use Rattle.at_model.specs.Arrivals.{with_answer}
 use Rattle.at_model.specs.Posts.{accepted}
 use Rattle.at_model.specs.Step.{Plan, arrived_plan, at_time, leaf_at, leaf_or_stranger_plan, leaf_plan, moment_of, participant_plan, plan_of, put_activity, put_leaf, put_transaction, stranger_plan, transaction_at}

@@ -116,7 +116,7 @@ asked_owed base e t kinds.Volatile n s ps o h p a (v, d) (busy, (commits, votes)
     busy_so commits
     (vote_on base e t s ps o (λ z. ((λ i. other notices.Commit i refl), (λ i. other notices.Rollback i refl))) votes)
   where
-    other : (w : Notice) → SuperiorSaid kinds.Durable w e t → Rattle.at_tables.specs.Names.is_notice notices.Prepare w ≡ false → ⊥
+    other : (w : Notice) → SuperiorSaid kinds.Durable w e t → Rattle.at_base.specs.Names.is_notice notices.Prepare w ≡ false → ⊥
     other w i f =
         let (k, x) = one_link e t kinds.Volatile kinds.Durable n w h i in
         let g : kinds.Durable ≡ kinds.Volatile = k in cc

@@ -4,6 +4,7 @@ use Rattle.std.specs.List.{AllByRecursion}
 use Rattle.std.proofs.Common.{arith, ap, ◌∙◌}
 use Rattle.std.proofs.lemmas.Bool.{eqb-true}
 use Rattle.std.proofs.lemmas.List.Sums.{sum_by-cons}
+use Rattle.at_base.specs.declared.fault.Fault.{Fault}
 use Rattle.at_base.specs.declared.fault.Fault.TheVariants.{InvalidState, UnknownTransaction}
 use Rattle.at_base.specs.declared.epr.Epr.{Epr}
 use Rattle.at_base.specs.declared.event.Arrived.{Arrived}
@@ -53,11 +54,11 @@ pub posted_paid : (P : Prices) (m : Moment) (free : ℕ) (t : Transaction) (ps :
 posted_paid P m free t ps h =
     stays_paid P m.now (held P m.now t + free) (request_of t.superior) (posts ps (begin t)) (omega (arith, worth_posts P m.now ps (begin t), worth_begin P m.now t, h)) refl
 
-pub fault_paid : (P : Prices) (m : Moment) (free : ℕ) (t : Transaction) (to : Option Epr) (id : Option (List ℕ)) (name : List ℕ) → 1 ≤ free
-    → Acted P m free t (Goes (stays (post (fault_post to id name) (begin t))))
-fault_paid P m free t to id name h =
-    stays_paid P m.now (held P m.now t + free) (request_of t.superior) (post (fault_post to id name) (begin t))
-    (omega (arith, worth_post P m.now (fault_post to id name) (begin t), worth_begin P m.now t, h)) refl
+pub fault_paid : (P : Prices) (m : Moment) (free : ℕ) (t : Transaction) (to : Option Epr) (id : Option (List ℕ)) (drawn : Fault) → 1 ≤ free
+    → Acted P m free t (Goes (stays (post (fault_post to id drawn) (begin t))))
+fault_paid P m free t to id drawn h =
+    stays_paid P m.now (held P m.now t + free) (request_of t.superior) (post (fault_post to id drawn) (begin t))
+    (omega (arith, worth_post P m.now (fault_post to id drawn) (begin t), worth_begin P m.now t, h)) refl
 
 -- seats
 seats_leave : (P : Prices) (q : Bool) (number : ℕ) (seats : List Enlistment) → seats_load P q (moved (λ s. nat_eq s.number number) states.None seats) ≤ seats_load P q seats
