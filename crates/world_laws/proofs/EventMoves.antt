@@ -232,4 +232,4 @@ module _ (none : Unrecorded) (loses : LosesAsTheModel) where
   counted_told w e = ap (numbered (length w.posted)) (told e w (nth (node_of e) w.nodes) refl)
 
   pub changes_by_moves : ChangesByMoves
-  changes_by_moves = record { seen = changed; traced = counted_told }
+  changes_by_moves = record { moved = changed; told = counted_told }

@@ -13,7 +13,7 @@ use Rattle.world_laws.specs.declared.posts.Counted.{Counted}
 use Rattle.world_laws.specs.declared.step_outs.Moved.{Moved}
 use Rattle.world_laws.specs.declared.step_outs.Taken.{Taken}
 use Rattle.world_laws.specs.Runs.{IsFit, IsRun, Run, world_of}
-use Rattle.world_laws.specs.Moves.{ChangesByMoves, Scene, after, move_of, moved_by, moved_in, nodes_by, nothing, numbered, seen, steps_in, with_all, with_lost, with_nodes}
+use Rattle.world_laws.specs.Moves.{ChangesByMoves, Scene, after, move_of, moved_by, moved_in, nodes_by, nothing, numbered, seen, steps_in, steps_of, with_all, with_lost, with_nodes}
 use Rattle.world_laws.specs.Walks.{Luck}
 use Rattle.world_laws.proofs.RunNodes.{fit_after, opening_fits}
 use Rattle.world_laws.proofs.NumberedItems.{nth_back, put_back}
@@ -134,7 +134,7 @@ pub stepped : IdsRise → ChangesByMoves → (count : ℕ) (s t : Scene) (events
 stepped ids changes count s t events more e h room short is pushed = rw pushed (record {
   scene = is
       ∙ ap (λ z. after z (event_of e)) h.scene
-      ∙ sym (changes.seen (world_of (record { count = count; events = events })) (event_of e))
+      ∙ sym (changes.moved (world_of (record { count = count; events = events })) (event_of e))
       ∙ ap seen (sym (one_more count events e));
   fit =
       let same : length events + 1 ≡ length (events ++ e ∷ []) = sym (length-append events (e ∷ [])) in
@@ -155,6 +155,11 @@ pub whole_step : (r : Run) (count : ℕ) (events more : List Given) (e : Given) 
     → world_of (run count more) ≡ world_step (world_of r) (event_of e)
 whole_step r count events more e is pushed =
     ap world_of (ap (run count) pushed ∙ ap (with_event e) is) ∙ one_more r.count r.events e
+
+pub whole_steps : ChangesByMoves → (r : Run) (count : ℕ) (s : Scene) (events : List Given) (e : Given) (steps : List Counted) → run count events ≡ r
+    → s ≡ seen (world_of (run count events)) → steps ≡ steps_in s (event_of e) → steps ≡ steps_of (world_of r) (event_of e)
+whole_steps changes r count s events e steps is shown h =
+    h ∙ ap (λ z. steps_in z (event_of e)) shown ∙ sym (changes.told (world_of (run count events)) (event_of e)) ∙ ap (λ z. steps_of (world_of z) (event_of e)) is
 
 pub whole_run : (w : Run) (n i : ℕ) (all : List Given) → w.count ≡ n → w.events ++ drop i all ≡ all → length all ≤ i
     → world_of w ≡ run_of (example_hosts n) (map event_of all)

@@ -175,5 +175,5 @@ left_of w e = (moved_in (seen w) e).left
 
 -- An event changes a world by the moves of its node, and by nothing else; and these are what its trace says.
 pub record ChangesByMoves : Type 0 where
-  pub seen : (w : World) (e : WorldEvent) → seen (world_step w e) ≡ after (seen w) e
-  pub traced : (w : World) (e : WorldEvent) → steps_of w e ≡ steps_in (seen w) e
+  pub moved : (w : World) (e : WorldEvent) → seen (world_step w e) ≡ after (seen w) e
+  pub told : (w : World) (e : WorldEvent) → steps_of w e ≡ steps_in (seen w) e
