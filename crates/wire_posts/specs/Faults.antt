@@ -140,8 +140,8 @@ refusal_status (refusals.InvalidHeader name) = 500
 refusal_status refusals.Action = 500
 refusal_status (refusals.Parameters name) = 500
 
-pub action_of_a_state : fault_action InvalidState ≡ codes "http://docs.oasis-open.org/ws-tx/wscoor/2006/06/fault"
+pub action_of_a_state : fault_action (Protocol faults.InvalidState) ≡ codes "http://docs.oasis-open.org/ws-tx/wscoor/2006/06/fault"
 action_of_a_state = refl
 
-pub fault_of_a_name : fault_named (codes "UnknownTransaction") ≡ UnknownTransaction
+pub fault_of_a_name : written_named (codes "UnknownTransaction") ≡ Protocol faults.UnknownTransaction
 fault_of_a_name = refl
