@@ -3,7 +3,7 @@
 use crate::words::place_of;
 use at_base::id::Id;
 use at_base::message::Message;
-use at_base::notice::{Kind, Notice};
+use at_base::notice::Notice;
 use at_base::outs::{Effect, Ending, Post, Told};
 use at_base::record::{Record, Seats};
 use completion_at::requests::Refusal;

@@ -11,7 +11,7 @@ ghost use Rattle.envelope_cmd.specs.Refusals.{refusal_line};
 
 use crate::laws::one_report_is_printed;
 use crate::lines::{push, push_address, push_address_if, push_line, push_text, push_text_if};
-use crate::names::{kind_name, message_name, push_target, vote_name};
+use crate::names::{message_name, push_target};
 use crate::output::Printed;
 use crate::refusals::refusal_line;
 use at_base::message::{Context, Create, Message, Register, Work};
@@ -187,11 +187,11 @@ fn push_work(work: &Work, out: &mut Vec<u8>) -> Result<(), AllocError>
 fn push_kind(kind: Kind, out: &mut Vec<u8>) -> Result<(), AllocError>
     ensures { OnOk result (out.new.items ≡ out.old.items ++ line (codes "kind") (kind_name kind)) }
 {
-    push_line("kind", kind_name(kind), out)
+    push_line("kind", kind.name(), out)
 }
 
 fn push_vote(vote: Vote, out: &mut Vec<u8>) -> Result<(), AllocError>
     ensures { OnOk result (out.new.items ≡ out.old.items ++ line (codes "vote") (vote_name vote)) }
 {
-    push_line("vote", vote_name(vote), out)
+    push_line("vote", vote.name(), out)
 }

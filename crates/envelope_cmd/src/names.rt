@@ -9,7 +9,7 @@ ghost use Rattle.at_base.specs.Names.{kind_name};
 use crate::lines::push;
 use at_base::id::Id;
 use at_base::message::Message;
-use at_base::notice::{Kind, Vote};
+use at_base::notice::Kind;
 use at_base::target::{Seat, Target};
 use endpoints::form::Form;
 use itoa::Buffer;
