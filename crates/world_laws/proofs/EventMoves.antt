@@ -33,10 +33,13 @@ quiet_shown n w x h = λ i. record {
 ended_taken : (x : Node) (v : Walk) → (ended x v).moved.taken ≡ v.taken
 ended_taken x v = at (is_over v.luck)
   where
-    at : (b : Bool)
-        → (if b then record { node = record x { book = None; journal = v.journal }; moved = record { taken = v.taken; lost = lost_of v.book; left = v.luck } }
-        else record { node = record x { book = Some v.book; journal = v.journal }; moved = record { taken = v.taken; lost = []; left = v.luck } }).moved.taken
-        ≡ v.taken
+    down : Move
+    down = record { node = record x { book = None; journal = v.journal }; moved = record { taken = v.taken; lost = lost_of v.book; left = v.luck } }
+
+    stays : Move
+    stays = record { node = record x { book = Some v.book; journal = v.journal }; moved = record { taken = v.taken; lost = []; left = v.luck } }
+
+    at : (b : Bool) → (λ (m : Move). m.moved.taken) (if b then down else stays) ≡ v.taken
     at true = refl
     at false = refl
 
@@ -62,7 +65,7 @@ none_taken n (Deliver k) fates until posted x = by_found (nth k posted)
     by_found None = refl
     by_found (Some p) = by_receiver (is_receiver n p.receiver)
       where
-        by_receiver : (c : Bool) → (if c then arrival_move (decoded x.base p.content) (luck_of fates until) x None else quiet x).moved.taken ≡ []
+        by_receiver : (c : Bool) → (λ (m : Move). m.moved.taken) (if c then arrival_move (decoded x.base p.content) (luck_of fates until) x None else quiet x) ≡ []
         by_receiver true = refl
         by_receiver false = refl
 none_taken n (Tick ms) fates until posted x = refl
@@ -190,7 +193,7 @@ module _ (none : Unrecorded) (loses : LosesAsTheModel) where
 
       by_receiver : (c : Bool)
           → map taken_of (if c then (walked n x.clock (arrival_plan b x.clock a) (turn_from w b fates until)).trace else [])
-          ≡ (if c then arrival_move a (luck_of fates until) x (Some b) else quiet x).moved.taken
+          ≡ (λ (m : Move). m.moved.taken) (if c then arrival_move a (luck_of fates until) x (Some b) else quiet x)
       by_receiver true =
           turn_told n w x h none x.clock (arrival_plan b x.clock a) b fates until
           ∙ sym (ended_taken x (turned x.clock (arrival_plan b x.clock a) (begin b x.journal (luck_of fates until))))

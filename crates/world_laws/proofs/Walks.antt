@@ -299,7 +299,7 @@ module _ (n : ℕ) (w : World) (x : Node) (there : nth n w.nodes ≡ Some x) whe
       → turn_from w b fates until ≡ shown n w x nothing_yet (begin b x.journal (record { fates = fates; until = until }))
   begun_on b fates until = λ i. record {
     world = record {
-      nodes = sym (put_same n x w.nodes there) i;
+      nodes = sym (put_same n w.nodes x there) i;
       posted = sym (append-nil w.posted) i;
       accepted = w.accepted;
       happened = sym (append-nil w.happened) i;
