@@ -25,15 +25,15 @@ check_at_a_path = (refl, (refl, refl))
 
 replay : IsJobOf (codes "replay" ∷ []) (Filters (Replay (record { settle = false; bytes = false })))
 unfolding clap_on_literals
-replay = (refl, (refl, refl))
+replay = (refl, (refl, refl, refl))
 
 replay_to_rest : IsJobOf (codes "replay" ∷ codes "--settle" ∷ []) (Filters (Replay (record { settle = true; bytes = false })))
 unfolding clap_on_literals
-replay_to_rest = (refl, (refl, refl))
+replay_to_rest = (refl, (refl, refl, refl))
 
 replay_with_bytes : IsJobOf (codes "replay" ∷ codes "--bytes" ∷ []) (Filters (Replay (record { settle = false; bytes = true })))
 unfolding clap_on_literals
-replay_with_bytes = (refl, (refl, refl))
+replay_with_bytes = (refl, (refl, refl, refl))
 
 make : IsJobOf (codes "make" ∷ codes "--seed" ∷ codes "18446744073709551615" ∷ codes "--steps=9999" ∷ []) (Make 18446744073709551615 9999)
 unfolding clap_on_literals digits
