@@ -1,0 +1,14 @@
+pub mod Aborts
+pub mod ActivityMessages
+pub mod Books
+pub mod Decisions
+pub mod LeafMessages
+pub mod Phases
+pub mod Plans
+pub mod Recoveries
+pub mod Registrations
+pub mod Steps
+pub mod Strangers
+pub mod TransactionMessages
+pub mod TransactionMoves
+pub mod TransactionPosts

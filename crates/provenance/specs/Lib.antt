@@ -1,0 +1,3 @@
+pub mod Endpoints
+pub mod Forms
+pub mod Provenance
