@@ -1,0 +1,15 @@
+pub mod DeliverablePosts
+pub mod VisibleTexts
+pub mod HeadTexts
+pub mod OwnAddresses
+pub mod OwnPaths
+pub mod OwnEndpoints
+pub mod ExampleBases
+pub mod PostHeads
+pub mod ReadablePosts
+pub mod LongPosts
+pub mod Passing
+pub mod SpellablePosts
+pub mod LegiblePosts
+pub mod RefusedMessages
+pub mod TakenMessages
