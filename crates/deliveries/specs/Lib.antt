@@ -1,0 +1,3 @@
+pub mod DeliverableNets
+pub mod Deliveries
+pub mod ByteNets
