@@ -4,3 +4,4 @@ pub mod Images
 pub mod TraitCalls
 pub mod MachineCalls
 pub mod ByteImages
+pub mod ChosenImages

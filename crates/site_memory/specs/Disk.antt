@@ -86,5 +86,13 @@ chosen Keep d = d.seen
 chosen Drop d = d.stable
 chosen (Fill b) d = filled b d.stable d.pending
 
+-- of both files
+abbrev pub chosen_files : Choice → Files → List Made → Files
+chosen_files choice opening log = record { first = chosen choice (disk First opening log); second = chosen choice (disk Second opening log) }
+
+-- it is one of those that a crash may leave
+abbrev pub ChosenAreImages : Type 0
+ChosenAreImages = (choice : Choice) (opening : Files) (log : List Made) → Image opening log (chosen_files choice opening log)
+
 pub a_failed_write_is_filled : chosen (Fill 7) (disk First (record { first = 1 ∷ []; second = [] }) (failed (Write 0 1 (5 ∷ 6 ∷ [])) ∷ done (Write 1 0 (9 ∷ [])) ∷ [])) ≡ 1 ∷ 7 ∷ 7 ∷ []
 a_failed_write_is_filled = refl

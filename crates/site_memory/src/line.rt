@@ -44,6 +44,15 @@ impl Line {
         Ok(())
     }
 
+    /// No connection is open or waits any more.
+    pub fn hang_up(&mut self)
+        ensures { link_of self.new ≡ record { open_bytes = []; waiting = [] } }
+    {
+        self.coming.clear();
+        self.at = 0;
+        self.waiting.clear();
+    }
+
     /// Opens the next.
     pub fn next(&mut self) -> Taken
         ensures { OpensAs result (link_of self.old) (link_of self.new) }

@@ -15,7 +15,7 @@ ghost use Rattle.site_memory.specs.Devices.{opening_in, calls_in};
 use crate::arm::{Arm, Choice};
 use crate::bytes::{Bytes, Posted};
 use crate::device::Device;
-use crate::entry::Noted;
+use crate::entry::{Entry, Noted};
 use crate::line::Line;
 use crate::machine::{MemSite, Names};
 use crate::tally::{Tally, answer, falls, one_more};
@@ -179,6 +179,14 @@ impl MemSite {
         self.line.connect(self.alloc, bytes)
     }
 
+    /// The connection that is open and those that wait are gone.
+    pub fn hang_up(&mut self)
+        ensures none { link_of self.new.line ≡ record { open_bytes = []; waiting = [] } }
+        ensures others { self.new ≡ record self.old { line = self.new.line } }
+    {
+        self.line.hang_up();
+    }
+
     /// From now on each receive gives at most so many bytes, or as many as there is room for where that is 0.
     pub fn give_at_most(&mut self, most: usize)
         ensures same { link_of self.new.line ≡ link_of self.old.line }
@@ -207,7 +215,14 @@ impl MemSite {
         self.device.file(file)
     }
 
-    /// How many calls it made or failed to make since it was opened.
+    /// The calls that it made or failed to make since it was opened, in order.
+    pub fn log(&self) -> &[Entry]
+        ensures { result.now ≡ self.now.device.log.items }
+    {
+        self.device.log.as_slice()
+    }
+
+    /// How many these are.
     pub fn calls(&self) -> usize
         ensures { result ≡ length (calls_in self.now.device) }
     {
