@@ -5,7 +5,6 @@ pub mod NetWorlds
 pub mod KeptRecords
 pub mod Restarts
 pub mod Agreement
-pub mod HeardPosts
 pub mod PostCalls
 mod Rows
 mod Acts

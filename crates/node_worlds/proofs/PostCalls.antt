@@ -10,7 +10,7 @@ use Rattle.model_laws.specs.Agreement.{IsIn}
 use Rattle.node_at.specs.Texts.{AreLeaving, IsAnswerOf, IsCallOf, IsPosted, IsPostOf, Leaving, call_by, goes_to}
 use Rattle.node_at.specs.Texts.AreLeaving.{leaves, none, stays}
 use Rattle.site_model.specs.Told.{Call}
-use Rattle.node_worlds.specs.Deliveries.{CallsArePosts}
+use Rattle.node_worlds.specs.PostCalls.{CallsArePosts}
 use Rattle.node_worlds.specs.SentPosts.{AreSome, also, posts_of}
 
 in_joined : {A : Type 0} (x : A) (xs ys : List A) → IsIn x (xs ++ ys) → IsIn x xs ⊎ IsIn x ys

@@ -4,7 +4,7 @@ pub mod Nets
 pub mod KeptRecords
 pub mod Agreement
 pub mod Restarts
-pub mod Deliveries
+pub mod PostCalls
 pub mod Acts
 pub mod Lives
 pub mod Machines

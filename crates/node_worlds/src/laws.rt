@@ -1,21 +1,18 @@
 //! Laws of nodes that serve.
 
 ghost use Rattle.node_worlds.specs.Agreement.{AgreesWherever, NetsAgree};
-ghost use Rattle.node_worlds.specs.Deliveries.{CallsArePosts, PostsAreBrought, PostsAreHeard};
 ghost use Rattle.node_worlds.specs.KeptRecords.{NetsKeep};
 ghost use Rattle.node_worlds.specs.Leads.{StepsLead, TurnsLead};
 ghost use Rattle.node_worlds.specs.Nets.{NetsAreWorlds};
+ghost use Rattle.node_worlds.specs.PostCalls.{CallsArePosts};
 ghost use Rattle.node_worlds.specs.Restarts.{RestartsOnRecords};
 
-use arrivals::laws::what_is_posted_reaches_the_book;
 use decision_log::fold::grows_by_one;
 use decision_log::shrink::shrinks_the_same;
-use http_post::laws::{bytes_ask_one_thing, posts_are_read_back};
 use interposition::book::walks_the_due;
 use model_laws::rules::recovers_the_compacted;
 use record_bytes::read::are_apart;
 use site_model::site::Site;
-use xml_grammar::laws::one_text_spells_one_tree;
 
 /// A step that a node does is a step of the world that the node stands in: of the same event, with the same record, book and
 /// effects, and what was sent is posted there.
@@ -54,24 +51,6 @@ pub fn restarts_on_records<S: Site>()
     ensures { RestartsOnRecords S.told }
 {
     are_apart();
-}
-
-/// Of the envelope of a message that was posted to a node, it takes no other message than that, as the world decodes it there.
-pub fn posts_are_heard()
-    ensures { PostsAreHeard }
-{
-    one_text_spells_one_tree();
-    what_is_posted_reaches_the_book();
-}
-
-/// Whatever message the bytes of its post ask a node to take, in whatever pieces a connection brings them, it is the one that was
-/// posted.
-pub fn posts_are_brought()
-    ensures { PostsAreBrought }
-{
-    posts_are_read_back();
-    bytes_ask_one_thing();
-    posts_are_heard();
 }
 
 /// What leaves a node as a post is one of the messages that its step posted, written for the address to which it goes.
