@@ -3,3 +3,8 @@ pub mod HeardForms
 pub mod NetForms
 pub mod Deliveries
 pub mod ByteNets
+pub mod SentLetters
+pub mod CalledOuts
+pub mod SilentCalls
+pub mod TriedOuts
+pub mod Letters

@@ -1,3 +1,4 @@
 pub mod DeliverableNets
 pub mod Deliveries
 pub mod ByteNets
+pub mod Letters

@@ -3,6 +3,7 @@
 ghost use Rattle.deliveries.specs.ByteNets.{ServeAsNets, ServersAgree};
 ghost use Rattle.deliveries.specs.DeliverableNets.{NetsCanDeliver};
 ghost use Rattle.deliveries.specs.Deliveries.{PostsBring};
+ghost use Rattle.deliveries.specs.Letters.{CallsPost};
 
 use arrivals::laws::heads_are_bases;
 use decision_log::shrink::shrinks_the_same;
@@ -33,6 +34,11 @@ pub fn nets_can_deliver<S: Site>()
     shrinks_the_same();
     incarnations_rise();
 }
+
+/// What the calls of a node post leaves its machine as the letters of what its steps sent, one by one and in order.
+pub fn calls_post<S: Site>()
+    ensures { CallsPost S.told }
+{}
 
 /// The bytes of a message that was posted to a node ask it for no other message than that.
 pub fn posts_bring()

@@ -62,7 +62,7 @@ fate_silent true (Some r) j first old new h = makes_silent appends.Done j.live j
 fate_silent false (Some r) j first old new (inl h) = makes_silent appends.Refused j.live j.end (bytes_of r) first h.0
 fate_silent false (Some r) j first old new (inr h) = makes_silent appends.Full j.live j.end (bytes_of r) first h.0
 
-steps_silent : (r : Compact) (unshut : Bool) (file : ℕ) (text : List ℕ) (made : List Made) → Steps r unshut file text made → sent_by made ≡ []
+pub steps_silent : (r : Compact) (unshut : Bool) (file : ℕ) (text : List ℕ) (made : List Made) → Steps r unshut file text made → sent_by made ≡ []
 steps_silent compacts.Done unshut file text made h =
     ap sent_by h ∙ sent_append (map done (prepare_calls unshut file text)) (map done (raise file 0))
     ∙ (λ i. disk_silent (prepare_calls unshut file text) (prepare_disk unshut file text) i ++ disk_silent (raise file 0) (raise_disk file 0) i)

@@ -5,12 +5,11 @@ pub mod NetWorlds
 pub mod KeptRecords
 pub mod Restarts
 pub mod Agreement
-pub mod PostCalls
-mod Rows
-mod Acts
-mod ActRecords
-mod DiskCalls
-mod LifeLaws
-mod Machines
-mod Crashes
-mod CrashedNets
+pub mod Rows
+pub mod Acts
+pub mod ActRecords
+pub mod DiskCalls
+pub mod LifeLaws
+pub mod Machines
+pub mod Crashes
+pub mod CrashedNets

@@ -4,7 +4,6 @@ pub mod Nets
 pub mod KeptRecords
 pub mod Agreement
 pub mod Restarts
-pub mod PostCalls
 pub mod Acts
 pub mod Lives
 pub mod Machines

@@ -4,7 +4,6 @@ ghost use Rattle.node_worlds.specs.Agreement.{AgreesWherever, NetsAgree};
 ghost use Rattle.node_worlds.specs.KeptRecords.{NetsKeep};
 ghost use Rattle.node_worlds.specs.Leads.{StepsLead, TurnsLead};
 ghost use Rattle.node_worlds.specs.Nets.{NetsAreWorlds};
-ghost use Rattle.node_worlds.specs.PostCalls.{CallsArePosts};
 ghost use Rattle.node_worlds.specs.Restarts.{RestartsOnRecords};
 
 use decision_log::fold::grows_by_one;
@@ -52,11 +51,6 @@ pub fn restarts_on_records<S: Site>()
 {
     are_apart();
 }
-
-/// What leaves a node as a post is one of the messages that its step posted, written for the address to which it goes.
-pub fn calls_are_posts()
-    ensures { CallsArePosts }
-{}
 
 /// Agreement in every world of nodes with addresses of their own that is reached step by step.
 #[tactic(auto, using(crate::proofs::Agreement::agrees_wherever))]
