@@ -1,6 +1,6 @@
 -- A journal that is written anew posts nothing.
 use Rattle.std.specs.Prelude.{Bool, true, false, [], ◌≡◌, ◌⊎◌}
-use Rattle.std.proofs.Common.{inl, inr, refl, ap, subst}
+use Rattle.std.proofs.Common.{inl, inr, refl, ap, subst, ◌∙◌}
 use Rattle.journal_at.specs.declared.journal.Compact.{Compact}
 use Rattle.journal_at.specs.declared.journal.Compact.TheVariants as compacts
 use Rattle.node_at.specs.declared.shrink.Shrunk.{Shrunk}
