@@ -39,7 +39,7 @@ own_lower b h =
     eqb-true (to_ascii_lowercase b) b (and_parts (not (contains FORBIDDEN_DOMAIN b)) (to_ascii_lowercase b == b) more).1
 
 -- a node's host
-abbrev host_of : ℕ → List ℕ
+abbrev pub host_of : ℕ → List ℕ
 host_of n = codes "n" ++ (decimal n ++ codes ".example")
 
 all_own : (n : ℕ) → n < 2 ^ 64 → All (λ b. IsTrue (is_own b)) (host_of n)
@@ -66,7 +66,7 @@ domain n small = record {
   named = not_a_number n;
 }
 
-abbrev url_of : ℕ → Parts
+abbrev pub url_of : ℕ → Parts
 url_of n =
     record {
       scheme = codes "http";
@@ -83,7 +83,7 @@ scheme : IsScheme (codes "http")
 unfolding scheme_len
 scheme = record { nonempty = omega arith; whole = refl; lower = refl }
 
-head : (n : ℕ) → n < 2 ^ 64 → IsValidHead (url_of n)
+pub head : (n : ℕ) → n < 2 ^ 64 → IsValidHead (url_of n)
 head n small = record {
   scheme = scheme;
   username = All-nil _;
@@ -93,7 +93,7 @@ head n small = record {
   bare = λ _. (refl, refl, refl);
 }
 
-text_of : (n : ℕ) → example_base n ≡ serialize (url_of n)
+pub text_of : (n : ℕ) → example_base n ≡ serialize (url_of n)
 text_of n = ap (λ (bytes : List ℕ). codes "http://n" ++ bytes) (sym (append-nil (decimal n ++ codes ".example")))
 
 pub examples_are_node_bases : ExamplesAreNodeBases

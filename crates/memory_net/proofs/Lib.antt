@@ -1,0 +1,12 @@
+pub mod MailLists
+pub mod TurnedNodes
+pub mod Receivers
+pub mod ClosedNets
+pub mod ClosedNodes
+pub mod Standing
+pub mod MailedPosts
+pub mod Going
+pub mod Asking
+pub mod GoingOn
+pub mod HostCalls
+pub mod NoMessages
