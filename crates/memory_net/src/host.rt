@@ -5,7 +5,7 @@ ghost use Rattle.node_at.specs.declared.local.Locally.TheVariants as answers;
 ghost use Rattle.node_at.specs.declared.turn.Turned.TheVariants as turneds;
 ghost use Rattle.site_memory.specs.Devices.{Leaves};
 ghost use Rattle.memory_net.specs.Calls.{IsServing};
-ghost use Rattle.memory_net.specs.Hosts.{IsAsked, IsBegun, IsBehind, IsFresh, IsSet, IsTurned};
+ghost use Rattle.memory_net.specs.Hosts.{IsAsked, IsBegun, IsBehind, IsFresh, IsTurned};
 ghost use Rattle.memory_net.specs.Mails.{mail_of};
 
 use crate::letter::{Letter, gather};
@@ -19,7 +19,6 @@ use node_at::turn::Turned;
 use site_memory::arm::Choice;
 use site_memory::entry::Entry;
 use site_memory::machine::MemSite;
-use site_model::site::Site;
 use std::alloc::{AllocError, Global};
 
 /// A node, where it is up, its machine, and what a stop leaves of that.
@@ -226,36 +225,4 @@ pub fn coming_up(alloc: Global, site: MemSite, leaves: Choice, base: &Text) -> (
         }
         Err(_) => (fallen(machine, Choice::Keep), Started::Failed),
     }
-}
-
-/// The k-th write, sync, answer or post from now fails.
-pub fn failing(host: Host, k: u32) -> Host
-    ensures { IsSet host result }
-{
-    let mut host = host;
-    host.site.fail(k);
-    host
-}
-
-/// At the k-th of these its machine stops, and leaves what was chosen.
-pub fn stopping(host: Host, k: u32, choice: Choice) -> Host
-    ensures { IsSet host result }
-{
-    let mut host = host;
-    host.leaves = choice;
-    host.site.stop(k, choice);
-    host
-}
-
-/// So many milliseconds go by, where the node is up; and what the clock then shows.
-pub fn later(host: Host, ms: u32) -> (Host, u64)
-    ensures { IsSet host result.0 }
-{
-    let mut host = host;
-    let mut now = host.site.now();
-    if host.node.is_some() {
-        now = now.saturating_add(ms as u64);
-        host.site.set_now(now);
-    }
-    (host, now)
 }
