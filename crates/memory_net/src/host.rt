@@ -1,6 +1,6 @@
 //! A node of a net, on its machine.
 
-ghost use Rattle.std.specs.Prelude.{◌≡◌, IfOk, Some, None, drop, map, true};
+ghost use Rattle.std.specs.Prelude.{◌≡◌, IfOk, Some, None, drop, map, option_map, true};
 ghost use Rattle.node_at.specs.declared.local.Locally.TheVariants as answers;
 ghost use Rattle.node_at.specs.declared.turn.Turned.TheVariants as turneds;
 ghost use Rattle.site_memory.specs.Devices.{Leaves};
@@ -224,5 +224,44 @@ pub fn coming_up(alloc: Global, site: MemSite, leaves: Choice, base: &Text) -> (
             (host, Started::Up(incarnation))
         }
         Err(_) => (fallen(machine, Choice::Keep), Started::Failed),
+    }
+}
+
+impl Host {
+    /// Its node, where it is up, and its machine.
+    pub fn into_parts(self) -> (Option<Node>, MemSite)
+        ensures { (result.0 ≡ self.node) × (result.1 ≡ self.site) }
+    {
+        let Host {
+            node,
+            site,
+            leaves: _leaves,
+        } = self;
+        (node, site)
+    }
+
+    /// A node, or none, on this machine.
+    pub fn of(node: Option<Node>, site: MemSite) -> Host
+        ensures { (result.node ≡ node) × (result.site ≡ site) }
+    {
+        Host {
+            node,
+            site,
+            leaves: Choice::Keep,
+        }
+    }
+
+    /// Its node, where it is up.
+    pub fn node(&self) -> Option<&Node>
+        ensures { option_map (λ n. n.now) result ≡ self.now.node }
+    {
+        self.node.as_ref()
+    }
+
+    /// Its machine.
+    pub fn site(&self) -> &MemSite
+        ensures { result.now ≡ self.now.site }
+    {
+        &self.site
     }
 }

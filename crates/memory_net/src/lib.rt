@@ -4,4 +4,4 @@
 pub mod host;
 pub mod laws;
 pub mod letter;
-mod machine;
+pub mod machine;

@@ -1,5 +1,5 @@
 -- What calls and crashes do to the disk of a machine in memory.
-use Rattle.std.specs.Prelude.{List, [], ◌≡◌, true}
+use Rattle.std.specs.Prelude.{ℕ, List, [], ◌≡◌, true, take}
 use Rattle.site_model.specs.Told.{Call, Made, Files}
 use Rattle.site_memory.specs.declared.arm.Arm.TheVariants.{Idle}
 use Rattle.site_memory.specs.declared.arm.Choice.{Choice}
@@ -25,6 +25,13 @@ pub record Leaves (choice : Choice) (old new : Device) : Type 0 where
   pub calls : calls_in new ≡ []
   pub first : (opening_in new).first ≡ chosen choice (disk First (opening_in old) (calls_in old))
   pub second : (opening_in new).second ≡ chosen choice (disk Second (opening_in old) (calls_in old))
+  pub arm : new.arm ≡ Idle
+  pub wanted : new.wanted ≡ old.wanted
+
+-- the machine as it was behind its first so many calls, unarmed
+pub record GoesBack (calls : ℕ) (old new : Device) : Type 0 where
+  pub calls_are : calls_in new ≡ take calls (calls_in old)
+  pub opening : opening_in new ≡ opening_in old
   pub arm : new.arm ≡ Idle
   pub wanted : new.wanted ≡ old.wanted
 

@@ -1,6 +1,6 @@
 //! The calls on the disk of a machine in memory.
 
-ghost use Rattle.std.specs.Prelude.{◌≡◌, ◌+◌, [], true, false, cond, length, IfOk};
+ghost use Rattle.std.specs.Prelude.{◌≡◌, ◌+◌, [], true, false, cond, length, IfOk, OnOk};
 ghost use Rattle.site_model.specs.Told.{file_of};
 ghost use Rattle.site_memory.specs.Tells.{reads};
 ghost use Rattle.site_memory.specs.declared.entry.Noted.TheVariants.{Not};
@@ -8,16 +8,18 @@ ghost use Rattle.site_model.specs.Told.Call.{Write, Sync, Send, Post};
 ghost use Rattle.site_memory.specs.declared.arm.Arm.TheVariants.{Idle};
 ghost use Rattle.site_memory.specs.declared.range.Which.TheVariants.{First, Second};
 ghost use Rattle.site_memory.specs.Arms.{armed};
-ghost use Rattle.site_memory.specs.Disk.{after_write, after_sync, chosen, same};
-ghost use Rattle.site_memory.specs.Devices.{opening_in, calls_in, Runs, Leaves, Wants};
+ghost use Rattle.site_memory.specs.Disk.{after_call, after_write, after_sync, chosen, run, same};
+ghost use Rattle.site_memory.specs.Entries.{call_of, mades};
+ghost use Rattle.site_memory.specs.Devices.{opening_in, calls_in, GoesBack, Runs, Leaves, Wants};
 ghost use Rattle.site_memory.specs.HeldFiles.{disk_of, opening_of, HasRoomIn};
 
 use crate::arm::{Arm, Choice};
 use crate::device::Device;
-use crate::entry::{Deed, Noted, note};
+use crate::entry::{Deed, Entry, Noted, note};
 use crate::held_file::Held;
 use crate::range::Which;
 use std::alloc::{AllocError, Global};
+use std::mem::replace;
 
 /// Makes room for a write in one of the files, and says its place.
 fn room_in(
@@ -69,7 +71,77 @@ fn sync_in(first: &mut Held, second: &mut Held, which: Which)
     }
 }
 
+/// What a call did to the files.
+fn run_in(first: &mut Held, second: &mut Held, entry: &Entry) -> Result<(), AllocError>
+    ensures first { OnOk result (disk_of first.new ≡ after_call First (disk_of first.old) (call_of entry.now.deed) entry.now.done) }
+    ensures second { OnOk result (disk_of second.new ≡ after_call Second (disk_of second.old) (call_of entry.now.deed) entry.now.done) }
+    ensures opening { opening_of first.new second.new ≡ opening_of first.old second.old }
+{
+    match &entry.deed {
+        Deed::Write { file, at, bytes } => {
+            let which = Which::of(*file);
+            let place = room_in(first, second, which, *at, bytes.len())?;
+            write_in(first, second, which, place, bytes.as_slice(), entry.done);
+        }
+        Deed::Sync { file } => {
+            if entry.done {
+                sync_in(first, second, Which::of(*file));
+            }
+        }
+        Deed::Send { .. } | Deed::Post { .. } => {}
+    }
+    Ok(())
+}
+
+/// What these calls did to them.
+fn run_all(first: &mut Held, second: &mut Held, log: &[Entry]) -> Result<(), AllocError>
+    ensures first { OnOk result (disk_of first.new ≡ run First (disk_of first.old) (mades log.now)) }
+    ensures second { OnOk result (disk_of second.new ≡ run Second (disk_of second.old) (mades log.now)) }
+    ensures opening { opening_of first.new second.new ≡ opening_of first.old second.old }
+{
+    for entry in log {
+        run_in(first, second, entry)?;
+    }
+    Ok(())
+}
+
+/// A device that went back to how it was behind these calls since it was opened.
+fn gone_back(device: Device, calls: usize) -> Result<Device, AllocError>
+    ensures { IfOk result (GoesBack calls device) }
+{
+    let Device {
+        alloc,
+        mut log,
+        mut first,
+        mut second,
+        arm: _arm,
+        wanted,
+    } = device;
+    log.truncate(calls);
+    first.rewind();
+    second.rewind();
+    run_all(&mut first, &mut second, log.as_slice())?;
+    Ok(Device {
+        alloc,
+        log,
+        first,
+        second,
+        arm: Arm::Idle,
+        wanted,
+    })
+}
+
 impl Device {
+    /// It is again as it was behind its first so many calls, and unarmed. Where there is no memory, nothing is left of it but empty files.
+    pub fn go_back(&mut self, calls: usize) -> Result<(), AllocError>
+        ensures { OnOk result (GoesBack calls self.old self.new) }
+    {
+        let alloc = self.alloc;
+        let device = replace(self, Device::new(alloc));
+        *self = gone_back(device, calls)?;
+        Ok(())
+    }
+
     /// Empty files, and no calls.
     pub fn new(alloc: Global) -> Device
         ensures calls { calls_in result ≡ [] }

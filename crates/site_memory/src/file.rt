@@ -81,6 +81,17 @@ impl Held {
         self.pending.clear();
     }
 
+    /// It is again as it was when the machine was opened.
+    pub fn rewind(&mut self)
+        ensures is { disk_of self.new ≡ opened self.old.opening.items }
+        ensures opening { self.new.opening.items ≡ self.old.opening.items }
+    {
+        copy(&self.opening, &mut self.stable);
+        copy(&self.opening, &mut self.seen);
+        self.fresh = self.seen.len();
+        self.pending.clear();
+    }
+
     /// A crash, which leaves what was chosen.
     #[tactic(auto, using(crate::proofs::WrittenBytes::length_filled))]
     pub fn crash(&mut self, choice: Choice)

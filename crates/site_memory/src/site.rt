@@ -7,7 +7,7 @@ ghost use Rattle.site_model.specs.Counts.{capped};
 ghost use Rattle.site_model.specs.Calls.{Looked, Wrote, Synced, Raised, Gave, Attaches, Takes, Received, Closes, Reads};
 ghost use Rattle.site_memory.specs.declared.arm.Arm.TheVariants.{Fail, Stop, Stopped};
 ghost use Rattle.site_memory.specs.Arms.{armed};
-ghost use Rattle.site_memory.specs.Devices.{Leaves, Runs};
+ghost use Rattle.site_memory.specs.Devices.{GoesBack, Leaves, Runs};
 ghost use Rattle.site_memory.specs.Sites.{contents, told_of, link_of, now_counts, now_only, Goes, GoesTwice, IsNew, RunsTwice, Same, Attached, kept_where, post_of};
 ghost use Rattle.site_memory.specs.Tells.{reads};
 ghost use Rattle.site_memory.specs.Devices.{opening_in, calls_in};
@@ -170,6 +170,16 @@ impl MemSite {
         self.device.crash(choice);
     }
 
+    /// It is again as it was behind its first so many calls since it was opened, as far as its files and its calls say, and unarmed: so a
+    /// crash can come at a moment that has passed. What it sent since is still in `answers` and `posts`. Where there is no memory, its files
+    /// are lost.
+    pub fn go_back(&mut self, calls: usize) -> Result<(), AllocError>
+        ensures back { OnOk result (GoesBack calls self.old.device self.new.device) }
+        ensures others { self.new ≡ record self.old { device = self.new.device } }
+    {
+        self.device.go_back(calls)
+    }
+
     /// A connection that brings these bytes, behind those that wait.
     pub fn connect(&mut self, bytes: &[u8]) -> Result<(), AllocError>
         ensures done { OnOk result (link_of self.new.line ≡ record (link_of self.old.line) { waiting = (link_of self.old.line).waiting ++ bytes.now ∷ [] }) }
@@ -234,6 +244,13 @@ impl MemSite {
         ensures { result ≡ self.now.tally.link }
     {
         self.tally.link
+    }
+
+    /// How many calls of its disk failed, but for those of gates.
+    pub fn failed_disk_calls(&self) -> u64
+        ensures { result ≡ self.now.tally.disk }
+    {
+        self.tally.disk
     }
 
     /// All answers so far, in order.

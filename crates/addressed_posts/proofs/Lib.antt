@@ -1,0 +1,6 @@
+pub mod Answered
+pub mod Directed
+pub mod ItemMessages
+pub mod Steps
+pub mod TransactionMessages
+pub mod TransactionMoves

@@ -1,0 +1,5 @@
+pub mod OneMeaning
+pub mod NamedTargets
+pub mod ReadHeads
+pub mod CarriedPosts
+pub mod Ticks

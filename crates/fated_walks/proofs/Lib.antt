@@ -1,0 +1,2 @@
+pub mod FatedOuts
+pub mod FatedWalks

@@ -1,0 +1,101 @@
+-- What a node heard as the input of an event: the plan of the model, and the walk of the event.
+use Rattle.std.specs.Prelude.{ℕ, List, ◌+◌, ◌≡◌, Option, None, Some, true, if◌then◌else◌, refl}
+use Rattle.std.proofs.Common.{sym, subst, ap, ◌∙◌}
+use Rattle.std.proofs.lemmas.Bool.{eq-eqb}
+use Rattle.at_base.specs.declared.event.Event.TheVariants as events
+use Rattle.at_base.specs.declared.outs.Post.{Post}
+use Rattle.at_model.specs.Book.{Book}
+use Rattle.at_model.specs.Step.{Plan, plan}
+use Rattle.at_model.specs.World.{Deliver, Input, Node, Posted, Raw, Tick, World, answer_plan, arrival_plan, decoded, is_receiver, nth}
+use Rattle.node_at.specs.Meanings.{Meaning}
+use Rattle.node_at.specs.Meanings.Meaning.{Lost, Refused, Steps}
+use Rattle.node_at.specs.TurnText.{IsFirst, TurnStep}
+use Rattle.node_events.specs.NodeEvents.{Brings, IsInput, arrives, draws}
+use Rattle.node_events.proofs.PlannedSteps.{IsStepOf, refusal_of, step_of}
+use Rattle.world_laws.specs.Firsts.{delivery_plan, input_plan}
+use Rattle.world_laws.specs.Moves.{arrival_move, delivery_move, input_move, quiet, turn_move}
+use Rattle.world_laws.specs.Walks.{Luck}
+
+-- The plan of an input, the walk that it begins, and the step that a node does for it.
+pub record Heard (w : World) (i : ℕ) (x : Node) (b : Book) (input : Input) (meaning : Meaning) (now : ℕ) : Type 0 where
+  pub begun : Plan
+  pub is : input_plan i input w.posted x (Some b) ≡ Some begun
+  pub moves : (l : Luck) → input_move i input l w.posted x (Some b) ≡ turn_move now x b begun l
+  pub first : (s : TurnStep) (status : ℕ) → IsFirst b now meaning s status → IsStepOf begun s
+  pub told : meaning ≡ Lost → ⊥
+
+receives : (i : ℕ) (o : Option ℕ) → o ≡ Some i → is_receiver i o ≡ true
+receives i o e = ap (is_receiver i) e ∙ eq-eqb i i refl
+
+-- a message
+taken_first : (base : List ℕ) (p : Post) (b : Book) (now clock : ℕ) (meaning : Meaning) → Brings base p meaning → now ≡ clock → (s : TurnStep) (status : ℕ) → IsFirst b now meaning s status
+    → IsStepOf (arrival_plan b clock (decoded base p)) s
+taken_first base p b now clock meaning (arrives a e) same s status (is, answers) =
+    subst (λ d. IsStepOf (arrival_plan b clock d) s) (sym e) (subst (λ t. IsStepOf (plan b (events.Arrived a) t) s) same (step_of b (events.Arrived a) now s is))
+taken_first base p b now clock meaning (draws text e) same s status (is, answers) =
+    subst (λ d. IsStepOf (arrival_plan b clock d) s) (sym e) (refusal_of b 500 500 text s is)
+
+taken_told : (base : List ℕ) (p : Post) (meaning : Meaning) → Brings base p meaning → meaning ≡ Lost → ⊥
+taken_told base p meaning (arrives a e) f = absurd cc
+taken_told base p meaning (draws text e) f = absurd cc
+
+delivery_heard : (i : ℕ) (x : Node) (b : Book) (now : ℕ) (found : Option Posted) (p : Posted) → found ≡ Some p → p.receiver ≡ Some i → now ≡ x.clock
+    → (delivery_plan i found x (Some b) ≡ Some (arrival_plan b x.clock (decoded x.base p.content)))
+    × ((l : Luck) → delivery_move i found l x (Some b) ≡ turn_move now x b (arrival_plan b x.clock (decoded x.base p.content)) l)
+delivery_heard i x b now found p e to same = (
+  ap (λ o. delivery_plan i o x (Some b)) e ∙ ap (λ t. if t then Some d else None) here,
+  λ l. ap (λ o. delivery_move i o l x (Some b)) e ∙ ap (λ t. if t then arrival_move (decoded x.base p.content) l x (Some b) else quiet x) here ∙ ap (λ t. turn_move t x b d l) (sym same),
+)
+  where
+    d : Plan
+    d = arrival_plan b x.clock (decoded x.base p.content)
+
+    here : is_receiver i p.receiver ≡ true
+    here = receives i p.receiver to
+
+-- a tick, and bytes that are refused
+tick_first : (b : Book) (now clock : ℕ) (meaning : Meaning) → meaning ≡ Steps events.Tick → now ≡ clock → (s : TurnStep) (status : ℕ) → IsFirst b now meaning s status
+    → IsStepOf (plan b events.Tick clock) s
+tick_first b now clock meaning e same s status is =
+    let first : IsFirst b now (Steps events.Tick) s status = subst (λ z. IsFirst b now z s status) e is in
+    subst (λ t. IsStepOf (plan b events.Tick t) s) same (step_of b events.Tick now s first.0)
+
+raw_first : (b : Book) (now answer : ℕ) (text : Option (List ℕ)) (meaning : Meaning) → meaning ≡ Refused answer text → (s : TurnStep) (status : ℕ) → IsFirst b now meaning s status
+    → IsStepOf (answer_plan b 400) s
+raw_first b now answer text meaning e s status is =
+    let first : IsFirst b now (Refused answer text) s status = subst (λ z. IsFirst b now z s status) e is in
+    refusal_of b 400 answer text s first.0
+
+not_lost : (meaning other : Meaning) → meaning ≡ other → (other ≡ Lost → ⊥) → meaning ≡ Lost → ⊥
+not_lost meaning other e h f = h (sym e ∙ f)
+
+steps_told : Steps events.Tick ≡ Lost → ⊥
+steps_told e = absurd cc
+
+refused_told : (answer : ℕ) (text : Option (List ℕ)) → Refused answer text ≡ Lost → ⊥
+refused_told answer text e = absurd cc
+
+pub heard : (w : World) (i : ℕ) (x : Node) (b : Book) (input : Input) (meaning : Meaning) (now : ℕ) → IsInput w i x input meaning now → Heard w i x b input meaning now
+heard w i x b (Deliver k) meaning now (p, found, to, brings, same) =
+    let (is, moves) = delivery_heard i x b now (nth k w.posted) p found to same in
+    record {
+      begun = arrival_plan b x.clock (decoded x.base p.content);
+      is = is;
+      moves = moves;
+      first = taken_first x.base p.content b now x.clock meaning brings same;
+      told = taken_told x.base p.content meaning brings;
+    }
+heard w i x b (Tick ms) meaning now (says, same) = record {
+  begun = plan b events.Tick (x.clock + ms);
+  is = refl;
+  moves = λ l. ap (λ t. turn_move t x b (plan b events.Tick (x.clock + ms)) l) (sym same);
+  first = tick_first b now (x.clock + ms) meaning says same;
+  told = not_lost meaning (Steps events.Tick) says steps_told;
+}
+heard w i x b Raw meaning now (answer, text, says, same) = record {
+  begun = answer_plan b 400;
+  is = refl;
+  moves = λ l. ap (λ t. turn_move t x b (answer_plan b 400) l) (sym same);
+  first = raw_first b now answer text meaning says;
+  told = not_lost meaning (Refused answer text) says (refused_told answer text);
+}

@@ -1,0 +1,5 @@
+use Rattle.node_events.proofs.TurnEvents.{turns_are_events}
+use Rattle.node_events.proofs.laws.turns_are_events.Goals as goal
+
+pub returns : goal.returns
+returns c = turns_are_events c.walks_by_fates.ensures c.changes_by_moves.ensures

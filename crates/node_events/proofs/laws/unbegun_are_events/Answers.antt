@@ -1,0 +1,5 @@
+use Rattle.node_events.proofs.HaltEvents.{unbegun_are_events}
+use Rattle.node_events.proofs.laws.unbegun_are_events.Goals as goal
+
+pub returns : goal.returns
+returns c = unbegun_are_events c.walks_by_fates.ensures c.changes_by_moves.ensures

@@ -1,0 +1,4 @@
+//! Laws alone: which messages have small envelopes.
+#![tactic(auto)]
+
+pub mod laws;

@@ -1,0 +1,3 @@
+pub mod DiskRuns
+pub mod GateWrites
+pub mod TornAppends

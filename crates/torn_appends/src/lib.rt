@@ -1,0 +1,4 @@
+//! Laws alone: what is left of an append at one of whose calls a machine in memory stops.
+#![tactic(auto)]
+
+pub mod laws;
