@@ -1,0 +1,11 @@
+use Rattle.std.proofs.Common.{◌<◌, ◌≡◌, arith, drop, length, true}
+use Rattle.std.proofs.lemmas.Grind.{common_steps}
+use Rattle.at_model.specs.World.{fate}
+use Rattle.mirrored_nets.proofs.StruckFates.{one_more_done}
+use Rattle.mirrored_nets.proofs.judged.struck.Goals as goal
+
+pub loop-place-preserved : goal.loop-place-preserved
+loop-place-preserved c =
+    let within : c.loop-place.place < length c.args.fates.now = omega arith in
+    let last : fate (drop c.loop-place.place c.args.fates.now) ≡ true = grind (arith, common_steps) in
+    one_more_done c.loop-place.place c.args.fates.now within last c.loop-place.invariant

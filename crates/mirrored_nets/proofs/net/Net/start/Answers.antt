@@ -1,0 +1,24 @@
+use Rattle.std.proofs.Common.{ap, refl, ◌∙◌}
+use Rattle.at_model.specs.World.{Up, put_nth}
+use Rattle.memory_net.specs.Mails.{mail_of}
+use Rattle.mirrored_nets.specs.Seen.{Seen}
+use Rattle.mirrored_nets.proofs.NetEvents.{inside, rests_up, serve_on, started_serves, starts, up_at}
+use Rattle.mirrored_nets.proofs.net.Net.start.Goals as goal
+
+pub returns : goal.returns
+returns c = λ count w few mirrors.
+    starts c.requires count w few c.self.inside.hosts.items c.self.inside.clocks.items _ (inside count w c.args.self c.self.inside.hosts.items c.self.inside.clocks.items c.self.inside.letters.items c.self.view_is mirrors) c.args.number
+    c.in_ok-taken.field-0 c.in_ok-host.host c.in_ok-taken.ensures.here c.put_host.new.hosts.items (c.in_ok-put_host.ensures ∙ c.in_ok-taken.ensures.place c.in_ok-host.host) c.in_ok-is_up.field-0
+    c.args.landed c.args.stop c.in_ok-clock.clock c.into_parts-node.result.1 c.in_ok-base.base
+    (up_at c.self.inside.hosts.items c.as_slice.result.now c.args.number c.in_ok-is_up.field-0 c.as_slice.ensures.value c.in_ok-is_up.ensures) c.if-branch.false
+    c.in_ok-base.ensures c.into_parts-node.ensures.1 c.in_ok-host.ensures
+
+pub invariant_of-result : goal.invariant_of-result
+invariant_of-result c =
+    serve_on c.args.number c.in_ok-host.host c.self.inside.hosts.items c.put_host.new.hosts.items c.self.invariant (started_serves c.in_ok-base.base c.in_ok-clock.clock c.args.landed c.args.stop _ c.in_ok-host.host c.in_ok-host.ensures)
+    (c.in_ok-put_host.ensures ∙ c.in_ok-taken.ensures.place c.in_ok-host.host)
+
+pub returns-then-branch : goal.returns-then-branch
+returns-then-branch c = λ count w few mirrors.
+    rests_up c.requires count w few c.args.self.hosts c.args.self.clocks _ mirrors c.args.number c.args.landed c.args.stop c.in_ok-is_up.field-0
+    (up_at c.args.self.hosts c.as_slice.result.now c.args.number c.in_ok-is_up.field-0 (c.as_slice.ensures.value ∙ ap (λ (s : Seen). s.hosts) c.self.view_is) c.in_ok-is_up.ensures) c.if-branch.true

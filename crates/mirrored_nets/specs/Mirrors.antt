@@ -1,0 +1,32 @@
+-- A net in memory that mirrors a world of the model.
+use Rattle.std.specs.Prelude.{ℕ, List, Option, ◌≡◌, IfSome, Some, length}
+use Rattle.std.specs.List.{AllByRecursion}
+use Rattle.at_base.specs.declared.epr.Epr.{Epr}
+use Rattle.at_model.specs.World.{Node as Known, World, example_base, example_hosts, new_nodes, nth, receiver_of}
+use Rattle.memory_net.specs.Calls.{IsServing}
+use Rattle.memory_net.specs.Mails.{Mail}
+use Rattle.memory_net.specs.Stands.{Stands}
+use Rattle.memory_net.specs.declared.host.Host.{Host}
+use Rattle.node_at.specs.declared.node.Node.{Node}
+use Rattle.node_worlds.specs.Nets.{IsWorldOf}
+
+-- the node of a host serves, where it is up
+abbrev pub MayServe : Host → Type 0
+MayServe h = IfSome h.node IsServing
+
+abbrev pub AllServe : List Host → Type 0
+AllServe hosts = AllByRecursion MayServe hosts
+
+-- Its hosts and letters are a net of nodes that serve, of which that is the world: each node has there the book that it has here, its journal
+-- stands for the records that it has there, and the letters are the messages of the world, one by one. The clocks are those of its nodes.
+pub record Mirrors (count : ℕ) (hosts : List Host) (clocks : List ℕ) (mails : List Mail) (w : World) : Type 0 where
+  pub many : length hosts ≡ count
+  pub stands : Stands count hosts mails
+  pub world : IsWorldOf (example_hosts count) stands.net w
+  pub times : length clocks ≡ count
+  pub nodes : length w.nodes ≡ count
+  -- an address leads to the node whose base it has
+  pub reach : (to : Option Epr) → receiver_of w.nodes to ≡ receiver_of (new_nodes example_base count 1) to
+  pub clocks_are : (i c : ℕ) (x : Known) → nth i clocks ≡ Some c → nth i w.nodes ≡ Some x → x.clock ≡ c
+  -- a file of a journal has at most 4,294,967,295 bytes
+  pub limits : (i : ℕ) (h : Host) (n : Node) → nth i hosts ≡ Some h → h.node ≡ Some n → n.journal.limit ≡ 4294967295

@@ -1,0 +1,65 @@
+//! Requests that name nodes of the net alone.
+
+ghost use Rattle.std.specs.Prelude.{◌≡◌, ◌≤◌, IfOk, codes, true};
+ghost use Rattle.at_model.specs.World.{example_base};
+ghost use Rattle.deliverables.specs.Deliverables.{IsDeliverableField};
+ghost use Rattle.memory_net.specs.Closed.{IsExampleBase, IsExampleRequest};
+
+use at_base::event::Local;
+use std::alloc::{AllocError, Global};
+
+/// Whether this is the base of that node.
+fn is_base_of(alloc: Global, number: u8, base: &str) -> Result<bool, AllocError>
+    ensures { IfOk result (λ is. is ≡ true → base.now ≡ example_base number) }
+{
+    let name = format!(in alloc; "http://n{number}.example")?;
+    Ok(base.as_bytes() == name.as_bytes())
+}
+
+/// Whether this is the base of one of eight nodes.
+fn is_example(alloc: Global, base: &str) -> Result<bool, AllocError>
+    ensures { IfOk result (λ is. is ≡ true → IsExampleBase base.now) }
+{
+    for number in 1..9 {
+        if is_base_of(alloc, number, base)? {
+            return Ok(true);
+        }
+    }
+    Ok(false)
+}
+
+/// Whether these are the key `k` and the value `v`.
+fn are_short(key: &str, value: &str) -> bool
+    ensures key { result ≡ true → IsDeliverableField key.now }
+    ensures value { result ≡ true → IsDeliverableField value.now }
+{
+    if key != "k" {
+        return false;
+    }
+    value == "v"
+}
+
+/// Whether a request names such nodes alone, and brings the key `k` and the value `v` if it brings any.
+pub fn names_examples(alloc: Global, local: &Local) -> Result<bool, AllocError>
+    ensures { IfOk result (λ is. is ≡ true → IsExampleRequest local.now) }
+{
+    match local {
+        Local::Begin { coordinator, ms } => {
+            let _short = *ms;
+            is_example(alloc, coordinator.as_str())
+        }
+        Local::Interpose { coordinator, .. } => is_example(alloc, coordinator.as_str()),
+        Local::Work {
+            service,
+            key,
+            value,
+            ..
+        } => {
+            if !are_short(key.as_str(), value.as_str()) {
+                return Ok(false);
+            }
+            is_example(alloc, service.as_str())
+        }
+        Local::Commit { .. } | Local::Rollback { .. } => Ok(true),
+    }
+}

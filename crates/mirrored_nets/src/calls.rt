@@ -1,0 +1,186 @@
+//! The calls that a node made in one event, and the fates that they had.
+
+ghost use Rattle.std.specs.Prelude.{◌≡◌, ◌≤◌, drop, length, map, take, true, replicate};
+ghost use Rattle.fated_walks.specs.Fated.{StartsWith};
+ghost use Rattle.site_memory.specs.Entries.{call_of, made_of, mades};
+ghost use Rattle.site_model.specs.Told.{done};
+ghost use Rattle.site_model.specs.Told.Call.{Send};
+ghost use Rattle.http_post.specs.Conversations.{interim};
+ghost use Rattle.mirrored_nets.specs.Fates.{AllDone, all_done, anew_of, behind_disk, behind_sent, disk_part, failures, fates_in, is_disk, is_done, refusals, sent_part};
+
+use site_memory::entry::{Deed, Entry};
+use site_memory::machine::MemSite;
+use world_laws::event::Fates;
+
+/// The calls of a machine since it had made so many.
+pub fn since(site: &MemSite, before: usize) -> &[Entry]
+    ensures { result.now ≡ drop before site.now.device.log.items }
+{
+    behind(site.log(), before)
+}
+
+/// All but the first so many.
+pub fn behind(calls: &[Entry], lines: usize) -> &[Entry]
+    ensures { result.now ≡ drop lines calls.now }
+{
+    match calls.get(lines..) {
+        Some(rest) => rest,
+        None => &[],
+    }
+}
+
+/// Whether a call is one of the disk.
+fn is_disk(entry: &Entry) -> bool
+    ensures { result ≡ is_disk (call_of entry.now.deed) }
+{
+    match &entry.deed {
+        Deed::Write { .. } | Deed::Sync { .. } => true,
+        Deed::Send { .. } | Deed::Post { .. } => false,
+    }
+}
+
+/// How many calls of the disk come first.
+
+pub fn disk_calls(calls: &[Entry]) -> usize
+    ensures disk { disk_part (mades calls.now) ≡ take result (mades calls.now) }
+    ensures behind { behind_disk (mades calls.now) ≡ drop result (mades calls.now) }
+    ensures within { result ≤ length calls.now }
+{
+    for (place, entry) in calls.iter().enumerate() {
+        if !is_disk(entry) {
+            return place;
+        }
+    }
+    calls.len()
+}
+
+/// How many answers and posts come first.
+
+pub fn send_calls(calls: &[Entry]) -> usize
+    ensures sent { sent_part (mades calls.now) ≡ take result (mades calls.now) }
+    ensures behind { behind_sent (mades calls.now) ≡ drop result (mades calls.now) }
+    ensures within { result ≤ length calls.now }
+{
+    for (place, entry) in calls.iter().enumerate() {
+        if is_disk(entry) {
+            return place;
+        }
+    }
+    calls.len()
+}
+
+/// Whether all of them were done.
+
+pub fn all_done(calls: &[Entry]) -> bool
+    ensures is { result ≡ all_done (mades calls.now) }
+    ensures all { result ≡ true → AllDone (mades calls.now) }
+{
+    for entry in calls {
+        if !entry.done {
+            return false;
+        }
+    }
+    true
+}
+
+/// Whether these calls had those of these fates that begin at that place.
+
+fn had(calls: &[Entry], fates: &Fates, from: usize) -> bool
+    requires { from ≤ 1 }
+    ensures { result ≡ true → StartsWith (map is_done (mades calls.now)) (drop from fates.now) }
+{
+    for place in 0..calls.len() {
+        if calls[place].done != fates.at(from + place) {
+            return false;
+        }
+    }
+    true
+}
+
+/// Whether a record's append, if one comes first, and the answers and posts behind it had the first of these fates.
+pub fn had_fates(calls: &[Entry], fates: &Fates) -> bool
+    ensures { result ≡ true → StartsWith (fates_in (mades calls.now)) fates.now }
+{
+    let disk = disk_calls(calls);
+    let step = behind(calls, disk);
+    let sent = &step[..send_calls(step)];
+    if disk == 0 {
+        return had(sent, fates, 0);
+    }
+    all_done(&calls[..disk]) == fates.at(0) && had(sent, fates, 1)
+}
+
+/// How many fates they had.
+pub fn fates_count(calls: &[Entry]) -> usize
+    ensures { result ≡ length (fates_in (mades calls.now)) }
+{
+    let disk = disk_calls(calls);
+    let sent = send_calls(behind(calls, disk));
+    if disk == 0 { sent } else { sent + 1 }
+}
+
+/// The calls by which the journal was written anew.
+pub fn anew(calls: &[Entry]) -> &[Entry]
+    ensures { mades result.now ≡ anew_of (mades calls.now) }
+{
+    let step = behind(calls, disk_calls(calls));
+    behind(step, send_calls(step))
+}
+
+/// How many answers and posts failed.
+pub fn failures(calls: &[Entry]) -> u64
+    ensures { result ≡ failures (mades calls.now) }
+{
+    let mut count: u64 = 0;
+    for entry in calls {
+        if !is_disk(entry) && !entry.done {
+            count += 1;
+        }
+    }
+    count
+}
+
+/// How many calls of the disk failed.
+pub fn refusals(calls: &[Entry]) -> u64
+    ensures { result ≡ refusals (mades calls.now) }
+{
+    let mut count: u64 = 0;
+    for entry in calls {
+        if is_disk(entry) && !entry.done {
+            count += 1;
+        }
+    }
+    count
+}
+
+/// Whether these bytes are the interim line.
+#[tactic(auto, using(crate::proofs::InterimBytes::is_interim))]
+fn is_line(bytes: &[u8]) -> bool
+    ensures { result ≡ true → bytes.now ≡ interim }
+{
+    bytes == b"HTTP/1.1 100 Continue\r\n\r\n".as_slice()
+}
+
+/// Whether a call said it.
+fn says_line(entry: &Entry) -> bool
+    ensures { result ≡ true → made_of entry.now ≡ done (Send interim) }
+{
+    if !entry.done {
+        return false;
+    }
+    match &entry.deed {
+        Deed::Send { bytes } => is_line(bytes.as_slice()),
+        _ => false,
+    }
+}
+
+/// Whether the first so many calls, one at most, said the interim line.
+pub fn said(calls: &[Entry], lines: usize) -> bool
+    ensures is { result ≡ true → take lines (mades calls.now) ≡ replicate lines (done (Send interim)) }
+    ensures few { result ≡ true → lines ≤ 1 }
+{
+    if lines == 0 {
+        return true;
+    }
+    lines == 1 && !calls.is_empty() && says_line(&calls[0])
+}

@@ -1,0 +1,259 @@
+//! An event that is done to a node on its machine.
+
+ghost use Rattle.std.specs.Prelude.{◌≡◌, ◌+◌, ◌≤◌, ◌<◌, ◌^◌, IfOk, length, map, replicate, take};
+ghost use Rattle.http_post.specs.Conversations.{interim};
+ghost use Rattle.site_model.specs.Told.{done};
+ghost use Rattle.site_model.specs.Told.Call.{Send};
+ghost use Rattle.memory_net.specs.Calls.{IsServing};
+ghost use Rattle.memory_net.specs.Mails.{mail_of};
+ghost use Rattle.site_memory.specs.Devices.{calls_in};
+ghost use Rattle.site_memory.specs.Entries.{mades};
+ghost use Rattle.mirrored_nets.specs.Fates.{failures, refusals};
+ghost use Rattle.mirrored_nets.specs.Goings.{CameUp, IsSet, WentDown};
+ghost use Rattle.mirrored_nets.specs.Took.{AnswersSo, EndsSo, FellBack, HasRoom, LeftSo, TookRequest, TookTurn, kept_of};
+
+use crate::calls::{failures, refusals, said, since};
+use crate::came::Came;
+use crate::fault::Fault;
+use crate::judged::{Armed, judged};
+use at_base::event::Local;
+use at_base::text::Text;
+use memory_net::host::Host;
+use memory_net::letter::{Letter, gather};
+use memory_net::machine::{ask, begin, turn};
+use node_at::local::Locally;
+use node_at::node::Node;
+use node_at::turn::Turned;
+use site_memory::arm::Choice;
+use site_memory::entry::Entry;
+use site_memory::machine::MemSite;
+use std::alloc::Global;
+use world_laws::event::Fates;
+
+/// The most bytes of a file to which a record of any length may still be added.
+const MOST: usize = 4_293_907_285;
+
+/// Whether both files have room for another record.
+fn has_room(site: &MemSite) -> Result<(), Fault>
+    ensures { IfOk result (λ _. HasRoom site.now) }
+{
+    if site.file(0).len() > MOST || site.file(1).len() > MOST {
+        return Err(Fault::Full);
+    }
+    Ok(())
+}
+
+/// The machine at that time, with a failure armed, or none. A stop is no failure: the machine goes back to it behind the event.
+pub fn set(site: MemSite, armed: Armed, now: u64) -> MemSite
+    ensures { IsSet now site result }
+{
+    let mut site = site;
+    match armed {
+        Armed::Fail(call) => site.fail(call),
+        Armed::No | Armed::Stop(..) => site.fail(0),
+    }
+    site.set_now(now);
+    site
+}
+
+/// Whether no answer and no post failed beside those among these calls.
+fn counted(failed: u64, now: u64, calls: &[Entry]) -> Result<(), Fault>
+    ensures { IfOk result (λ _. (now ≡ failed + failures (mades calls.now)) × (now < 2 ^ 63)) }
+{
+    if now >= (1 << 63) || now < failed || now - failed != failures(calls) {
+        return Err(Fault::NoMemory);
+    }
+    Ok(())
+}
+
+/// Whether no record was refused beside those of whose calls one is among these.
+fn refused(failed: u64, now: u64, calls: &[Entry]) -> Result<(), Fault>
+    ensures { IfOk result (λ _. (now ≤ failed + refusals (mades calls.now)) × (now < 2 ^ 63)) }
+{
+    if now >= (1 << 63) || now.saturating_sub(failed) > refusals(calls) {
+        return Err(Fault::NoMemory);
+    }
+    Ok(())
+}
+
+/// Whether the calls that come before the first step said the interim line.
+fn spoke(lines: usize, calls: &[Entry]) -> Result<(), Fault>
+    ensures { IfOk result (λ _. (take lines (mades calls.now) ≡ replicate lines (done (Send interim))) × (lines ≤ 1)) }
+{
+    if said(calls, lines) {
+        Ok(())
+    } else {
+        Err(Fault::Apart)
+    }
+}
+
+/// Whether a turn ended as that says.
+fn ends(came: Came, turned: Turned) -> Result<(), Fault>
+    ensures { IfOk result (λ _. EndsSo came turned) }
+{
+    match (came, turned) {
+        (Came::Halts, Turned::Halted) => Ok(()),
+        (Came::Stays | Came::Falls { .. }, Turned::Ticked) => Ok(()),
+        (Came::Stays | Came::Falls { .. }, Turned::Served { status }) => {
+            if status == 0 {
+                Err(Fault::Apart)
+            } else {
+                Ok(())
+            }
+        }
+        (_, Turned::NoRoom) => Err(Fault::NoMemory),
+        _ => Err(Fault::Apart),
+    }
+}
+
+/// Whether a request did.
+fn answers(came: Came, locally: Locally) -> Result<(), Fault>
+    ensures { IfOk result (λ _. AnswersSo came locally) }
+{
+    match (came, locally) {
+        (Came::Halts, Locally::Halted) => Ok(()),
+        (Came::Stays | Came::Falls { .. }, Locally::Done { .. } | Locally::Refused { .. }) => Ok(
+            (),
+        ),
+        (_, Locally::NoRoom) => Err(Fault::NoMemory),
+        _ => Err(Fault::Apart),
+    }
+}
+
+/// A machine that went back to behind so many calls of an event, before which it had made `before`, and crashed there.
+fn fallen_back(site: MemSite, before: usize, kept: usize, choice: Choice) -> Result<MemSite, Fault>
+    ensures { IfOk result (λ new. (old : MemSite) → before ≡ length (calls_in old.device) → FellBack old site kept choice new) }
+{
+    let Some(calls) = before.checked_add(kept) else {
+        return Err(Fault::Apart);
+    };
+    let mut site = site;
+    site.go_back(calls)?;
+    site.crash(choice);
+    Ok(site)
+}
+
+/// The first so many.
+fn first(calls: &[Entry], kept: usize) -> &[Entry]
+    ensures { result.now ≡ take kept calls.now }
+{
+    match calls.get(..kept) {
+        Some(some) => some,
+        None => calls,
+    }
+}
+
+/// The calls that count.
+fn kept_of(came: Came, calls: &[Entry]) -> &[Entry]
+    ensures { mades result.now ≡ take (kept_of came (mades calls.now)) (mades calls.now) }
+{
+    match came {
+        Came::Stays | Came::Halts => calls,
+        Came::Falls { kept, .. } => first(calls, kept),
+    }
+}
+
+/// The host behind an event.
+fn left(came: Came, node: Node, site: MemSite, before: usize) -> Result<Host, Fault>
+    ensures { IfOk result (λ host. (old : MemSite) → before ≡ length (calls_in old.device) → LeftSo came node old site host) }
+{
+    match came {
+        Came::Stays => Ok(Host::of(Some(node), site)),
+        Came::Falls { kept, choice } => {
+            let site = fallen_back(site, before, kept, choice)?;
+            Ok(Host::of(None, site))
+        }
+        Came::Halts => {
+            let mut site = site;
+            site.crash(Choice::Keep);
+            Ok(Host::of(None, site))
+        }
+    }
+}
+
+/// The turn of a connection that brings these bytes, before whose first step so many calls come: the turn of an event with these fates and this
+/// stop. Its posts are put behind the letters.
+pub fn take(
+    alloc: Global,
+    node: Node,
+    site: MemSite,
+    number: u8,
+    count: u8,
+    lines: usize,
+    bytes: &[u8],
+    armed: Armed,
+    fates: &Fates,
+    until: Option<u64>,
+    letters: &mut Vec<Letter>,
+) -> Result<Host, Fault>
+    requires { IsServing node }
+    ensures { IfOk result (λ host. TookTurn number count lines bytes.now node site host (map mail_of letters.old.items) (map mail_of letters.new.items) fates.now until) }
+{
+    has_room(&site)?;
+    let mut after = node;
+    let mut machine = site;
+    let before = machine.calls();
+    let failed = machine.failed_sends();
+    let refusing = machine.failed_disk_calls();
+    let turned = turn(alloc, &mut after, &mut machine, bytes)?;
+    let calls = since(&machine, before);
+    counted(failed, machine.failed_sends(), calls)?;
+    refused(refusing, machine.failed_disk_calls(), calls)?;
+    spoke(lines, calls)?;
+    let came = judged(lines, calls, armed, fates, until)?;
+    ends(came, turned)?;
+    gather(alloc, number, count, kept_of(came, calls), letters)?;
+    left(came, after, machine, before)
+}
+
+/// A request of its own program: the event with these fates and this stop.
+pub fn request(
+    alloc: Global,
+    node: Node,
+    site: MemSite,
+    number: u8,
+    count: u8,
+    local: &Local,
+    armed: Armed,
+    fates: &Fates,
+    until: Option<u64>,
+    letters: &mut Vec<Letter>,
+) -> Result<Host, Fault>
+    requires { IsServing node }
+    ensures { IfOk result (λ host. TookRequest number count local.now node site host (map mail_of letters.old.items) (map mail_of letters.new.items) fates.now until) }
+{
+    has_room(&site)?;
+    let mut after = node;
+    let mut machine = site;
+    let before = machine.calls();
+    let failed = machine.failed_sends();
+    let refusing = machine.failed_disk_calls();
+    let locally = ask(alloc, &mut after, &mut machine, local);
+    let calls = since(&machine, before);
+    counted(failed, machine.failed_sends(), calls)?;
+    refused(refusing, machine.failed_disk_calls(), calls)?;
+    let came = judged(0, calls, armed, fates, until)?;
+    answers(came, locally)?;
+    gather(alloc, number, count, kept_of(came, calls), letters)?;
+    left(came, after, machine, before)
+}
+
+/// A node that comes up under this base, without any fault.
+pub fn come_up(alloc: Global, site: MemSite, base: &Text) -> Result<Host, Fault>
+    ensures { IfOk result (λ host. CameUp base.now site host) }
+{
+    let mut machine = site;
+    match begin(alloc, &mut machine, base) {
+        Ok(node) => Ok(Host::of(Some(node), machine)),
+        Err(_) => Err(Fault::NoMemory),
+    }
+}
+
+/// A node that goes down between calls.
+pub fn go_down(site: MemSite) -> Host
+    ensures { WentDown site result }
+{
+    let mut machine = site;
+    machine.crash(Choice::Drop);
+    Host::of(None, machine)
+}

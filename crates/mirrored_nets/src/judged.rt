@@ -1,0 +1,238 @@
+//! Whether the calls of an event are what it asks for.
+
+ghost use Rattle.std.specs.Prelude.{ℕ, List, [], ◌∷◌, ◌≡◌, ◌≤◌, IfOk, IfSome, drop, true};
+ghost use Rattle.node_events.specs.NodeEvents.{one_if, struck};
+ghost use Rattle.site_memory.specs.Entries.{call_of, mades};
+ghost use Rattle.site_model.specs.Told.{failed};
+ghost use Rattle.site_model.specs.Told.Call.{Sync, Write};
+ghost use Rattle.torn_appends.specs.TornAppends.{gate_stands, stands_behind};
+ghost use Rattle.fated_walks.specs.Fated.{IsBeyond};
+ghost use Rattle.mirrored_nets.specs.Fates.{AreAsked};
+ghost use Rattle.mirrored_nets.specs.Took.{ComesTo, IsKept};
+
+use crate::calls::{all_done, anew, behind, disk_calls, fates_count, had_fates, send_calls};
+use crate::came::Came;
+use crate::fault::Fault;
+use site_memory::arm::Choice;
+use site_memory::entry::{Deed, Entry};
+use world_laws::event::Fates;
+
+/// A call of a node's machine, counted from the beginning of an event, from 1: none, one that fails, or one at which the machine stops and
+/// leaves what was chosen.
+#[derive(Clone, Copy, Debug, PartialEq, Eq)]
+pub enum Armed {
+    No,
+    Fail(u32),
+    Stop(u32, Choice),
+}
+
+/// Whether a stop leaves a gate raised whose write isn't synced.
+fn gate_stands(choice: Choice) -> bool
+    ensures { result ≡ gate_stands choice }
+{
+    match choice {
+        Choice::Keep => true,
+        Choice::Drop => false,
+        Choice::Fill(byte) => byte == 1,
+    }
+}
+
+/// Whether a record stands behind a crash that comes behind so many calls of its append.
+fn stands_behind(calls: usize, choice: Choice) -> bool
+    ensures { result ≡ stands_behind calls choice }
+{
+    calls >= 4 || (calls >= 3 && gate_stands(choice))
+}
+
+fn one_if(yes: bool) -> usize
+    ensures { result ≡ one_if yes }
+{
+    if yes { 1 } else { 0 }
+}
+
+/// The last of these fates, where there is one more than so many, and all before it are yes.
+fn struck(fates: &Fates, before: usize) -> Option<bool>
+    ensures { IfSome result (λ last. fates.now ≡ struck before last) }
+{
+    if fates.len() == 0 || fates.len() - 1 != before {
+        return None;
+    }
+    for place in 0..before {
+        if !fates.at(place) {
+            return None;
+        }
+    }
+    Some(fates.at(before))
+}
+
+/// How many calls are kept of an event that stops at the k-th of them: at a `Keep` that call was done, and at a `Fill` a write may have left
+/// anything.
+pub(crate) fn kept_at(calls: &[Entry], k: usize, choice: Choice) -> usize {
+    let last = k.saturating_sub(1);
+    let writes = match calls.get(last) {
+        Some(entry) => match &entry.deed {
+            Deed::Write { .. } => true,
+            _ => false,
+        },
+        None => false,
+    };
+    match choice {
+        Choice::Keep => k,
+        Choice::Drop => last,
+        Choice::Fill(_) => if writes { k } else { last },
+    }
+}
+
+/// Whether so many calls are those that a stop leaves at that fate.
+fn is_kept(
+    lines: usize,
+    calls: &[Entry],
+    choice: Choice,
+    before: usize,
+    last: bool,
+    kept: usize,
+) -> bool
+    ensures { result ≡ true → IsKept lines (mades calls.now) choice before last kept }
+{
+    let step = behind(calls, lines);
+    let disk = disk_calls(step);
+    let sends = send_calls(behind(step, disk));
+    let Some(kept) = kept.checked_sub(lines) else {
+        return false;
+    };
+    if disk == 0 {
+        return before < sends && kept == before + one_if(last);
+    }
+    if before == 0 {
+        return kept <= 4 && last == stands_behind(kept, choice);
+    }
+    before <= sends && kept == 4 + (before - 1 + one_if(last))
+}
+
+/// Whether a stop comes behind all of so many fates, or there is none.
+fn is_beyond(until: Option<u64>, fates: usize) -> bool
+    ensures { result ≡ true → IsBeyond until fates }
+{
+    match until {
+        None => true,
+        Some(until) => (fates as u64) < until,
+    }
+}
+
+/// Whether an event goes to its end.
+fn is_whole(lines: usize, calls: &[Entry], fates: &Fates, until: Option<u64>) -> bool
+    ensures { result ≡ true → AreAsked lines (mades calls.now) fates.now until }
+{
+    let step = behind(calls, lines);
+    if !is_beyond(until, fates_count(step)) {
+        return false;
+    }
+    if !had_fates(step, fates) {
+        return false;
+    }
+    all_done(anew(step))
+}
+
+/// One in which the machine stops at the k-th call.
+fn stopped(
+    lines: usize,
+    calls: &[Entry],
+    k: usize,
+    choice: Choice,
+    fates: &Fates,
+    until: u64,
+) -> Result<Came, Fault>
+    ensures { IfOk result (λ came. ComesTo came lines (mades calls.now) fates.now (Some until)) }
+{
+    let kept = kept_at(calls, k, choice);
+    if !all_done(calls) {
+        return Err(Fault::Apart);
+    }
+    let Some(before) = until.checked_sub(1) else {
+        if fates.len() == 0 && kept <= lines {
+            return Ok(Came::Falls { kept, choice });
+        }
+        return Err(Fault::Apart);
+    };
+    let Some(last) = struck(fates, before as usize) else {
+        return Err(Fault::Apart);
+    };
+    if is_kept(lines, calls, choice, before as usize, last, kept) {
+        return Ok(Came::Falls { kept, choice });
+    }
+    Err(Fault::Apart)
+}
+
+/// The one call behind so many, where that failed.
+fn failed_behind(calls: &[Entry], count: usize) -> Option<&Deed>
+    ensures { IfSome result (λ deed. drop count (mades calls.now) ≡ failed (call_of deed.now) ∷ []) }
+{
+    let rest = behind(calls, count);
+    if rest.len() != 1 || rest[0].done {
+        return None;
+    }
+    Some(&rest[0].deed)
+}
+
+/// Whether the last call behind so many is the write of a gate that failed.
+fn write_failed(calls: &[Entry], count: usize) -> bool
+    ensures { result ≡ true → (file : ℕ) × (place : ℕ) × (bytes : List ℕ) × (drop count (mades calls.now) ≡ failed (Write file place bytes) ∷ []) }
+{
+    match failed_behind(calls, count) {
+        Some(Deed::Write { .. }) => true,
+        _ => false,
+    }
+}
+
+/// Whether it is a sync that failed.
+fn sync_failed(calls: &[Entry], count: usize) -> bool
+    ensures { result ≡ true → (file : ℕ) × (drop count (mades calls.now) ≡ failed (Sync file) ∷ []) }
+{
+    match failed_behind(calls, count) {
+        Some(Deed::Sync { .. }) => true,
+        _ => false,
+    }
+}
+
+/// One in which it halts, behind so many calls that have no fate: its gate's write failed, or its sync.
+fn halted(lines: usize, calls: &[Entry], fates: &Fates, until: u64) -> Result<Came, Fault>
+    requires { lines ≤ 1 }
+    ensures { IfOk result (λ came. ComesTo came lines (mades calls.now) fates.now (Some until)) }
+{
+    let Some(stands) = struck(fates, 0) else {
+        return Err(Fault::Apart);
+    };
+    if until != 1 {
+        return Err(Fault::Apart);
+    }
+    if stands && sync_failed(calls, lines + 3) {
+        return Ok(Came::Halts);
+    }
+    if !stands && write_failed(calls, lines + 2) {
+        return Ok(Came::Halts);
+    }
+    Err(Fault::Apart)
+}
+
+/// What an event came to at a node that made these calls, the first of which have no fate.
+pub fn judged(
+    lines: usize,
+    calls: &[Entry],
+    armed: Armed,
+    fates: &Fates,
+    until: Option<u64>,
+) -> Result<Came, Fault>
+    requires { lines ≤ 1 }
+    ensures { IfOk result (λ came. ComesTo came lines (mades calls.now) fates.now until) }
+{
+    if is_whole(lines, calls, fates, until) {
+        return Ok(Came::Stays);
+    }
+    match (until, armed) {
+        (Some(until), Armed::Stop(k, choice)) => {
+            stopped(lines, calls, k as usize, choice, fates, until)
+        }
+        (Some(until), Armed::Fail(_)) => halted(lines, calls, fates, until),
+        _ => Err(Fault::Apart),
+    }
+}

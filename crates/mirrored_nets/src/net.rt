@@ -1,0 +1,481 @@
+//! A net in memory that mirrors a world.
+
+ghost use Rattle.std.specs.Prelude.{ℕ, ◌≡◌, ◌≤◌, [], IfOk, OnOk, Some, is_some, length, map, option_copied};
+ghost use Rattle.at_model.specs.World.{World, Ask, Crash, Deliver, Raw, Turn, Up, example_base, example_hosts, nth, opening, put_nth, world_step};
+ghost use Rattle.memory_net.specs.Mails.{mail_of};
+ghost use Rattle.memory_net.specs.declared.host.Host.{Host};
+ghost use Rattle.world_laws.specs.Events.{event_of, input_of};
+ghost use Rattle.mirrored_nets.specs.Goings.{IsBrought, IsTick, NetsMirror, ms_of};
+ghost use Rattle.mirrored_nets.specs.Mirrors.{Mirrors};
+ghost use Rattle.mirrored_nets.specs.Started.{Started};
+
+use crate::asks::names_examples;
+use crate::fault::Fault;
+use crate::host::{come_up, go_down, request, set, take};
+use crate::judged::Armed;
+use crate::laws::nets_mirror;
+use crate::starts::start_struck;
+use addressing::post_to::PostTo;
+use at_base::event::Local;
+use at_base::text::Text;
+use http_post::writer::tick_bytes;
+use memory_net::host::{Host, fresh};
+use memory_net::letter::Letter;
+use node_at::node::Node;
+use raw_requests::{Drawn, draw};
+use site_memory::machine::MemSite;
+use std::alloc::{AllocError, Global};
+use std::marker::Model;
+use std::mem::replace;
+use world_laws::event::{Fates, Input, WorldEvent};
+
+/// Up to eight nodes, each on a machine in memory, with their clocks, in milliseconds, and the letters that they posted.
+#[derive(Drop)]
+pub struct Net {
+    hosts: Vec<Host>,
+    clocks: Vec<u64>,
+    letters: Vec<Letter>,
+}
+
+impl Model for Net {
+    ghost use Rattle.mirrored_nets.specs.Mirrors.{AllServe};
+    ghost use Rattle.mirrored_nets.specs.Seen.{Seen};
+
+    ghost Value = { Seen };
+
+    ghost view = { λ net. record {
+      hosts = net.hosts.items;
+      clocks = net.clocks.items;
+      letters = net.letters.items;
+    } };
+
+    ghost invariant = { λ net. AllServe net.hosts.items };
+}
+
+/// What a connection brings to a node: its bytes, and how many calls come before the first step.
+#[derive(Drop)]
+struct Brought {
+    bytes: Vec<u8>,
+    lines: usize,
+}
+
+/// The base of a node.
+fn base_of(alloc: Global, number: u8) -> Result<Text, AllocError>
+    ensures { IfOk result (λ base. base ≡ example_base number) }
+{
+    Ok(Text::from_string(format!(in alloc; "http://n{number}.example")?))
+}
+
+/// The letter of that number.
+fn letter_at(letters: &[Letter], number: u64) -> Option<&Letter>
+    ensures { option_copied result ≡ nth number letters.now }
+{
+    if number == 0 {
+        return None;
+    }
+    letters.get(number as usize - 1)
+}
+
+/// The letter of that number, where it goes to that node.
+fn letter_to(alloc: Global, letters: &[Letter], node: u8, number: u64) -> Result<Brought, Fault>
+    ensures { IfOk result (λ b. IsBrought (map mail_of letters.now) node (Deliver number) b.lines b.bytes.items) }
+{
+    let Some(letter) = letter_at(letters, number) else {
+        return Err(Fault::Apart);
+    };
+    if letter.receiver != node || letter.bytes.len() > 65_536 {
+        return Err(Fault::Apart);
+    }
+    Ok(Brought {
+        bytes: Vec::from_slice(alloc, letter.bytes.as_slice())?,
+        lines: 0,
+    })
+}
+
+/// The bytes that ask for what is due.
+fn tick(alloc: Global) -> Result<Brought, Fault>
+    ensures { IfOk result (λ b. IsTick b.bytes.items × (b.lines ≡ 0)) }
+{
+    let to = PostTo {
+        host: Text::copied(alloc, "node")?,
+        port: 80,
+        path: Text::copied(alloc, "/tick")?,
+    };
+    Ok(Brought {
+        bytes: tick_bytes(alloc, &to)?,
+        lines: 0,
+    })
+}
+
+/// Bytes that are refused.
+fn refused(alloc: Global, raw: &[u8]) -> Result<Brought, Fault>
+    ensures { IfOk result (λ b. IsBrought [] 0 Raw b.lines b.bytes.items) }
+{
+    match draw(alloc, raw)? {
+        Drawn::Refused { waits, .. } => Ok(Brought {
+            bytes: Vec::from_slice(alloc, raw)?,
+            lines: if waits { 1 } else { 0 },
+        }),
+        Drawn::Forged => Err(Fault::Apart),
+    }
+}
+
+/// What an event brings to a node.
+fn brought_by(
+    alloc: Global,
+    letters: &[Letter],
+    node: u8,
+    input: Input,
+    raw: &[u8],
+) -> Result<Brought, Fault>
+    ensures { IfOk result (λ b. IsBrought (map mail_of letters.now) node (input_of input) b.lines b.bytes.items) }
+{
+    match input {
+        Input::Deliver(number) => letter_to(alloc, letters, node, number),
+        Input::Tick(_) => tick(alloc),
+        Input::Raw => refused(alloc, raw),
+    }
+}
+
+/// How much time an event's input lets go by.
+fn ms_of(input: Input) -> u32
+    ensures { result ≡ ms_of (input_of input) }
+{
+    match input {
+        Input::Tick(ms) => ms,
+        Input::Deliver(_) | Input::Raw => 0,
+    }
+}
+
+/// The host of a node.
+fn host_of(hosts: &[Host], number: u8) -> Option<&Host>
+    ensures { option_copied result ≡ nth number hosts.now }
+{
+    if number == 0 {
+        return None;
+    }
+    hosts.get(number as usize - 1)
+}
+
+/// What is armed behind the interim line, which is said: a failure of its call is none.
+fn spoken(armed: Armed, lines: usize) -> Armed {
+    match armed {
+        Armed::Fail(1) if lines == 1 => Armed::No,
+        Armed::No | Armed::Fail(_) | Armed::Stop(..) => armed,
+    }
+}
+
+/// Whether a node is up.
+fn is_up(hosts: &[Host], number: u8) -> Result<bool, Fault>
+    ensures { IfOk result (λ up. (h : Host) × (nth number hosts.now ≡ Some h) × (up ≡ is_some h.node)) }
+{
+    match host_of(hosts, number) {
+        Some(host) => Ok(host.node().is_some()),
+        None => Err(Fault::Apart),
+    }
+}
+
+/// The clock of a node.
+fn clock_of(clocks: &[u64], number: u8) -> Result<u64, Fault>
+    ensures { IfOk result (λ clock. nth number clocks.now ≡ Some clock) }
+{
+    if number == 0 {
+        return Err(Fault::Apart);
+    }
+    match clocks.get(number as usize - 1) {
+        Some(clock) => Ok(*clock),
+        None => Err(Fault::Apart),
+    }
+}
+
+/// Takes the host of a node out of its place.
+fn taken(alloc: Global, hosts: &mut Vec<Host>, number: u8) -> Result<Host, Fault>
+    ensures here { IfOk result (λ h. nth number hosts.old.items ≡ Some h) }
+    ensures place { OnOk result ((g : Host) → put_nth number g hosts.new.items ≡ put_nth number g hosts.old.items) }
+{
+    if number == 0 || hosts.len() < number as usize {
+        return Err(Fault::Apart);
+    }
+    Ok(replace(&mut hosts[number as usize - 1], fresh(alloc)))
+}
+
+/// Takes a node that is up out of its place, and its machine.
+fn taken_up(alloc: Global, hosts: &mut Vec<Host>, number: u8) -> Result<(Node, MemSite), Fault>
+    ensures here { IfOk result (λ p. (h : Host) × (nth number hosts.old.items ≡ Some h) × (h.node ≡ Some p.0) × (p.1 ≡ h.site)) }
+    ensures place { OnOk result ((g : Host) → put_nth number g hosts.new.items ≡ put_nth number g hosts.old.items) }
+{
+    let (node, site) = taken(alloc, hosts, number)?.into_parts();
+    match node {
+        Some(node) => Ok((node, site)),
+        None => Err(Fault::Apart),
+    }
+}
+
+/// Puts a host into its place.
+fn put_host(hosts: &mut Vec<Host>, number: u8, host: Host) -> Result<(), Fault>
+    ensures { OnOk result (hosts.new.items ≡ put_nth number host hosts.old.items) }
+{
+    if number == 0 || hosts.len() < number as usize {
+        return Err(Fault::Apart);
+    }
+    let _empty = replace(&mut hosts[number as usize - 1], host);
+    Ok(())
+}
+
+/// Puts a clock into its place.
+fn put_clock(clocks: &mut Vec<u64>, number: u8, clock: u64) -> Result<(), Fault>
+    ensures { OnOk result (clocks.new.items ≡ put_nth number clock clocks.old.items) }
+{
+    if number == 0 || clocks.len() < number as usize {
+        return Err(Fault::Apart);
+    }
+    clocks[number as usize - 1] = clock;
+    Ok(())
+}
+
+/// How many there are.
+fn count_of(hosts: &[Host]) -> Result<u8, Fault>
+    ensures { IfOk result (λ count. count ≡ length hosts.now) }
+{
+    match u8::try_from(hosts.len()) {
+        Ok(count) => Ok(count),
+        Err(_) => Err(Fault::Apart),
+    }
+}
+
+/// The host of a node that comes up on this machine, or whose start meets a fault.
+fn started(
+    alloc: Global,
+    site: MemSite,
+    base: &Text,
+    clock: u64,
+    armed: Armed,
+    landed: bool,
+    stop: bool,
+) -> Result<Host, Fault>
+    ensures { IfOk result (λ host. Started base.now clock landed stop site host) }
+{
+    if landed && !stop {
+        come_up(alloc, set(site, Armed::No, clock), base)
+    } else {
+        start_struck(alloc, set(site, armed, clock), base, armed, landed)
+    }
+}
+
+impl Net {
+    /// Nodes that haven't started, on empty machines.
+    pub fn opening(alloc: Global, count: u8) -> Result<Net, AllocError>
+        requires { (1 ≤ count) × (count ≤ 8) }
+        ensures { IfOk result (λ net. Mirrors count net.hosts net.clocks (map mail_of net.letters) (opening (example_hosts count))) }
+    {
+        nets_mirror();
+        let mut hosts = Vec::new(alloc);
+        let mut clocks = Vec::new(alloc);
+        for _place in 0..count {
+            hosts.push(fresh(alloc))?;
+            clocks.push(0)?;
+        }
+        Ok(Net {
+            hosts,
+            clocks,
+            letters: Vec::new(alloc),
+        })
+    }
+
+    /// The letters, in order.
+    pub fn letters(&self) -> &[Letter]
+        ensures { result.now ≡ self.now.letters }
+    {
+        self.letters.as_slice()
+    }
+
+    /// A turn at a node that is up.
+    fn turn(
+        self,
+        alloc: Global,
+        number: u8,
+        input: Input,
+        armed: Armed,
+        fates: &Fates,
+        until: Option<u64>,
+        raw: &[u8],
+    ) -> Result<Net, Fault>
+        requires { NetsMirror }
+        ensures { (count : ℕ) (w : World) → count ≤ 8 → Mirrors count self.hosts self.clocks (map mail_of self.letters) w
+            → IfOk result (λ net. Mirrors count net.hosts net.clocks (map mail_of net.letters) (world_step w (Turn number (input_of input) fates.now until))) }
+    {
+        if !is_up(self.hosts.as_slice(), number)? {
+            return Ok(self);
+        }
+        let Net {
+            mut hosts,
+            mut clocks,
+            mut letters,
+        } = self;
+        let count = count_of(hosts.as_slice())?;
+        let clock = clock_of(clocks.as_slice(), number)?;
+        let (node, site) = taken_up(alloc, &mut hosts, number)?;
+        let Some(now) = clock.checked_add(ms_of(input) as u64) else {
+            return Err(Fault::Apart);
+        };
+        let brought = brought_by(alloc, letters.as_slice(), number, input, raw)?;
+        let armed = spoken(armed, brought.lines);
+        let host = take(
+            alloc,
+            node,
+            set(site, armed, now),
+            number,
+            count,
+            brought.lines,
+            brought.bytes.as_slice(),
+            armed,
+            fates,
+            until,
+            &mut letters,
+        )?;
+        put_host(&mut hosts, number, host)?;
+        put_clock(&mut clocks, number, now)?;
+        Ok(Net {
+            hosts,
+            clocks,
+            letters,
+        })
+    }
+
+    /// A request at a node that is up.
+    fn ask(
+        self,
+        alloc: Global,
+        number: u8,
+        local: &Local,
+        armed: Armed,
+        fates: &Fates,
+        until: Option<u64>,
+    ) -> Result<Net, Fault>
+        requires { NetsMirror }
+        ensures { (count : ℕ) (w : World) → count ≤ 8 → Mirrors count self.hosts self.clocks (map mail_of self.letters) w
+            → IfOk result (λ net. Mirrors count net.hosts net.clocks (map mail_of net.letters) (world_step w (Ask number local.now fates.now until))) }
+    {
+        if !is_up(self.hosts.as_slice(), number)? {
+            return Ok(self);
+        }
+        if !names_examples(alloc, local)? {
+            return Err(Fault::Apart);
+        }
+        let Net {
+            mut hosts,
+            clocks,
+            mut letters,
+        } = self;
+        let count = count_of(hosts.as_slice())?;
+        let clock = clock_of(clocks.as_slice(), number)?;
+        let (node, site) = taken_up(alloc, &mut hosts, number)?;
+        let host = request(
+            alloc,
+            node,
+            set(site, armed, clock),
+            number,
+            count,
+            local,
+            armed,
+            fates,
+            until,
+            &mut letters,
+        )?;
+        put_host(&mut hosts, number, host)?;
+        Ok(Net {
+            hosts,
+            clocks,
+            letters,
+        })
+    }
+
+    /// A crash of a node that is up.
+    fn crash(self, alloc: Global, number: u8) -> Result<Net, Fault>
+        requires { NetsMirror }
+        ensures { (count : ℕ) (w : World) → count ≤ 8 → Mirrors count self.hosts self.clocks (map mail_of self.letters) w
+            → IfOk result (λ net. Mirrors count net.hosts net.clocks (map mail_of net.letters) (world_step w (Crash number))) }
+    {
+        if !is_up(self.hosts.as_slice(), number)? {
+            return Ok(self);
+        }
+        let Net {
+            mut hosts,
+            clocks,
+            letters,
+        } = self;
+        let (_node, site) = taken(alloc, &mut hosts, number)?.into_parts();
+        put_host(&mut hosts, number, go_down(site))?;
+        Ok(Net {
+            hosts,
+            clocks,
+            letters,
+        })
+    }
+
+    /// A start of a node that is down.
+    fn start(
+        self,
+        alloc: Global,
+        number: u8,
+        armed: Armed,
+        landed: bool,
+        stop: bool,
+    ) -> Result<Net, Fault>
+        requires { NetsMirror }
+        ensures { (count : ℕ) (w : World) → count ≤ 8 → Mirrors count self.hosts self.clocks (map mail_of self.letters) w
+            → IfOk result (λ net. Mirrors count net.hosts net.clocks (map mail_of net.letters) (world_step w (Up number landed stop))) }
+    {
+        if is_up(self.hosts.as_slice(), number)? {
+            return Ok(self);
+        }
+        let Net {
+            mut hosts,
+            clocks,
+            letters,
+        } = self;
+        let clock = clock_of(clocks.as_slice(), number)?;
+        let (_node, site) = taken(alloc, &mut hosts, number)?.into_parts();
+        let base = base_of(alloc, number)?;
+        let host = started(alloc, site, &base, clock, armed, landed, stop)?;
+        put_host(&mut hosts, number, host)?;
+        Ok(Net {
+            hosts,
+            clocks,
+            letters,
+        })
+    }
+
+    /// An event of the world that it mirrors is done to the host of its node; which call is armed there, and the bytes that it brings where they
+    /// are no message.
+    pub fn follow(
+        self,
+        alloc: Global,
+        event: &WorldEvent,
+        armed: Armed,
+        raw: &[u8],
+    ) -> Result<Net, Fault>
+        ensures { (count : ℕ) (w : World) → count ≤ 8 → Mirrors count self.hosts self.clocks (map mail_of self.letters) w
+            → IfOk result (λ net. Mirrors count net.hosts net.clocks (map mail_of net.letters) (world_step w (event_of event.now))) }
+    {
+        nets_mirror();
+        match event {
+            WorldEvent::Turn {
+                node,
+                input,
+                fates,
+                until,
+            } => self.turn(alloc, *node, *input, armed, fates, *until, raw),
+            WorldEvent::Ask {
+                node,
+                local,
+                fates,
+                until,
+            } => self.ask(alloc, *node, local, armed, fates, *until),
+            WorldEvent::Crash { node } => self.crash(alloc, *node),
+            WorldEvent::Up { node, landed, stop } => {
+                self.start(alloc, *node, armed, *landed, *stop)
+            }
+        }
+    }
+}
