@@ -6,10 +6,12 @@ use Rattle.std.specs.Io.KnownBytes.{Appends}
 use Rattle.site_model.specs.Counts.{RisesBy}
 use Rattle.site_model.specs.Source.{IsWhole}
 use Rattle.envelope_cmd.specs.Output.{Output, accepted, refused}
+use Rattle.memory_net.specs.Mails.{Mail}
+use Rattle.memory_net.specs.declared.host.Host.{Host}
+use Rattle.net_replay.specs.NetReports.{IsNetReport}
 use Rattle.command_line.specs.Jobs.{Filter}
 use Rattle.replay_cmd.specs.declared.options.Options.{Options}
 use Rattle.replay_cmd.specs.Laws.{ReadIsReplayable, ReportsAreSafe, ReportsComeToRest}
-use Rattle.replay_cmd.specs.Laws.{IsReport as IsReportOf}
 use Rattle.schedules.specs.Schedules.{schedule_of}
 use Rattle.schedules.specs.declared.line.BadLine.{BadLine}
 use Rattle.schedules.specs.declared.line.Line.{Line}
@@ -63,9 +65,9 @@ replay_of options input output reads safe rests e =
     }
 
 pub replayed_so :
-    (options : Options) (lines : List Line) (text : List ℕ) (output : Output) → IsReportOf options lines text → output ≡ accepted text
-    → IsReplayed options lines output
-replayed_so options lines text output h e = record { text = text; report = h; is = e }
+    (options : Options) (lines : List Line) (text : List ℕ) (hosts : List Host) (clocks : List ℕ) (mails : List Mail) (output : Output) → IsNetReport options lines text hosts clocks mails
+    → output ≡ accepted text → IsReplayed options lines output
+replayed_so options lines text hosts clocks mails output h e = record { text = text; hosts = hosts; clocks = clocks; mails = mails; report = h; is = e }
 
 pub replays_so :
     (options : Options) (r : Result (List Line) BadLine) (lines : List Line) (output : Output) → r ≡ Ok lines → IsReplayed options lines output

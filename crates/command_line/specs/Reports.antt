@@ -4,9 +4,11 @@ use Rattle.std.specs.Io.KnownBytes.{Appends}
 use Rattle.envelope_cmd.specs.Output.{Output, accepted, refused}
 use Rattle.envelope_cmd.specs.Cells.{IsCellOf}
 use Rattle.envelope_cmd.specs.Checks.{IsCheckOf}
+use Rattle.memory_net.specs.Mails.{Mail}
+use Rattle.memory_net.specs.declared.host.Host.{Host}
+use Rattle.net_replay.specs.NetReports.{IsNetReport}
 use Rattle.raw_requests.specs.declared.Drawn.{Drawn}
 use Rattle.replay_cmd.specs.Laws.{ComesToRest, IsSafe}
-use Rattle.replay_cmd.specs.Laws.{IsReport as IsReportOf}
 use Rattle.replay_cmd.specs.declared.options.Options.{Options}
 use Rattle.replay_cmd.specs.ReportOf.{nodes_of, world_with}
 use Rattle.schedules.specs.Causes.{number_of_cause}
@@ -20,10 +22,13 @@ use Rattle.command_line.specs.Jobs.Filter.{Cell, Check, Replay}
 unfoldable pub bad_line : BadLine → List ℕ
 bad_line bad = codes "line " ++ (decimal bad.line ++ (codes " cause " ++ (decimal (number_of_cause bad.cause) ++ codes "\n")))
 
--- the report of a schedule, with what is asked beside it
+-- The report of a schedule, with what is asked beside it; and its nodes ran on machines in memory, with these clocks, and posted these letters.
 pub record IsReplayed (options : Options) (lines : List Line) (output : Output) : Type 0 where
   pub text : List ℕ
-  pub report : IsReportOf options lines text
+  pub hosts : List Host
+  pub clocks : List ℕ
+  pub mails : List Mail
+  pub report : IsNetReport options lines text hosts clocks mails
   pub is : output ≡ accepted text
 
 -- that report, or the line of the first bad line

@@ -7,9 +7,9 @@ ghost use Rattle.schedules.specs.Schedules.{schedule_of};
 ghost use Rattle.command_line.specs.Reports.{IsReplayOf, IsReplayed, Replays, bad_line};
 
 use envelope_cmd::output::Printed;
+use net_replay::replay::replay;
 use replay_cmd::laws::{reports_are_safe, reports_come_to_rest, what_is_read_is_replayable};
 use replay_cmd::options::Options;
-use replay_cmd::replay::replay;
 use schedules::line::{BadLine, Schedule, ScheduleError};
 use schedules::reader::read_schedule;
 use std::alloc::{AllocError, Global};
@@ -27,8 +27,10 @@ fn report(alloc: Global, schedule: &Schedule, options: Options) -> Result<Printe
     requires { IsReplayable schedule.now }
     ensures { IfOk result (IsReplayed options schedule.now) }
 {
-    let lines = replay(alloc, schedule, options)?;
-    let text = Vec::from_slice(alloc, lines.as_slice())?;
+    let Ok(replayed) = replay(alloc, schedule, options) else {
+        return Err(AllocError);
+    };
+    let text = Vec::from_slice(alloc, replayed.lines.as_slice())?;
     let printed = Printed::accepted(text);
     Ok(printed)
 }

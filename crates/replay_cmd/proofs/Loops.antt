@@ -1,8 +1,9 @@
 -- The loops of a replay, one time after another.
 use Rattle.std.proofs.Common.{ℕ, zero, suc, ◌+◌, ◌-◌, ◌<◌, ◌≡◌, refl, [], length, ap, ◌∙◌, sym, arith}
-use Rattle.std.specs.Prelude.{Some, None}
+use Rattle.std.specs.Prelude.{Some, None, map}
 use Rattle.at_model.specs.Views.{up}
-use Rattle.at_model.specs.World.{opening, example_hosts}
+use Rattle.at_model.specs.World.{opening, run_of, example_hosts}
+use Rattle.world_laws.specs.Events.{event_of}
 use Rattle.world_laws.specs.Runs.{Run, world_of}
 use Rattle.replay_cmd.specs.Deliveries.{lowest}
 use Rattle.replay_cmd.specs.ReportOf.{Course, all_up, delivers, delivers_where, flushes, happens}
@@ -10,6 +11,10 @@ use Rattle.replay_cmd.specs.ReportOf.{Course, all_up, delivers, delivers_where, 
 pub opened : (r : Run) (count : ℕ) → r ≡ record { count = count; events = [] } → world_of r ≡ opening (example_hosts count)
 unfolding world_of
 opened r count h = ap world_of h
+
+pub run_is : (r : Run) → world_of r ≡ run_of (example_hosts r.count) (map event_of r.events)
+unfolding world_of
+run_is r = refl
 
 pub flush_more :
     (m t k : ℕ) (c : Course) → t < m → Some k ≡ lowest (length c.world.posted) 1 c.delivered

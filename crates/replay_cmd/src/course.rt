@@ -2,7 +2,7 @@
 
 ghost use Rattle.std.specs.Prelude.{◌≡◌, ◌≤◌, ◌<◌, ◌+◌, ◌-◌, ◌^◌, ◌++◌, [], IfOk, OnOk, None, Some, length, drop, map, option_map};
 ghost use Rattle.at_model.specs.Views.{deliver_to, request, tick_at, up};
-ghost use Rattle.at_model.specs.World.{Turn, Ask, Crash, nth, opening, world_step, example_hosts};
+ghost use Rattle.at_model.specs.World.{Turn, Ask, Crash, nth, opening, run_of, world_step, example_hosts};
 ghost use Rattle.world_laws.specs.Events.{event_of, input_of};
 ghost use Rattle.world_laws.specs.Runs.{book_at, world_of};
 ghost use Rattle.world_laws.specs.Firsts.{first_records};
@@ -40,6 +40,8 @@ pub struct Course {
     delivered: Delivered,
     armed: Arms,
     lines: Lines,
+    /// For each event so far, which call was armed at its node, where one was.
+    met: Vec<Option<Armed>>,
 }
 
 impl Model for Course {
@@ -319,6 +321,7 @@ impl Course {
             delivered: Delivered::new(alloc),
             armed: Arms::new(alloc)?,
             lines: Lines::new(alloc),
+            met: Vec::new(alloc),
         })
     }
 
@@ -339,9 +342,15 @@ impl Course {
             delivered,
             armed,
             mut lines,
+            mut met,
         } = self;
         let before = world.all_posted().len();
         let node = event.node();
+        met.push(if fault.is_some() {
+            armed.at(node)
+        } else {
+            None
+        })?;
         let behind = behind_of(&world, &event);
         push_before(alloc, &mut lines, &world, &event)?;
         let stepped = stepped(world, alloc, event)?;
@@ -354,6 +363,7 @@ impl Course {
             delivered,
             armed,
             lines,
+            met,
         };
         Ok((course, left))
     }
@@ -675,6 +685,20 @@ impl Course {
         self.all_happen(alloc, events.as_slice())
     }
 
+    /// How many nodes there are, and the events so far, of whose run this is the world.
+    #[tactic(auto, using(crate::proofs::Loops::run_is))]
+    pub fn run(&self) -> (u8, &[WorldEvent])
+        ensures world { self.now.world ≡ run_of (example_hosts result.0) (map event_of result.1.now) }
+        ensures count { (1 ≤ result.0) × (result.0 ≤ 8) }
+    {
+        (self.world.count(), self.world.events())
+    }
+
+    /// For each of them which call was armed at its node, where one was that it could meet.
+    pub fn met(&self) -> &[Option<Armed>] {
+        self.met.as_slice()
+    }
+
     /// The messages that were posted, in order.
     pub fn all_posted(&self) -> &[Posted]
         ensures { result.now ≡ self.now.world.posted }
@@ -691,6 +715,7 @@ impl Course {
             delivered: _delivered,
             armed: _armed,
             mut lines,
+            met: _met,
         } = self;
         push_ended(alloc, &mut lines, &world)?;
         Ok(lines)

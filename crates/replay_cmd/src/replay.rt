@@ -156,8 +156,8 @@ fn ran(alloc: Global, schedule: &Schedule, draws: &[Option<Drawn>]) -> Result<Co
     take_lines(course, alloc, draws, lines)
 }
 
-/// How a schedule comes out whose world is brought to rest behind its last line, where that is asked.
-fn ended(
+/// How a schedule comes out, given what the bytes of its lines draw; behind its last line its world is brought to rest, where that is asked.
+pub fn ended(
     alloc: Global,
     schedule: &Schedule,
     draws: &[Option<Drawn>],
@@ -175,7 +175,7 @@ fn ended(
 }
 
 /// What was printed of a course, with the envelopes of its messages where they are asked for.
-fn shown(alloc: Global, course: Course, bytes: bool) -> Result<Lines, AllocError>
+pub fn shown(alloc: Global, course: Course, bytes: bool) -> Result<Lines, AllocError>
     ensures { IfOk result (IsShown bytes course) }
 {
     if bytes {

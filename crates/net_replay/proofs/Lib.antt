@@ -1,0 +1,2 @@
+pub mod FollowedNets
+pub mod ReportedNets

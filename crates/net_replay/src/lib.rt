@@ -1,0 +1,5 @@
+//! `replay`: the report of a schedule, over nodes that serve, each on a machine in memory.
+#![tactic(auto)]
+
+mod followed;
+pub mod replay;
