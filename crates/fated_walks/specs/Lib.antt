@@ -1,2 +1,3 @@
 pub mod Fated
 pub mod WalksByFates
+pub mod Statuses

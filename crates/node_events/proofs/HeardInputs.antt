@@ -9,19 +9,31 @@ use Rattle.at_model.specs.Step.{Plan, plan}
 use Rattle.at_model.specs.World.{Deliver, Input, Node, Posted, Raw, Tick, World, answer_plan, arrival_plan, decoded, is_receiver, nth}
 use Rattle.node_at.specs.Meanings.{Meaning}
 use Rattle.node_at.specs.Meanings.Meaning.{Lost, Refused, Steps}
+use Rattle.node_at.specs.Steps.{status_in}
 use Rattle.node_at.specs.TurnText.{IsFirst, TurnStep}
 use Rattle.node_events.specs.NodeEvents.{Brings, IsInput, arrives, draws}
-use Rattle.node_events.proofs.PlannedSteps.{IsStepOf, refusal_of, step_of}
+use Rattle.node_events.proofs.PlannedSteps.{IsStepOf, outcome_by, refusal_of, step_of}
 use Rattle.world_laws.specs.Firsts.{delivery_plan, input_plan}
 use Rattle.world_laws.specs.Moves.{arrival_move, delivery_move, input_move, quiet, turn_move}
 use Rattle.world_laws.specs.Walks.{Luck}
 
--- The plan of an input, the walk that it begins, and the step that a node does for it.
+-- whether the world knows what is answered
+abbrev pub IsTold : Input → Type 0
+IsTold (Deliver k) = Unit {0}
+IsTold (Tick ms) = Unit {0}
+IsTold Raw = ⊥
+
+-- the status that the step of this plan answers
+abbrev pub IsStatusOf : Plan → TurnStep → ℕ → Type 0
+IsStatusOf p s status = status ≡ status_in (outcome_by p s.landed).outs
+
+-- The plan of an input, the walk that it begins, and the step that a node does for it, with what that answers.
 pub record Heard (w : World) (i : ℕ) (x : Node) (b : Book) (input : Input) (meaning : Meaning) (now : ℕ) : Type 0 where
   pub begun : Plan
   pub is : input_plan i input w.posted x (Some b) ≡ Some begun
   pub moves : (l : Luck) → input_move i input l w.posted x (Some b) ≡ turn_move now x b begun l
   pub first : (s : TurnStep) (status : ℕ) → IsFirst b now meaning s status → IsStepOf begun s
+  pub answers : IsTold input → (s : TurnStep) (status : ℕ) → IsFirst b now meaning s status → IsStatusOf begun s status
   pub told : meaning ≡ Lost → ⊥
 
 receives : (i : ℕ) (o : Option ℕ) → o ≡ Some i → is_receiver i o ≡ true
@@ -34,6 +46,13 @@ taken_first base p b now clock meaning (arrives a e) same s status (is, answers)
     subst (λ d. IsStepOf (arrival_plan b clock d) s) (sym e) (subst (λ t. IsStepOf (plan b (events.Arrived a) t) s) same (step_of b (events.Arrived a) now s is))
 taken_first base p b now clock meaning (draws text e) same s status (is, answers) =
     subst (λ d. IsStepOf (arrival_plan b clock d) s) (sym e) (refusal_of b 500 500 text s is)
+
+taken_status : (base : List ℕ) (p : Post) (b : Book) (now clock : ℕ) (meaning : Meaning) → Brings base p meaning → now ≡ clock → (s : TurnStep) (status : ℕ) → IsFirst b now meaning s status
+    → IsStatusOf (arrival_plan b clock (decoded base p)) s status
+taken_status base p b now clock meaning (arrives a e) same s status (is, answers) =
+    subst (λ d. IsStatusOf (arrival_plan b clock d) s status) (sym e) (subst (λ t. IsStatusOf (plan b (events.Arrived a) t) s status) same answers)
+taken_status base p b now clock meaning (draws text e) same s status (is, answers) =
+    subst (λ d. IsStatusOf (arrival_plan b clock d) s status) (sym e) (answers ∙ ap (λ l. status_in (outcome_by (answer_plan b 500) l).outs) (sym (ap (λ (t : TurnStep). t.landed) is)))
 
 taken_told : (base : List ℕ) (p : Post) (meaning : Meaning) → Brings base p meaning → meaning ≡ Lost → ⊥
 taken_told base p meaning (arrives a e) f = absurd cc
@@ -60,6 +79,12 @@ tick_first b now clock meaning e same s status is =
     let first : IsFirst b now (Steps events.Tick) s status = subst (λ z. IsFirst b now z s status) e is in
     subst (λ t. IsStepOf (plan b events.Tick t) s) same (step_of b events.Tick now s first.0)
 
+tick_status : (b : Book) (now clock : ℕ) (meaning : Meaning) → meaning ≡ Steps events.Tick → now ≡ clock → (s : TurnStep) (status : ℕ) → IsFirst b now meaning s status
+    → IsStatusOf (plan b events.Tick clock) s status
+tick_status b now clock meaning e same s status is =
+    let first : IsFirst b now (Steps events.Tick) s status = subst (λ z. IsFirst b now z s status) e is in
+    subst (λ t. IsStatusOf (plan b events.Tick t) s status) same first.1
+
 raw_first : (b : Book) (now answer : ℕ) (text : Option (List ℕ)) (meaning : Meaning) → meaning ≡ Refused answer text → (s : TurnStep) (status : ℕ) → IsFirst b now meaning s status
     → IsStepOf (answer_plan b 400) s
 raw_first b now answer text meaning e s status is =
@@ -83,6 +108,7 @@ heard w i x b (Deliver k) meaning now (p, found, to, brings, same) =
       is = is;
       moves = moves;
       first = taken_first x.base p.content b now x.clock meaning brings same;
+      answers = λ _. taken_status x.base p.content b now x.clock meaning brings same;
       told = taken_told x.base p.content meaning brings;
     }
 heard w i x b (Tick ms) meaning now (says, same) = record {
@@ -90,6 +116,7 @@ heard w i x b (Tick ms) meaning now (says, same) = record {
   is = refl;
   moves = λ l. ap (λ t. turn_move t x b (plan b events.Tick (x.clock + ms)) l) (sym same);
   first = tick_first b now (x.clock + ms) meaning says same;
+  answers = λ _. tick_status b now (x.clock + ms) meaning says same;
   told = not_lost meaning (Steps events.Tick) says steps_told;
 }
 heard w i x b Raw meaning now (answer, text, says, same) = record {
@@ -97,5 +124,6 @@ heard w i x b Raw meaning now (answer, text, says, same) = record {
   is = refl;
   moves = λ l. ap (λ t. turn_move t x b (answer_plan b 400) l) (sym same);
   first = raw_first b now answer text meaning says;
+  answers = λ untold. absurd untold;
   told = not_lost meaning (Refused answer text) says (refused_told answer text);
 }

@@ -12,6 +12,7 @@ pub mod StepFares
 pub mod StopEvents
 pub mod TurnEvents
 pub mod WalkedSteps
+pub mod TurnStatuses
 pub mod StartEvents
 pub mod RequestCuts
 pub mod RequestEvents

@@ -112,12 +112,14 @@ one_fate (Some r) true false sure e = absurd cc
 one_fate (Some r) false true sure e = absurd cc
 one_fate (Some r) false false sure e = refl
 
-pub comes_fated : (p : Plan) (s : TurnStep) (f : Fated) → IsStepOf p s → IsPlanned p f → stands_by f.entry f.landed ≡ records_by (if_landed s.landed s.entry) → ComesTo f.outcome s
-comes_fated p s f is planned records =
-    subst (λ o. ComesTo o s) (sym (planned.outcome ∙ ap (outcome_by p) counts)) (comes_planned p s is)
+pub outcome_fated : (p : Plan) (s : TurnStep) (f : Fated) → IsStepOf p s → IsPlanned p f → stands_by f.entry f.landed ≡ records_by (if_landed s.landed s.entry) → f.outcome ≡ outcome_by p s.landed
+outcome_fated p s f is planned records = planned.outcome ∙ ap (outcome_by p) counts ∙ sym (same_outcome p s.entry s.landed (sym is.entry) is.is_plain)
   where
     same : f.entry ≡ s.entry
     same = planned.entry ∙ sym is.entry
 
     counts : f.landed ≡ counts_as s.entry s.landed
     counts = one_fate s.entry s.landed f.landed (λ e. planned.sure (same ∙ e)) (ap (λ o. stands_by o f.landed) (sym same) ∙ records)
+
+pub comes_fated : (p : Plan) (s : TurnStep) (f : Fated) → IsStepOf p s → IsPlanned p f → stands_by f.entry f.landed ≡ records_by (if_landed s.landed s.entry) → ComesTo f.outcome s
+comes_fated p s f is planned records = subst (λ o. ComesTo o s) (sym (outcome_fated p s f is planned records)) is.comes

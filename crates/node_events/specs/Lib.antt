@@ -1,2 +1,3 @@
+pub mod AnsweredTurns
 pub mod Fares
 pub mod NodeEvents

@@ -1,5 +1,6 @@
 //! Laws of what a call of a node does in a world.
 
+ghost use Rattle.node_events.specs.AnsweredTurns.{TurnsAnswerSo};
 ghost use Rattle.node_events.specs.NodeEvents.{HaltsAreEvents, RequestsAreEvents, StartsAreEvents, StopsAreEvents, TurnsAreEvents, UnbegunAreEvents};
 
 use fated_walks::laws::walks_by_fates;
@@ -49,5 +50,14 @@ pub fn requests_are_events()
 pub fn starts_are_events()
     ensures { StartsAreEvents }
 {
+    changes_by_moves();
+}
+
+/// What a turn of a node that went to its end answered is the status that the world's steps of its event answer; to bytes that are refused, of
+/// whose answer the world knows nothing, it is the status of their refusal.
+pub fn turns_answer_so()
+    ensures { TurnsAnswerSo }
+{
+    walks_by_fates();
     changes_by_moves();
 }

@@ -36,6 +36,18 @@ pub const COMMITS: &[Row] = &[
     (Act::Post(3, 4), 2, 202, "", 6),
 ];
 
+/// A transaction in which nobody works: its root decides at once, and the decision names no seat.
+const ALONE: &[Row] = &[
+    (Act::Begin, 1, 0, "", 1),
+    (Act::Post(1, 1), 2, 202, "", 1),
+    (Act::Post(2, 1), 1, 202, "", 2),
+    (Act::Post(1, 2), 2, 202, "", 2),
+    (Act::Post(2, 2), 1, 202, "", 2),
+    (Act::Commit, 1, 0, "", 3),
+    (Act::Post(1, 3), 2, 202, "root committed", 3),
+    (Act::Post(2, 3), 1, 202, "told committed", 3),
+];
+
 /// The coordinator and the participant go down behind the vote, which is lost. The participant asks once it is up, and hears
 /// that nothing was decided.
 const ASKS: &[Row] = &[
@@ -141,6 +153,10 @@ const AGAIN: &[u8] =
 const OVER: &[u8] =
     b"\x01\x00\x00\x00\x05\x0b\x00\x00\x00\x00\x01\x00\x00\x00\x05\x01\x00\x00\x00\x01\x01\x00\x00\x00\x05\x01\x00\x00\x00\x02\x00\x00\x00\x01\x00\x01\x00\x01\x00\x19http://n3.example/p/d/1-1\x00\x00\x00";
 
+/// Behind the first Start a decision with no seat.
+const DECIDED_ALONE: &[u8] =
+    b"\x01\x00\x00\x00\x05\x0b\x00\x00\x00\x00\x01\x00\x00\x00\x05\x01\x00\x00\x00\x01\x01\x00\x00\x00\x0b\x06\x00\x00\x00\x01\x00\x00\x00\x01\x00\x00\x00";
+
 /// Behind the first Start the decision with its one seat.
 const DECIDED: &[u8] =
     b"\x01\x00\x00\x00\x05\x0b\x00\x00\x00\x00\x01\x00\x00\x00\x05\x01\x00\x00\x00\x01\x01\x00\x00\x00\x2a\x06\x00\x00\x00\x01\x00\x00\x00\x01\x00\x01\x00\x01\x00\x19http://n3.example/p/d/1-1\x00\x00\x00";
@@ -177,6 +193,7 @@ const PLAYS: &[(&str, &[&[Row]], &[u8], &[u8])] = &[
         ENDED,
         COMMITTED,
     ),
+    ("commits alone", &[ALONE], DECIDED_ALONE, FRESH),
     ("asks", &[BEGUN, ENDING, VOTED, ASKS], AGAIN, ASKED),
     (
         "halts",
