@@ -1,4 +1,5 @@
 pub mod AnewCalls
+pub mod AnsweredTurns
 pub mod AskedFates
 pub mod BarePosts
 pub mod CallRows
@@ -18,6 +19,7 @@ pub mod HaltCuts
 pub mod HaltedGates
 pub mod HaltedRequests
 pub mod HaltedTurns
+pub mod HeardFates
 pub mod HostSteps
 pub mod InputsHeard
 pub mod InterimBytes

@@ -9,13 +9,18 @@ use Rattle.memory_net.specs.Mails.{Mail, mail_of}
 use Rattle.memory_net.specs.declared.host.Host.{Host}
 use Rattle.memory_net.specs.declared.letter.Letter.{Letter}
 use Rattle.node_at.specs.declared.node.Node.{Node}
+use Rattle.site_memory.specs.Devices.{calls_in, opening_in}
+use Rattle.site_memory.specs.Tells.{reads}
 use Rattle.site_memory.specs.declared.machine.MemSite.{MemSite}
+use Rattle.site_model.specs.Told.{Files}
 use Rattle.world_laws.proofs.NumberedItems.{nth_none}
 use Rattle.mirrored_nets.specs.Goings.{CameUp, IsBrought, IsNothing, IsSet, NetsMirror, WentDown, ms_of}
 use Rattle.mirrored_nets.specs.Mirrors.{AllServe, MayServe, Mirrors}
+use Rattle.mirrored_nets.specs.NetSteps.{MoveAnswers, MovesNode, NetMove, NetStep, StartsNode, StepAnswers}
 use Rattle.mirrored_nets.specs.Seen.{Seen}
 use Rattle.mirrored_nets.specs.Started.{Started}
-use Rattle.mirrored_nets.specs.Took.{LeftSo, TookRequest, TookTurn}
+use Rattle.mirrored_nets.specs.Rooms.{HasRoomAt, IsFullAt}
+use Rattle.mirrored_nets.specs.Took.{HasRoom, IsFull, LeftSo, TookRequest, TookTurn}
 use Rattle.mirrored_nets.specs.TookStart.{TookStart}
 use Rattle.mirrored_nets.specs.declared.came.Came.{Came}
 use Rattle.mirrored_nets.specs.declared.came.Came.TheVariants as cames
@@ -53,68 +58,183 @@ numbered : {A : Type 0} (i : ℕ) (xs : List A) (x : A) → nth i xs ≡ Some x 
 numbered zero xs x here = absurd (none_some x (sym (nth_none xs) ∙ here))
 numbered (suc i) xs x here = omega arith
 
-module _ (mirror : NetsMirror) (count : ℕ) (w : World) (few : count ≤ 8) (hosts : List Host) (clocks : List ℕ) (mails : List Mail) (mirrors : Mirrors count hosts clocks mails w) (i : ℕ) where
-  pub rests_down : (e : WorldEvent) (up : Bool) → node_of e ≡ i → IsUp hosts i up → up ≡ false → IsNothing e None → Mirrors count hosts clocks mails (world_step w e)
-  rests_down e up at (h, here, is) down nothing =
-      mirror.unmoved count hosts clocks mails w e h mirrors (ap (λ k. nth k hosts) at ∙ here) (subst (IsNothing e) (sym (node_of_none h.node (sym is ∙ down))) nothing)
+room_kept : (now : ℕ) (h old : MemSite) → IsSet now h old → HasRoom h → HasRoom old
+room_kept now h old set room = record {
+  first = subst (λ (f : Files). length f.first + 1060010 ≤ 4294967295) files room.first;
+  second = subst (λ (f : Files). length f.second + 1060010 ≤ 4294967295) files room.second;
+}
+  where
+    files : reads (opening_in h.device) (calls_in h.device) ≡ reads (opening_in old.device) (calls_in old.device)
+    files = ap (λ o. reads o (calls_in h.device)) (sym set.opening) ∙ ap (reads (opening_in old.device)) (sym set.calls)
 
-  pub rests_up : (landed stop up : Bool) → IsUp hosts i up → up ≡ true → Mirrors count hosts clocks mails (world_step w (Up i landed stop))
-  rests_up landed stop up (h, here, is) here_up =
-      let n = node_of_some h.node (sym is ∙ here_up) in
-      mirror.unmoved count hosts clocks mails w (Up i landed stop) h mirrors here (subst (IsNothing (Up i landed stop)) (sym n.1) tt)
+-- the machine of a node whose journal has room, when it is set for an event
+pub full_there : (i : ℕ) (hosts slice : List Host) (h : Host) → slice ≡ hosts → Some h ≡ nth i slice → IsFull h.site → IsFullAt i hosts
+full_there i hosts slice h e here full = (h, ap (nth i) (sym e) ∙ sym here, full)
 
-  module _ (h g : Host) (here : nth i hosts ≡ Some h) (new : List Host) (puts : new ≡ put_nth i g hosts) where
-    put : (z : List ℕ) (more : List Mail) (v : World) → Mirrors count (put_nth i g hosts) z more v → Mirrors count new z more v
-    put z more v m = subst (λ (l : List Host). Mirrors count l z more v) (sym puts) m
+pub room_set : (i now : ℕ) (inside net : Seen) (h : Host) (site old : MemSite) → inside ≡ net → HasRoomAt i net.hosts → nth i inside.hosts ≡ Some h → site ≡ h.site → IsSet now site old → HasRoom old
+room_set i now inside net h site old e room here same set =
+    room_kept now site old set (subst HasRoom (sym same) (room h (subst (λ (s : Seen). nth i s.hosts ≡ Some h) e here)))
 
-    pub crashes : (up : Bool) (site : MemSite) → IsUp hosts i up → up ≡ true → site ≡ h.site → WentDown site g → Mirrors count new clocks mails (world_step w (Crash i))
-    crashes up site is e same down =
-        let n = up_node hosts i up h is here e in
-        put clocks mails (world_step w (Crash i)) (mirror.downed count hosts clocks mails w i h g n.0 few mirrors (numbered i hosts h here) here n.1 (subst (λ (s : MemSite). WentDown s g) same down))
+pub rests_down : (net : Seen) (i : ℕ) (e : WorldEvent) (up : Bool) → node_of e ≡ i → IsUp net.hosts i up → up ≡ false → IsNothing e None → NetStep e net net
+rests_down net i e up at (h, here, is) down nothing = inr (record {
+  host = h;
+  here = ap (λ k. nth k net.hosts) at ∙ here;
+  nothing = subst (IsNothing e) (sym (node_of_none h.node (sym is ∙ down))) nothing;
+  same = refl;
+})
 
-    begun_by : (landed stop : Bool) (c : ℕ) (old : MemSite) → h.node ≡ None → IsSet c h.site old → ((landed ≡ true) × (stop ≡ false) × CameUp (example_base i) old g) ⊎ ((landed ≡ true → stop ≡ true) × TookStart (example_base i) old g landed)
-        → Mirrors count (put_nth i g hosts) clocks mails (world_step w (Up i landed stop))
-    begun_by landed stop c old down set (inl (lands, stays, came)) =
-        subst (λ l. Mirrors count (put_nth i g hosts) clocks mails (world_step w (Up i l stop))) (sym lands)
-        (subst (λ s. Mirrors count (put_nth i g hosts) clocks mails (world_step w (Up i true s))) (sym stays)
-        (mirror.upped count hosts clocks mails w i c h g old few mirrors (numbered i hosts h here) here down set came))
-    begun_by landed stop c old down set (inr (stops, took)) =
-        mirror.upped_not count hosts clocks mails w i c h g old landed stop few mirrors (numbered i hosts h here) here down set took stops
+pub rests_up : (net : Seen) (i : ℕ) (landed stop up : Bool) → IsUp net.hosts i up → up ≡ true → NetStep (Up i landed stop) net net
+rests_up net i landed stop up (h, here, is) here_up =
+    let n = node_of_some h.node (sym is ∙ here_up) in
+    inr (record { host = h; here = here; nothing = subst (IsNothing (Up i landed stop)) (sym n.1) tt; same = refl })
 
-    pub starts : (up landed stop : Bool) (c : ℕ) (site : MemSite) (base : List ℕ) → IsUp hosts i up → up ≡ false → base ≡ example_base i → site ≡ h.site → Started base c landed stop site g
-        → Mirrors count new clocks mails (world_step w (Up i landed stop))
-    starts up landed stop c site base is e named same (old, set, so) =
-        put clocks mails (world_step w (Up i landed stop))
-        (begun_by landed stop c old (down_node hosts i up h is here e) (subst (λ (s : MemSite). IsSet c s old) same set)
-        (subst (λ b. ((landed ≡ true) × (stop ≡ false) × CameUp b old g) ⊎ ((landed ≡ true → stop ≡ true) × TookStart b old g landed)) named so))
+abbrev pub net_of : List Host → List ℕ → List Letter → Seen
+net_of hosts clocks letters = record { hosts = hosts; clocks = clocks; letters = letters }
 
-    pub asks : (n : Node) (c many : ℕ) (request : Local) (site old : MemSite) (more : List Mail) (fates : List Bool) (until : Option ℕ) → h.node ≡ Some n → nth i clocks ≡ Some c → many ≡ length hosts → IsExampleRequest request
-        → site ≡ h.site → IsSet c site old → TookRequest i many request n old g mails more fates until → Mirrors count new clocks more (world_step w (Ask i request fates until))
-    asks n c many request site old more fates until up clock all named same set took =
-        put clocks more (world_step w (Ask i request fates until))
-        (mirror.asked count hosts clocks mails more w i c h g n request old fates until few mirrors (numbered i hosts h here) here up clock named (subst (λ (s : MemSite). IsSet c s old) same set)
-        (subst (λ k. TookRequest i k request n old g mails more fates until) (all ∙ mirrors.many) took))
+module _ (i : ℕ) (hosts new : List Host) (clocks : List ℕ) (letters : List Letter) (h g : Host) (here : nth i hosts ≡ Some h) (puts : new ≡ put_nth i g hosts) where
+  put : net_of new clocks letters ≡ net_of (put_nth i g hosts) clocks letters
+  put = ap (λ (l : List Host). net_of l clocks letters) puts
 
-    pub turns : (n : Node) (c many now lines : ℕ) (input : Input) (bytes : List ℕ) (site old : MemSite) (times : List ℕ) (more : List Mail) (fates : List Bool) (until : Option ℕ) → h.node ≡ Some n → nth i clocks ≡ Some c → many ≡ length hosts
-        → IsBrought mails i input lines bytes → now ≡ c + ms_of input → site ≡ h.site → IsSet now site old → TookTurn i many lines bytes n old g mails more fates until → times ≡ put_nth i now clocks
-        → Mirrors count new times more (world_step w (Turn i input fates until))
-    turns n c many now lines input bytes site old times more fates until up clock all brought later same set took ticks =
-        put times more (world_step w (Turn i input fates until))
-        (subst (λ (z : List ℕ). Mirrors count (put_nth i g hosts) z more (world_step w (Turn i input fates until))) (sym (ticks ∙ ap (λ k. put_nth i k clocks) later))
-        (mirror.turned count hosts clocks mails more w i c h g n input lines bytes old fates until few mirrors (numbered i hosts h here) here up clock brought (subst (λ (s : MemSite). IsSet (c + ms_of input) s old) same (subst (λ k. IsSet k site old) later set))
-        (subst (λ k. TookTurn i k lines bytes n old g mails more fates until) (all ∙ mirrors.many) took)))
+  pub crashes : (up : Bool) (site : MemSite) → IsUp hosts i up → up ≡ true → site ≡ h.site → WentDown site g → NetStep (Crash i) (net_of hosts clocks letters) (net_of new clocks letters)
+  crashes up site is e same down =
+      let n = up_node hosts i up h is here e in
+      inl (record {
+        host = h;
+        here = here;
+        node = n.0;
+        up = n.1;
+        behind = g;
+        went = subst (λ (s : MemSite). WentDown s g) same down;
+        are = put;
+      })
+
+  pub starts : (up landed stop : Bool) (c : ℕ) (site : MemSite) (base : List ℕ) → IsUp hosts i up → up ≡ false → nth i clocks ≡ Some c → base ≡ example_base i → site ≡ h.site → Started base c landed stop site g
+      → NetStep (Up i landed stop) (net_of hosts clocks letters) (net_of new clocks letters)
+  starts up landed stop c site base is e clock named same started =
+      inl (record {
+        host = h;
+        here = here;
+        down = down_node hosts i up h is here e;
+        clock = c;
+        time = clock;
+        behind = g;
+        started = subst (λ (s : MemSite). Started (example_base i) c landed stop s g) same (subst (λ b. Started b c landed stop site g) named started);
+        are = put;
+      })
+
+  pub asks : (n : Node) (c many : ℕ) (request : Local) (site machine : MemSite) (more : List Letter) (fates : List Bool) (until : Option ℕ) → h.node ≡ Some n → nth i clocks ≡ Some c → many ≡ length hosts → IsExampleRequest request
+      → site ≡ h.site → IsSet c site machine → TookRequest i many request n machine g (map mail_of letters) (map mail_of more) fates until
+      → NetStep (Ask i request fates until) (net_of hosts clocks letters) (net_of new clocks more)
+  asks n c many request site machine more fates until up clock all named same set took =
+      inl (record {
+        host = h;
+        here = here;
+        node = n;
+        up = up;
+        clock = c;
+        time = clock;
+        named = named;
+        machine = machine;
+        set = subst (λ (s : MemSite). IsSet c s machine) same set;
+        behind = g;
+        took = subst (λ k. TookRequest i k request n machine g (map mail_of letters) (map mail_of more) fates until) all took;
+        hosts = puts;
+        clocks = refl;
+      })
+
+  pub turns : (n : Node) (c many now lines : ℕ) (input : Input) (bytes : List ℕ) (site machine : MemSite) (times : List ℕ) (more : List Letter) (fates : List Bool) (until : Option ℕ) → h.node ≡ Some n → nth i clocks ≡ Some c
+      → many ≡ length hosts → IsBrought (map mail_of letters) i input lines bytes → now ≡ c + ms_of input → site ≡ h.site → IsSet now site machine
+      → TookTurn i many lines bytes n machine g (map mail_of letters) (map mail_of more) fates until → times ≡ put_nth i now clocks
+      → NetStep (Turn i input fates until) (net_of hosts clocks letters) (net_of new times more)
+  turns n c many now lines input bytes site machine times more fates until up clock all brought later same set took ticks =
+      inl (record {
+        host = h;
+        here = here;
+        node = n;
+        up = up;
+        clock = c;
+        time = clock;
+        lines = lines;
+        bytes = bytes;
+        brought = brought;
+        machine = machine;
+        set = subst (λ (s : MemSite). IsSet (c + ms_of input) s machine) same (subst (λ k. IsSet k site machine) later set);
+        behind = g;
+        took = subst (λ k. TookTurn i k lines bytes n machine g (map mail_of letters) (map mail_of more) fates until) all took;
+        hosts = puts;
+        clocks = ticks ∙ ap (λ k. put_nth i k clocks) later;
+      })
+
+module _ (mirror : NetsMirror) (old new : Seen) (count : ℕ) (w : World) (few : count ≤ 8) (mirrors : Mirrors count old.hosts old.clocks (map mail_of old.letters) w) where
+  -- the next net, seen so, mirrors that world
+  seen_as : (v : World) (net : Seen) → new ≡ net → Mirrors count net.hosts net.clocks (map mail_of net.letters) v → Mirrors count new.hosts new.clocks (map mail_of new.letters) v
+  seen_as v net e m = subst (λ (s : Seen). Mirrors count s.hosts s.clocks (map mail_of s.letters) v) (sym e) m
+
+  of_parts : (v : World) (hosts : List Host) (clocks : List ℕ) → new.hosts ≡ hosts → new.clocks ≡ clocks → Mirrors count hosts clocks (map mail_of new.letters) v → Mirrors count new.hosts new.clocks (map mail_of new.letters) v
+  of_parts v hosts clocks puts ticks m =
+      subst (λ (l : List Host). Mirrors count l new.clocks (map mail_of new.letters) v) (sym puts) (subst (λ (z : List ℕ). Mirrors count hosts z (map mail_of new.letters) v) (sym ticks) m)
+
+  begun_by : (i : ℕ) (landed stop : Bool) (s : StartsNode i landed stop old new) → Mirrors count (put_nth i s.behind old.hosts) old.clocks (map mail_of old.letters) (world_step w (Up i landed stop))
+  begun_by i landed stop s = by s.started.0 s.started.1 s.started.2
+    where
+      by : (machine : MemSite) → IsSet s.clock s.host.site machine
+          → ((landed ≡ true) × (stop ≡ false) × CameUp (example_base i) machine s.behind) ⊎ ((landed ≡ true → stop ≡ true) × TookStart (example_base i) machine s.behind landed)
+          → Mirrors count (put_nth i s.behind old.hosts) old.clocks (map mail_of old.letters) (world_step w (Up i landed stop))
+      by machine set (inl (lands, stays, came)) =
+          subst (λ l. Mirrors count (put_nth i s.behind old.hosts) old.clocks (map mail_of old.letters) (world_step w (Up i l stop))) (sym lands)
+          (subst (λ z. Mirrors count (put_nth i s.behind old.hosts) old.clocks (map mail_of old.letters) (world_step w (Up i true z))) (sym stays)
+          (mirror.upped count old.hosts old.clocks (map mail_of old.letters) w i s.clock s.host s.behind machine few mirrors (numbered i old.hosts s.host s.here) s.here s.down set came))
+      by machine set (inr (stops, took)) =
+          mirror.upped_not count old.hosts old.clocks (map mail_of old.letters) w i s.clock s.host s.behind machine landed stop few mirrors (numbered i old.hosts s.host s.here) s.here s.down set took stops
+
+  moved : (e : WorldEvent) → MovesNode e old new → Mirrors count new.hosts new.clocks (map mail_of new.letters) (world_step w e)
+  moved (Turn i input fates until) s =
+      of_parts (world_step w (Turn i input fates until)) (put_nth i s.behind old.hosts) (put_nth i (s.clock + ms_of input) old.clocks) s.hosts s.clocks
+      (mirror.turned count old.hosts old.clocks (map mail_of old.letters) (map mail_of new.letters) w i s.clock s.host s.behind s.node input s.lines s.bytes s.machine fates until few mirrors (numbered i old.hosts s.host s.here) s.here
+      s.up s.time s.brought s.set (subst (λ k. TookTurn i k s.lines s.bytes s.node s.machine s.behind (map mail_of old.letters) (map mail_of new.letters) fates until) mirrors.many s.took))
+  moved (Ask i request fates until) s =
+      of_parts (world_step w (Ask i request fates until)) (put_nth i s.behind old.hosts) old.clocks s.hosts s.clocks
+      (mirror.asked count old.hosts old.clocks (map mail_of old.letters) (map mail_of new.letters) w i s.clock s.host s.behind s.node request s.machine fates until few mirrors (numbered i old.hosts s.host s.here) s.here
+      s.up s.time s.named s.set (subst (λ k. TookRequest i k request s.node s.machine s.behind (map mail_of old.letters) (map mail_of new.letters) fates until) mirrors.many s.took))
+  moved (Crash i) s =
+      seen_as (world_step w (Crash i)) (record old { hosts = put_nth i s.behind old.hosts }) s.are
+      (mirror.downed count old.hosts old.clocks (map mail_of old.letters) w i s.host s.behind s.node few mirrors (numbered i old.hosts s.host s.here) s.here s.up s.went)
+  moved (Up i landed stop) s =
+      seen_as (world_step w (Up i landed stop)) (record old { hosts = put_nth i s.behind old.hosts }) s.are (begun_by i landed stop s)
+
+  mirrored : (e : WorldEvent) → NetStep e old new → Mirrors count new.hosts new.clocks (map mail_of new.letters) (world_step w e)
+  mirrored e (inl s) = moved e s
+  mirrored e (inr r) = seen_as (world_step w e) old r.same (mirror.unmoved count old.hosts old.clocks (map mail_of old.letters) w e r.host mirrors r.here r.nothing)
+
+  -- with as many nodes as it has hosts
+  same_few : length old.hosts ≤ 8
+  same_few = subst (λ n. n ≤ 8) (sym mirrors.many) few
+
+  same_mirrors : Mirrors (length old.hosts) old.hosts old.clocks (map mail_of old.letters) w
+  same_mirrors = subst (λ n. Mirrors n old.hosts old.clocks (map mail_of old.letters) w) (sym mirrors.many) mirrors
+
+  move_answers : (e : WorldEvent) (s : MovesNode e old new) → MoveAnswers w e old new s
+  move_answers (Turn i input fates until) s = λ stays.
+      mirror.answered (length old.hosts) old.hosts old.clocks (map mail_of old.letters) (map mail_of new.letters) w i s.clock s.host s.behind s.node input s.lines s.bytes s.machine fates until same_few same_mirrors
+      (numbered i old.hosts s.host s.here) s.here s.up s.time s.brought s.set s.took stays
+  move_answers (Ask i request fates until) s = tt
+  move_answers (Crash i) s = tt
+  move_answers (Up i landed stop) s = tt
+
+  step_answers : (e : WorldEvent) (s : NetStep e old new) → StepAnswers w e old new s
+  step_answers e (inl s) = move_answers e s
+  step_answers e (inr r) = tt
+
+  -- whatever event of a world is done to a net that mirrors it
+  pub moves : (e : WorldEvent) → NetStep e old new → NetMove count w e old new
+  moves e step = record { step = step; answers = step_answers e step; mirrors = mirrored e step }
+
+-- a net as its callers see it is one of these parts
+pub seen_by : (e : WorldEvent) (net next old : Seen) → old ≡ net → NetStep e old next → NetStep e net next
+seen_by e net next old is step = subst (λ (s : Seen). NetStep e s next) is step
 
 pub up_at : (hosts slice : List Host) (i : ℕ) (up : Bool) → slice ≡ hosts → IsUp slice i up → IsUp hosts i up
 up_at hosts slice i up e is = subst (λ (l : List Host). IsUp l i up) e is
-
--- a net as its callers see it is one of these parts
-pub inside : (count : ℕ) (w : World) (seen : Seen) (hosts : List Host) (clocks : List ℕ) (letters : List Letter) → record { hosts = hosts; clocks = clocks; letters = letters } ≡ seen
-    → Mirrors count seen.hosts seen.clocks (map mail_of seen.letters) w → Mirrors count hosts clocks (map mail_of letters) w
-inside count w seen hosts clocks letters e mirrors = subst (λ (s : Seen). Mirrors count s.hosts s.clocks (map mail_of s.letters) w) (sym e) mirrors
-
-pub outside : (count : ℕ) (w : World) (seen : Seen) (hosts : List Host) (clocks : List ℕ) (letters : List Letter) → record { hosts = hosts; clocks = clocks; letters = letters } ≡ seen
-    → Mirrors count hosts clocks (map mail_of letters) w → Mirrors count seen.hosts seen.clocks (map mail_of seen.letters) w
-outside count w seen hosts clocks letters e mirrors = subst (λ (s : Seen). Mirrors count s.hosts s.clocks (map mail_of s.letters) w) e mirrors
 
 -- its nodes serve still
 pub serve_on : (i : ℕ) (g : Host) (hosts new : List Host) → AllServe hosts → MayServe g → new ≡ put_nth i g hosts → AllServe new

@@ -6,14 +6,14 @@ use Rattle.site_memory.specs.declared.machine.MemSite.{MemSite}
 use Rattle.mirrored_nets.specs.Goings.{CameUp, IsSet}
 use Rattle.mirrored_nets.specs.Started.{Started}
 use Rattle.mirrored_nets.specs.TookStart.{TookStart}
-use Rattle.mirrored_nets.specs.declared.fault.Fault.{Fault}
+use Rattle.mirrored_nets.specs.declared.fault.Unlike.{Unlike}
 
 module _ (base : List ℕ) (clock : ℕ) (landed stop : Bool) (site old : MemSite) (set : IsSet clock site old) where
-  pub went_up : (r : Result Host Fault) → landed ≡ true → stop ≡ false → IfOk r (λ h. CameUp base old h) → IfOk r (λ h. Started base clock landed stop site h)
+  pub went_up : (r : Result Host Unlike) → landed ≡ true → stop ≡ false → IfOk r (λ h. CameUp base old h) → IfOk r (λ h. Started base clock landed stop site h)
   went_up (Ok h) lands stays came = (old, set, inl (lands, stays, came))
   went_up (Err e) lands stays came = tt
 
-  pub was_struck : (r : Result Host Fault) → (landed ≡ true → stop ≡ true) → IfOk r (λ h. TookStart base old h landed) → IfOk r (λ h. Started base clock landed stop site h)
+  pub was_struck : (r : Result Host Unlike) → (landed ≡ true → stop ≡ true) → IfOk r (λ h. TookStart base old h landed) → IfOk r (λ h. Started base clock landed stop site h)
   was_struck (Ok h) stops took = (old, set, inr (stops, took))
   was_struck (Err e) stops took = tt
 

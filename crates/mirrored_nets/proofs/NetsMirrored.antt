@@ -1,6 +1,7 @@
 -- Whatever is done to a net in memory as an event says, it mirrors the world behind that event.
 use Rattle.model_laws.specs.Compactions.{RecoversTheCompacted}
 use Rattle.memory_net.specs.Closed.{ExamplesAskSo}
+use Rattle.node_events.specs.AnsweredTurns.{TurnsAnswerSo}
 use Rattle.node_events.specs.NodeEvents.{HaltsAreEvents, RequestsAreEvents, StartsAreEvents, StopsAreEvents, UnbegunAreEvents}
 use Rattle.node_worlds.specs.KeptRecords.{NetsKeep}
 use Rattle.node_worlds.specs.Machines.{RunsOnMachines}
@@ -9,6 +10,7 @@ use Rattle.site_memory.specs.Sites.{told_of}
 use Rattle.torn_appends.specs.TornAppends.{AppendsTorn}
 use Rattle.world_laws.specs.Moves.{ChangesByMoves}
 use Rattle.mirrored_nets.specs.Goings.{NetsMirror}
+use Rattle.mirrored_nets.proofs.AnsweredTurns.{answered}
 use Rattle.mirrored_nets.proofs.FailedStarts.{upped_not}
 use Rattle.mirrored_nets.proofs.FallenHosts.{NetLaws}
 use Rattle.mirrored_nets.proofs.Openings.{opened}
@@ -24,12 +26,14 @@ pub record EventLaws : Type 0 where
   pub halts : HaltsAreEvents
   pub requests : RequestsAreEvents
   pub starts : StartsAreEvents
+  pub answers : TurnsAnswerSo
   pub moves : ChangesByMoves
 
 pub nets_mirror : NetLaws → TurnLaws → EventLaws → AppendsTorn → ExamplesAskSo → AreApart → NetsKeep told_of → RunsOnMachines told_of → RecoversTheCompacted → NetsMirror
 nets_mirror L K E torn ask_so apart keep machines recovers = record {
   opened = opened;
   turned = turned L K torn E.stops E.unbegun E.halts;
+  answered = answered L K E.answers;
   asked = asked L K torn E.requests ask_so E.moves;
   upped = λ count hosts clocks mails w i c h g old few M least here down set U.
       upped count hosts clocks mails w M i least h g here E.starts L.bases L.nets keep machines recovers few down c old set U;

@@ -1,5 +1,5 @@
 -- Hosts that serve, or haven't started.
-use Rattle.std.specs.Prelude.{ℕ, List, [], ◌∷◌, ◌++◌, ◌+◌, ◌-◌, ◌≡◌, Bool, true, false, IfSome, Option, Some, None, nat_eq, replicate, if◌then◌else◌, zero, suc}
+use Rattle.std.specs.Prelude.{ℕ, List, [], ◌∷◌, ◌++◌, ◌+◌, ◌-◌, ◌≡◌, Bool, true, false, IfSome, Option, Some, None, length, nat_eq, replicate, if◌then◌else◌, zero, suc}
 use Rattle.std.specs.List.{AllByRecursion}
 use Rattle.std.proofs.Common.{add-one, ap, refl, subst, sym, ◌∙◌}
 use Rattle.at_model.specs.World.{nth, put_nth}
@@ -9,10 +9,14 @@ use Rattle.memory_net.specs.declared.host.Host.{Host}
 use Rattle.node_at.specs.declared.node.Node.{Node}
 use Rattle.site_memory.specs.declared.machine.MemSite.{MemSite}
 use Rattle.mirrored_nets.specs.Mirrors.{AllServe, MayServe}
+use Rattle.mirrored_nets.specs.NetSteps.{IsUnstarted}
 
 pub fresh_serve : (hosts : List Host) → AllByRecursion IsFresh hosts → AllServe hosts
 fresh_serve [] all = tt
 fresh_serve (h ∷ hs) (first, rest) = (subst (λ o. IfSome o IsServing) (sym first.node) tt, fresh_serve hs rest)
+
+pub unstarted : (count : ℕ) (hosts : List Host) (clocks : List ℕ) → length hosts ≡ count → AllByRecursion IsFresh hosts → clocks ≡ replicate count 0 → IsUnstarted count (record { hosts = hosts; clocks = clocks; letters = [] })
+unstarted count hosts clocks many fresh all = record { many = many; fresh = fresh; clocks = all; letters = refl }
 
 put_by : (b : Bool) (i : ℕ) (g h : Host) (hs : List Host) → nat_eq i 1 ≡ b → AllServe (put_nth (i - 1) g hs) → AllServe hs → MayServe h → MayServe g → AllServe (put_nth i g (h ∷ hs))
 put_by true i g h hs e again rest first here = rw e (here, rest)

@@ -8,7 +8,6 @@ use Rattle.at_model.specs.World.{Input, Turn, World, example_hosts, nth, put_nth
 use Rattle.deliveries.specs.ByteNets.{Serves}
 use Rattle.deliveries.specs.Letters.{AllAreCalled, AreLetters, posts_in}
 use Rattle.fated_walks.specs.Fated.{IsBeyond, StartsWith, all_fates, all_posts}
-use Rattle.http_post.specs.Conversations.{interim}
 use Rattle.memory_net.specs.Calls.{IsServing}
 use Rattle.memory_net.specs.Mails.{Mail, mails_in}
 use Rattle.memory_net.specs.Stands.{AreMailsOf}
@@ -31,7 +30,7 @@ use Rattle.node_worlds.proofs.Rows.{sent_append}
 use Rattle.site_memory.specs.Sites.{told_of}
 use Rattle.site_memory.specs.declared.machine.MemSite.{MemSite}
 use Rattle.site_model.specs.Told.{Call, Made, sent_by, sent_if}
-use Rattle.mirrored_nets.specs.Fates.{AllDone, AreAsked, anew_of, fates_in, is_disk}
+use Rattle.mirrored_nets.specs.Fates.{AreAsked, fates_in, is_disk}
 use Rattle.mirrored_nets.specs.Goings.{IsBrought, IsSet, ms_of}
 use Rattle.mirrored_nets.specs.Mirrors.{Mirrors}
 use Rattle.mirrored_nets.specs.Took.{ComesTo, EndsSo, IsWhole, LeftSo, TookTurn, kept_of}
@@ -39,11 +38,10 @@ use Rattle.mirrored_nets.specs.declared.came.Came.TheVariants as cames
 use Rattle.mirrored_nets.proofs.CallRows.{AreOnDisk}
 use Rattle.mirrored_nets.proofs.CutTurns.{same_mails}
 use Rattle.mirrored_nets.proofs.FallenHosts.{InWorld, IsBefore, NetLaws, in_world, is_up, sites, waits}
-use Rattle.mirrored_nets.proofs.LeavingCalls.{line_length}
+use Rattle.mirrored_nets.proofs.HeardFates.{heard_fates}
 use Rattle.mirrored_nets.proofs.Remirrored.{remirror}
 use Rattle.mirrored_nets.proofs.StandingCalls.{lines_post_none}
 use Rattle.mirrored_nets.proofs.StoppedTurns.{begun_whole}
-use Rattle.mirrored_nets.proofs.TurnsRead.{steps_fates}
 use Rattle.mirrored_nets.proofs.TurnsTaken.{HeardTurn, TurnLaws, before_turn, took_heard, turn_there}
 
 -- calls of the disk send nothing
@@ -134,10 +132,7 @@ module _ (L : NetLaws) (count : ℕ) (few : count ≤ 8) (hosts : List Host) (cl
 
     -- the fates that the event asks for are those that it had
     fates_are : fates_in (drop lines made) ≡ all_fates H.is_turn.fated
-    fates_are =
-        let long : length H.did.line ≡ lines = line_length (Call.Send interim) lines H.did.line H.line_is in
-        subst (λ k. fates_in (drop k made) ≡ all_fates H.is_turn.fated) long
-        (steps_fates n.journal H.did.line made H.did.whole.steps H.did.whole.doings H.is_turn.fated H.read (subst (λ k. AllDone (anew_of (drop k made))) (sym long) asked.anew))
+    fates_are = heard_fates count w M.stands.net i c old_place there.node n m (starts i) t r turn input lines made H fates until asked
 
     leads : Leads (example_hosts count) i H.did.now w (Turn i input fates until) behind_it
     leads =

@@ -142,7 +142,7 @@ module _ (L : NetLaws) (K : TurnLaws) (count : ℕ) (few : count ≤ 8) (hosts :
 
     -- what the connection brings
     module _ (bytes : List ℕ) (brings : link_of s.line ≡ record { open_bytes = []; waiting = bytes ∷ [] }) (input : Input) (lines : ℕ) (brought : IsBrought mails i input lines bytes) where
-      tells : next_input (told_of from).link ≡ Some bytes
+      pub tells : next_input (told_of from).link ≡ Some bytes
       tells = ap (λ (z : MemSite). next_input (told_of z).link) from_is ∙ ap (λ l. next_input (Some l)) brings
 
       pub carries : Carries (example_hosts count) M.stands.net i All (told_of from)

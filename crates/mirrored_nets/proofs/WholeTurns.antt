@@ -29,6 +29,7 @@ use Rattle.site_memory.specs.Sites.{told_of}
 use Rattle.site_memory.specs.Tells.{reads}
 use Rattle.site_memory.specs.declared.machine.MemSite.{MemSite}
 use Rattle.site_model.specs.Told.{Made, file_of}
+use Rattle.mirrored_nets.specs.Answered.{AnswersWith}
 use Rattle.mirrored_nets.specs.Fates.{AllDone}
 use Rattle.mirrored_nets.specs.Took.{Adds, HasRoom, IsWhole}
 use Rattle.mirrored_nets.proofs.AnewCalls.{GoesAnew}
@@ -41,6 +42,7 @@ pub record DidWhole (first : Turned) (n node : State) (c behind : MemSite) (t : 
   pub meaning : Meaning
   pub now : ℕ
   pub status : ℕ
+  pub answers : AnswersWith first status
   pub line : List Made
   pub heard : Hears All (next_input (told_of c).link) meaning
   pub fit : IsFit meaning
@@ -56,6 +58,7 @@ did_whole (turneds.Served status) n node c behind t whole = record {
   meaning = t.serves.meaning;
   now = t.serves.now;
   status = status;
+  answers = refl;
   line = t.serves.made;
   heard = t.serves.heard;
   fit = t.serves.fit;
@@ -70,6 +73,7 @@ did_whole turneds.Ticked n node c behind t whole = record {
   meaning = t.serves.meaning;
   now = t.serves.now;
   status = 202;
+  answers = refl;
   line = t.serves.made;
   heard = t.serves.heard;
   fit = t.serves.fit;

@@ -18,9 +18,11 @@ use Rattle.raw_requests.specs.declared.Drawn.TheVariants as drawns
 use Rattle.site_memory.specs.Devices.{Leaves, calls_in, opening_in}
 use Rattle.site_memory.specs.declared.arm.Choice.TheVariants.{Drop}
 use Rattle.site_memory.specs.declared.machine.MemSite.{MemSite}
+use Rattle.mirrored_nets.specs.Answered.{IsAnswered}
 use Rattle.mirrored_nets.specs.Mirrors.{Mirrors}
 use Rattle.mirrored_nets.specs.Took.{TookRequest, TookTurn}
 use Rattle.mirrored_nets.specs.TookStart.{TookStart}
+use Rattle.mirrored_nets.specs.declared.came.Came.TheVariants as cames
 
 -- the bytes that ask a node for what is due
 pub record IsTick (bytes : List ℕ) : Type 0 where
@@ -77,6 +79,11 @@ pub record NetsMirror : Type 0 where
       → count ≤ 8 → Mirrors count hosts clocks mails w → 1 ≤ i → nth i hosts ≡ Some h → h.node ≡ Some n → nth i clocks ≡ Some c → IsBrought mails i input lines bytes → IsSet (c + ms_of input) h.site old
       → TookTurn i count lines bytes n old g mails more fates until
       → Mirrors count (put_nth i g hosts) (put_nth i (c + ms_of input) clocks) more (world_step w (Turn i input fates until))
+  -- what one is answered behind which its node stays up is what its event says
+  pub answered : (count : ℕ) (hosts : List Host) (clocks : List ℕ) (mails more : List Mail) (w : World) (i c : ℕ) (h g : Host) (n : Node) (input : Input) (lines : ℕ) (bytes : List ℕ) (old : MemSite)
+      (fates : List Bool) (until : Option ℕ)
+      → count ≤ 8 → Mirrors count hosts clocks mails w → 1 ≤ i → nth i hosts ≡ Some h → h.node ≡ Some n → nth i clocks ≡ Some c → IsBrought mails i input lines bytes → IsSet (c + ms_of input) h.site old
+      → (T : TookTurn i count lines bytes n old g mails more fates until) → T.came ≡ cames.Stays → IsAnswered w (Turn i input fates until) input bytes T.result
   pub asked : (count : ℕ) (hosts : List Host) (clocks : List ℕ) (mails more : List Mail) (w : World) (i c : ℕ) (h g : Host) (n : Node) (request : Local) (old : MemSite) (fates : List Bool) (until : Option ℕ)
       → count ≤ 8 → Mirrors count hosts clocks mails w → 1 ≤ i → nth i hosts ≡ Some h → h.node ≡ Some n → nth i clocks ≡ Some c → IsExampleRequest request → IsSet c h.site old
       → TookRequest i count request n old g mails more fates until → Mirrors count (put_nth i g hosts) clocks more (world_step w (Ask i request fates until))

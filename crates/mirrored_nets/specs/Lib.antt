@@ -2,6 +2,9 @@ pub mod Seen
 pub mod Mirrors
 pub mod Fates
 pub mod Took
+pub mod Answered
 pub mod TookStart
+pub mod Rooms
 pub mod Goings
 pub mod Started
+pub mod NetSteps

@@ -35,6 +35,10 @@ pub record HasRoom (s : MemSite) : Type 0 where
   pub first : length (reads (opening_in s.device) (calls_in s.device)).first + 1060010 ≤ 4294967295
   pub second : length (reads (opening_in s.device) (calls_in s.device)).second + 1060010 ≤ 4294967295
 
+-- one of them has none
+abbrev pub IsFull : MemSite → Type 0
+IsFull s = (4293907285 < length (reads (opening_in s.device) (calls_in s.device)).first) ⊎ (4293907285 < length (reads (opening_in s.device) (calls_in s.device)).second)
+
 -- the turn answered a request, and went to its end
 abbrev pub IsWhole : Turned → Type 0
 IsWhole (turneds.Served status) = status ≡ 0 → ⊥

@@ -1,6 +1,6 @@
 //! An event that is done to a node on its machine.
 
-ghost use Rattle.std.specs.Prelude.{◌≡◌, ◌+◌, ◌≤◌, ◌<◌, ◌^◌, IfOk, length, map, replicate, take};
+ghost use Rattle.std.specs.Prelude.{◌≡◌, ◌+◌, ◌≤◌, ◌<◌, ◌^◌, IfOk, false, length, map, replicate, take, true};
 ghost use Rattle.http_post.specs.Conversations.{interim};
 ghost use Rattle.site_model.specs.Told.{done};
 ghost use Rattle.site_model.specs.Told.Call.{Send};
@@ -10,11 +10,11 @@ ghost use Rattle.site_memory.specs.Devices.{calls_in};
 ghost use Rattle.site_memory.specs.Entries.{mades};
 ghost use Rattle.mirrored_nets.specs.Fates.{failures, refusals};
 ghost use Rattle.mirrored_nets.specs.Goings.{CameUp, IsSet, WentDown};
-ghost use Rattle.mirrored_nets.specs.Took.{AnswersSo, EndsSo, FellBack, HasRoom, LeftSo, TookRequest, TookTurn, kept_of};
+ghost use Rattle.mirrored_nets.specs.Took.{AnswersSo, EndsSo, FellBack, HasRoom, IsFull, LeftSo, TookRequest, TookTurn, kept_of};
 
 use crate::calls::{failures, refusals, said, since};
 use crate::came::Came;
-use crate::fault::Fault;
+use crate::fault::Unlike;
 use crate::judged::{Armed, judged};
 use at_base::event::Local;
 use at_base::text::Text;
@@ -34,13 +34,11 @@ use world_laws::event::Fates;
 const MOST: usize = 4_293_907_285;
 
 /// Whether both files have room for another record.
-fn has_room(site: &MemSite) -> Result<(), Fault>
-    ensures { IfOk result (λ _. HasRoom site.now) }
+pub fn has_room(site: &MemSite) -> bool
+    ensures room { result ≡ true → HasRoom site.now }
+    ensures full { result ≡ false → IsFull site.now }
 {
-    if site.file(0).len() > MOST || site.file(1).len() > MOST {
-        return Err(Fault::Full);
-    }
-    Ok(())
+    site.file(0).len() <= MOST && site.file(1).len() <= MOST
 }
 
 /// The machine at that time, with a failure armed, or none. A stop is no failure: the machine goes back to it behind the event.
@@ -57,38 +55,38 @@ pub fn set(site: MemSite, armed: Armed, now: u64) -> MemSite
 }
 
 /// Whether no answer and no post failed beside those among these calls.
-fn counted(failed: u64, now: u64, calls: &[Entry]) -> Result<(), Fault>
+fn counted(failed: u64, now: u64, calls: &[Entry]) -> Result<(), Unlike>
     ensures { IfOk result (λ _. (now ≡ failed + failures (mades calls.now)) × (now < 2 ^ 63)) }
 {
     if now >= (1 << 63) || now < failed || now - failed != failures(calls) {
-        return Err(Fault::NoMemory);
+        return Err(Unlike::NoMemory);
     }
     Ok(())
 }
 
 /// Whether no record was refused beside those of whose calls one is among these.
-fn refused(failed: u64, now: u64, calls: &[Entry]) -> Result<(), Fault>
+fn refused(failed: u64, now: u64, calls: &[Entry]) -> Result<(), Unlike>
     ensures { IfOk result (λ _. (now ≤ failed + refusals (mades calls.now)) × (now < 2 ^ 63)) }
 {
     if now >= (1 << 63) || now.saturating_sub(failed) > refusals(calls) {
-        return Err(Fault::NoMemory);
+        return Err(Unlike::NoMemory);
     }
     Ok(())
 }
 
 /// Whether the calls that come before the first step said the interim line.
-fn spoke(lines: usize, calls: &[Entry]) -> Result<(), Fault>
+fn spoke(lines: usize, calls: &[Entry]) -> Result<(), Unlike>
     ensures { IfOk result (λ _. (take lines (mades calls.now) ≡ replicate lines (done (Send interim))) × (lines ≤ 1)) }
 {
     if said(calls, lines) {
         Ok(())
     } else {
-        Err(Fault::Apart)
+        Err(Unlike::Apart)
     }
 }
 
 /// Whether a turn ended as that says.
-fn ends(came: Came, turned: Turned) -> Result<(), Fault>
+fn ends(came: Came, turned: Turned) -> Result<(), Unlike>
     ensures { IfOk result (λ _. EndsSo came turned) }
 {
     match (came, turned) {
@@ -96,18 +94,18 @@ fn ends(came: Came, turned: Turned) -> Result<(), Fault>
         (Came::Stays | Came::Falls { .. }, Turned::Ticked) => Ok(()),
         (Came::Stays | Came::Falls { .. }, Turned::Served { status }) => {
             if status == 0 {
-                Err(Fault::Apart)
+                Err(Unlike::Apart)
             } else {
                 Ok(())
             }
         }
-        (_, Turned::NoRoom) => Err(Fault::NoMemory),
-        _ => Err(Fault::Apart),
+        (_, Turned::NoRoom) => Err(Unlike::NoMemory),
+        _ => Err(Unlike::Apart),
     }
 }
 
 /// Whether a request did.
-fn answers(came: Came, locally: Locally) -> Result<(), Fault>
+fn answers(came: Came, locally: Locally) -> Result<(), Unlike>
     ensures { IfOk result (λ _. AnswersSo came locally) }
 {
     match (came, locally) {
@@ -115,17 +113,17 @@ fn answers(came: Came, locally: Locally) -> Result<(), Fault>
         (Came::Stays | Came::Falls { .. }, Locally::Done { .. } | Locally::Refused { .. }) => Ok(
             (),
         ),
-        (_, Locally::NoRoom) => Err(Fault::NoMemory),
-        _ => Err(Fault::Apart),
+        (_, Locally::NoRoom) => Err(Unlike::NoMemory),
+        _ => Err(Unlike::Apart),
     }
 }
 
 /// A machine that went back to behind so many calls of an event, before which it had made `before`, and crashed there.
-fn fallen_back(site: MemSite, before: usize, kept: usize, choice: Choice) -> Result<MemSite, Fault>
+fn fallen_back(site: MemSite, before: usize, kept: usize, choice: Choice) -> Result<MemSite, Unlike>
     ensures { IfOk result (λ new. (old : MemSite) → before ≡ length (calls_in old.device) → FellBack old site kept choice new) }
 {
     let Some(calls) = before.checked_add(kept) else {
-        return Err(Fault::Apart);
+        return Err(Unlike::Apart);
     };
     let mut site = site;
     site.go_back(calls)?;
@@ -154,7 +152,7 @@ fn kept_of(came: Came, calls: &[Entry]) -> &[Entry]
 }
 
 /// The host behind an event.
-fn left(came: Came, node: Node, site: MemSite, before: usize) -> Result<Host, Fault>
+fn left(came: Came, node: Node, site: MemSite, before: usize) -> Result<Host, Unlike>
     ensures { IfOk result (λ host. (old : MemSite) → before ≡ length (calls_in old.device) → LeftSo came node old site host) }
 {
     match came {
@@ -173,7 +171,7 @@ fn left(came: Came, node: Node, site: MemSite, before: usize) -> Result<Host, Fa
 
 /// The turn of a connection that brings these bytes, before whose first step so many calls come: the turn of an event with these fates and this
 /// stop. Its posts are put behind the letters.
-pub fn take(
+pub(crate) fn take(
     alloc: Global,
     node: Node,
     site: MemSite,
@@ -185,11 +183,11 @@ pub fn take(
     fates: &Fates,
     until: Option<u64>,
     letters: &mut Vec<Letter>,
-) -> Result<Host, Fault>
-    requires { IsServing node }
+) -> Result<Host, Unlike>
+    requires serving { IsServing node }
+    requires room { HasRoom site }
     ensures { IfOk result (λ host. TookTurn number count lines bytes.now node site host (map mail_of letters.old.items) (map mail_of letters.new.items) fates.now until) }
 {
-    has_room(&site)?;
     let mut after = node;
     let mut machine = site;
     let before = machine.calls();
@@ -207,7 +205,7 @@ pub fn take(
 }
 
 /// A request of its own program: the event with these fates and this stop.
-pub fn request(
+pub(crate) fn request(
     alloc: Global,
     node: Node,
     site: MemSite,
@@ -218,11 +216,11 @@ pub fn request(
     fates: &Fates,
     until: Option<u64>,
     letters: &mut Vec<Letter>,
-) -> Result<Host, Fault>
-    requires { IsServing node }
+) -> Result<Host, Unlike>
+    requires serving { IsServing node }
+    requires room { HasRoom site }
     ensures { IfOk result (λ host. TookRequest number count local.now node site host (map mail_of letters.old.items) (map mail_of letters.new.items) fates.now until) }
 {
-    has_room(&site)?;
     let mut after = node;
     let mut machine = site;
     let before = machine.calls();
@@ -239,13 +237,13 @@ pub fn request(
 }
 
 /// A node that comes up under this base, without any fault.
-pub fn come_up(alloc: Global, site: MemSite, base: &Text) -> Result<Host, Fault>
+pub(crate) fn come_up(alloc: Global, site: MemSite, base: &Text) -> Result<Host, Unlike>
     ensures { IfOk result (λ host. CameUp base.now site host) }
 {
     let mut machine = site;
     match begin(alloc, &mut machine, base) {
         Ok(node) => Ok(Host::of(Some(node), machine)),
-        Err(_) => Err(Fault::NoMemory),
+        Err(_) => Err(Unlike::NoMemory),
     }
 }
 

@@ -12,7 +12,7 @@ ghost use Rattle.mirrored_nets.specs.Took.{ComesTo, IsKept};
 
 use crate::calls::{all_done, anew, behind, disk_calls, fates_count, had_fates, send_calls};
 use crate::came::Came;
-use crate::fault::Fault;
+use crate::fault::Unlike;
 use site_memory::arm::Choice;
 use site_memory::entry::{Deed, Entry};
 use world_laws::event::Fates;
@@ -141,26 +141,26 @@ fn stopped(
     choice: Choice,
     fates: &Fates,
     until: u64,
-) -> Result<Came, Fault>
+) -> Result<Came, Unlike>
     ensures { IfOk result (λ came. ComesTo came lines (mades calls.now) fates.now (Some until)) }
 {
     let kept = kept_at(calls, k, choice);
     if !all_done(calls) {
-        return Err(Fault::Apart);
+        return Err(Unlike::Apart);
     }
     let Some(before) = until.checked_sub(1) else {
         if fates.len() == 0 && kept <= lines {
             return Ok(Came::Falls { kept, choice });
         }
-        return Err(Fault::Apart);
+        return Err(Unlike::Apart);
     };
     let Some(last) = struck(fates, before as usize) else {
-        return Err(Fault::Apart);
+        return Err(Unlike::Apart);
     };
     if is_kept(lines, calls, choice, before as usize, last, kept) {
         return Ok(Came::Falls { kept, choice });
     }
-    Err(Fault::Apart)
+    Err(Unlike::Apart)
 }
 
 /// The one call behind so many, where that failed.
@@ -195,15 +195,15 @@ fn sync_failed(calls: &[Entry], count: usize) -> bool
 }
 
 /// One in which it halts, behind so many calls that have no fate: its gate's write failed, or its sync.
-fn halted(lines: usize, calls: &[Entry], fates: &Fates, until: u64) -> Result<Came, Fault>
+fn halted(lines: usize, calls: &[Entry], fates: &Fates, until: u64) -> Result<Came, Unlike>
     requires { lines ≤ 1 }
     ensures { IfOk result (λ came. ComesTo came lines (mades calls.now) fates.now (Some until)) }
 {
     let Some(stands) = struck(fates, 0) else {
-        return Err(Fault::Apart);
+        return Err(Unlike::Apart);
     };
     if until != 1 {
-        return Err(Fault::Apart);
+        return Err(Unlike::Apart);
     }
     if stands && sync_failed(calls, lines + 3) {
         return Ok(Came::Halts);
@@ -211,17 +211,17 @@ fn halted(lines: usize, calls: &[Entry], fates: &Fates, until: u64) -> Result<Ca
     if !stands && write_failed(calls, lines + 2) {
         return Ok(Came::Halts);
     }
-    Err(Fault::Apart)
+    Err(Unlike::Apart)
 }
 
 /// What an event came to at a node that made these calls, the first of which have no fate.
-pub fn judged(
+pub(crate) fn judged(
     lines: usize,
     calls: &[Entry],
     armed: Armed,
     fates: &Fates,
     until: Option<u64>,
-) -> Result<Came, Fault>
+) -> Result<Came, Unlike>
     requires { lines ≤ 1 }
     ensures { IfOk result (λ came. ComesTo came lines (mades calls.now) fates.now until) }
 {
@@ -233,6 +233,6 @@ pub fn judged(
             stopped(lines, calls, k as usize, choice, fates, until)
         }
         (Some(until), Armed::Fail(_)) => halted(lines, calls, fates, until),
-        _ => Err(Fault::Apart),
+        _ => Err(Unlike::Apart),
     }
 }

@@ -1,17 +1,20 @@
 //! A net in memory that mirrors a world.
 
-ghost use Rattle.std.specs.Prelude.{ℕ, ◌≡◌, ◌≤◌, [], IfOk, OnOk, Some, is_some, length, map, option_copied};
-ghost use Rattle.at_model.specs.World.{World, Ask, Crash, Deliver, Raw, Turn, Up, example_base, example_hosts, nth, opening, put_nth, world_step};
+ghost use Rattle.std.specs.Prelude.{ℕ, ◌≡◌, ◌≤◌, [], false, true, IfErr, IfOk, OnOk, Some, is_some, length, map, option_copied};
+ghost use Rattle.at_model.specs.World.{World, Ask, Crash, Deliver, Raw, Turn, Up, example_base, example_hosts, node_of, nth, opening, put_nth};
 ghost use Rattle.memory_net.specs.Mails.{mail_of};
 ghost use Rattle.memory_net.specs.declared.host.Host.{Host};
 ghost use Rattle.world_laws.specs.Events.{event_of, input_of};
-ghost use Rattle.mirrored_nets.specs.Goings.{IsBrought, IsTick, NetsMirror, ms_of};
+ghost use Rattle.mirrored_nets.specs.Goings.{IsBrought, IsTick, ms_of};
 ghost use Rattle.mirrored_nets.specs.Mirrors.{Mirrors};
+ghost use Rattle.mirrored_nets.specs.NetSteps.{IsUnstarted, NetMove, NetStep};
+ghost use Rattle.mirrored_nets.specs.Rooms.{HasRoomAt, IsFullAt};
 ghost use Rattle.mirrored_nets.specs.Started.{Started};
+ghost use Rattle.mirrored_nets.specs.declared.fault.Fault.TheVariants.{Full};
 
 use crate::asks::names_examples;
-use crate::fault::Fault;
-use crate::host::{come_up, go_down, request, set, take};
+use crate::fault::{Fault, Unlike};
+use crate::host::{come_up, go_down, has_room, request, set, take};
 use crate::judged::Armed;
 use crate::laws::nets_mirror;
 use crate::starts::start_struck;
@@ -77,14 +80,14 @@ fn letter_at(letters: &[Letter], number: u64) -> Option<&Letter>
 }
 
 /// The letter of that number, where it goes to that node.
-fn letter_to(alloc: Global, letters: &[Letter], node: u8, number: u64) -> Result<Brought, Fault>
+fn letter_to(alloc: Global, letters: &[Letter], node: u8, number: u64) -> Result<Brought, Unlike>
     ensures { IfOk result (λ b. IsBrought (map mail_of letters.now) node (Deliver number) b.lines b.bytes.items) }
 {
     let Some(letter) = letter_at(letters, number) else {
-        return Err(Fault::Apart);
+        return Err(Unlike::Apart);
     };
     if letter.receiver != node || letter.bytes.len() > 65_536 {
-        return Err(Fault::Apart);
+        return Err(Unlike::Apart);
     }
     Ok(Brought {
         bytes: Vec::from_slice(alloc, letter.bytes.as_slice())?,
@@ -93,7 +96,7 @@ fn letter_to(alloc: Global, letters: &[Letter], node: u8, number: u64) -> Result
 }
 
 /// The bytes that ask for what is due.
-fn tick(alloc: Global) -> Result<Brought, Fault>
+fn tick(alloc: Global) -> Result<Brought, Unlike>
     ensures { IfOk result (λ b. IsTick b.bytes.items × (b.lines ≡ 0)) }
 {
     let to = PostTo {
@@ -108,7 +111,7 @@ fn tick(alloc: Global) -> Result<Brought, Fault>
 }
 
 /// Bytes that are refused.
-fn refused(alloc: Global, raw: &[u8]) -> Result<Brought, Fault>
+fn refused(alloc: Global, raw: &[u8]) -> Result<Brought, Unlike>
     ensures { IfOk result (λ b. IsBrought [] 0 Raw b.lines b.bytes.items) }
 {
     match draw(alloc, raw)? {
@@ -116,7 +119,7 @@ fn refused(alloc: Global, raw: &[u8]) -> Result<Brought, Fault>
             bytes: Vec::from_slice(alloc, raw)?,
             lines: if waits { 1 } else { 0 },
         }),
-        Drawn::Forged => Err(Fault::Apart),
+        Drawn::Forged => Err(Unlike::Apart),
     }
 }
 
@@ -127,7 +130,7 @@ fn brought_by(
     node: u8,
     input: Input,
     raw: &[u8],
-) -> Result<Brought, Fault>
+) -> Result<Brought, Unlike>
     ensures { IfOk result (λ b. IsBrought (map mail_of letters.now) node (input_of input) b.lines b.bytes.items) }
 {
     match input {
@@ -166,80 +169,80 @@ fn spoken(armed: Armed, lines: usize) -> Armed {
 }
 
 /// Whether a node is up.
-fn is_up(hosts: &[Host], number: u8) -> Result<bool, Fault>
+fn is_up(hosts: &[Host], number: u8) -> Result<bool, Unlike>
     ensures { IfOk result (λ up. (h : Host) × (nth number hosts.now ≡ Some h) × (up ≡ is_some h.node)) }
 {
     match host_of(hosts, number) {
         Some(host) => Ok(host.node().is_some()),
-        None => Err(Fault::Apart),
+        None => Err(Unlike::Apart),
     }
 }
 
 /// The clock of a node.
-fn clock_of(clocks: &[u64], number: u8) -> Result<u64, Fault>
+fn clock_of(clocks: &[u64], number: u8) -> Result<u64, Unlike>
     ensures { IfOk result (λ clock. nth number clocks.now ≡ Some clock) }
 {
     if number == 0 {
-        return Err(Fault::Apart);
+        return Err(Unlike::Apart);
     }
     match clocks.get(number as usize - 1) {
         Some(clock) => Ok(*clock),
-        None => Err(Fault::Apart),
+        None => Err(Unlike::Apart),
     }
 }
 
 /// Takes the host of a node out of its place.
-fn taken(alloc: Global, hosts: &mut Vec<Host>, number: u8) -> Result<Host, Fault>
+fn taken(alloc: Global, hosts: &mut Vec<Host>, number: u8) -> Result<Host, Unlike>
     ensures here { IfOk result (λ h. nth number hosts.old.items ≡ Some h) }
     ensures place { OnOk result ((g : Host) → put_nth number g hosts.new.items ≡ put_nth number g hosts.old.items) }
 {
     if number == 0 || hosts.len() < number as usize {
-        return Err(Fault::Apart);
+        return Err(Unlike::Apart);
     }
     Ok(replace(&mut hosts[number as usize - 1], fresh(alloc)))
 }
 
 /// Takes a node that is up out of its place, and its machine.
-fn taken_up(alloc: Global, hosts: &mut Vec<Host>, number: u8) -> Result<(Node, MemSite), Fault>
+fn taken_up(alloc: Global, hosts: &mut Vec<Host>, number: u8) -> Result<(Node, MemSite), Unlike>
     ensures here { IfOk result (λ p. (h : Host) × (nth number hosts.old.items ≡ Some h) × (h.node ≡ Some p.0) × (p.1 ≡ h.site)) }
     ensures place { OnOk result ((g : Host) → put_nth number g hosts.new.items ≡ put_nth number g hosts.old.items) }
 {
     let (node, site) = taken(alloc, hosts, number)?.into_parts();
     match node {
         Some(node) => Ok((node, site)),
-        None => Err(Fault::Apart),
+        None => Err(Unlike::Apart),
     }
 }
 
 /// Puts a host into its place.
-fn put_host(hosts: &mut Vec<Host>, number: u8, host: Host) -> Result<(), Fault>
+fn put_host(hosts: &mut Vec<Host>, number: u8, host: Host) -> Result<(), Unlike>
     ensures { OnOk result (hosts.new.items ≡ put_nth number host hosts.old.items) }
 {
     if number == 0 || hosts.len() < number as usize {
-        return Err(Fault::Apart);
+        return Err(Unlike::Apart);
     }
     let _empty = replace(&mut hosts[number as usize - 1], host);
     Ok(())
 }
 
 /// Puts a clock into its place.
-fn put_clock(clocks: &mut Vec<u64>, number: u8, clock: u64) -> Result<(), Fault>
+fn put_clock(clocks: &mut Vec<u64>, number: u8, clock: u64) -> Result<(), Unlike>
     ensures { OnOk result (clocks.new.items ≡ put_nth number clock clocks.old.items) }
 {
     if number == 0 || clocks.len() < number as usize {
-        return Err(Fault::Apart);
+        return Err(Unlike::Apart);
     }
     clocks[number as usize - 1] = clock;
     Ok(())
 }
 
 /// How many there are.
-fn count_of(hosts: &[Host]) -> Result<u8, Fault>
+fn count_of(hosts: &[Host]) -> Result<u8, Unlike>
     ensures { IfOk result (λ count. count ≡ length hosts.now) }
 {
     match u8::try_from(hosts.len()) {
         Ok(count) => Ok(count),
-        Err(_) => Err(Fault::Apart),
+        Err(_) => Err(Unlike::Apart),
     }
 }
 
@@ -252,7 +255,7 @@ fn started(
     armed: Armed,
     landed: bool,
     stop: bool,
-) -> Result<Host, Fault>
+) -> Result<Host, Unlike>
     ensures { IfOk result (λ host. Started base.now clock landed stop site host) }
 {
     if landed && !stop {
@@ -264,9 +267,11 @@ fn started(
 
 impl Net {
     /// Nodes that haven't started, on empty machines.
+    #[tactic(auto, using(crate::proofs::OpenedNets::unstarted))]
     pub fn opening(alloc: Global, count: u8) -> Result<Net, AllocError>
         requires { (1 ≤ count) × (count ≤ 8) }
-        ensures { IfOk result (λ net. Mirrors count net.hosts net.clocks (map mail_of net.letters) (opening (example_hosts count))) }
+        ensures unstarted { IfOk result (IsUnstarted count) }
+        ensures mirrors { IfOk result (λ net. Mirrors count net.hosts net.clocks (map mail_of net.letters) (opening (example_hosts count))) }
     {
         nets_mirror();
         let mut hosts = Vec::new(alloc);
@@ -289,6 +294,17 @@ impl Net {
         self.letters.as_slice()
     }
 
+    /// Whether the journal of a node has room for another record.
+    fn has_room(&self, number: u8) -> bool
+        ensures room { result ≡ true → HasRoomAt number self.now.hosts }
+        ensures full { result ≡ false → IsFullAt number self.now.hosts }
+    {
+        match host_of(self.hosts.as_slice(), number) {
+            Some(host) => has_room(host.site()),
+            None => true,
+        }
+    }
+
     /// A turn at a node that is up.
     fn turn(
         self,
@@ -299,10 +315,9 @@ impl Net {
         fates: &Fates,
         until: Option<u64>,
         raw: &[u8],
-    ) -> Result<Net, Fault>
-        requires { NetsMirror }
-        ensures { (count : ℕ) (w : World) → count ≤ 8 → Mirrors count self.hosts self.clocks (map mail_of self.letters) w
-            → IfOk result (λ net. Mirrors count net.hosts net.clocks (map mail_of net.letters) (world_step w (Turn number (input_of input) fates.now until))) }
+    ) -> Result<Net, Unlike>
+        requires { HasRoomAt number self.hosts }
+        ensures { IfOk result (NetStep (Turn number (input_of input) fates.now until) self) }
     {
         if !is_up(self.hosts.as_slice(), number)? {
             return Ok(self);
@@ -316,7 +331,7 @@ impl Net {
         let clock = clock_of(clocks.as_slice(), number)?;
         let (node, site) = taken_up(alloc, &mut hosts, number)?;
         let Some(now) = clock.checked_add(ms_of(input) as u64) else {
-            return Err(Fault::Apart);
+            return Err(Unlike::Apart);
         };
         let brought = brought_by(alloc, letters.as_slice(), number, input, raw)?;
         let armed = spoken(armed, brought.lines);
@@ -351,16 +366,15 @@ impl Net {
         armed: Armed,
         fates: &Fates,
         until: Option<u64>,
-    ) -> Result<Net, Fault>
-        requires { NetsMirror }
-        ensures { (count : ℕ) (w : World) → count ≤ 8 → Mirrors count self.hosts self.clocks (map mail_of self.letters) w
-            → IfOk result (λ net. Mirrors count net.hosts net.clocks (map mail_of net.letters) (world_step w (Ask number local.now fates.now until))) }
+    ) -> Result<Net, Unlike>
+        requires { HasRoomAt number self.hosts }
+        ensures { IfOk result (NetStep (Ask number local.now fates.now until) self) }
     {
         if !is_up(self.hosts.as_slice(), number)? {
             return Ok(self);
         }
         if !names_examples(alloc, local)? {
-            return Err(Fault::Apart);
+            return Err(Unlike::Apart);
         }
         let Net {
             mut hosts,
@@ -391,10 +405,8 @@ impl Net {
     }
 
     /// A crash of a node that is up.
-    fn crash(self, alloc: Global, number: u8) -> Result<Net, Fault>
-        requires { NetsMirror }
-        ensures { (count : ℕ) (w : World) → count ≤ 8 → Mirrors count self.hosts self.clocks (map mail_of self.letters) w
-            → IfOk result (λ net. Mirrors count net.hosts net.clocks (map mail_of net.letters) (world_step w (Crash number))) }
+    fn crash(self, alloc: Global, number: u8) -> Result<Net, Unlike>
+        ensures { IfOk result (NetStep (Crash number) self) }
     {
         if !is_up(self.hosts.as_slice(), number)? {
             return Ok(self);
@@ -421,10 +433,8 @@ impl Net {
         armed: Armed,
         landed: bool,
         stop: bool,
-    ) -> Result<Net, Fault>
-        requires { NetsMirror }
-        ensures { (count : ℕ) (w : World) → count ≤ 8 → Mirrors count self.hosts self.clocks (map mail_of self.letters) w
-            → IfOk result (λ net. Mirrors count net.hosts net.clocks (map mail_of net.letters) (world_step w (Up number landed stop))) }
+    ) -> Result<Net, Unlike>
+        ensures { IfOk result (NetStep (Up number landed stop) self) }
     {
         if is_up(self.hosts.as_slice(), number)? {
             return Ok(self);
@@ -446,19 +456,17 @@ impl Net {
         })
     }
 
-    /// An event of the world that it mirrors is done to the host of its node; which call is armed there, and the bytes that it brings where they
-    /// are no message.
-    pub fn follow(
+    /// An event of a world is done to the host of its node.
+    fn step(
         self,
         alloc: Global,
         event: &WorldEvent,
         armed: Armed,
         raw: &[u8],
-    ) -> Result<Net, Fault>
-        ensures { (count : ℕ) (w : World) → count ≤ 8 → Mirrors count self.hosts self.clocks (map mail_of self.letters) w
-            → IfOk result (λ net. Mirrors count net.hosts net.clocks (map mail_of net.letters) (world_step w (event_of event.now))) }
+    ) -> Result<Net, Unlike>
+        requires { HasRoomAt (node_of (event_of event.now)) self.hosts }
+        ensures { IfOk result (NetStep (event_of event.now) self) }
     {
-        nets_mirror();
         match event {
             WorldEvent::Turn {
                 node,
@@ -476,6 +484,30 @@ impl Net {
             WorldEvent::Up { node, landed, stop } => {
                 self.start(alloc, *node, armed, *landed, *stop)
             }
+        }
+    }
+
+    /// An event of the world that it mirrors is done to the host of its node; which call is armed there, and the bytes that it brings where they
+    /// are no message.
+    pub fn follow(
+        self,
+        alloc: Global,
+        event: &WorldEvent,
+        armed: Armed,
+        raw: &[u8],
+    ) -> Result<Net, Fault>
+        ensures moves { (count : ℕ) (w : World) → count ≤ 8 → Mirrors count self.hosts self.clocks (map mail_of self.letters) w
+            → IfOk result (NetMove count w (event_of event.now) self) }
+        ensures full { IfErr result (λ fault. fault ≡ Full → IsFullAt (node_of (event_of event.now)) self.hosts) }
+    {
+        nets_mirror();
+        if !self.has_room(event.node()) {
+            return Err(Fault::Full);
+        }
+        match self.step(alloc, event, armed, raw) {
+            Ok(net) => Ok(net),
+            Err(Unlike::NoMemory) => Err(Fault::NoMemory),
+            Err(Unlike::Apart) => Err(Fault::Apart),
         }
     }
 }

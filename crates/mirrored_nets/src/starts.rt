@@ -16,7 +16,7 @@ ghost use Rattle.mirrored_nets.specs.Took.{FellBack};
 ghost use Rattle.mirrored_nets.specs.TookStart.{HasLast, TookStart};
 
 use crate::calls::since;
-use crate::fault::Fault;
+use crate::fault::Unlike;
 use crate::judged::{Armed, kept_at};
 use at_base::text::Text;
 use decision_log::fold::{FoldFault, fold};
@@ -31,40 +31,40 @@ use site_model::site::Site;
 use std::alloc::Global;
 
 /// Another machine, of which reads give the same.
-fn copied(alloc: Global, site: &MemSite) -> Result<MemSite, Fault>
+fn copied(alloc: Global, site: &MemSite) -> Result<MemSite, Unlike>
     ensures { IfOk result (λ copy. (told_of copy).files ≡ (told_of site.now).files) }
 {
     let mut copy = MemSite::new(alloc);
     let Ok(()) = copy.write_at(0, 0, site.file(0)) else {
-        return Err(Fault::NoMemory);
+        return Err(Unlike::NoMemory);
     };
     let Ok(()) = copy.write_at(1, 0, site.file(1)) else {
-        return Err(Fault::NoMemory);
+        return Err(Unlike::NoMemory);
     };
     Ok(copy)
 }
 
 /// The last incarnation of the records that were read.
-fn last_of(alloc: Global, found: &Records) -> Result<u32, Fault>
+fn last_of(alloc: Global, found: &Records) -> Result<u32, Unlike>
     ensures { IfOk result (λ last. (rs : List Record) × AreRecords found.now.version rs (records_in found.now) × (last ≡ last_incarnation rs)) }
 {
     match fold(alloc, found) {
         Ok(kept) => Ok(kept.start()),
-        Err(FoldFault::NoMemory) => Err(Fault::NoMemory),
-        Err(FoldFault::Bad { .. }) => Err(Fault::Apart),
+        Err(FoldFault::NoMemory) => Err(Unlike::NoMemory),
+        Err(FoldFault::Bad { .. }) => Err(Unlike::Apart),
     }
 }
 
 /// The last incarnation of the records that the files of a machine stand for, as they read. Nothing is done to the machine: a copy is read, of
 /// which no call fails but for want of memory.
-pub fn last_in(alloc: Global, site: &MemSite) -> Result<u32, Fault>
+pub(crate) fn last_in(alloc: Global, site: &MemSite) -> Result<u32, Unlike>
     ensures { IfOk result (λ last. HasLast last site.now) }
 {
     let mut copy = copied(alloc, site)?;
     match load(alloc, &mut copy, u32::MAX) {
         Ok((_journal, found)) => last_of(alloc, &found),
-        Err(LoadFault::NoMemory | LoadFault::Disk) => Err(Fault::NoMemory),
-        Err(LoadFault::Bad { .. }) => Err(Fault::Apart),
+        Err(LoadFault::NoMemory | LoadFault::Disk) => Err(Unlike::NoMemory),
+        Err(LoadFault::Bad { .. }) => Err(Unlike::Apart),
     }
 }
 
@@ -76,25 +76,25 @@ fn begin_alone(alloc: Global, site: &mut MemSite, base: &Text)
 }
 
 /// How many calls of a start are kept behind its fault, and what a crash behind them leaves.
-fn kept_behind(calls: &[Entry], armed: Armed) -> Result<(usize, Choice), Fault>
-    ensures none { armed ≡ Armed.No → result ≡ Err Fault.Apart }
+fn kept_behind(calls: &[Entry], armed: Armed) -> Result<(usize, Choice), Unlike>
+    ensures none { armed ≡ Armed.No → result ≡ Err Unlike.Apart }
     ensures fails { (k : ℕ) → armed ≡ Armed.Fail k → IfOk result (λ p. (p.0 ≡ length calls.now) × (p.1 ≡ Choice.Keep)) }
     ensures stops { (k : ℕ) (choice : Chosen) → armed ≡ Armed.Stop k choice → IfOk result (λ p. p.1 ≡ choice) }
 {
     match armed {
-        Armed::No => Err(Fault::Apart),
+        Armed::No => Err(Unlike::Apart),
         Armed::Fail(_) => Ok((calls.len(), Choice::Keep)),
         Armed::Stop(k, choice) => Ok((kept_at(calls, k as usize, choice), choice)),
     }
 }
 
 /// A machine that went back to behind so many calls more than `before`, and crashed there.
-fn fallen_back(site: MemSite, before: usize, kept: usize, choice: Choice) -> Result<MemSite, Fault>
+fn fallen_back(site: MemSite, before: usize, kept: usize, choice: Choice) -> Result<MemSite, Unlike>
     ensures { (old : Machine) → before ≡ length (calls_in old.device) → IfOk result (λ left. FellBack old site kept choice left) }
 {
     let mut machine = site;
     let Some(calls) = before.checked_add(kept) else {
-        return Err(Fault::Apart);
+        return Err(Unlike::Apart);
     };
     machine.go_back(calls)?;
     machine.crash(choice);
@@ -103,13 +103,13 @@ fn fallen_back(site: MemSite, before: usize, kept: usize, choice: Choice) -> Res
 
 /// The start of a node at one of whose calls a fault comes, on a machine that is set for it: what is left is the machine behind a crash. It is
 /// refused where the last incarnation in its files rose and no Start is to land there, or the other way round.
-pub fn start_struck(
+pub(crate) fn start_struck(
     alloc: Global,
     site: MemSite,
     base: &Text,
     armed: Armed,
     landed: bool,
-) -> Result<Host, Fault>
+) -> Result<Host, Unlike>
     ensures { IfOk result (λ host. TookStart base.now site host landed) }
 {
     let before = last_in(alloc, &site)?;
@@ -120,7 +120,7 @@ pub fn start_struck(
     let left = fallen_back(machine, count, kept, choice)?;
     let behind = last_in(alloc, &left)?;
     if landed != (before < behind) {
-        return Err(Fault::Apart);
+        return Err(Unlike::Apart);
     }
     Ok(Host::of(None, left))
 }

@@ -18,4 +18,4 @@ returns c =
     if_ok c.left.result c.left.ensures
     (λ host left.
     took_request c.args.number c.args.count _ _ _ _ _ c.args.local.now c.args.node _ c.args.site _ host _ _ c.args.fates.now c.args.until c.ask-locally.result c.in_ok-came.came c.since-calls.result.now c.kept_of.result.now
-    c.in_ok-has_room.ensures c.ask-locally.ensures since c.in_ok-answers.ensures c.in_ok-came.ensures left (c.kept_of.ensures, c.in_ok-gather.ensures))
+    c.requires.room c.ask-locally.ensures since c.in_ok-answers.ensures c.in_ok-came.ensures left (c.kept_of.ensures, c.in_ok-gather.ensures))

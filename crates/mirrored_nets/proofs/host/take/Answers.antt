@@ -18,4 +18,4 @@ returns c =
     if_ok c.left.result c.left.ensures
     (λ host left.
     took_turn c.args.number c.args.count c.args.lines _ _ _ _ _ c.args.bytes.now c.args.node _ c.args.site _ host _ _ c.args.fates.now c.args.until c.in_ok-turned.turned c.in_ok-came.came c.since-calls.result.now c.kept_of.result.now
-    c.in_ok-has_room.ensures c.in_ok-turned.ensures since c.in_ok-ends.ensures c.in_ok-came.ensures left (c.kept_of.ensures, c.in_ok-gather.ensures) c.in_ok-spoke.ensures.0)
+    c.requires.room c.in_ok-turned.ensures since c.in_ok-ends.ensures c.in_ok-came.ensures left (c.kept_of.ensures, c.in_ok-gather.ensures) c.in_ok-spoke.ensures.0)

@@ -11,12 +11,12 @@ use Rattle.site_memory.specs.Sites.{told_of}
 use Rattle.site_memory.specs.Tells.{reads}
 use Rattle.site_memory.specs.declared.machine.MemSite.{MemSite}
 use Rattle.site_model.specs.Told.{Told}
-use Rattle.mirrored_nets.specs.declared.fault.Fault.{Fault}
+use Rattle.mirrored_nets.specs.declared.fault.Unlike.{Unlike}
 use Rattle.mirrored_nets.specs.TookStart.{HasLast}
 use Rattle.mirrored_nets.proofs.starts.last_in.Goals as goal
 
 -- the machine's files read as those of the copy
-last_read : (r : Result ℕ Fault) (j : Journal) (found : Records) (copy s : MemSite) (new : Told) → Opens j found (told_of copy) new
+last_read : (r : Result ℕ Unlike) (j : Journal) (found : Records) (copy s : MemSite) (new : Told) → Opens j found (told_of copy) new
     → (told_of copy).files ≡ (told_of s).files
     → IfOk r (λ last. (rs : List Record) × AreRecords found.version rs (records_in found) × (last ≡ last_incarnation rs))
     → IfOk r (λ last. HasLast last s)

@@ -1,16 +1,16 @@
 use Rattle.std.proofs.Common.{ap, refl, ◌∙◌}
-use Rattle.at_model.specs.World.{Crash, put_nth}
-use Rattle.memory_net.specs.Mails.{mail_of}
+use Rattle.at_model.specs.World.{Crash}
 use Rattle.mirrored_nets.specs.Seen.{Seen}
-use Rattle.mirrored_nets.proofs.NetEvents.{IsUp, crashes, down_serves, inside, outside, rests_down, serve_on, up_at}
+use Rattle.mirrored_nets.proofs.NetEvents.{crashes, down_serves, rests_down, seen_by, serve_on, up_at}
 use Rattle.mirrored_nets.proofs.net.Net.crash.Goals as goal
 
 pub returns : goal.returns
-returns c = λ count w few mirrors.
-    crashes c.requires count w few c.self.inside.hosts.items c.self.inside.clocks.items _ (inside count w c.args.self c.self.inside.hosts.items c.self.inside.clocks.items c.self.inside.letters.items c.self.view_is mirrors) c.args.number
-    c.in_ok-taken.field-0 c.go_down.result c.in_ok-taken.ensures.here c.put_host.new.hosts.items (c.in_ok-put_host.ensures ∙ c.in_ok-taken.ensures.place c.go_down.result) c.in_ok-is_up.field-0 _
+returns c =
+    seen_by (Crash c.args.number) c.args.self (record { hosts = c.put_host.new.hosts.items; clocks = c.self.inside.clocks.items; letters = c.self.inside.letters.items }) _ c.self.view_is
+    (crashes c.args.number c.self.inside.hosts.items c.put_host.new.hosts.items c.self.inside.clocks.items c.self.inside.letters.items c.in_ok-taken.field-0 c.go_down.result c.in_ok-taken.ensures.here
+    (c.in_ok-put_host.ensures ∙ c.in_ok-taken.ensures.place c.go_down.result) c.in_ok-is_up.field-0 _
     (up_at c.self.inside.hosts.items c.as_slice.result.now c.args.number c.in_ok-is_up.field-0 c.as_slice.ensures.value c.in_ok-is_up.ensures) c.if-not-branch.false
-    c.into_parts-node.ensures.1 c.go_down.ensures
+    c.into_parts-node.ensures.1 c.go_down.ensures)
 
 pub invariant_of-result : goal.invariant_of-result
 invariant_of-result c =
@@ -18,6 +18,6 @@ invariant_of-result c =
     (c.in_ok-put_host.ensures ∙ c.in_ok-taken.ensures.place c.go_down.result)
 
 pub returns-then-not-branch : goal.returns-then-not-branch
-returns-then-not-branch c = λ count w few mirrors.
-    rests_down c.requires count w few c.args.self.hosts c.args.self.clocks _ mirrors c.args.number (Crash c.args.number) c.in_ok-is_up.field-0 refl
+returns-then-not-branch c =
+    rests_down c.args.self c.args.number (Crash c.args.number) c.in_ok-is_up.field-0 refl
     (up_at c.args.self.hosts c.as_slice.result.now c.args.number c.in_ok-is_up.field-0 (c.as_slice.ensures.value ∙ ap (λ (s : Seen). s.hosts) c.self.view_is) c.in_ok-is_up.ensures) c.if-not-branch.true tt

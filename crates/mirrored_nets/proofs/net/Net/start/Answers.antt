@@ -1,17 +1,20 @@
-use Rattle.std.proofs.Common.{ap, refl, ◌∙◌}
-use Rattle.at_model.specs.World.{Up, put_nth}
-use Rattle.memory_net.specs.Mails.{mail_of}
+use Rattle.std.proofs.Common.{ap, refl, subst, ◌∙◌, ◌≡◌, List, ℕ}
+use Rattle.std.specs.Prelude.{Some}
+use Rattle.at_model.specs.World.{Up, nth}
 use Rattle.mirrored_nets.specs.Seen.{Seen}
-use Rattle.mirrored_nets.proofs.NetEvents.{inside, rests_up, serve_on, started_serves, starts, up_at}
+use Rattle.mirrored_nets.proofs.NetEvents.{rests_up, seen_by, serve_on, started_serves, starts, up_at}
 use Rattle.mirrored_nets.proofs.net.Net.start.Goals as goal
 
 pub returns : goal.returns
-returns c = λ count w few mirrors.
-    starts c.requires count w few c.self.inside.hosts.items c.self.inside.clocks.items _ (inside count w c.args.self c.self.inside.hosts.items c.self.inside.clocks.items c.self.inside.letters.items c.self.view_is mirrors) c.args.number
-    c.in_ok-taken.field-0 c.in_ok-host.host c.in_ok-taken.ensures.here c.put_host.new.hosts.items (c.in_ok-put_host.ensures ∙ c.in_ok-taken.ensures.place c.in_ok-host.host) c.in_ok-is_up.field-0
+returns c =
+    let clock : nth c.args.number c.self.inside.clocks.items ≡ Some c.in_ok-clock.clock = subst (λ (l : List ℕ). nth c.args.number l ≡ Some c.in_ok-clock.clock) c.as_slice-2.ensures.value c.in_ok-clock.ensures in
+    seen_by (Up c.args.number c.args.landed c.args.stop) c.args.self
+    (record { hosts = c.put_host.new.hosts.items; clocks = c.self.inside.clocks.items; letters = c.self.inside.letters.items }) _ c.self.view_is
+    (starts c.args.number c.self.inside.hosts.items c.put_host.new.hosts.items c.self.inside.clocks.items c.self.inside.letters.items c.in_ok-taken.field-0 c.in_ok-host.host c.in_ok-taken.ensures.here
+    (c.in_ok-put_host.ensures ∙ c.in_ok-taken.ensures.place c.in_ok-host.host) c.in_ok-is_up.field-0
     c.args.landed c.args.stop c.in_ok-clock.clock c.into_parts-node.result.1 c.in_ok-base.base
-    (up_at c.self.inside.hosts.items c.as_slice.result.now c.args.number c.in_ok-is_up.field-0 c.as_slice.ensures.value c.in_ok-is_up.ensures) c.if-branch.false
-    c.in_ok-base.ensures c.into_parts-node.ensures.1 c.in_ok-host.ensures
+    (up_at c.self.inside.hosts.items c.as_slice.result.now c.args.number c.in_ok-is_up.field-0 c.as_slice.ensures.value c.in_ok-is_up.ensures) c.if-branch.false clock
+    c.in_ok-base.ensures c.into_parts-node.ensures.1 c.in_ok-host.ensures)
 
 pub invariant_of-result : goal.invariant_of-result
 invariant_of-result c =
@@ -19,6 +22,6 @@ invariant_of-result c =
     (c.in_ok-put_host.ensures ∙ c.in_ok-taken.ensures.place c.in_ok-host.host)
 
 pub returns-then-branch : goal.returns-then-branch
-returns-then-branch c = λ count w few mirrors.
-    rests_up c.requires count w few c.args.self.hosts c.args.self.clocks _ mirrors c.args.number c.args.landed c.args.stop c.in_ok-is_up.field-0
+returns-then-branch c =
+    rests_up c.args.self c.args.number c.args.landed c.args.stop c.in_ok-is_up.field-0
     (up_at c.args.self.hosts c.as_slice.result.now c.args.number c.in_ok-is_up.field-0 (c.as_slice.ensures.value ∙ ap (λ (s : Seen). s.hosts) c.self.view_is) c.in_ok-is_up.ensures) c.if-branch.true
