@@ -6,7 +6,7 @@
 Each of COUNT rounds (200) makes a schedule of LINES lines (60) for up to five nodes, of requests, deliveries (also of what
 was delivered before), ticks, bytes that are refused, crashes, starts, and device calls that fail or at which a node stops, has `replay` report it,
 and has `schedule_loop` run it over nodes on machines in memory, which post to one another the bytes that they post to
-anybody. Results, effects and posts (sender, receiver, name, path and envelope, in order) must be the same, but for the effects of
+anybody. Results, effects and posts (sender, receiver, name, path and bytes, in order) must be the same, but for the effects of
 turns in which a node went down: those, and what is lost then, are known to the world alone. It says how many were compared,
 and ends with status 1 at the first schedule that comes out otherwise, which it prints.
 
@@ -80,7 +80,7 @@ def schedule(dice, count):
 
 
 def named(data):
-    """The name, the path and the envelope of a post."""
+    """The name, the path and the bytes of a post."""
     head, _, body = data.partition(b"\r\n\r\n")
     path = head.split(b" ")[1].decode()
     action = re.search(rb"(?i)\r\nSOAPAction: \"?([^\"\r]*)", head).group(1).decode()
@@ -88,7 +88,7 @@ def named(data):
     if name == "fault":
         code = re.search(rb"<faultcode>(?:\w+:)?(\w+)</faultcode>", body).group(1).decode()
         name = code
-    return name, path, body
+    return name, path, data
 
 
 def reported(text):

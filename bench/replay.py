@@ -45,6 +45,15 @@ def schedule(count, nodes, most):
     return "\n".join(lines[:most]) + "\n"
 
 
+def at_once(each):
+    """So many transactions of each of four initiators, all of them at one coordinator: all begin, then all work, then all commit."""
+    begins = [f"begin {initiator} 5 4000000000" for initiator in range(1, 5) for _ in range(each)]
+    works = [f"work {initiator} 1-{number} {6 + number % 3} d prepared" for initiator in range(1, 5) for number in range(1, each + 1)]
+    commits = [f"commit {initiator} 1-{number}" for initiator in range(1, 5) for number in range(1, each + 1)]
+    flushes = ["flush 10000"] * 2
+    return "\n".join(["nodes 8", *begins, *flushes, *works, *flushes, *commits, *flushes]) + "\n"
+
+
 def run(text):
     start = time.perf_counter()
     done = subprocess.run([PROGRAM, "replay"], input=text.encode(), capture_output=True, check=True)
@@ -59,6 +68,8 @@ def main():
         ("100 transactions, 3 nodes", schedule(100, 3, 10_000)),
         ("1,000 transactions, 3 nodes", schedule(1_000, 3, 10_000)),
         ("10,000 lines, 8 nodes", schedule(1_667, 8, 10_000)),
+        ("250 at once, 8 nodes", at_once(62)),
+        ("1,000 at once, 8 nodes", at_once(250)),
     ]:
         times = [run(text) for _ in range(rounds)]
         spent = max(min(it[0] for it in times) - started, 1e-6)

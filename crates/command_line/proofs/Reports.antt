@@ -6,16 +6,15 @@ use Rattle.std.specs.Io.KnownBytes.{Appends}
 use Rattle.site_model.specs.Counts.{RisesBy}
 use Rattle.site_model.specs.Source.{IsWhole}
 use Rattle.envelope_cmd.specs.Output.{Output, accepted, refused}
-use Rattle.memory_net.specs.Mails.{Mail}
-use Rattle.memory_net.specs.declared.host.Host.{Host}
-use Rattle.net_replay.specs.NetReports.{IsNetReport}
+use Rattle.mirrored_nets.specs.Seen.{Seen}
+use Rattle.net_replay.specs.NetReports.{HasNoRoom, IsNetReport}
 use Rattle.command_line.specs.Jobs.{Filter}
 use Rattle.replay_cmd.specs.declared.options.Options.{Options}
 use Rattle.replay_cmd.specs.Laws.{ReadIsReplayable, ReportsAreSafe, ReportsComeToRest}
 use Rattle.schedules.specs.Schedules.{schedule_of}
 use Rattle.schedules.specs.declared.line.BadLine.{BadLine}
 use Rattle.schedules.specs.declared.line.Line.{Line}
-use Rattle.command_line.specs.Reports.{IsCut, IsDone, IsReplayOf, IsReplayed, Replays, Reports, bad_line, status_of}
+use Rattle.command_line.specs.Reports.{FindsNoRoom, HasNoRoomFor, IsCut, IsDone, IsReplayOf, IsReplayed, Replays, Reports, bad_line, status_of}
 
 pub on_some : {P Q : List ℕ → Type 0} (left : Option (List ℕ)) → ((input : List ℕ) → P input → Q input) → IfSome left P → IfSome left Q
 on_some None f h = tt
@@ -65,9 +64,8 @@ replay_of options input output reads safe rests e =
     }
 
 pub replayed_so :
-    (options : Options) (lines : List Line) (text : List ℕ) (hosts : List Host) (clocks : List ℕ) (mails : List Mail) (output : Output) → IsNetReport options lines text hosts clocks mails
-    → output ≡ accepted text → IsReplayed options lines output
-replayed_so options lines text hosts clocks mails output h e = record { text = text; hosts = hosts; clocks = clocks; mails = mails; report = h; is = e }
+    (options : Options) (lines : List Line) (text : List ℕ) (net : Seen) (output : Output) → IsNetReport options lines text net → output ≡ accepted text → IsReplayed options lines output
+replayed_so options lines text net output h e = record { text = text; net = net; report = h; is = e }
 
 pub replays_so :
     (options : Options) (r : Result (List Line) BadLine) (lines : List Line) (output : Output) → r ≡ Ok lines → IsReplayed options lines output
@@ -78,3 +76,10 @@ pub refuses_so :
     (options : Options) (r : Result (List Line) BadLine) (bad : BadLine) (output : Output) → r ≡ Err bad → output ≡ refused (bad_line bad)
     → Replays options r output
 refuses_so options r bad output e h = subst (λ x. Replays options x output) (sym e) h
+
+pub finds_so : (options : Options) (r : Result (List Line) BadLine) (lines : List Line) → r ≡ Ok lines → HasNoRoom options lines → FindsNoRoom options r
+finds_so options r lines e h = subst (λ x. FindsNoRoom options x) (sym e) h
+
+pub none_given : (left : Option (List ℕ)) (before now : ℕ) (bytes told : List ℕ) (job : Filter) → IsWhole left before now bytes → told ≡ bytes → HasNoRoomFor job told → IfSome left (HasNoRoomFor job)
+none_given left before now bytes told job whole t none =
+    on_some {P = λ input. bytes ≡ input} {Q = λ input. HasNoRoomFor job input} left (λ input f. subst (HasNoRoomFor job) (t ∙ f) none) whole.all

@@ -26,6 +26,11 @@ pub data Filter : Type 0 where
   -- the report of a schedule, with what is asked beside it
   Replay : Options → Filter
 
+abbrev pub is_replay : Filter → Bool
+is_replay (Cell state) = false
+is_replay (Check path) = false
+is_replay (Replay options) = true
+
 -- what a node that serves is
 pub data Role : Type 0 where
   Coordinator : Role

@@ -1,12 +1,11 @@
 -- What a job prints of its input, and the status that it ends with.
-use Rattle.std.specs.Prelude.{ℕ, List, [], ◌++◌, codes, decimal, Result, Ok, Err, Option, length, take, if◌then◌else◌, ◌≡◌, ◌≤◌, ◌⊎◌}
+use Rattle.std.specs.Prelude.{ℕ, List, [], ◌++◌, true, codes, decimal, Result, Ok, Err, Option, length, take, if◌then◌else◌, ◌≡◌, ◌≤◌, ◌⊎◌}
 use Rattle.std.specs.Io.KnownBytes.{Appends}
 use Rattle.envelope_cmd.specs.Output.{Output, accepted, refused}
 use Rattle.envelope_cmd.specs.Cells.{IsCellOf}
 use Rattle.envelope_cmd.specs.Checks.{IsCheckOf}
-use Rattle.memory_net.specs.Mails.{Mail}
-use Rattle.memory_net.specs.declared.host.Host.{Host}
-use Rattle.net_replay.specs.NetReports.{IsNetReport}
+use Rattle.mirrored_nets.specs.Seen.{Seen}
+use Rattle.net_replay.specs.NetReports.{HasNoRoom, IsNetReport}
 use Rattle.raw_requests.specs.declared.Drawn.{Drawn}
 use Rattle.replay_cmd.specs.Laws.{ComesToRest, IsSafe}
 use Rattle.replay_cmd.specs.declared.options.Options.{Options}
@@ -15,20 +14,18 @@ use Rattle.schedules.specs.Causes.{number_of_cause}
 use Rattle.schedules.specs.Schedules.{schedule_of}
 use Rattle.schedules.specs.declared.line.BadLine.{BadLine}
 use Rattle.schedules.specs.declared.line.Line.{Line}
-use Rattle.command_line.specs.Jobs.{Filter}
+use Rattle.command_line.specs.Jobs.{Filter, is_replay}
 use Rattle.command_line.specs.Jobs.Filter.{Cell, Check, Replay}
 
 -- the line of the first bad line of a schedule
 unfoldable pub bad_line : BadLine → List ℕ
 bad_line bad = codes "line " ++ (decimal bad.line ++ (codes " cause " ++ (decimal (number_of_cause bad.cause) ++ codes "\n")))
 
--- The report of a schedule, with what is asked beside it; and its nodes ran on machines in memory, with these clocks, and posted these letters.
+-- The report of a schedule, with what is asked beside it; and so its nodes ran on machines in memory.
 pub record IsReplayed (options : Options) (lines : List Line) (output : Output) : Type 0 where
   pub text : List ℕ
-  pub hosts : List Host
-  pub clocks : List ℕ
-  pub mails : List Mail
-  pub report : IsNetReport options lines text hosts clocks mails
+  pub net : Seen
+  pub report : IsNetReport options lines text net
   pub is : output ≡ accepted text
 
 -- that report, or the line of the first bad line
@@ -42,6 +39,17 @@ pub record IsReplayOf (options : Options) (input : List ℕ) (output : Output) :
   pub is : Replays options (schedule_of input) output
   pub safe : (draws : List (Option Drawn)) (lines : List Line) → schedule_of input ≡ Ok lines → IsSafe (nodes_of lines) (world_with options.settle draws lines)
   pub rests : (draws : List (Option Drawn)) (lines : List Line) → schedule_of input ≡ Ok lines → ComesToRest draws lines
+
+-- There is no report: on the way the journal of a node has no room for another record.
+abbrev pub FindsNoRoom : Options → Result (List Line) BadLine → Type 0
+FindsNoRoom options (Ok lines) = HasNoRoom options lines
+FindsNoRoom options (Err bad) = ⊥
+
+-- of a replay alone
+abbrev pub HasNoRoomFor : Filter → List ℕ → Type 0
+HasNoRoomFor (Cell state) input = ⊥
+HasNoRoomFor (Check path) input = ⊥
+HasNoRoomFor (Replay options) input = FindsNoRoom options (schedule_of input)
 
 -- a filter prints this of its input
 abbrev pub Reports : Filter → List ℕ → Output → Type 0
@@ -68,11 +76,16 @@ pub record IsCut (filter : Filter) (input : List ℕ) (old new : Option (List �
   pub within : count ≤ length output.text
   pub printed : Appends old new (take count output.text)
 
--- memory ran out before anything was printed
-pub record IsUndone (old new : Option (List ℕ)) (status : ℕ) : Type 0 where
+-- memory ran out; or of the nodes that a replay runs one had no room for another record in its journal (12), or they didn't do what the events of
+-- the world ask (13)
+abbrev pub IsFailure : Filter → ℕ → Type 0
+IsFailure filter status = (status ≡ 9) ⊎ ((is_replay filter ≡ true) × ((status ≡ 12) ⊎ (status ≡ 13)))
+
+-- so it ended before anything was printed
+pub record IsUndone (filter : Filter) (old new : Option (List ℕ)) (status : ℕ) : Type 0 where
   pub silent : Appends old new []
-  pub memory : status ≡ 9
+  pub cause : IsFailure filter status
 
 -- a filter without faults
 abbrev pub IsReport : Filter → List ℕ → Option (List ℕ) → Option (List ℕ) → ℕ → Type 0
-IsReport filter input old new status = IsDone filter input old new status ⊎ IsUndone old new status
+IsReport filter input old new status = IsDone filter input old new status ⊎ IsUndone filter old new status

@@ -4,7 +4,15 @@
 #[cfg(test)]
 mod commands;
 #[cfg(test)]
+mod commit_faults;
+#[cfg(test)]
+mod disturbed_schedules;
+#[cfg(test)]
 mod faults;
+#[cfg(test)]
+mod long_schedules;
+#[cfg(test)]
+mod message_bytes;
 #[cfg(test)]
 mod reports;
 #[cfg(test)]
@@ -13,3 +21,5 @@ mod servings;
 mod ticks;
 #[cfg(test)]
 mod top_call;
+#[cfg(test)]
+mod worked_schedules;

@@ -13,47 +13,8 @@ commit 1 1-1\n\
 flush 99\n\
 ";
 
-const PLAIN_REPORT: &str = "\
-up 1 1\n\
-up 2 1\n\
-up 3 1\n\
-msg 1 1>2 CreateCoordinationContext /activation\n\
-deliver 1 2 202\n\
-msg 2 2>1 CreateCoordinationContextResponse /i/1-1\n\
-deliver 2 1 202\n\
-msg 3 1>2 Register /registration/1-1\n\
-deliver 3 2 202\n\
-msg 4 2>1 RegisterResponse /i/1-1\n\
-deliver 4 1 202\n\
-msg 5 1>3 Work /work\n\
-deliver 5 3 202\n\
-msg 6 3>2 Register /registration/1-1\n\
-deliver 6 2 202\n\
-msg 7 2>3 RegisterResponse /p/d/1-1\n\
-deliver 7 3 202\n\
-msg 8 3>1 WorkDone /i/1-1\n\
-deliver 8 1 202\n\
-msg 9 1>2 Commit /completion/1-1\n\
-deliver 9 2 202\n\
-msg 10 2>3 Prepare /p/d/1-1\n\
-deliver 10 3 202\n\
-msg 11 3>2 Prepared /c/d/1-1/1\n\
-deliver 11 2 202\n\
-root 2 1-1 committed\n\
-msg 12 2>3 Commit /p/d/1-1\n\
-msg 13 2>1 Committed /i/1-1\n\
-deliver 12 3 202\n\
-leaf 3 1-1 d committed\n\
-msg 14 3>2 Committed /c/d/1-1/1\n\
-deliver 13 1 202\n\
-told 1 1-1 committed\n\
-deliver 14 2 202\n\
-end messages 14 committed 1 aborted 0 lost 0\n\
-";
-
 /// Commands, schedules, the status of their replay, and what it prints.
 const SCHEDULES: &[(&str, &str, u8, &str)] = &[
-    ("replay", PLAIN, 0, PLAIN_REPORT),
     (
         "replay",
         "nodes 1",
@@ -74,7 +35,20 @@ end messages 0 committed 0 aborted 0 lost 0\n",
         0,
         "up 1 1\nrefused state\nend messages 0 committed 0 aborted 0 lost 0\n",
     ),
+    (
+        "replay",
+        "nodes 1\ninject 1 00\n",
+        0,
+        "up 1 1\ninject 1 400\nend messages 0 committed 0 aborted 0 lost 0\n",
+    ),
+    (
+        "replay",
+        "nodes 1\ninject 1 504f5354202f776f726b20485454502f312e310d0a486f73743a206e312e6578616d706c650d0a436f6e74656e742d4c656e6774683a20330d0a0d0a3c613e",
+        0,
+        "up 1 1\ninject 1 500\nend messages 0 committed 0 aborted 0 lost 0\n",
+    ),
     ("replay", "", 3, "line 1 cause 7\n"),
+    ("replay", "nodes 1\nup 1\nfoo\n", 3, "line 3 cause 1\n"),
     (
         "replay --settle",
         "nodes 1\nflush 1\nfoo\n",
@@ -104,9 +78,19 @@ const MADE: &[(&str, u8, &str)] = &[
         "steps 0 messages 0 committed 0 aborted 0 lost 0\n",
     ),
     (
+        "make --seed 1 --steps 1",
+        0,
+        "steps 1 messages 0 committed 0 aborted 0 lost 0\n",
+    ),
+    (
         "make --steps=1 --seed=18446744073709551615",
         0,
         "steps 1 messages 0 committed 0 aborted 0 lost 0\n",
+    ),
+    (
+        "make --seed 7 --steps 9999",
+        0,
+        "steps 9999 messages 1026 committed 0 aborted 7 lost 7\n",
     ),
     ("make --seed 18446744073709551616 --steps 0", 2, NO_NUMBERS),
     ("make --seed 01 --steps 0", 2, NO_NUMBERS),

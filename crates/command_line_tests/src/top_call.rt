@@ -34,3 +34,29 @@ pub fn prints(
     );
     Ok((status, sink.as_slice() == printed.as_bytes()))
 }
+
+/// What a command prints of this input, where its status is 0; else nothing.
+pub fn printed(alloc: Global, line: &str, input: &[u8]) -> Result<Vec<u8>, AllocError> {
+    let words = words_of(alloc, line)?;
+    let mut source = MemSource::new(alloc, input)?;
+    let mut sink = MemSink::new(alloc);
+    let status = run(
+        alloc,
+        words.as_slice(),
+        &mut source,
+        &mut sink,
+        &mut SureSite::new(),
+    );
+    if status != 0 {
+        return Ok(Vec::new(alloc));
+    }
+    Vec::from_slice(alloc, sink.as_slice())
+}
+
+/// The text of what was printed.
+pub fn text_of(printed: &[u8]) -> &str {
+    match str::from_utf8(printed) {
+        Ok(text) => text,
+        Err(_) => "",
+    }
+}

@@ -1,18 +1,32 @@
 -- The report of a schedule, whose nodes ran on machines in memory.
-use Rattle.std.specs.Prelude.{ℕ, List, Option, length}
-use Rattle.memory_net.specs.Mails.{Mail}
-use Rattle.memory_net.specs.declared.host.Host.{Host}
-use Rattle.mirrored_nets.specs.Mirrors.{Mirrors}
+use Rattle.std.specs.Prelude.{ℕ, List, Option, length, map, ◌≡◌}
+use Rattle.memory_net.specs.Mails.{mail_of}
+use Rattle.mirrored_nets.specs.Seen.{Seen}
 use Rattle.raw_requests.specs.declared.Drawn.{Drawn}
 use Rattle.replay_cmd.specs.Laws.{AreDrawn}
-use Rattle.replay_cmd.specs.MessageBytes.{IsShown}
-use Rattle.replay_cmd.specs.ReportOf.{course_with, world_with}
+use Rattle.replay_cmd.specs.ReportOf.{Course, course_with, whole}
 use Rattle.replay_cmd.specs.declared.options.Options.{Options}
 use Rattle.schedules.specs.declared.line.Line.{Line}
+use Rattle.net_replay.specs.MessageBytes.{shown}
+use Rattle.net_replay.specs.NetRuns.{IsNetFull, IsNetRun}
 
--- The text is the report of the schedule; and the nodes of these hosts, with the letters that they posted, are those of its world.
-pub record IsNetReport (options : Options) (all : List Line) (text : List ℕ) (hosts : List Host) (clocks : List ℕ) (mails : List Mail) : Type 0 where
+-- So the schedule comes out, given what the bytes of its lines draw.
+pub record IsCourseOf (options : Options) (all : List Line) (c : Course) : Type 0 where
   pub draws : List (Option Drawn)
   pub are : AreDrawn all draws
-  pub shown : IsShown options.bytes (course_with options.settle draws all) text
-  pub mirrors : Mirrors (length (world_with options.settle draws all).nodes) hosts clocks mails (world_with options.settle draws all)
+  pub is : c ≡ course_with options.settle draws all
+
+-- The text is the report of the schedule, with the bytes of the letters where they are asked for. What happened was done to nodes on machines in
+-- memory, which at each event mirrored its world, and posted these letters.
+pub record IsNetReport (options : Options) (all : List Line) (text : List ℕ) (net : Seen) : Type 0 where
+  pub course : Course
+  pub of : IsCourseOf options all course
+  pub is : text ≡ shown options.bytes (map mail_of net.letters) (whole course)
+  pub run : IsNetRun (length course.world.nodes) course.world course.events net
+
+-- There is no report: on the way the journal of a node has no room for another record.
+pub record HasNoRoom (options : Options) (all : List Line) : Type 0 where
+  pub course : Course
+  pub of : IsCourseOf options all course
+  pub count : ℕ
+  pub full : IsNetFull count course.events

@@ -1,10 +1,9 @@
 //! The events of a course, done to nodes on machines in memory.
 
-ghost use Rattle.std.specs.Prelude.{ℕ, ◌≡◌, ◌≤◌, IfOk, length, map};
-ghost use Rattle.at_model.specs.World.{World, run_on};
-ghost use Rattle.memory_net.specs.Mails.{mail_of};
-ghost use Rattle.mirrored_nets.specs.Mirrors.{Mirrors};
-ghost use Rattle.replay_cmd.specs.ReportOf.{Course as Known};
+ghost use Rattle.std.specs.Prelude.{ℕ, ◌≡◌, ◌≤◌, IfErr, IfOk, length, map};
+ghost use Rattle.at_model.specs.World.{World};
+ghost use Rattle.mirrored_nets.specs.declared.fault.Fault.TheVariants.{Full};
+ghost use Rattle.net_replay.specs.NetRuns.{FillsUp, IsNetFull, IsNetRun, MirrorsAt, NetRun};
 ghost use Rattle.world_laws.specs.Events.{event_of};
 
 use mirrored_nets::fault::Fault;
@@ -92,8 +91,8 @@ fn follow_all(
     met: &[Option<Armed>],
     raws: &[Vec<u8>],
 ) -> Result<Net, Fault>
-    ensures { (count : ℕ) (w : World) → count ≤ 8 → Mirrors count net.hosts net.clocks (map mail_of net.letters) w
-        → IfOk result (λ n. Mirrors count n.hosts n.clocks (map mail_of n.letters) (run_on w (map event_of events.now))) }
+    ensures run { (count : ℕ) (w : World) → count ≤ 8 → MirrorsAt count net w → IfOk result (NetRun count net w (map event_of events.now)) }
+    ensures full { (count : ℕ) (w : World) → count ≤ 8 → MirrorsAt count net w → IfErr result (λ fault. fault ≡ Full → FillsUp count net w (map event_of events.now)) }
 {
     let mut net = net;
     let mut raw: usize = 0;
@@ -102,7 +101,10 @@ fn follow_all(
             Some(armed) => *armed,
             None => None,
         };
-        net = net.follow(alloc, &events[place], call_of(armed), bytes_at(raws, raw))?;
+        net = match net.follow(alloc, &events[place], call_of(armed), bytes_at(raws, raw)) {
+            Ok(next) => next,
+            Err(fault) => return Err(fault),
+        };
         if is_raw(&events[place]) {
             raw = raw.saturating_add(1);
         }
@@ -111,11 +113,17 @@ fn follow_all(
 }
 
 /// The nodes of a course, run on machines in memory.
+#[tactic(auto, using(crate::proofs::FollowedNets::counted))]
 pub fn followed(alloc: Global, course: &Course, raws: &[Vec<u8>]) -> Result<Net, Fault>
-    ensures { IfOk result (λ n. Mirrors (length course.now.world.nodes) n.hosts n.clocks (map mail_of n.letters) course.now.world) }
+    ensures run { IfOk result (IsNetRun (length course.now.world.nodes) course.now.world course.now.events) }
+    ensures full { IfErr result (λ fault. fault ≡ Full → (count : ℕ) × IsNetFull count course.now.events) }
 {
     let (count, events) = course.run();
-    let net = Net::opening(alloc, count)?;
-    let net = follow_all(alloc, net, events, course.met(), raws)?;
-    Ok(net)
+    let Ok(opening) = Net::opening(alloc, count) else {
+        return Err(Fault::NoMemory);
+    };
+    match follow_all(alloc, opening, events, course.met(), raws) {
+        Ok(net) => Ok(net),
+        Err(fault) => Err(fault),
+    }
 }

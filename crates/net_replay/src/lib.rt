@@ -2,4 +2,5 @@
 #![tactic(auto)]
 
 mod followed;
+mod message_bytes;
 pub mod replay;

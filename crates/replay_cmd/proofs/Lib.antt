@@ -6,5 +6,4 @@ pub mod RestEvents
 pub mod ReplayRuns
 mod EventLines
 mod LineDraws
-mod MessageTexts
 mod TakenLines

@@ -4,10 +4,8 @@ use Rattle.std.specs.Prelude.{Option, None}
 use Rattle.std.proofs.lemmas.List.{append-nil, append_assoc, drop_all}
 use Rattle.raw_requests.specs.declared.Drawn.{Drawn}
 use Rattle.schedules.specs.declared.line.Line.{Line}
-use Rattle.replay_cmd.specs.Laws.{AreDrawn, IsDrawn, IsReport}
-use Rattle.replay_cmd.specs.MessageBytes.{IsShown}
-use Rattle.replay_cmd.specs.declared.options.Options.{Options}
-use Rattle.replay_cmd.specs.ReportOf.{Course, course_with, quiet}
+use Rattle.replay_cmd.specs.Laws.{AreDrawn, IsDrawn}
+use Rattle.replay_cmd.specs.ReportOf.{quiet}
 
 pub drawn_more :
     (lines behind : List Line) (line : Line) (d : Option Drawn) (front : List (Option Drawn)) (next : List Line) (after : List (Option Drawn))
@@ -34,8 +32,3 @@ pub all_quiet :
     (lines : List Line) (i : ℕ) (front : List (Option Drawn)) → length lines ≤ i → front ++ quiet (drop i lines) ≡ quiet lines
     → front ≡ quiet lines
 all_quiet lines i front past so = sym (append-nil front) ∙ ap (λ ls. front ++ quiet ls) (sym (drop_all i lines past)) ∙ so
-
-pub is_report :
-    (options : Options) (all : List Line) (draws : List (Option Drawn)) (c : Course) (text : List ℕ)
-    → AreDrawn all draws → c ≡ course_with options.settle draws all → IsShown options.bytes c text → IsReport options all text
-is_report options all draws c text h e f = record { draws = draws; are = h; shown = subst (λ x. IsShown options.bytes x text) e f }

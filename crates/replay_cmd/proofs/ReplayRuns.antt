@@ -107,7 +107,7 @@ up_on count (suc left) n c r = up_on count left (n + 1) (happens None (up n) c) 
 pub report_run : (draws : List (Option Drawn)) (all : List Line) → IsOfRun (nodes_of all) (world_of draws all)
 report_run draws all =
     all_on (nodes_of all) draws all (begun (nodes_of all))
-    (up_on (nodes_of all) (nodes_of all) 1 (record { world = opening (example_hosts (nodes_of all)); delivered = []; armed = nobody_armed; text = [] })
+    (up_on (nodes_of all) (nodes_of all) 1 (record { world = opening (example_hosts (nodes_of all)); events = []; delivered = []; armed = nobody_armed; text = [] })
     (record { events = []; run = refl }))
 
 -- what is made of a seed may be replayed

@@ -12,9 +12,7 @@ use Rattle.schedules.specs.declared.line.Line.{Line}
 use Rattle.schedules.specs.declared.line.Line.TheVariants as lines
 use Rattle.schedules.specs.Values.{bytes_in}
 use Rattle.schedules.specs.Schedules.{schedule_of}
-use Rattle.replay_cmd.specs.MessageBytes.{IsShown}
-use Rattle.replay_cmd.specs.declared.options.Options.{Options}
-use Rattle.replay_cmd.specs.ReportOf.{course_with, nodes_of, settled_world_of, world_of, world_with}
+use Rattle.replay_cmd.specs.ReportOf.{nodes_of, settled_world_of, world_of, world_with}
 
 -- There are 1 to 8 nodes.
 pub record IsReplayable (lines : List Line) : Type 0 where
@@ -37,12 +35,6 @@ AreDrawn [] [] = Unit {0}
 AreDrawn [] (d ∷ ds) = ⊥
 AreDrawn (line ∷ rest) [] = ⊥
 AreDrawn (line ∷ rest) (d ∷ ds) = IsDrawn line d × AreDrawn rest ds
-
--- The text is the report of the schedule, given what the bytes of its lines draw.
-pub record IsReport (options : Options) (all : List Line) (text : List ℕ) : Type 0 where
-  pub draws : List (Option Drawn)
-  pub are : AreDrawn all draws
-  pub shown : IsShown options.bytes (course_with options.settle draws all) text
 
 -- The world of a run of so many nodes.
 pub record IsOfRun (count : ℕ) (w : World) : Type 0 where

@@ -3,5 +3,4 @@ pub mod Examples
 pub mod Faults
 pub mod Laws
 pub mod Lines
-pub mod MessageBytes
 pub mod ReportOf

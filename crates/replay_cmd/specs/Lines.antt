@@ -9,6 +9,7 @@ use Rattle.at_base.specs.declared.outs.Ending.{Ending}
 use Rattle.at_base.specs.Names.{kind_letter}
 use Rattle.at_model.specs.Views.{Line}
 use Rattle.effect_words.specs.Words.{ending_word, told_word}
+use Rattle.hex.specs.Hex.{encode_lower}
 use Rattle.replay_cmd.specs.declared.lines.Outcome.{Outcome}
 use Rattle.replay_cmd.specs.declared.lines.Outcome.TheVariants as outcomes
 use Rattle.replay_cmd.specs.declared.lines.Started.{Started}
@@ -93,6 +94,10 @@ message_start number sender receiver name =
 
 abbrev pub message_line : ℕ → Line → List ℕ
 message_line number m = message_start number m.sender m.receiver m.name ++ (m.path ++ codes "\n")
+
+-- the line of a message's bytes, in hexadecimal
+unfoldable pub bytes_line : List ℕ → List ℕ
+bytes_line bytes = codes "bytes " ++ (encode_lower bytes ++ codes "\n")
 
 -- how many messages there are, and how many subordinates and durable leaves ended in each way
 unfoldable pub end_line : ℕ → ℕ → ℕ → ℕ → List ℕ

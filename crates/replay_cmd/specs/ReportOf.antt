@@ -22,8 +22,8 @@ use Rattle.schedules.specs.declared.line.Line.TheVariants as lines
 use Rattle.world_laws.specs.Firsts.{first_records}
 use Rattle.world_laws.specs.Runs.{clock_at, book_at, incarnation_at}
 use Rattle.world_laws.specs.Moves.{left_of, losses_of, steps_of}
+use Rattle.fated_walks.specs.Statuses.{status_in}
 use Rattle.world_laws.specs.declared.posts.Counted.{Counted}
-use Rattle.world_laws.specs.declared.step_outs.Answer.{Answer}
 use Rattle.replay_cmd.specs.declared.course.Behind.{Behind}
 use Rattle.replay_cmd.specs.declared.course.Behind.TheVariants as behinds
 use Rattle.replay_cmd.specs.declared.fault.Armed.{Armed}
@@ -37,16 +37,6 @@ use Rattle.replay_cmd.specs.Deliveries.{yes_at, lowest}
 use Rattle.replay_cmd.specs.Faults.{armed_behind, raw_at, still_armed, struck, struck_line}
 use Rattle.effect_words.specs.Words.{refusal_word}
 use Rattle.replay_cmd.specs.Lines.{up_line, up_already_line, down_line, deliver_line, no_message_line, tick_line, inject_line, forged_line, refused_line, effect_line, message_line, end_line, summary_line}
-
--- The HTTP status of an answer, 0 where there is none.
-abbrev pub status_of : Option Answer → ℕ
-status_of None = 0
-status_of (Some a) = a.status
-
--- What a turn of these steps answers, also where the call for it failed.
-abbrev pub status_in : List Counted → ℕ
-status_in [] = 0
-status_in (first ∷ rest) = status_of first.answer
 
 -- How a turn ended that a fault took down.
 abbrev pub cut_by : Option Fault → Outcome
@@ -158,17 +148,18 @@ event_lines f s w e =
     ++ (step_lines (node_of e) (length w.posted + 1) (drop (length w.posted) (world_step w e).posted) (steps_of w e)
     ++ effect_lines (node_of e) (losses_of w e))
 
--- How far a replay has come: the world, for each message from the first on whether it was delivered (those behind the
--- list weren't), which call is armed at each node, and what was printed.
+-- How far a replay has come: the world, what happened to it, in order, for each message from the first on whether it was
+-- delivered (those behind the list weren't), which call is armed at each node, and what was printed.
 pub record Course : Type 0 where
   pub world : World
+  pub events : List WorldEvent
   pub delivered : List Bool
   pub armed : List (Option Armed)
   pub text : List ℕ
 
 -- An event happens, which met this fault or none; raw bytes draw this status.
 abbrev pub happens_so : Option Fault → ℕ → WorldEvent → Course → Course
-happens_so f s e c = record c { world = world_step c.world e; text = c.text ++ event_lines f s c.world e }
+happens_so f s e c = record c { world = world_step c.world e; events = c.events ++ e ∷ []; text = c.text ++ event_lines f s c.world e }
 
 -- Another event than raw bytes happens.
 abbrev pub happens : Option Fault → WorldEvent → Course → Course
@@ -287,7 +278,7 @@ all_up (suc count) n c = all_up count (n + 1) (happens None (up n) c)
 -- Every node comes up, in a world where nothing happened before.
 abbrev pub begun : ℕ → Course
 begun count =
-    all_up count 1 (record { world = opening (example_hosts count); delivered = []; armed = nobody_armed; text = [] })
+    all_up count 1 (record { world = opening (example_hosts count); events = []; delivered = []; armed = nobody_armed; text = [] })
 
 abbrev pub is_ending : Ending → Ending → Bool
 is_ending endings.Committed endings.Committed = true

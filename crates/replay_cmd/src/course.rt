@@ -1,6 +1,6 @@
 //! A replay on its way.
 
-ghost use Rattle.std.specs.Prelude.{◌≡◌, ◌≤◌, ◌<◌, ◌+◌, ◌-◌, ◌^◌, ◌++◌, [], IfOk, OnOk, None, Some, length, drop, map, option_map};
+ghost use Rattle.std.specs.Prelude.{◌≡◌, ◌≤◌, ◌<◌, ◌+◌, ◌-◌, ◌^◌, ◌++◌, ◌∷◌, [], IfOk, OnOk, None, Some, length, drop, map, option_map};
 ghost use Rattle.at_model.specs.Views.{deliver_to, request, tick_at, up};
 ghost use Rattle.at_model.specs.World.{Turn, Ask, Crash, nth, opening, run_of, world_step, example_hosts};
 ghost use Rattle.world_laws.specs.Events.{event_of, input_of};
@@ -40,20 +40,24 @@ pub struct Course {
     delivered: Delivered,
     armed: Arms,
     lines: Lines,
-    /// For each event so far, which call was armed at its node, where one was.
+    /// For each event so far, which call of its node was armed, where that call came in it.
     met: Vec<Option<Armed>>,
 }
 
 impl Model for Course {
+    ghost use Rattle.std.specs.Prelude.{map};
+    ghost use Rattle.world_laws.specs.Events.{event_of};
     ghost use Rattle.world_laws.specs.Runs.{world_of};
     ghost use Rattle.replay_cmd.specs.ReportOf.{Course as Known};
 
     ghost Value = { Known };
 
-    ghost view = { λ c. record { world = world_of c.world; delivered = c.delivered; armed = c.armed; text = c.lines } };
+    ghost view = { λ c. record { world = world_of c.world; events = map event_of c.world.events; delivered = c.delivered; armed = c.armed; text = c.lines } };
 }
 
+#[tactic(auto, using(crate::proofs::Loops::one_more))]
 fn stepped(world: World, alloc: Global, event: WorldEvent) -> Result<Stepped, AllocError>
+    ensures events { IfOk result (λ s. map event_of s.world.events ≡ map event_of world.events ++ event_of event ∷ []) }
     ensures world { IfOk result (λ s. world_of s.world ≡ world_step (world_of world) (event_of event)) }
     ensures steps { IfOk result (λ s. s.steps ≡ steps_of (world_of world) (event_of event)) }
     ensures lost { IfOk result (λ s. s.lost ≡ losses_of (world_of world) (event_of event)) }
@@ -62,13 +66,15 @@ fn stepped(world: World, alloc: Global, event: WorldEvent) -> Result<Stepped, Al
     if world.events().len() >= MOST {
         return Err(AllocError);
     }
-    world.step(alloc, event)
+    let stepped = world.step(alloc, event)?;
+    Ok(stepped)
 }
 
-#[tactic(auto, using(crate::proofs::Loops::opened))]
+#[tactic(auto, using(crate::proofs::Loops::opened, crate::proofs::Loops::none_yet))]
 fn opened(alloc: Global, count: u8) -> Result<World, AllocError>
     requires { (1 ≤ count) × (count ≤ 8) }
-    ensures { IfOk result (λ world. world_of world ≡ opening (example_hosts count)) }
+    ensures world { IfOk result (λ world. world_of world ≡ opening (example_hosts count)) }
+    ensures events { IfOk result (λ world. map event_of world.events ≡ []) }
 {
     let world = World::new(alloc, count)?;
     Ok(world)
@@ -314,7 +320,7 @@ impl Course {
     /// A world of so many nodes, each of which is down.
     fn opening(alloc: Global, count: u8) -> Result<Course, AllocError>
         requires { (1 ≤ count) × (count ≤ 8) }
-        ensures { IfOk result (λ c. c ≡ record { world = opening (example_hosts count); delivered = []; armed = nobody_armed; text = [] }) }
+        ensures { IfOk result (λ c. c ≡ record { world = opening (example_hosts count); events = []; delivered = []; armed = nobody_armed; text = [] }) }
     {
         Ok(Course {
             world: opened(alloc, count)?,
@@ -376,6 +382,15 @@ impl Course {
         Ok(course)
     }
 
+    /// The call that is armed didn't come in the last event.
+    fn miss(&mut self)
+        ensures { self.new ≡ self.old }
+    {
+        if let Some(last) = self.met.last_mut() {
+            *last = None;
+        }
+    }
+
     /// Arms a call of a node in place of the one that is armed.
     pub fn arm(self, node: u8, armed: Option<Armed>) -> Course
         ensures { result ≡ with_armed node armed self }
@@ -417,7 +432,12 @@ impl Course {
         let mut event = event;
         strike(alloc, armed, first, &mut event)?;
         let (course, left) = self.happen(alloc, Some(armed.fault), drawn, event)?;
-        Ok(course.arm(node, rest.behind(armed, left)))
+        let mut course = course;
+        let still = rest.behind(armed, left);
+        if still.is_some() {
+            course.miss();
+        }
+        Ok(course.arm(node, still))
     }
 
     fn meet(
@@ -689,12 +709,14 @@ impl Course {
     #[tactic(auto, using(crate::proofs::Loops::run_is))]
     pub fn run(&self) -> (u8, &[WorldEvent])
         ensures world { self.now.world ≡ run_of (example_hosts result.0) (map event_of result.1.now) }
+        ensures events { map event_of result.1.now ≡ self.now.events }
         ensures count { (1 ≤ result.0) × (result.0 ≤ 8) }
     {
         (self.world.count(), self.world.events())
     }
 
-    /// For each of them which call was armed at its node, where one was that it could meet.
+    /// For each of them which call of its node was armed, where that call came in it. The calls by which a journal is written anew are none that
+    /// come in an event, so none of them fails.
     pub fn met(&self) -> &[Option<Armed>] {
         self.met.as_slice()
     }

@@ -10,7 +10,6 @@ pub mod endings;
 pub mod fault;
 pub mod laws;
 pub mod lines;
-pub mod message_bytes;
 pub mod options;
 pub mod replay;
 pub mod requests;

@@ -3,8 +3,7 @@
 ghost use Rattle.std.specs.Prelude.{ℕ, ◌≡◌, ◌++◌, [], OnOk, codes};
 ghost use Rattle.at_base.specs.declared.outs.Effect.TheVariants as effects;
 ghost use Rattle.at_model.specs.Views.{behind_slash, line_of, message_name, path_in, receiver_number};
-ghost use Rattle.replay_cmd.specs.Lines.{deliver_line, down_line, effect_line, end_line, forged_line, inject_line, item_line, leaf_words, message_line, message_start, no_message_line, refused_line, summary_line, tick_line, up_already_line, up_line};
-ghost use Rattle.replay_cmd.specs.MessageBytes.{bytes_line};
+ghost use Rattle.replay_cmd.specs.Lines.{bytes_line, deliver_line, down_line, effect_line, end_line, forged_line, inject_line, item_line, leaf_words, message_line, message_start, no_message_line, refused_line, summary_line, tick_line, up_already_line, up_line};
 
 use at_base::epr::Epr;
 use at_base::id::Id;
@@ -123,6 +122,13 @@ impl Lines {
         self.bytes.as_slice()
     }
 
+    /// The bytes.
+    pub fn into_vec(self) -> Vec<u8>
+        ensures { result.items ≡ self }
+    {
+        self.bytes
+    }
+
     fn push(&mut self, text: &str) -> Result<(), AllocError>
         ensures { OnOk result (self.new ≡ self.old ++ text.now) }
     {
@@ -144,11 +150,11 @@ impl Lines {
     }
 
     /// The bytes of a message, in hexadecimal.
-    #[tactic(auto, unfolding(crate::specs::MessageBytes::bytes_line))]
-    pub fn push_hex(&mut self, alloc: Global, text: &[u8]) -> Result<(), AllocError>
-        ensures { OnOk result (self.new ≡ self.old ++ bytes_line text.now) }
+    #[tactic(auto, unfolding(crate::specs::Lines::bytes_line))]
+    pub fn push_hex(&mut self, alloc: Global, bytes: &[u8]) -> Result<(), AllocError>
+        ensures { OnOk result (self.new ≡ self.old ++ bytes_line bytes.now) }
     {
-        let digits = hex::encode(alloc, text)?;
+        let digits = hex::encode(alloc, bytes)?;
         let line = format!(in alloc; "bytes {}\n", digits)?;
         self.push(line.as_str())
     }

@@ -1,21 +1,17 @@
-//! `replay`: the report of a schedule.
+//! How a schedule comes out, and that of a seed on a line.
 
-ghost use Rattle.std.specs.Prelude.{◌≡◌, ◌≤◌, IfOk, List, Option};
+ghost use Rattle.std.specs.Prelude.{◌≡◌, ◌≤◌, IfOk};
 ghost use Rattle.at_base.specs.declared.event.Local.TheVariants as locals;
 ghost use Rattle.replay_cmd.specs.declared.fault.Fault.TheVariants as faults;
-ghost use Rattle.raw_requests.specs.declared.Drawn.{Drawn as Drew};
-ghost use Rattle.replay_cmd.specs.Laws.{ComesToRest, IsReplayable, IsReport, IsSafe};
-ghost use Rattle.replay_cmd.specs.MessageBytes.{IsShown};
-ghost use Rattle.replay_cmd.specs.ReportOf.{all_taken, course_of, course_with, injects_where, nodes_of, summary_of, taken, world_made, world_with};
+ghost use Rattle.replay_cmd.specs.Laws.{IsReplayable, IsSafe};
+ghost use Rattle.replay_cmd.specs.ReportOf.{all_taken, course_of, course_with, injects_where, nodes_of, summary_of, taken, world_made};
 ghost use Rattle.schedules.specs.Generator.{made};
 
 use crate::course::Course;
-use crate::draws::{draw_all, quiet};
+use crate::draws::quiet;
 use crate::fault::{Armed, Fault};
-use crate::laws::{reports_are_safe, reports_come_to_rest};
+use crate::laws::reports_are_safe;
 use crate::lines::Lines;
-use crate::message_bytes::{texts_of, with_bytes};
-use crate::options::Options;
 use crate::requests::{begin, interpose, work};
 use at_base::event::Local;
 use raw_requests::Drawn;
@@ -172,46 +168,6 @@ pub fn ended(
     } else {
         Ok(course)
     }
-}
-
-/// What was printed of a course, with the envelopes of its messages where they are asked for.
-pub fn shown(alloc: Global, course: Course, bytes: bool) -> Result<Lines, AllocError>
-    ensures { IfOk result (IsShown bytes course) }
-{
-    if bytes {
-        let texts = texts_of(alloc, course.all_posted())?;
-        let report = course.whole(alloc)?;
-        return with_bytes(alloc, report.as_slice(), texts.as_slice());
-    }
-    course.whole(alloc)
-}
-
-#[tactic(auto, using(crate::proofs::LineDraws::is_report))]
-fn reported(alloc: Global, schedule: &Schedule, options: Options) -> Result<Lines, AllocError>
-    requires { IsReplayable schedule.now }
-    ensures { IfOk result (IsReport options schedule.now) }
-{
-    let draws = draw_all(alloc, schedule.as_slice())?;
-    let course = ended(alloc, schedule, draws.as_slice(), options.settle)?;
-    let lines = shown(alloc, course, options.bytes)?;
-    Ok(lines)
-}
-
-/// The report of a schedule, whose lines that bring bytes to a node are taken by what these bytes draw. Its world is that of a run,
-/// and what holds of every run holds of it (`safe`): no two participants of
-/// one transaction ended differently, through any depth of interposition (WS-AtomicTransaction 1.2, section 1).
-///
-/// With `settle` the events that bring the world to rest happen behind the last line, and are reported as others are. Behind them
-/// nobody is in doubt (`rests`). With `bytes` the envelope of each message stands behind its line, in hexadecimal.
-pub fn replay(alloc: Global, schedule: &Schedule, options: Options) -> Result<Lines, AllocError>
-    requires { IsReplayable schedule.now }
-    ensures text { IfOk result (IsReport options schedule.now) }
-    ensures safe { (draws : List (Option Drew)) → IsSafe (nodes_of schedule.now) (world_with options.settle draws schedule.now) }
-    ensures rests { (draws : List (Option Drew)) → ComesToRest draws schedule.now }
-{
-    reports_are_safe();
-    reports_come_to_rest();
-    reported(alloc, schedule, options)
 }
 
 /// The schedule of a seed.

@@ -1,7 +1,8 @@
 //! The lines of an event's steps: of each its effects, and then its posts.
 
 ghost use Rattle.std.specs.Prelude.{◌≡◌, ◌≤◌, ◌<◌, ◌+◌, ◌^◌, ◌++◌, OnOk, length};
-ghost use Rattle.replay_cmd.specs.ReportOf.{cut_by, effect_lines, message_lines, outcome_of, own_count, start_cut_by, started_by, status_in, status_of, step_lines};
+ghost use Rattle.replay_cmd.specs.ReportOf.{cut_by, effect_lines, message_lines, outcome_of, own_count, start_cut_by, started_by, step_lines};
+ghost use Rattle.fated_walks.specs.Statuses.{status_in, status_of};
 
 use crate::fault::Fault;
 use crate::lines::{Lines, Outcome, Started};

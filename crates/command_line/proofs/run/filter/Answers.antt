@@ -1,5 +1,5 @@
 use Rattle.command_line.specs.Views.{meant_filter}
-use Rattle.command_line.proofs.Reports.{all_given, all_printed, part_printed}
+use Rattle.command_line.proofs.Reports.{all_given, all_printed, none_given, part_printed}
 use Rattle.command_line.proofs.run.filter.Goals as goal
 
 pub returns-in-Ok-report-clause-whole : goal.returns-in-Ok-report-clause-whole
@@ -14,3 +14,7 @@ pub returns-in-Ok-report-clause-cut : goal.returns-in-Ok-report-clause-cut
 returns-in-Ok-report-clause-cut g c = λ failed.
     part_printed _ _ _ _ _ (meant_filter c.args.filter.now) _ _ c.in-Ok-report.printed c.in-Ok.ensures.whole c.as_slice.ensures.value c.in-Ok-report.ensures.sound
     c.print.ensures.part
+
+pub returns-in-Err-Full-clause-full : goal.returns-in-Err-Full-clause-full
+returns-in-Err-Full-clause-full g c = λ is.
+    none_given _ _ _ _ _ (meant_filter c.args.filter.now) c.in-Ok.ensures.whole c.as_slice.ensures.value (c.in-Err-Full.ensures.full c.in-Err-Full.field-0-is)
