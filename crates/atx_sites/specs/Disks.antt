@@ -26,4 +26,4 @@ Tallied before now (Err e) = now ≡ capped (before + 1)
 -- what such a machine tells: its counts
 abbrev pub told_of : Disk → ℕ → ℕ → ℕ → Told
 told_of disk accept receive link =
-    silent (record { disk = disk.disk; gate = disk.gate; accept = accept; receive = receive; link = link; taken = 0; closings = 0 })
+    silent (record { arming = None; disk = disk.disk; gate = disk.gate; accept = accept; receive = receive; link = link; taken = 0; closings = 0 })

@@ -144,6 +144,7 @@ fated false (Some r) journal first old new le (inr (makes, past)) = record {
 -- Counts.
 pub no_less_same : (old new : Numbers) → new ≡ old → NoLess old new
 no_less_same old new e = subst (NoLess old) (sym e) (record {
+  arming = refl;
   disk = omega arith;
   gate = omega arith;
   accept = omega arith;
@@ -155,6 +156,7 @@ no_less_same old new e = subst (NoLess old) (sym e) (record {
 
 pub no_less_then : (old mid new : Numbers) → NoLess old mid → NoLess mid new → NoLess old new
 no_less_then old mid new h g = record {
+  arming = g.arming ∙ h.arming;
   disk = omega (arith, h.disk, g.disk);
   gate = omega (arith, h.gate, g.gate);
   accept = omega (arith, h.accept, g.accept);
@@ -166,6 +168,7 @@ no_less_then old mid new h g = record {
 
 pub no_less_keeping : (old new : Told) → Keeping old new → NoLess old.counts new.counts
 no_less_keeping old new h = record {
+  arming = ap (λ (z : Numbers). z.arming) h.others;
   disk = h.disk;
   gate = h.gate;
   accept = omega (arith, ap (λ (z : Numbers). z.accept) h.others);

@@ -189,6 +189,7 @@ works_last turneds.LinkDown ls meaning now n m old mid new h s later = absurd h
 
 pub no_less_heard : (made : List Made) (old new : Told) → Heard made old new → old.counts.receive ≤ new.counts.receive → old.counts.link ≤ new.counts.link → NoLess old.counts new.counts
 no_less_heard made old new h receive link = record {
+  arming = ap (λ (z : Numbers). z.arming) h.counts;
   disk = omega (arith, ap (λ (z : Numbers). z.disk) h.counts);
   gate = omega (arith, ap (λ (z : Numbers). z.gate) h.counts);
   accept = omega (arith, ap (λ (z : Numbers). z.accept) h.counts);
@@ -276,6 +277,7 @@ input_of (Some l) after told untold = let (k, is, opens) = told l refl in ap ope
 
 takes_later : {E : Type 0} (result : Result Taken E) (old new : Numbers) → Took old new result → NoLess old new
 takes_later (Ok takens.Opened) old new h = record {
+  arming = ap (λ (z : Numbers). z.arming) h.others;
   disk = omega (arith, ap (λ (z : Numbers). z.disk) h.others);
   gate = omega (arith, ap (λ (z : Numbers). z.gate) h.others);
   accept = h.cause.later;
@@ -285,6 +287,7 @@ takes_later (Ok takens.Opened) old new h = record {
   closings = omega (arith, h.counted.1);
 }
 takes_later (Ok takens.Closed) old new h = record {
+  arming = ap (λ (z : Numbers). z.arming) h.others;
   disk = omega (arith, ap (λ (z : Numbers). z.disk) h.others);
   gate = omega (arith, ap (λ (z : Numbers). z.gate) h.others);
   accept = h.cause.later;
@@ -294,6 +297,7 @@ takes_later (Ok takens.Closed) old new h = record {
   closings = let r = h.counted.0.at_least in omega (arith, r);
 }
 takes_later (Err e) old new h = record {
+  arming = ap (λ (z : Numbers). z.arming) h.others;
   disk = omega (arith, ap (λ (z : Numbers). z.disk) h.others);
   gate = omega (arith, ap (λ (z : Numbers). z.gate) h.others);
   accept = h.cause.later;

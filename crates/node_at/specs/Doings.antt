@@ -98,8 +98,9 @@ abbrev pub kept_behind : Known → List TurnStep → Known
 kept_behind k [] = k
 kept_behind k (s ∷ ss) = kept_behind (kept_by (if_landed s.landed s.entry) k) ss
 
--- no count falls; those of connections are counted as far as 2^64 - 1
+-- no count falls; those of connections are counted as far as 2^64 - 1; and what the machine was told stays
 pub record NoLess (old new : Numbers) : Type 0 where
+  pub arming : new.arming ≡ old.arming
   pub disk : old.disk ≤ new.disk
   pub gate : old.gate ≤ new.gate
   pub accept : old.accept ≤ new.accept

@@ -1,5 +1,5 @@
 -- What a chosen crash leaves is one of the images.
-use Rattle.std.specs.Prelude.{ℕ, List, [], ◌∷◌, ◌≡◌, length, replicate}
+use Rattle.std.specs.Prelude.{ℕ, List, [], ◌∷◌, ◌≡◌, replicate}
 use Rattle.std.proofs.Common.{refl, subst}
 use Rattle.std.proofs.lemmas.List.{length-replicate}
 use Rattle.site_model.specs.Told.{Files, Made, Torn, written}

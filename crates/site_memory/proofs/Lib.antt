@@ -5,3 +5,4 @@ pub mod TraitCalls
 pub mod MachineCalls
 pub mod ByteImages
 pub mod ChosenImages
+pub mod ArmedCalls

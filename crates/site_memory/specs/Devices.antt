@@ -19,6 +19,7 @@ calls_in device = mades device.log.items
 pub record Runs (call : Call) (noted : Noted) (old new : Device) : Type 0 where
   pub notes : Notes call noted old.arm new.arm old.wanted new.wanted (calls_in old) (calls_in new)
   pub opening : opening_in new ≡ opening_in old
+  pub arming : new.arming ≡ old.arming
 
 -- the machine is opened anew, on what a crash left
 pub record Leaves (choice : Choice) (old new : Device) : Type 0 where
@@ -40,4 +41,5 @@ pub record Wants (old new : Device) : Type 0 where
   pub calls : calls_in new ≡ calls_in old
   pub opening : opening_in new ≡ opening_in old
   pub arm : new.arm ≡ old.arm
+  pub arming : new.arming ≡ old.arming
   pub wanted : new.wanted ≡ true

@@ -7,3 +7,5 @@ pub mod Devices
 pub mod Answers
 pub mod Sites
 pub mod ByteImages
+pub mod Armings
+pub mod ToldCalls

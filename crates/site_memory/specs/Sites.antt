@@ -2,11 +2,13 @@
 use Rattle.std.proofs.Common.{sym, ◌∙◌, ap, subst}
 use Rattle.std.proofs.lemmas.List.{append-nil, length-append}
 use Rattle.std.proofs.Common.{arith}
-use Rattle.std.specs.Prelude.{ℕ, List, Bool, true, Option, Some, None, false, Result, Ok, Err, [], ◌∷◌, ◌≡◌, ◌≢◌, ◌⊎◌, ◌≤◌, ◌++◌, length, drop, map}
+use Rattle.std.specs.Prelude.{ℕ, List, Bool, true, Option, Some, None, false, Result, Ok, Err, [], ◌∷◌, ◌≡◌, ◌≢◌, ◌⊎◌, ◌≤◌, ◌++◌, length, drop, map, option_map}
 use Rattle.site_model.specs.Told.{Told, Call, Made, Files, Link}
 use Rattle.site_model.specs.Told.Call.{Write, Sync, Post}
 use Rattle.site_model.specs.Site.{Counts}
+use Rattle.site_memory.specs.Armings.{told_arming}
 use Rattle.site_memory.specs.declared.arm.Arm.TheVariants.{Idle}
+use Rattle.site_memory.specs.declared.arm.Arming.{Arming}
 use Rattle.site_memory.specs.declared.bytes.Bytes.{Bytes}
 use Rattle.site_memory.specs.declared.bytes.Posted.{Posted}
 use Rattle.site_memory.specs.declared.device.Device.{Device}
@@ -29,11 +31,11 @@ contents b = b.bytes.items
 abbrev pub link_of : Line → Link
 link_of line = record { open_bytes = drop line.at line.coming.items; waiting = map contents line.waiting.items }
 
-abbrev pub counts_of : Tally → Counts
-counts_of t = record { disk = t.disk; gate = t.gate; accept = t.accept; receive = t.receive; link = t.link; taken = t.taken; closings = t.closings }
+abbrev pub counts_of : Option Arming → Tally → Counts
+counts_of arming t = record { arming = option_map told_arming arming; disk = t.disk; gate = t.gate; accept = t.accept; receive = t.receive; link = t.link; taken = t.taken; closings = t.closings }
 
 abbrev pub told_of : MemSite → Told
-told_of s = tells (opening_in s.device) (calls_in s.device) (link_of s.line) s.clock (counts_of s.tally)
+told_of s = tells (opening_in s.device) (calls_in s.device) (link_of s.line) s.clock (counts_of s.device.arming s.tally)
 
 pub now_counts : (s : MemSite) (l : List Made) (c : Files) → (told_of s).calls ≡ Some l → (told_of s).images c → (told_of s).past l c
 now_counts s l c is now = (([], append-nil l ∙ sym (same is)), subst (λ z. Image (opening_in s.device) z c) (same is) now) where
@@ -85,7 +87,7 @@ pub record IsNew (s : MemSite) : Type 0 where
   pub sent : (s.answers.items ≡ []) × (s.posts.items ≡ [])
   pub names : s.names ≡ None
   pub clock : s.clock ≡ 0
-  pub counts : counts_of s.tally ≡ record { disk = 0; gate = 0; accept = 0; receive = 0; link = 0; taken = 0; closings = 0 }
+  pub counts : counts_of s.device.arming s.tally ≡ record { arming = None; disk = 0; gate = 0; accept = 0; receive = 0; link = 0; taken = 0; closings = 0 }
   pub armed : (s.device.arm ≡ Idle) × (s.device.wanted ≡ false) × (s.fail_read ≡ 0) × (s.fail_link ≡ 0)
 
 -- nothing but its arm changes

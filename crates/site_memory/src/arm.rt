@@ -1,6 +1,7 @@
 //! Which call fails.
 
-ghost use Rattle.std.specs.Prelude.{◌≡◌};
+ghost use Rattle.std.specs.Prelude.{◌≡◌, ◌<◌, ◌^◌};
+ghost use Rattle.site_memory.specs.Armings.{arming_of};
 ghost use Rattle.site_memory.specs.Arms.{fate_of, next_of, armed};
 
 /// What a crash leaves of the bytes that are pending: what reads give, what was there before, or that byte.
@@ -18,6 +19,28 @@ pub enum Arm {
     Fail(u32),
     Stop(u32, Choice),
     Stopped,
+}
+
+/// What a machine was told to fail: of its calls since it had made so many the one of this number among all, from 1, or none where that is 0.
+#[derive(Clone, Copy, Debug, PartialEq, Eq)]
+pub struct Arming {
+    pub since: usize,
+    pub fails: usize,
+}
+
+/// What a machine is told that is armed so behind so many calls.
+pub fn arming_of(since: usize, arm: Arm) -> Option<Arming>
+    requires { since < 2 ^ 63 }
+    ensures { result ≡ arming_of since arm }
+{
+    match arm {
+        Arm::Idle => Some(Arming { since, fails: 0 }),
+        Arm::Fail(k) => {
+            let fails = if k == 0 { 0 } else { since + k as usize };
+            Some(Arming { since, fails })
+        }
+        Arm::Stop(..) | Arm::Stopped => None,
+    }
 }
 
 /// What becomes of a call.

@@ -1,19 +1,20 @@
 //! The calls on the disk of a machine in memory.
 
-ghost use Rattle.std.specs.Prelude.{◌≡◌, ◌+◌, [], true, false, cond, length, IfOk, OnOk};
+ghost use Rattle.std.specs.Prelude.{◌≡◌, ◌+◌, [], None, true, false, cond, length, IfOk, OnOk};
 ghost use Rattle.site_model.specs.Told.{file_of};
 ghost use Rattle.site_memory.specs.Tells.{reads};
 ghost use Rattle.site_memory.specs.declared.entry.Noted.TheVariants.{Not};
 ghost use Rattle.site_model.specs.Told.Call.{Write, Sync, Send, Post};
 ghost use Rattle.site_memory.specs.declared.arm.Arm.TheVariants.{Idle};
 ghost use Rattle.site_memory.specs.declared.range.Which.TheVariants.{First, Second};
+ghost use Rattle.site_memory.specs.Armings.{arming_of};
 ghost use Rattle.site_memory.specs.Arms.{armed};
 ghost use Rattle.site_memory.specs.Disk.{after_call, after_write, after_sync, chosen, run, same};
 ghost use Rattle.site_memory.specs.Entries.{call_of, mades};
 ghost use Rattle.site_memory.specs.Devices.{opening_in, calls_in, GoesBack, Runs, Leaves, Wants};
 ghost use Rattle.site_memory.specs.HeldFiles.{disk_of, opening_of, HasRoomIn};
 
-use crate::arm::{Arm, Choice};
+use crate::arm::{Arm, Choice, arming_of};
 use crate::device::Device;
 use crate::entry::{Deed, Entry, Noted, note};
 use crate::held_file::Held;
@@ -115,6 +116,7 @@ fn gone_back(device: Device, calls: usize) -> Result<Device, AllocError>
         mut first,
         mut second,
         arm: _arm,
+        arming: _arming,
         wanted,
     } = device;
     log.truncate(calls);
@@ -127,6 +129,7 @@ fn gone_back(device: Device, calls: usize) -> Result<Device, AllocError>
         first,
         second,
         arm: Arm::Idle,
+        arming: None,
         wanted,
     })
 }
@@ -146,7 +149,7 @@ impl Device {
     pub fn new(alloc: Global) -> Device
         ensures calls { calls_in result ≡ [] }
         ensures opening { opening_in result ≡ record { first = []; second = [] } }
-        ensures idle { (result.arm ≡ Idle) × (result.wanted ≡ false) }
+        ensures idle { (result.arm ≡ Idle) × (result.arming ≡ None) × (result.wanted ≡ false) }
     {
         Device {
             alloc,
@@ -154,16 +157,20 @@ impl Device {
             first: Held::new(alloc),
             second: Held::new(alloc),
             arm: Arm::Idle,
+            arming: None,
             wanted: false,
         }
     }
 
     /// Arms it, unless it has stopped.
+    #[tactic(auto, using(crate::proofs::ArmedCalls::set_so))]
     pub fn set(&mut self, arm: Arm)
         ensures arm { self.new.arm ≡ armed arm self.old.arm }
+        ensures arming { self.new.arming ≡ arming_of (length (calls_in self.old)) self.new.arm }
         ensures others { (opening_in self.new ≡ opening_in self.old) × (calls_in self.new ≡ calls_in self.old) × (self.new.wanted ≡ self.old.wanted) }
     {
         self.arm.set(arm);
+        self.arming = arming_of(self.log.len(), self.arm);
     }
 
     /// A call for which there is no memory.
@@ -186,6 +193,7 @@ impl Device {
     }
 
     /// Writes, as it is armed.
+    #[tactic(auto, using(crate::proofs::ArmedCalls::noted_so))]
     pub fn write(&mut self, file: u8, at: u64, bytes: &[u8]) -> Noted
         ensures { Runs (Write file at bytes.now) result self.old self.new }
     {
@@ -215,6 +223,7 @@ impl Device {
     }
 
     /// Syncs, as it is armed.
+    #[tactic(auto, using(crate::proofs::ArmedCalls::noted_so))]
     pub fn sync(&mut self, file: u8) -> Noted
         ensures { Runs (Sync file) result self.old self.new }
     {
@@ -233,6 +242,7 @@ impl Device {
     }
 
     /// An answer, as it is armed.
+    #[tactic(auto, using(crate::proofs::ArmedCalls::noted_so))]
     pub fn send(&mut self, bytes: &[u8]) -> Noted
         ensures { Runs (Send bytes.now) result self.old self.new }
     {
@@ -244,6 +254,7 @@ impl Device {
     }
 
     /// A post, as it is armed.
+    #[tactic(auto, using(crate::proofs::ArmedCalls::noted_so))]
     pub fn post(&mut self, host: &[u8], port: u16, bytes: &[u8]) -> Noted
         ensures { Runs (Post host.now port bytes.now) result self.old self.new }
     {
@@ -261,6 +272,7 @@ impl Device {
         self.first.crash(choice);
         self.second.crash(choice);
         self.log.clear();
+        self.arming = None;
         self.arm = Arm::Idle;
     }
 }

@@ -2,10 +2,16 @@
 
 ghost use Rattle.site_memory.specs.ByteImages.{ImagesAreBytewise};
 ghost use Rattle.site_memory.specs.Disk.{ChosenAreImages};
+ghost use Rattle.site_memory.specs.ToldCalls.{CallsFailAsTold};
 
 /// What a crash may leave of the two files is said byte by byte: each byte that isn't pending stays, and nothing more is said.
 pub fn images_are_bytewise()
     ensures { ImagesAreBytewise }
+{}
+
+/// A machine that was told which of its calls is to fail fails that one, and no other.
+pub fn calls_fail_as_told()
+    ensures { CallsFailAsTold }
 {}
 
 /// What a crash leaves that was chosen is one of the things that a crash may leave.

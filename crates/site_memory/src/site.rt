@@ -6,6 +6,7 @@ ghost use Rattle.site_model.specs.Told.Call.{Send, Post, Write, Sync};
 ghost use Rattle.site_model.specs.Counts.{capped};
 ghost use Rattle.site_model.specs.Calls.{Looked, Wrote, Synced, Raised, Gave, Attaches, Takes, Received, Closes, Reads};
 ghost use Rattle.site_memory.specs.declared.arm.Arm.TheVariants.{Fail, Stop, Stopped};
+ghost use Rattle.site_memory.specs.Armings.{arming_of};
 ghost use Rattle.site_memory.specs.Arms.{armed};
 ghost use Rattle.site_memory.specs.Devices.{GoesBack, Leaves, Runs};
 ghost use Rattle.site_memory.specs.Sites.{contents, told_of, link_of, now_counts, now_only, Goes, GoesTwice, IsNew, RunsTwice, Same, Attached, kept_where, post_of};
@@ -114,6 +115,7 @@ impl MemSite {
     /// The k-th write, sync, answer or post from now fails, from 1; raising a gate counts as two.
     pub fn fail(&mut self, k: u32)
         ensures arm { self.new.device.arm ≡ armed (Fail k) self.old.device.arm }
+        ensures arming { self.new.device.arming ≡ arming_of (length (calls_in self.old.device)) self.new.device.arm }
         ensures told { Same self.old self.new }
     {
         self.device.set(Arm::Fail(k));

@@ -1,12 +1,20 @@
 -- What a node's machine counts, and which counts a call may raise.
-use Rattle.std.specs.Prelude.{ℕ, ◌≡◌, ◌≤◌, Result, Ok, Err, OnOk}
+use Rattle.std.specs.Prelude.{ℕ, ◌≡◌, ◌≤◌, Option, Result, Ok, Err, OnOk}
 use Rattle.site_model.specs.Counts.{HasCause, RisesBy, Rose}
 use Rattle.site_model.specs.declared.site.AttachFailed.{AttachFailed}
 use Rattle.site_model.specs.declared.site.AttachFailed.TheVariants.{Disk, Link}
 use Rattle.site_model.specs.declared.site.Taken.{Taken}
 use Rattle.site_model.specs.declared.site.Taken.TheVariants.{Opened, Closed}
 
+-- What a machine for tests was told to fail: of its calls of disk and network, since it had made so many, the one of this number among all,
+-- from 1, and no other; none where that is 0.
+pub record Arming : Type 0 where
+  pub since : ℕ
+  pub fails : ℕ
+
+-- No call changes what the machine was told, if it was told anything.
 pub record Counts : Type 0 where
+  pub arming : Option Arming
   pub disk : ℕ
   pub gate : ℕ
   pub accept : ℕ

@@ -1,8 +1,8 @@
-use Rattle.std.proofs.Common.{refl}
 use Rattle.site_memory.specs.Sites.{counts_of, link_of}
+use Rattle.site_memory.proofs.ArmedCalls.{on_disk}
 use Rattle.site_memory.proofs.MachineCalls.{wrote_on}
 use Rattle.site_memory.proofs.site.MemSiteSite.write_at.Goals as goal
 
 pub returns-clause-call : goal.returns-clause-call
 returns-clause-call c =
-    wrote_on _ _ (link_of c.args.self.now.line) c.args.self.now.clock (counts_of c.args.self.now.tally) _ c.args.file c.args.at c.args.bytes.now _ _ c.write-noted.ensures c.answer.ensures.says (record { cause = c.answer.ensures.cause; others = refl })
+    wrote_on _ _ (link_of c.args.self.now.line) c.args.self.now.clock (counts_of c.args.self.now.device.arming c.args.self.now.tally) _ c.args.file c.args.at c.args.bytes.now _ _ c.write-noted.ensures c.answer.ensures.says (record { cause = c.answer.ensures.cause; others = on_disk c.args.self.now.device.arming _ c.args.self.now.tally c.write-noted.ensures.arming })
