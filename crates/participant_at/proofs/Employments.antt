@@ -1,30 +1,20 @@
 -- A leaf that equals the new one is employed as the new one is.
-use Rattle.std.proofs.Common.{List, [], ◌∷◌, ◌++◌, ◌≡◌, ◌∙◌, subst}
+use Rattle.std.proofs.Common.{List, [], ◌∷◌, ◌++◌, ◌≡◌, subst}
 use Rattle.at_base.specs.declared.epr.Epr.{Epr}
 use Rattle.at_base.specs.declared.event.Arrived.{Arrived}
 use Rattle.at_base.specs.declared.event.Moment.{Moment}
 use Rattle.at_base.specs.declared.outs.Out.{Out}
 use Rattle.at_base.specs.declared.outs.Out.TheVariants as outs
-use Rattle.at_base.specs.declared.outs.Outs.{Outs}
 use Rattle.at_model.specs.Book.{Leaf}
 use Rattle.at_model.specs.Leaves.{leaf_register, employ}
 use Rattle.at_model.specs.Posts.{accepted}
-use Rattle.by_id.specs.declared.list.Alteration.TheVariants as alterations
-use Rattle.by_id.specs.declared.plan.Plan.{Plan}
+use Rattle.by_id.specs.Plans.{added}
 use Rattle.by_id.specs.declared.plan.Plan.TheVariants as plans
 use Rattle.participant_at.specs.Employments.{employed}
 
-abbrev silently : List Out → Outs
-silently sent = record { outs = sent; effects = [] }
-
-abbrev plainly : Leaf → Outs → Plan Leaf
-plainly l sent = plans.Plain (record { change = alterations.Add l; outs = sent })
-
 pub employs :
-    (m : Moment) (a : Arrived) (l made : Leaf) (to : Epr) (sent : List Out) (all : Outs) → made ≡ l
-    → sent ≡ accepted ++ outs.Post (leaf_register m made to) ∷ [] → all ≡ silently sent
-    → plainly made all ≡ employed (employ m a l to)
-employs m a l made to sent all e f g =
+    (m : Moment) (a : Arrived) (l made : Leaf) (to : Epr) (sent : List Out) → made ≡ l
+    → sent ≡ accepted ++ outs.Post (leaf_register m made to) ∷ [] → plans.Plain (added made sent) ≡ employed (employ m a l to)
+employs m a l made to sent e f =
     let same : sent ≡ accepted ++ outs.Post (leaf_register m l to) ∷ [] = subst (λ x. sent ≡ accepted ++ outs.Post (leaf_register m x to) ∷ []) e f in
-    let whole : all ≡ silently (accepted ++ outs.Post (leaf_register m l to) ∷ []) = g ∙ (λ i. silently (same i)) in
-    λ i. plainly (e i) (whole i)
+    λ i. plans.Plain (added (e i) (same i))

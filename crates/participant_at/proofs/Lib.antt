@@ -1,4 +1,3 @@
 mod EqualAnswers
-mod ListEnds
 mod Employments
 mod PlanLaws

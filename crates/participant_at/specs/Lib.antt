@@ -1,5 +1,4 @@
 pub mod Answers
-pub mod Branches
 pub mod Employments
 pub mod LeafPlans
 pub mod BookPlans

@@ -1,25 +1,24 @@
 //! What a leaf does by itself: it expires, and it sends again (WS-Coordination 1.2, section 2.1; this project's profile).
 
-ghost use Rattle.std.specs.Prelude.{◌≡◌, ◌&&◌, ◌||◌, ◌++◌, IfOk, OnOk, Some, None, map};
+ghost use Rattle.std.specs.Prelude.{◌≡◌, ◌&&◌, ◌||◌, IfOk, Some, None};
 ghost use Rattle.at_base.specs.declared.event.Moment.{Moment};
-ghost use Rattle.at_base.specs.declared.outs.Out.TheVariants as outcome;
 ghost use Rattle.at_model.specs.Due.{has_come, is_quiet, is_some_post, leaf_again, leaf_due, leaf_expires, leaf_reached, leaf_register_again};
+ghost use Rattle.at_model.specs.Moves.{begin, posts, stays};
 ghost use Rattle.at_model.specs.Step.{is_reached};
 ghost use Rattle.at_tables.specs.Names.{is_state};
 ghost use Rattle.at_tables.specs.declared.cells.State.TheVariants as states;
-ghost use Rattle.by_id.specs.Plans.{changed, decided};
-ghost use Rattle.participant_at.specs.Branches.{kept};
+ghost use Rattle.by_id.specs.Decisions.{decision_of};
 
 use crate::leaf::Leaf;
-use crate::posts::{push_register, say};
+use crate::posts::{alone, leaf_register, says};
 use crate::rules::{aborts, ignores, is_registering, kept, refuses, sent_now};
 use at_base::event::Moment;
 use at_base::id::Id;
 use at_base::notice::Notice;
-use at_base::outs::OutList;
+use at_posts::list::PostList;
 use at_tables::cells::State;
 use by_id::list::Identified;
-use by_id::plan::{Branch, Plan};
+use by_id::moves::{Change, Decision};
 use by_id::times::{has_come, is_quiet};
 use std::alloc::{AllocError, Global};
 
@@ -101,49 +100,37 @@ impl Identified for Leaf {
 }
 
 /// A leaf that expires ends as aborted: one in Registering refuses its Work, an Active one says Aborted.
-fn expires(
-    alloc: Global,
-    outs: OutList,
-    moment: &Moment,
-    leaf: &Leaf,
-) -> Result<Branch<Leaf>, AllocError>
-    ensures { IfOk result (λ branch. branch ≡ changed outs leaf.now.id (leaf_expires moment.entry.now leaf.now)) }
+fn expires(alloc: Global, moment: &Moment, leaf: &Leaf) -> Result<Change<Leaf>, AllocError>
+    ensures { IfOk result (λ change. change ≡ leaf_expires moment.entry.now leaf.now) }
 {
     if is_registering(leaf.state) {
-        refuses(alloc, outs, leaf)
+        refuses(alloc, leaf)
     } else {
-        aborts(alloc, outs, moment, &None, leaf)
+        aborts(alloc, moment, &None, leaf)
     }
 }
 
 /// The Register that waits for its answer.
-fn push_register_again(
-    alloc: Global,
-    outs: &mut OutList,
-    moment: &Moment,
-    leaf: &Leaf,
-) -> Result<(), AllocError>
-    ensures { OnOk result
-        (outs.new ≡ outs.old ++ map outcome.Post (leaf_register_again moment.entry.now leaf.now leaf.now.request)) }
+fn register_again(alloc: Global, moment: &Moment, leaf: &Leaf) -> Result<PostList, AllocError>
+    ensures { IfOk result
+        (λ posts. posts ≡ leaf_register_again moment.entry.now leaf.now leaf.now.request) }
 {
     match &leaf.request {
-        Some(request) => push_register(alloc, outs, moment, leaf, &request.registration),
-        None => Ok(()),
+        Some(request) => alone(
+            alloc,
+            leaf_register(alloc, moment, leaf, &request.registration)?,
+        ),
+        None => Ok(PostList::new(alloc)),
     }
 }
 
 /// What a leaf sends again: its Register, or its vote Prepared.
-fn push_again(
-    alloc: Global,
-    outs: &mut OutList,
-    moment: &Moment,
-    leaf: &Leaf,
-) -> Result<(), AllocError>
-    ensures { OnOk result (outs.new ≡ outs.old ++ map outcome.Post (leaf_again moment.entry.now leaf.now)) }
+fn again(alloc: Global, moment: &Moment, leaf: &Leaf) -> Result<PostList, AllocError>
+    ensures { IfOk result (λ posts. posts ≡ leaf_again moment.entry.now leaf.now) }
 {
     match leaf.state {
-        State::Registering => push_register_again(alloc, outs, moment, leaf),
-        State::PreparedSuccess => say(alloc, outs, moment, &None, leaf, Notice::Prepared),
+        State::Registering => register_again(alloc, moment, leaf),
+        State::PreparedSuccess => says(alloc, moment, &None, leaf, Notice::Prepared),
         State::None
         | State::Active
         | State::Preparing
@@ -151,45 +138,35 @@ fn push_again(
         | State::Committing
         | State::Aborting
         | State::Completing
-        | State::Done => Ok(()),
+        | State::Done => Ok(PostList::new(alloc)),
     }
 }
 
 /// The leaf sends again.
-fn sends_again(
-    alloc: Global,
-    mut outs: OutList,
-    moment: &Moment,
-    leaf: &Leaf,
-) -> Result<Branch<Leaf>, AllocError>
+fn sends_again(alloc: Global, moment: &Moment, leaf: &Leaf) -> Result<Change<Leaf>, AllocError>
     ensures { IfOk result
-        (λ branch. branch
-        ≡ kept (record leaf.now { sent = Some moment.entry.now.now })
-        (outs ++ map outcome.Post (leaf_again moment.entry.now leaf.now))) }
+        (λ change. change
+        ≡ stays
+        (posts (leaf_again moment.entry.now leaf.now)
+        (begin (record leaf.now { sent = Some moment.entry.now.now })))) }
 {
-    push_again(alloc, &mut outs, moment, leaf)?;
+    let posts = again(alloc, moment, leaf)?;
     let next = sent_now(moment, leaf)?;
-    Ok(kept(alloc, next, outs))
+    Ok(kept(alloc, next, posts))
 }
 
 /// A leaf that is asked whether it is due.
 #[tactic(auto, unfolding(at_model::specs::Due::leaf_reached))]
-pub fn on_due(
-    alloc: Global,
-    outs: OutList,
-    moment: &Moment,
-    leaf: &Leaf,
-) -> Result<Plan<Leaf>, AllocError>
+pub fn on_due(alloc: Global, moment: &Moment, leaf: &Leaf) -> Result<Decision<Leaf>, AllocError>
     ensures { IfOk result
-        (λ plan. plan
-        ≡ decided outs leaf.now.id
-        (leaf_reached moment.entry.now leaf.now (leaf_due moment.entry.now leaf.now))) }
+        (λ decision. decision_of decision
+        ≡ leaf_reached moment.entry.now leaf.now (leaf_due moment.entry.now leaf.now)) }
 {
     if is_expired(moment, leaf) {
-        return Ok(Plan::Plain(expires(alloc, outs, moment, leaf)?));
+        return Ok(Decision::Goes(expires(alloc, moment, leaf)?));
     }
     if is_unanswered(moment, leaf) {
-        return Ok(Plan::Plain(sends_again(alloc, outs, moment, leaf)?));
+        return Ok(Decision::Goes(sends_again(alloc, moment, leaf)?));
     }
-    ignores(alloc, outs, leaf)
+    ignores(alloc, leaf)
 }

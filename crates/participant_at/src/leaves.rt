@@ -85,7 +85,8 @@ fn leaf_arrived(
     match found {
         Some(leaf) => {
             if is_kind(leaf.kind, kind) {
-                on_leaf(alloc, accepted(alloc)?, moment, arrived, leaf)
+                let answer = accepted(alloc)?;
+                on_leaf(alloc, moment, arrived, leaf)?.into_plan(alloc, answer, leaf.id)
             } else {
                 Ok(nothing(alloc))
             }
@@ -103,7 +104,10 @@ fn leaf_asked(
     ensures { IfOk result (λ plan. plan ≡ leaf_asked moment.entry.now (option_copied found.entry)) }
 {
     match found {
-        Some(leaf) => on_due(alloc, OutList::from_vec(Vec::new(alloc)), moment, leaf),
+        Some(leaf) => {
+            let answer = OutList::from_vec(Vec::new(alloc));
+            on_due(alloc, moment, leaf)?.into_plan(alloc, answer, leaf.id)
+        }
         None => Ok(nothing(alloc)),
     }
 }

@@ -1,8 +1,6 @@
 //! What a leaf sends (WS-Addressing 1.0 Core, section 3).
 
-ghost use Rattle.std.specs.Prelude.{◌≡◌, ◌++◌, ◌∷◌, [], IfOk, OnOk, map};
-ghost use Rattle.at_base.specs.declared.fault.Fault.TheVariants.{InvalidState};
-ghost use Rattle.at_base.specs.declared.outs.Out.TheVariants as out;
+ghost use Rattle.std.specs.Prelude.{◌≡◌, ◌∷◌, [], IfOk};
 ghost use Rattle.endpoints.specs.Addresses.{protocol_of, register_id};
 ghost use Rattle.at_model.specs.Posts.{replied};
 ghost use Rattle.at_model.specs.Leaves.{leaf_target, leaf_says, leaf_faults, leaf_register, work_answer};
@@ -14,11 +12,12 @@ use at_base::event::Moment;
 use at_base::fault::Fault;
 use at_base::message::Message;
 use at_base::notice::Notice;
-use at_base::outs::OutList;
+use at_base::outs::{OutList, Post};
 use at_base::target::Target;
 use at_base::text::Text;
 use at_posts::answers;
-use at_posts::posts::{self, push_fault, push_notice, push_reply, stored_or};
+use at_posts::list::PostList;
+use at_posts::posts::{fault_post, notice_post, register_post, reply_post, stored_or};
 use endpoints::addresses;
 use endpoints::uris::protocol_of;
 use std::alloc::{AllocError, Global};
@@ -41,37 +40,47 @@ pub fn register_id(alloc: Global, moment: &Moment, leaf: &Leaf) -> Result<Text, 
     addresses::register_id(alloc, &moment.base, &own)
 }
 
+/// One message alone.
+pub fn alone(alloc: Global, post: Post) -> Result<PostList, AllocError>
+    ensures { IfOk result (λ posts. posts ≡ post ∷ []) }
+{
+    let mut posts = PostList::new(alloc);
+    posts.push(post)?;
+    Ok(posts)
+}
+
 /// A leaf's notification to its coordinator, or to the message's From while none is known.
-pub fn say(
+pub fn says(
     alloc: Global,
-    outs: &mut OutList,
     moment: &Moment,
     from: &Option<Epr>,
     leaf: &Leaf,
     notice: Notice,
-) -> Result<(), AllocError>
-    ensures { OnOk result (outs.new ≡ outs.old ++ map out.Post (leaf_says moment.entry.now from.now notice leaf.now)) }
+) -> Result<PostList, AllocError>
+    ensures { IfOk result (λ posts. posts ≡ leaf_says moment.entry.now from.now notice leaf.now) }
 {
     let own = target_of(leaf);
     match stored_or(&leaf.coordinator, from) {
-        Some(to) => push_notice(alloc, outs, &moment.base, &own, to, notice),
-        None => Ok(()),
+        Some(to) => alone(alloc, notice_post(alloc, &moment.base, &own, to, notice)?),
+        None => Ok(PostList::new(alloc)),
     }
 }
 
 /// The fault InvalidState to a leaf's coordinator, or to the message's From while none is known.
-pub fn say_fault(
+pub fn says_fault(
     alloc: Global,
-    outs: &mut OutList,
     from: &Option<Epr>,
     id: &Option<Text>,
     leaf: &Leaf,
-) -> Result<(), AllocError>
-    ensures { OnOk result (outs.new ≡ outs.old ++ map out.Post (leaf_faults from.now id.now leaf.now)) }
+) -> Result<PostList, AllocError>
+    ensures { IfOk result (λ posts. posts ≡ leaf_faults from.now id.now leaf.now) }
 {
     match stored_or(&leaf.coordinator, from) {
-        Some(to) => push_fault(alloc, outs, to, id, Fault::InvalidState),
-        None => Ok(()),
+        Some(to) => {
+            let to = to.clone()?;
+            alone(alloc, fault_post(alloc, Some(to), id, Fault::InvalidState)?)
+        }
+        None => Ok(PostList::new(alloc)),
     }
 }
 
@@ -95,12 +104,15 @@ impl Answer {
 }
 
 /// The answer of the Work that made a leaf, where it waits for one.
-pub fn answer_work(outs: &mut OutList, leaf: &Leaf, answer: Answer) -> Result<(), AllocError>
-    ensures { OnOk result (outs.new ≡ outs.old ++ map out.Post (work_answer (answer_message answer) leaf.now.request)) }
+pub fn answers_work(alloc: Global, leaf: &Leaf, answer: Answer) -> Result<PostList, AllocError>
+    ensures { IfOk result (λ posts. posts ≡ work_answer (answer_message answer) leaf.now.request) }
 {
     match &leaf.request {
-        Some(request) => push_reply(outs, &request.reply, &request.id, answer.message()),
-        None => Ok(()),
+        Some(request) => {
+            let to = request.reply.clone()?;
+            alone(alloc, reply_post(Some(to), &request.id, answer.message())?)
+        }
+        None => Ok(PostList::new(alloc)),
     }
 }
 
@@ -112,18 +124,16 @@ fn leaf_protocol(leaf: &Leaf) -> &'static str
 }
 
 /// A leaf's Register (WS-Coordination 1.2, section 4.1).
-pub fn push_register(
+pub fn leaf_register(
     alloc: Global,
-    outs: &mut OutList,
     moment: &Moment,
     leaf: &Leaf,
     to: &Epr,
-) -> Result<(), AllocError>
-    ensures { OnOk result (outs.new ≡ outs.old ++ out.Post (leaf_register moment.entry.now leaf.now to.now) ∷ []) }
+) -> Result<Post, AllocError>
+    ensures { IfOk result (λ post. post ≡ leaf_register moment.entry.now leaf.now to.now) }
 {
     let own = target_of(leaf);
-    let protocol = leaf_protocol(leaf);
-    posts::push_register(alloc, outs, &moment.base, &own, protocol, to)
+    register_post(alloc, &moment.base, &own, leaf_protocol(leaf), to)
 }
 
 /// The answer of a Work that makes no leaf: on the connection where its reply endpoint is anonymous (WS-Addressing 1.0

@@ -1,69 +1,52 @@
 //! What a message does to one leaf (WS-AtomicTransaction 1.2, sections 3.3.3, 7.2 and 10).
 
-ghost use Rattle.std.specs.Prelude.{◌≡◌, ◌++◌, IfOk, [], Some, None, map};
-ghost use Rattle.at_model.specs.Leaves.{leaf_aborts, leaf_commits, leaf_prepares, leaf_records_vote, leaf_votes, leaf_commit, leaf_roll_back};
+ghost use Rattle.std.specs.Prelude.{◌≡◌, ◌∷◌, IfOk, [], Some, None};
+ghost use Rattle.at_base.specs.declared.message.Message.TheVariants as messages;
 ghost use Rattle.at_base.specs.declared.notice.Notice.TheVariants as notices;
+ghost use Rattle.at_base.specs.declared.outs.Ending.TheVariants as endings;
 ghost use Rattle.at_base.specs.declared.record.Record.TheVariants as records;
-ghost use Rattle.at_model.specs.Moves.{begin, posts, forgotten, ignored};
+ghost use Rattle.at_model.specs.Leaves.{leaf_aborts, leaf_commits, leaf_prepares, leaf_records_vote, leaf_votes, leaf_commit, leaf_roll_back};
 ghost use Rattle.at_model.specs.Leaves.{leaf_says, leaf_ended, leaf_faults, leaf_act, leaf_notice, answers_leaf, leaf_registered, leaf_refused, drops_leaf, leaf_fault, on_leaf, work_answer};
+ghost use Rattle.at_model.specs.Moves.{Goes, begin, effect, forgotten, ignored, posts, stays};
 ghost use Rattle.at_tables.specs.Names.{is_state};
 ghost use Rattle.at_tables.specs.Tables.{participant_of};
 ghost use Rattle.at_tables.specs.declared.cells.State.TheVariants as states;
-ghost use Rattle.at_base.specs.declared.message.Message.TheVariants as messages;
-ghost use Rattle.at_base.specs.declared.outs.Ending.TheVariants as endings;
-ghost use Rattle.at_base.specs.declared.outs.Out.TheVariants as outcome;
-ghost use Rattle.by_id.specs.Plans.{changed, decided};
-ghost use Rattle.participant_at.specs.Branches.{kept, dropped, ended};
+ghost use Rattle.by_id.specs.Decisions.{decision_of};
 
 use crate::leaf::Leaf;
-use crate::posts::{Answer, answer_work, register_id, say, say_fault};
+use crate::posts::{Answer, answers_work, register_id, says, says_fault};
 use at_base::epr::Epr;
 use at_base::event::{Arrived, Moment};
 use at_base::message::Message;
 use at_base::notice::{Kind, Notice, Vote};
-use at_base::outs::{Effect, Effects, Ending, OutList, Outs};
+use at_base::outs::{Effect, Effects, Ending};
 use at_base::record::Record;
 use at_base::text::Text;
 use at_posts::answers::relates_to;
+use at_posts::list::PostList;
 use at_tables::cells::{Act, State, participant_cell};
-use by_id::list::Alteration;
-use by_id::moves::unchanged;
-use by_id::plan::{Branch, Plan};
+use by_id::moves::{Change, Decision, ignored};
 use std::alloc::{AllocError, Global};
 
-/// What is sent, with no effect.
-pub fn silent(alloc: Global, outs: OutList) -> Outs
-    ensures { result ≡ record { outs = outs; effects = [] } }
+/// The leaf is given anew, and this is posted.
+pub fn kept(alloc: Global, leaf: Leaf, posts: PostList) -> Change<Leaf>
+    ensures { result ≡ record { item = Some leaf; posts = posts; effects = [] } }
 {
-    Outs {
-        outs,
+    Change {
+        item: Some(leaf),
+        posts,
         effects: Effects::from_vec(Vec::new(alloc)),
     }
 }
 
-/// The leaf is given anew.
-pub fn kept(alloc: Global, leaf: Leaf, outs: OutList) -> Branch<Leaf>
-    ensures { result ≡ kept leaf outs }
-{
-    Branch {
-        change: Alteration::Put {
-            id: leaf.id,
-            item: Some(leaf),
-        },
-        outs: silent(alloc, outs),
-    }
-}
-
 /// The leaf is forgotten, with no effect.
-fn dropped(alloc: Global, leaf: &Leaf, outs: OutList) -> Branch<Leaf>
-    ensures { result ≡ dropped leaf.now outs }
+fn dropped(alloc: Global, posts: PostList) -> Change<Leaf>
+    ensures { result ≡ record { item = None; posts = posts; effects = [] } }
 {
-    Branch {
-        change: Alteration::Put {
-            id: leaf.id,
-            item: None,
-        },
-        outs: silent(alloc, outs),
+    Change {
+        item: None,
+        posts,
+        effects: Effects::from_vec(Vec::new(alloc)),
     }
 }
 
@@ -78,23 +61,22 @@ pub fn ending(leaf: &Leaf, what: Ending) -> Effect
     }
 }
 
-/// The leaf ended.
+/// The leaf ended, and this is posted.
 fn ended(
     alloc: Global,
     leaf: &Leaf,
     what: Ending,
-    outs: OutList,
-) -> Result<Branch<Leaf>, AllocError>
-    ensures { IfOk result (λ branch. branch ≡ ended leaf.now what outs) }
+    posts: PostList,
+) -> Result<Change<Leaf>, AllocError>
+    ensures { IfOk result
+        (λ change. change ≡ record { item = None; posts = posts; effects = leaf_ended leaf.now what ∷ [] }) }
 {
-    let mut outs = silent(alloc, outs);
-    outs.effects.push(ending(leaf, what))?;
-    Ok(Branch {
-        change: Alteration::Put {
-            id: leaf.id,
-            item: None,
-        },
-        outs,
+    let mut effects = Effects::from_vec(Vec::new(alloc));
+    effects.push(ending(leaf, what))?;
+    Ok(Change {
+        item: None,
+        posts,
+        effects,
     })
 }
 
@@ -110,31 +92,29 @@ pub fn sent_now(moment: &Moment, leaf: &Leaf) -> Result<Leaf, AllocError>
 /// The leaf ends as aborted, and says so.
 pub fn aborts(
     alloc: Global,
-    mut outs: OutList,
     moment: &Moment,
     from: &Option<Epr>,
     leaf: &Leaf,
-) -> Result<Branch<Leaf>, AllocError>
+) -> Result<Change<Leaf>, AllocError>
     ensures { IfOk result
-        (λ branch. branch ≡ changed outs leaf.now.id (leaf_aborts moment.entry.now from.now leaf.now)) }
+        (λ change. change ≡ leaf_aborts moment.entry.now from.now leaf.now) }
 {
-    say(alloc, &mut outs, moment, from, leaf, Notice::Aborted)?;
-    ended(alloc, leaf, Ending::Aborted, outs)
+    let posts = says(alloc, moment, from, leaf, Notice::Aborted)?;
+    ended(alloc, leaf, Ending::Aborted, posts)
 }
 
 /// The leaf ends as committed, and says so.
 fn commits(
     alloc: Global,
-    mut outs: OutList,
     moment: &Moment,
     from: &Option<Epr>,
     leaf: &Leaf,
-) -> Result<Branch<Leaf>, AllocError>
+) -> Result<Change<Leaf>, AllocError>
     ensures { IfOk result
-        (λ branch. branch ≡ changed outs leaf.now.id (leaf_commits moment.entry.now from.now leaf.now)) }
+        (λ change. change ≡ leaf_commits moment.entry.now from.now leaf.now) }
 {
-    say(alloc, &mut outs, moment, from, leaf, Notice::Committed)?;
-    ended(alloc, leaf, Ending::Committed, outs)
+    let posts = says(alloc, moment, from, leaf, Notice::Committed)?;
+    ended(alloc, leaf, Ending::Committed, posts)
 }
 
 /// A copy of the leaf that votes Prepared now.
@@ -148,17 +128,12 @@ fn prepared_now(moment: &Moment, leaf: &Leaf) -> Result<Leaf, AllocError>
 }
 
 /// The leaf has voted Prepared, and waits for the outcome.
-fn prepares(
-    alloc: Global,
-    mut outs: OutList,
-    moment: &Moment,
-    leaf: &Leaf,
-) -> Result<Branch<Leaf>, AllocError>
-    ensures { IfOk result (λ branch. branch ≡ changed outs leaf.now.id (leaf_prepares moment.entry.now leaf.now)) }
+fn prepares(alloc: Global, moment: &Moment, leaf: &Leaf) -> Result<Change<Leaf>, AllocError>
+    ensures { IfOk result (λ change. change ≡ leaf_prepares moment.entry.now leaf.now) }
 {
-    say(alloc, &mut outs, moment, &None, leaf, Notice::Prepared)?;
+    let posts = says(alloc, moment, &None, leaf, Notice::Prepared)?;
     let next = prepared_now(moment, leaf)?;
-    Ok(kept(alloc, next, outs))
+    Ok(kept(alloc, next, posts))
 }
 
 /// The record of a durable leaf's vote Prepared.
@@ -177,81 +152,56 @@ fn vote_record(leaf: &Leaf, coordinator: &Epr) -> Result<Record, AllocError>
     })
 }
 
-/// A durable leaf's vote where its record landed, Prepared, and where it is absent, Aborted.
-fn both_votes(
-    alloc: Global,
-    outs: OutList,
-    moment: &Moment,
-    leaf: &Leaf,
-) -> Result<(Branch<Leaf>, Branch<Leaf>), AllocError>
-    ensures { IfOk result
-        (λ both. both
-        ≡ (changed outs leaf.now.id (leaf_prepares moment.entry.now leaf.now), changed outs leaf.now.id (leaf_aborts moment.entry.now None leaf.now))) }
-{
-    let absent = aborts(alloc, outs.clone()?, moment, &None, leaf)?;
-    let landed = prepares(alloc, outs, moment, leaf)?;
-    Ok((landed, absent))
-}
-
 /// A durable leaf's vote Prepared, behind its record; where the record is absent it votes Aborted.
-fn records_vote(
-    alloc: Global,
-    outs: OutList,
-    moment: &Moment,
-    leaf: &Leaf,
-) -> Result<Plan<Leaf>, AllocError>
+fn records_vote(alloc: Global, moment: &Moment, leaf: &Leaf) -> Result<Decision<Leaf>, AllocError>
     ensures { IfOk result
-        (λ plan. plan
-        ≡ decided outs leaf.now.id (leaf_records_vote moment.entry.now leaf.now.coordinator leaf.now)) }
+        (λ decision. decision_of decision ≡ leaf_records_vote moment.entry.now leaf.now.coordinator leaf.now) }
 {
+    let aborted = aborts(alloc, moment, &None, leaf)?;
     let Some(coordinator) = &leaf.coordinator else {
-        return Ok(Plan::Plain(aborts(alloc, outs, moment, &None, leaf)?));
+        return Ok(Decision::Goes(aborted));
     };
     let entry = vote_record(leaf, coordinator)?;
-    let (landed, absent) = both_votes(alloc, outs, moment, leaf)?;
-    Ok(Plan::Recorded {
+    let stands = prepares(alloc, moment, leaf)?;
+    Ok(Decision::Records {
         entry,
-        landed,
-        absent,
+        stands,
+        absent: Some(aborted),
     })
 }
 
 /// The vote ReadOnly: the leaf is forgotten.
 fn leaves(
     alloc: Global,
-    mut outs: OutList,
     moment: &Moment,
     from: &Option<Epr>,
     leaf: &Leaf,
-) -> Result<Branch<Leaf>, AllocError>
+) -> Result<Change<Leaf>, AllocError>
     ensures { IfOk result
-        (λ branch. branch ≡ changed outs leaf.now.id (forgotten (posts (leaf_says moment.entry.now from.now notices.ReadOnly leaf.now) (begin leaf.now)))) }
+        (λ change. change ≡ forgotten (posts (leaf_says moment.entry.now from.now notices.ReadOnly leaf.now) (begin leaf.now))) }
 {
-    say(alloc, &mut outs, moment, from, leaf, Notice::ReadOnly)?;
-    Ok(dropped(alloc, leaf, outs))
+    let posts = says(alloc, moment, from, leaf, Notice::ReadOnly)?;
+    Ok(dropped(alloc, posts))
 }
 
 /// Prepare asks the leaf's own vote.
 #[tactic(auto, unfolding(at_model::specs::Leaves::leaf_votes))]
 fn votes(
     alloc: Global,
-    outs: OutList,
     moment: &Moment,
     from: &Option<Epr>,
     leaf: &Leaf,
-) -> Result<Plan<Leaf>, AllocError>
+) -> Result<Decision<Leaf>, AllocError>
     ensures { IfOk result
-        (λ plan. plan
-        ≡ decided outs leaf.now.id
-        (leaf_votes moment.entry.now from.now leaf.now leaf.now.kind leaf.now.vote)) }
+        (λ decision. decision_of decision ≡ leaf_votes moment.entry.now from.now leaf.now leaf.now.kind leaf.now.vote) }
 {
     match leaf.vote {
         Vote::Prepared => match leaf.kind {
-            Kind::Durable => records_vote(alloc, outs, moment, leaf),
-            Kind::Volatile => Ok(Plan::Plain(prepares(alloc, outs, moment, leaf)?)),
+            Kind::Durable => records_vote(alloc, moment, leaf),
+            Kind::Volatile => Ok(Decision::Goes(prepares(alloc, moment, leaf)?)),
         },
-        Vote::ReadOnly => Ok(Plan::Plain(leaves(alloc, outs, moment, from, leaf)?)),
-        Vote::Aborted => Ok(Plan::Plain(aborts(alloc, outs, moment, from, leaf)?)),
+        Vote::ReadOnly => Ok(Decision::Goes(leaves(alloc, moment, from, leaf)?)),
+        Vote::Aborted => Ok(Decision::Goes(aborts(alloc, moment, from, leaf)?)),
     }
 }
 
@@ -259,25 +209,21 @@ fn votes(
 #[tactic(auto, unfolding(at_model::specs::Leaves::leaf_commit))]
 fn commit(
     alloc: Global,
-    outs: OutList,
     moment: &Moment,
     from: &Option<Epr>,
     leaf: &Leaf,
-) -> Result<Plan<Leaf>, AllocError>
+) -> Result<Decision<Leaf>, AllocError>
     ensures { IfOk result
-        (λ plan. plan
-        ≡ decided outs leaf.now.id (leaf_commit moment.entry.now from.now leaf.now leaf.now.kind)) }
+        (λ decision. decision_of decision ≡ leaf_commit moment.entry.now from.now leaf.now leaf.now.kind) }
 {
+    let stands = commits(alloc, moment, from, leaf)?;
     match leaf.kind {
-        Kind::Volatile => Ok(Plan::Plain(commits(alloc, outs, moment, from, leaf)?)),
-        Kind::Durable => {
-            let landed = commits(alloc, outs.clone()?, moment, from, leaf)?;
-            Ok(Plan::Recorded {
-                entry: Record::LeafCommitted { id: leaf.id },
-                landed,
-                absent: unchanged(alloc, outs),
-            })
-        }
+        Kind::Volatile => Ok(Decision::Goes(stands)),
+        Kind::Durable => Ok(Decision::Records {
+            entry: Record::LeafCommitted { id: leaf.id },
+            stands,
+            absent: None,
+        }),
     }
 }
 
@@ -285,113 +231,105 @@ fn commit(
 #[tactic(auto, unfolding(at_model::specs::Leaves::leaf_roll_back))]
 fn roll_back(
     alloc: Global,
-    outs: OutList,
     moment: &Moment,
     from: &Option<Epr>,
     leaf: &Leaf,
-) -> Result<Plan<Leaf>, AllocError>
+) -> Result<Decision<Leaf>, AllocError>
     ensures { IfOk result
-        (λ plan. plan
-        ≡ decided outs leaf.now.id (leaf_roll_back moment.entry.now from.now leaf.now leaf.now.kind)) }
+        (λ decision. decision_of decision ≡ leaf_roll_back moment.entry.now from.now leaf.now leaf.now.kind) }
 {
+    let stands = aborts(alloc, moment, from, leaf)?;
     match leaf.kind {
-        Kind::Volatile => Ok(Plan::Plain(aborts(alloc, outs, moment, from, leaf)?)),
-        Kind::Durable => {
-            let landed = aborts(alloc, outs.clone()?, moment, from, leaf)?;
-            Ok(Plan::Recorded {
-                entry: Record::LeafAborted { id: leaf.id },
-                landed,
-                absent: unchanged(alloc, outs),
-            })
-        }
+        Kind::Volatile => Ok(Decision::Goes(stands)),
+        Kind::Durable => Ok(Decision::Records {
+            entry: Record::LeafAborted { id: leaf.id },
+            stands,
+            absent: None,
+        }),
     }
 }
 
 /// The leaf answers Prepared once more.
 fn prepares_again(
     alloc: Global,
-    mut outs: OutList,
     moment: &Moment,
     from: &Option<Epr>,
     leaf: &Leaf,
-) -> Result<Branch<Leaf>, AllocError>
+) -> Result<Change<Leaf>, AllocError>
     ensures { IfOk result
-        (λ branch. branch
-        ≡ kept (record leaf.now { sent = Some moment.entry.now.now })
-        (outs ++ map outcome.Post (leaf_says moment.entry.now from.now notices.Prepared leaf.now))) }
+        (λ change. change
+        ≡ stays
+        (posts (leaf_says moment.entry.now from.now notices.Prepared leaf.now)
+        (begin (record leaf.now { sent = Some moment.entry.now.now })))) }
 {
-    say(alloc, &mut outs, moment, from, leaf, Notice::Prepared)?;
+    let posts = says(alloc, moment, from, leaf, Notice::Prepared)?;
     let next = sent_now(moment, leaf)?;
-    Ok(kept(alloc, next, outs))
+    Ok(kept(alloc, next, posts))
 }
 
 /// The fault InvalidState, which leaves the leaf as it stands.
 fn faults(
     alloc: Global,
-    mut outs: OutList,
     from: &Option<Epr>,
     id: &Option<Text>,
     leaf: &Leaf,
-) -> Result<Branch<Leaf>, AllocError>
+) -> Result<Change<Leaf>, AllocError>
     ensures { IfOk result
-        (λ branch. branch ≡ kept leaf.now (outs ++ map outcome.Post (leaf_faults from.now id.now leaf.now))) }
+        (λ change. change ≡ stays (posts (leaf_faults from.now id.now leaf.now) (begin leaf.now))) }
 {
-    say_fault(alloc, &mut outs, from, id, leaf)?;
+    let posts = says_fault(alloc, from, id, leaf)?;
     let same = leaf.clone()?;
-    Ok(kept(alloc, same, outs))
+    Ok(kept(alloc, same, posts))
 }
 
 /// The fault InvalidState, which ends the leaf as aborted.
 fn faults_and_ends(
     alloc: Global,
-    mut outs: OutList,
     from: &Option<Epr>,
     id: &Option<Text>,
     leaf: &Leaf,
-) -> Result<Branch<Leaf>, AllocError>
+) -> Result<Change<Leaf>, AllocError>
     ensures { IfOk result
-        (λ branch. branch
-        ≡ ended leaf.now endings.Aborted (outs ++ map outcome.Post (leaf_faults from.now id.now leaf.now))) }
+        (λ change. change
+        ≡ forgotten
+        (posts (leaf_faults from.now id.now leaf.now)
+        (effect (leaf_ended leaf.now endings.Aborted) (begin leaf.now)))) }
 {
-    say_fault(alloc, &mut outs, from, id, leaf)?;
-    ended(alloc, leaf, Ending::Aborted, outs)
+    let posts = says_fault(alloc, from, id, leaf)?;
+    ended(alloc, leaf, Ending::Aborted, posts)
 }
 
 /// Nothing happens to the leaf.
-#[tactic(auto, using(crate::proofs::ListEnds::nothing_more))]
-pub fn ignores(alloc: Global, outs: OutList, leaf: &Leaf) -> Result<Plan<Leaf>, AllocError>
-    ensures { IfOk result (λ plan. plan ≡ decided outs leaf.now.id (ignored leaf.now)) }
+pub fn ignores(alloc: Global, leaf: &Leaf) -> Result<Decision<Leaf>, AllocError>
+    ensures { IfOk result (λ decision. decision_of decision ≡ ignored leaf.now) }
 {
-    let same = leaf.clone()?;
-    Ok(Plan::Plain(kept(alloc, same, outs)))
+    Ok(ignored(alloc, leaf.clone()?))
 }
 
 /// An act of the participant's table at a leaf.
 #[tactic(auto, unfolding(at_model::specs::Leaves::leaf_act))]
 fn acts(
     alloc: Global,
-    outs: OutList,
     moment: &Moment,
     from: &Option<Epr>,
     id: &Option<Text>,
     leaf: &Leaf,
     act: Act,
-) -> Result<Plan<Leaf>, AllocError>
+) -> Result<Decision<Leaf>, AllocError>
     ensures { IfOk result
-        (λ plan. plan
-        ≡ decided outs leaf.now.id (leaf_act moment.entry.now from.now id.now leaf.now act)) }
+        (λ decision. decision_of decision ≡ leaf_act moment.entry.now from.now id.now leaf.now act) }
 {
     match act {
-        Act::Gather => votes(alloc, outs, moment, from, leaf),
-        Act::SendPrepared => Ok(Plan::Plain(prepares_again(alloc, outs, moment, from, leaf)?)),
-        Act::Commit => commit(alloc, outs, moment, from, leaf),
-        Act::AbortAndSendAborted => Ok(Plan::Plain(aborts(alloc, outs, moment, from, leaf)?)),
-        Act::RecordAndSendAborted => roll_back(alloc, outs, moment, from, leaf),
-        Act::FaultInvalidState => Ok(Plan::Plain(faults(alloc, outs, from, id, leaf)?)),
-        Act::FaultInvalidStateAndAbort => Ok(Plan::Plain(faults_and_ends(
-            alloc, outs, from, id, leaf,
+        Act::Gather => votes(alloc, moment, from, leaf),
+        Act::SendPrepared => Ok(Decision::Goes(prepares_again(alloc, moment, from, leaf)?)),
+        Act::Commit => commit(alloc, moment, from, leaf),
+        Act::AbortAndSendAborted => Ok(Decision::Goes(aborts(alloc, moment, from, leaf)?)),
+        Act::RecordAndSendAborted => roll_back(alloc, moment, from, leaf),
+        Act::FaultInvalidState => Ok(Decision::Goes(faults(alloc, from, id, leaf)?)),
+        Act::FaultInvalidStateAndAbort => Ok(Decision::Goes(faults_and_ends(
+            alloc, from, id, leaf,
         )?)),
-        _ => ignores(alloc, outs, leaf),
+        _ => ignores(alloc, leaf),
     }
 }
 
@@ -399,22 +337,19 @@ fn acts(
 #[tactic(auto, unfolding(at_model::specs::Leaves::leaf_notice))]
 fn notified(
     alloc: Global,
-    outs: OutList,
     moment: &Moment,
     from: &Option<Epr>,
     id: &Option<Text>,
     leaf: &Leaf,
     notice: Notice,
-) -> Result<Plan<Leaf>, AllocError>
+) -> Result<Decision<Leaf>, AllocError>
     ensures { IfOk result
-        (λ plan. plan
-        ≡ decided outs leaf.now.id
-        (leaf_notice moment.entry.now from.now id.now leaf.now
-        (participant_of leaf.now.kind leaf.now.state notice))) }
+        (λ decision. decision_of decision ≡ leaf_notice moment.entry.now from.now id.now leaf.now
+        (participant_of leaf.now.kind leaf.now.state notice)) }
 {
     match participant_cell(leaf.kind, leaf.state, notice) {
-        Some(cell) => acts(alloc, outs, moment, from, id, leaf, cell.act),
-        None => ignores(alloc, outs, leaf),
+        Some(cell) => acts(alloc, moment, from, id, leaf, cell.act),
+        None => ignores(alloc, leaf),
     }
 }
 
@@ -453,54 +388,47 @@ fn answers(
 }
 
 /// The leaf is registered at this endpoint, and its Work is answered.
-fn registers(
-    alloc: Global,
-    mut outs: OutList,
-    coordinator: &Epr,
-    leaf: &Leaf,
-) -> Result<Branch<Leaf>, AllocError>
+fn registers(alloc: Global, coordinator: &Epr, leaf: &Leaf) -> Result<Change<Leaf>, AllocError>
     ensures { IfOk result
-        (λ branch. branch
-        ≡ kept (record leaf.now { state = states.Active; coordinator = Some coordinator.now; request = None })
-        (outs ++ map outcome.Post (work_answer messages.WorkDone leaf.now.request))) }
+        (λ change. change
+        ≡ stays
+        (posts (work_answer messages.WorkDone leaf.now.request)
+        (begin (record leaf.now { state = states.Active; coordinator = Some coordinator.now; request = None })))) }
 {
-    answer_work(&mut outs, leaf, Answer::Done)?;
+    let posts = answers_work(alloc, leaf, Answer::Done)?;
     let coordinator = coordinator.clone()?;
     let mut next = leaf.clone()?;
     next.state = State::Active;
     next.coordinator = Some(coordinator);
     next.request = None;
-    Ok(kept(alloc, next, outs))
+    Ok(kept(alloc, next, posts))
 }
 
 /// A RegisterResponse at a leaf.
 #[tactic(auto, unfolding(at_model::specs::Leaves::leaf_registered))]
 fn registered(
     alloc: Global,
-    outs: OutList,
     moment: &Moment,
     relates: &Option<Text>,
     coordinator: &Epr,
     leaf: &Leaf,
-) -> Result<Plan<Leaf>, AllocError>
+) -> Result<Decision<Leaf>, AllocError>
     ensures { IfOk result
-        (λ plan. plan
-        ≡ decided outs leaf.now.id
-        (leaf_registered moment.entry.now relates.now coordinator.now leaf.now)) }
+        (λ decision. decision_of decision ≡ leaf_registered moment.entry.now relates.now coordinator.now leaf.now) }
 {
     if answers(alloc, moment, relates, leaf)? {
-        Ok(Plan::Plain(registers(alloc, outs, coordinator, leaf)?))
+        Ok(Decision::Goes(registers(alloc, coordinator, leaf)?))
     } else {
-        ignores(alloc, outs, leaf)
+        ignores(alloc, leaf)
     }
 }
 
 /// The leaf ends before it is registered, and refuses its Work.
-pub fn refuses(alloc: Global, mut outs: OutList, leaf: &Leaf) -> Result<Branch<Leaf>, AllocError>
-    ensures { IfOk result (λ branch. branch ≡ changed outs leaf.now.id (leaf_refused leaf.now)) }
+pub fn refuses(alloc: Global, leaf: &Leaf) -> Result<Change<Leaf>, AllocError>
+    ensures { IfOk result (λ change. change ≡ leaf_refused leaf.now) }
 {
-    answer_work(&mut outs, leaf, Answer::Refused)?;
-    ended(alloc, leaf, Ending::Aborted, outs)
+    let posts = answers_work(alloc, leaf, Answer::Refused)?;
+    ended(alloc, leaf, Ending::Aborted, posts)
 }
 
 /// Whether a fault of this name drops the leaf: UnknownTransaction at a volatile one.
@@ -514,45 +442,40 @@ fn is_dropped_by(leaf: &Leaf, name: &Text) -> bool
 }
 
 /// A fault at a leaf.
-#[tactic(auto, using(crate::proofs::ListEnds::nothing_more), unfolding(at_model::specs::Leaves::leaf_fault))]
+#[tactic(auto, unfolding(at_model::specs::Leaves::leaf_fault))]
 fn faulted(
     alloc: Global,
-    outs: OutList,
     moment: &Moment,
     relates: &Option<Text>,
     name: &Text,
     leaf: &Leaf,
-) -> Result<Plan<Leaf>, AllocError>
+) -> Result<Decision<Leaf>, AllocError>
     ensures { IfOk result
-        (λ plan. plan
-        ≡ decided outs leaf.now.id (leaf_fault moment.entry.now relates.now name.now leaf.now)) }
+        (λ decision. decision_of decision ≡ leaf_fault moment.entry.now relates.now name.now leaf.now) }
 {
     if answers(alloc, moment, relates, leaf)? {
-        return Ok(Plan::Plain(refuses(alloc, outs, leaf)?));
+        return Ok(Decision::Goes(refuses(alloc, leaf)?));
     }
     if is_dropped_by(leaf, name) {
-        return Ok(Plan::Plain(dropped(alloc, leaf, outs)));
+        return Ok(Decision::Goes(dropped(alloc, PostList::new(alloc))));
     }
-    ignores(alloc, outs, leaf)
+    ignores(alloc, leaf)
 }
 
 /// A message at a leaf.
 #[tactic(auto, unfolding(at_model::specs::Leaves::on_leaf))]
 pub fn on_leaf(
     alloc: Global,
-    outs: OutList,
     moment: &Moment,
     arrived: &Arrived,
     leaf: &Leaf,
-) -> Result<Plan<Leaf>, AllocError>
+) -> Result<Decision<Leaf>, AllocError>
     ensures { IfOk result
-        (λ plan. plan
-        ≡ decided outs leaf.now.id (on_leaf moment.entry.now arrived.now leaf.now arrived.now.message)) }
+        (λ decision. decision_of decision ≡ on_leaf moment.entry.now arrived.now leaf.now arrived.now.message) }
 {
     match &arrived.message {
         Message::Notice(notice) => notified(
             alloc,
-            outs,
             moment,
             &arrived.from,
             &arrived.id,
@@ -561,13 +484,12 @@ pub fn on_leaf(
         ),
         Message::RegisterResponse(coordinator) => registered(
             alloc,
-            outs,
             moment,
             &arrived.relates,
             coordinator,
             leaf,
         ),
-        Message::Fault { name } => faulted(alloc, outs, moment, &arrived.relates, name, leaf),
-        _ => ignores(alloc, outs, leaf),
+        Message::Fault { name } => faulted(alloc, moment, &arrived.relates, name, leaf),
+        _ => ignores(alloc, leaf),
     }
 }

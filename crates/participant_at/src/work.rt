@@ -4,17 +4,18 @@ ghost use Rattle.std.specs.Prelude.{◌≡◌, ◌++◌, ◌∷◌, IfOk, [], So
 ghost use Rattle.at_base.specs.declared.outs.Out.TheVariants as outcome;
 ghost use Rattle.at_model.specs.Posts.{accepted};
 ghost use Rattle.at_model.specs.Leaves.{new_leaf, leaf_register, refuse_work, employ, work_for, on_work};
+ghost use Rattle.by_id.specs.Plans.{added};
+ghost use Rattle.by_id.specs.declared.plan.Plan.TheVariants as plans;
 ghost use Rattle.participant_at.specs.Employments.{employed};
 
 use crate::leaf::{Leaf, WorkRequest};
-use crate::posts::{Answer, push_register, replied};
-use crate::rules::silent;
+use crate::posts::{Answer, leaf_register, replied};
 use at_base::epr::{Epr, Reply};
 use at_base::event::{Arrived, Moment};
 use at_base::id::Id;
 use at_base::limits::MOST_ITEMS;
 use at_base::message::{Work, cloned_option};
-use at_base::outs::OutList;
+use at_base::outs::{Effects, Out, OutList, Outs};
 use at_posts::answers::accepted;
 use at_tables::cells::State;
 use by_id::list::Alteration;
@@ -85,9 +86,23 @@ fn first_outs(
         (λ outs. outs
         ≡ accepted ++ outcome.Post (leaf_register moment.entry.now leaf.now registration.now) ∷ []) }
 {
+    let register = leaf_register(alloc, moment, leaf, registration)?;
     let mut outs = accepted(alloc)?;
-    push_register(alloc, &mut outs, moment, leaf, registration)?;
+    outs.push(Out::Post(register))?;
     Ok(outs)
+}
+
+/// One leaf more.
+fn added(alloc: Global, leaf: Leaf, outs: OutList) -> Plan<Leaf>
+    ensures { result ≡ plans.Plain (added leaf outs) }
+{
+    Plan::Plain(Branch {
+        change: Alteration::Add(leaf),
+        outs: Outs {
+            outs,
+            effects: Effects::from_vec(Vec::new(alloc)),
+        },
+    })
 }
 
 /// A new leaf, which registers.
@@ -107,10 +122,7 @@ fn employ(
 {
     let leaf = new_leaf(moment, id, arrived, reply, work)?;
     let outs = first_outs(alloc, moment, &leaf, &work.context.registration)?;
-    Ok(Plan::Plain(Branch {
-        change: Alteration::Add(leaf),
-        outs: silent(alloc, outs),
-    }))
+    Ok(added(alloc, leaf, outs))
 }
 
 /// Work whose answer has an endpoint makes a leaf.
