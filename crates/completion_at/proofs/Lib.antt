@@ -1,5 +1,4 @@
 mod WorkPosts
-mod ListEnds
 mod EqualAnswers
 mod PlanLaws
 mod Slashes

@@ -18,7 +18,7 @@ use Rattle.at_model.specs.Moves.{Change, Decision, Goes, Records}
 use Rattle.at_model.specs.Activities.{Refusal, Stale, Full, Spent, Beginning, is_active, on_activity, on_begin, on_interpose, on_ask, on_complete}
 use Rattle.at_model.specs.Due.{activity_due, activity_reached}
 use Rattle.at_model.specs.Posts.{accepted}
-use Rattle.at_model.specs.Step.{Plan, plan, refuses, refuses_named, no_room, works_left, only_begun, local_plan, request_plan, begun_plan, begin_plan, interpose_plan, asking_plan, moment_of, activity_plan, initiator_plan, arrived_plan, activity_due_plan, due_plan, activity_at}
+use Rattle.at_model.specs.Step.{refuses, refuses_named, no_room, works_left, only_begun, local_plan, request_plan, begun_plan, begin_plan, interpose_plan, asking_plan, moment_of, activity_plan, initiator_plan, arrived_plan, activity_due_plan, due_plan, activity_at}
 use Rattle.by_id.specs.Plans.{decided}
 use Rattle.completion_at.specs.ActivityPlans.{no_room as room_for, refused_at, unless, begun, begin_asked, interpose_asked, asked_of, taken, requested, activity_arrived, arrived_at, activity_asked, item_asked}
 use Rattle.completion_at.specs.BookPlans.{whole, IsForActivityAt, IsActivityIn, PlansAsTheModel, RefusesAsTheModel, LeavesTheBook}

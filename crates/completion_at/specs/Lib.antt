@@ -1,4 +1,3 @@
-pub mod Branches
 pub mod Names
 pub mod ActivityPlans
 pub mod BookPlans

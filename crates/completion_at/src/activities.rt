@@ -72,7 +72,10 @@ fn activity_arrived(
         (λ plan. plan ≡ activity_arrived moment.entry.now arrived.now (option_copied found.entry)) }
 {
     match found {
-        Some(activity) => on_activity(alloc, accepted(alloc)?, moment, arrived, activity),
+        Some(activity) => {
+            let answer = accepted(alloc)?;
+            on_activity(alloc, moment, arrived, activity)?.into_plan(alloc, answer, activity.id)
+        }
         None => Ok(nothing(alloc)),
     }
 }
@@ -86,7 +89,10 @@ fn activity_asked(
     ensures { IfOk result (λ plan. plan ≡ activity_asked moment.entry.now (option_copied found.entry)) }
 {
     match found {
-        Some(activity) => on_due(alloc, OutList::from_vec(Vec::new(alloc)), moment, activity),
+        Some(activity) => {
+            let answer = OutList::from_vec(Vec::new(alloc));
+            on_due(alloc, moment, activity)?.into_plan(alloc, answer, activity.id)
+        }
         None => Ok(nothing(alloc)),
     }
 }

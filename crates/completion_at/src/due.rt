@@ -1,23 +1,23 @@
 //! What an activity does by itself: it expires, and it sends again (WS-Coordination 1.2, section 2.1; this project's
 //! profile).
 
-ghost use Rattle.std.specs.Prelude.{ℕ, List, ◌≡◌, ◌&&◌, ◌++◌, IfOk, OnOk, Some, None, map};
-ghost use Rattle.at_base.specs.declared.outs.Out.TheVariants as outcome;
+ghost use Rattle.std.specs.Prelude.{ℕ, List, ◌≡◌, ◌&&◌, IfOk, Some};
 ghost use Rattle.at_model.specs.Activities.{is_begun};
 ghost use Rattle.at_model.specs.Due.{has_come, is_quiet, is_some_post, before_active, activity_again, activity_due, activity_reached, completion_register_again};
+ghost use Rattle.at_model.specs.Moves.{begin, posts, stays};
 ghost use Rattle.at_model.specs.Step.{is_reached};
-ghost use Rattle.by_id.specs.Plans.{decided};
-ghost use Rattle.completion_at.specs.Branches.{kept};
+ghost use Rattle.by_id.specs.Decisions.{decision_of};
 ghost use Rattle.completion_at.specs.Names.{progress_of};
 
 use crate::activity::{Activity, Progress};
-use crate::posts::{push_completion, push_completion_register};
+use crate::posts::{alone, completion, completion_register};
 use crate::rules::{ignores, is_begun, kept, told};
 use at_base::event::Moment;
 use at_base::id::Id;
-use at_base::outs::{OutList, Told};
+use at_base::outs::Told;
+use at_posts::list::PostList;
 use by_id::list::Identified;
-use by_id::plan::{Branch, Plan};
+use by_id::moves::{Change, Decision};
 use by_id::times::{has_come, is_quiet};
 use std::alloc::{AllocError, Global};
 
@@ -88,46 +88,33 @@ impl Identified for Activity {
 }
 
 /// The Register that waits for its answer.
-fn push_register_again(
+fn register_again(
     alloc: Global,
-    outs: &mut OutList,
     moment: &Moment,
     activity: &Activity,
-) -> Result<(), AllocError>
-    ensures { OnOk result
-        (outs.new
-        ≡ outs.old
-        ++ map outcome.Post
-        (completion_register_again moment.entry.now.base activity.now activity.now.context)) }
+) -> Result<PostList, AllocError>
+    ensures { IfOk result
+        (λ posts. posts
+        ≡ completion_register_again moment.entry.now.base activity.now activity.now.context) }
 {
     match &activity.context {
-        Some(context) => push_completion_register(
+        Some(context) => alone(
             alloc,
-            outs,
-            moment,
-            activity,
-            &context.registration,
+            completion_register(alloc, moment, activity, &context.registration)?,
         ),
-        None => Ok(()),
+        None => Ok(PostList::new(alloc)),
     }
 }
 
 /// What an activity sends again: its Register, or its Commit or Rollback.
-fn push_again(
-    alloc: Global,
-    outs: &mut OutList,
-    moment: &Moment,
-    activity: &Activity,
-) -> Result<(), AllocError>
-    ensures { OnOk result
-        (outs.new
-        ≡ outs.old
-        ++ map outcome.Post (activity_again moment.entry.now.base activity.now activity.now.progress)) }
+fn again(alloc: Global, moment: &Moment, activity: &Activity) -> Result<PostList, AllocError>
+    ensures { IfOk result
+        (λ posts. posts ≡ activity_again moment.entry.now.base activity.now activity.now.progress) }
 {
     match activity.progress {
-        Progress::Registering => push_register_again(alloc, outs, moment, activity),
-        Progress::Completing(notice) => push_completion(alloc, outs, moment, activity, notice),
-        Progress::Creating | Progress::Active => Ok(()),
+        Progress::Registering => register_again(alloc, moment, activity),
+        Progress::Completing(notice) => completion(alloc, moment, activity, notice),
+        Progress::Creating | Progress::Active => Ok(PostList::new(alloc)),
     }
 }
 
@@ -143,39 +130,36 @@ fn sent_now(moment: &Moment, activity: &Activity) -> Result<Activity, AllocError
 /// The activity sends again.
 fn sends_again(
     alloc: Global,
-    mut outs: OutList,
     moment: &Moment,
     activity: &Activity,
-) -> Result<Branch<Activity>, AllocError>
+) -> Result<Change<Activity>, AllocError>
     ensures { IfOk result
-        (λ branch. branch
-        ≡ kept (record activity.now { sent = Some moment.entry.now.now })
-        (outs
-        ++ map outcome.Post (activity_again moment.entry.now.base activity.now activity.now.progress))) }
+        (λ change. change
+        ≡ stays
+        (posts (activity_again moment.entry.now.base activity.now activity.now.progress)
+        (begin (record activity.now { sent = Some moment.entry.now.now })))) }
 {
-    push_again(alloc, &mut outs, moment, activity)?;
+    let posts = again(alloc, moment, activity)?;
     let next = sent_now(moment, activity)?;
-    Ok(kept(alloc, next, outs))
+    Ok(kept(alloc, next, posts))
 }
 
 /// An activity that is asked whether it is due.
 #[tactic(auto, unfolding(at_model::specs::Due::activity_reached))]
 pub fn on_due(
     alloc: Global,
-    outs: OutList,
     moment: &Moment,
     activity: &Activity,
-) -> Result<Plan<Activity>, AllocError>
+) -> Result<Decision<Activity>, AllocError>
     ensures { IfOk result
-        (λ plan. plan
-        ≡ decided outs activity.now.id
-        (activity_reached moment.entry.now activity.now (activity_due moment.entry.now activity.now))) }
+        (λ decision. decision_of decision
+        ≡ activity_reached moment.entry.now activity.now (activity_due moment.entry.now activity.now)) }
 {
     if is_expired(moment, activity) {
-        return told(alloc, outs, activity, Told::Unknown);
+        return told(alloc, activity, Told::Unknown);
     }
     if is_unanswered(moment, activity) {
-        return Ok(Plan::Plain(sends_again(alloc, outs, moment, activity)?));
+        return Ok(Decision::Goes(sends_again(alloc, moment, activity)?));
     }
-    ignores(alloc, outs, activity)
+    ignores(alloc, activity)
 }

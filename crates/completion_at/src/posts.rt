@@ -1,8 +1,7 @@
 //! What an activity sends again, and the faults that it sends.
 
-ghost use Rattle.std.specs.Prelude.{◌≡◌, ◌++◌, ◌∷◌, [], OnOk, Some, map};
+ghost use Rattle.std.specs.Prelude.{◌≡◌, ◌∷◌, [], IfOk, Some};
 ghost use Rattle.at_base.specs.declared.fault.Fault.TheVariants.{InvalidState};
-ghost use Rattle.at_base.specs.declared.outs.Out.TheVariants as out;
 ghost use Rattle.at_model.specs.Activities.{activity_target, completion_register, complete_posts};
 ghost use Rattle.at_model.specs.Posts.{fault_post, stored_or, to_each};
 
@@ -11,10 +10,11 @@ use at_base::epr::Epr;
 use at_base::event::Moment;
 use at_base::fault::Fault;
 use at_base::notice::Notice;
-use at_base::outs::OutList;
+use at_base::outs::Post;
 use at_base::target::Target;
 use at_base::text::Text;
-use at_posts::posts::{push_fault, push_notice, push_register, stored_or};
+use at_posts::list::PostList;
+use at_posts::posts::{fault_post, notice_post, register_post, stored_or};
 use endpoints::uris::completion_protocol;
 use std::alloc::{AllocError, Global};
 
@@ -25,57 +25,62 @@ pub fn target_of(activity: &Activity) -> Target
     Target::Initiator(activity.id)
 }
 
+/// One message alone.
+pub fn alone(alloc: Global, post: Post) -> Result<PostList, AllocError>
+    ensures { IfOk result (λ posts. posts ≡ post ∷ []) }
+{
+    let mut posts = PostList::new(alloc);
+    posts.push(post)?;
+    Ok(posts)
+}
+
 /// An activity's Register for Completion (WS-AtomicTransaction 1.2, section 3.2).
-pub fn push_completion_register(
+pub fn completion_register(
     alloc: Global,
-    outs: &mut OutList,
     moment: &Moment,
     activity: &Activity,
     to: &Epr,
-) -> Result<(), AllocError>
-    ensures { OnOk result
-        (outs.new
-        ≡ outs.old ++ out.Post (completion_register moment.entry.now.base activity.now to.now) ∷ []) }
+) -> Result<Post, AllocError>
+    ensures { IfOk result
+        (λ post. post ≡ completion_register moment.entry.now.base activity.now to.now) }
 {
     let own = target_of(activity);
-    push_register(alloc, outs, &moment.base, &own, completion_protocol(), to)
+    register_post(alloc, &moment.base, &own, completion_protocol(), to)
 }
 
 /// An activity's Commit or Rollback to the completion seat (WS-AtomicTransaction 1.2, section 3.2).
-pub fn push_completion(
+pub fn completion(
     alloc: Global,
-    outs: &mut OutList,
     moment: &Moment,
     activity: &Activity,
     notice: Notice,
-) -> Result<(), AllocError>
-    ensures { OnOk result
-        (outs.new
-        ≡ outs.old ++ map out.Post (complete_posts moment.entry.now.base notice activity.now)) }
+) -> Result<PostList, AllocError>
+    ensures { IfOk result
+        (λ posts. posts ≡ complete_posts moment.entry.now.base notice activity.now) }
 {
     let own = target_of(activity);
     match &activity.coordinator {
-        Some(to) => push_notice(alloc, outs, &moment.base, &own, to, notice),
-        None => Ok(()),
+        Some(to) => alone(alloc, notice_post(alloc, &moment.base, &own, to, notice)?),
+        None => Ok(PostList::new(alloc)),
     }
 }
 
 /// The fault InvalidState to the completion seat, or to the message's From while none is known.
-pub fn push_invalid_state(
+pub fn invalid_state(
     alloc: Global,
-    outs: &mut OutList,
     from: &Option<Epr>,
     id: &Option<Text>,
     activity: &Activity,
-) -> Result<(), AllocError>
-    ensures { OnOk result
-        (outs.new
-        ≡ outs.old
-        ++ map out.Post
-        (to_each (stored_or activity.now.coordinator from.now) (λ to. fault_post (Some to) id.now InvalidState))) }
+) -> Result<PostList, AllocError>
+    ensures { IfOk result
+        (λ posts. posts
+        ≡ to_each (stored_or activity.now.coordinator from.now) (λ to. fault_post (Some to) id.now InvalidState)) }
 {
     match stored_or(&activity.coordinator, from) {
-        Some(to) => push_fault(alloc, outs, to, id, Fault::InvalidState),
-        None => Ok(()),
+        Some(to) => {
+            let to = to.clone()?;
+            alone(alloc, fault_post(alloc, Some(to), id, Fault::InvalidState)?)
+        }
+        None => Ok(PostList::new(alloc)),
     }
 }

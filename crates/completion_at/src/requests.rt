@@ -5,27 +5,27 @@ ghost use Rattle.at_base.specs.declared.outs.Out.TheVariants as outcome;
 ghost use Rattle.at_model.specs.Activities.{service, create_post, asked_expires, new_activity, beginning, on_begin, on_interpose, on_ask, on_complete, is_active};
 ghost use Rattle.endpoints.specs.Addresses.{atomic, without_slash};
 ghost use Rattle.at_model.specs.Book.{Progress as Stage};
-ghost use Rattle.at_model.specs.Moves.{Goes};
+ghost use Rattle.at_model.specs.Moves.{Goes, begin, post, stays};
 ghost use Rattle.at_model.specs.Step.{refuses_named, works_left, only_begun};
-ghost use Rattle.by_id.specs.declared.plan.Plan.TheVariants as plans;
 ghost use Rattle.by_id.specs.Plans.{decided};
-ghost use Rattle.completion_at.specs.Branches.{kept};
 ghost use Rattle.completion_at.specs.Names.{progress_of, refusal_of};
 ghost use Rattle.completion_at.specs.ActivityPlans.{nothing, no_room, unless, begun, nth_work, begin_asked, interpose_asked, asked_of};
 
 use crate::activity::{Activity, Progress};
-use crate::posts::{push_completion, target_of};
-use crate::rules::{ignores, is_begun, kept, silent, unchanged};
+use crate::posts::{alone, completion, target_of};
+use crate::rules::{is_begun, kept};
 use at_base::epr::Epr;
 use at_base::event::Moment;
 use at_base::id::Id;
 use at_base::limits::MOST_ACTIVITIES;
 use at_base::message::{Context, Create, Message, Work, cloned_option};
 use at_base::notice::{Kind, Notice, Vote};
-use at_base::outs::{Out, OutList, Post};
+use at_base::outs::{Effects, Out, OutList, Outs, Post};
 use at_base::text::Text;
+use at_posts::list::PostList;
 use at_posts::posts::request_post;
 use by_id::list::Alteration;
+use by_id::moves::{Change, Decision, unchanged};
 use by_id::plan::{Branch, Plan};
 use by_id::times::deadline_of;
 use endpoints::addresses::{create_id, work_id};
@@ -164,7 +164,7 @@ fn create_of(
 }
 
 /// One message that is sent.
-fn alone(alloc: Global, post: Post) -> Result<OutList, AllocError>
+fn sends(alloc: Global, post: Post) -> Result<OutList, AllocError>
     ensures { IfOk result (λ outs. outs ≡ outcome.Post post ∷ []) }
 {
     let mut outs = OutList::from_vec(Vec::new(alloc));
@@ -206,10 +206,13 @@ fn beginning(
         ≡ begun (beginning moment.entry.now.base coordinator.now expires current.now activity)) }
 {
     let post = create_post(alloc, moment, &activity, coordinator, expires, current)?;
-    let outs = alone(alloc, post)?;
+    let outs = sends(alloc, post)?;
     Ok(Plan::Plain(Branch {
         change: Alteration::Add(activity),
-        outs: silent(alloc, outs),
+        outs: Outs {
+            outs,
+            effects: Effects::from_vec(Vec::new(alloc)),
+        },
     }))
 }
 
@@ -370,15 +373,13 @@ fn nth_work(
     n: u32,
     url: &Text,
     work: Work,
-) -> Result<OutList, AllocError>
-    ensures { IfOk result
-        (λ outs. outs ≡ outcome.Post (nth_work moment.entry.now.base activity.now n url.now work) ∷ []) }
+) -> Result<Post, AllocError>
+    ensures { IfOk result (λ post. post ≡ nth_work moment.entry.now.base activity.now n url.now work) }
 {
     let own = target_of(activity);
     let to = service(alloc, url, "/work")?;
     let id = work_id(alloc, &moment.base, &own, n)?;
-    let post = request_post(alloc, &moment.base, &own, &to, id, Message::Work(work))?;
-    alone(alloc, post)
+    request_post(alloc, &moment.base, &own, &to, id, Message::Work(work))
 }
 
 /// A copy of the activity that has sent so many Works.
@@ -406,16 +407,16 @@ fn sends_work(
     work: Work,
     n: u32,
     activity: &Activity,
-) -> Result<Plan<Activity>, AllocError>
+) -> Result<Change<Activity>, AllocError>
     ensures { IfOk result
-        (λ plan. plan
-        ≡ plans.Plain
-        (kept (record activity.now { works = n })
-        (outcome.Post (nth_work moment.entry.now.base activity.now n url.now work) ∷ []))) }
+        (λ change. change
+        ≡ stays
+        (post (nth_work moment.entry.now.base activity.now n url.now work)
+        (begin (record activity.now { works = n })))) }
 {
-    let outs = nth_work(alloc, moment, activity, n, url, work)?;
+    let posts = alone(alloc, nth_work(alloc, moment, activity, n, url, work)?)?;
     let next = counted(activity, n)?;
-    Ok(Plan::Plain(kept(alloc, next, outs)))
+    Ok(kept(alloc, next, posts))
 }
 
 /// Work at an activity that can count it.
@@ -429,21 +430,31 @@ fn asks(
     key: &Text,
     value: &Text,
     activity: &Activity,
-) -> Result<Plan<Activity>, AllocError>
+) -> Result<Change<Activity>, AllocError>
     requires { activity.now.works < 4294967295 }
     ensures { IfOk result
-        (λ plan. plan
-        ≡ decided [] activity.now.id
-        (Goes
-        (on_ask moment.entry.now url.now kind vote key.now value.now activity.now activity.now.context))) }
+        (λ change. change
+        ≡ on_ask moment.entry.now url.now kind vote key.now value.now activity.now activity.now.context) }
 {
     match &activity.context {
         Some(context) => {
             let work = work_of(context, kind, vote, key, value)?;
             sends_work(alloc, moment, url, work, next_work(activity), activity)
         }
-        None => ignores(alloc, OutList::from_vec(Vec::new(alloc)), activity),
+        None => Ok(kept(alloc, activity.clone()?, PostList::new(alloc))),
     }
+}
+
+/// What a request does to the activity that it names.
+fn asked_of(
+    alloc: Global,
+    activity: &Activity,
+    change: Change<Activity>,
+) -> Result<Plan<Activity>, AllocError>
+    ensures { IfOk result (λ plan. plan ≡ decided [] activity.now.id (Goes change)) }
+{
+    let answer = OutList::from_vec(Vec::new(alloc));
+    Decision::Goes(change).into_plan(alloc, answer, activity.id)
 }
 
 /// Work: asks a service for work under the activity's context.
@@ -465,9 +476,10 @@ pub fn ask(
         (option_copied found.entry))) }
 {
     match found {
-        Some(activity) if is_active(activity.progress) && activity.works < u32::MAX => asks(
-            alloc, moment, url, kind, vote, key, value, activity,
-        ),
+        Some(activity) if is_active(activity.progress) && activity.works < u32::MAX => {
+            let change = asks(alloc, moment, url, kind, vote, key, value, activity)?;
+            asked_of(alloc, activity, change)
+        }
         _ => Ok(nothing(alloc)),
     }
 }
@@ -491,14 +503,12 @@ fn completes(
     moment: &Moment,
     notice: Notice,
     activity: &Activity,
-) -> Result<Plan<Activity>, AllocError>
-    ensures { IfOk result
-        (λ plan. plan ≡ decided [] activity.now.id (Goes (on_complete moment.entry.now notice activity.now))) }
+) -> Result<Change<Activity>, AllocError>
+    ensures { IfOk result (λ change. change ≡ on_complete moment.entry.now notice activity.now) }
 {
-    let mut outs = OutList::from_vec(Vec::new(alloc));
-    push_completion(alloc, &mut outs, moment, activity, notice)?;
+    let posts = completion(alloc, moment, activity, notice)?;
     let next = completing(moment, notice, activity)?;
-    Ok(Plan::Plain(kept(alloc, next, outs)))
+    Ok(kept(alloc, next, posts))
 }
 
 /// Commit or Rollback: asks the completion seat for that outcome (WS-AtomicTransaction 1.2, section 3.2).
@@ -514,9 +524,10 @@ pub fn complete(
         (asked_of (on_complete moment.entry.now notice) (option_copied found.entry))) }
 {
     match found {
-        Some(activity) if is_active(activity.progress) && is_begun(activity) => completes(
-            alloc, moment, notice, activity,
-        ),
+        Some(activity) if is_active(activity.progress) && is_begun(activity) => {
+            let change = completes(alloc, moment, notice, activity)?;
+            asked_of(alloc, activity, change)
+        }
         _ => Ok(nothing(alloc)),
     }
 }

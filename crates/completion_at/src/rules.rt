@@ -1,111 +1,69 @@
 //! What a message does to one activity (WS-AtomicTransaction 1.2, sections 3.2 and 10).
 
-ghost use Rattle.std.specs.Prelude.{◌≡◌, ◌++◌, ◌∷◌, IfOk, [], Some, None, map, if◌then◌else◌, bytes_eq};
+ghost use Rattle.std.specs.Prelude.{◌≡◌, IfOk, [], Some, None, if◌then◌else◌, bytes_eq};
 ghost use Rattle.at_base.specs.declared.fault.Fault.TheVariants.{InvalidState, UnknownTransaction};
 ghost use Rattle.at_base.specs.Names.{fault_name};
-ghost use Rattle.at_base.specs.declared.outs.Out.TheVariants as outcome;
 ghost use Rattle.at_base.specs.declared.outs.Told.TheVariants as tellings;
 ghost use Rattle.at_model.specs.Activities.{activity_target, activity_state, is_begun, told, activity_act, activity_notice, completion_register, with_context, activity_created, activity_registered, activity_fault, on_activity};
 ghost use Rattle.endpoints.specs.Addresses.{create_id, register_id};
 ghost use Rattle.at_model.specs.Arrivals.{relates_to};
 ghost use Rattle.at_model.specs.Book.{Progress as Stage};
-ghost use Rattle.at_model.specs.Moves.{begin, ignored, stays, Goes};
+ghost use Rattle.at_model.specs.Moves.{begin, ignored, post, posts, stays, Goes};
 ghost use Rattle.at_model.specs.Posts.{fault_post, stored_or, to_each};
 ghost use Rattle.at_tables.specs.Tables.{initiator_of};
-ghost use Rattle.by_id.specs.Plans.{changed, decided, unchanged};
-ghost use Rattle.completion_at.specs.Branches.{kept, ended};
+ghost use Rattle.by_id.specs.Decisions.{decision_of};
 ghost use Rattle.completion_at.specs.Names.{progress_of};
 
 use crate::activity::{Activity, Progress};
-use crate::posts::{push_completion_register, push_invalid_state, target_of};
+use crate::posts::{alone, completion_register, invalid_state, target_of};
 use at_base::epr::Epr;
 use at_base::event::{Arrived, Moment};
 use at_base::message::{Context, Message};
 use at_base::notice::Notice;
-use at_base::outs::{Effect, Effects, OutList, Outs, Told};
+use at_base::outs::{Effect, Effects, Told};
 use at_base::text::Text;
 use at_posts::answers::relates_to;
+use at_posts::list::PostList;
 use at_tables::cells::{Act, State, initiator_cell};
-use by_id::list::{Alteration, is_same};
-use by_id::plan::{Branch, Plan};
+use by_id::list::is_same;
+use by_id::moves::{Change, Decision, ignored};
 use endpoints::addresses::{create_id, register_id};
 use std::alloc::{AllocError, Global};
 
-/// What is sent, with no effect.
-pub fn silent(alloc: Global, outs: OutList) -> Outs
-    ensures { result ≡ record { outs = outs; effects = [] } }
+/// The activity is given anew, and this is posted.
+pub fn kept(alloc: Global, activity: Activity, posts: PostList) -> Change<Activity>
+    ensures { result ≡ record { item = Some activity; posts = posts; effects = [] } }
 {
-    Outs {
-        outs,
+    Change {
+        item: Some(activity),
+        posts,
         effects: Effects::from_vec(Vec::new(alloc)),
     }
 }
 
-/// The activity is given anew.
-pub fn kept(alloc: Global, activity: Activity, outs: OutList) -> Branch<Activity>
-    ensures { result ≡ kept activity outs }
-{
-    Branch {
-        change: Alteration::Put {
-            id: activity.id,
-            item: Some(activity),
-        },
-        outs: silent(alloc, outs),
-    }
-}
-
-/// Nothing is done, and only this is sent.
-pub fn unchanged(alloc: Global, outs: OutList) -> Branch<Activity>
-    ensures { result ≡ unchanged outs }
-{
-    Branch {
-        change: Alteration::Keep,
-        outs: silent(alloc, outs),
-    }
-}
-
-/// The activity ended, and is told how.
-fn ended(
-    alloc: Global,
-    activity: &Activity,
-    what: Told,
-    outs: OutList,
-) -> Result<Branch<Activity>, AllocError>
-    ensures { IfOk result (λ branch. branch ≡ ended activity.now what outs) }
-{
-    let id = activity.id;
-    let mut outs = silent(alloc, outs);
-    outs.effects.push(Effect::Told { id, what })?;
-    Ok(Branch {
-        change: Alteration::Put { id, item: None },
-        outs,
-    })
-}
-
 /// The activity ends, and is told how.
-#[tactic(auto, using(crate::proofs::ListEnds::nothing_more))]
 pub fn told(
     alloc: Global,
-    outs: OutList,
     activity: &Activity,
     what: Told,
-) -> Result<Plan<Activity>, AllocError>
-    ensures { IfOk result (λ plan. plan ≡ decided outs activity.now.id (told what activity.now)) }
+) -> Result<Decision<Activity>, AllocError>
+    ensures { IfOk result (λ decision. decision_of decision ≡ told what activity.now) }
 {
-    Ok(Plan::Plain(ended(alloc, activity, what, outs)?))
+    let id = activity.id;
+    let mut effects = Effects::from_vec(Vec::new(alloc));
+    effects.push(Effect::Told { id, what })?;
+    Ok(Decision::Goes(Change {
+        item: None,
+        posts: PostList::new(alloc),
+        effects,
+    }))
 }
 
 /// Nothing happens to the activity.
-#[tactic(auto, using(crate::proofs::ListEnds::nothing_more))]
-pub fn ignores(
-    alloc: Global,
-    outs: OutList,
-    activity: &Activity,
-) -> Result<Plan<Activity>, AllocError>
-    ensures { IfOk result (λ plan. plan ≡ decided outs activity.now.id (ignored activity.now)) }
+pub fn ignores(alloc: Global, activity: &Activity) -> Result<Decision<Activity>, AllocError>
+    ensures { IfOk result (λ decision. decision_of decision ≡ ignored activity.now) }
 {
-    let same = activity.clone()?;
-    Ok(Plan::Plain(kept(alloc, same, outs)))
+    Ok(ignored(alloc, activity.clone()?))
 }
 
 /// Whether an activity was begun, and so may commit.
@@ -129,44 +87,41 @@ fn state_of(progress: Progress) -> State
 /// The fault InvalidState, which leaves the activity as it stands.
 fn faults(
     alloc: Global,
-    mut outs: OutList,
     from: &Option<Epr>,
     id: &Option<Text>,
     activity: &Activity,
-) -> Result<Branch<Activity>, AllocError>
+) -> Result<Change<Activity>, AllocError>
     ensures { IfOk result
-        (λ branch. branch
-        ≡ kept activity.now
-        (outs
-        ++ map outcome.Post
-        (to_each (stored_or activity.now.coordinator from.now) (λ to. fault_post (Some to) id.now InvalidState)))) }
+        (λ change. change
+        ≡ stays
+        (posts
+        (to_each (stored_or activity.now.coordinator from.now) (λ to. fault_post (Some to) id.now InvalidState))
+        (begin activity.now))) }
 {
-    push_invalid_state(alloc, &mut outs, from, id, activity)?;
+    let posts = invalid_state(alloc, from, id, activity)?;
     let same = activity.clone()?;
-    Ok(kept(alloc, same, outs))
+    Ok(kept(alloc, same, posts))
 }
 
 /// An act of the initiator's table at an activity.
 #[tactic(auto, unfolding(at_model::specs::Activities::activity_act))]
 fn acts(
     alloc: Global,
-    outs: OutList,
     moment: &Moment,
     from: &Option<Epr>,
     id: &Option<Text>,
     activity: &Activity,
     act: Act,
-) -> Result<Plan<Activity>, AllocError>
+) -> Result<Decision<Activity>, AllocError>
     ensures { IfOk result
-        (λ plan. plan
-        ≡ decided outs activity.now.id
-        (activity_act moment.entry.now from.now id.now activity.now act)) }
+        (λ decision. decision_of decision
+        ≡ activity_act moment.entry.now from.now id.now activity.now act) }
 {
     match act {
-        Act::TellCommitted => told(alloc, outs, activity, Told::Committed),
-        Act::TellAborted => told(alloc, outs, activity, Told::Aborted),
-        Act::FaultInvalidState => Ok(Plan::Plain(faults(alloc, outs, from, id, activity)?)),
-        _ => ignores(alloc, outs, activity),
+        Act::TellCommitted => told(alloc, activity, Told::Committed),
+        Act::TellAborted => told(alloc, activity, Told::Aborted),
+        Act::FaultInvalidState => Ok(Decision::Goes(faults(alloc, from, id, activity)?)),
+        _ => ignores(alloc, activity),
     }
 }
 
@@ -174,22 +129,20 @@ fn acts(
 #[tactic(auto, unfolding(at_model::specs::Activities::activity_notice))]
 fn notified(
     alloc: Global,
-    outs: OutList,
     moment: &Moment,
     from: &Option<Epr>,
     id: &Option<Text>,
     activity: &Activity,
     notice: Notice,
-) -> Result<Plan<Activity>, AllocError>
+) -> Result<Decision<Activity>, AllocError>
     ensures { IfOk result
-        (λ plan. plan
-        ≡ decided outs activity.now.id
-        (activity_notice moment.entry.now from.now id.now activity.now
-        (initiator_of (activity_state activity.now.progress) notice))) }
+        (λ decision. decision_of decision
+        ≡ activity_notice moment.entry.now from.now id.now activity.now
+        (initiator_of (activity_state activity.now.progress) notice)) }
 {
     match initiator_cell(state_of(activity.progress), notice) {
-        Some(cell) => acts(alloc, outs, moment, from, id, activity, cell.act),
-        None => ignores(alloc, outs, activity),
+        Some(cell) => acts(alloc, moment, from, id, activity, cell.act),
+        None => ignores(alloc, activity),
     }
 }
 
@@ -258,72 +211,69 @@ fn registering(
 /// A begun activity has its context, and registers for Completion.
 fn registers(
     alloc: Global,
-    mut outs: OutList,
     moment: &Moment,
     activity: &Activity,
     context: &Context,
-) -> Result<Branch<Activity>, AllocError>
+) -> Result<Change<Activity>, AllocError>
     ensures { IfOk result
-        (λ branch. branch
-        ≡ kept
-        (record activity.now {
+        (λ change. change
+        ≡ stays
+        (post (completion_register moment.entry.now.base activity.now context.now.registration)
+        (begin (record activity.now {
           progress = Stage.Registering;
           context = Some context.now;
           sent = Some moment.entry.now.now;
-        })
-        (outs
-        ++ outcome.Post (completion_register moment.entry.now.base activity.now context.now.registration) ∷ [])) }
+        })))) }
 {
-    push_completion_register(alloc, &mut outs, moment, activity, &context.registration)?;
+    let posts = alone(
+        alloc,
+        completion_register(alloc, moment, activity, &context.registration)?,
+    )?;
     let next = registering(moment, activity, context)?;
-    Ok(kept(alloc, next, outs))
+    Ok(kept(alloc, next, posts))
 }
 
 /// An activity has its context: a begun one registers for Completion, and an interposed one is Active.
-#[tactic(auto, using(crate::proofs::ListEnds::nothing_more))]
 fn with_context(
     alloc: Global,
-    outs: OutList,
     moment: &Moment,
     activity: &Activity,
     context: &Context,
-) -> Result<Plan<Activity>, AllocError>
+) -> Result<Decision<Activity>, AllocError>
     ensures { IfOk result
-        (λ plan. plan
-        ≡ decided outs activity.now.id (with_context moment.entry.now context.now activity.now)) }
+        (λ decision. decision_of decision
+        ≡ with_context moment.entry.now context.now activity.now) }
 {
     if is_begun(activity) {
-        return Ok(Plan::Plain(registers(alloc, outs, moment, activity, context)?));
+        return Ok(Decision::Goes(registers(alloc, moment, activity, context)?));
     }
     let next = given(activity, context, Progress::Active)?;
-    Ok(Plan::Plain(kept(alloc, next, outs)))
+    Ok(Decision::Goes(kept(alloc, next, PostList::new(alloc))))
 }
 
 /// A CreateCoordinationContextResponse at an activity.
 #[tactic(auto, unfolding(at_model::specs::Activities::activity_created))]
 fn created(
     alloc: Global,
-    outs: OutList,
     moment: &Moment,
     relates: &Option<Text>,
     context: &Context,
     activity: &Activity,
-) -> Result<Plan<Activity>, AllocError>
+) -> Result<Decision<Activity>, AllocError>
     ensures { IfOk result
-        (λ plan. plan
-        ≡ decided outs activity.now.id
-        (activity_created moment.entry.now relates.now context.now activity.now activity.now.progress)) }
+        (λ decision. decision_of decision
+        ≡ activity_created moment.entry.now relates.now context.now activity.now activity.now.progress) }
 {
     match activity.progress {
         Progress::Creating => {
             if answers_create(alloc, moment, relates, activity)? {
-                with_context(alloc, outs, moment, activity, context)
+                with_context(alloc, moment, activity, context)
             } else {
-                ignores(alloc, outs, activity)
+                ignores(alloc, activity)
             }
         }
         Progress::Registering | Progress::Active | Progress::Completing(_) => ignores(
-            alloc, outs, activity,
+            alloc, activity,
         ),
     }
 }
@@ -342,29 +292,26 @@ fn registered_at(activity: &Activity, coordinator: &Epr) -> Result<Activity, All
 }
 
 /// The activity is registered at this endpoint, where the message answers its Register.
-#[tactic(auto, using(crate::proofs::ListEnds::nothing_more))]
 fn registers_at(
     alloc: Global,
-    outs: OutList,
     moment: &Moment,
     relates: &Option<Text>,
     coordinator: &Epr,
     activity: &Activity,
-) -> Result<Plan<Activity>, AllocError>
+) -> Result<Decision<Activity>, AllocError>
     ensures { IfOk result
-        (λ plan. plan
-        ≡ decided outs activity.now.id
-        (if relates_to relates.now (register_id moment.entry.now.base (activity_target activity.now))
+        (λ decision. decision_of decision
+        ≡ if relates_to relates.now (register_id moment.entry.now.base (activity_target activity.now))
         then Goes
         (stays
         (begin (record activity.now { progress = Stage.Active; coordinator = Some coordinator.now })))
-        else ignored activity.now)) }
+        else ignored activity.now) }
 {
     if answers_register(alloc, moment, relates, activity)? {
         let next = registered_at(activity, coordinator)?;
-        Ok(Plan::Plain(kept(alloc, next, outs)))
+        Ok(Decision::Goes(kept(alloc, next, PostList::new(alloc))))
     } else {
-        ignores(alloc, outs, activity)
+        ignores(alloc, activity)
     }
 }
 
@@ -372,41 +319,36 @@ fn registers_at(
 #[tactic(auto, unfolding(at_model::specs::Activities::activity_registered))]
 fn registered(
     alloc: Global,
-    outs: OutList,
     moment: &Moment,
     relates: &Option<Text>,
     coordinator: &Epr,
     activity: &Activity,
-) -> Result<Plan<Activity>, AllocError>
+) -> Result<Decision<Activity>, AllocError>
     ensures { IfOk result
-        (λ plan. plan
-        ≡ decided outs activity.now.id
-        (activity_registered moment.entry.now relates.now coordinator.now activity.now activity.now.progress)) }
+        (λ decision. decision_of decision
+        ≡ activity_registered moment.entry.now relates.now coordinator.now activity.now activity.now.progress) }
 {
     match activity.progress {
-        Progress::Registering => registers_at(alloc, outs, moment, relates, coordinator, activity),
-        Progress::Creating | Progress::Active | Progress::Completing(_) => ignores(
-            alloc, outs, activity,
-        ),
+        Progress::Registering => registers_at(alloc, moment, relates, coordinator, activity),
+        Progress::Creating | Progress::Active | Progress::Completing(_) => ignores(alloc, activity),
     }
 }
 
 /// The activity is told this, where that holds, and else nothing happens.
 fn told_if(
     alloc: Global,
-    outs: OutList,
     activity: &Activity,
     holds: bool,
     what: Told,
-) -> Result<Plan<Activity>, AllocError>
+) -> Result<Decision<Activity>, AllocError>
     ensures { IfOk result
-        (λ plan. plan
-        ≡ decided outs activity.now.id (if holds then told what activity.now else ignored activity.now)) }
+        (λ decision. decision_of decision
+        ≡ if holds then told what activity.now else ignored activity.now) }
 {
     if holds {
-        told(alloc, outs, activity, what)
+        told(alloc, activity, what)
     } else {
-        ignores(alloc, outs, activity)
+        ignores(alloc, activity)
     }
 }
 
@@ -421,28 +363,26 @@ fn is_unknown(name: &Text) -> bool
 #[tactic(auto, unfolding(at_model::specs::Activities::activity_fault))]
 fn faulted(
     alloc: Global,
-    outs: OutList,
     moment: &Moment,
     relates: &Option<Text>,
     name: &Text,
     activity: &Activity,
-) -> Result<Plan<Activity>, AllocError>
+) -> Result<Decision<Activity>, AllocError>
     ensures { IfOk result
-        (λ plan. plan
-        ≡ decided outs activity.now.id
-        (activity_fault moment.entry.now relates.now name.now activity.now activity.now.progress)) }
+        (λ decision. decision_of decision
+        ≡ activity_fault moment.entry.now relates.now name.now activity.now activity.now.progress) }
 {
     match activity.progress {
         Progress::Creating => {
             let answers = answers_create(alloc, moment, relates, activity)?;
-            told_if(alloc, outs, activity, answers, Told::Refused)
+            told_if(alloc, activity, answers, Told::Refused)
         }
         Progress::Registering => {
             let answers = answers_register(alloc, moment, relates, activity)?;
-            told_if(alloc, outs, activity, answers, Told::Refused)
+            told_if(alloc, activity, answers, Told::Refused)
         }
-        Progress::Active => ignores(alloc, outs, activity),
-        Progress::Completing(_) => told_if(alloc, outs, activity, is_unknown(name), Told::Unknown),
+        Progress::Active => ignores(alloc, activity),
+        Progress::Completing(_) => told_if(alloc, activity, is_unknown(name), Told::Unknown),
     }
 }
 
@@ -450,32 +390,27 @@ fn faulted(
 #[tactic(auto, unfolding(at_model::specs::Activities::on_activity))]
 pub fn on_activity(
     alloc: Global,
-    outs: OutList,
     moment: &Moment,
     arrived: &Arrived,
     activity: &Activity,
-) -> Result<Plan<Activity>, AllocError>
+) -> Result<Decision<Activity>, AllocError>
     ensures { IfOk result
-        (λ plan. plan
-        ≡ decided outs activity.now.id
-        (on_activity moment.entry.now arrived.now activity.now arrived.now.message)) }
+        (λ decision. decision_of decision
+        ≡ on_activity moment.entry.now arrived.now activity.now arrived.now.message) }
 {
     let relates = &arrived.relates;
     match &arrived.message {
         Message::Notice(notice) => notified(
             alloc,
-            outs,
             moment,
             &arrived.from,
             &arrived.id,
             activity,
             *notice,
         ),
-        Message::CreateResponse(context) => created(
-            alloc, outs, moment, relates, context, activity,
-        ),
-        Message::RegisterResponse(to) => registered(alloc, outs, moment, relates, to, activity),
-        Message::Fault { name } => faulted(alloc, outs, moment, relates, name, activity),
-        _ => ignores(alloc, outs, activity),
+        Message::CreateResponse(context) => created(alloc, moment, relates, context, activity),
+        Message::RegisterResponse(to) => registered(alloc, moment, relates, to, activity),
+        Message::Fault { name } => faulted(alloc, moment, relates, name, activity),
+        _ => ignores(alloc, activity),
     }
 }

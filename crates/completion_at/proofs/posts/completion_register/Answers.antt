@@ -1,0 +1,9 @@
+use Rattle.at_model.specs.Posts.{register_post}
+use Rattle.completion_at.proofs.EqualAnswers.{given}
+use Rattle.completion_at.proofs.posts.completion_register.Goals as goal
+
+pub returns : goal.returns
+returns c =
+    given c.register_post.result _ _
+    (λ i. register_post c.args.moment.now.base (c.target_of-own.ensures i) (c.completion_protocol.ensures i) c.args.to.now)
+    c.register_post.ensures
