@@ -1,6 +1,6 @@
 //! Lists of messages that are sent.
 
-ghost use Rattle.std.specs.Prelude.{◌≡◌, ◌++◌, ◌∷◌, [], OnOk, OnErr};
+ghost use Rattle.std.specs.Prelude.{◌≡◌, ◌++◌, ◌∷◌, [], IfOk, OnOk, OnErr};
 ghost use Rattle.at_base.specs.declared.outs.Out.TheVariants as out;
 
 use at_base::outs::{Out, OutList, Post};
@@ -30,6 +30,15 @@ impl PostList {
         PostList {
             items: Vec::new(alloc),
         }
+    }
+
+    /// One message.
+    pub fn alone(alloc: Global, post: Post) -> Result<PostList, AllocError>
+        ensures { IfOk result (λ posts. posts ≡ post ∷ []) }
+    {
+        let mut posts = PostList::new(alloc);
+        posts.push(post)?;
+        Ok(posts)
     }
 
     /// The list of a `Vec`, without a copy.

@@ -1,3 +1,4 @@
 pub mod Lists
 pub mod Plans
 pub mod Decisions
+pub mod Fates

@@ -26,6 +26,23 @@ unchanged answer = record { change = alterations.Keep; outs = record { outs = an
 abbrev pub added : {A : Type 0} → A → List Out → Branch A
 added item answer = record { change = alterations.Add item; outs = record { outs = answer; effects = [] } }
 
+-- only this is sent
+abbrev pub still : {A : Type 0} → List Out → Plan A
+still answer = plans.Plain (unchanged answer)
+
+-- The event is none for the list.
+abbrev pub nothing : {A : Type 0} → Plan A
+nothing = still []
+
+-- an item is made, and this is sent
+abbrev pub making : {A : Type 0} → A → List Out → Plan A
+making item answer = plans.Plain (added item answer)
+
+-- What is made, or nothing, and what is sent.
+abbrev pub made : {A : Type 0} → Option A → List Out → Plan A
+made None answer = still answer
+made (Some item) answer = making item answer
+
 -- What becomes of the item of this id, behind this answer.
 abbrev pub changed : {A : Type 0} → List Out → Numbers → Change A → Branch A
 changed answer id c = record {

@@ -1,7 +1,8 @@
 //! Lists of live items that are found by their ids, in the order of making: the one form of list that every core keeps;
-//! the moves of one item; and when an item is due.
+//! what an event does to one item, and the plan of it; and when an item is due.
 #![tactic(auto)]
 
+pub mod fates;
 pub mod list;
 pub mod moves;
 pub mod plan;

@@ -1,11 +1,13 @@
 //! What a core decided, before it is done.
 
 ghost use Rattle.std.specs.Prelude.{◌≡◌, option_copied};
-ghost use Rattle.by_id.specs.Plans.{entry_of, branch_of};
+ghost use Rattle.by_id.specs.Plans.{entry_of, branch_of, nothing, still, making};
 
 use crate::list::Alteration;
-use at_base::outs::Outs;
+use crate::moves::unchanged;
+use at_base::outs::{Effects, OutList, Outs};
 use at_base::record::Record;
+use std::alloc::Global;
 
 /// One way on: what becomes of the list, and what is sent and happened.
 #[derive(Debug, PartialEq, Eq, Drop)]
@@ -43,6 +45,33 @@ impl<T: Drop> Drop for Plan<T> {
 }
 
 impl<T: Drop> Plan<T> {
+    /// Nothing is done, and only this answer is sent.
+    pub fn still(alloc: Global, answer: OutList) -> Plan<T>
+        ensures { result ≡ still answer }
+    {
+        Plan::Plain(unchanged(alloc, answer))
+    }
+
+    /// The event is none for the list.
+    pub fn nothing(alloc: Global) -> Plan<T>
+        ensures { result ≡ nothing }
+    {
+        Plan::still(alloc, OutList::from_vec(Vec::new(alloc)))
+    }
+
+    /// One item more, and this is sent.
+    pub fn making(alloc: Global, item: T, answer: OutList) -> Plan<T>
+        ensures { result ≡ making item answer }
+    {
+        Plan::Plain(Branch {
+            change: Alteration::Add(item),
+            outs: Outs {
+                outs: answer,
+                effects: Effects::from_vec(Vec::new(alloc)),
+            },
+        })
+    }
+
     /// The record that is appended before the plan is done.
     pub fn entry(&self) -> Option<&Record>
         ensures { option_copied result ≡ entry_of self.now }

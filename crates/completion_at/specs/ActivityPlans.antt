@@ -28,18 +28,13 @@ use Rattle.by_id.specs.Lists.{add_to}
 use Rattle.by_id.specs.declared.list.Alteration.{Alteration}
 use Rattle.by_id.specs.declared.list.Alteration.TheVariants as alterations
 use Rattle.by_id.specs.declared.plan.Plan.{Plan}
-use Rattle.by_id.specs.declared.plan.Plan.TheVariants as plans
-use Rattle.by_id.specs.Plans.{unchanged, added, decided}
+use Rattle.by_id.specs.Plans.{nothing, making, decided}
 
 -- What becomes of the list: with an activity that is dropped go all that are under it.
 abbrev pub settled : Alteration Activity → List Activity → List Activity
 settled alterations.Keep xs = xs
 settled (alterations.Put id a) xs = put_activities id a xs
 settled (alterations.Add a) xs = add_to a xs
-
--- The event is none for an activity.
-abbrev pub nothing : Plan Activity
-nothing = plans.Plain (unchanged [])
 
 -- A message at the activity of this id.
 abbrev pub activity_arrived : Moment → Arrived → Option Activity → Plan Activity
@@ -89,7 +84,7 @@ nth_work base a n url w =
 
 -- one activity more
 abbrev pub begun : Beginning → Plan Activity
-begun x = plans.Plain (added x.activity (map outs.Post x.posts))
+begun x = making x.activity (map outs.Post x.posts)
 
 abbrev pub begin_asked : Moment → List ℕ → ℕ → Option Numbers → Plan Activity
 begin_asked m coordinator ms None = nothing

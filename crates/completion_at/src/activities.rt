@@ -13,8 +13,7 @@ ghost use Rattle.completion_at.specs.BookPlans.{PlansAsTheModel, RefusesAsTheMod
 use crate::activity::Activity;
 use crate::due::on_due;
 use crate::requests::{
-    Refusal, ask, begin, complete, interpose, no_room, nothing, only_begun, refuses_named,
-    works_left,
+    Refusal, ask, begin, complete, interpose, no_room, only_begun, refuses_named, works_left,
 };
 use crate::rules::on_activity;
 use at_base::event::{Arrived, Event, Item, Local, Moment};
@@ -74,9 +73,9 @@ fn activity_arrived(
     match found {
         Some(activity) => {
             let answer = accepted(alloc)?;
-            on_activity(alloc, moment, arrived, activity)?.into_plan(alloc, answer, activity.id)
+            on_activity(alloc, moment, arrived, activity)?.into_plan(alloc, answer, activity)
         }
-        None => Ok(nothing(alloc)),
+        None => Ok(Plan::nothing(alloc)),
     }
 }
 
@@ -91,9 +90,9 @@ fn activity_asked(
     match found {
         Some(activity) => {
             let answer = OutList::from_vec(Vec::new(alloc));
-            on_due(alloc, moment, activity)?.into_plan(alloc, answer, activity.id)
+            on_due(alloc, moment, activity)?.into_plan(alloc, answer, activity)
         }
-        None => Ok(nothing(alloc)),
+        None => Ok(Plan::nothing(alloc)),
     }
 }
 
@@ -240,7 +239,7 @@ impl Activities {
     {
         match arrived.target {
             Target::Initiator(id) => activity_arrived(alloc, moment, arrived, self.live.find(id)),
-            _ => Ok(nothing(alloc)),
+            _ => Ok(Plan::nothing(alloc)),
         }
     }
 
@@ -255,7 +254,7 @@ impl Activities {
     {
         match item {
             Item::Activity(id) => activity_asked(alloc, moment, self.live.find(id)),
-            Item::Transaction(_) | Item::Leaf(_) => Ok(nothing(alloc)),
+            Item::Transaction(_) | Item::Leaf(_) => Ok(Plan::nothing(alloc)),
         }
     }
 
@@ -272,7 +271,7 @@ impl Activities {
             Event::Arrived(arrived) => self.arrived_at(alloc, moment, arrived),
             Event::Due(item) => self.item_asked(alloc, moment, *item),
             Event::Local(local) => self.requested(alloc, moment, local),
-            Event::Tick => Ok(nothing(alloc)),
+            Event::Tick => Ok(Plan::nothing(alloc)),
         }
     }
 

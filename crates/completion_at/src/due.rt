@@ -6,18 +6,18 @@ ghost use Rattle.at_model.specs.Activities.{is_begun};
 ghost use Rattle.at_model.specs.Due.{has_come, is_quiet, is_some_post, before_active, activity_again, activity_due, activity_reached, completion_register_again};
 ghost use Rattle.at_model.specs.Moves.{begin, posts, stays};
 ghost use Rattle.at_model.specs.Step.{is_reached};
-ghost use Rattle.by_id.specs.Decisions.{decision_of};
+ghost use Rattle.by_id.specs.Fates.{meant, turn_of};
 ghost use Rattle.completion_at.specs.Names.{progress_of};
 
 use crate::activity::{Activity, Progress};
-use crate::posts::{alone, completion, completion_register};
-use crate::rules::{ignores, is_begun, kept, told};
+use crate::posts::{completion, completion_register};
+use crate::rules::{is_begun, told};
 use at_base::event::Moment;
 use at_base::id::Id;
 use at_base::outs::Told;
 use at_posts::list::PostList;
+use by_id::fates::{Choice, Fate, Turn};
 use by_id::list::Identified;
-use by_id::moves::{Change, Decision};
 use by_id::times::{has_come, is_quiet};
 use std::alloc::{AllocError, Global};
 
@@ -98,10 +98,10 @@ fn register_again(
         ≡ completion_register_again moment.entry.now.base activity.now activity.now.context) }
 {
     match &activity.context {
-        Some(context) => alone(
-            alloc,
-            completion_register(alloc, moment, activity, &context.registration)?,
-        ),
+        Some(context) => {
+            let register = completion_register(alloc, moment, activity, &context.registration)?;
+            PostList::alone(alloc, register)
+        }
         None => Ok(PostList::new(alloc)),
     }
 }
@@ -132,16 +132,16 @@ fn sends_again(
     alloc: Global,
     moment: &Moment,
     activity: &Activity,
-) -> Result<Change<Activity>, AllocError>
+) -> Result<Turn<Activity>, AllocError>
     ensures { IfOk result
-        (λ change. change
+        (λ turn. turn_of (Some activity.now) turn
         ≡ stays
         (posts (activity_again moment.entry.now.base activity.now activity.now.progress)
         (begin (record activity.now { sent = Some moment.entry.now.now })))) }
 {
     let posts = again(alloc, moment, activity)?;
     let next = sent_now(moment, activity)?;
-    Ok(kept(alloc, next, posts))
+    Ok(Turn::silent(alloc, Fate::Put(next), posts))
 }
 
 /// An activity that is asked whether it is due.
@@ -150,16 +150,16 @@ pub fn on_due(
     alloc: Global,
     moment: &Moment,
     activity: &Activity,
-) -> Result<Decision<Activity>, AllocError>
+) -> Result<Choice<Activity>, AllocError>
     ensures { IfOk result
-        (λ decision. decision_of decision
+        (λ choice. meant (Some activity.now) choice
         ≡ activity_reached moment.entry.now activity.now (activity_due moment.entry.now activity.now)) }
 {
     if is_expired(moment, activity) {
         return told(alloc, activity, Told::Unknown);
     }
     if is_unanswered(moment, activity) {
-        return Ok(Decision::Goes(sends_again(alloc, moment, activity)?));
+        return Ok(Choice::Goes(sends_again(alloc, moment, activity)?));
     }
-    ignores(alloc, activity)
+    Ok(Choice::ignored(alloc))
 }

@@ -1,6 +1,6 @@
 //! What an activity sends again, and the faults that it sends.
 
-ghost use Rattle.std.specs.Prelude.{◌≡◌, ◌∷◌, [], IfOk, Some};
+ghost use Rattle.std.specs.Prelude.{◌≡◌, IfOk, Some};
 ghost use Rattle.at_base.specs.declared.fault.Fault.TheVariants.{InvalidState};
 ghost use Rattle.at_model.specs.Activities.{activity_target, completion_register, complete_posts};
 ghost use Rattle.at_model.specs.Posts.{fault_post, stored_or, to_each};
@@ -23,15 +23,6 @@ pub fn target_of(activity: &Activity) -> Target
     ensures { result ≡ activity_target activity.now }
 {
     Target::Initiator(activity.id)
-}
-
-/// One message alone.
-pub fn alone(alloc: Global, post: Post) -> Result<PostList, AllocError>
-    ensures { IfOk result (λ posts. posts ≡ post ∷ []) }
-{
-    let mut posts = PostList::new(alloc);
-    posts.push(post)?;
-    Ok(posts)
 }
 
 /// An activity's Register for Completion (WS-AtomicTransaction 1.2, section 3.2).
@@ -60,7 +51,7 @@ pub fn completion(
 {
     let own = target_of(activity);
     match &activity.coordinator {
-        Some(to) => alone(alloc, notice_post(alloc, &moment.base, &own, to, notice)?),
+        Some(to) => PostList::alone(alloc, notice_post(alloc, &moment.base, &own, to, notice)?),
         None => Ok(PostList::new(alloc)),
     }
 }
@@ -79,7 +70,7 @@ pub fn invalid_state(
     match stored_or(&activity.coordinator, from) {
         Some(to) => {
             let to = to.clone()?;
-            alone(alloc, fault_post(alloc, Some(to), id, Fault::InvalidState)?)
+            PostList::alone(alloc, fault_post(alloc, Some(to), id, Fault::InvalidState)?)
         }
         None => Ok(PostList::new(alloc)),
     }

@@ -1,32 +1,31 @@
 //! The requests of the program that runs an initiator.
 
-ghost use Rattle.std.specs.Prelude.{◌≡◌, ◌<◌, ◌+◌, ◌∷◌, IfOk, [], Some, None, option_map, option_copied};
-ghost use Rattle.at_base.specs.declared.outs.Out.TheVariants as outcome;
+ghost use Rattle.std.specs.Prelude.{◌≡◌, ◌<◌, ◌+◌, IfOk, [], Some, None, option_map, option_copied};
 ghost use Rattle.at_model.specs.Activities.{service, create_post, asked_expires, new_activity, beginning, on_begin, on_interpose, on_ask, on_complete, is_active};
 ghost use Rattle.endpoints.specs.Addresses.{atomic, without_slash};
 ghost use Rattle.at_model.specs.Book.{Progress as Stage};
 ghost use Rattle.at_model.specs.Moves.{Goes, begin, post, stays};
 ghost use Rattle.at_model.specs.Step.{refuses_named, works_left, only_begun};
+ghost use Rattle.by_id.specs.Fates.{turn_of};
 ghost use Rattle.by_id.specs.Plans.{decided};
 ghost use Rattle.completion_at.specs.Names.{progress_of, refusal_of};
-ghost use Rattle.completion_at.specs.ActivityPlans.{nothing, no_room, unless, begun, nth_work, begin_asked, interpose_asked, asked_of};
+ghost use Rattle.completion_at.specs.ActivityPlans.{no_room, unless, begun, nth_work, begin_asked, interpose_asked, asked_of};
 
 use crate::activity::{Activity, Progress};
-use crate::posts::{alone, completion, target_of};
-use crate::rules::{is_begun, kept};
+use crate::posts::{completion, target_of};
+use crate::rules::is_begun;
 use at_base::epr::Epr;
 use at_base::event::Moment;
 use at_base::id::Id;
 use at_base::limits::MOST_ACTIVITIES;
 use at_base::message::{Context, Create, Message, Work, cloned_option};
 use at_base::notice::{Kind, Notice, Vote};
-use at_base::outs::{Effects, Out, OutList, Outs, Post};
+use at_base::outs::{Out, OutList, Post};
 use at_base::text::Text;
 use at_posts::list::PostList;
 use at_posts::posts::request_post;
-use by_id::list::Alteration;
-use by_id::moves::{Change, Decision, unchanged};
-use by_id::plan::{Branch, Plan};
+use by_id::fates::{Choice, Fate, Turn};
+use by_id::plan::Plan;
 use by_id::times::deadline_of;
 use endpoints::addresses::{create_id, work_id};
 use endpoints::uris::atomic;
@@ -41,13 +40,6 @@ pub enum Refusal {
     Full,
     /// Nothing is left to count with.
     Spent,
-}
-
-/// A request does nothing.
-pub fn nothing(alloc: Global) -> Plan<Activity>
-    ensures { result ≡ nothing }
-{
-    Plan::Plain(unchanged(alloc, OutList::from_vec(Vec::new(alloc))))
 }
 
 /// Whether an activity takes requests.
@@ -163,15 +155,6 @@ fn create_of(
     })
 }
 
-/// One message that is sent.
-fn sends(alloc: Global, post: Post) -> Result<OutList, AllocError>
-    ensures { IfOk result (λ outs. outs ≡ outcome.Post post ∷ []) }
-{
-    let mut outs = OutList::from_vec(Vec::new(alloc));
-    outs.push(Out::Post(post))?;
-    Ok(outs)
-}
-
 /// An activity's CreateCoordinationContext (WS-Coordination 1.2, section 3.1).
 fn create_post(
     alloc: Global,
@@ -206,14 +189,9 @@ fn beginning(
         ≡ begun (beginning moment.entry.now.base coordinator.now expires current.now activity)) }
 {
     let post = create_post(alloc, moment, &activity, coordinator, expires, current)?;
-    let outs = sends(alloc, post)?;
-    Ok(Plan::Plain(Branch {
-        change: Alteration::Add(activity),
-        outs: Outs {
-            outs,
-            effects: Effects::from_vec(Vec::new(alloc)),
-        },
-    }))
+    let mut outs = OutList::from_vec(Vec::new(alloc));
+    outs.push(Out::Post(post))?;
+    Ok(Plan::making(alloc, activity, outs))
 }
 
 /// The Expires that is asked for: none with 0.
@@ -287,7 +265,7 @@ pub fn begin(
 {
     match moment.next {
         Some(id) if live < MOST_ACTIVITIES => on_begin(alloc, moment, id, coordinator, ms),
-        _ => Ok(nothing(alloc)),
+        _ => Ok(Plan::nothing(alloc)),
     }
 }
 
@@ -306,7 +284,7 @@ fn interpose_in(
 {
     match moment.next {
         Some(id) if live < MOST_ACTIVITIES => on_interpose(alloc, moment, id, coordinator, above),
-        _ => Ok(nothing(alloc)),
+        _ => Ok(Plan::nothing(alloc)),
     }
 }
 
@@ -331,7 +309,7 @@ pub fn interpose(
             coordinator,
             above,
         ),
-        _ => Ok(nothing(alloc)),
+        _ => Ok(Plan::nothing(alloc)),
     }
 }
 
@@ -407,16 +385,17 @@ fn sends_work(
     work: Work,
     n: u32,
     activity: &Activity,
-) -> Result<Change<Activity>, AllocError>
+) -> Result<Turn<Activity>, AllocError>
     ensures { IfOk result
-        (λ change. change
+        (λ turn. turn_of (Some activity.now) turn
         ≡ stays
         (post (nth_work moment.entry.now.base activity.now n url.now work)
         (begin (record activity.now { works = n })))) }
 {
-    let posts = alone(alloc, nth_work(alloc, moment, activity, n, url, work)?)?;
+    let work = nth_work(alloc, moment, activity, n, url, work)?;
+    let posts = PostList::alone(alloc, work)?;
     let next = counted(activity, n)?;
-    Ok(kept(alloc, next, posts))
+    Ok(Turn::silent(alloc, Fate::Put(next), posts))
 }
 
 /// Work at an activity that can count it.
@@ -430,10 +409,10 @@ fn asks(
     key: &Text,
     value: &Text,
     activity: &Activity,
-) -> Result<Change<Activity>, AllocError>
+) -> Result<Turn<Activity>, AllocError>
     requires { activity.now.works < 4294967295 }
     ensures { IfOk result
-        (λ change. change
+        (λ turn. turn_of (Some activity.now) turn
         ≡ on_ask moment.entry.now url.now kind vote key.now value.now activity.now activity.now.context) }
 {
     match &activity.context {
@@ -441,7 +420,7 @@ fn asks(
             let work = work_of(context, kind, vote, key, value)?;
             sends_work(alloc, moment, url, work, next_work(activity), activity)
         }
-        None => Ok(kept(alloc, activity.clone()?, PostList::new(alloc))),
+        None => Ok(Turn::silent(alloc, Fate::Keep, PostList::new(alloc))),
     }
 }
 
@@ -449,12 +428,12 @@ fn asks(
 fn asked_of(
     alloc: Global,
     activity: &Activity,
-    change: Change<Activity>,
+    turn: Turn<Activity>,
 ) -> Result<Plan<Activity>, AllocError>
-    ensures { IfOk result (λ plan. plan ≡ decided [] activity.now.id (Goes change)) }
+    ensures { IfOk result (λ plan. plan ≡ decided [] activity.now.id (Goes (turn_of (Some activity.now) turn))) }
 {
     let answer = OutList::from_vec(Vec::new(alloc));
-    Decision::Goes(change).into_plan(alloc, answer, activity.id)
+    Choice::Goes(turn).into_plan(alloc, answer, activity)
 }
 
 /// Work: asks a service for work under the activity's context.
@@ -477,10 +456,10 @@ pub fn ask(
 {
     match found {
         Some(activity) if is_active(activity.progress) && activity.works < u32::MAX => {
-            let change = asks(alloc, moment, url, kind, vote, key, value, activity)?;
-            asked_of(alloc, activity, change)
+            let turn = asks(alloc, moment, url, kind, vote, key, value, activity)?;
+            asked_of(alloc, activity, turn)
         }
-        _ => Ok(nothing(alloc)),
+        _ => Ok(Plan::nothing(alloc)),
     }
 }
 
@@ -503,12 +482,12 @@ fn completes(
     moment: &Moment,
     notice: Notice,
     activity: &Activity,
-) -> Result<Change<Activity>, AllocError>
-    ensures { IfOk result (λ change. change ≡ on_complete moment.entry.now notice activity.now) }
+) -> Result<Turn<Activity>, AllocError>
+    ensures { IfOk result (λ turn. turn_of (Some activity.now) turn ≡ on_complete moment.entry.now notice activity.now) }
 {
     let posts = completion(alloc, moment, activity, notice)?;
     let next = completing(moment, notice, activity)?;
-    Ok(kept(alloc, next, posts))
+    Ok(Turn::silent(alloc, Fate::Put(next), posts))
 }
 
 /// Commit or Rollback: asks the completion seat for that outcome (WS-AtomicTransaction 1.2, section 3.2).
@@ -525,9 +504,9 @@ pub fn complete(
 {
     match found {
         Some(activity) if is_active(activity.progress) && is_begun(activity) => {
-            let change = completes(alloc, moment, notice, activity)?;
-            asked_of(alloc, activity, change)
+            let turn = completes(alloc, moment, notice, activity)?;
+            asked_of(alloc, activity, turn)
         }
-        _ => Ok(nothing(alloc)),
+        _ => Ok(Plan::nothing(alloc)),
     }
 }

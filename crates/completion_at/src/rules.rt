@@ -7,63 +7,46 @@ ghost use Rattle.at_base.specs.declared.outs.Told.TheVariants as tellings;
 ghost use Rattle.at_model.specs.Activities.{activity_target, activity_state, is_begun, told, activity_act, activity_notice, completion_register, with_context, activity_created, activity_registered, activity_fault, on_activity};
 ghost use Rattle.endpoints.specs.Addresses.{create_id, register_id};
 ghost use Rattle.at_model.specs.Arrivals.{relates_to};
-ghost use Rattle.at_model.specs.Book.{Progress as Stage};
+ghost use Rattle.at_model.specs.Book.{Activity as Known, Progress as Stage};
 ghost use Rattle.at_model.specs.Moves.{begin, ignored, post, posts, stays, Goes};
 ghost use Rattle.at_model.specs.Posts.{fault_post, stored_or, to_each};
 ghost use Rattle.at_tables.specs.Tables.{initiator_of};
-ghost use Rattle.by_id.specs.Decisions.{decision_of};
+ghost use Rattle.by_id.specs.Fates.{meant, turn_of};
 ghost use Rattle.completion_at.specs.Names.{progress_of};
 
 use crate::activity::{Activity, Progress};
-use crate::posts::{alone, completion_register, invalid_state, target_of};
+use crate::posts::{completion_register, invalid_state, target_of};
 use at_base::epr::Epr;
 use at_base::event::{Arrived, Moment};
 use at_base::message::{Context, Message};
 use at_base::notice::Notice;
-use at_base::outs::{Effect, Effects, Told};
+use at_base::outs::{Effect, Told};
 use at_base::text::Text;
 use at_posts::answers::relates_to;
 use at_posts::list::PostList;
 use at_tables::cells::{Act, State, initiator_cell};
+use by_id::fates::{Choice, Fate, Turn};
 use by_id::list::is_same;
-use by_id::moves::{Change, Decision, ignored};
 use endpoints::addresses::{create_id, register_id};
 use std::alloc::{AllocError, Global};
 
-/// The activity is given anew, and this is posted.
-pub fn kept(alloc: Global, activity: Activity, posts: PostList) -> Change<Activity>
-    ensures { result ≡ record { item = Some activity; posts = posts; effects = [] } }
-{
-    Change {
-        item: Some(activity),
-        posts,
-        effects: Effects::from_vec(Vec::new(alloc)),
-    }
-}
-
 /// The activity ends, and is told how.
-pub fn told(
-    alloc: Global,
-    activity: &Activity,
-    what: Told,
-) -> Result<Decision<Activity>, AllocError>
-    ensures { IfOk result (λ decision. decision_of decision ≡ told what activity.now) }
+pub fn told(alloc: Global, activity: &Activity, what: Told) -> Result<Choice<Activity>, AllocError>
+    ensures { IfOk result (λ choice. meant (Some activity.now) choice ≡ told what activity.now) }
 {
-    let id = activity.id;
-    let mut effects = Effects::from_vec(Vec::new(alloc));
-    effects.push(Effect::Told { id, what })?;
-    Ok(Decision::Goes(Change {
-        item: None,
-        posts: PostList::new(alloc),
-        effects,
-    }))
+    let effect = Effect::Told {
+        id: activity.id,
+        what,
+    };
+    let turn = Turn::with_effect(alloc, Fate::Forget, PostList::new(alloc), effect)?;
+    Ok(Choice::Goes(turn))
 }
 
-/// Nothing happens to the activity.
-pub fn ignores(alloc: Global, activity: &Activity) -> Result<Decision<Activity>, AllocError>
-    ensures { IfOk result (λ decision. decision_of decision ≡ ignored activity.now) }
+/// The activity is given anew, and nothing is sent.
+fn anew(alloc: Global, next: Activity) -> Choice<Activity>
+    ensures { (found : Known) → meant (Some found) result ≡ Goes (stays (begin next)) }
 {
-    Ok(ignored(alloc, activity.clone()?))
+    Choice::Goes(Turn::silent(alloc, Fate::Put(next), PostList::new(alloc)))
 }
 
 /// Whether an activity was begun, and so may commit.
@@ -90,17 +73,16 @@ fn faults(
     from: &Option<Epr>,
     id: &Option<Text>,
     activity: &Activity,
-) -> Result<Change<Activity>, AllocError>
+) -> Result<Turn<Activity>, AllocError>
     ensures { IfOk result
-        (λ change. change
+        (λ turn. turn_of (Some activity.now) turn
         ≡ stays
         (posts
         (to_each (stored_or activity.now.coordinator from.now) (λ to. fault_post (Some to) id.now InvalidState))
         (begin activity.now))) }
 {
     let posts = invalid_state(alloc, from, id, activity)?;
-    let same = activity.clone()?;
-    Ok(kept(alloc, same, posts))
+    Ok(Turn::silent(alloc, Fate::Keep, posts))
 }
 
 /// An act of the initiator's table at an activity.
@@ -112,16 +94,16 @@ fn acts(
     id: &Option<Text>,
     activity: &Activity,
     act: Act,
-) -> Result<Decision<Activity>, AllocError>
+) -> Result<Choice<Activity>, AllocError>
     ensures { IfOk result
-        (λ decision. decision_of decision
+        (λ choice. meant (Some activity.now) choice
         ≡ activity_act moment.entry.now from.now id.now activity.now act) }
 {
     match act {
         Act::TellCommitted => told(alloc, activity, Told::Committed),
         Act::TellAborted => told(alloc, activity, Told::Aborted),
-        Act::FaultInvalidState => Ok(Decision::Goes(faults(alloc, from, id, activity)?)),
-        _ => ignores(alloc, activity),
+        Act::FaultInvalidState => Ok(Choice::Goes(faults(alloc, from, id, activity)?)),
+        _ => Ok(Choice::ignored(alloc)),
     }
 }
 
@@ -134,15 +116,15 @@ fn notified(
     id: &Option<Text>,
     activity: &Activity,
     notice: Notice,
-) -> Result<Decision<Activity>, AllocError>
+) -> Result<Choice<Activity>, AllocError>
     ensures { IfOk result
-        (λ decision. decision_of decision
+        (λ choice. meant (Some activity.now) choice
         ≡ activity_notice moment.entry.now from.now id.now activity.now
         (initiator_of (activity_state activity.now.progress) notice)) }
 {
     match initiator_cell(state_of(activity.progress), notice) {
         Some(cell) => acts(alloc, moment, from, id, activity, cell.act),
-        None => ignores(alloc, activity),
+        None => Ok(Choice::ignored(alloc)),
     }
 }
 
@@ -214,9 +196,9 @@ fn registers(
     moment: &Moment,
     activity: &Activity,
     context: &Context,
-) -> Result<Change<Activity>, AllocError>
+) -> Result<Turn<Activity>, AllocError>
     ensures { IfOk result
-        (λ change. change
+        (λ turn. turn_of (Some activity.now) turn
         ≡ stays
         (post (completion_register moment.entry.now.base activity.now context.now.registration)
         (begin (record activity.now {
@@ -225,12 +207,10 @@ fn registers(
           sent = Some moment.entry.now.now;
         })))) }
 {
-    let posts = alone(
-        alloc,
-        completion_register(alloc, moment, activity, &context.registration)?,
-    )?;
+    let register = completion_register(alloc, moment, activity, &context.registration)?;
+    let posts = PostList::alone(alloc, register)?;
     let next = registering(moment, activity, context)?;
-    Ok(kept(alloc, next, posts))
+    Ok(Turn::silent(alloc, Fate::Put(next), posts))
 }
 
 /// An activity has its context: a begun one registers for Completion, and an interposed one is Active.
@@ -239,16 +219,16 @@ fn with_context(
     moment: &Moment,
     activity: &Activity,
     context: &Context,
-) -> Result<Decision<Activity>, AllocError>
+) -> Result<Choice<Activity>, AllocError>
     ensures { IfOk result
-        (λ decision. decision_of decision
+        (λ choice. meant (Some activity.now) choice
         ≡ with_context moment.entry.now context.now activity.now) }
 {
     if is_begun(activity) {
-        return Ok(Decision::Goes(registers(alloc, moment, activity, context)?));
+        return Ok(Choice::Goes(registers(alloc, moment, activity, context)?));
     }
     let next = given(activity, context, Progress::Active)?;
-    Ok(Decision::Goes(kept(alloc, next, PostList::new(alloc))))
+    Ok(anew(alloc, next))
 }
 
 /// A CreateCoordinationContextResponse at an activity.
@@ -259,9 +239,9 @@ fn created(
     relates: &Option<Text>,
     context: &Context,
     activity: &Activity,
-) -> Result<Decision<Activity>, AllocError>
+) -> Result<Choice<Activity>, AllocError>
     ensures { IfOk result
-        (λ decision. decision_of decision
+        (λ choice. meant (Some activity.now) choice
         ≡ activity_created moment.entry.now relates.now context.now activity.now activity.now.progress) }
 {
     match activity.progress {
@@ -269,12 +249,12 @@ fn created(
             if answers_create(alloc, moment, relates, activity)? {
                 with_context(alloc, moment, activity, context)
             } else {
-                ignores(alloc, activity)
+                Ok(Choice::ignored(alloc))
             }
         }
-        Progress::Registering | Progress::Active | Progress::Completing(_) => ignores(
-            alloc, activity,
-        ),
+        Progress::Registering | Progress::Active | Progress::Completing(_) => Ok(Choice::ignored(
+            alloc,
+        )),
     }
 }
 
@@ -298,9 +278,9 @@ fn registers_at(
     relates: &Option<Text>,
     coordinator: &Epr,
     activity: &Activity,
-) -> Result<Decision<Activity>, AllocError>
+) -> Result<Choice<Activity>, AllocError>
     ensures { IfOk result
-        (λ decision. decision_of decision
+        (λ choice. meant (Some activity.now) choice
         ≡ if relates_to relates.now (register_id moment.entry.now.base (activity_target activity.now))
         then Goes
         (stays
@@ -309,9 +289,9 @@ fn registers_at(
 {
     if answers_register(alloc, moment, relates, activity)? {
         let next = registered_at(activity, coordinator)?;
-        Ok(Decision::Goes(kept(alloc, next, PostList::new(alloc))))
+        Ok(anew(alloc, next))
     } else {
-        ignores(alloc, activity)
+        Ok(Choice::ignored(alloc))
     }
 }
 
@@ -323,14 +303,16 @@ fn registered(
     relates: &Option<Text>,
     coordinator: &Epr,
     activity: &Activity,
-) -> Result<Decision<Activity>, AllocError>
+) -> Result<Choice<Activity>, AllocError>
     ensures { IfOk result
-        (λ decision. decision_of decision
+        (λ choice. meant (Some activity.now) choice
         ≡ activity_registered moment.entry.now relates.now coordinator.now activity.now activity.now.progress) }
 {
     match activity.progress {
         Progress::Registering => registers_at(alloc, moment, relates, coordinator, activity),
-        Progress::Creating | Progress::Active | Progress::Completing(_) => ignores(alloc, activity),
+        Progress::Creating | Progress::Active | Progress::Completing(_) => Ok(Choice::ignored(
+            alloc,
+        )),
     }
 }
 
@@ -340,15 +322,15 @@ fn told_if(
     activity: &Activity,
     holds: bool,
     what: Told,
-) -> Result<Decision<Activity>, AllocError>
+) -> Result<Choice<Activity>, AllocError>
     ensures { IfOk result
-        (λ decision. decision_of decision
+        (λ choice. meant (Some activity.now) choice
         ≡ if holds then told what activity.now else ignored activity.now) }
 {
     if holds {
         told(alloc, activity, what)
     } else {
-        ignores(alloc, activity)
+        Ok(Choice::ignored(alloc))
     }
 }
 
@@ -367,9 +349,9 @@ fn faulted(
     relates: &Option<Text>,
     name: &Text,
     activity: &Activity,
-) -> Result<Decision<Activity>, AllocError>
+) -> Result<Choice<Activity>, AllocError>
     ensures { IfOk result
-        (λ decision. decision_of decision
+        (λ choice. meant (Some activity.now) choice
         ≡ activity_fault moment.entry.now relates.now name.now activity.now activity.now.progress) }
 {
     match activity.progress {
@@ -381,7 +363,7 @@ fn faulted(
             let answers = answers_register(alloc, moment, relates, activity)?;
             told_if(alloc, activity, answers, Told::Refused)
         }
-        Progress::Active => ignores(alloc, activity),
+        Progress::Active => Ok(Choice::ignored(alloc)),
         Progress::Completing(_) => told_if(alloc, activity, is_unknown(name), Told::Unknown),
     }
 }
@@ -393,9 +375,9 @@ pub fn on_activity(
     moment: &Moment,
     arrived: &Arrived,
     activity: &Activity,
-) -> Result<Decision<Activity>, AllocError>
+) -> Result<Choice<Activity>, AllocError>
     ensures { IfOk result
-        (λ decision. decision_of decision
+        (λ choice. meant (Some activity.now) choice
         ≡ on_activity moment.entry.now arrived.now activity.now arrived.now.message) }
 {
     let relates = &arrived.relates;
@@ -411,6 +393,6 @@ pub fn on_activity(
         Message::CreateResponse(context) => created(alloc, moment, relates, context, activity),
         Message::RegisterResponse(to) => registered(alloc, moment, relates, to, activity),
         Message::Fault { name } => faulted(alloc, moment, relates, name, activity),
-        _ => ignores(alloc, activity),
+        _ => Ok(Choice::ignored(alloc)),
     }
 }

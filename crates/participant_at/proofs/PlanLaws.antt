@@ -25,8 +25,7 @@ use Rattle.at_model.specs.Due.{leaf_due, leaf_reached}
 use Rattle.at_model.specs.Posts.{accepted}
 use Rattle.at_model.specs.Step.{moment_of, leaf_plan, employed_plan, work_plan, leaf_or_stranger_plan, participant_plan, arrived_plan, leaf_due_plan, due_plan, transaction_at, leaf_at}
 use Rattle.by_id.specs.Plans.{decided}
-use Rattle.participant_at.specs.Employments.{employed}
-use Rattle.participant_at.specs.LeafPlans.{work_arrived, leaf_arrived, arrived_at, leaf_asked, item_asked, has_kind}
+use Rattle.participant_at.specs.LeafPlans.{employed, work_arrived, leaf_arrived, arrived_at, leaf_asked, item_asked, has_kind}
 use Rattle.participant_at.specs.BookPlans.{whole, IsWork, IsForLeafAt, IsLeafIn, PlansAsTheModel}
 
 -- a decision on a leaf

@@ -16,17 +16,15 @@ use Rattle.at_base.specs.declared.outs.Ending.TheVariants as endings
 use Rattle.at_base.specs.Names.{is_kind}
 use Rattle.at_model.specs.Book.{Leaf, find_by, leaf_id}
 use Rattle.at_model.specs.Posts.{accepted}
-use Rattle.at_model.specs.Leaves.{on_leaf, on_work, leaf_ended}
+use Rattle.at_model.specs.Leaves.{Employment, on_leaf, on_work, leaf_ended}
 use Rattle.at_model.specs.Due.{leaf_due, leaf_reached}
 use Rattle.at_model.specs.World.{is_lost_leaf}
 use Rattle.by_id.specs.declared.plan.Plan.{Plan}
-use Rattle.by_id.specs.declared.plan.Plan.TheVariants as plans
-use Rattle.by_id.specs.Plans.{unchanged, decided}
-use Rattle.participant_at.specs.Employments.{employed}
+use Rattle.by_id.specs.Plans.{nothing, made, decided}
 
--- The event is none for a leaf.
-abbrev pub nothing : Plan Leaf
-nothing = plans.Plain (unchanged [])
+-- What a Work does to the list of leaves.
+abbrev pub employed : Employment → Plan Leaf
+employed e = made e.leaf e.outs
 
 -- Work makes a leaf under the next id, or is refused.
 abbrev pub work_arrived : Moment → Arrived → ℕ → Message → Plan Leaf

@@ -1,4 +1,3 @@
 pub mod Answers
-pub mod Employments
 pub mod LeafPlans
 pub mod BookPlans

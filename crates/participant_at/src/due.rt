@@ -7,18 +7,18 @@ ghost use Rattle.at_model.specs.Moves.{begin, posts, stays};
 ghost use Rattle.at_model.specs.Step.{is_reached};
 ghost use Rattle.at_tables.specs.Names.{is_state};
 ghost use Rattle.at_tables.specs.declared.cells.State.TheVariants as states;
-ghost use Rattle.by_id.specs.Decisions.{decision_of};
+ghost use Rattle.by_id.specs.Fates.{meant, turn_of};
 
 use crate::leaf::Leaf;
-use crate::posts::{alone, leaf_register, says};
-use crate::rules::{aborts, ignores, is_registering, kept, refuses, sent_now};
+use crate::posts::{leaf_register, says};
+use crate::rules::{aborts, is_registering, refuses, sent_now};
 use at_base::event::Moment;
 use at_base::id::Id;
 use at_base::notice::Notice;
 use at_posts::list::PostList;
 use at_tables::cells::State;
+use by_id::fates::{Choice, Fate, Turn};
 use by_id::list::Identified;
-use by_id::moves::{Change, Decision};
 use by_id::times::{has_come, is_quiet};
 use std::alloc::{AllocError, Global};
 
@@ -100,8 +100,8 @@ impl Identified for Leaf {
 }
 
 /// A leaf that expires ends as aborted: one in Registering refuses its Work, an Active one says Aborted.
-fn expires(alloc: Global, moment: &Moment, leaf: &Leaf) -> Result<Change<Leaf>, AllocError>
-    ensures { IfOk result (λ change. change ≡ leaf_expires moment.entry.now leaf.now) }
+fn expires(alloc: Global, moment: &Moment, leaf: &Leaf) -> Result<Turn<Leaf>, AllocError>
+    ensures { IfOk result (λ turn. turn_of (Some leaf.now) turn ≡ leaf_expires moment.entry.now leaf.now) }
 {
     if is_registering(leaf.state) {
         refuses(alloc, leaf)
@@ -116,10 +116,10 @@ fn register_again(alloc: Global, moment: &Moment, leaf: &Leaf) -> Result<PostLis
         (λ posts. posts ≡ leaf_register_again moment.entry.now leaf.now leaf.now.request) }
 {
     match &leaf.request {
-        Some(request) => alone(
-            alloc,
-            leaf_register(alloc, moment, leaf, &request.registration)?,
-        ),
+        Some(request) => {
+            let register = leaf_register(alloc, moment, leaf, &request.registration)?;
+            PostList::alone(alloc, register)
+        }
         None => Ok(PostList::new(alloc)),
     }
 }
@@ -143,30 +143,30 @@ fn again(alloc: Global, moment: &Moment, leaf: &Leaf) -> Result<PostList, AllocE
 }
 
 /// The leaf sends again.
-fn sends_again(alloc: Global, moment: &Moment, leaf: &Leaf) -> Result<Change<Leaf>, AllocError>
+fn sends_again(alloc: Global, moment: &Moment, leaf: &Leaf) -> Result<Turn<Leaf>, AllocError>
     ensures { IfOk result
-        (λ change. change
+        (λ turn. turn_of (Some leaf.now) turn
         ≡ stays
         (posts (leaf_again moment.entry.now leaf.now)
         (begin (record leaf.now { sent = Some moment.entry.now.now })))) }
 {
     let posts = again(alloc, moment, leaf)?;
     let next = sent_now(moment, leaf)?;
-    Ok(kept(alloc, next, posts))
+    Ok(Turn::silent(alloc, Fate::Put(next), posts))
 }
 
 /// A leaf that is asked whether it is due.
 #[tactic(auto, unfolding(at_model::specs::Due::leaf_reached))]
-pub fn on_due(alloc: Global, moment: &Moment, leaf: &Leaf) -> Result<Decision<Leaf>, AllocError>
+pub fn on_due(alloc: Global, moment: &Moment, leaf: &Leaf) -> Result<Choice<Leaf>, AllocError>
     ensures { IfOk result
-        (λ decision. decision_of decision
+        (λ choice. meant (Some leaf.now) choice
         ≡ leaf_reached moment.entry.now leaf.now (leaf_due moment.entry.now leaf.now)) }
 {
     if is_expired(moment, leaf) {
-        return Ok(Decision::Goes(expires(alloc, moment, leaf)?));
+        return Ok(Choice::Goes(expires(alloc, moment, leaf)?));
     }
     if is_unanswered(moment, leaf) {
-        return Ok(Decision::Goes(sends_again(alloc, moment, leaf)?));
+        return Ok(Choice::Goes(sends_again(alloc, moment, leaf)?));
     }
-    ignores(alloc, leaf)
+    Ok(Choice::ignored(alloc))
 }

@@ -9,7 +9,7 @@ ghost use Rattle.at_base.specs.Names.{is_kind};
 ghost use Rattle.by_id.specs.Lists.{altered, next_due};
 ghost use Rattle.by_id.specs.Plans.{branch_of};
 ghost use Rattle.participant_at.specs.BookPlans.{PlansAsTheModel};
-ghost use Rattle.participant_at.specs.LeafPlans.{nothing, work_arrived, leaf_arrived, arrived_at, leaf_asked, item_asked, leaves_plan, leaves_lost, has_kind};
+ghost use Rattle.participant_at.specs.LeafPlans.{work_arrived, leaf_arrived, arrived_at, leaf_asked, item_asked, leaves_plan, leaves_lost, has_kind};
 
 use crate::due::{may_expire, on_due};
 use crate::leaf::Leaf;
@@ -23,7 +23,6 @@ use at_base::outs::{Effects, Ending, OutList, Outs};
 use at_base::target::Target;
 use at_posts::answers::accepted;
 use by_id::list::ById;
-use by_id::moves::unchanged;
 use by_id::plan::{Branch, Plan};
 use std::alloc::{AllocError, Global};
 use std::marker::Model;
@@ -49,13 +48,6 @@ impl Model for Leaves {
     ghost view = { λ s. s.live };
 }
 
-/// The event is none for a leaf.
-fn nothing(alloc: Global) -> Plan<Leaf>
-    ensures { result ≡ nothing }
-{
-    Plan::Plain(unchanged(alloc, OutList::from_vec(Vec::new(alloc))))
-}
-
 /// A message for the service that makes leaves.
 fn work_arrived(
     alloc: Global,
@@ -67,7 +59,7 @@ fn work_arrived(
 {
     match &arrived.message {
         Message::Work(work) => on_work(alloc, moment, live, arrived, work),
-        _ => Ok(nothing(alloc)),
+        _ => Ok(Plan::nothing(alloc)),
     }
 }
 
@@ -86,12 +78,12 @@ fn leaf_arrived(
         Some(leaf) => {
             if is_kind(leaf.kind, kind) {
                 let answer = accepted(alloc)?;
-                on_leaf(alloc, moment, arrived, leaf)?.into_plan(alloc, answer, leaf.id)
+                on_leaf(alloc, moment, arrived, leaf)?.into_plan(alloc, answer, leaf)
             } else {
-                Ok(nothing(alloc))
+                Ok(Plan::nothing(alloc))
             }
         }
-        None => Ok(nothing(alloc)),
+        None => Ok(Plan::nothing(alloc)),
     }
 }
 
@@ -106,9 +98,9 @@ fn leaf_asked(
     match found {
         Some(leaf) => {
             let answer = OutList::from_vec(Vec::new(alloc));
-            on_due(alloc, moment, leaf)?.into_plan(alloc, answer, leaf.id)
+            on_due(alloc, moment, leaf)?.into_plan(alloc, answer, leaf)
         }
-        None => Ok(nothing(alloc)),
+        None => Ok(Plan::nothing(alloc)),
     }
 }
 
@@ -204,7 +196,7 @@ impl Leaves {
                 kind,
                 self.live.find(id),
             ),
-            _ => Ok(nothing(alloc)),
+            _ => Ok(Plan::nothing(alloc)),
         }
     }
 
@@ -219,7 +211,7 @@ impl Leaves {
     {
         match item {
             Item::Leaf(id) => leaf_asked(alloc, moment, self.live.find(id)),
-            Item::Transaction(_) | Item::Activity(_) => Ok(nothing(alloc)),
+            Item::Transaction(_) | Item::Activity(_) => Ok(Plan::nothing(alloc)),
         }
     }
 
@@ -235,7 +227,7 @@ impl Leaves {
         match event {
             Event::Arrived(arrived) => self.arrived_at(alloc, moment, arrived),
             Event::Due(item) => self.item_asked(alloc, moment, *item),
-            Event::Local(_) | Event::Tick => Ok(nothing(alloc)),
+            Event::Local(_) | Event::Tick => Ok(Plan::nothing(alloc)),
         }
     }
 

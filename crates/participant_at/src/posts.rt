@@ -1,6 +1,6 @@
 //! What a leaf sends (WS-Addressing 1.0 Core, section 3).
 
-ghost use Rattle.std.specs.Prelude.{◌≡◌, ◌∷◌, [], IfOk};
+ghost use Rattle.std.specs.Prelude.{◌≡◌, IfOk};
 ghost use Rattle.endpoints.specs.Addresses.{protocol_of, register_id};
 ghost use Rattle.at_model.specs.Posts.{replied};
 ghost use Rattle.at_model.specs.Leaves.{leaf_target, leaf_says, leaf_faults, leaf_register, work_answer};
@@ -40,15 +40,6 @@ pub fn register_id(alloc: Global, moment: &Moment, leaf: &Leaf) -> Result<Text, 
     addresses::register_id(alloc, &moment.base, &own)
 }
 
-/// One message alone.
-pub fn alone(alloc: Global, post: Post) -> Result<PostList, AllocError>
-    ensures { IfOk result (λ posts. posts ≡ post ∷ []) }
-{
-    let mut posts = PostList::new(alloc);
-    posts.push(post)?;
-    Ok(posts)
-}
-
 /// A leaf's notification to its coordinator, or to the message's From while none is known.
 pub fn says(
     alloc: Global,
@@ -61,7 +52,7 @@ pub fn says(
 {
     let own = target_of(leaf);
     match stored_or(&leaf.coordinator, from) {
-        Some(to) => alone(alloc, notice_post(alloc, &moment.base, &own, to, notice)?),
+        Some(to) => PostList::alone(alloc, notice_post(alloc, &moment.base, &own, to, notice)?),
         None => Ok(PostList::new(alloc)),
     }
 }
@@ -78,7 +69,7 @@ pub fn says_fault(
     match stored_or(&leaf.coordinator, from) {
         Some(to) => {
             let to = to.clone()?;
-            alone(alloc, fault_post(alloc, Some(to), id, Fault::InvalidState)?)
+            PostList::alone(alloc, fault_post(alloc, Some(to), id, Fault::InvalidState)?)
         }
         None => Ok(PostList::new(alloc)),
     }
@@ -110,7 +101,7 @@ pub fn answers_work(alloc: Global, leaf: &Leaf, answer: Answer) -> Result<PostLi
     match &leaf.request {
         Some(request) => {
             let to = request.reply.clone()?;
-            alone(alloc, reply_post(Some(to), &request.id, answer.message())?)
+            PostList::alone(alloc, reply_post(Some(to), &request.id, answer.message())?)
         }
         None => Ok(PostList::new(alloc)),
     }

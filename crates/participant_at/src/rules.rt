@@ -7,11 +7,12 @@ ghost use Rattle.at_base.specs.declared.outs.Ending.TheVariants as endings;
 ghost use Rattle.at_base.specs.declared.record.Record.TheVariants as records;
 ghost use Rattle.at_model.specs.Leaves.{leaf_aborts, leaf_commits, leaf_prepares, leaf_records_vote, leaf_votes, leaf_commit, leaf_roll_back};
 ghost use Rattle.at_model.specs.Leaves.{leaf_says, leaf_ended, leaf_faults, leaf_act, leaf_notice, answers_leaf, leaf_registered, leaf_refused, drops_leaf, leaf_fault, on_leaf, work_answer};
-ghost use Rattle.at_model.specs.Moves.{Goes, begin, effect, forgotten, ignored, posts, stays};
+ghost use Rattle.at_model.specs.Moves.{Goes, begin, effect, forgotten, posts, stays};
 ghost use Rattle.at_tables.specs.Names.{is_state};
 ghost use Rattle.at_tables.specs.Tables.{participant_of};
 ghost use Rattle.at_tables.specs.declared.cells.State.TheVariants as states;
-ghost use Rattle.by_id.specs.Decisions.{decision_of};
+ghost use Rattle.by_id.specs.Fates.{meant, turn_of};
+ghost use Rattle.by_id.specs.declared.fates.Fate.TheVariants as fates;
 
 use crate::leaf::Leaf;
 use crate::posts::{Answer, answers_work, register_id, says, says_fault};
@@ -19,36 +20,14 @@ use at_base::epr::Epr;
 use at_base::event::{Arrived, Moment};
 use at_base::message::Message;
 use at_base::notice::{Kind, Notice, Vote};
-use at_base::outs::{Effect, Effects, Ending};
+use at_base::outs::{Effect, Ending};
 use at_base::record::Record;
 use at_base::text::Text;
 use at_posts::answers::relates_to;
 use at_posts::list::PostList;
 use at_tables::cells::{Act, State, participant_cell};
-use by_id::moves::{Change, Decision, ignored};
+use by_id::fates::{Choice, Fate, Turn};
 use std::alloc::{AllocError, Global};
-
-/// The leaf is given anew, and this is posted.
-pub fn kept(alloc: Global, leaf: Leaf, posts: PostList) -> Change<Leaf>
-    ensures { result ≡ record { item = Some leaf; posts = posts; effects = [] } }
-{
-    Change {
-        item: Some(leaf),
-        posts,
-        effects: Effects::from_vec(Vec::new(alloc)),
-    }
-}
-
-/// The leaf is forgotten, with no effect.
-fn dropped(alloc: Global, posts: PostList) -> Change<Leaf>
-    ensures { result ≡ record { item = None; posts = posts; effects = [] } }
-{
-    Change {
-        item: None,
-        posts,
-        effects: Effects::from_vec(Vec::new(alloc)),
-    }
-}
 
 /// How a leaf ended.
 pub fn ending(leaf: &Leaf, what: Ending) -> Effect
@@ -67,17 +46,12 @@ fn ended(
     leaf: &Leaf,
     what: Ending,
     posts: PostList,
-) -> Result<Change<Leaf>, AllocError>
+) -> Result<Turn<Leaf>, AllocError>
     ensures { IfOk result
-        (λ change. change ≡ record { item = None; posts = posts; effects = leaf_ended leaf.now what ∷ [] }) }
+        (λ turn. turn
+        ≡ record { fate = fates.Forget; posts = posts; effects = leaf_ended leaf.now what ∷ [] }) }
 {
-    let mut effects = Effects::from_vec(Vec::new(alloc));
-    effects.push(ending(leaf, what))?;
-    Ok(Change {
-        item: None,
-        posts,
-        effects,
-    })
+    Turn::with_effect(alloc, Fate::Forget, posts, ending(leaf, what))
 }
 
 /// A copy of the leaf that has sent now.
@@ -95,9 +69,9 @@ pub fn aborts(
     moment: &Moment,
     from: &Option<Epr>,
     leaf: &Leaf,
-) -> Result<Change<Leaf>, AllocError>
+) -> Result<Turn<Leaf>, AllocError>
     ensures { IfOk result
-        (λ change. change ≡ leaf_aborts moment.entry.now from.now leaf.now) }
+        (λ turn. turn_of (Some leaf.now) turn ≡ leaf_aborts moment.entry.now from.now leaf.now) }
 {
     let posts = says(alloc, moment, from, leaf, Notice::Aborted)?;
     ended(alloc, leaf, Ending::Aborted, posts)
@@ -109,9 +83,9 @@ fn commits(
     moment: &Moment,
     from: &Option<Epr>,
     leaf: &Leaf,
-) -> Result<Change<Leaf>, AllocError>
+) -> Result<Turn<Leaf>, AllocError>
     ensures { IfOk result
-        (λ change. change ≡ leaf_commits moment.entry.now from.now leaf.now) }
+        (λ turn. turn_of (Some leaf.now) turn ≡ leaf_commits moment.entry.now from.now leaf.now) }
 {
     let posts = says(alloc, moment, from, leaf, Notice::Committed)?;
     ended(alloc, leaf, Ending::Committed, posts)
@@ -128,12 +102,12 @@ fn prepared_now(moment: &Moment, leaf: &Leaf) -> Result<Leaf, AllocError>
 }
 
 /// The leaf has voted Prepared, and waits for the outcome.
-fn prepares(alloc: Global, moment: &Moment, leaf: &Leaf) -> Result<Change<Leaf>, AllocError>
-    ensures { IfOk result (λ change. change ≡ leaf_prepares moment.entry.now leaf.now) }
+fn prepares(alloc: Global, moment: &Moment, leaf: &Leaf) -> Result<Turn<Leaf>, AllocError>
+    ensures { IfOk result (λ turn. turn_of (Some leaf.now) turn ≡ leaf_prepares moment.entry.now leaf.now) }
 {
     let posts = says(alloc, moment, &None, leaf, Notice::Prepared)?;
     let next = prepared_now(moment, leaf)?;
-    Ok(kept(alloc, next, posts))
+    Ok(Turn::silent(alloc, Fate::Put(next), posts))
 }
 
 /// The record of a durable leaf's vote Prepared.
@@ -153,17 +127,17 @@ fn vote_record(leaf: &Leaf, coordinator: &Epr) -> Result<Record, AllocError>
 }
 
 /// A durable leaf's vote Prepared, behind its record; where the record is absent it votes Aborted.
-fn records_vote(alloc: Global, moment: &Moment, leaf: &Leaf) -> Result<Decision<Leaf>, AllocError>
+fn records_vote(alloc: Global, moment: &Moment, leaf: &Leaf) -> Result<Choice<Leaf>, AllocError>
     ensures { IfOk result
-        (λ decision. decision_of decision ≡ leaf_records_vote moment.entry.now leaf.now.coordinator leaf.now) }
+        (λ choice. meant (Some leaf.now) choice ≡ leaf_records_vote moment.entry.now leaf.now.coordinator leaf.now) }
 {
     let aborted = aborts(alloc, moment, &None, leaf)?;
     let Some(coordinator) = &leaf.coordinator else {
-        return Ok(Decision::Goes(aborted));
+        return Ok(Choice::Goes(aborted));
     };
     let entry = vote_record(leaf, coordinator)?;
     let stands = prepares(alloc, moment, leaf)?;
-    Ok(Decision::Records {
+    Ok(Choice::Records {
         entry,
         stands,
         absent: Some(aborted),
@@ -176,12 +150,12 @@ fn leaves(
     moment: &Moment,
     from: &Option<Epr>,
     leaf: &Leaf,
-) -> Result<Change<Leaf>, AllocError>
+) -> Result<Turn<Leaf>, AllocError>
     ensures { IfOk result
-        (λ change. change ≡ forgotten (posts (leaf_says moment.entry.now from.now notices.ReadOnly leaf.now) (begin leaf.now))) }
+        (λ turn. turn_of (Some leaf.now) turn ≡ forgotten (posts (leaf_says moment.entry.now from.now notices.ReadOnly leaf.now) (begin leaf.now))) }
 {
     let posts = says(alloc, moment, from, leaf, Notice::ReadOnly)?;
-    Ok(dropped(alloc, posts))
+    Ok(Turn::silent(alloc, Fate::Forget, posts))
 }
 
 /// Prepare asks the leaf's own vote.
@@ -191,17 +165,17 @@ fn votes(
     moment: &Moment,
     from: &Option<Epr>,
     leaf: &Leaf,
-) -> Result<Decision<Leaf>, AllocError>
+) -> Result<Choice<Leaf>, AllocError>
     ensures { IfOk result
-        (λ decision. decision_of decision ≡ leaf_votes moment.entry.now from.now leaf.now leaf.now.kind leaf.now.vote) }
+        (λ choice. meant (Some leaf.now) choice ≡ leaf_votes moment.entry.now from.now leaf.now leaf.now.kind leaf.now.vote) }
 {
     match leaf.vote {
         Vote::Prepared => match leaf.kind {
             Kind::Durable => records_vote(alloc, moment, leaf),
-            Kind::Volatile => Ok(Decision::Goes(prepares(alloc, moment, leaf)?)),
+            Kind::Volatile => Ok(Choice::Goes(prepares(alloc, moment, leaf)?)),
         },
-        Vote::ReadOnly => Ok(Decision::Goes(leaves(alloc, moment, from, leaf)?)),
-        Vote::Aborted => Ok(Decision::Goes(aborts(alloc, moment, from, leaf)?)),
+        Vote::ReadOnly => Ok(Choice::Goes(leaves(alloc, moment, from, leaf)?)),
+        Vote::Aborted => Ok(Choice::Goes(aborts(alloc, moment, from, leaf)?)),
     }
 }
 
@@ -212,14 +186,14 @@ fn commit(
     moment: &Moment,
     from: &Option<Epr>,
     leaf: &Leaf,
-) -> Result<Decision<Leaf>, AllocError>
+) -> Result<Choice<Leaf>, AllocError>
     ensures { IfOk result
-        (λ decision. decision_of decision ≡ leaf_commit moment.entry.now from.now leaf.now leaf.now.kind) }
+        (λ choice. meant (Some leaf.now) choice ≡ leaf_commit moment.entry.now from.now leaf.now leaf.now.kind) }
 {
     let stands = commits(alloc, moment, from, leaf)?;
     match leaf.kind {
-        Kind::Volatile => Ok(Decision::Goes(stands)),
-        Kind::Durable => Ok(Decision::Records {
+        Kind::Volatile => Ok(Choice::Goes(stands)),
+        Kind::Durable => Ok(Choice::Records {
             entry: Record::LeafCommitted { id: leaf.id },
             stands,
             absent: None,
@@ -234,14 +208,14 @@ fn roll_back(
     moment: &Moment,
     from: &Option<Epr>,
     leaf: &Leaf,
-) -> Result<Decision<Leaf>, AllocError>
+) -> Result<Choice<Leaf>, AllocError>
     ensures { IfOk result
-        (λ decision. decision_of decision ≡ leaf_roll_back moment.entry.now from.now leaf.now leaf.now.kind) }
+        (λ choice. meant (Some leaf.now) choice ≡ leaf_roll_back moment.entry.now from.now leaf.now leaf.now.kind) }
 {
     let stands = aborts(alloc, moment, from, leaf)?;
     match leaf.kind {
-        Kind::Volatile => Ok(Decision::Goes(stands)),
-        Kind::Durable => Ok(Decision::Records {
+        Kind::Volatile => Ok(Choice::Goes(stands)),
+        Kind::Durable => Ok(Choice::Records {
             entry: Record::LeafAborted { id: leaf.id },
             stands,
             absent: None,
@@ -255,16 +229,16 @@ fn prepares_again(
     moment: &Moment,
     from: &Option<Epr>,
     leaf: &Leaf,
-) -> Result<Change<Leaf>, AllocError>
+) -> Result<Turn<Leaf>, AllocError>
     ensures { IfOk result
-        (λ change. change
+        (λ turn. turn_of (Some leaf.now) turn
         ≡ stays
         (posts (leaf_says moment.entry.now from.now notices.Prepared leaf.now)
         (begin (record leaf.now { sent = Some moment.entry.now.now })))) }
 {
     let posts = says(alloc, moment, from, leaf, Notice::Prepared)?;
     let next = sent_now(moment, leaf)?;
-    Ok(kept(alloc, next, posts))
+    Ok(Turn::silent(alloc, Fate::Put(next), posts))
 }
 
 /// The fault InvalidState, which leaves the leaf as it stands.
@@ -273,13 +247,12 @@ fn faults(
     from: &Option<Epr>,
     id: &Option<Text>,
     leaf: &Leaf,
-) -> Result<Change<Leaf>, AllocError>
+) -> Result<Turn<Leaf>, AllocError>
     ensures { IfOk result
-        (λ change. change ≡ stays (posts (leaf_faults from.now id.now leaf.now) (begin leaf.now))) }
+        (λ turn. turn_of (Some leaf.now) turn ≡ stays (posts (leaf_faults from.now id.now leaf.now) (begin leaf.now))) }
 {
     let posts = says_fault(alloc, from, id, leaf)?;
-    let same = leaf.clone()?;
-    Ok(kept(alloc, same, posts))
+    Ok(Turn::silent(alloc, Fate::Keep, posts))
 }
 
 /// The fault InvalidState, which ends the leaf as aborted.
@@ -288,22 +261,15 @@ fn faults_and_ends(
     from: &Option<Epr>,
     id: &Option<Text>,
     leaf: &Leaf,
-) -> Result<Change<Leaf>, AllocError>
+) -> Result<Turn<Leaf>, AllocError>
     ensures { IfOk result
-        (λ change. change
+        (λ turn. turn_of (Some leaf.now) turn
         ≡ forgotten
         (posts (leaf_faults from.now id.now leaf.now)
         (effect (leaf_ended leaf.now endings.Aborted) (begin leaf.now)))) }
 {
     let posts = says_fault(alloc, from, id, leaf)?;
     ended(alloc, leaf, Ending::Aborted, posts)
-}
-
-/// Nothing happens to the leaf.
-pub fn ignores(alloc: Global, leaf: &Leaf) -> Result<Decision<Leaf>, AllocError>
-    ensures { IfOk result (λ decision. decision_of decision ≡ ignored leaf.now) }
-{
-    Ok(ignored(alloc, leaf.clone()?))
 }
 
 /// An act of the participant's table at a leaf.
@@ -315,21 +281,19 @@ fn acts(
     id: &Option<Text>,
     leaf: &Leaf,
     act: Act,
-) -> Result<Decision<Leaf>, AllocError>
+) -> Result<Choice<Leaf>, AllocError>
     ensures { IfOk result
-        (λ decision. decision_of decision ≡ leaf_act moment.entry.now from.now id.now leaf.now act) }
+        (λ choice. meant (Some leaf.now) choice ≡ leaf_act moment.entry.now from.now id.now leaf.now act) }
 {
     match act {
         Act::Gather => votes(alloc, moment, from, leaf),
-        Act::SendPrepared => Ok(Decision::Goes(prepares_again(alloc, moment, from, leaf)?)),
+        Act::SendPrepared => Ok(Choice::Goes(prepares_again(alloc, moment, from, leaf)?)),
         Act::Commit => commit(alloc, moment, from, leaf),
-        Act::AbortAndSendAborted => Ok(Decision::Goes(aborts(alloc, moment, from, leaf)?)),
+        Act::AbortAndSendAborted => Ok(Choice::Goes(aborts(alloc, moment, from, leaf)?)),
         Act::RecordAndSendAborted => roll_back(alloc, moment, from, leaf),
-        Act::FaultInvalidState => Ok(Decision::Goes(faults(alloc, from, id, leaf)?)),
-        Act::FaultInvalidStateAndAbort => Ok(Decision::Goes(faults_and_ends(
-            alloc, from, id, leaf,
-        )?)),
-        _ => ignores(alloc, leaf),
+        Act::FaultInvalidState => Ok(Choice::Goes(faults(alloc, from, id, leaf)?)),
+        Act::FaultInvalidStateAndAbort => Ok(Choice::Goes(faults_and_ends(alloc, from, id, leaf)?)),
+        _ => Ok(Choice::ignored(alloc)),
     }
 }
 
@@ -342,14 +306,14 @@ fn notified(
     id: &Option<Text>,
     leaf: &Leaf,
     notice: Notice,
-) -> Result<Decision<Leaf>, AllocError>
+) -> Result<Choice<Leaf>, AllocError>
     ensures { IfOk result
-        (λ decision. decision_of decision ≡ leaf_notice moment.entry.now from.now id.now leaf.now
+        (λ choice. meant (Some leaf.now) choice ≡ leaf_notice moment.entry.now from.now id.now leaf.now
         (participant_of leaf.now.kind leaf.now.state notice)) }
 {
     match participant_cell(leaf.kind, leaf.state, notice) {
         Some(cell) => acts(alloc, moment, from, id, leaf, cell.act),
-        None => ignores(alloc, leaf),
+        None => Ok(Choice::ignored(alloc)),
     }
 }
 
@@ -388,9 +352,9 @@ fn answers(
 }
 
 /// The leaf is registered at this endpoint, and its Work is answered.
-fn registers(alloc: Global, coordinator: &Epr, leaf: &Leaf) -> Result<Change<Leaf>, AllocError>
+fn registers(alloc: Global, coordinator: &Epr, leaf: &Leaf) -> Result<Turn<Leaf>, AllocError>
     ensures { IfOk result
-        (λ change. change
+        (λ turn. turn_of (Some leaf.now) turn
         ≡ stays
         (posts (work_answer messages.WorkDone leaf.now.request)
         (begin (record leaf.now { state = states.Active; coordinator = Some coordinator.now; request = None })))) }
@@ -401,7 +365,7 @@ fn registers(alloc: Global, coordinator: &Epr, leaf: &Leaf) -> Result<Change<Lea
     next.state = State::Active;
     next.coordinator = Some(coordinator);
     next.request = None;
-    Ok(kept(alloc, next, posts))
+    Ok(Turn::silent(alloc, Fate::Put(next), posts))
 }
 
 /// A RegisterResponse at a leaf.
@@ -412,20 +376,20 @@ fn registered(
     relates: &Option<Text>,
     coordinator: &Epr,
     leaf: &Leaf,
-) -> Result<Decision<Leaf>, AllocError>
+) -> Result<Choice<Leaf>, AllocError>
     ensures { IfOk result
-        (λ decision. decision_of decision ≡ leaf_registered moment.entry.now relates.now coordinator.now leaf.now) }
+        (λ choice. meant (Some leaf.now) choice ≡ leaf_registered moment.entry.now relates.now coordinator.now leaf.now) }
 {
     if answers(alloc, moment, relates, leaf)? {
-        Ok(Decision::Goes(registers(alloc, coordinator, leaf)?))
+        Ok(Choice::Goes(registers(alloc, coordinator, leaf)?))
     } else {
-        ignores(alloc, leaf)
+        Ok(Choice::ignored(alloc))
     }
 }
 
 /// The leaf ends before it is registered, and refuses its Work.
-pub fn refuses(alloc: Global, leaf: &Leaf) -> Result<Change<Leaf>, AllocError>
-    ensures { IfOk result (λ change. change ≡ leaf_refused leaf.now) }
+pub fn refuses(alloc: Global, leaf: &Leaf) -> Result<Turn<Leaf>, AllocError>
+    ensures { IfOk result (λ turn. turn_of (Some leaf.now) turn ≡ leaf_refused leaf.now) }
 {
     let posts = answers_work(alloc, leaf, Answer::Refused)?;
     ended(alloc, leaf, Ending::Aborted, posts)
@@ -449,17 +413,18 @@ fn faulted(
     relates: &Option<Text>,
     name: &Text,
     leaf: &Leaf,
-) -> Result<Decision<Leaf>, AllocError>
+) -> Result<Choice<Leaf>, AllocError>
     ensures { IfOk result
-        (λ decision. decision_of decision ≡ leaf_fault moment.entry.now relates.now name.now leaf.now) }
+        (λ choice. meant (Some leaf.now) choice ≡ leaf_fault moment.entry.now relates.now name.now leaf.now) }
 {
     if answers(alloc, moment, relates, leaf)? {
-        return Ok(Decision::Goes(refuses(alloc, leaf)?));
+        return Ok(Choice::Goes(refuses(alloc, leaf)?));
     }
     if is_dropped_by(leaf, name) {
-        return Ok(Decision::Goes(dropped(alloc, PostList::new(alloc))));
+        let posts = PostList::new(alloc);
+        return Ok(Choice::Goes(Turn::silent(alloc, Fate::Forget, posts)));
     }
-    ignores(alloc, leaf)
+    Ok(Choice::ignored(alloc))
 }
 
 /// A message at a leaf.
@@ -469,9 +434,9 @@ pub fn on_leaf(
     moment: &Moment,
     arrived: &Arrived,
     leaf: &Leaf,
-) -> Result<Decision<Leaf>, AllocError>
+) -> Result<Choice<Leaf>, AllocError>
     ensures { IfOk result
-        (λ decision. decision_of decision ≡ on_leaf moment.entry.now arrived.now leaf.now arrived.now.message) }
+        (λ choice. meant (Some leaf.now) choice ≡ on_leaf moment.entry.now arrived.now leaf.now arrived.now.message) }
 {
     match &arrived.message {
         Message::Notice(notice) => notified(
@@ -490,6 +455,6 @@ pub fn on_leaf(
             leaf,
         ),
         Message::Fault { name } => faulted(alloc, moment, &arrived.relates, name, leaf),
-        _ => ignores(alloc, leaf),
+        _ => Ok(Choice::ignored(alloc)),
     }
 }

@@ -4,9 +4,7 @@ ghost use Rattle.std.specs.Prelude.{◌≡◌, ◌++◌, ◌∷◌, IfOk, [], So
 ghost use Rattle.at_base.specs.declared.outs.Out.TheVariants as outcome;
 ghost use Rattle.at_model.specs.Posts.{accepted};
 ghost use Rattle.at_model.specs.Leaves.{new_leaf, leaf_register, refuse_work, employ, work_for, on_work};
-ghost use Rattle.by_id.specs.Plans.{added};
-ghost use Rattle.by_id.specs.declared.plan.Plan.TheVariants as plans;
-ghost use Rattle.participant_at.specs.Employments.{employed};
+ghost use Rattle.participant_at.specs.LeafPlans.{employed};
 
 use crate::leaf::{Leaf, WorkRequest};
 use crate::posts::{Answer, leaf_register, replied};
@@ -15,12 +13,10 @@ use at_base::event::{Arrived, Moment};
 use at_base::id::Id;
 use at_base::limits::MOST_ITEMS;
 use at_base::message::{Work, cloned_option};
-use at_base::outs::{Effects, Out, OutList, Outs};
+use at_base::outs::{Out, OutList};
 use at_posts::answers::accepted;
 use at_tables::cells::State;
-use by_id::list::Alteration;
-use by_id::moves::unchanged;
-use by_id::plan::{Branch, Plan};
+use by_id::plan::Plan;
 use by_id::times::deadline_of;
 use std::alloc::{AllocError, Global};
 
@@ -72,7 +68,7 @@ fn refuse(alloc: Global, arrived: &Arrived) -> Result<Plan<Leaf>, AllocError>
     ensures { IfOk result (λ plan. plan ≡ employed (refuse_work arrived.now)) }
 {
     let outs = replied(alloc, &arrived.reply, &arrived.id, Answer::Refused)?;
-    Ok(Plan::Plain(unchanged(alloc, outs)))
+    Ok(Plan::still(alloc, outs))
 }
 
 /// The answer of the Work that made a leaf, and the leaf's Register under the context that it was given.
@@ -92,19 +88,6 @@ fn first_outs(
     Ok(outs)
 }
 
-/// One leaf more.
-fn added(alloc: Global, leaf: Leaf, outs: OutList) -> Plan<Leaf>
-    ensures { result ≡ plans.Plain (added leaf outs) }
-{
-    Plan::Plain(Branch {
-        change: Alteration::Add(leaf),
-        outs: Outs {
-            outs,
-            effects: Effects::from_vec(Vec::new(alloc)),
-        },
-    })
-}
-
 /// A new leaf, which registers.
 fn employ(
     alloc: Global,
@@ -122,7 +105,7 @@ fn employ(
 {
     let leaf = new_leaf(moment, id, arrived, reply, work)?;
     let outs = first_outs(alloc, moment, &leaf, &work.context.registration)?;
-    Ok(added(alloc, leaf, outs))
+    Ok(Plan::making(alloc, leaf, outs))
 }
 
 /// Work whose answer has an endpoint makes a leaf.

@@ -9,7 +9,9 @@ use at_base::outs::{Effect, Ending};
 use at_base::record::Record;
 use at_base::text::Text;
 use at_posts::answers::accepted;
+use at_posts::list::PostList;
 use at_posts::posts::reply_post;
+use by_id::fates::{Choice, Fate, Turn};
 use by_id::list::{Alteration, ById, Identified, is_before, is_same};
 use by_id::moves::{Change, Decision, Moving, ignored, unchanged};
 use by_id::plan::{Branch, Plan};
@@ -349,5 +351,78 @@ fn ways_on(rt: HostRuntime) -> Result<(), Fail> {
     let unchanged = unchanged_right(rt.alloc())?;
     let changed = changed_right(rt.alloc())?;
     assert!(rt; unchanged && changed);
+    Ok(())
+}
+
+/// What is done to the first item: nothing, or it is given anew behind one post, or forgotten behind one more and one
+/// effect.
+fn choice(alloc: Global, name: &str) -> Result<Choice<Alarm>, AllocError> {
+    if name == "ignored" {
+        return Ok(Choice::ignored(alloc));
+    }
+    let posts = PostList::alone(alloc, reply_post(None, &None, Message::WorkDone)?)?;
+    if name == "given" {
+        return Ok(Choice::Goes(Turn::silent(alloc, Fate::Put(alarm_at(1, 20)), posts)));
+    }
+    let happened = Effect::Root {
+        id: id(1),
+        what: Ending::Aborted,
+    };
+    Ok(Choice::Goes(Turn::with_effect(alloc, Fate::Forget, posts, happened)?))
+}
+
+fn branch_of_choice(alloc: Global, name: &str) -> Result<Branch<Alarm>, AllocError> {
+    let answer = accepted(alloc)?;
+    let plan = choice(alloc, name)?.into_plan(alloc, answer, &alarm_at(1, 10))?;
+    Ok(plan.into_branch(true))
+}
+
+/// What is done; the time of the item behind it, 0 where it is forgotten; how many are sent, and how many effects.
+const CHOICES: &[(&str, u64, usize, usize)] = &[
+    ("ignored", 10, 1, 0),
+    ("given", 20, 2, 0),
+    ("forgotten", 0, 2, 1),
+];
+
+fn is_done(alloc: Global, row: &(&str, u64, usize, usize)) -> Result<bool, AllocError> {
+    let (name, time, sent, effects) = row;
+    let branch = branch_of_choice(alloc, name)?;
+    let left = match &branch.change {
+        Alteration::Put {
+            item: Some(alarm), ..
+        } => alarm.time,
+        _ => 0,
+    };
+    let name = if left == 0 { "drop" } else { "put" };
+    Ok(left == *time && is_branch(&branch, name, *sent, *effects))
+}
+
+#[test]
+fn what_is_done_to_an_item(rt: HostRuntime) -> Result<(), Fail> {
+    for row in CHOICES {
+        let right = is_done(rt.alloc(), row)?;
+        assert!(rt; right, "at {}", row.0);
+    }
+    Ok(())
+}
+
+fn making_right(alloc: Global) -> Result<bool, AllocError> {
+    let answer = accepted(alloc)?;
+    let branch = Plan::making(alloc, alarm_at(1, 10), answer).into_branch(true);
+    Ok(is_branch(&branch, "add", 1, 0))
+}
+
+fn still_right(alloc: Global) -> Result<bool, AllocError> {
+    let answer = accepted(alloc)?;
+    let still = Plan::still(alloc, answer).into_branch(true);
+    let nothing = Plan::nothing(alloc).into_branch(true);
+    Ok(is_branch(&still, "keep", 1, 0) && is_branch(&nothing, "keep", 0, 0))
+}
+
+#[test]
+fn plans_without_a_choice(rt: HostRuntime) -> Result<(), Fail> {
+    let making = making_right(rt.alloc())?;
+    let still = still_right(rt.alloc())?;
+    assert!(rt; making && still);
     Ok(())
 }
