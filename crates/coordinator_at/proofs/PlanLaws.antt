@@ -27,8 +27,7 @@ use Rattle.at_model.specs.Moves.{Decision, Goes, Records}
 use Rattle.at_model.specs.Posts.{accepted}
 use Rattle.at_model.specs.Step.{moment_of, at_time, plan_of, put_transaction, transaction_plan, created_plan, activation_plan, registration_plan, completion_seat_plan, completion_plan, seat_plan, find_seat, coordinator_plan, link_plan, participant_plan, arrived_plan, transaction_due_plan, due_plan, transaction_at, leaf_at, has_committed}
 use Rattle.by_id.specs.Plans.{decided}
-use Rattle.coordinator_at.specs.Creations.{created}
-use Rattle.coordinator_at.specs.TransactionPlans.{moved, creation_arrived, register_at, registration_arrived, completion_arrived, completion_at, seat_arrived, seat_at, link_arrived, link_at, arrived_at, transaction_asked, item_asked, has_initiator, has_seat, has_superior}
+use Rattle.coordinator_at.specs.TransactionPlans.{created, moved, creation_arrived, register_at, registration_arrived, completion_arrived, completion_at, seat_arrived, seat_at, link_arrived, link_at, arrived_at, transaction_asked, item_asked, has_initiator, has_seat, has_superior}
 use Rattle.coordinator_at.specs.BookPlans.{whole, IsCreate, IsRegister, IsForTransactionAt, IsTransactionIn, PlansAsTheModel}
 
 -- a decision on a transaction

@@ -1,4 +1,3 @@
-pub mod Creations
 pub mod Holdings
 pub mod TransactionPlans
 pub mod Recoveries

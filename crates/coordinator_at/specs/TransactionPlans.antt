@@ -20,19 +20,17 @@ use Rattle.at_model.specs.Seats.{ending}
 use Rattle.at_model.specs.Posts.{accepted}
 use Rattle.at_model.specs.Arrivals.{on_link, on_seat, on_completion, with_answer}
 use Rattle.at_model.specs.Register.{on_register}
-use Rattle.at_model.specs.Create.{on_create}
+use Rattle.at_model.specs.Create.{Creation, on_create}
 use Rattle.at_model.specs.Due.{transaction_due, transaction_reached}
 use Rattle.at_model.specs.Step.{find_seat}
 use Rattle.at_model.specs.World.{is_lost_root, is_lost_subordinate}
 use Rattle.by_id.specs.declared.plan.Plan.{Plan}
-use Rattle.by_id.specs.declared.plan.Plan.TheVariants as plans
-use Rattle.by_id.specs.Plans.{unchanged, decided}
-use Rattle.coordinator_at.specs.Creations.{created}
+use Rattle.by_id.specs.Plans.{nothing, made, decided}
 use Rattle.coordinator_at.specs.Registrations.{registered}
 
--- The event is none for a transaction.
-abbrev pub nothing : Plan Transaction
-nothing = plans.Plain (unchanged [])
+-- What a CreateCoordinationContext does to the list of transactions.
+abbrev pub created : Creation → Plan Transaction
+created c = made c.transaction c.outs
 
 -- A decision on a transaction, with the answer that a subordinate's CreateCoordinationContext still waits for.
 abbrev pub moved : Moment → List Out → Transaction → Decision Transaction → Plan Transaction

@@ -9,9 +9,8 @@ ghost use Rattle.endpoints.specs.Addresses.{atomic};
 ghost use Rattle.at_model.specs.Arrivals.{context_of};
 ghost use Rattle.at_model.specs.Create.{identifier_of, new_root, expires_under, new_link, new_subordinate, link_register, subordinate_posts, refuse_create, create_root, create_under, create_in, on_create};
 ghost use Rattle.at_model.specs.Posts.{accepted, replied};
-ghost use Rattle.by_id.specs.Plans.{added};
-ghost use Rattle.by_id.specs.declared.plan.Plan.TheVariants as plans;
-ghost use Rattle.coordinator_at.specs.Creations.{created};
+ghost use Rattle.by_id.specs.Plans.{making};
+ghost use Rattle.coordinator_at.specs.TransactionPlans.{created};
 
 use at_base::epr::{Epr, Reply};
 use at_base::event::{Arrived, Moment};
@@ -20,15 +19,13 @@ use at_base::id::Id;
 use at_base::limits::MOST_ITEMS;
 use at_base::message::{Context, Create, Message, cloned_option};
 use at_base::notice::Kind;
-use at_base::outs::{Effects, OutList, Outs};
+use at_base::outs::OutList;
 use at_base::target::Target;
 use at_base::text::Text;
 use at_posts::answers::{accepted, faulted, replied};
 use at_posts::posts::push_register;
 use at_tables::cells::State;
-use by_id::list::Alteration;
-use by_id::moves::unchanged;
-use by_id::plan::{Branch, Plan};
+use by_id::plan::Plan;
 use by_id::times::deadline_of;
 use endpoints::uris::{atomic, protocol_of};
 use std::alloc::{AllocError, Global};
@@ -65,19 +62,6 @@ fn new_root(
     })
 }
 
-/// One transaction more, and this is sent.
-fn added(alloc: Global, transaction: Transaction, outs: OutList) -> Plan<Transaction>
-    ensures { result ≡ plans.Plain (added transaction outs) }
-{
-    Plan::Plain(Branch {
-        change: Alteration::Add(transaction),
-        outs: Outs {
-            outs,
-            effects: Effects::from_vec(Vec::new(alloc)),
-        },
-    })
-}
-
 /// The fault CannotCreateContext.
 fn refuse_create(alloc: Global, arrived: &Arrived) -> Result<Plan<Transaction>, AllocError>
     ensures { IfOk result (λ plan. plan ≡ created (refuse_create arrived.now)) }
@@ -88,7 +72,7 @@ fn refuse_create(alloc: Global, arrived: &Arrived) -> Result<Plan<Transaction>, 
         &arrived.id,
         Fault::CannotCreateContext,
     )?;
-    Ok(Plan::Plain(unchanged(alloc, outs)))
+    Ok(Plan::still(alloc, outs))
 }
 
 /// The answer of a CreateCoordinationContext that made a root.
@@ -126,7 +110,7 @@ fn create_root(
 {
     let transaction = new_root(alloc, moment, id, create)?;
     let outs = context_reply(alloc, moment, arrived, &transaction, create.expires)?;
-    Ok(added(alloc, transaction, outs))
+    Ok(Plan::making(alloc, transaction, outs))
 }
 
 /// Its own Expires, or else its superior's.
@@ -256,13 +240,12 @@ fn create_subordinate(
 ) -> Result<Plan<Transaction>, AllocError>
     ensures { IfOk result
         (λ plan. plan
-        ≡ plans.Plain
-        (added (new_subordinate moment.entry.now id arrived.now reply.now create.now current.now)
-        (accepted ++ subordinate_posts moment.entry.now id current.now))) }
+        ≡ making (new_subordinate moment.entry.now id arrived.now reply.now create.now current.now)
+        (accepted ++ subordinate_posts moment.entry.now id current.now)) }
 {
     let transaction = new_subordinate(alloc, moment, id, arrived, reply, create, current)?;
     let outs = subordinate_outs(alloc, moment, id, current)?;
-    Ok(added(alloc, transaction, outs))
+    Ok(Plan::making(alloc, transaction, outs))
 }
 
 /// A subordinate answers only once it is registered, so its request needs an endpoint to answer to.

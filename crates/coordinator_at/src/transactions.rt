@@ -10,7 +10,7 @@ ghost use Rattle.by_id.specs.Lists.{altered, next_due};
 ghost use Rattle.by_id.specs.Plans.{branch_of};
 ghost use Rattle.coordinator_at.specs.Holdings.{transactions_held};
 ghost use Rattle.coordinator_at.specs.BookPlans.{PlansAsTheModel};
-ghost use Rattle.coordinator_at.specs.TransactionPlans.{nothing, moved, creation_arrived, register_at, registration_arrived, completion_arrived, completion_at, seat_arrived, seat_at, link_arrived, link_at, arrived_at, transaction_asked, item_asked, transactions_plan, roots_lost, subordinates_lost, transactions_lost, has_initiator, has_seat, has_superior};
+ghost use Rattle.coordinator_at.specs.TransactionPlans.{moved, creation_arrived, register_at, registration_arrived, completion_arrived, completion_at, seat_arrived, seat_at, link_arrived, link_at, arrived_at, transaction_asked, item_asked, transactions_plan, roots_lost, subordinates_lost, transactions_lost, has_initiator, has_seat, has_superior};
 
 use crate::create::on_create;
 use crate::due::on_due;
@@ -24,7 +24,7 @@ use at_base::outs::{Effects, Ending, OutList, Outs};
 use at_base::target::{Seat, Target};
 use at_posts::answers::accepted;
 use by_id::list::ById;
-use by_id::moves::{Decision, unchanged};
+use by_id::moves::Decision;
 use by_id::plan::{Branch, Plan};
 use std::alloc::{AllocError, Global};
 use std::marker::Model;
@@ -58,13 +58,6 @@ impl Model for Transactions {
     ghost view = { λ s. s.live };
 }
 
-/// The event is none for a transaction.
-fn nothing(alloc: Global) -> Plan<Transaction>
-    ensures { result ≡ nothing }
-{
-    Plan::Plain(unchanged(alloc, OutList::from_vec(Vec::new(alloc))))
-}
-
 /// A decision on a transaction, with the answer that its CreateCoordinationContext still waits for.
 fn moved(
     alloc: Global,
@@ -92,7 +85,7 @@ fn creation_arrived(
 {
     match &arrived.message {
         Message::Create(create) => on_create(alloc, moment, live, arrived, create),
-        _ => Ok(nothing(alloc)),
+        _ => Ok(Plan::nothing(alloc)),
     }
 }
 
@@ -108,7 +101,7 @@ fn register_at(
 {
     match &arrived.message {
         Message::Register(register) => on_register(alloc, moment, arrived, register, transaction),
-        _ => Ok(nothing(alloc)),
+        _ => Ok(Plan::nothing(alloc)),
     }
 }
 
@@ -124,7 +117,7 @@ fn registration_arrived(
 {
     match found {
         Some(transaction) => register_at(alloc, moment, arrived, transaction),
-        None => Ok(nothing(alloc)),
+        None => Ok(Plan::nothing(alloc)),
     }
 }
 
@@ -145,7 +138,7 @@ fn completion_arrived(
             let decision = on_completion(alloc, moment, arrived, transaction, completion)?;
             moved(alloc, moment, answer, transaction, decision)
         }
-        None => Ok(nothing(alloc)),
+        None => Ok(Plan::nothing(alloc)),
     }
 }
 
@@ -161,7 +154,7 @@ fn completion_at(
 {
     match found {
         Some(transaction) => completion_arrived(alloc, moment, arrived, transaction),
-        None => Ok(nothing(alloc)),
+        None => Ok(Plan::nothing(alloc)),
     }
 }
 
@@ -202,7 +195,7 @@ fn seat_arrived(
             let decision = on_seat(alloc, moment, arrived, transaction, seat)?;
             moved(alloc, moment, answer, transaction, decision)
         }
-        None => Ok(nothing(alloc)),
+        None => Ok(Plan::nothing(alloc)),
     }
 }
 
@@ -223,7 +216,7 @@ fn seat_at(
             let found = find_seat(transaction.seats.as_slice(), seat.number, seat.kind);
             seat_arrived(alloc, moment, arrived, transaction, found)
         }
-        None => Ok(nothing(alloc)),
+        None => Ok(Plan::nothing(alloc)),
     }
 }
 
@@ -245,7 +238,7 @@ fn link_arrived(
             let decision = on_link(alloc, moment, arrived, kind, transaction, superior)?;
             moved(alloc, moment, answer, transaction, decision)
         }
-        None => Ok(nothing(alloc)),
+        None => Ok(Plan::nothing(alloc)),
     }
 }
 
@@ -262,7 +255,7 @@ fn link_at(
 {
     match found {
         Some(transaction) => link_arrived(alloc, moment, arrived, kind, transaction),
-        None => Ok(nothing(alloc)),
+        None => Ok(Plan::nothing(alloc)),
     }
 }
 
@@ -281,7 +274,7 @@ fn transaction_asked(
             let answer = OutList::from_vec(Vec::new(alloc));
             moved(alloc, moment, answer, transaction, decision)
         }
-        None => Ok(nothing(alloc)),
+        None => Ok(Plan::nothing(alloc)),
     }
 }
 
@@ -437,7 +430,7 @@ impl Transactions {
                 kind,
                 self.live.find(id),
             ),
-            Target::Initiator(_) | Target::Work => Ok(nothing(alloc)),
+            Target::Initiator(_) | Target::Work => Ok(Plan::nothing(alloc)),
         }
     }
 
@@ -452,7 +445,7 @@ impl Transactions {
     {
         match item {
             Item::Transaction(id) => transaction_asked(alloc, moment, self.live.find(id)),
-            Item::Leaf(_) | Item::Activity(_) => Ok(nothing(alloc)),
+            Item::Leaf(_) | Item::Activity(_) => Ok(Plan::nothing(alloc)),
         }
     }
 
@@ -470,7 +463,7 @@ impl Transactions {
         match event {
             Event::Arrived(arrived) => self.arrived_at(alloc, moment, arrived),
             Event::Due(item) => self.item_asked(alloc, moment, *item),
-            Event::Local(_) | Event::Tick => Ok(nothing(alloc)),
+            Event::Local(_) | Event::Tick => Ok(Plan::nothing(alloc)),
         }
     }
 
