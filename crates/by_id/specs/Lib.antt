@@ -2,3 +2,4 @@ pub mod Lists
 pub mod Plans
 pub mod Decisions
 pub mod Fates
+pub mod Wholes

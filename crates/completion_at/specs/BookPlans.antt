@@ -1,5 +1,5 @@
 -- The plan of the activities is the model's plan of the whole book, at each event that moves an activity.
-use Rattle.std.specs.Prelude.{ℕ, [], Some, None, ◌+◌, ◌≡◌, IsTrue, is_some}
+use Rattle.std.specs.Prelude.{ℕ, [], Some, None, ◌≡◌, IsTrue, is_some}
 use Rattle.at_base.specs.declared.target.Target.{Target}
 use Rattle.at_base.specs.declared.target.Target.TheVariants as targets
 use Rattle.at_base.specs.declared.event.Local.{Local}
@@ -9,42 +9,19 @@ use Rattle.at_base.specs.declared.event.Event.{Event}
 use Rattle.at_base.specs.declared.event.Event.TheVariants as events
 use Rattle.at_model.specs.Book.{Book, Activity, next_id}
 use Rattle.at_model.specs.Activities.{Refusal}
-use Rattle.at_model.specs.Step.{Outcome, Plan, plain, noting, still, plan, refuses, at_time, moment_of, activity_at}
+use Rattle.at_model.specs.Step.{Plan, plain, still, plan, refuses, moment_of, activity_at}
 use Rattle.by_id.specs.declared.list.Alteration.{Alteration}
-use Rattle.by_id.specs.declared.list.Alteration.TheVariants as alterations
-use Rattle.by_id.specs.declared.plan.Branch.{Branch}
 use Rattle.by_id.specs.declared.plan.Plan.{Plan as Planned}
-use Rattle.by_id.specs.declared.plan.Plan.TheVariants as plans
+use Rattle.by_id.specs.Wholes.{whole_by}
 use Rattle.completion_at.specs.ActivityPlans.{activities_plan, refused_at, settled}
 
--- an activity that is made draws an id
-abbrev pub drawn : Alteration Activity → ℕ → ℕ
-drawn alterations.Keep counter = counter
-drawn (alterations.Put id item) counter = counter
-drawn (alterations.Add a) counter = counter + 1
-
 -- the book with what becomes of its activities
-abbrev pub outcome_in : Book → Branch Activity → Outcome
-outcome_in b branch = record {
-  book = record b { counter = drawn branch.change b.counter; activities = settled branch.change b.activities };
-  outs = branch.outs.outs;
-  effects = branch.outs.effects;
-}
-
--- a step that is undone doesn't note the time
-abbrev pub noted_if_done : Book → ℕ → Alteration Activity → Book
-noted_if_done b now alterations.Keep = b
-noted_if_done b now (alterations.Put id item) = at_time now b
-noted_if_done b now (alterations.Add a) = at_time now b
+abbrev pub with_activities : Alteration Activity → Book → Book
+with_activities change b = record b { activities = settled change b.activities }
 
 -- The plan of the activities, as a plan of the book that holds them.
 abbrev pub whole : Book → ℕ → Planned Activity → Plan
-whole b now (plans.Plain branch) = plain (outcome_in (at_time now b) branch)
-whole b now (plans.Recorded entry landed absent) = record {
-  entry = Some entry;
-  landed = noting entry (outcome_in (at_time now b) landed);
-  absent = outcome_in (noted_if_done b now absent.change) absent;
-}
+whole = whole_by with_activities
 
 -- A message at an activity that stands in the book.
 abbrev pub IsForActivityAt : Book → Target → Type 0

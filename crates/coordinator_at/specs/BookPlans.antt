@@ -1,5 +1,5 @@
 -- The plan of the transactions is the model's plan of the whole book, at each event that moves or makes a transaction.
-use Rattle.std.specs.Prelude.{ℕ, Some, ◌+◌, ◌≡◌, IsTrue, is_some}
+use Rattle.std.specs.Prelude.{ℕ, ◌≡◌, IsTrue, is_some}
 use Rattle.at_base.specs.declared.message.Message.{Message}
 use Rattle.at_base.specs.declared.message.Message.TheVariants as messages
 use Rattle.at_base.specs.declared.target.Target.{Target}
@@ -9,46 +9,20 @@ use Rattle.at_base.specs.declared.event.Item.TheVariants as items
 use Rattle.at_base.specs.declared.event.Event.{Event}
 use Rattle.at_base.specs.declared.event.Event.TheVariants as events
 use Rattle.at_model.specs.Book.{Book, Transaction, transaction_id}
-use Rattle.at_model.specs.Step.{Outcome, Plan, plain, noting, plan, at_time, moment_of, transaction_at}
+use Rattle.at_model.specs.Step.{Plan, plan, moment_of, transaction_at}
 use Rattle.by_id.specs.Lists.{altered}
 use Rattle.by_id.specs.declared.list.Alteration.{Alteration}
-use Rattle.by_id.specs.declared.list.Alteration.TheVariants as alterations
-use Rattle.by_id.specs.declared.plan.Branch.{Branch}
 use Rattle.by_id.specs.declared.plan.Plan.{Plan as Planned}
-use Rattle.by_id.specs.declared.plan.Plan.TheVariants as plans
+use Rattle.by_id.specs.Wholes.{whole_by}
 use Rattle.coordinator_at.specs.TransactionPlans.{transactions_plan, has_initiator, has_seat, has_superior}
 
--- a transaction that is made draws an id
-abbrev pub drawn : Alteration Transaction → ℕ → ℕ
-drawn alterations.Keep counter = counter
-drawn (alterations.Put id item) counter = counter
-drawn (alterations.Add t) counter = counter + 1
-
 -- the book with what becomes of its transactions
-abbrev pub outcome_in : Book → Branch Transaction → Outcome
-outcome_in b branch = record {
-  book = record b {
-    counter = drawn branch.change b.counter;
-    transactions = altered transaction_id branch.change b.transactions;
-  };
-  outs = branch.outs.outs;
-  effects = branch.outs.effects;
-}
-
--- a step that is undone doesn't note the time
-abbrev pub noted_if_done : Book → ℕ → Alteration Transaction → Book
-noted_if_done b now alterations.Keep = b
-noted_if_done b now (alterations.Put id item) = at_time now b
-noted_if_done b now (alterations.Add t) = at_time now b
+abbrev pub with_transactions : Alteration Transaction → Book → Book
+with_transactions change b = record b { transactions = altered transaction_id change b.transactions }
 
 -- The plan of the transactions, as a plan of the book that holds them.
 abbrev pub whole : Book → ℕ → Planned Transaction → Plan
-whole b now (plans.Plain branch) = plain (outcome_in (at_time now b) branch)
-whole b now (plans.Recorded entry landed absent) = record {
-  entry = Some entry;
-  landed = noting entry (outcome_in (at_time now b) landed);
-  absent = outcome_in (noted_if_done b now absent.change) absent;
-}
+whole = whole_by with_transactions
 
 abbrev pub IsCreate : Message → Type 0
 IsCreate (messages.Create c) = Unit {0}

@@ -1,21 +1,23 @@
 -- What a part does to a book is what its plan of the whole book says.
 use Rattle.std.proofs.Common.{ℕ, Bool, true, false, nat_lt, ◌≡◌, refl, sym, ◌∙◌, ap, subst}
 use Rattle.at_base.specs.declared.record.Record.{Record}
-use Rattle.at_model.specs.Outcomes.{with_outcome}
+use Rattle.at_model.specs.Outcomes.{noted as recorded}
 use Rattle.at_model.specs.Book.{Book, Transaction, Leaf, Activity, transaction_id, leaf_id, last_counter}
 use Rattle.at_model.specs.Step.{plan, branch, at_time, moment_of}
 use Rattle.by_id.specs.Lists.{altered}
+use Rattle.by_id.specs.Plans.{branch_of}
+use Rattle.by_id.specs.Wholes.{drawn as drawn_by, noted_if_done, whole_by}
 use Rattle.by_id.specs.declared.list.Alteration.{Alteration}
 use Rattle.by_id.specs.declared.list.Alteration.TheVariants as alterations
 use Rattle.by_id.specs.declared.plan.Plan.{Plan as Planned}
 use Rattle.by_id.specs.declared.plan.Plan.TheVariants as plans
-use Rattle.participant_at.specs.BookPlans.{whole as of_leaves, drawn as drawn_leaf, noted_if_done as noted_leaf, PlansAsTheModel as LeavesAsTheModel}
-use Rattle.coordinator_at.specs.BookPlans.{whole as of_transactions, drawn as drawn_transaction, noted_if_done as noted_transaction, PlansAsTheModel as TransactionsAsTheModel}
+use Rattle.participant_at.specs.BookPlans.{whole as of_leaves, with_leaves, PlansAsTheModel as LeavesAsTheModel}
+use Rattle.coordinator_at.specs.BookPlans.{whole as of_transactions, with_transactions, PlansAsTheModel as TransactionsAsTheModel}
 use Rattle.completion_at.specs.ActivityPlans.{settled}
-use Rattle.completion_at.specs.BookPlans.{whole as of_activities, drawn as drawn_activity, noted_if_done as noted_activity, PlansAsTheModel as ActivitiesAsTheModel, RefusesAsTheModel}
+use Rattle.completion_at.specs.BookPlans.{whole as of_activities, with_activities, PlansAsTheModel as ActivitiesAsTheModel, RefusesAsTheModel}
 use Rattle.interposition.specs.declared.plan.Part.{Part}
 use Rattle.interposition.specs.declared.plan.Part.TheVariants as parts
-use Rattle.interposition.specs.PlanResults.{is_addition, is_change, draws, drawn, noted, done_part, part_entry, part_outs, kept}
+use Rattle.interposition.specs.PlanResults.{is_addition, is_change, draws, drawn, noted, notes_time, moved, done_part, part_entry, part_outs, kept}
 use Rattle.interposition.specs.Plans.{part_of}
 use Rattle.model_laws.specs.BookBounds.{IsSound, RecordsAreWellFormed}
 use Rattle.interposition.specs.ModelSteps.{StepsAsTheModel, KeepsBounds}
@@ -26,86 +28,50 @@ use Rattle.interposition.proofs.PlanParts.{IsDrawable, part_is_drawable}
 abbrev HasNext : Book → Bool → Type 0
 HasNext b holds = holds ≡ true → nat_lt b.counter last_counter ≡ true
 
--- and what is recorded may be an outcome
-with_kept : (entry : Record) (b : Book) {c d : Book} → c ≡ d → kept (with_outcome entry b.outcomes) c ≡ kept (with_outcome entry b.outcomes) d
-with_kept entry b e = ap (kept (with_outcome entry b.outcomes)) e
+-- one list of the book, where `put` takes over what becomes of it
+module _ {A : Type 0} (put : Alteration A → Book → Book) (noting_after : (r : Record) (c : Alteration A) (b : Book) → put c (recorded r b) ≡ recorded r (put c b)) where
+  gone : (now : ℕ) (b : Book) (c : Alteration A) → HasNext b (is_addition c)
+      → kept b.outcomes (drawn (is_addition c) (at_time now b)) ≡ record (at_time now b) { counter = drawn_by c b.counter }
+  gone now b alterations.Keep h = refl
+  gone now b (alterations.Put id item) h = refl
+  gone now b (alterations.Add x) h = rw (h refl) refl
 
--- transactions
+  undone : (now : ℕ) (b : Book) (c : Alteration A) → HasNext b (is_addition c)
+      → kept b.outcomes (drawn (is_addition c) (noted (is_change c) now b)) ≡ record (noted_if_done b now c) { counter = drawn_by c (noted_if_done b now c).counter }
+  undone now b alterations.Keep h = refl
+  undone now b (alterations.Put id item) h = refl
+  undone now b (alterations.Add x) h = rw (h refl) refl
 
-transaction_plain : (now : ℕ) (b : Book) (c : Alteration Transaction) → HasNext b (is_addition c)
-    → record (kept b.outcomes (drawn (is_addition c) (at_time now b))) { transactions = altered transaction_id c b.transactions }
-    ≡ record (at_time now b) { counter = drawn_transaction c b.counter; transactions = altered transaction_id c b.transactions }
-transaction_plain now b alterations.Keep h = refl
-transaction_plain now b (alterations.Put id item) h = refl
-transaction_plain now b (alterations.Add t) h = rw (h refl) refl
+  does : (now : ℕ) (b : Book) (p : Planned A) (landed : Bool) → HasNext b (draws p landed)
+      → put (branch_of p landed).change (moved now p landed b) ≡ (branch (whole_by put b now p) landed).book
+  does now b (plans.Plain x) true h = ap (put x.change) (gone now b x.change h)
+  does now b (plans.Plain x) false h = ap (put x.change) (gone now b x.change h)
+  does now b (plans.Recorded entry x absent) true h =
+      ap (λ c. put x.change (recorded entry c)) (gone now b x.change h) ∙ noting_after entry x.change (record (at_time now b) { counter = drawn_by x.change b.counter })
+  does now b (plans.Recorded entry x absent) false h = ap (put absent.change) (undone now b absent.change h)
 
-transaction_absent : (now : ℕ) (b : Book) (c : Alteration Transaction) → HasNext b (is_addition c)
-    → record (kept b.outcomes (drawn (is_addition c) (noted (is_change c) now b))) { transactions = altered transaction_id c b.transactions }
-    ≡ record (noted_transaction b now c) { counter = drawn_transaction c b.counter; transactions = altered transaction_id c b.transactions }
-transaction_absent now b alterations.Keep h = refl
-transaction_absent now b (alterations.Put id item) h = refl
-transaction_absent now b (alterations.Add t) h = rw (h refl) refl
-
-transaction_kept : (now : ℕ) (b : Book) (c : Alteration Transaction)
-    → record (noted_transaction b now c) { counter = drawn_transaction c b.counter; transactions = altered transaction_id c b.transactions }
-    ≡ record (noted_transaction b now c) { counter = drawn_transaction c (noted_transaction b now c).counter; transactions = altered transaction_id c (noted_transaction b now c).transactions }
-transaction_kept now b alterations.Keep = refl
-transaction_kept now b (alterations.Put id item) = refl
-transaction_kept now b (alterations.Add t) = refl
+-- the time is in no list
+timeless : {L : Type 0} (list : Book → L) → ((n : ℕ) (b : Book) → list (at_time n b) ≡ list b) → (holds : Bool) (now : ℕ) (b : Book) → list (noted holds now b) ≡ list b
+timeless list same true now b = same now b
+timeless list same false now b = refl
 
 transactions : (now : ℕ) (b : Book) (p : Planned Transaction) (landed : Bool) → HasNext b (draws p landed)
     → done_part now (parts.Transactions p) landed b ≡ (branch (of_transactions b now p) landed).book
-transactions now b (plans.Plain x) true h = transaction_plain now b x.change h
-transactions now b (plans.Plain x) false h = transaction_plain now b x.change h
-transactions now b (plans.Recorded entry x absent) true h = with_kept entry b (transaction_plain now b x.change h)
-transactions now b (plans.Recorded entry x absent) false h =
-    transaction_absent now b absent.change h ∙ transaction_kept now b absent.change
-
--- leaves
-
-leaf_plain : (now : ℕ) (b : Book) (c : Alteration Leaf) → HasNext b (is_addition c)
-    → record (kept b.outcomes (drawn (is_addition c) (at_time now b))) { leaves = altered leaf_id c b.leaves }
-    ≡ record (at_time now b) { counter = drawn_leaf c b.counter; leaves = altered leaf_id c b.leaves }
-leaf_plain now b alterations.Keep h = refl
-leaf_plain now b (alterations.Put id item) h = refl
-leaf_plain now b (alterations.Add t) h = rw (h refl) refl
-
-leaf_absent : (now : ℕ) (b : Book) (c : Alteration Leaf) → HasNext b (is_addition c)
-    → record (kept b.outcomes (drawn (is_addition c) (noted (is_change c) now b))) { leaves = altered leaf_id c b.leaves }
-    ≡ record (noted_leaf b now c) { counter = drawn_leaf c (noted_leaf b now c).counter; leaves = altered leaf_id c (noted_leaf b now c).leaves }
-leaf_absent now b alterations.Keep h = refl
-leaf_absent now b (alterations.Put id item) h = refl
-leaf_absent now b (alterations.Add t) h = rw (h refl) refl
+transactions now b p landed h =
+    ap (λ list. record (moved now p landed b) { transactions = altered transaction_id (branch_of p landed).change list }) (sym (timeless (λ c. c.transactions) (λ n c. refl) (notes_time p landed) now b))
+    ∙ does with_transactions (λ r c x. refl) now b p landed h
 
 leaves : (now : ℕ) (b : Book) (p : Planned Leaf) (landed : Bool) → HasNext b (draws p landed)
     → done_part now (parts.Leaves p) landed b ≡ (branch (of_leaves b now p) landed).book
-leaves now b (plans.Plain x) true h = leaf_plain now b x.change h
-leaves now b (plans.Plain x) false h = leaf_plain now b x.change h
-leaves now b (plans.Recorded entry x absent) true h = with_kept entry b (leaf_plain now b x.change h)
-leaves now b (plans.Recorded entry x absent) false h = leaf_absent now b absent.change h
-
--- activities
-
-activity_plain : (now : ℕ) (b : Book) (c : Alteration Activity) → HasNext b (is_addition c)
-    → record (kept b.outcomes (drawn (is_addition c) (at_time now b))) { activities = settled c b.activities }
-    ≡ record (at_time now b) { counter = drawn_activity c b.counter; activities = settled c b.activities }
-activity_plain now b alterations.Keep h = refl
-activity_plain now b (alterations.Put id item) h = refl
-activity_plain now b (alterations.Add t) h = rw (h refl) refl
-
-activity_absent : (now : ℕ) (b : Book) (c : Alteration Activity) → HasNext b (is_addition c)
-    → record (kept b.outcomes (drawn (is_addition c) (noted (is_change c) now b))) { activities = settled c b.activities }
-    ≡ record (noted_activity b now c) { counter = drawn_activity c (noted_activity b now c).counter; activities = settled c (noted_activity b now c).activities }
-activity_absent now b alterations.Keep h = refl
-activity_absent now b (alterations.Put id item) h = refl
-activity_absent now b (alterations.Add t) h = rw (h refl) refl
+leaves now b p landed h =
+    ap (λ list. record (moved now p landed b) { leaves = altered leaf_id (branch_of p landed).change list }) (sym (timeless (λ c. c.leaves) (λ n c. refl) (notes_time p landed) now b))
+    ∙ does with_leaves (λ r c x. refl) now b p landed h
 
 activities : (now : ℕ) (b : Book) (p : Planned Activity) (landed : Bool) → HasNext b (draws p landed)
     → done_part now (parts.Activities p) landed b ≡ (branch (of_activities b now p) landed).book
-activities now b (plans.Plain x) true h = activity_plain now b x.change h
-activities now b (plans.Plain x) false h = activity_plain now b x.change h
-activities now b (plans.Recorded entry x absent) true h = with_kept entry b (activity_plain now b x.change h)
-activities now b (plans.Recorded entry x absent) false h = activity_absent now b absent.change h
+activities now b p landed h =
+    ap (λ list. record (moved now p landed b) { activities = settled (branch_of p landed).change list }) (sym (timeless (λ c. c.activities) (λ n c. refl) (notes_time p landed) now b))
+    ∙ does with_activities (λ r c x. refl) now b p landed h
 
 -- a part
 

@@ -1,5 +1,5 @@
 -- The plan of the leaves is the model's plan of the whole book, at each event that moves a leaf.
-use Rattle.std.specs.Prelude.{ℕ, Some, None, ◌+◌, ◌≡◌, IsTrue, is_some}
+use Rattle.std.specs.Prelude.{ℕ, None, ◌≡◌, IsTrue, is_some}
 use Rattle.at_base.specs.declared.message.Message.{Message}
 use Rattle.at_base.specs.declared.message.Message.TheVariants as messages
 use Rattle.at_base.specs.declared.target.Target.{Target}
@@ -9,43 +9,20 @@ use Rattle.at_base.specs.declared.event.Item.TheVariants as items
 use Rattle.at_base.specs.declared.event.Event.{Event}
 use Rattle.at_base.specs.declared.event.Event.TheVariants as events
 use Rattle.at_model.specs.Book.{Book, Leaf, leaf_id}
-use Rattle.at_model.specs.Step.{Outcome, Plan, plain, noting, plan, at_time, moment_of, transaction_at, leaf_at}
+use Rattle.at_model.specs.Step.{Plan, plan, moment_of, transaction_at, leaf_at}
 use Rattle.by_id.specs.Lists.{altered}
 use Rattle.by_id.specs.declared.list.Alteration.{Alteration}
-use Rattle.by_id.specs.declared.list.Alteration.TheVariants as alterations
-use Rattle.by_id.specs.declared.plan.Branch.{Branch}
 use Rattle.by_id.specs.declared.plan.Plan.{Plan as Planned}
-use Rattle.by_id.specs.declared.plan.Plan.TheVariants as plans
+use Rattle.by_id.specs.Wholes.{whole_by}
 use Rattle.participant_at.specs.LeafPlans.{leaves_plan, has_kind}
 
--- a leaf that is made draws an id
-abbrev pub drawn : Alteration Leaf → ℕ → ℕ
-drawn alterations.Keep counter = counter
-drawn (alterations.Put id item) counter = counter
-drawn (alterations.Add l) counter = counter + 1
-
 -- the book with what becomes of its leaves
-abbrev pub outcome_in : Book → Branch Leaf → Outcome
-outcome_in b branch = record {
-  book = record b { counter = drawn branch.change b.counter; leaves = altered leaf_id branch.change b.leaves };
-  outs = branch.outs.outs;
-  effects = branch.outs.effects;
-}
-
--- a step that is undone doesn't note the time
-abbrev pub noted_if_done : Book → ℕ → Alteration Leaf → Book
-noted_if_done b now alterations.Keep = b
-noted_if_done b now (alterations.Put id item) = at_time now b
-noted_if_done b now (alterations.Add l) = at_time now b
+abbrev pub with_leaves : Alteration Leaf → Book → Book
+with_leaves change b = record b { leaves = altered leaf_id change b.leaves }
 
 -- The plan of the leaves, as a plan of the book that holds them.
 abbrev pub whole : Book → ℕ → Planned Leaf → Plan
-whole b now (plans.Plain branch) = plain (outcome_in (at_time now b) branch)
-whole b now (plans.Recorded entry landed absent) = record {
-  entry = Some entry;
-  landed = noting entry (outcome_in (at_time now b) landed);
-  absent = outcome_in (noted_if_done b now absent.change) absent;
-}
+whole = whole_by with_leaves
 
 abbrev pub IsWork : Message → Type 0
 IsWork (messages.Work w) = Unit {0}
