@@ -1,4 +1,5 @@
 pub mod Causes
+pub mod Counts
 pub mod Groups
 pub mod PhaseNames
 pub mod Reasons

@@ -14,7 +14,7 @@ ghost use Rattle.by_id.specs.Decisions.{decision_of};
 
 use crate::abort::{Reason, abort, until_rolled_back};
 use crate::links::{ending, push_upwards, tell_initiator};
-use crate::seats::{Group, all_left, answered, has_prepared, is_state, prepared, send_each};
+use crate::seats::{Group, all_left, has_prepared, is_state, prepared, send_each};
 use crate::transaction::{Phase, Superior, Transaction};
 use at_base::epr::Epr;
 use at_base::event::Moment;
@@ -323,7 +323,7 @@ fn if_durable_answered(
 ) -> Result<Decision<Transaction>, AllocError>
     ensures { IfOk result (λ decision. decision_of decision ≡ if_durable_answered moment.entry.now moving) }
 {
-    if answered(moving.item.seats.as_slice(), Kind::Durable) {
+    if moving.item.seats.answered(Kind::Durable) {
         durable_answered(alloc, moment, moving)
     } else {
         Ok(Decision::Goes(moving.stays()))
@@ -452,7 +452,7 @@ fn if_volatile_answered(
     ensures { IfOk result
         (λ decision. decision_of decision ≡ advance_in moment.entry.now Stage.Volatile moving) }
 {
-    if answered(moving.item.seats.as_slice(), Kind::Volatile) {
+    if moving.item.seats.answered(Kind::Volatile) {
         volatile_answered(alloc, moment, moving)
     } else {
         Ok(Decision::Goes(moving.stays()))

@@ -6,7 +6,7 @@ ghost use Rattle.at_tables.specs.Names.{state_place, is_state};
 ghost use Rattle.at_base.specs.Names.{is_kind};
 ghost use Rattle.at_model.specs.Moves.{begin, effect, ignored, post};
 ghost use Rattle.at_model.specs.Posts.{notice_post};
-ghost use Rattle.at_model.specs.Seats.{is_of, is_open, answered, all_left, is_prepared_durable, prepared, seated, seat_target, notices_to, sent_to, send_each, seat_in, sent_now, moved};
+ghost use Rattle.at_model.specs.Seats.{is_of, is_open, all_left, is_prepared_durable, prepared, seated, seat_target, notices_to, sent_to, send_each, seat_in, sent_now, moved};
 ghost use Rattle.by_id.specs.Decisions.{decision_of};
 ghost use Rattle.transaction_at.specs.Groups.{belongs};
 
@@ -109,13 +109,6 @@ pub fn has_any(seats: &[Enlistment], group: Group) -> bool
         }
     }
     false
-}
-
-/// Whether each seat of the kind has voted or left.
-pub fn answered(seats: &[Enlistment], kind: Kind) -> bool
-    ensures { result ≡ answered kind seats.now }
-{
-    !has_any(seats, Group::Unanswered(kind))
 }
 
 /// Whether every durable seat has left.

@@ -1,8 +1,10 @@
 //! A transaction: its phase, its participants' seats, its initiator, and what makes it a subordinate.
 
-ghost use Rattle.std.specs.Prelude.{◌≡◌, ◌++◌, ◌∷◌, [], OnOk, OnErr};
-ghost use Rattle.at_model.specs.Seats.{moved};
+ghost use Rattle.std.specs.Prelude.{◌≡◌, ◌++◌, ◌∷◌, [], OnOk, OnErr, if◌then◌else◌};
+ghost use Rattle.at_model.specs.Seats.{answered, moved};
+ghost use Rattle.transaction_at.specs.Counts.{unanswered};
 ghost use Rattle.transaction_at.specs.Groups.{belongs};
+ghost use Rattle.transaction_at.specs.declared.seats.Group.TheVariants as groups;
 
 use crate::seats::{Group, belongs};
 use at_base::epr::{Epr, Reply};
@@ -69,15 +71,47 @@ impl Clone for Enlistment {
 #[derive(Debug, Drop)]
 pub struct Seats {
     items: Vec<Enlistment>,
+    /// How many volatile ones are Active or Preparing.
+    volatile: usize,
+    /// How many durable ones are Active or Preparing.
+    durable: usize,
 }
 
 impl Model for Seats {
-    ghost use Rattle.std.specs.Prelude.{List};
+    ghost use Rattle.std.specs.Prelude.{List, ◌≡◌};
+    ghost use Rattle.at_base.specs.declared.notice.Kind.TheVariants as kinds;
     ghost use Rattle.at_model.specs.Book.{Enlistment as Known};
+    ghost use Rattle.transaction_at.specs.Counts.{unanswered};
 
     ghost Value = { List Known };
 
     ghost view = { λ s. s.items.items };
+
+    ghost invariant = { λ s.
+        (s.volatile ≡ unanswered kinds.Volatile s.items.items)
+        × (s.durable ≡ unanswered kinds.Durable s.items.items) };
+}
+
+/// Whether a seat of this kind waits for an answer, as a number.
+fn one_if_unanswered(seat: &Enlistment, kind: Kind) -> usize
+    ensures { result ≡ (if belongs (groups.Unanswered kind) seat.now then 1 else 0) }
+{
+    if belongs(seat, Group::Unanswered(kind)) {
+        1
+    } else {
+        0
+    }
+}
+
+/// How many seats of the kind are Active or Preparing.
+fn count_unanswered(seats: &[Enlistment], kind: Kind) -> usize
+    ensures { result ≡ unanswered kind seats.now }
+{
+    let mut count = 0;
+    for seat in seats {
+        count += one_if_unanswered(seat, kind);
+    }
+    count
 }
 
 impl Seats {
@@ -87,6 +121,8 @@ impl Seats {
     {
         Seats {
             items: Vec::new(alloc),
+            volatile: 0,
+            durable: 0,
         }
     }
 
@@ -94,7 +130,13 @@ impl Seats {
     pub fn from_vec(items: Vec<Enlistment>) -> Seats
         ensures { result ≡ items.items }
     {
-        Seats { items }
+        let volatile = count_unanswered(items.as_slice(), Kind::Volatile);
+        let durable = count_unanswered(items.as_slice(), Kind::Durable);
+        Seats {
+            items,
+            volatile,
+            durable,
+        }
     }
 
     /// The `Vec` of the list, without a copy.
@@ -111,12 +153,34 @@ impl Seats {
         self.items.as_slice()
     }
 
+    /// How many seats of the kind are Active or Preparing.
+    fn unanswered(&self, kind: Kind) -> usize
+        ensures { result ≡ unanswered kind self.now }
+    {
+        match kind {
+            Kind::Volatile => self.volatile,
+            Kind::Durable => self.durable,
+        }
+    }
+
+    /// Whether each seat of the kind has voted or left: one comparison, whatever the number of seats.
+    #[tactic(auto, using(crate::proofs::Counts::none_unanswered))]
+    pub fn answered(&self, kind: Kind) -> bool
+        ensures { result ≡ answered kind self.now }
+    {
+        self.unanswered(kind) == 0
+    }
+
     /// Adds one at the end. After an error the list is as before.
     pub fn push(&mut self, seat: Enlistment) -> Result<(), AllocError>
         ensures ok { OnOk result (self.new ≡ self.old ++ seat ∷ []) }
         ensures err { OnErr result (self.new ≡ self.old) }
     {
+        let volatile = one_if_unanswered(&seat, Kind::Volatile);
+        let durable = one_if_unanswered(&seat, Kind::Durable);
         self.items.push(seat)?;
+        self.volatile += volatile;
+        self.durable += durable;
         Ok(())
     }
 
@@ -129,6 +193,8 @@ impl Seats {
                 seat.state = state;
             }
         }
+        self.volatile = count_unanswered(self.items.as_slice(), Kind::Volatile);
+        self.durable = count_unanswered(self.items.as_slice(), Kind::Durable);
     }
 }
 
@@ -138,6 +204,8 @@ impl Clone for Seats {
     fn clone(&self) -> Result<Seats, AllocError> {
         Ok(Seats {
             items: self.items.clone()?,
+            volatile: self.volatile,
+            durable: self.durable,
         })
     }
 }
