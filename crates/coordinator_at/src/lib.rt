@@ -2,6 +2,7 @@
 //! event does to them.
 #![tactic(auto)]
 
+pub mod counted;
 pub mod create;
 pub mod due;
 mod holdings;

@@ -9,6 +9,7 @@ use at_base::outs::{Effect, Out, OutList, Outs, Post};
 use at_base::target::{Seat, Target};
 use at_base::text::Text;
 use at_tables::cells::State;
+use coordinator_at::counted::{Steps, answered};
 use coordinator_at::register::register_unknown;
 use coordinator_at::transactions::Transactions;
 use std::alloc::{AllocError, Global};
@@ -680,5 +681,36 @@ fn known_parts(rt: HostRuntime) -> Result<(), Fail> {
     let begun = parts(rt.alloc(), "begun", 0)? == (true, false, false);
     let sub = parts(rt.alloc(), "sub", 1)? == (false, true, true);
     assert!(rt; begun && sub);
+    Ok(())
+}
+
+/// How many durable seats the transaction 1-1 has, and in which state; the second number of the id and the kind that are
+/// asked for; whether all seats of that kind have answered, and the steps that this takes.
+const ANSWERED: &[(u16, &str, u32, Kind, Option<bool>, usize)] = &[
+    (0, "Active", 1, Kind::Durable, Some(true), 2),
+    (1, "Active", 1, Kind::Durable, Some(false), 2),
+    (1, "Active", 1, Kind::Volatile, Some(true), 2),
+    (512, "Preparing", 1, Kind::Durable, Some(false), 2),
+    (512, "Prepared", 1, Kind::Durable, Some(true), 2),
+    (8, "None", 1, Kind::Durable, Some(true), 2),
+    (1, "Active", 2, Kind::Durable, None, 1),
+];
+
+fn answers(
+    alloc: Global,
+    row: &(u16, &str, u32, Kind, Option<bool>, usize),
+) -> Result<bool, AllocError> {
+    let transactions = one(alloc, "Durable", "root", row.0, row.1)?;
+    let mut steps: Steps<3> = Steps::new();
+    let found = answered(&transactions, Id::new(1, row.2), row.3, &mut steps);
+    Ok(found == row.4 && steps.taken() == row.5)
+}
+
+#[test]
+fn answered_transactions(rt: HostRuntime) -> Result<(), Fail> {
+    for row in ANSWERED {
+        let right = answers(rt.alloc(), row)?;
+        assert!(rt; right, "at {}", row.0);
+    }
     Ok(())
 }
