@@ -1,10 +1,9 @@
 //! The live transactions of a node: planned first, and then done.
 
-ghost use Rattle.std.specs.Prelude.{◌≡◌, ◌∷◌, ◌++◌, ◌&&◌, ◌-◌, ◌^◌, IfOk, OnOk, [], length, min, nat_eq, option_copied};
+ghost use Rattle.std.specs.Prelude.{◌≡◌, ◌∷◌, ◌++◌, ◌-◌, ◌^◌, IfOk, OnOk, [], length, min, option_copied};
 ghost use Rattle.at_model.specs.Book.{find_by, transaction_id};
 ghost use Rattle.at_model.specs.Due.{transaction_due};
-ghost use Rattle.at_model.specs.Step.{find_seat, is_reached};
-ghost use Rattle.at_base.specs.Names.{is_kind};
+ghost use Rattle.at_model.specs.Step.{is_reached};
 ghost use Rattle.by_id.specs.Decisions.{decision_of};
 ghost use Rattle.by_id.specs.Lists.{altered, next_due};
 ghost use Rattle.by_id.specs.Plans.{branch_of};
@@ -19,7 +18,7 @@ use crate::register::on_register;
 use at_base::event::{Arrived, Event, Item, Moment};
 use at_base::id::Id;
 use at_base::message::Message;
-use at_base::notice::{Kind, is_kind};
+use at_base::notice::Kind;
 use at_base::outs::{Effects, Ending, OutList, Outs};
 use at_base::target::{Seat, Target};
 use at_posts::answers::accepted;
@@ -158,25 +157,6 @@ fn completion_at(
     }
 }
 
-/// Whether a seat has this number and this kind.
-fn is_at(seat: &Enlistment, number: u16, kind: Kind) -> bool
-    ensures { result ≡ (nat_eq seat.now.number number && is_kind seat.now.kind kind) }
-{
-    seat.number == number && is_kind(seat.kind, kind)
-}
-
-/// The seat of this number and kind.
-fn find_seat(seats: &[Enlistment], number: u16, kind: Kind) -> Option<&Enlistment>
-    ensures { option_copied result ≡ find_seat number kind seats.entry.now }
-{
-    for seat in seats {
-        if is_at(seat, number, kind) {
-            return Some(seat);
-        }
-    }
-    None
-}
-
 /// A participant's message at its seat.
 fn seat_arrived(
     alloc: Global,
@@ -213,7 +193,7 @@ fn seat_at(
 {
     match found {
         Some(transaction) => {
-            let found = find_seat(transaction.seats.as_slice(), seat.number, seat.kind);
+            let found = transaction.seats.seat(seat.number, seat.kind);
             seat_arrived(alloc, moment, arrived, transaction, found)
         }
         None => Ok(Plan::nothing(alloc)),
@@ -372,9 +352,7 @@ impl Transactions {
         ensures { result ≡ has_seat seat.number seat.kind (find_by transaction_id id self.now) }
     {
         match self.live.find(id) {
-            Some(transaction) => {
-                find_seat(transaction.seats.as_slice(), seat.number, seat.kind).is_some()
-            }
+            Some(transaction) => transaction.seats.seat(seat.number, seat.kind).is_some(),
             None => false,
         }
     }

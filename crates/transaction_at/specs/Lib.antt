@@ -3,3 +3,4 @@ pub mod Counts
 pub mod Groups
 pub mod PhaseNames
 pub mod Reasons
+pub mod SeatPlaces

@@ -9,5 +9,6 @@ pub mod at_seat;
 pub mod due;
 pub mod links;
 pub mod phases;
+mod places;
 pub mod seats;
 pub mod transaction;

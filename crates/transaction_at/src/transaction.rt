@@ -1,11 +1,13 @@
 //! A transaction: its phase, its participants' seats, its initiator, and what makes it a subordinate.
 
-ghost use Rattle.std.specs.Prelude.{◌≡◌, ◌++◌, ◌∷◌, [], OnOk, OnErr, if◌then◌else◌};
+ghost use Rattle.std.specs.Prelude.{◌≡◌, ◌++◌, ◌∷◌, [], IfOk, OnOk, OnErr, if◌then◌else◌, option_copied};
 ghost use Rattle.at_model.specs.Seats.{answered, moved};
+ghost use Rattle.at_model.specs.Step.{find_seat};
 ghost use Rattle.transaction_at.specs.Counts.{unanswered};
 ghost use Rattle.transaction_at.specs.Groups.{belongs};
 ghost use Rattle.transaction_at.specs.declared.seats.Group.TheVariants as groups;
 
+use crate::places::Places;
 use crate::seats::{Group, belongs};
 use at_base::epr::{Epr, Reply};
 use at_base::id::Id;
@@ -75,6 +77,8 @@ pub struct Seats {
     volatile: usize,
     /// How many durable ones are Active or Preparing.
     durable: usize,
+    /// Where each stands among them.
+    places: Places,
 }
 
 impl Model for Seats {
@@ -82,6 +86,7 @@ impl Model for Seats {
     ghost use Rattle.at_base.specs.declared.notice.Kind.TheVariants as kinds;
     ghost use Rattle.at_model.specs.Book.{Enlistment as Known};
     ghost use Rattle.transaction_at.specs.Counts.{unanswered};
+    ghost use Rattle.transaction_at.specs.SeatPlaces.{Finds};
 
     ghost Value = { List Known };
 
@@ -89,7 +94,8 @@ impl Model for Seats {
 
     ghost invariant = { λ s.
         (s.volatile ≡ unanswered kinds.Volatile s.items.items)
-        × (s.durable ≡ unanswered kinds.Durable s.items.items) };
+        × (s.durable ≡ unanswered kinds.Durable s.items.items)
+        × Finds s.places s.items.items };
 }
 
 /// Whether a seat of this kind waits for an answer, as a number.
@@ -114,8 +120,20 @@ fn count_unanswered(seats: &[Enlistment], kind: Kind) -> usize
     count
 }
 
+/// Moves each seat of the group into this state.
+fn move_each(seats: &mut Vec<Enlistment>, group: Group, state: State)
+    ensures { seats.new.items ≡ moved (belongs group) state seats.old.items }
+{
+    for seat in seats.iter_mut() {
+        if belongs(seat, group) {
+            seat.state = state;
+        }
+    }
+}
+
 impl Seats {
     /// No seats.
+    #[tactic(auto, using(crate::proofs::SeatPlaces::none_placed))]
     pub fn new(alloc: Global) -> Seats
         ensures { result ≡ [] }
     {
@@ -123,19 +141,7 @@ impl Seats {
             items: Vec::new(alloc),
             volatile: 0,
             durable: 0,
-        }
-    }
-
-    /// The list of a `Vec`, without a copy.
-    pub fn from_vec(items: Vec<Enlistment>) -> Seats
-        ensures { result ≡ items.items }
-    {
-        let volatile = count_unanswered(items.as_slice(), Kind::Volatile);
-        let durable = count_unanswered(items.as_slice(), Kind::Durable);
-        Seats {
-            items,
-            volatile,
-            durable,
+            places: Places::new(alloc),
         }
     }
 
@@ -171,41 +177,64 @@ impl Seats {
         self.unanswered(kind) == 0
     }
 
+    /// The seat of this number and kind, or the first of them.
+    #[tactic(auto, using(crate::proofs::SeatPlaces::found_within, crate::proofs::SeatPlaces::found_at, crate::proofs::SeatPlaces::found_nowhere))]
+    pub fn seat(&self, number: u16, kind: Kind) -> Option<&Enlistment>
+        ensures { option_copied result ≡ find_seat number kind self.now }
+    {
+        match self.places.place(number, kind) {
+            Some(place) => Some(&self.items[place]),
+            None => None,
+        }
+    }
+
     /// Adds one at the end. After an error the list is as before.
+    #[tactic(auto, using(crate::proofs::SeatPlaces::one_placed, crate::proofs::SeatPlaces::same_placed))]
     pub fn push(&mut self, seat: Enlistment) -> Result<(), AllocError>
         ensures ok { OnOk result (self.new ≡ self.old ++ seat ∷ []) }
         ensures err { OnErr result (self.new ≡ self.old) }
     {
         let volatile = one_if_unanswered(&seat, Kind::Volatile);
         let durable = one_if_unanswered(&seat, Kind::Durable);
-        self.items.push(seat)?;
+        let place = self.items.len();
+        self.items.reserve(1)?;
+        self.places.note(&seat, place)?;
+        self.items.push_reserved(seat);
         self.volatile += volatile;
         self.durable += durable;
         Ok(())
     }
 
     /// Moves each seat of the group into this state.
+    #[tactic(auto, using(crate::proofs::SeatPlaces::still_placed))]
     pub fn move_each(&mut self, group: Group, state: State)
         ensures { self.new ≡ moved (belongs group) state self.old }
     {
-        for seat in self.items.iter_mut() {
-            if belongs(seat, group) {
-                seat.state = state;
-            }
-        }
+        move_each(&mut self.items, group, state);
         self.volatile = count_unanswered(self.items.as_slice(), Kind::Volatile);
         self.durable = count_unanswered(self.items.as_slice(), Kind::Durable);
     }
 }
 
+/// A copy of a list of seats.
+fn copied(items: &Vec<Enlistment>) -> Result<Vec<Enlistment>, AllocError>
+    ensures { IfOk result (λ copy. copy.items ≡ items.now.items) }
+{
+    items.clone()
+}
+
 impl Clone for Seats {
     ghost is_clone = { λ items copy. copy ≡ items };
 
+    #[tactic(auto, using(crate::proofs::SeatPlaces::same_placed))]
     fn clone(&self) -> Result<Seats, AllocError> {
+        let items = copied(&self.items)?;
+        let places = self.places.clone()?;
         Ok(Seats {
-            items: self.items.clone()?,
+            items,
             volatile: self.volatile,
             durable: self.durable,
+            places,
         })
     }
 }
