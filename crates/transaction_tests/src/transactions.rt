@@ -684,25 +684,34 @@ fn known_parts(rt: HostRuntime) -> Result<(), Fail> {
     Ok(())
 }
 
-/// How many durable seats the transaction 1-1 has, and in which state; the second number of the id and the kind that are
-/// asked for; whether all seats of that kind have answered, and the steps that this takes.
-const ANSWERED: &[(u16, &str, u32, Kind, Option<bool>, usize)] = &[
-    (0, "Active", 1, Kind::Durable, Some(true), 2),
-    (1, "Active", 1, Kind::Durable, Some(false), 2),
-    (1, "Active", 1, Kind::Volatile, Some(true), 2),
-    (512, "Preparing", 1, Kind::Durable, Some(false), 2),
-    (512, "Prepared", 1, Kind::Durable, Some(true), 2),
-    (8, "None", 1, Kind::Durable, Some(true), 2),
-    (1, "Active", 2, Kind::Durable, None, 1),
+/// How many durable seats the transaction 1-1 has, and in which state; whether it is the one that is asked for, and the
+/// kind; whether all seats of that kind have answered, and the steps that this takes.
+const ANSWERED: &[(u16, &str, bool, Kind, Option<bool>, usize)] = &[
+    (0, "Active", true, Kind::Durable, Some(true), 2),
+    (1, "Active", true, Kind::Durable, Some(false), 2),
+    (1, "Active", true, Kind::Volatile, Some(true), 2),
+    (512, "Preparing", true, Kind::Durable, Some(false), 2),
+    (512, "Prepared", true, Kind::Durable, Some(true), 2),
+    (8, "None", true, Kind::Durable, Some(true), 2),
+    (1, "Active", false, Kind::Durable, None, 1),
 ];
+
+/// The transaction 1-1, or one that isn't known.
+fn asked_id(is_known: bool) -> Id {
+    if is_known {
+        Id::new(1, 1)
+    } else {
+        Id::new(1, 2)
+    }
+}
 
 fn answers(
     alloc: Global,
-    row: &(u16, &str, u32, Kind, Option<bool>, usize),
+    row: &(u16, &str, bool, Kind, Option<bool>, usize),
 ) -> Result<bool, AllocError> {
     let transactions = one(alloc, "Durable", "root", row.0, row.1)?;
     let mut steps: Steps<3> = Steps::new();
-    let found = answered(&transactions, Id::new(1, row.2), row.3, &mut steps);
+    let found = answered(&transactions, asked_id(row.2), row.3, &mut steps);
     Ok(found == row.4 && steps.taken() == row.5)
 }
 
