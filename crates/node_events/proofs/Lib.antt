@@ -1,6 +1,8 @@
+pub mod CallEffects
 pub mod CutRows
 pub mod CutSteps
 pub mod FatedSteps
+pub mod GivenSteps
 pub mod HaltEvents
 pub mod HeardInputs
 pub mod LeavingOuts

@@ -32,14 +32,14 @@ use Rattle.node_events.proofs.RequestCuts.{starts_itself, struck_length, struck_
 use Rattle.node_events.proofs.StepFares.{Fared, goes_fared}
 
 -- a walk of one step, or of none
-abbrev walk_of : Book → List Record → Luck → List Taken → Walk
+abbrev pub walk_of : Book → List Record → Luck → List Taken → Walk
 walk_of b journal luck taken = record { book = b; journal = journal; luck = luck; taken = taken }
 
 -- what is left behind a step
 abbrev luck_behind : List Bool → Option ℕ → Fated → Luck
 luck_behind all until f = luck_of (drop (length (all_fates (f ∷ []))) all) until
 
-left_runs : (until : Option ℕ) (k : ℕ) → IsBeyond until k → stops (left_before until k) ≡ false
+pub left_runs : (until : Option ℕ) (k : ℕ) → IsBeyond until k → stops (left_before until k) ≡ false
 left_runs None k h = refl
 left_runs (Some until) k h = ne_eqb (until - k) 0 (λ e. absurd (omega (arith, h, e)))
 
@@ -53,7 +53,7 @@ module _ (walks : WalksByFates) (moves : ChangesByMoves) (hosts : Hosts) (net : 
   stands : StandsAs hosts i p x
   stands = stands_at hosts net w i p x at.world at.place at.node
 
-  moved : (fates : List Bool) (until : Option ℕ) (v : Walk) → walked fates until ≡ v → move_of (Ask i l fates until) w.posted x ≡ ended x v
+  pub moved : (fates : List Bool) (until : Option ℕ) (v : Walk) → walked fates until ≡ v → move_of (Ask i l fates until) w.posted x ≡ ended x v
   moved fates until v e = ap (request_move l (luck_of fates until) x) (stands.book ∙ ap (option_map (λ (m : State). m.book)) at.up) ∙ ap (ended x) e
 
   reached : (ps : List Post) → map (posted_at i w.nodes) ps ≡ posts_from hosts i ps
@@ -183,14 +183,14 @@ module _ (walks : WalksByFates) (moves : ChangesByMoves) (hosts : Hosts) (net : 
       (λ j. records_by (if_landed (sym landed j) (sym e j)))
 
   -- one that is refused
-  refused_walk : (why : Option Refusal) (fates : List Bool) (until : Option ℕ) (reason : Refusal) → why ≡ Some reason → stops until ≡ false
+  pub refused_walk : (why : Option Refusal) (fates : List Bool) (until : Option ℕ) (reason : Refusal) → why ≡ Some reason → stops until ≡ false
       → stepped (local_plan n.book x.clock l why) (begin n.book x.journal (luck_of fates until)) ≡ walk_of n.book x.journal (luck_of fates until) (record { effects = []; answer = None; posts = [] } ∷ [])
   unfolding sends
   refused_walk why fates until reason e runs =
       ap (λ o. stepped (local_plan n.book x.clock l o) (begin n.book x.journal (luck_of fates until))) e
       ∙ ap (λ (c : Bool). if c then begin n.book x.journal (luck_of fates until) else counted (still n.book []) (begin n.book x.journal (luck_of fates until))) runs
 
-  runs_on : (until : Option ℕ) → (until ≡ Some 0 → ⊥) → stops until ≡ false
+  pub runs_on : (until : Option ℕ) → (until ≡ Some 0 → ⊥) → stops until ≡ false
   runs_on None h = refl
   runs_on (Some k) h = ne_eqb k 0 (λ e. h (ap Some e))
 

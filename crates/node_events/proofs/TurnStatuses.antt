@@ -1,5 +1,5 @@
 -- A turn that goes to its end is answered as the world's steps of its event say.
-use Rattle.std.specs.Prelude.{ℕ, List, [], ◌∷◌, ◌≡◌, Bool, true, false, Option, None, Some, if◌then◌else◌, length, map, refl}
+use Rattle.std.specs.Prelude.{ℕ, List, [], ◌∷◌, ◌≡◌, Bool, Option, None, Some, length, map, refl}
 use Rattle.std.proofs.Common.{sym, subst, ap, ◌∙◌}
 use Rattle.at_base.specs.declared.outs.Out.{Out}
 use Rattle.at_base.specs.declared.outs.Out.TheVariants as outs
@@ -19,15 +19,13 @@ use Rattle.node_events.specs.AnsweredTurns.{SaysStatus, TurnsAnswerSo}
 use Rattle.node_events.specs.Fares.{AreFared}
 use Rattle.node_events.specs.NodeEvents.{AreStepsOf, IsAt, IsInput}
 use Rattle.node_events.proofs.FatedSteps.{all_whole}
+use Rattle.node_events.proofs.GivenSteps.{steps_gave, turn_runs, turn_walk, turn_walks}
 use Rattle.node_events.proofs.HeardInputs.{Heard, IsTold, heard}
 use Rattle.node_events.proofs.MovedWorlds.{same_some}
 use Rattle.node_events.proofs.PlannedSteps.{outcome_fated}
-use Rattle.node_events.proofs.TurnEvents.{turn_moves}
-use Rattle.node_events.proofs.WalkedSteps.{book_up, gone_down, gone_on}
 use Rattle.node_worlds.specs.Nets.{Net, Place}
-use Rattle.world_laws.specs.Moves.{ChangesByMoves, Move, ended, later_at, luck_of, moved_by, moved_in, numbered, steps_of}
+use Rattle.world_laws.specs.Moves.{ChangesByMoves, later_at, numbered, steps_of}
 use Rattle.fated_walks.specs.Statuses.{status_in, status_of}
-use Rattle.world_laws.specs.Walks.{Walk, begin, is_over, turned}
 use Rattle.world_laws.specs.declared.step_outs.Answer.{Answer}
 
 -- the first answer stays
@@ -48,33 +46,22 @@ ways_status (w ∷ ws) = by (ways_status ws) w.out
     by later (outs.Post p) = later
     by later (outs.Answer status reply) = ap status_of (first_stays (record { status = status; reply = reply }) ws)
 
--- what the steps of a walk gave, whether its node goes on or down
-ended_took : (x : Node) (v : Walk) → (ended x v).moved.taken ≡ v.taken
-ended_took x v = by (is_over v.luck)
-  where
-    by : (over : Bool) → (if over then gone_down x v else gone_on x v).moved.taken ≡ v.taken
-    by true = refl
-    by false = refl
-
 module _ (walks : WalksByFates) (moves : ChangesByMoves) (hosts : Hosts) (net : Net) (w : World) (i : ℕ) (p : Place) (x : Node) (n : State) (at : IsAt hosts net w i p x n) (input : Input) (meaning : Meaning)
     (now : ℕ) (h : Heard w i x n.book input meaning now) (all : List Bool) (until : Option ℕ) where
   -- what the world's steps of the event gave
-  steps_gave : (f : Fated) (fs : List Fated) → IsPlanned h.begun f → AreFirstDue now f.outcome.book [] fs → AreWhole (f ∷ fs) → StartsWith (all_fates (f ∷ fs)) all → IsBeyond until (length (all_fates (f ∷ fs)))
+  turn_gave : (f : Fated) (fs : List Fated) → IsPlanned h.begun f → AreFirstDue now f.outcome.book [] fs → AreWhole (f ∷ fs) → StartsWith (all_fates (f ∷ fs)) all → IsBeyond until (length (all_fates (f ∷ fs)))
       → steps_of w (Turn i input all until) ≡ numbered (length w.posted) (map taken_of (f ∷ fs))
-  unfolding moved_in
-  steps_gave f fs planned due whole starts beyond =
-      moves.told w (Turn i input all until)
-      ∙ ap (λ o. numbered (length w.posted) (moved_by (Turn i input all until) w.posted o).taken) at.node
-      ∙ ap (λ (m : Move). numbered (length w.posted) m.moved.taken) (turn_moves w i x n.book input meaning now h (book_up hosts net w i p x n at) all until)
-      ∙ ap (numbered (length w.posted)) (ended_took (later_at now x) (turned now h.begun (begin n.book x.journal (luck_of all until))))
-      ∙ ap (λ (v : Walk). numbered (length w.posted) v.taken) (walks.whole now h.begun n.book x.journal f fs all until planned due whole starts beyond)
+  turn_gave f fs planned due whole starts beyond =
+      steps_gave moves w (Turn i input all until) x at.node (later_at now x) (turn_walk walks hosts net w i p x n at input meaning now h all until f fs planned due whole starts beyond)
+      (turn_walks walks hosts net w i p x n at input meaning now h all until f fs planned due whole starts beyond)
+      (turn_runs walks hosts net w i p x n at input meaning now h all until f fs planned due whole starts beyond)
 
   asked_status : IsTold input → (status : ℕ) (first : TurnStep) (rest : List TurnStep) (ds : List Doing) (f : Fated) (fs : List Fated) → IsFirst n.book now meaning first status → IsPlanned h.begun f
       → AreFirstDue now f.outcome.book [] fs → AreFared (first ∷ rest) ds (f ∷ fs) → StartsWith (all_fates (f ∷ fs)) all → IsBeyond until (length (all_fates (f ∷ fs)))
       → status_in (steps_of w (Turn i input all until)) ≡ status
   asked_status told status first rest [] f fs is planned due fared starts beyond = absurd fared
   asked_status told status first rest (d ∷ ds) f fs is planned due fared starts beyond =
-      ap status_in (steps_gave f fs planned due (all_whole (first ∷ rest) (d ∷ ds) (f ∷ fs) fared) starts beyond)
+      ap status_in (turn_gave f fs planned due (all_whole (first ∷ rest) (d ∷ ds) (f ∷ fs) fared) starts beyond)
       ∙ ways_status f.ways
       ∙ ap sent_status fared.0.whole
       ∙ ap (λ (o : Outcome). sent_status o.outs) (outcome_fated h.begun first f (h.first first status is) planned fared.0.records)

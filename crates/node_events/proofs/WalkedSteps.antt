@@ -73,7 +73,7 @@ gone_on x v = record { node = record x { book = Some v.book; journal = v.journal
 abbrev pub gone_down : Node → Walk → Move
 gone_down x v = record { node = record x { book = None; journal = v.journal }; moved = record { taken = v.taken; lost = lost_of v.book; left = v.luck } }
 
-goes_on : (x : Node) (v : Walk) → is_over v.luck ≡ false → ended x v ≡ gone_on x v
+pub goes_on : (x : Node) (v : Walk) → is_over v.luck ≡ false → ended x v ≡ gone_on x v
 goes_on x v e = ap (λ b. if b then gone_down x v else gone_on x v) e
 
 -- a stop that comes later doesn't come here

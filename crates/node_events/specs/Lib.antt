@@ -1,3 +1,4 @@
 pub mod AnsweredTurns
+pub mod CallEffects
 pub mod Fares
 pub mod NodeEvents

@@ -1,6 +1,7 @@
 //! Laws of what a call of a node does in a world.
 
 ghost use Rattle.node_events.specs.AnsweredTurns.{TurnsAnswerSo};
+ghost use Rattle.node_events.specs.CallEffects.{EffectsAgree};
 ghost use Rattle.node_events.specs.NodeEvents.{HaltsAreEvents, RequestsAreEvents, StartsAreEvents, StopsAreEvents, TurnsAreEvents, UnbegunAreEvents};
 
 use fated_walks::laws::walks_by_fates;
@@ -57,6 +58,15 @@ pub fn starts_are_events()
 /// whose answer the world knows nothing, it is the status of their refusal.
 pub fn turns_answer_so()
     ensures { TurnsAnswerSo }
+{
+    walks_by_fates();
+    changes_by_moves();
+}
+
+/// The effects of a turn of a node that went to its end are, in order, those of its event in the world, whatever became of its calls. So it is
+/// of a request that was done; one that is refused has none.
+pub fn effects_agree()
+    ensures { EffectsAgree }
 {
     walks_by_fates();
     changes_by_moves();
