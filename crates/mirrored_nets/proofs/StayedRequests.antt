@@ -1,5 +1,6 @@
--- A request behind which its node stays up leads to a net that mirrors the world behind the event.
-use Rattle.std.specs.Prelude.{ℕ, List, [], ◌++◌, ◌≡◌, ◌≤◌, IfSome, Option, Some, Bool, drop, length, option_map, take}
+-- A request behind which its node stays up leads to a net that mirrors the world behind the event, is refused where the world refuses it, and has
+-- the effects of its event.
+use Rattle.std.specs.Prelude.{ℕ, List, [], ◌++◌, ◌≡◌, ◌≤◌, IfSome, Option, Some, Bool, drop, length, option_and_then, option_map, take}
 use Rattle.std.proofs.Common.{refl, sym, ap, subst, arith, ◌∙◌, inr}
 use Rattle.std.proofs.Math.Seq.{drop-append_seam}
 use Rattle.std.proofs.lemmas.List.{append-nil}
@@ -8,6 +9,7 @@ use Rattle.at_base.specs.declared.event.Event.TheVariants as events
 use Rattle.at_base.specs.declared.event.Local.{Local}
 use Rattle.at_base.specs.declared.outs.Post.{Post}
 use Rattle.at_base.specs.declared.record.Record.{Record}
+use Rattle.at_model.specs.Book.{Book}
 use Rattle.at_model.specs.Step.{plan, refuses, step}
 use Rattle.at_model.specs.World.{Ask, World, example_base, example_hosts, nth, put_nth, world_step}
 use Rattle.completion_at.specs.Names.{refusal_of}
@@ -31,7 +33,9 @@ use Rattle.node_at.specs.TurnText.{IsStep, TurnStep}
 use Rattle.node_at.specs.declared.local.Locally.{Locally}
 use Rattle.node_at.specs.declared.local.Locally.TheVariants as answers
 use Rattle.node_at.specs.declared.node.Node.{Node}
+use Rattle.node_events.specs.CallEffects.{EffectsAgree}
 use Rattle.node_events.specs.NodeEvents.{IsAsk, RequestsAreEvents}
+use Rattle.node_events.proofs.WalkedSteps.{book_up}
 use Rattle.node_worlds.specs.Nets.{Net, Place, after, posts_from, rested}
 use Rattle.node_worlds.specs.SentPosts.{records_by}
 use Rattle.node_worlds.proofs.Rows.{sent_append}
@@ -40,6 +44,8 @@ use Rattle.site_memory.specs.Sites.{told_of}
 use Rattle.site_memory.specs.declared.machine.MemSite.{MemSite}
 use Rattle.site_model.specs.Told.{Made, sent_by}
 use Rattle.world_laws.proofs.Nodes.{put_same}
+use Rattle.world_laws.specs.Runs.{book_of, refused_at}
+use Rattle.mirrored_nets.specs.Answered.{HasEffects, RefusesAlike}
 use Rattle.mirrored_nets.specs.Fates.{AreAsked, fates_in}
 use Rattle.mirrored_nets.specs.Goings.{IsSet}
 use Rattle.mirrored_nets.specs.Mirrors.{Mirrors}
@@ -82,6 +88,15 @@ module _ (L : NetLaws) (K : TurnLaws) (requests : RequestsAreEvents) (ask_so : E
   at_rest h' =
       subst (λ cs. Mirrors count (put_nth i g hosts) cs more (world_step w (Ask i request fates until))) (ap (λ k. put_nth i k clocks) there.clock ∙ put_same i clocks c time) h'
 
+  -- the world refuses it where the node does
+  refused_there : refused_at w i request ≡ refuses n.book request
+  refused_there =
+      ap (λ o. option_and_then (λ (b : Book). refuses b request) (option_and_then book_of o)) there.known
+      ∙ ap (option_and_then (λ (b : Book). refuses b request)) (book_up (example_hosts count) M.stands.net w i old_place there.node (seen n) there.is_at)
+
+  abbrev pub IsStayed : Locally → Type 0
+  IsStayed answer = Mirrors count (put_nth i g hosts) clocks more (world_step w (Ask i request fates until)) × RefusesAlike w i request answer × (EffectsAgree → HasEffects w (Ask i request fates until) m)
+
   -- it refuses
   module _ (why : Refusal) (says : refuses n.book request ≡ Some (refusal_of why)) (same : seen m ≡ cleared (seen n)) (stays : t ≡ s) where
     abbrev rests : Net
@@ -95,8 +110,8 @@ module _ (L : NetLaws) (K : TurnLaws) (requests : RequestsAreEvents) (ask_so : E
         let k : IsBeyond (Some 0) (length (fates_in (drop 0 []))) = subst (λ ms. IsBeyond (Some 0) (length (fates_in (drop 0 ms)))) none_made (subst (λ o. IsBeyond o (length (fates_in (drop 0 made)))) e asked.beyond) in
         omega (arith, k)
 
-    pub refused_stays : Mirrors count (put_nth i g hosts) clocks more (world_step w (Ask i request fates until))
-    refused_stays =
+    refused_mirrors : Mirrors count (put_nth i g hosts) clocks more (world_step w (Ask i request fates until))
+    refused_mirrors =
         at_rest
         (remirror count hosts clocks mails more w M i h g here c there.node.clock time there.node there.known (Ask i request fates until) rests starts
         (Serves.idled M.stands.net i old_place (seen n) (waits L count few hosts clocks mails more w M i h g n here up c time s before) (M.stands.holds i h here).here node_up refl) M.stands.asks old_place
@@ -105,6 +120,13 @@ module _ (L : NetLaws) (K : TurnLaws) (requests : RequestsAreEvents) (ask_so : E
         (subst (AreMailsOf M.stands.net.posted) (sym (posted ∙ ap (λ ms. mails ++ mails_in i count (sent_by ms)) none_made ∙ append-nil mails)) M.stands.letters)
         (λ x e. ap (λ (z : Node). z.journal.limit) (sym (same_some m x (sym node ∙ e))) ∙ ap (λ (z : State). z.journal.limit) same ∙ M.limits i h n here up)
         (requests.refused (example_hosts count) M.stands.net w i old_place there.node (seen n) request (refusal_of why) fates until there.is_at says not_before))
+
+    refused_effects : EffectsAgree → HasEffects w (Ask i request fates until) m
+    refused_effects agree =
+        ap (λ (z : State). z.effects) same ∙ sym (agree.refused (example_hosts count) M.stands.net w i old_place there.node (seen n) request (refusal_of why) fates until there.is_at says not_before)
+
+    pub refused_stays : IsStayed (answers.Refused why)
+    refused_stays = (refused_mirrors, sym (refused_there ∙ says), refused_effects)
 
   -- it does it
   module _ (has : HasRoom s) (id : Numbers) (D : Asked (answers.Done id) (seen n) (seen m) request (told_of (starts i)) (told_of t)) where
@@ -178,20 +200,34 @@ module _ (L : NetLaws) (K : TurnLaws) (requests : RequestsAreEvents) (ask_so : E
         (letters_last L.tell L.bases L.closes L.nets L.crashes L.calls L.images count few i M.stands.net.posted posts (sent_by D.3.3.went.made) letters
         (L.closes count behind_it (placed_at i t starts) (small L.tell L.bases L.closes L.nets L.crashes L.calls L.images count few) serves asks).posted))
 
-    pub done_stays : Mirrors count (put_nth i g hosts) clocks more (world_step w (Ask i request fates until))
-    done_stays =
+    starts_so : StartsWith (fates_of is_ask.fated) fates
+    starts_so = subst (λ fs. StartsWith fs fates) fates_are asked.fates_are
+
+    ends_so : IsBeyond until (length (fates_of is_ask.fated))
+    ends_so = subst (λ fs. IsBeyond until (length fs)) fates_are asked.beyond
+
+    done_mirrors : Mirrors count (put_nth i g hosts) clocks more (world_step w (Ask i request fates until))
+    done_mirrors =
         at_rest
         (remirror count hosts clocks mails more w M i h g here c there.node.clock time there.node there.known (Ask i request fates until) behind_it (placed_at i t starts) serves asks old_place
         (record { node = Some (seen m); records = old_place.records ++ recorded_so }) (M.stands.holds i h here).here refl (sym (ap (option_map seen) node)) serving_node
         (placed_this i t starts ∙ sym site) (λ j f. placed_other i t starts j f ∙ placed_other i s M.stands.sites j f) mails_are
         (λ x e. ap (λ (z : Node). z.journal.limit) (sym (same_some m x (sym node ∙ e))) ∙ D.3.3.went.limit ∙ M.limits i h n here up)
-        (is_ask.leads fates until (subst (λ fs. StartsWith fs fates) fates_are asked.fates_are) (subst (λ fs. IsBeyond until (length fs)) fates_are asked.beyond)))
+        (is_ask.leads fates until starts_so ends_so))
+
+    done_effects : EffectsAgree → HasEffects w (Ask i request fates until) m
+    done_effects agree =
+        D.3.3.went.effects
+        ∙ agree.asked (example_hosts count) M.stands.net w i old_place there.node (seen n) request its_step its_doing is_ask.fated there.is_at is_ask.planned is_ask.fared fates until starts_so ends_so
+
+    pub done_stays : IsStayed (answers.Done id)
+    done_stays = (done_mirrors, sym (refused_there ∙ D.1), done_effects)
 
 -- so it is of one that was taken
 pub asked_stays : (L : NetLaws) (K : TurnLaws) (requests : RequestsAreEvents) (ask_so : ExamplesAskSo) (count : ℕ) (hosts : List Host) (clocks : List ℕ) (mails more : List Mail) (w : World) (i c : ℕ) (h g : Host)
     (n : Node) (request : Local) (old : MemSite) (fates : List Bool) (until : Option ℕ) → count ≤ 8 → Mirrors count hosts clocks mails w → 1 ≤ i → nth i hosts ≡ Some h → h.node ≡ Some n → nth i clocks ≡ Some c
     → IsExampleRequest request → IsSet c h.site old → (T : TookRequest i count request n old g mails more fates until) → T.came ≡ cames.Stays
-    → Mirrors count (put_nth i g hosts) clocks more (world_step w (Ask i request fates until))
+    → Mirrors count (put_nth i g hosts) clocks more (world_step w (Ask i request fates until)) × RefusesAlike w i request T.answer × (EffectsAgree → HasEffects w (Ask i request fates until) T.node)
 asked_stays L K requests ask_so count hosts clocks mails more w i c h g n request old fates until few M least here up time named set T stays =
     by T.answer (subst (λ z. AnswersSo z T.answer) stays T.ends) T.requests.asked T.requests.nothing
   where
@@ -208,7 +244,7 @@ asked_stays L K requests ask_so count hosts clocks mails more w i c h g n reques
     posted = T.posted ∙ ap (λ ms. mails ++ mails_in i count (sent_by ms)) (ap (λ z. take (kept_of z T.made) T.made) stays ∙ take_all T.made)
 
     by : (a : Locally) → AnswersSo cames.Stays a → Asked a (seen n) (seen T.node) request (told_of old) (told_of T.site) → ((why : Refusal) → a ≡ answers.Refused why → T.site ≡ old)
-        → Mirrors count (put_nth i g hosts) clocks more (world_step w (Ask i request fates until))
+        → Mirrors count (put_nth i g hosts) clocks more (world_step w (Ask i request fates until)) × RefusesAlike w i request a × (EffectsAgree → HasEffects w (Ask i request fates until) T.node)
     by (answers.Done id) so asked nothing =
         done_stays L K requests ask_so count few hosts clocks mails more w M i least h g n here up c time old before set.clock request named T.node T.site left.0 left.1 T.requests.serving T.made T.adds fates until comes
         posted T.room id

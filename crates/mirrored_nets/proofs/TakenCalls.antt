@@ -1,4 +1,4 @@
--- Whatever a turn or a request came to, its host mirrors the world behind the event.
+-- Whatever a turn or a request came to, its host mirrors the world behind the event; and what a request gave is what the world says.
 use Rattle.std.specs.Prelude.{ℕ, List, ◌+◌, ◌≡◌, ◌≤◌, Bool, Option, Some}
 use Rattle.std.proofs.Common.{refl}
 use Rattle.at_base.specs.declared.event.Local.{Local}
@@ -7,10 +7,12 @@ use Rattle.memory_net.specs.Closed.{ExamplesAskSo, IsExampleRequest}
 use Rattle.memory_net.specs.Mails.{Mail}
 use Rattle.memory_net.specs.declared.host.Host.{Host}
 use Rattle.node_at.specs.declared.node.Node.{Node}
+use Rattle.node_events.specs.CallEffects.{EffectsAgree}
 use Rattle.node_events.specs.NodeEvents.{HaltsAreEvents, RequestsAreEvents, StopsAreEvents, UnbegunAreEvents}
 use Rattle.site_memory.specs.declared.machine.MemSite.{MemSite}
 use Rattle.torn_appends.specs.TornAppends.{AppendsTorn}
 use Rattle.world_laws.specs.Moves.{ChangesByMoves}
+use Rattle.mirrored_nets.specs.Answered.{HasEffects, RefusesAlike}
 use Rattle.mirrored_nets.specs.Goings.{IsBrought, IsSet, ms_of}
 use Rattle.mirrored_nets.specs.Mirrors.{Mirrors}
 use Rattle.mirrored_nets.specs.Took.{TookRequest, TookTurn}
@@ -44,7 +46,14 @@ module _ (L : NetLaws) (K : TurnLaws) (torn : AppendsTorn) where
   asked asks ask_so moves count hosts clocks mails more w i c h g n request old fates until few M least here up time named set T = by T.came refl
     where
       by : (came : Came) → T.came ≡ came → Mirrors count (put_nth i g hosts) clocks more (world_step w (Ask i request fates until))
-      by cames.Stays e = asked_stays L K asks ask_so count hosts clocks mails more w i c h g n request old fates until few M least here up time named set T e
+      by cames.Stays e = (asked_stays L K asks ask_so count hosts clocks mails more w i c h g n request old fates until few M least here up time named set T e).0
       by (cames.Falls kept choice) e =
           asked_falls L K torn asks ask_so count hosts clocks mails more w i c h g n request old fates until few M least here up time named set T moves kept choice e
       by cames.Halts e = asked_halts L K torn asks ask_so count hosts clocks mails more w i c h g n request old fates until few M least here up time named set T e
+
+  pub asked_effects : RequestsAreEvents → ExamplesAskSo → EffectsAgree → (count : ℕ) (hosts : List Host) (clocks : List ℕ) (mails more : List Mail) (w : World) (i c : ℕ) (h g : Host) (n : Node)
+      (request : Local) (old : MemSite) (fates : List Bool) (until : Option ℕ)
+      → count ≤ 8 → Mirrors count hosts clocks mails w → 1 ≤ i → nth i hosts ≡ Some h → h.node ≡ Some n → nth i clocks ≡ Some c → IsExampleRequest request → IsSet c h.site old
+      → (T : TookRequest i count request n old g mails more fates until) → T.came ≡ cames.Stays → RefusesAlike w i request T.answer × HasEffects w (Ask i request fates until) T.node
+  asked_effects asks ask_so agree count hosts clocks mails more w i c h g n request old fates until few M least here up time named set T stays =
+      let (mirrors, taken, effects) = asked_stays L K asks ask_so count hosts clocks mails more w i c h g n request old fates until few M least here up time named set T stays in (taken, effects agree)

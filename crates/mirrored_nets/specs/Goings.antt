@@ -18,7 +18,7 @@ use Rattle.raw_requests.specs.declared.Drawn.TheVariants as drawns
 use Rattle.site_memory.specs.Devices.{Leaves, calls_in, opening_in}
 use Rattle.site_memory.specs.declared.arm.Choice.TheVariants.{Drop}
 use Rattle.site_memory.specs.declared.machine.MemSite.{MemSite}
-use Rattle.mirrored_nets.specs.Answered.{IsAnswered}
+use Rattle.mirrored_nets.specs.Answered.{HasEffects, IsAnswered, RefusesAlike}
 use Rattle.mirrored_nets.specs.Mirrors.{Mirrors}
 use Rattle.mirrored_nets.specs.Took.{TookRequest, TookTurn}
 use Rattle.mirrored_nets.specs.TookStart.{TookStart}
@@ -84,9 +84,18 @@ pub record NetsMirror : Type 0 where
       (fates : List Bool) (until : Option ℕ)
       → count ≤ 8 → Mirrors count hosts clocks mails w → 1 ≤ i → nth i hosts ≡ Some h → h.node ≡ Some n → nth i clocks ≡ Some c → IsBrought mails i input lines bytes → IsSet (c + ms_of input) h.site old
       → (T : TookTurn i count lines bytes n old g mails more fates until) → T.came ≡ cames.Stays → IsAnswered w (Turn i input fates until) input bytes T.result
+  -- and its effects are those of its event
+  pub turned_effects : (count : ℕ) (hosts : List Host) (clocks : List ℕ) (mails more : List Mail) (w : World) (i c : ℕ) (h g : Host) (n : Node) (input : Input) (lines : ℕ) (bytes : List ℕ) (old : MemSite)
+      (fates : List Bool) (until : Option ℕ)
+      → count ≤ 8 → Mirrors count hosts clocks mails w → 1 ≤ i → nth i hosts ≡ Some h → h.node ≡ Some n → nth i clocks ≡ Some c → IsBrought mails i input lines bytes → IsSet (c + ms_of input) h.site old
+      → (T : TookTurn i count lines bytes n old g mails more fates until) → T.came ≡ cames.Stays → HasEffects w (Turn i input fates until) T.node
   pub asked : (count : ℕ) (hosts : List Host) (clocks : List ℕ) (mails more : List Mail) (w : World) (i c : ℕ) (h g : Host) (n : Node) (request : Local) (old : MemSite) (fates : List Bool) (until : Option ℕ)
       → count ≤ 8 → Mirrors count hosts clocks mails w → 1 ≤ i → nth i hosts ≡ Some h → h.node ≡ Some n → nth i clocks ≡ Some c → IsExampleRequest request → IsSet c h.site old
       → TookRequest i count request n old g mails more fates until → Mirrors count (put_nth i g hosts) clocks more (world_step w (Ask i request fates until))
+  -- one behind which its node stays up is refused where the world refuses it, and its effects are those of its event
+  pub asked_effects : (count : ℕ) (hosts : List Host) (clocks : List ℕ) (mails more : List Mail) (w : World) (i c : ℕ) (h g : Host) (n : Node) (request : Local) (old : MemSite) (fates : List Bool) (until : Option ℕ)
+      → count ≤ 8 → Mirrors count hosts clocks mails w → 1 ≤ i → nth i hosts ≡ Some h → h.node ≡ Some n → nth i clocks ≡ Some c → IsExampleRequest request → IsSet c h.site old
+      → (T : TookRequest i count request n old g mails more fates until) → T.came ≡ cames.Stays → RefusesAlike w i request T.answer × HasEffects w (Ask i request fates until) T.node
   pub upped : (count : ℕ) (hosts : List Host) (clocks : List ℕ) (mails : List Mail) (w : World) (i c : ℕ) (h g : Host) (old : MemSite)
       → count ≤ 8 → Mirrors count hosts clocks mails w → 1 ≤ i → nth i hosts ≡ Some h → h.node ≡ None → IsSet c h.site old → CameUp (example_base i) old g
       → Mirrors count (put_nth i g hosts) clocks mails (world_step w (Up i true false))

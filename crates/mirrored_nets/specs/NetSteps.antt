@@ -10,7 +10,7 @@ use Rattle.memory_net.specs.Mails.{mail_of}
 use Rattle.memory_net.specs.declared.host.Host.{Host}
 use Rattle.node_at.specs.declared.node.Node.{Node}
 use Rattle.site_memory.specs.declared.machine.MemSite.{MemSite}
-use Rattle.mirrored_nets.specs.Answered.{IsAnswered}
+use Rattle.mirrored_nets.specs.Answered.{HasEffects, IsAnswered, RefusesAlike}
 use Rattle.mirrored_nets.specs.Goings.{IsBrought, IsNothing, IsSet, WentDown, ms_of}
 use Rattle.mirrored_nets.specs.Mirrors.{Mirrors}
 use Rattle.mirrored_nets.specs.Seen.{Seen}
@@ -97,16 +97,19 @@ pub record RestsNode (e : WorldEvent) (old new : Seen) : Type 0 where
 abbrev pub NetStep : WorldEvent → Seen → Seen → Type 0
 NetStep e old new = MovesNode e old new ⊎ RestsNode e old new
 
--- What a turn is answered behind which its node stays up is what the world says of its event.
+-- What a call gives behind which its node stays up is what the world says of its event: what a turn is answered, whether a request is refused,
+-- and the effects of both. Of one in which its node goes down this isn't said.
 abbrev pub MoveAnswers : (w : World) (e : WorldEvent) (old new : Seen) → MovesNode e old new → Type 0
-MoveAnswers w (Turn i input fates until) old new t = t.took.came ≡ cames.Stays → IsAnswered w (Turn i input fates until) input t.bytes t.took.result
+MoveAnswers w (Turn i input fates until) old new t =
+    t.took.came ≡ cames.Stays → IsAnswered w (Turn i input fates until) input t.bytes t.took.result × HasEffects w (Turn i input fates until) t.took.node
+MoveAnswers w (Ask i request fates until) old new t = t.took.came ≡ cames.Stays → RefusesAlike w i request t.took.answer × HasEffects w (Ask i request fates until) t.took.node
 MoveAnswers w other old new t = Unit {0}
 
 abbrev pub StepAnswers : (w : World) (e : WorldEvent) (old new : Seen) → NetStep e old new → Type 0
 StepAnswers w e old new (inl moves) = MoveAnswers w e old new moves
 StepAnswers w e old new (inr rests) = Unit {0}
 
--- An event of a world was done to a net that mirrors it: what it answers is what the world says, and the net behind it mirrors the world behind it.
+-- An event of a world was done to a net that mirrors it: what its call gives is what the world says, and the net behind it mirrors the world behind it.
 pub record NetMove (count : ℕ) (w : World) (e : WorldEvent) (old new : Seen) : Type 0 where
   pub step : NetStep e old new
   pub answers : StepAnswers w e old new step

@@ -14,8 +14,8 @@ use memory_net::laws::{are_no_messages, examples_ask_so, hosts_tell_receivers, s
 use model_laws::rules::{recovers_the_compacted, steps_keep_place};
 use node_at::laws::steps_reply;
 use node_events::laws::{
-    halts_are_events, requests_are_events, starts_are_events, stops_are_events, turns_answer_so,
-    turns_are_events, unbegun_are_events,
+    effects_agree, halts_are_events, requests_are_events, starts_are_events, stops_are_events,
+    turns_answer_so, turns_are_events, unbegun_are_events,
 };
 use node_worlds::laws::{nets_keep, restarts_on_records};
 use node_worlds::lives::{crashes_are_met, runs_on_machines};
@@ -47,6 +47,7 @@ pub fn nets_mirror()
     requests_are_events();
     starts_are_events();
     turns_answer_so();
+    effects_agree();
     stops_are_events();
     turns_are_events();
     unbegun_are_events();

@@ -11,7 +11,7 @@ abbrev pub MirrorsAt : ℕ → Seen → World → Type 0
 MirrorsAt count net w = Mirrors count net.hosts net.clocks (map mail_of net.letters) w
 
 -- These events were done to this net one after another, each as the call of a node on its machine, and left that one; each net on the way
--- mirrors its world, and answers what it says.
+-- mirrors its world, and what its calls give is what that says.
 abbrev pub NetRun : (count : ℕ) → Seen → World → List WorldEvent → Seen → Type 0
 NetRun count net w [] last = MirrorsAt count net w × (last ≡ net)
 NetRun count net w (e ∷ es) last = MirrorsAt count net w × ((next : Seen) × NetMove count w e net next × NetRun count next (world_step w e) es last)

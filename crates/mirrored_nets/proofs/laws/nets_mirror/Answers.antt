@@ -37,5 +37,6 @@ returns c =
       requests = c.requests_are_events.ensures;
       starts = c.starts_are_events.ensures;
       answers = c.turns_answer_so.ensures;
+      effects = c.effects_agree.ensures;
       moves = c.changes_by_moves.ensures;
     }) c.appends_torn.ensures c.examples_ask_so.ensures c.are_apart.ensures c.nets_keep.ensures c.runs_on_machines.ensures c.recovers_the_compacted.ensures
