@@ -27,9 +27,3 @@ impl From<AllocError> for Unlike {
         Unlike::NoMemory
     }
 }
-
-impl From<AllocError> for Fault {
-    fn from(_error: AllocError) -> Fault {
-        Fault::NoMemory
-    }
-}

@@ -119,7 +119,12 @@ fn answers(came: Came, locally: Locally) -> Result<(), Unlike>
 }
 
 /// A machine that went back to behind so many calls of an event, before which it had made `before`, and crashed there.
-fn fallen_back(site: MemSite, before: usize, kept: usize, choice: Choice) -> Result<MemSite, Unlike>
+pub(crate) fn fallen_back(
+    site: MemSite,
+    before: usize,
+    kept: usize,
+    choice: Choice,
+) -> Result<MemSite, Unlike>
     ensures { IfOk result (λ new. (old : MemSite) → before ≡ length (calls_in old.device) → FellBack old site kept choice new) }
 {
     let Some(calls) = before.checked_add(kept) else {

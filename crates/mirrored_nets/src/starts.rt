@@ -8,15 +8,13 @@ ghost use Rattle.journal_at.specs.Scans.{records_in};
 ghost use Rattle.memory_net.specs.Calls.{Begins};
 ghost use Rattle.node_at.specs.declared.fault.StartFault.{StartFault};
 ghost use Rattle.node_at.specs.declared.node.Node.{Node};
-ghost use Rattle.site_memory.specs.Devices.{calls_in};
 ghost use Rattle.site_memory.specs.Sites.{told_of};
 ghost use Rattle.site_memory.specs.declared.arm.Choice.{Choice as Chosen};
-ghost use Rattle.site_memory.specs.declared.machine.MemSite.{MemSite as Machine};
-ghost use Rattle.mirrored_nets.specs.Took.{FellBack};
 ghost use Rattle.mirrored_nets.specs.TookStart.{HasLast, TookStart};
 
 use crate::calls::since;
 use crate::fault::Unlike;
+use crate::host::fallen_back;
 use crate::judged::{Armed, kept_at};
 use at_base::text::Text;
 use decision_log::fold::{FoldFault, fold};
@@ -86,19 +84,6 @@ fn kept_behind(calls: &[Entry], armed: Armed) -> Result<(usize, Choice), Unlike>
         Armed::Fail(_) => Ok((calls.len(), Choice::Keep)),
         Armed::Stop(k, choice) => Ok((kept_at(calls, k as usize, choice), choice)),
     }
-}
-
-/// A machine that went back to behind so many calls more than `before`, and crashed there.
-fn fallen_back(site: MemSite, before: usize, kept: usize, choice: Choice) -> Result<MemSite, Unlike>
-    ensures { (old : Machine) → before ≡ length (calls_in old.device) → IfOk result (λ left. FellBack old site kept choice left) }
-{
-    let mut machine = site;
-    let Some(calls) = before.checked_add(kept) else {
-        return Err(Unlike::Apart);
-    };
-    machine.go_back(calls)?;
-    machine.crash(choice);
-    Ok(machine)
 }
 
 /// The start of a node at one of whose calls a fault comes, on a machine that is set for it: what is left is the machine behind a crash. It is
