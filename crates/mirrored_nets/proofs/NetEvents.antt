@@ -216,9 +216,9 @@ module _ (mirror : NetsMirror) (old new : Seen) (count : ℕ) (w : World) (few :
   move_answers : (e : WorldEvent) (s : MovesNode e old new) → MoveAnswers w e old new s
   move_answers (Turn i input fates until) s = λ stays. (
     mirror.answered (length old.hosts) old.hosts old.clocks (map mail_of old.letters) (map mail_of new.letters) w i s.clock s.host s.behind s.node input s.lines s.bytes s.machine fates until same_few same_mirrors
-    (numbered i old.hosts s.host s.here) s.here s.up s.time s.brought s.set s.took stays,
+        (numbered i old.hosts s.host s.here) s.here s.up s.time s.brought s.set s.took stays,
     mirror.turned_effects (length old.hosts) old.hosts old.clocks (map mail_of old.letters) (map mail_of new.letters) w i s.clock s.host s.behind s.node input s.lines s.bytes s.machine fates until same_few
-    same_mirrors (numbered i old.hosts s.host s.here) s.here s.up s.time s.brought s.set s.took stays,
+        same_mirrors (numbered i old.hosts s.host s.here) s.here s.up s.time s.brought s.set s.took stays,
   )
   move_answers (Ask i request fates until) s =
       mirror.asked_effects (length old.hosts) old.hosts old.clocks (map mail_of old.letters) (map mail_of new.letters) w i s.clock s.host s.behind s.node request s.machine fates until same_few same_mirrors
