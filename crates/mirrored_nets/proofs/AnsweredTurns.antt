@@ -1,6 +1,6 @@
 -- A turn behind which its node stays up was answered as its event says, and has its effects.
 use Rattle.std.specs.Prelude.{ℕ, List, ◌+◌, ◌≡◌, ◌≤◌, Bool, true, Option, Some, drop, length}
-use Rattle.std.proofs.Common.{ap, refl, sym, subst, ◌∙◌}
+use Rattle.std.proofs.Common.{ap, sym, subst, ◌∙◌}
 use Rattle.at_model.specs.World.{Deliver, Input, Node as Known, Raw, Tick, Turn, World, example_hosts, nth}
 use Rattle.carried_meanings.specs.CarriedMeanings.{MeanOneThing}
 use Rattle.fated_walks.specs.Fated.{IsBeyond, StartsWith, all_fates}

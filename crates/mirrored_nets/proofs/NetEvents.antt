@@ -1,5 +1,5 @@
 -- The events that are done to the hosts of a net.
-use Rattle.std.specs.Prelude.{ℕ, List, ◌+◌, ◌≡◌, ◌≤◌, ◌<◌, ◌⊎◌, Bool, true, false, IfSome, Option, Some, None, is_some, length, map, suc, zero}
+use Rattle.std.specs.Prelude.{ℕ, List, ◌+◌, ◌≡◌, ◌≤◌, ◌⊎◌, Bool, true, false, IfSome, Option, Some, None, is_some, length, map, suc, zero}
 use Rattle.std.proofs.Common.{ap, arith, refl, subst, sym, inl, inr, ◌∙◌}
 use Rattle.at_base.specs.declared.event.Local.{Local}
 use Rattle.at_model.specs.World.{Input, World, WorldEvent, Turn, Ask, Crash, Up, example_base, node_of, nth, put_nth, world_step}

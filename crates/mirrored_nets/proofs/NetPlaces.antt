@@ -1,9 +1,9 @@
 -- Hosts, clocks and letters by their numbers from 1.
-use Rattle.std.specs.Prelude.{ℕ, List, [], ◌∷◌, ◌≡◌, ◌≤◌, ◌<◌, ◌-◌, Bool, true, false, Option, Some, None, is_some, length, map, nat_eq, option_map, slice_set, if◌then◌else◌}
+use Rattle.std.specs.Prelude.{ℕ, List, [], ◌∷◌, ◌≡◌, ◌≤◌, ◌-◌, Bool, true, false, Option, Some, None, is_some, length, map, nat_eq, option_map, slice_set, if◌then◌else◌}
 use Rattle.std.proofs.Common.{ap, arith, get_or, refl, sym, ◌∙◌}
 use Rattle.std.proofs.lemmas.Option.{slice_get_read}
 use Rattle.at_model.specs.World.{nth, put_nth}
-use Rattle.memory_net.specs.Mails.{Mail, mail_of}
+use Rattle.memory_net.specs.Mails.{mail_of}
 use Rattle.memory_net.specs.declared.letter.Letter.{Letter}
 use Rattle.world_laws.proofs.Nodes.{put_put}
 use Rattle.world_laws.proofs.NumberedItems.{nth_back, put_back}

@@ -1,6 +1,6 @@
 -- Starts in a world's events.
-use Rattle.std.specs.Prelude.{ℕ, List, Bool, true, false, ◌≡◌, ◌⊎◌, IfOk, Ok, Err, Result}
-use Rattle.std.proofs.Common.{inl, inr, sym, ◌∙◌}
+use Rattle.std.specs.Prelude.{ℕ, List, Bool, true, false, ◌≡◌, IfOk, Ok, Err, Result}
+use Rattle.std.proofs.Common.{inl, inr}
 use Rattle.memory_net.specs.declared.host.Host.{Host}
 use Rattle.site_memory.specs.declared.machine.MemSite.{MemSite}
 use Rattle.mirrored_nets.specs.Goings.{CameUp, IsSet}

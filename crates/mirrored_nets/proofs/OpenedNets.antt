@@ -1,7 +1,7 @@
 -- Hosts that serve, or haven't started.
-use Rattle.std.specs.Prelude.{ℕ, List, [], ◌∷◌, ◌++◌, ◌+◌, ◌-◌, ◌≡◌, Bool, true, false, IfSome, Option, Some, None, length, nat_eq, replicate, if◌then◌else◌, zero, suc}
+use Rattle.std.specs.Prelude.{ℕ, List, [], ◌∷◌, ◌-◌, ◌≡◌, Bool, true, false, IfSome, Some, length, nat_eq, replicate}
 use Rattle.std.specs.List.{AllByRecursion}
-use Rattle.std.proofs.Common.{add-one, ap, refl, subst, sym, ◌∙◌}
+use Rattle.std.proofs.Common.{refl, subst, sym}
 use Rattle.at_model.specs.World.{nth, put_nth}
 use Rattle.memory_net.specs.Calls.{IsServing}
 use Rattle.memory_net.specs.Hosts.{IsFresh}

@@ -1,6 +1,5 @@
 use Rattle.std.proofs.Common.{sym, ◌∙◌, ap}
 use Rattle.std.specs.Prelude.{is_some}
-use Rattle.node_at.specs.declared.node.Node.{Node}
 use Rattle.mirrored_nets.proofs.NetPlaces.{some_map}
 use Rattle.mirrored_nets.proofs.net.is_up.Goals as goal
 

@@ -1,4 +1,4 @@
-use Rattle.std.proofs.Common.{◌∙◌, ◌≡◌, ◌≤◌, arith, length, refl, sym}
+use Rattle.std.proofs.Common.{◌∙◌, ◌≤◌, arith, length, refl, sym}
 use Rattle.std.proofs.lemmas.Grind.{common_steps}
 use Rattle.memory_net.specs.Mails.{mail_of}
 use Rattle.mirrored_nets.proofs.NetPlaces.{mail_at}

@@ -1,4 +1,3 @@
-use Rattle.std.proofs.Common.{refl}
 use Rattle.mirrored_nets.proofs.NetStarts.{no_landing, was_struck, went_up}
 use Rattle.mirrored_nets.proofs.net.started.Goals.{else-landed-via-then-landed+else-not-stop, else-landed-via-else-landed}
 use Rattle.mirrored_nets.proofs.net.started.Goals as goal

@@ -1,4 +1,4 @@
-use Rattle.std.proofs.Common.{ap, refl, subst, ◌∙◌, ◌≡◌, List, ℕ}
+use Rattle.std.proofs.Common.{ap, subst, ◌∙◌, ◌≡◌, List, ℕ}
 use Rattle.std.specs.Prelude.{Some}
 use Rattle.at_model.specs.World.{Up, nth}
 use Rattle.mirrored_nets.specs.Seen.{Seen}
