@@ -389,7 +389,8 @@ fn is_done(alloc: Global, row: &(&str, u64, usize, usize)) -> Result<bool, Alloc
     let branch = branch_of_choice(alloc, name)?;
     let left = match &branch.change {
         Alteration::Put {
-            item: Some(alarm), ..
+            item: Some(alarm),
+            ..
         } => alarm.time,
         _ => 0,
     };
