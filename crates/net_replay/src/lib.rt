@@ -4,3 +4,4 @@
 mod followed;
 mod message_bytes;
 pub mod replay;
+pub mod replay_error;

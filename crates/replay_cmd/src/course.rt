@@ -1,13 +1,15 @@
 //! A replay on its way.
 
-ghost use Rattle.std.specs.Prelude.{◌≡◌, ◌≤◌, ◌<◌, ◌+◌, ◌-◌, ◌^◌, ◌++◌, ◌∷◌, [], IfOk, OnOk, None, Some, length, drop, map, option_map};
+ghost use Rattle.std.specs.Prelude.{◌≡◌, ◌≤◌, ◌<◌, ◌+◌, ◌-◌, ◌^◌, ◌++◌, ◌∷◌, [], IfErr, IfOk, OnOk, None, Some, length, drop, map, option_map};
 ghost use Rattle.at_model.specs.Views.{deliver_to, request, tick_at, up};
 ghost use Rattle.at_model.specs.World.{Turn, Ask, Crash, nth, opening, run_of, world_step, example_hosts};
 ghost use Rattle.world_laws.specs.Events.{event_of, input_of};
 ghost use Rattle.world_laws.specs.Runs.{book_at, world_of};
 ghost use Rattle.world_laws.specs.Firsts.{first_records};
 ghost use Rattle.world_laws.specs.Moves.{left_of, losses_of, steps_of};
+ghost use Rattle.settlement.specs.declared.run_error.RunError.TheVariants.{TooManyEvents};
 ghost use Rattle.replay_cmd.specs.Deliveries.{lowest, yes_at};
+ghost use Rattle.replay_cmd.specs.EventCounts.{HasTooManyEvents};
 ghost use Rattle.replay_cmd.specs.Faults.{raw_at, struck_line};
 ghost use Rattle.replay_cmd.specs.Lines.{forged_line, no_message_line};
 ghost use Rattle.replay_cmd.specs.ReportOf.{all_happen, all_up, comes, comes_behind_line, comes_by_line, comes_to, comes_to_rest, delivers, effect_lines, flushes, goes_to, happens, happens_so, injects, line_before, line_behind, behind_of, meets, meets_line, raw_comes, armed_at, nobody_armed, printed, receiver_in, request_result, start_result, step_lines, summed, whole, with_armed, begun};
@@ -23,6 +25,7 @@ use at_base::event::Local;
 use at_base::outs::Effects;
 use effect_words::refusal_word;
 use raw_requests::Drawn;
+use settlement::run_error::RunError;
 use settlement::settle::settle;
 use std::alloc::{AllocError, Global};
 use std::marker::Model;
@@ -56,15 +59,16 @@ impl Model for Course {
 }
 
 #[tactic(auto, using(crate::proofs::Loops::one_more))]
-fn stepped(world: World, alloc: Global, event: WorldEvent) -> Result<Stepped, AllocError>
+fn stepped(world: World, alloc: Global, event: WorldEvent) -> Result<Stepped, RunError>
     ensures events { IfOk result (λ s. map event_of s.world.events ≡ map event_of world.events ++ event_of event ∷ []) }
     ensures world { IfOk result (λ s. world_of s.world ≡ world_step (world_of world) (event_of event)) }
     ensures steps { IfOk result (λ s. s.steps ≡ steps_of (world_of world) (event_of event)) }
     ensures lost { IfOk result (λ s. s.lost ≡ losses_of (world_of world) (event_of event)) }
     ensures left { IfOk result (λ s. s.left ≡ left_of (world_of world) (event_of event)) }
+    ensures many { IfErr result (λ e. e ≡ TooManyEvents → 4294967295 ≤ length world.events) }
 {
     if world.events().len() >= MOST {
-        return Err(AllocError);
+        return Err(RunError::TooManyEvents);
     }
     let stepped = world.step(alloc, event)?;
     Ok(stepped)
@@ -339,9 +343,10 @@ impl Course {
         fault: Option<Fault>,
         drawn: u16,
         event: WorldEvent,
-    ) -> Result<(Course, usize), AllocError>
+    ) -> Result<(Course, usize), RunError>
         ensures course { IfOk result (λ p. p.0 ≡ happens_so fault drawn (event_of event) self) }
         ensures left { IfOk result (λ p. p.1 ≡ length (left_of self.world (event_of event)).fates) }
+        ensures many { IfErr result (λ e. e ≡ TooManyEvents → HasTooManyEvents (happens_so fault drawn (event_of event) self)) }
     {
         let Course {
             world,
@@ -375,8 +380,9 @@ impl Course {
     }
 
     /// An event happens as it is.
-    fn happen_whole(self, alloc: Global, event: WorldEvent) -> Result<Course, AllocError>
-        ensures { IfOk result (λ c. c ≡ happens None (event_of event) self) }
+    fn happen_whole(self, alloc: Global, event: WorldEvent) -> Result<Course, RunError>
+        ensures course { IfOk result (λ c. c ≡ happens None (event_of event) self) }
+        ensures many { IfErr result (λ e. e ≡ TooManyEvents → HasTooManyEvents (happens None (event_of event) self)) }
     {
         let (course, _left) = self.happen(alloc, None, 0, event)?;
         Ok(course)
@@ -405,14 +411,16 @@ impl Course {
         &mut self,
         alloc: Global,
         event: &WorldEvent,
-    ) -> Result<Option<bool>, AllocError>
+    ) -> Result<Option<bool>, RunError>
         ensures records { IfOk result (λ r. r ≡ first_records self.old.world (event_of event.now)) }
         ensures same { self.new ≡ self.old }
+        ensures many { IfErr result (λ e. e ≡ TooManyEvents → 4294967295 ≤ length self.old.events) }
     {
         if self.world.events().len() >= MOST {
-            return Err(AllocError);
+            return Err(RunError::TooManyEvents);
         }
-        self.world.records(alloc, event)
+        let first = self.world.records(alloc, event)?;
+        Ok(first)
     }
 
     /// An event happens as far as the armed call lets it; whether its first step has a record.
@@ -423,8 +431,9 @@ impl Course {
         first: Option<bool>,
         drawn: u16,
         event: WorldEvent,
-    ) -> Result<Course, AllocError>
-        ensures { IfOk result (λ c. c ≡ meets armed first drawn (event_of event) self) }
+    ) -> Result<Course, RunError>
+        ensures course { IfOk result (λ c. c ≡ meets armed first drawn (event_of event) self) }
+        ensures many { IfErr result (λ e. e ≡ TooManyEvents → HasTooManyEvents (meets armed first drawn (event_of event) self)) }
     {
         let node = event.node();
         let was_up = self.world.incarnation(node).is_some();
@@ -446,8 +455,9 @@ impl Course {
         armed: Armed,
         drawn: u16,
         event: WorldEvent,
-    ) -> Result<Course, AllocError>
-        ensures { IfOk result (λ c. c ≡ comes_to (Some armed) drawn (event_of event) self) }
+    ) -> Result<Course, RunError>
+        ensures course { IfOk result (λ c. c ≡ comes_to (Some armed) drawn (event_of event) self) }
+        ensures many { IfErr result (λ e. e ≡ TooManyEvents → HasTooManyEvents (comes_to (Some armed) drawn (event_of event) self)) }
     {
         let mut course = self;
         let first = course.first_records(alloc, &event)?;
@@ -461,8 +471,9 @@ impl Course {
         fault: Fault,
         drawn: u16,
         node: u8,
-    ) -> Result<Course, AllocError>
-        ensures { IfOk result (λ c. c ≡ meets_line fault drawn node self) }
+    ) -> Result<Course, RunError>
+        ensures course { IfOk result (λ c. c ≡ meets_line fault drawn node self) }
+        ensures many { IfErr result (λ e. e ≡ TooManyEvents → HasTooManyEvents (meets_line fault drawn node self)) }
     {
         let event = line_struck(alloc, node, fault);
         let (course, _left) = self.happen(alloc, Some(fault), drawn, event)?;
@@ -476,8 +487,9 @@ impl Course {
         armed: Armed,
         drawn: u16,
         node: u8,
-    ) -> Result<Course, AllocError>
-        ensures { IfOk result (λ c. c ≡ comes_to (Some armed) drawn (raw_at node) self) }
+    ) -> Result<Course, RunError>
+        ensures course { IfOk result (λ c. c ≡ comes_to (Some armed) drawn (raw_at node) self) }
+        ensures many { IfErr result (λ e. e ≡ TooManyEvents → HasTooManyEvents (comes_to (Some armed) drawn (raw_at node) self)) }
     {
         self.meet(alloc, armed, drawn, turn(alloc, node, Input::Raw))
     }
@@ -490,8 +502,9 @@ impl Course {
         fault: Fault,
         drawn: u16,
         node: u8,
-    ) -> Result<Course, AllocError>
-        ensures { IfOk result (λ c. c ≡ comes_behind_line rest fault drawn node self) }
+    ) -> Result<Course, RunError>
+        ensures course { IfOk result (λ c. c ≡ comes_behind_line rest fault drawn node self) }
+        ensures many { IfErr result (λ e. e ≡ TooManyEvents → HasTooManyEvents (comes_behind_line rest fault drawn node self)) }
     {
         match rest {
             None => self.meet_line(alloc, fault, drawn, node),
@@ -507,8 +520,9 @@ impl Course {
         armed: Armed,
         drawn: u16,
         node: u8,
-    ) -> Result<Course, AllocError>
-        ensures { IfOk result (λ c. c ≡ comes_by_line says armed drawn node self) }
+    ) -> Result<Course, RunError>
+        ensures course { IfOk result (λ c. c ≡ comes_by_line says armed drawn node self) }
+        ensures many { IfErr result (λ e. e ≡ TooManyEvents → HasTooManyEvents (comes_by_line says armed drawn node self)) }
     {
         if !says {
             return self.meet_raw(alloc, armed, drawn, node);
@@ -518,8 +532,9 @@ impl Course {
     }
 
     /// Raw bytes that draw this status come to a node; whether the client waits for the interim line.
-    fn refuse(self, alloc: Global, waits: bool, drawn: u16, node: u8) -> Result<Course, AllocError>
-        ensures { IfOk result (λ c. c ≡ raw_comes (armed_at node self.armed) waits drawn node self) }
+    fn refuse(self, alloc: Global, waits: bool, drawn: u16, node: u8) -> Result<Course, RunError>
+        ensures course { IfOk result (λ c. c ≡ raw_comes (armed_at node self.armed) waits drawn node self) }
+        ensures many { IfErr result (λ e. e ≡ TooManyEvents → HasTooManyEvents (raw_comes (armed_at node self.armed) waits drawn node self)) }
     {
         match self.armed.at(node) {
             None => {
@@ -543,18 +558,20 @@ impl Course {
     }
 
     /// Bytes that draw this come to a node, where they are no message and ask for nothing.
-    pub fn inject(self, alloc: Global, drawn: Drawn, node: u8) -> Result<Course, AllocError>
-        ensures { IfOk result (λ c. c ≡ injects drawn node self) }
+    pub fn inject(self, alloc: Global, drawn: Drawn, node: u8) -> Result<Course, RunError>
+        ensures course { IfOk result (λ c. c ≡ injects drawn node self) }
+        ensures many { IfErr result (λ e. e ≡ TooManyEvents → HasTooManyEvents (injects drawn node self)) }
     {
         match drawn {
-            Drawn::Forged => self.forge(alloc, node),
+            Drawn::Forged => Ok(self.forge(alloc, node)?),
             Drawn::Refused { status, waits } => self.refuse(alloc, waits, status, node),
         }
     }
 
     /// An event that a line asks for.
-    pub fn come(self, alloc: Global, event: WorldEvent) -> Result<Course, AllocError>
-        ensures { IfOk result (λ c. c ≡ comes (event_of event) self) }
+    pub fn come(self, alloc: Global, event: WorldEvent) -> Result<Course, RunError>
+        ensures course { IfOk result (λ c. c ≡ comes (event_of event) self) }
+        ensures many { IfErr result (λ e. e ≡ TooManyEvents → HasTooManyEvents (comes (event_of event) self)) }
     {
         match self.armed.at(event.node()) {
             None => self.happen_whole(alloc, event),
@@ -563,23 +580,26 @@ impl Course {
     }
 
     /// A node comes up, where it is down.
-    pub fn up(self, alloc: Global, node: u8) -> Result<Course, AllocError>
-        ensures { IfOk result (λ c. c ≡ comes (up node) self) }
+    pub fn up(self, alloc: Global, node: u8) -> Result<Course, RunError>
+        ensures course { IfOk result (λ c. c ≡ comes (up node) self) }
+        ensures many { IfErr result (λ e. e ≡ TooManyEvents → HasTooManyEvents (comes (up node) self)) }
     {
         self.come(alloc, coming_up(node))
     }
 
     /// A node goes down at rest.
-    pub fn crash(self, alloc: Global, node: u8) -> Result<Course, AllocError>
-        ensures { IfOk result (λ c. c ≡ comes (Crash node) self) }
+    pub fn crash(self, alloc: Global, node: u8) -> Result<Course, RunError>
+        ensures course { IfOk result (λ c. c ≡ comes (Crash node) self) }
+        ensures many { IfErr result (λ e. e ≡ TooManyEvents → HasTooManyEvents (comes (Crash node) self)) }
     {
         self.come(alloc, WorldEvent::Crash { node })
     }
 
     /// So many nodes come up.
     #[tactic(auto, using(crate::proofs::Loops::up_more))]
-    fn all_up(self, alloc: Global, count: u8) -> Result<Course, AllocError>
-        ensures { IfOk result (λ c. c ≡ all_up count 1 self) }
+    fn all_up(self, alloc: Global, count: u8) -> Result<Course, RunError>
+        ensures course { IfOk result (λ c. c ≡ all_up count 1 self) }
+        ensures many { IfErr result (λ e. e ≡ TooManyEvents → HasTooManyEvents (all_up count 1 self)) }
     {
         let mut course = self;
         for place in 0..count {
@@ -589,21 +609,24 @@ impl Course {
     }
 
     /// A node is asked by its own program.
-    pub fn ask(self, alloc: Global, node: u8, local: Local) -> Result<Course, AllocError>
-        ensures { IfOk result (λ c. c ≡ comes (request node local) self) }
+    pub fn ask(self, alloc: Global, node: u8, local: Local) -> Result<Course, RunError>
+        ensures course { IfOk result (λ c. c ≡ comes (request node local) self) }
+        ensures many { IfErr result (λ e. e ≡ TooManyEvents → HasTooManyEvents (comes (request node local) self)) }
     {
         self.come(alloc, asking(alloc, node, local))
     }
 
     /// So many milliseconds go by at a node.
-    pub fn tick(self, alloc: Global, node: u8, ms: u32) -> Result<Course, AllocError>
-        ensures { IfOk result (λ c. c ≡ comes (tick_at node ms) self) }
+    pub fn tick(self, alloc: Global, node: u8, ms: u32) -> Result<Course, RunError>
+        ensures course { IfOk result (λ c. c ≡ comes (tick_at node ms) self) }
+        ensures many { IfErr result (λ e. e ≡ TooManyEvents → HasTooManyEvents (comes (tick_at node ms) self)) }
     {
         self.come(alloc, turn(alloc, node, Input::Tick(ms)))
     }
 
-    fn deliver_to(self, alloc: Global, number: u64, node: u8) -> Result<Course, AllocError>
-        ensures { IfOk result (λ c. c ≡ comes (deliver_to node number) self) }
+    fn deliver_to(self, alloc: Global, number: u64, node: u8) -> Result<Course, RunError>
+        ensures course { IfOk result (λ c. c ≡ comes (deliver_to node number) self) }
+        ensures many { IfErr result (λ e. e ≡ TooManyEvents → HasTooManyEvents (comes (deliver_to node number) self)) }
     {
         self.come(alloc, turn(alloc, node, Input::Deliver(number)))
     }
@@ -624,12 +647,13 @@ impl Course {
         Ok(course)
     }
 
-    fn goes_to(self, alloc: Global, number: u64, receiver: Option<u8>) -> Result<Course, AllocError>
-        ensures { IfOk result (λ c. c ≡ goes_to number receiver self) }
+    fn goes_to(self, alloc: Global, number: u64, receiver: Option<u8>) -> Result<Course, RunError>
+        ensures course { IfOk result (λ c. c ≡ goes_to number receiver self) }
+        ensures many { IfErr result (λ e. e ≡ TooManyEvents → HasTooManyEvents (goes_to number receiver self)) }
     {
         match receiver {
             Some(node) => self.deliver_to(alloc, number, node),
-            None => self.no_message(alloc, number),
+            None => Ok(self.no_message(alloc, number)?),
         }
     }
 
@@ -641,15 +665,16 @@ impl Course {
     }
 
     /// A message goes to its node, whether it did before or not.
-    pub fn deliver(self, alloc: Global, number: u64) -> Result<Course, AllocError>
-        ensures { IfOk result (λ c. c ≡ delivers number self) }
+    pub fn deliver(self, alloc: Global, number: u64) -> Result<Course, RunError>
+        ensures course { IfOk result (λ c. c ≡ delivers number self) }
+        ensures many { IfErr result (λ e. e ≡ TooManyEvents → HasTooManyEvents (delivers number self)) }
     {
         match self.receiver(number) {
             Some(receiver) => {
                 let marked = self.mark(number)?;
                 marked.goes_to(alloc, number, receiver)
             }
-            None => self.no_message(alloc, number),
+            None => Ok(self.no_message(alloc, number)?),
         }
     }
 
@@ -664,8 +689,9 @@ impl Course {
 
     /// Up to so many times, the lowest message that was never delivered goes to its node.
     #[tactic(auto, using(crate::proofs::Loops::flush_more, crate::proofs::Loops::flush_none))]
-    pub fn flush(self, alloc: Global, most: u16) -> Result<Course, AllocError>
-        ensures { IfOk result (λ c. c ≡ flushes most self) }
+    pub fn flush(self, alloc: Global, most: u16) -> Result<Course, RunError>
+        ensures course { IfOk result (λ c. c ≡ flushes most self) }
+        ensures many { IfErr result (λ e. e ≡ TooManyEvents → HasTooManyEvents (flushes most self)) }
     {
         let mut course = self;
         for _time in 0..most {
@@ -678,17 +704,19 @@ impl Course {
     }
 
     /// A world of so many nodes, each of which comes up.
-    pub fn begin(alloc: Global, count: u8) -> Result<Course, AllocError>
+    pub fn begin(alloc: Global, count: u8) -> Result<Course, RunError>
         requires { (1 ≤ count) × (count ≤ 8) }
-        ensures { IfOk result (λ c. c ≡ begun count) }
+        ensures course { IfOk result (λ c. c ≡ begun count) }
+        ensures many { IfErr result (λ e. e ≡ TooManyEvents → HasTooManyEvents (begun count)) }
     {
         let course = Course::opening(alloc, count)?;
         course.all_up(alloc, count)
     }
 
     /// Events happen, one after another.
-    fn all_happen(self, alloc: Global, events: &[WorldEvent]) -> Result<Course, AllocError>
-        ensures { IfOk result (λ c. c ≡ all_happen (map event_of events.now) self) }
+    fn all_happen(self, alloc: Global, events: &[WorldEvent]) -> Result<Course, RunError>
+        ensures course { IfOk result (λ c. c ≡ all_happen (map event_of events.now) self) }
+        ensures many { IfErr result (λ e. e ≡ TooManyEvents → HasTooManyEvents (all_happen (map event_of events.now) self)) }
     {
         let mut course = self;
         for event in events {
@@ -698,8 +726,9 @@ impl Course {
     }
 
     /// The events that bring its world to rest happen.
-    pub fn come_to_rest(self, alloc: Global) -> Result<Course, AllocError>
-        ensures { IfOk result (λ c. c ≡ comes_to_rest self) }
+    pub fn come_to_rest(self, alloc: Global) -> Result<Course, RunError>
+        ensures course { IfOk result (λ c. c ≡ comes_to_rest self) }
+        ensures many { IfErr result (λ e. e ≡ TooManyEvents → HasTooManyEvents (comes_to_rest self)) }
     {
         let events = settle(alloc, &self.world)?;
         self.all_happen(alloc, events.as_slice())

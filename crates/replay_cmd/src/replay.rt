@@ -1,8 +1,10 @@
 //! How a schedule comes out, and that of a seed on a line.
 
-ghost use Rattle.std.specs.Prelude.{◌≡◌, ◌≤◌, IfOk};
+ghost use Rattle.std.specs.Prelude.{◌≡◌, ◌≤◌, IfErr, IfOk};
+ghost use Rattle.settlement.specs.declared.run_error.RunError.TheVariants.{TooManyEvents};
 ghost use Rattle.at_base.specs.declared.event.Local.TheVariants as locals;
 ghost use Rattle.replay_cmd.specs.declared.fault.Fault.TheVariants as faults;
+ghost use Rattle.replay_cmd.specs.EventCounts.{HasTooManyEvents};
 ghost use Rattle.replay_cmd.specs.Laws.{IsReplayable, IsSafe};
 ghost use Rattle.replay_cmd.specs.ReportOf.{all_taken, course_of, course_with, injects_where, nodes_of, summary_of, taken, world_made};
 ghost use Rattle.schedules.specs.Generator.{made};
@@ -17,6 +19,7 @@ use at_base::event::Local;
 use raw_requests::Drawn;
 use schedules::generator::make;
 use schedules::line::{Leaves, Line, Schedule};
+use settlement::run_error::RunError;
 use std::alloc::{AllocError, Global};
 
 /// A call at which a node stops.
@@ -45,8 +48,9 @@ fn inject(
     alloc: Global,
     drawn: Option<Drawn>,
     node: u8,
-) -> Result<Course, AllocError>
-    ensures { IfOk result (λ c. c ≡ injects_where drawn node course) }
+) -> Result<Course, RunError>
+    ensures course { IfOk result (λ c. c ≡ injects_where drawn node course) }
+    ensures many { IfErr result (λ e. e ≡ TooManyEvents → HasTooManyEvents (injects_where drawn node course)) }
 {
     match drawn {
         Some(drawn) => course.inject(alloc, drawn, node),
@@ -59,8 +63,9 @@ fn take_line(
     alloc: Global,
     drawn: Option<Drawn>,
     line: &Line,
-) -> Result<Course, AllocError>
-    ensures { IfOk result (λ c. c ≡ taken drawn line.now course) }
+) -> Result<Course, RunError>
+    ensures course { IfOk result (λ c. c ≡ taken drawn line.now course) }
+    ensures many { IfErr result (λ e. e ≡ TooManyEvents → HasTooManyEvents (taken drawn line.now course)) }
 {
     match line {
         Line::Nodes { .. } => Ok(course),
@@ -122,8 +127,9 @@ fn take_lines(
     alloc: Global,
     draws: &[Option<Drawn>],
     lines: &[Line],
-) -> Result<Course, AllocError>
-    ensures { IfOk result (λ c. c ≡ all_taken draws.now lines.now course) }
+) -> Result<Course, RunError>
+    ensures course { IfOk result (λ c. c ≡ all_taken draws.now lines.now course) }
+    ensures many { IfErr result (λ e. e ≡ TooManyEvents → HasTooManyEvents (all_taken draws.now lines.now course)) }
 {
     let mut course = course;
     for place in 0..lines.len().min(draws.len()) {
@@ -143,9 +149,10 @@ fn nodes_of(lines: &[Line]) -> u8
 }
 
 /// How a schedule comes out, given what the bytes of its lines draw.
-fn ran(alloc: Global, schedule: &Schedule, draws: &[Option<Drawn>]) -> Result<Course, AllocError>
+fn ran(alloc: Global, schedule: &Schedule, draws: &[Option<Drawn>]) -> Result<Course, RunError>
     requires { IsReplayable schedule.now }
-    ensures { IfOk result (λ course. course ≡ course_of draws.now schedule.now) }
+    ensures course { IfOk result (λ course. course ≡ course_of draws.now schedule.now) }
+    ensures many { IfErr result (λ e. e ≡ TooManyEvents → HasTooManyEvents (course_of draws.now schedule.now)) }
 {
     let lines = schedule.as_slice();
     let course = Course::begin(alloc, nodes_of(lines))?;
@@ -158,9 +165,10 @@ pub fn ended(
     schedule: &Schedule,
     draws: &[Option<Drawn>],
     settle: bool,
-) -> Result<Course, AllocError>
+) -> Result<Course, RunError>
     requires { IsReplayable schedule.now }
-    ensures { IfOk result (λ course. course ≡ course_with settle draws.now schedule.now) }
+    ensures course { IfOk result (λ course. course ≡ course_with settle draws.now schedule.now) }
+    ensures many { IfErr result (λ e. e ≡ TooManyEvents → HasTooManyEvents (course_with settle draws.now schedule.now)) }
 {
     let course = ran(alloc, schedule, draws)?;
     if settle {
@@ -187,8 +195,11 @@ fn summed(alloc: Global, seed: u64, steps: u16) -> Result<Lines, AllocError>
 {
     let schedule = made(alloc, seed, steps)?;
     let draws = quiet(alloc, schedule.as_slice())?;
-    let course = ran(alloc, &schedule, draws.as_slice())?;
-    course.summed(alloc, steps)
+    match ran(alloc, &schedule, draws.as_slice()) {
+        Ok(course) => course.summed(alloc, steps),
+        Err(RunError::NoMemory) => Err(AllocError),
+        Err(RunError::TooManyEvents) => unreachable!(),
+    }
 }
 
 /// How the schedule of a seed, of at most 9,999 lines, comes out, on one line: how many messages there were, and how many
