@@ -17,10 +17,10 @@ pub is_course : (options : Options) (all : List Line) (draws : List (Option Draw
 is_course options all draws c are is = record { draws = draws; are = are; is = is }
 
 pub is_report : (options : Options) (all : List Line) (c : Course) (text : List ℕ) (net : Seen) → IsCourseOf options all c → text ≡ shown options.bytes (map mail_of net.letters) (whole c)
-    → IsNetRun (length c.world.nodes) c.world c.events net → IsNetReport options all text net
+    → IsNetRun (length c.world.nodes) c.world c.events c.raws net → IsNetReport options all text net
 is_report options all c text net of is run = record { course = c; of = of; is = is; run = run }
 
-pub has_no_room : (options : Options) (all : List Line) (c : Course) (count : ℕ) → IsCourseOf options all c → IsNetFull count c.events → HasNoRoom options all
+pub has_no_room : (options : Options) (all : List Line) (c : Course) (count : ℕ) → IsCourseOf options all c → IsNetFull count c.events c.raws → HasNoRoom options all
 has_no_room options all c count of full = record { course = c; of = of; count = count; full = full }
 
 pub takes_too_many : (options : Options) (all : List Line) (draws : List (Option Drawn)) → AreDrawn all draws → HasTooManyEvents (course_with options.settle draws all)

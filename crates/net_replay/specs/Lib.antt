@@ -1,3 +1,4 @@
 pub mod MessageBytes
 pub mod NetRuns
 pub mod NetReports
+pub mod ArmedCalls

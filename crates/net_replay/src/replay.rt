@@ -10,7 +10,7 @@ ghost use Rattle.replay_cmd.specs.Laws.{ComesToRest, IsReplayable, IsSafe};
 ghost use Rattle.replay_cmd.specs.ReportOf.{nodes_of, whole, world_with};
 ghost use Rattle.settlement.specs.declared.run_error.RunError.TheVariants as run_errors;
 
-use crate::followed::{followed, refused_bytes};
+use crate::followed::followed;
 use crate::message_bytes::shown;
 use crate::replay_error::ReplayError;
 use memory_net::letter::Letter;
@@ -33,23 +33,15 @@ pub struct Replayed {
     pub net: Net,
 }
 
-/// How a schedule comes out, and the bytes that its lines bring to nodes, where these refuse them.
-#[derive(Drop)]
-struct Played {
-    course: Course,
-    raws: Vec<Vec<u8>>,
-}
-
 #[tactic(auto, using(crate::proofs::ReportedNets::is_course, crate::proofs::ReportedNets::takes_too_many))]
-fn play(alloc: Global, schedule: &Schedule, options: Options) -> Result<Played, RunError>
+fn play(alloc: Global, schedule: &Schedule, options: Options) -> Result<Course, RunError>
     requires { IsReplayable schedule.now }
     ensures many { IfErr result (λ e. e ≡ run_errors.TooManyEvents → TakesTooManyEvents options schedule.now) }
-    ensures course { IfOk result (λ played. IsCourseOf options schedule.now played.course) }
+    ensures course { IfOk result (IsCourseOf options schedule.now) }
 {
     let draws = draw_all(alloc, schedule.as_slice())?;
     let course = ended(alloc, schedule, draws.as_slice(), options.settle)?;
-    let raws = refused_bytes(alloc, schedule.as_slice(), draws.as_slice())?;
-    Ok(Played { course, raws })
+    Ok(course)
 }
 
 /// What is printed of a course whose messages are these letters.
@@ -72,12 +64,12 @@ fn with_nodes(alloc: Global, schedule: &Schedule, options: Options) -> Result<Re
     ensures full { IfErr result (λ e. e ≡ Full → HasNoRoom options schedule.now) }
     ensures many { IfErr result (λ e. e ≡ TooManyEvents → TakesTooManyEvents options schedule.now) }
 {
-    let Played { course, raws } = match play(alloc, schedule, options) {
-        Ok(played) => played,
+    let course = match play(alloc, schedule, options) {
+        Ok(course) => course,
         Err(RunError::NoMemory) => return Err(ReplayError::NoMemory),
         Err(RunError::TooManyEvents) => return Err(ReplayError::TooManyEvents),
     };
-    let net = match followed(alloc, &course, raws.as_slice()) {
+    let net = match followed(alloc, &course) {
         Ok(net) => net,
         Err(Fault::NoMemory) => return Err(ReplayError::NoMemory),
         Err(Fault::Full) => return Err(ReplayError::Full),

@@ -160,7 +160,7 @@ up_count (suc left) n c = omega (arith, up_count left (n + 1) (happens None (up 
 
 few_made : (seed steps : ℕ) → steps ≤ 9999 → HasTooManyEvents (course_of (quiet (made seed steps)) (made seed steps)) → ⊥
 few_made seed steps h many =
-    omega (arith, h, many, all_count steps seed (begun 4), up_count 4 1 (record { world = opening (example_hosts 4); events = []; delivered = []; armed = nobody_armed; text = [] }))
+    omega (arith, h, many, all_count steps seed (begun 4), up_count 4 1 (record { world = opening (example_hosts 4); events = []; delivered = []; armed = nobody_armed; raws = []; text = [] }))
 
 pub made_few : (seed steps : ℕ) (draws : List (Option Drawn)) (all : List Line) → all ≡ made seed steps → draws ≡ quiet all → steps ≤ 9999
     → HasTooManyEvents (course_of draws all) → ⊥

@@ -7,6 +7,7 @@ use Rattle.at_model.specs.World.{Crash, World, WorldEvent, node_of, nth, opening
 use Rattle.raw_requests.specs.declared.Drawn.{Drawn}
 use Rattle.raw_requests.specs.declared.Drawn.TheVariants as drawns
 use Rattle.schedules.specs.Generator.{made}
+use Rattle.schedules.specs.Values.{bytes_in}
 use Rattle.schedules.specs.declared.line.Line.{Line}
 use Rattle.schedules.specs.declared.line.Line.TheVariants as lines
 use Rattle.world_laws.specs.Firsts.{first_records}
@@ -14,7 +15,7 @@ use Rattle.world_laws.specs.Runs.{incarnation_at}
 use Rattle.replay_cmd.specs.declared.fault.Armed.{Armed}
 use Rattle.replay_cmd.specs.Deliveries.{lowest, yes_at}
 use Rattle.replay_cmd.specs.Faults.{raw_at, still_armed, struck, struck_line}
-use Rattle.replay_cmd.specs.ReportOf.{Course, all_happen, all_taken, all_up, armed_at, begun, comes, comes_behind_line, comes_by_line, comes_to, delivered_to, delivers_lowest, delivers_where, flushes, happens, injects_where, nobody_armed, nodes_of, raw_comes, receiver_in, taken, world_of}
+use Rattle.replay_cmd.specs.ReportOf.{Course, all_happen, all_taken, all_up, armed_at, begun, brings, comes, comes_behind_line, comes_by_line, comes_to, delivered_to, delivers_lowest, delivers_where, flushes, happens, injects_where, nobody_armed, nodes_of, raw_comes, receiver_in, taken, world_of}
 use Rattle.replay_cmd.specs.Laws.{IsOfRun, IsReplayable}
 
 run_append : (w : World) (es : List WorldEvent) (e : WorldEvent) → run_on w (es ++ e ∷ []) ≡ world_step (run_on w es) e
@@ -53,10 +54,10 @@ module _ (P : World → List WorldEvent → Type 0) (step : (w : World) (es : Li
       at false = step c.world c.events (struck a (first_records c.world (raw_at n)) (raw_at n)) r
       at true = behind (still_armed a (a.call - 1))
 
-  inject_on : (d : Option Drawn) (n : ℕ) (c : Course) → Holds c → Holds (injects_where d n c)
-  inject_on None n c r = r
-  inject_on (Some drawns.Forged) n c r = r
-  inject_on (Some (drawns.Refused s waits)) n c r = raw_on (armed_at n c.armed) waits s n c r
+  inject_on : (d : Option Drawn) (bytes : List ℕ) (n : ℕ) (c : Course) → Holds c → Holds (injects_where d bytes n c)
+  inject_on None bytes n c r = r
+  inject_on (Some drawns.Forged) bytes n c r = r
+  inject_on (Some (drawns.Refused s waits)) bytes n c r = raw_on (armed_at n c.armed) waits s n (brings bytes c) r
 
   deliver_on : (k : ℕ) (receiver : Option (Option ℕ)) (c : Course) → Holds c → Holds (delivered_to k receiver c)
   deliver_on k None c r = r
@@ -85,7 +86,7 @@ module _ (P : World → List WorldEvent → Type 0) (step : (w : World) (es : Li
   take_on d (lines.Up n) c r = comes_on (up n) c r
   take_on d (lines.Stop n call left) c r = r
   take_on d (lines.Fail n call) c r = r
-  take_on d (lines.Inject n digits) c r = inject_on d n c r
+  take_on d (lines.Inject n digits) c r = inject_on d (bytes_in digits) n c r
 
   pub all_on : (draws : List (Option Drawn)) (all : List Line) (c : Course) → Holds c → Holds (all_taken draws all c)
   all_on draws [] c r = r
@@ -110,7 +111,7 @@ run_step count w es e r = step_on count w e r
 pub report_run : (draws : List (Option Drawn)) (all : List Line) → IsOfRun (nodes_of all) (world_of draws all)
 report_run draws all =
     all_on (OfRun (nodes_of all)) (run_step (nodes_of all)) draws all (begun (nodes_of all))
-    (up_on (OfRun (nodes_of all)) (run_step (nodes_of all)) (nodes_of all) 1 (record { world = opening (example_hosts (nodes_of all)); events = []; delivered = []; armed = nobody_armed; text = [] })
+    (up_on (OfRun (nodes_of all)) (run_step (nodes_of all)) (nodes_of all) 1 (record { world = opening (example_hosts (nodes_of all)); events = []; delivered = []; armed = nobody_armed; raws = []; text = [] })
     (record { events = []; run = refl }))
 
 -- what is made of a seed may be replayed

@@ -12,7 +12,7 @@ ghost use Rattle.replay_cmd.specs.Deliveries.{lowest, yes_at};
 ghost use Rattle.replay_cmd.specs.EventCounts.{HasTooManyEvents};
 ghost use Rattle.replay_cmd.specs.Faults.{raw_at, struck_line};
 ghost use Rattle.replay_cmd.specs.Lines.{forged_line, no_message_line};
-ghost use Rattle.replay_cmd.specs.ReportOf.{all_happen, all_up, comes, comes_behind_line, comes_by_line, comes_to, comes_to_rest, delivers, effect_lines, flushes, goes_to, happens, happens_so, injects, line_before, line_behind, behind_of, meets, meets_line, raw_comes, armed_at, nobody_armed, printed, receiver_in, request_result, start_result, step_lines, summed, whole, with_armed, begun};
+ghost use Rattle.replay_cmd.specs.ReportOf.{all_happen, all_up, brings, comes, comes_behind_line, comes_by_line, comes_to, comes_to_rest, delivers, effect_lines, flushes, goes_to, happens, happens_so, injects, line_before, line_behind, behind_of, meets, meets_line, raw_comes, armed_at, nobody_armed, printed, receiver_in, request_result, start_result, step_lines, summed, whole, with_armed, begun};
 
 use crate::armed_calls::{is_stop, strike};
 use crate::arms::{Arms, known_rest, still_armed};
@@ -20,6 +20,7 @@ use crate::deliveries::Delivered;
 use crate::endings::{push_ended, push_summed};
 use crate::fault::{Armed, Fault};
 use crate::lines::{Lines, Started};
+use crate::raw_bytes::RawBytes;
 use crate::steps::{outcome_of, push_effects, push_steps, started_by, status_in};
 use at_base::event::Local;
 use at_base::outs::Effects;
@@ -42,6 +43,8 @@ pub struct Course {
     world: World,
     delivered: Delivered,
     armed: Arms,
+    /// What the events of raw bytes brought, in order.
+    raws: Vec<RawBytes>,
     lines: Lines,
     /// For each event so far, which call of its node was armed, where that call came in it.
     met: Vec<Option<Armed>>,
@@ -55,7 +58,7 @@ impl Model for Course {
 
     ghost Value = { Known };
 
-    ghost view = { λ c. record { world = world_of c.world; events = map event_of c.world.events; delivered = c.delivered; armed = c.armed; text = c.lines } };
+    ghost view = { λ c. record { world = world_of c.world; events = map event_of c.world.events; delivered = c.delivered; armed = c.armed; raws = c.raws.items; text = c.lines } };
 }
 
 #[tactic(auto, using(crate::proofs::Loops::one_more))]
@@ -324,12 +327,13 @@ impl Course {
     /// A world of so many nodes, each of which is down.
     fn opening(alloc: Global, count: u8) -> Result<Course, AllocError>
         requires { (1 ≤ count) × (count ≤ 8) }
-        ensures { IfOk result (λ c. c ≡ record { world = opening (example_hosts count); events = []; delivered = []; armed = nobody_armed; text = [] }) }
+        ensures { IfOk result (λ c. c ≡ record { world = opening (example_hosts count); events = []; delivered = []; armed = nobody_armed; raws = []; text = [] }) }
     {
         Ok(Course {
             world: opened(alloc, count)?,
             delivered: Delivered::new(alloc),
             armed: Arms::new(alloc)?,
+            raws: Vec::new(alloc),
             lines: Lines::new(alloc),
             met: Vec::new(alloc),
         })
@@ -352,6 +356,7 @@ impl Course {
             world,
             delivered,
             armed,
+            raws,
             mut lines,
             mut met,
         } = self;
@@ -373,6 +378,7 @@ impl Course {
             world: stepped.world,
             delivered,
             armed,
+            raws,
             lines,
             met,
         };
@@ -558,14 +564,32 @@ impl Course {
     }
 
     /// Bytes that draw this come to a node, where they are no message and ask for nothing.
-    pub fn inject(self, alloc: Global, drawn: Drawn, node: u8) -> Result<Course, RunError>
-        ensures course { IfOk result (λ c. c ≡ injects drawn node self) }
-        ensures many { IfErr result (λ e. e ≡ TooManyEvents → HasTooManyEvents (injects drawn node self)) }
+    pub fn inject(
+        self,
+        alloc: Global,
+        drawn: Drawn,
+        bytes: RawBytes,
+        node: u8,
+    ) -> Result<Course, RunError>
+        ensures course { IfOk result (λ c. c ≡ injects drawn bytes node self) }
+        ensures many { IfErr result (λ e. e ≡ TooManyEvents → HasTooManyEvents (injects drawn bytes node self)) }
     {
         match drawn {
             Drawn::Forged => Ok(self.forge(alloc, node)?),
-            Drawn::Refused { status, waits } => self.refuse(alloc, waits, status, node),
+            Drawn::Refused { status, waits } => {
+                let course = self.bring(bytes)?;
+                course.refuse(alloc, waits, status, node)
+            }
         }
+    }
+
+    /// The next raw bytes.
+    fn bring(self, bytes: RawBytes) -> Result<Course, AllocError>
+        ensures { IfOk result (λ c. c ≡ brings bytes self) }
+    {
+        let mut course = self;
+        course.raws.push(bytes)?;
+        Ok(course)
     }
 
     /// An event that a line asks for.
@@ -750,6 +774,13 @@ impl Course {
         self.met.as_slice()
     }
 
+    /// What the events of raw bytes brought, in order.
+    pub fn raws(&self) -> &[RawBytes]
+        ensures { result.now ≡ self.now.raws }
+    {
+        self.raws.as_slice()
+    }
+
     /// The messages that were posted, in order.
     pub fn all_posted(&self) -> &[Posted]
         ensures { result.now ≡ self.now.world.posted }
@@ -765,6 +796,7 @@ impl Course {
             world,
             delivered: _delivered,
             armed: _armed,
+            raws: _raws,
             mut lines,
             met: _met,
         } = self;

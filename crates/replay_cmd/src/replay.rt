@@ -8,17 +8,20 @@ ghost use Rattle.replay_cmd.specs.EventCounts.{HasTooManyEvents};
 ghost use Rattle.replay_cmd.specs.Laws.{IsReplayable, IsSafe};
 ghost use Rattle.replay_cmd.specs.ReportOf.{all_taken, course_of, course_with, injects_where, nodes_of, summary_of, taken, world_made};
 ghost use Rattle.schedules.specs.Generator.{made};
+ghost use Rattle.schedules.specs.Values.{bytes_in};
 
 use crate::course::Course;
 use crate::draws::quiet;
 use crate::fault::{Armed, Fault};
 use crate::laws::reports_are_safe;
 use crate::lines::Lines;
+use crate::raw_bytes::RawBytes;
 use crate::requests::{begin, interpose, work};
 use at_base::event::Local;
 use raw_requests::Drawn;
 use schedules::generator::make;
 use schedules::line::{Leaves, Line, Schedule};
+use schedules::values::bytes_in;
 use settlement::run_error::RunError;
 use std::alloc::{AllocError, Global};
 
@@ -42,18 +45,22 @@ fn failure(call: u32) -> Armed
     }
 }
 
-/// Bytes come to a node, which draw this, where they were read.
+/// Bytes come to a node, in hexadecimal, which draw this, where they were read.
 fn inject(
     course: Course,
     alloc: Global,
     drawn: Option<Drawn>,
+    digits: &str,
     node: u8,
 ) -> Result<Course, RunError>
-    ensures course { IfOk result (λ c. c ≡ injects_where drawn node course) }
-    ensures many { IfErr result (λ e. e ≡ TooManyEvents → HasTooManyEvents (injects_where drawn node course)) }
+    ensures course { IfOk result (λ c. c ≡ injects_where drawn (bytes_in digits.now) node course) }
+    ensures many { IfErr result (λ e. e ≡ TooManyEvents → HasTooManyEvents (injects_where drawn (bytes_in digits.now) node course)) }
 {
     match drawn {
-        Some(drawn) => course.inject(alloc, drawn, node),
+        Some(drawn) => {
+            let bytes = RawBytes::new(bytes_in(alloc, digits)?);
+            course.inject(alloc, drawn, bytes, node)
+        }
         None => Ok(course),
     }
 }
@@ -116,7 +123,7 @@ fn take_line(
         Line::Up { node } => course.up(alloc, *node),
         Line::Stop { node, call, leaves } => Ok(course.arm(*node, Some(stop(*call, *leaves)))),
         Line::Fail { node, call } => Ok(course.arm(*node, Some(failure(*call)))),
-        Line::Inject { node, .. } => inject(course, alloc, drawn, *node),
+        Line::Inject { node, digits } => inject(course, alloc, drawn, digits.as_str(), *node),
     }
 }
 
