@@ -7,14 +7,14 @@ use Rattle.site_model.specs.Counts.{RisesBy}
 use Rattle.site_model.specs.Source.{IsWhole}
 use Rattle.envelope_cmd.specs.Output.{Output, accepted, refused}
 use Rattle.mirrored_nets.specs.Seen.{Seen}
-use Rattle.net_replay.specs.NetReports.{HasNoRoom, IsNetReport, TakesTooManyEvents}
+use Rattle.net_replay.specs.NetReports.{HasNoRoom, IsNetReport}
 use Rattle.command_line.specs.Jobs.{Filter}
 use Rattle.replay_cmd.specs.declared.options.Options.{Options}
 use Rattle.replay_cmd.specs.Laws.{ReadIsReplayable, ReportsAreSafe, ReportsComeToRest}
 use Rattle.schedules.specs.Schedules.{schedule_of}
 use Rattle.schedules.specs.declared.line.BadLine.{BadLine}
 use Rattle.schedules.specs.declared.line.Line.{Line}
-use Rattle.command_line.specs.Reports.{FindsNoRoom, FindsTooManyEvents, HasNoRoomFor, HasTooManyEventsFor, IsCut, IsDone, IsReplayOf, IsReplayed, Replays, Reports, bad_line, status_of}
+use Rattle.command_line.specs.Reports.{FindsNoRoom, HasNoRoomFor, IsCut, IsDone, IsReplayOf, IsReplayed, Replays, Reports, bad_line, status_of}
 
 pub on_some : {P Q : List ℕ → Type 0} (left : Option (List ℕ)) → ((input : List ℕ) → P input → Q input) → IfSome left P → IfSome left Q
 on_some None f h = tt
@@ -80,13 +80,6 @@ refuses_so options r bad output e h = subst (λ x. Replays options x output) (sy
 pub finds_so : (options : Options) (r : Result (List Line) BadLine) (lines : List Line) → r ≡ Ok lines → HasNoRoom options lines → FindsNoRoom options r
 finds_so options r lines e h = subst (λ x. FindsNoRoom options x) (sym e) h
 
-pub finds_many_so : (options : Options) (r : Result (List Line) BadLine) (lines : List Line) → r ≡ Ok lines → TakesTooManyEvents options lines → FindsTooManyEvents options r
-finds_many_so options r lines e h = subst (λ x. FindsTooManyEvents options x) (sym e) h
-
 pub none_given : (left : Option (List ℕ)) (before now : ℕ) (bytes told : List ℕ) (job : Filter) → IsWhole left before now bytes → told ≡ bytes → HasNoRoomFor job told → IfSome left (HasNoRoomFor job)
 none_given left before now bytes told job whole t none =
     on_some {P = λ input. bytes ≡ input} {Q = λ input. HasNoRoomFor job input} left (λ input f. subst (HasNoRoomFor job) (t ∙ f) none) whole.all
-
-pub many_given : (left : Option (List ℕ)) (before now : ℕ) (bytes told : List ℕ) (job : Filter) → IsWhole left before now bytes → told ≡ bytes → HasTooManyEventsFor job told → IfSome left (HasTooManyEventsFor job)
-many_given left before now bytes told job whole t many =
-    on_some {P = λ input. bytes ≡ input} {Q = λ input. HasTooManyEventsFor job input} left (λ input f. subst (HasTooManyEventsFor job) (t ∙ f) many) whole.all

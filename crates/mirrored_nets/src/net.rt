@@ -7,7 +7,7 @@ ghost use Rattle.memory_net.specs.declared.host.Host.{Host};
 ghost use Rattle.world_laws.specs.Events.{event_of, input_of};
 ghost use Rattle.mirrored_nets.specs.Goings.{IsBrought, IsTick, ms_of};
 ghost use Rattle.mirrored_nets.specs.Mirrors.{Mirrors};
-ghost use Rattle.mirrored_nets.specs.NetSteps.{IsGiven, IsUnstarted, NetMove, NetStep};
+ghost use Rattle.mirrored_nets.specs.NetSteps.{IsUnstarted, NetMove, NetStep};
 ghost use Rattle.mirrored_nets.specs.Rooms.{HasRoomAt, IsFullAt};
 ghost use Rattle.mirrored_nets.specs.Started.{Started};
 ghost use Rattle.mirrored_nets.specs.declared.fault.Fault.TheVariants.{Full};
@@ -112,8 +112,7 @@ fn tick(alloc: Global) -> Result<Brought, Unlike>
 
 /// Bytes that are refused.
 fn refused(alloc: Global, raw: &[u8]) -> Result<Brought, Unlike>
-    ensures brought { IfOk result (λ b. IsBrought [] 0 Raw b.lines b.bytes.items) }
-    ensures given { IfOk result (λ b. b.bytes.items ≡ raw.now) }
+    ensures { IfOk result (λ b. IsBrought [] 0 Raw b.lines b.bytes.items) }
 {
     match draw(alloc, raw)? {
         Drawn::Refused { waits, .. } => Ok(Brought {
@@ -132,8 +131,7 @@ fn brought_by(
     input: Input,
     raw: &[u8],
 ) -> Result<Brought, Unlike>
-    ensures brought { IfOk result (λ b. IsBrought (map mail_of letters.now) node (input_of input) b.lines b.bytes.items) }
-    ensures given { IfOk result (λ b. IsGiven (input_of input) raw.now b.bytes.items) }
+    ensures { IfOk result (λ b. IsBrought (map mail_of letters.now) node (input_of input) b.lines b.bytes.items) }
 {
     match input {
         Input::Deliver(number) => letter_to(alloc, letters, node, number),
@@ -319,7 +317,7 @@ impl Net {
         raw: &[u8],
     ) -> Result<Net, Unlike>
         requires { HasRoomAt number self.hosts }
-        ensures { IfOk result (NetStep (Turn number (input_of input) fates.now until) raw.now self) }
+        ensures { IfOk result (NetStep (Turn number (input_of input) fates.now until) self) }
     {
         if !is_up(self.hosts.as_slice(), number)? {
             return Ok(self);
@@ -370,7 +368,7 @@ impl Net {
         until: Option<u64>,
     ) -> Result<Net, Unlike>
         requires { HasRoomAt number self.hosts }
-        ensures { IfOk result (NetStep (Ask number local.now fates.now until) [] self) }
+        ensures { IfOk result (NetStep (Ask number local.now fates.now until) self) }
     {
         if !is_up(self.hosts.as_slice(), number)? {
             return Ok(self);
@@ -408,7 +406,7 @@ impl Net {
 
     /// A crash of a node that is up.
     fn crash(self, alloc: Global, number: u8) -> Result<Net, Unlike>
-        ensures { IfOk result (NetStep (Crash number) [] self) }
+        ensures { IfOk result (NetStep (Crash number) self) }
     {
         if !is_up(self.hosts.as_slice(), number)? {
             return Ok(self);
@@ -436,7 +434,7 @@ impl Net {
         landed: bool,
         stop: bool,
     ) -> Result<Net, Unlike>
-        ensures { IfOk result (NetStep (Up number landed stop) [] self) }
+        ensures { IfOk result (NetStep (Up number landed stop) self) }
     {
         if is_up(self.hosts.as_slice(), number)? {
             return Ok(self);
@@ -467,7 +465,7 @@ impl Net {
         raw: &[u8],
     ) -> Result<Net, Unlike>
         requires { HasRoomAt (node_of (event_of event.now)) self.hosts }
-        ensures { IfOk result (NetStep (event_of event.now) raw.now self) }
+        ensures { IfOk result (NetStep (event_of event.now) self) }
     {
         match event {
             WorldEvent::Turn {
@@ -499,7 +497,7 @@ impl Net {
         raw: &[u8],
     ) -> Result<Net, Fault>
         ensures moves { (count : ℕ) (w : World) → count ≤ 8 → Mirrors count self.hosts self.clocks (map mail_of self.letters) w
-            → IfOk result (NetMove count w (event_of event.now) raw.now self) }
+            → IfOk result (NetMove count w (event_of event.now) self) }
         ensures full { IfErr result (λ fault. fault ≡ Full → IsFullAt (node_of (event_of event.now)) self.hosts) }
     {
         nets_mirror();

@@ -1,4 +1,3 @@
 pub mod MessageBytes
 pub mod NetRuns
 pub mod NetReports
-pub mod ArmedCalls

@@ -1,6 +1,6 @@
 -- A run of a world, done to nodes on machines in memory.
-use Rattle.std.specs.Prelude.{ℕ, List, [], ◌∷◌, ◌++◌, ◌≡◌, Bool, true, false, drop, if◌then◌else◌, map}
-use Rattle.at_model.specs.World.{Raw, Turn, World, WorldEvent, example_hosts, node_of, opening, run_of, world_step}
+use Rattle.std.specs.Prelude.{ℕ, List, [], ◌∷◌, ◌++◌, ◌≡◌, map}
+use Rattle.at_model.specs.World.{World, WorldEvent, example_hosts, node_of, opening, run_of, world_step}
 use Rattle.memory_net.specs.Mails.{mail_of}
 use Rattle.mirrored_nets.specs.Mirrors.{Mirrors}
 use Rattle.mirrored_nets.specs.NetSteps.{IsUnstarted, NetMove}
@@ -10,46 +10,32 @@ use Rattle.mirrored_nets.specs.Seen.{Seen}
 abbrev pub MirrorsAt : ℕ → Seen → World → Type 0
 MirrorsAt count net w = Mirrors count net.hosts net.clocks (map mail_of net.letters) w
 
--- it brings raw bytes
-abbrev pub is_raw : WorldEvent → Bool
-is_raw (Turn n Raw fates until) = true
-is_raw other = false
-
--- the first of these bytes, and those that an event leaves
-abbrev pub first_of : List (List ℕ) → List ℕ
-first_of [] = []
-first_of (raw ∷ rest) = raw
-
-abbrev pub left_by : WorldEvent → List (List ℕ) → List (List ℕ)
-left_by e raws = if is_raw e then drop 1 raws else raws
-
--- These events were done to this net one after another, each as the call of a node on its machine, and left that one; raw bytes that they bring
--- are the next of these. Each net on the way mirrors its world, and answers what it says.
-abbrev pub NetRun : (count : ℕ) → Seen → World → List WorldEvent → List (List ℕ) → Seen → Type 0
-NetRun count net w [] raws last = MirrorsAt count net w × (last ≡ net)
-NetRun count net w (e ∷ es) raws last =
-    MirrorsAt count net w × ((next : Seen) × NetMove count w e (first_of raws) net next × NetRun count next (world_step w e) es (left_by e raws) last)
+-- These events were done to this net one after another, each as the call of a node on its machine, and left that one; each net on the way
+-- mirrors its world, and what its calls give is what that says.
+abbrev pub NetRun : (count : ℕ) → Seen → World → List WorldEvent → Seen → Type 0
+NetRun count net w [] last = MirrorsAt count net w × (last ≡ net)
+NetRun count net w (e ∷ es) last = MirrorsAt count net w × ((next : Seen) × NetMove count w e net next × NetRun count next (world_step w e) es last)
 
 -- When those of these events were done that come before it, one comes to a node whose journal has no room for another record.
-pub record FillsUp (count : ℕ) (net : Seen) (w : World) (es : List WorldEvent) (raws : List (List ℕ)) : Type 0 where
+pub record FillsUp (count : ℕ) (net : Seen) (w : World) (es : List WorldEvent) : Type 0 where
   pub front : List WorldEvent
   pub next : WorldEvent
   pub rest : List WorldEvent
   pub all : es ≡ front ++ next ∷ rest
   pub last : Seen
-  pub run : NetRun count net w front raws last
+  pub run : NetRun count net w front last
   pub full : IsFullAt (node_of next) last.hosts
 
 -- From so many nodes, none of which had started, these events lead to that net; and the world to which they lead is the one that it mirrors.
-pub record IsNetRun (count : ℕ) (w : World) (events : List WorldEvent) (raws : List (List ℕ)) (last : Seen) : Type 0 where
+pub record IsNetRun (count : ℕ) (w : World) (events : List WorldEvent) (last : Seen) : Type 0 where
   pub is : w ≡ run_of (example_hosts count) events
   pub first : Seen
   pub unstarted : IsUnstarted count first
-  pub run : NetRun count first (opening (example_hosts count)) events raws last
+  pub run : NetRun count first (opening (example_hosts count)) events last
   pub mirrors : MirrorsAt count last w
 
 -- the same of events that come to no end, since a journal has no room
-pub record IsNetFull (count : ℕ) (events : List WorldEvent) (raws : List (List ℕ)) : Type 0 where
+pub record IsNetFull (count : ℕ) (events : List WorldEvent) : Type 0 where
   pub first : Seen
   pub unstarted : IsUnstarted count first
-  pub fills : FillsUp count first (opening (example_hosts count)) events raws
+  pub fills : FillsUp count first (opening (example_hosts count)) events

@@ -4,4 +4,3 @@
 mod followed;
 mod message_bytes;
 pub mod replay;
-pub mod replay_error;

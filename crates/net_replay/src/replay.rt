@@ -2,17 +2,15 @@
 
 ghost use Rattle.std.specs.Prelude.{◌≡◌, IfErr, IfOk, List, Option, map};
 ghost use Rattle.memory_net.specs.Mails.{mail_of};
+ghost use Rattle.mirrored_nets.specs.declared.fault.Fault.TheVariants.{Full};
 ghost use Rattle.net_replay.specs.MessageBytes.{shown};
-ghost use Rattle.net_replay.specs.NetReports.{HasNoRoom, IsCourseOf, IsNetReport, TakesTooManyEvents};
-ghost use Rattle.net_replay.specs.declared.replay_error.ReplayError.TheVariants.{Full, TooManyEvents};
+ghost use Rattle.net_replay.specs.NetReports.{HasNoRoom, IsCourseOf, IsNetReport};
 ghost use Rattle.raw_requests.specs.declared.Drawn.{Drawn as Drew};
 ghost use Rattle.replay_cmd.specs.Laws.{ComesToRest, IsReplayable, IsSafe};
 ghost use Rattle.replay_cmd.specs.ReportOf.{nodes_of, whole, world_with};
-ghost use Rattle.settlement.specs.declared.run_error.RunError.TheVariants as run_errors;
 
-use crate::followed::followed;
+use crate::followed::{followed, refused_bytes};
 use crate::message_bytes::shown;
-use crate::replay_error::ReplayError;
 use memory_net::letter::Letter;
 use mirrored_nets::fault::Fault;
 use mirrored_nets::net::Net;
@@ -23,7 +21,6 @@ use replay_cmd::lines::Lines;
 use replay_cmd::options::Options;
 use replay_cmd::replay::ended;
 use schedules::line::Schedule;
-use settlement::run_error::RunError;
 use std::alloc::{AllocError, Global};
 
 /// A report, and the nodes that it is of, as they are at its end.
@@ -33,15 +30,22 @@ pub struct Replayed {
     pub net: Net,
 }
 
-#[tactic(auto, using(crate::proofs::ReportedNets::is_course, crate::proofs::ReportedNets::takes_too_many))]
-fn play(alloc: Global, schedule: &Schedule, options: Options) -> Result<Course, RunError>
+/// How a schedule comes out, and the bytes that its lines bring to nodes, where these refuse them.
+#[derive(Drop)]
+struct Played {
+    course: Course,
+    raws: Vec<Vec<u8>>,
+}
+
+#[tactic(auto, using(crate::proofs::ReportedNets::is_course))]
+fn play(alloc: Global, schedule: &Schedule, options: Options) -> Result<Played, AllocError>
     requires { IsReplayable schedule.now }
-    ensures many { IfErr result (λ e. e ≡ run_errors.TooManyEvents → TakesTooManyEvents options schedule.now) }
-    ensures course { IfOk result (IsCourseOf options schedule.now) }
+    ensures { IfOk result (λ played. IsCourseOf options schedule.now played.course) }
 {
     let draws = draw_all(alloc, schedule.as_slice())?;
     let course = ended(alloc, schedule, draws.as_slice(), options.settle)?;
-    Ok(course)
+    let raws = refused_bytes(alloc, schedule.as_slice(), draws.as_slice())?;
+    Ok(Played { course, raws })
 }
 
 /// What is printed of a course whose messages are these letters.
@@ -58,26 +62,22 @@ fn print(
 }
 
 #[tactic(auto, using(crate::proofs::ReportedNets::is_report, crate::proofs::ReportedNets::has_no_room))]
-fn with_nodes(alloc: Global, schedule: &Schedule, options: Options) -> Result<Replayed, ReplayError>
+fn with_nodes(alloc: Global, schedule: &Schedule, options: Options) -> Result<Replayed, Fault>
     requires { IsReplayable schedule.now }
     ensures report { IfOk result (λ r. IsNetReport options schedule.now r.lines r.net) }
-    ensures full { IfErr result (λ e. e ≡ Full → HasNoRoom options schedule.now) }
-    ensures many { IfErr result (λ e. e ≡ TooManyEvents → TakesTooManyEvents options schedule.now) }
+    ensures full { IfErr result (λ fault. fault ≡ Full → HasNoRoom options schedule.now) }
 {
-    let course = match play(alloc, schedule, options) {
-        Ok(course) => course,
-        Err(RunError::NoMemory) => return Err(ReplayError::NoMemory),
-        Err(RunError::TooManyEvents) => return Err(ReplayError::TooManyEvents),
+    let Ok(played) = play(alloc, schedule, options) else {
+        return Err(Fault::NoMemory);
     };
-    let net = match followed(alloc, &course) {
+    let Played { course, raws } = played;
+    let net = match followed(alloc, &course, raws.as_slice()) {
         Ok(net) => net,
-        Err(Fault::NoMemory) => return Err(ReplayError::NoMemory),
-        Err(Fault::Full) => return Err(ReplayError::Full),
-        Err(Fault::Apart) => return Err(ReplayError::Apart),
+        Err(fault) => return Err(fault),
     };
     match print(alloc, course, net.letters(), options.bytes) {
         Ok(lines) => Ok(Replayed { lines, net }),
-        Err(_) => Err(ReplayError::NoMemory),
+        Err(_) => Err(Fault::NoMemory),
     }
 }
 
@@ -87,11 +87,10 @@ fn with_nodes(alloc: Global, schedule: &Schedule, options: Options) -> Result<Re
 ///
 /// With `settle` the events that bring the world to rest happen behind the last line, and are reported as others are. Behind them
 /// nobody is in doubt (`rests`). With `bytes` the bytes by which each message was posted stand behind its line, in hexadecimal.
-pub fn replay(alloc: Global, schedule: &Schedule, options: Options) -> Result<Replayed, ReplayError>
+pub fn replay(alloc: Global, schedule: &Schedule, options: Options) -> Result<Replayed, Fault>
     requires { IsReplayable schedule.now }
     ensures report { IfOk result (λ r. IsNetReport options schedule.now r.lines r.net) }
-    ensures full { IfErr result (λ e. e ≡ Full → HasNoRoom options schedule.now) }
-    ensures many { IfErr result (λ e. e ≡ TooManyEvents → TakesTooManyEvents options schedule.now) }
+    ensures full { IfErr result (λ fault. fault ≡ Full → HasNoRoom options schedule.now) }
     ensures safe { (draws : List (Option Drew)) → IsSafe (nodes_of schedule.now) (world_with options.settle draws schedule.now) }
     ensures rests { (draws : List (Option Drew)) → ComesToRest draws schedule.now }
 {

@@ -7,4 +7,3 @@ pub mod ReplayRuns
 mod EventLines
 mod LineDraws
 mod TakenLines
-mod EventCounts

@@ -2,4 +2,3 @@ mod Events
 mod Rounds
 mod SettledWorlds
 mod EventCounts
-mod EventGrowth

@@ -3,6 +3,5 @@
 #![tactic(auto)]
 
 pub mod holdings;
-pub mod run_error;
 pub mod settle;
 mod settling_world;

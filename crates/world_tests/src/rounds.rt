@@ -82,9 +82,7 @@ fn rounds_of(events: &[WorldEvent], nodes: usize) -> Deliveries {
 
 /// How many messages are delivered while a world of nodes that are up comes to rest.
 fn delivered(alloc: Global, world: &World) -> Result<Deliveries, AllocError> {
-    let Ok(events) = settle(alloc, world) else {
-        return Err(AllocError);
-    };
+    let events = settle(alloc, world)?;
     Ok(rounds_of(events.as_slice(), world.count() as usize))
 }
 
@@ -110,9 +108,7 @@ fn one_round_registers_and_commits(rt: HostRuntime) -> Result<(), Fail> {
 fn holds(alloc: Global, leaves: u8) -> Result<bool, AllocError> {
     let script = unregistered(alloc, leaves)?;
     let wanted = u128::from(leaves) + 2;
-    let Ok(risen) = held_once_up(alloc, script.world()) else {
-        return Err(AllocError);
-    };
+    let risen = held_once_up(alloc, script.world())?;
     Ok(risen == wanted && script.world().held() == wanted)
 }
 

@@ -177,9 +177,7 @@ impl Script {
     /// The world comes to rest.
     fn settle(self, alloc: Global) -> Result<Script, AllocError> {
         let mut script = self;
-        let Ok(events) = settle(alloc, &script.world) else {
-            return Err(AllocError);
-        };
+        let events = settle(alloc, &script.world)?;
         for event in events {
             script = script.happen(alloc, event)?;
         }

@@ -6,7 +6,7 @@ use Rattle.settlement.proofs.SettledWorlds.{are_few, rests, settles}
 use Rattle.settlement.proofs.settle.settle.Goals as goal
 
 pub returns-clause-is : goal.returns-clause-is
-returns-clause-is c = settles c.args.world.now (map event_of c.in_ok-events.events.items) c.drains.ensures c.in_ok-events.ensures.is
+returns-clause-is c = settles c.args.world.now (map event_of c.in_ok-events.events.items) c.drains.ensures c.in_ok-events.ensures
 
 pub returns-in_err-events-clause-few : goal.returns-in_err-events-clause-few
 returns-in_err-events-clause-few c = are_few c.args.world.now c.drains.ensures

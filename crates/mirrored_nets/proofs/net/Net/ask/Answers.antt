@@ -1,5 +1,5 @@
 use Rattle.std.proofs.Common.{ap, refl, subst, ◌∙◌, ◌≡◌, length, List, ℕ}
-use Rattle.std.specs.Prelude.{Some, []}
+use Rattle.std.specs.Prelude.{Some}
 use Rattle.at_model.specs.World.{Ask, nth}
 use Rattle.memory_net.specs.declared.host.Host.{Host}
 use Rattle.mirrored_nets.specs.Seen.{Seen}
@@ -30,7 +30,7 @@ pub returns : goal.returns
 returns c =
     let there = c.in_ok-node.ensures.here in
     let clock : nth c.args.number c.self.inside.clocks.items ≡ Some c.in_ok-clock.clock = subst (λ (l : List ℕ). nth c.args.number l ≡ Some c.in_ok-clock.clock) c.as_slice-3.ensures.value c.in_ok-clock.ensures in
-    seen_by (Ask c.args.number c.args.local.now c.args.fates.now c.args.until) [] c.args.self
+    seen_by (Ask c.args.number c.args.local.now c.args.fates.now c.args.until) c.args.self
     (record { hosts = c.put_host.new.hosts.items; clocks = c.self.inside.clocks.items; letters = c.request.new.letters.items }) _ c.self.view_is
     (asks c.args.number c.self.inside.hosts.items c.put_host.new.hosts.items c.self.inside.clocks.items c.self.inside.letters.items there.0 c.in_ok-host.host there.1
     (c.in_ok-put_host.ensures ∙ c.in_ok-node.ensures.place c.in_ok-host.host) c.in_ok-node.node c.in_ok-clock.clock c.in_ok-count.count c.args.local.now c.in_ok-node.site c.set.result

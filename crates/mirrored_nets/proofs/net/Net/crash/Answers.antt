@@ -1,5 +1,4 @@
 use Rattle.std.proofs.Common.{ap, refl, ◌∙◌}
-use Rattle.std.specs.Prelude.{[]}
 use Rattle.at_model.specs.World.{Crash}
 use Rattle.mirrored_nets.specs.Seen.{Seen}
 use Rattle.mirrored_nets.proofs.NetEvents.{crashes, down_serves, rests_down, seen_by, serve_on, up_at}
@@ -7,7 +6,7 @@ use Rattle.mirrored_nets.proofs.net.Net.crash.Goals as goal
 
 pub returns : goal.returns
 returns c =
-    seen_by (Crash c.args.number) [] c.args.self (record { hosts = c.put_host.new.hosts.items; clocks = c.self.inside.clocks.items; letters = c.self.inside.letters.items }) _ c.self.view_is
+    seen_by (Crash c.args.number) c.args.self (record { hosts = c.put_host.new.hosts.items; clocks = c.self.inside.clocks.items; letters = c.self.inside.letters.items }) _ c.self.view_is
     (crashes c.args.number c.self.inside.hosts.items c.put_host.new.hosts.items c.self.inside.clocks.items c.self.inside.letters.items c.in_ok-taken.field-0 c.go_down.result c.in_ok-taken.ensures.here
     (c.in_ok-put_host.ensures ∙ c.in_ok-taken.ensures.place c.go_down.result) c.in_ok-is_up.field-0 _
     (up_at c.self.inside.hosts.items c.as_slice.result.now c.args.number c.in_ok-is_up.field-0 c.as_slice.ensures.value c.in_ok-is_up.ensures) c.if-not-branch.false

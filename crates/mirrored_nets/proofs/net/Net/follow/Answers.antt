@@ -5,7 +5,7 @@ use Rattle.mirrored_nets.proofs.NetEvents.{moves}
 use Rattle.mirrored_nets.proofs.net.Net.follow.Goals as goal
 
 pub returns-in-Ok-clause-moves : goal.returns-in-Ok-clause-moves
-returns-in-Ok-clause-moves c = λ count w few mirrors. moves c.nets_mirror.ensures c.args.self c.in-Ok.net count w few mirrors (event_of c.args.event.now) c.args.raw.now c.in-Ok.ensures
+returns-in-Ok-clause-moves c = λ count w few mirrors. moves c.nets_mirror.ensures c.args.self c.in-Ok.net count w few mirrors (event_of c.args.event.now) c.in-Ok.ensures
 
 pub returns-then-not-has_room-clause-full : goal.returns-then-not-has_room-clause-full
 returns-then-not-has_room-clause-full c = λ is. subst (λ k. IsFullAt k c.args.self.hosts) c.node.ensures (c.has_room.ensures.full c.if-not-has_room.true)

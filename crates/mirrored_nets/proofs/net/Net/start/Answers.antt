@@ -1,5 +1,5 @@
-use Rattle.std.proofs.Common.{ap, refl, subst, ◌∙◌, ◌≡◌, List, ℕ}
-use Rattle.std.specs.Prelude.{Some, []}
+use Rattle.std.proofs.Common.{ap, subst, ◌∙◌, ◌≡◌, List, ℕ}
+use Rattle.std.specs.Prelude.{Some}
 use Rattle.at_model.specs.World.{Up, nth}
 use Rattle.mirrored_nets.specs.Seen.{Seen}
 use Rattle.mirrored_nets.proofs.NetEvents.{rests_up, seen_by, serve_on, started_serves, starts, up_at}
@@ -8,7 +8,7 @@ use Rattle.mirrored_nets.proofs.net.Net.start.Goals as goal
 pub returns : goal.returns
 returns c =
     let clock : nth c.args.number c.self.inside.clocks.items ≡ Some c.in_ok-clock.clock = subst (λ (l : List ℕ). nth c.args.number l ≡ Some c.in_ok-clock.clock) c.as_slice-2.ensures.value c.in_ok-clock.ensures in
-    seen_by (Up c.args.number c.args.landed c.args.stop) [] c.args.self
+    seen_by (Up c.args.number c.args.landed c.args.stop) c.args.self
     (record { hosts = c.put_host.new.hosts.items; clocks = c.self.inside.clocks.items; letters = c.self.inside.letters.items }) _ c.self.view_is
     (starts c.args.number c.self.inside.hosts.items c.put_host.new.hosts.items c.self.inside.clocks.items c.self.inside.letters.items c.in_ok-taken.field-0 c.in_ok-host.host c.in_ok-taken.ensures.here
     (c.in_ok-put_host.ensures ∙ c.in_ok-taken.ensures.place c.in_ok-host.host) c.in_ok-is_up.field-0

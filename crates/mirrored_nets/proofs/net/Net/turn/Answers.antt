@@ -36,15 +36,15 @@ returns c =
     let there = c.in_ok-node.ensures.here in
     let clock : nth c.args.number c.self.inside.clocks.items ≡ Some c.in_ok-clock.clock = subst (λ (l : List ℕ). nth c.args.number l ≡ Some c.in_ok-clock.clock) c.as_slice-3.ensures.value c.in_ok-clock.ensures in
     let brought : IsBrought (map mail_of c.self.inside.letters.items) c.args.number (input_of c.args.input) c.in_ok-brought.brought.lines c.in_ok-brought.brought.bytes.items =
-    subst (λ (l : List Letter). IsBrought (map mail_of l) c.args.number (input_of c.args.input) c.in_ok-brought.brought.lines c.in_ok-brought.brought.bytes.items) c.as_slice-4.ensures.value c.in_ok-brought.ensures.brought in
+    subst (λ (l : List Letter). IsBrought (map mail_of l) c.args.number (input_of c.args.input) c.in_ok-brought.brought.lines c.in_ok-brought.brought.bytes.items) c.as_slice-4.ensures.value c.in_ok-brought.ensures in
     let later : c.in-Some.now ≡ c.in_ok-clock.clock + ms_of (input_of c.args.input) = c.in-Some.ensures.1 ∙ ap (λ k. c.in_ok-clock.clock + k) c.ms_of.ensures in
     let took : TookTurn c.args.number c.in_ok-count.count c.in_ok-brought.brought.lines c.in_ok-brought.brought.bytes.items c.in_ok-node.node c.set.result c.in_ok-host.host (map mail_of c.self.inside.letters.items)
     (map mail_of c.take.new.letters.items) c.args.fates.now c.args.until =
     subst (λ (b : List ℕ). TookTurn c.args.number c.in_ok-count.count c.in_ok-brought.brought.lines b c.in_ok-node.node c.set.result c.in_ok-host.host (map mail_of c.self.inside.letters.items)
     (map mail_of c.take.new.letters.items) c.args.fates.now c.args.until) c.as_slice-5.ensures.value c.in_ok-host.ensures in
-    seen_by (Turn c.args.number (input_of c.args.input) c.args.fates.now c.args.until) c.args.raw.now c.args.self
+    seen_by (Turn c.args.number (input_of c.args.input) c.args.fates.now c.args.until) c.args.self
     (record { hosts = c.put_host.new.hosts.items; clocks = c.put_clock.new.clocks.items; letters = c.take.new.letters.items }) _ c.self.view_is
     (turns c.args.number c.self.inside.hosts.items c.put_host.new.hosts.items c.self.inside.clocks.items c.self.inside.letters.items there.0 c.in_ok-host.host there.1
     (c.in_ok-put_host.ensures ∙ c.in_ok-node.ensures.place c.in_ok-host.host) c.in_ok-node.node c.in_ok-clock.clock c.in_ok-count.count c.in-Some.now c.in_ok-brought.brought.lines (input_of c.args.input)
-    c.in_ok-brought.brought.bytes.items c.args.raw.now c.in_ok-node.site c.set.result c.put_clock.new.clocks.items c.take.new.letters.items c.args.fates.now c.args.until there.2 clock
-    (c.in_ok-count.ensures ∙ ap (λ (l : List Host). length l) c.as_slice-2.ensures.value) brought c.in_ok-brought.ensures.given later there.3 c.set.ensures took c.in_ok-put_clock.ensures)
+    c.in_ok-brought.brought.bytes.items c.in_ok-node.site c.set.result c.put_clock.new.clocks.items c.take.new.letters.items c.args.fates.now c.args.until there.2 clock
+    (c.in_ok-count.ensures ∙ ap (λ (l : List Host). length l) c.as_slice-2.ensures.value) brought later there.3 c.set.ensures took c.in_ok-put_clock.ensures)
