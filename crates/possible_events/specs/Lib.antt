@@ -1,0 +1,2 @@
+pub mod BroughtBytes
+pub mod PossibleEvents
