@@ -20,6 +20,7 @@ use Rattle.site_memory.specs.declared.arm.Fate.TheVariants as fate
 use Rattle.site_memory.specs.declared.device.Device.{Device}
 use Rattle.site_memory.specs.declared.entry.Noted.{Noted}
 use Rattle.site_memory.specs.declared.entry.Noted.TheVariants as noted
+use Rattle.site_memory.specs.declared.links.Links.{Links}
 use Rattle.site_memory.specs.declared.machine.MemSite.{MemSite}
 use Rattle.site_memory.specs.declared.tally.Tally.{Tally}
 
@@ -141,12 +142,12 @@ told_so s a e =
     (f.within, are_facts a.since a.fails (drop a.since (calls_in s.device)) f.are)
 
 -- what it tells of its counts, where one of them rose
-module _ (a b : Option Arming) (t : Tally) where
-  pub on_disk : {x : ℕ} → b ≡ a → counts_of b (record t { disk = x }) ≡ record (counts_of a t) { disk = x }
-  on_disk {x} e = ap (λ z. counts_of z (record t { disk = x })) e
+module _ (a b : Option Arming) (links : Links) (t : Tally) where
+  pub on_disk : {x : ℕ} → b ≡ a → counts_of b links (record t { disk = x }) ≡ record (counts_of a links t) { disk = x }
+  on_disk {x} e = ap (λ z. counts_of z links (record t { disk = x })) e
 
-  pub on_gate : {x : ℕ} → b ≡ a → counts_of b (record t { gate = x }) ≡ record (counts_of a t) { gate = x }
-  on_gate {x} e = ap (λ z. counts_of z (record t { gate = x })) e
+  pub on_gate : {x : ℕ} → b ≡ a → counts_of b links (record t { gate = x }) ≡ record (counts_of a links t) { gate = x }
+  on_gate {x} e = ap (λ z. counts_of z links (record t { gate = x })) e
 
-  pub on_link : {x : ℕ} → b ≡ a → counts_of b (record t { link = x }) ≡ record (counts_of a t) { link = x }
-  on_link {x} e = ap (λ z. counts_of z (record t { link = x })) e
+  pub on_link : {x : ℕ} → b ≡ a → counts_of b links (record t { link = x }) ≡ record (counts_of a links t) { link = x }
+  on_link {x} e = ap (λ z. counts_of z links (record t { link = x })) e

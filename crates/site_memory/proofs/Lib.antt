@@ -6,3 +6,4 @@ pub mod MachineCalls
 pub mod ByteImages
 pub mod ChosenImages
 pub mod ArmedCalls
+pub mod SoundLinks

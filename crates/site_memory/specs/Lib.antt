@@ -8,4 +8,5 @@ pub mod Answers
 pub mod Sites
 pub mod ByteImages
 pub mod Armings
+pub mod SoundLinks
 pub mod ToldCalls

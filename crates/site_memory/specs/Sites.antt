@@ -2,7 +2,7 @@
 use Rattle.std.proofs.Common.{sym, ◌∙◌, ap, subst}
 use Rattle.std.proofs.lemmas.List.{append-nil, length-append}
 use Rattle.std.proofs.Common.{arith}
-use Rattle.std.specs.Prelude.{ℕ, List, Bool, true, Option, Some, None, false, Result, Ok, Err, [], ◌∷◌, ◌≡◌, ◌≢◌, ◌⊎◌, ◌≤◌, ◌++◌, length, drop, map, option_map}
+use Rattle.std.specs.Prelude.{ℕ, List, Bool, true, Option, Some, None, false, Result, Ok, Err, [], ◌∷◌, ◌≡◌, ◌≢◌, ◌⊎◌, ◌≤◌, ◌++◌, cond, length, drop, map, option_map}
 use Rattle.site_model.specs.Told.{Told, Call, Made, Files, Link}
 use Rattle.site_model.specs.Told.Call.{Write, Sync, Post}
 use Rattle.site_model.specs.Site.{Counts}
@@ -15,10 +15,11 @@ use Rattle.site_memory.specs.declared.device.Device.{Device}
 use Rattle.site_memory.specs.declared.entry.Noted.{Noted}
 use Rattle.site_memory.specs.declared.entry.Noted.TheVariants.{Done, Failed, Not}
 use Rattle.site_memory.specs.declared.machine.MemSite.{MemSite}
-use Rattle.site_memory.specs.declared.machine.Names.{Names}
 use Rattle.site_model.specs.declared.site.AttachFailed.{AttachFailed}
 use Rattle.site_model.specs.declared.site.AttachFailed.TheVariants.{Disk, Link as NoLink}
 use Rattle.site_memory.specs.declared.line.Line.{Line}
+use Rattle.site_memory.specs.declared.links.Links.{Links}
+use Rattle.site_memory.specs.declared.links.Names.{Names}
 use Rattle.site_memory.specs.declared.tally.Tally.{Tally}
 use Rattle.site_memory.specs.Answers.{Says}
 use Rattle.site_memory.specs.Devices.{Runs, calls_in, opening_in}
@@ -31,11 +32,13 @@ contents b = b.bytes.items
 abbrev pub link_of : Line → Link
 link_of line = record { open_bytes = drop line.at line.coming.items; waiting = map contents line.waiting.items }
 
-abbrev pub counts_of : Option Arming → Tally → Counts
-counts_of arming t = record { arming = option_map told_arming arming; disk = t.disk; gate = t.gate; accept = t.accept; receive = t.receive; link = t.link; taken = t.taken; closings = t.closings }
+-- It tells of an arming only where none of its links was told to fail.
+abbrev pub counts_of : Option Arming → Links → Tally → Counts
+counts_of arming links t =
+    record { arming = cond links.may_fail None (option_map told_arming arming); disk = t.disk; gate = t.gate; accept = links.accept; receive = links.receive; link = t.link; taken = t.taken; closings = t.closings }
 
 abbrev pub told_of : MemSite → Told
-told_of s = tells (opening_in s.device) (calls_in s.device) (link_of s.line) s.clock (counts_of s.device.arming s.tally)
+told_of s = tells (opening_in s.device) (calls_in s.device) (link_of s.line) s.clock (counts_of s.device.arming s.links s.tally)
 
 pub now_counts : (s : MemSite) (l : List Made) (c : Files) → (told_of s).calls ≡ Some l → (told_of s).images c → (told_of s).past l c
 now_counts s l c is now = (([], append-nil l ∙ sym (same is)), subst (λ z. Image (opening_in s.device) z c) (same is) now) where
@@ -85,10 +88,10 @@ pub record IsNew (s : MemSite) : Type 0 where
   pub calls : calls_in s.device ≡ []
   pub link : link_of s.line ≡ record { open_bytes = []; waiting = [] }
   pub sent : (s.answers.items ≡ []) × (s.posts.items ≡ [])
-  pub names : s.names ≡ None
+  pub links : (s.links.may_fail ≡ false) × (s.links.fail ≡ 0) × (s.links.names ≡ None)
   pub clock : s.clock ≡ 0
-  pub counts : counts_of s.device.arming s.tally ≡ record { arming = None; disk = 0; gate = 0; accept = 0; receive = 0; link = 0; taken = 0; closings = 0 }
-  pub armed : (s.device.arm ≡ Idle) × (s.device.wanted ≡ false) × (s.fail_read ≡ 0) × (s.fail_link ≡ 0)
+  pub counts : counts_of s.device.arming s.links s.tally ≡ record { arming = None; disk = 0; gate = 0; accept = 0; receive = 0; link = 0; taken = 0; closings = 0 }
+  pub armed : (s.device.arm ≡ Idle) × (s.device.wanted ≡ false) × (s.fail_read ≡ 0)
 
 -- nothing but its arm changes
 pub record Same (old new : MemSite) : Type 0 where

@@ -11,6 +11,7 @@ mod file;
 pub mod held_file;
 pub mod laws;
 pub mod line;
+pub mod links;
 pub mod machine;
 pub mod range;
 pub mod site;

@@ -3,15 +3,9 @@
 use crate::bytes::{Bytes, Posted};
 use crate::device::Device;
 use crate::line::Line;
+use crate::links::Links;
 use crate::tally::Tally;
 use std::alloc::Global;
-
-/// The names that a machine was given.
-#[derive(Drop)]
-pub struct Names {
-    pub(crate) journal: Bytes,
-    pub(crate) listen: Bytes,
-}
 
 /// A node's machine in memory, without faults until it is armed.
 ///
@@ -24,9 +18,8 @@ pub struct MemSite {
     pub(crate) line: Line,
     pub(crate) answers: Vec<Bytes>,
     pub(crate) posts: Vec<Posted>,
-    pub(crate) names: Option<Names>,
+    pub(crate) links: Links,
     pub(crate) clock: u64,
     pub(crate) tally: Tally,
     pub(crate) fail_read: u32,
-    pub(crate) fail_link: u32,
 }

@@ -18,7 +18,8 @@ use crate::bytes::{Bytes, Posted};
 use crate::device::Device;
 use crate::entry::{Entry, Noted};
 use crate::line::Line;
-use crate::machine::{MemSite, Names};
+use crate::links::{Links, Names};
+use crate::machine::MemSite;
 use crate::tally::{Tally, answer, falls, one_more};
 use site_model::site::{AttachFailed, Site, Taken};
 use site_model::source::Failed;
@@ -96,19 +97,22 @@ impl MemSite {
             line: Line::new(alloc),
             answers: Vec::new(alloc),
             posts: Vec::new(alloc),
-            names: None,
+            links: Links {
+                may_fail: false,
+                fail: 0,
+                names: None,
+                accept: 0,
+                receive: 0,
+            },
             clock: 0,
             tally: Tally {
                 disk: 0,
                 gate: 0,
-                accept: 0,
-                receive: 0,
                 link: 0,
                 taken: 0,
                 closings: 0,
             },
             fail_read: 0,
-            fail_link: 0,
         }
     }
 
@@ -152,9 +156,12 @@ impl MemSite {
 
     /// The k-th attach, take or receive from now fails, from 1; attach on the listener.
     pub fn fail_link(&mut self, k: u32)
-        ensures { self.new ≡ record self.old { fail_link = k } }
+        ensures fail { (self.new.links.fail ≡ k) × (self.new.links.may_fail ≡ true) }
+        ensures links { (self.new.links.names ≡ self.old.links.names) × (self.new.links.accept ≡ self.old.links.accept) × (self.new.links.receive ≡ self.old.links.receive) }
+        ensures others { self.new ≡ record self.old { links = self.new.links } }
     {
-        self.fail_link = k;
+        self.links.may_fail = true;
+        self.links.fail = k;
     }
 
     /// The clock, in milliseconds.
@@ -209,14 +216,17 @@ impl MemSite {
 
     /// From now on it is attached by these names alone.
     pub fn named(&mut self, journal: &[u8], listen: &[u8]) -> Result<(), AllocError>
-        ensures done { OnOk result (IfSome self.new.names (λ n. (contents n.journal ≡ journal.now) × (contents n.listen ≡ listen.now))) }
-        ensures some { OnOk result (IsSome self.new.names) }
+        ensures done { OnOk result (IfSome self.new.links.names (λ n. (contents n.journal ≡ journal.now) × (contents n.listen ≡ listen.now))) }
+        ensures some { OnOk result (IsSome self.new.links.names) }
+        ensures may_fail { OnOk result (self.new.links.may_fail ≡ true) }
         ensures failed { OnErr result (self.new ≡ self.old) }
-        ensures others { self.new ≡ record self.old { names = self.new.names } }
+        ensures links { (self.new.links.fail ≡ self.old.links.fail) × (self.new.links.accept ≡ self.old.links.accept) × (self.new.links.receive ≡ self.old.links.receive) }
+        ensures others { self.new ≡ record self.old { links = self.new.links } }
     {
         let journal = Bytes::from_slice(self.alloc, journal)?;
         let listen = Bytes::from_slice(self.alloc, listen)?;
-        self.names = Some(Names { journal, listen });
+        self.links.may_fail = true;
+        self.links.names = Some(Names { journal, listen });
         Ok(())
     }
 
@@ -255,6 +265,13 @@ impl MemSite {
         self.tally.disk
     }
 
+    /// How many gates weren't raised.
+    pub fn failed_gates(&self) -> u64
+        ensures { result ≡ self.now.tally.gate }
+    {
+        self.tally.gate
+    }
+
     /// All answers so far, in order.
     pub fn answers(&self) -> &[Bytes]
         ensures { result.now ≡ self.now.answers.items }
@@ -279,16 +296,17 @@ impl Site for MemSite {
 
     fn attach(&mut self, journal: &str, listen: &str) -> Result<(), AttachFailed>
         ensures call { Attaches result (told_of self.old) (told_of self.new) }
-        ensures is { Attached self.old.names (nat_eq self.old.fail_link 1) journal.now listen.now result }
-        ensures next { self.new.fail_link ≡ self.old.fail_link - 1 }
-        ensures others { self.new ≡ record self.old { fail_link = self.new.fail_link; tally = self.new.tally } }
+        ensures is { Attached self.old.links.names (nat_eq self.old.links.fail 1) journal.now listen.now result }
+        ensures next { self.new.links.fail ≡ self.old.links.fail - 1 }
+        ensures links { (self.new.links.may_fail ≡ self.old.links.may_fail) × (self.new.links.names ≡ self.old.links.names) }
+        ensures others { self.new ≡ record self.old { links = self.new.links; tally = self.new.tally } }
     {
-        let falls = falls(&mut self.fail_link);
-        let answer = attached(&self.names, falls, journal, listen);
+        let falls = falls(&mut self.links.fail);
+        let answer = attached(&self.links.names, falls, journal, listen);
         match answer {
             Ok(()) => {}
             Err(AttachFailed::Disk) => self.tally.disk = one_more(self.tally.disk),
-            Err(AttachFailed::Link) => self.tally.accept = one_more(self.tally.accept),
+            Err(AttachFailed::Link) => self.links.accept = one_more(self.links.accept),
         }
         answer
     }
@@ -361,14 +379,15 @@ impl Site for MemSite {
 
     fn take(&mut self) -> Result<Taken, Failed>
         ensures call { Takes result (told_of self.old) (told_of self.new) }
-        ensures fails { IsErr result ↔ (self.old.fail_link ≡ 1) }
-        ensures next { self.new.fail_link ≡ self.old.fail_link - 1 }
-        ensures others { self.new ≡ record self.old { fail_link = self.new.fail_link; line = self.new.line; tally = self.new.tally } }
-        ensures counted { OnErr result (self.new.tally.accept ≡ capped (self.old.tally.accept + 1)) }
+        ensures fails { IsErr result ↔ (self.old.links.fail ≡ 1) }
+        ensures next { self.new.links.fail ≡ self.old.links.fail - 1 }
+        ensures links { (self.new.links.may_fail ≡ self.old.links.may_fail) × (self.new.links.names ≡ self.old.links.names) }
+        ensures others { self.new ≡ record self.old { links = self.new.links; line = self.new.line; tally = self.new.tally } }
+        ensures counted { OnErr result (self.new.links.accept ≡ capped (self.old.links.accept + 1)) }
     {
-        if falls(&mut self.fail_link) {
+        if falls(&mut self.links.fail) {
             self.line.shut();
-            self.tally.accept = one_more(self.tally.accept);
+            self.links.accept = one_more(self.links.accept);
             return Err(Failed);
         }
         let taken = self.line.next();
@@ -382,13 +401,14 @@ impl Site for MemSite {
     fn receive(&mut self, buf: &mut [u8]) -> Result<usize, Failed>
         ensures same_length { length buf.new ≡ length buf.old }
         ensures call { Received result buf.new (told_of self.old) (told_of self.new) }
-        ensures fails { IsErr result ↔ (self.old.fail_link ≡ 1) }
-        ensures next { self.new.fail_link ≡ self.old.fail_link - 1 }
-        ensures others { self.new ≡ record self.old { fail_link = self.new.fail_link; line = self.new.line; tally = record self.old.tally { receive = self.new.tally.receive } } }
-        ensures counted { OnErr result (self.new.tally.receive ≡ capped (self.old.tally.receive + 1)) }
+        ensures fails { IsErr result ↔ (self.old.links.fail ≡ 1) }
+        ensures next { self.new.links.fail ≡ self.old.links.fail - 1 }
+        ensures links { (self.new.links.may_fail ≡ self.old.links.may_fail) × (self.new.links.names ≡ self.old.links.names) × (self.new.links.accept ≡ self.old.links.accept) }
+        ensures others { self.new ≡ record self.old { links = self.new.links; line = self.new.line } }
+        ensures counted { OnErr result (self.new.links.receive ≡ capped (self.old.links.receive + 1)) }
     {
-        if falls(&mut self.fail_link) {
-            self.tally.receive = one_more(self.tally.receive);
+        if falls(&mut self.links.fail) {
+            self.links.receive = one_more(self.links.receive);
             return Err(Failed);
         }
         Ok(self.line.give(buf))

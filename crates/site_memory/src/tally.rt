@@ -7,13 +7,11 @@ ghost use Rattle.site_memory.specs.Answers.{Says};
 use crate::entry::Noted;
 use site_model::source::Failed;
 
-/// Faults of each kind, connections that were taken, and the times that none came.
+/// Faults of each kind but for those of links, connections that were taken, and the times that none came.
 #[derive(Clone, Copy, Debug, PartialEq, Eq)]
 pub struct Tally {
     pub disk: u64,
     pub gate: u64,
-    pub accept: u64,
-    pub receive: u64,
     pub link: u64,
     pub taken: u64,
     pub closings: u64,
