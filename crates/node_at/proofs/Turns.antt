@@ -346,10 +346,10 @@ turns_opened result role n k m old mid new taken e runs same takes h =
     opened_turns result role n m old mid new runs (subst (λ z. Takes z old mid) e takes) (subst (λ z. Serves result role (open_input mid.link) z m mid new) same h)
 
 pub turns_closed : (role : Role) (n m : State) (old new : Told) {E : Type 0} → n.halted ≡ false → m ≡ calm n → Takes {E = E} (Ok takens.Closed) old new → Turns turneds.Closed role n m old new
-turns_closed role n m old new runs same takes = (runs, record { same = same; still = takes.still }, takes.counts.counted.0.at_least)
+turns_closed role n m old new runs same takes = (runs, record { same = same; still = takes.still }, takes.counts.counted.0.at_least, λ l is. (takes.told l is).2.0)
 
 pub turns_down : {E : Type 0} (e : E) (role : Role) (n m : State) (old new : Told) → n.halted ≡ false → m ≡ calm n → Takes (Err e) old new → Turns turneds.LinkDown role n m old new
-turns_down e role n m old new runs same takes = (runs, record { same = same; still = takes.still }, takes.counts.cause.failed)
+turns_down e role n m old new runs same takes = (runs, record { same = same; still = takes.still }, takes.counts.cause.failed, ap (λ (z : Numbers). z.arming) takes.counts.others)
 
 pub turns_halted : (role : Role) (n m : State) (old : Told) → n.halted ≡ true → m ≡ calm n → Turns turneds.Halted role n m old old
 turns_halted role n m old halted same =

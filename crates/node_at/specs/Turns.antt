@@ -13,7 +13,7 @@ use Rattle.journal_at.specs.declared.version.Version.TheVariants.{Two}
 use Rattle.record_bytes.specs.Bytes.{bytes_of}
 use Rattle.record_bytes.specs.Versions.{IsRecord}
 use Rattle.site_model.specs.Counts.{Rose}
-use Rattle.site_model.specs.Told.{Told, Made, Still}
+use Rattle.site_model.specs.Told.{Told, Link, Made, Still}
 use Rattle.node_at.specs.Doings.{Doing, NoLess, Ran, calls_of, deeds_of}
 use Rattle.node_at.specs.Meanings.{Hears, IsFit, Meaning, next_input}
 use Rattle.node_at.specs.Meanings.Meaning.{Refused, Steps, Lost, Unread}
@@ -149,10 +149,14 @@ pub record Rests (n m : State) (old new : Told) : Type 0 where
   pub same : m ≡ calm n
   pub still : Still old new
 
+-- it is told of no connection that waits
+abbrev pub NoneWait : Told → Type 0
+NoneWait old = (l : Link) → old.link ≡ Some l → l.waiting ≡ []
+
 abbrev pub Turns : Turned → Role → State → State → Told → Told → Type 0
 Turns (turneds.Served status) role n m old new = Opens (turneds.Served status) role n m old new
 Turns turneds.Ticked role n m old new = Opens turneds.Ticked role n m old new
 Turns turneds.NoRoom role n m old new = Opens turneds.NoRoom role n m old new
 Turns turneds.Halted role n m old new = ((n.halted ≡ true) × Rests n m old new) ⊎ ((n.halted ≡ false) × Opens turneds.Halted role n m old new)
-Turns turneds.Closed role n m old new = (n.halted ≡ false) × Rests n m old new × Rose old.counts.closings new.counts.closings
-Turns turneds.LinkDown role n m old new = (n.halted ≡ false) × Rests n m old new × Rose old.counts.accept new.counts.accept
+Turns turneds.Closed role n m old new = (n.halted ≡ false) × Rests n m old new × Rose old.counts.closings new.counts.closings × NoneWait old
+Turns turneds.LinkDown role n m old new = (n.halted ≡ false) × Rests n m old new × Rose old.counts.accept new.counts.accept × (new.counts.arming ≡ old.counts.arming)
