@@ -1,5 +1,6 @@
 pub mod MailLists
 pub mod TurnedNodes
+pub mod HeardTurns
 pub mod Receivers
 pub mod ClosedNets
 pub mod ClosedNodes

@@ -1,5 +1,5 @@
 -- What the calls of a node on a machine in memory come to.
-use Rattle.std.specs.Prelude.{ℕ, List, [], ◌∷◌, ◌≡◌, Result, true}
+use Rattle.std.specs.Prelude.{ℕ, List, [], ◌∷◌, ◌≡◌, Result, Some, true}
 use Rattle.at_base.specs.declared.event.Local.{Local}
 use Rattle.node_at.specs.Endings.{TakesTurn}
 use Rattle.node_at.specs.Locals.{Asked}
@@ -12,7 +12,10 @@ use Rattle.node_at.specs.declared.node.Node.{Node}
 use Rattle.node_at.specs.declared.role.Role.TheVariants.{All}
 use Rattle.node_at.specs.declared.turn.Turned.{Turned}
 use Rattle.node_at.specs.declared.turn.Turned.TheVariants as turneds
+use Rattle.node_worlds.specs.Nets.{IsOpened}
 use Rattle.completion_at.specs.declared.requests.Refusal.{Refusal}
+use Rattle.site_model.specs.Counts.{Rose}
+use Rattle.site_model.specs.Site.{Arming}
 use Rattle.site_memory.specs.Sites.{link_of, told_of}
 use Rattle.site_memory.specs.declared.machine.MemSite.{MemSite}
 
@@ -32,7 +35,13 @@ pub record Turns (bytes : List ℕ) (result : Turned) (n m : Node) (old new : Me
   pub connects : Connects bytes old connected
   pub turn : TakesTurn told_of result All m.shrunk (seen n) (seen m) connected new
   pub halted : n.halted ≡ true → (result ≡ turneds.Halted) × (new ≡ connected)
+  pub unanswered : result ≡ turneds.Served 0 → Rose (told_of connected).counts.receive (told_of new).counts.receive
   pub serving : IsServing m
+
+-- On a machine that tells what it was told to fail it is opened, and its bytes are received.
+abbrev pub TurnsAreHeard : Type 0
+TurnsAreHeard = (bytes : List ℕ) (result : Turned) (n m : Node) (old new : MemSite) (a : Arming) → Turns bytes result n m old new → (told_of old).counts.arming ≡ Some a
+    → IsOpened result × (result ≡ turneds.Served 0 → ⊥)
 
 -- a request
 pub record Requests (request : Local) (answer : Locally) (n m : Node) (old new : MemSite) : Type 0 where

@@ -1,5 +1,6 @@
 //! Laws of nets whose nodes know no endpoints but those of one another.
 
+ghost use Rattle.memory_net.specs.Calls.{TurnsAreHeard};
 ghost use Rattle.memory_net.specs.Closed.{ExamplesAskSo, HostsTellReceivers, StaysClosed};
 ghost use Rattle.memory_net.specs.Goings.{GoOn};
 ghost use Rattle.memory_net.specs.NoMessages.{AreNoMessages};
@@ -16,7 +17,7 @@ use model_laws::rules::{
 };
 use node_worlds::laws::nets_keep;
 use node_worlds::lives::{crashes_are_met, runs_on_machines};
-use site_memory::laws::chosen_are_images;
+use site_memory::laws::{chosen_are_images, links_hold};
 use site_memory::machine::MemSite;
 use site_model::site::Site;
 
@@ -59,6 +60,13 @@ pub fn are_no_messages()
 {
     bytes_ask_one_thing();
     bytes_say_one_thing();
+}
+
+/// On a machine that was told which of its calls is to fail, and of no link, a connection that brings bytes is opened, and they are received.
+pub fn turns_are_heard()
+    ensures { TurnsAreHeard }
+{
+    links_hold();
 }
 
 /// Whatever is done to a net in memory, it is one of nodes that serve, whose messages are its letters; and so its nodes agree.
