@@ -10,3 +10,4 @@ pub mod Asking
 pub mod GoingOn
 pub mod HostCalls
 pub mod NoMessages
+pub mod ShortLetters
