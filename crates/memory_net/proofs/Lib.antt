@@ -11,3 +11,4 @@ pub mod Asking
 pub mod GoingOn
 pub mod HostCalls
 pub mod NoMessages
+pub mod ShortLetters

@@ -1,12 +1,14 @@
--- Nets whose nodes know no endpoints but those of nodes of the examples.
+-- Nets whose nodes know no endpoints but those of nodes of the examples, and no texts but brief ones.
 use Rattle.std.specs.Prelude.{ℕ, List, ◌≡◌, ◌≤◌, ◌<◌, ◌^◌, Some, unwrap_or}
 use Rattle.addressing.specs.PostAddresses.{post_to_of}
 use Rattle.addressing.specs.declared.post_to.PostTo.{PostTo}
 use Rattle.at_base.specs.declared.epr.Epr.{Epr}
 use Rattle.at_base.specs.declared.event.Local.{Local}
 use Rattle.at_base.specs.declared.event.Local.TheVariants as locals
+use Rattle.at_base.specs.declared.message.Context.{Context}
 use Rattle.at_base.specs.declared.target.Target.{Target}
 use Rattle.at_model.specs.World.{Hosts, example_base, example_hosts, new_nodes, receiver_of}
+use Rattle.context.specs.BodyTrees.{IsNarrow}
 use Rattle.deliverables.specs.Deliverables.{IsDeliverableField, deliverable}
 use Rattle.deliveries.specs.ByteNets.{Serves}
 use Rattle.deliveries.specs.DeliverableNets.{IsNetOf}
@@ -14,6 +16,7 @@ use Rattle.endpoints.specs.Addresses.{IsWritten, endpoint_of}
 use Rattle.node_worlds.specs.Nets.{Net}
 use Rattle.provenance.specs.Forms.{Forms, IsLocal}
 use Rattle.site_model.specs.Told.{Told}
+use Rattle.small_envelopes.specs.ShortEnvelopes.{IsBrief}
 use Rattle.memory_net.specs.Mails.{number_at}
 
 -- an endpoint of a node of the examples
@@ -25,15 +28,23 @@ pub record IsExample (endpoint : Epr) : Type 0 where
   pub written : IsWritten target
   pub same : endpoint ≡ endpoint_of (example_base number) target
 
+-- a context of brief texts, under which one registers there
+pub record IsExampleContext (context : Context) : Type 0 where
+  pub identifier : IsBrief context.identifier
+  pub expires : IsNarrow context.expires
+  pub coordination : IsBrief context.coordination
+  pub registration : IsExample context.registration
+
+-- all texts are brief, and all endpoints are of such nodes
 abbrev pub closed : Forms
 closed = record {
   endpoint = IsExample;
-  context = λ c. IsExample c.registration;
-  identifier = λ text. Unit {0};
-  span = λ time. Unit {0};
-  id = λ text. Unit {0};
-  uri = λ text. Unit {0};
-  field = λ text. Unit {0};
+  context = IsExampleContext;
+  identifier = IsBrief;
+  span = IsNarrow;
+  id = IsBrief;
+  uri = IsBrief;
+  field = IsBrief;
 }
 
 -- the base of one
@@ -71,7 +82,7 @@ AsksOf F told hosts net ms (Serves.idled u i p n serves here up is) = AsksOf F t
 AsksOf F told hosts net ms (Serves.ended u i p n serves here up is) = AsksOf F told hosts u ms serves
 AsksOf F told hosts net ms (Serves.crashed ls i s p c serves here down image on goes) = AsksOf F told hosts net ls serves
 
--- Where they ask for endpoints of examples alone, such are all that are held, recorded and posted.
+-- Where they ask for endpoints of examples and brief texts alone, such are all that are held, recorded and posted.
 abbrev pub StaysClosed : {S : Type 0} → (S → Told) → Type 0
 StaysClosed {S} told =
     (count : ℕ) (net : Net) (ms : ℕ → S) → count < 2 ^ 64 → (serves : Serves told (example_hosts count) net ms) → AsksOf closed told (example_hosts count) net ms serves

@@ -5,3 +5,4 @@ pub mod Hosts
 pub mod Stands
 pub mod Goings
 pub mod NoMessages
+pub mod ShortLetters

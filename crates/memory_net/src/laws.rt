@@ -4,6 +4,7 @@ ghost use Rattle.memory_net.specs.Calls.{TurnsAreHeard};
 ghost use Rattle.memory_net.specs.Closed.{ExamplesAskSo, HostsTellReceivers, StaysClosed};
 ghost use Rattle.memory_net.specs.Goings.{GoOn};
 ghost use Rattle.memory_net.specs.NoMessages.{AreNoMessages};
+ghost use Rattle.memory_net.specs.ShortLetters.{LettersAreShort};
 
 use decision_log::shrink::shrinks_the_same;
 use deliverables::laws::{examples_are_node_bases, nodes_own_is_deliverable};
@@ -20,6 +21,7 @@ use node_worlds::lives::{crashes_are_met, runs_on_machines};
 use site_memory::laws::{chosen_are_images, links_hold};
 use site_memory::machine::MemSite;
 use site_model::site::Site;
+use small_envelopes::laws::brief_are_short;
 
 /// The host of a post says which node of the examples receives it.
 pub fn hosts_tell_receivers()
@@ -37,7 +39,7 @@ pub fn examples_ask_so()
     nodes_own_is_deliverable();
 }
 
-/// Among nodes of the examples whose programs ask for no other endpoints, none is ever held, recorded or posted to.
+/// Among nodes of the examples whose programs ask for no other endpoints, none is ever held, recorded or posted to, and no text is long.
 pub fn stays_closed<S: Site>()
     ensures { StaysClosed S.told }
 {
@@ -52,6 +54,16 @@ pub fn stays_closed<S: Site>()
     runs_on_machines::<S>();
     nets_keep::<S>();
     serve_as_nets::<S>();
+}
+
+/// No letter is longer than a node takes.
+pub fn letters_are_short()
+    ensures { LettersAreShort }
+{
+    examples_are_node_bases();
+    paths_name_targets();
+    stays_closed::<MemSite>();
+    brief_are_short();
 }
 
 /// Bytes that are refused, or that ask for what is due, are no message.

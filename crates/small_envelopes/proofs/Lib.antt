@@ -1,5 +1,12 @@
+pub mod ShortTrees
+pub mod ShortParts
+pub mod ShortHeaders
+pub mod ShortBodies
+pub mod ShortPosts
 pub mod SmallTrees
 pub mod SmallParts
 pub mod SmallHeaders
 pub mod SmallBodies
 pub mod SmallPosts
+pub mod TextLengths
+pub mod WeakerForms

@@ -10,7 +10,7 @@ use Rattle.soap_profile.specs.BuiltElements.{qualified}
 use Rattle.at_base.specs.declared.epr.Epr.{Epr}
 use Rattle.at_base.specs.declared.message.Context.{Context}
 use Rattle.addressing.specs.declared.writer.Endpoint.{Endpoint}
-use Rattle.addressing.specs.OutgoingHeaders.{endpoint_tree, text_element}
+use Rattle.addressing.specs.OutgoingHeaders.{endpoint_tree, endpoint_with, text_element}
 use Rattle.addressing.specs.StoredEndpoints.{IsEndpointOf, IsWith}
 use Rattle.context.specs.declared.parameter.Parameter.TheVariants.{Identifier, Expires, CoordinationType, RegistrationService}
 use Rattle.context.specs.declared.writer.OutgoingContext.{OutgoingContext}
@@ -18,13 +18,17 @@ use Rattle.context.specs.BodyTrees.{context_tree, expires_parameter, parameter_n
 use Rattle.wire_posts.specs.Envelopes.{IsContextOf}
 use Rattle.small_envelopes.proofs.SmallTrees.{AreSmall, both_small, element_small, none_small, text_small}
 
-without : (params : List ℕ) (epr : Epr) (endpoint : Endpoint) → params ≡ [] → IsWith params epr endpoint → endpoint.params ≡ None
-without [] epr endpoint e h = ap (λ (x : Endpoint). x.params) h
+without : (params : List ℕ) (epr : Epr) (endpoint : Endpoint) → params ≡ [] → IsWith params epr endpoint → endpoint ≡ endpoint_with epr.address None
+without [] epr endpoint e h = h
 without (c ∷ cs) epr endpoint e h = absurd cc
 
--- an endpoint without reference parameters is written without them
+-- an endpoint without reference parameters is written as its address alone
+pub written_bare : (epr : Epr) (endpoint : Endpoint) → epr.params ≡ [] → IsEndpointOf epr endpoint → endpoint ≡ endpoint_with epr.address None
+written_bare epr endpoint e h = without epr.params epr endpoint e h
+
+-- so without them
 pub written_without : (epr : Epr) (endpoint : Endpoint) → epr.params ≡ [] → IsEndpointOf epr endpoint → endpoint.params ≡ None
-written_without epr endpoint e h = without epr.params epr endpoint e h
+written_without epr endpoint e h = ap (λ (x : Endpoint). x.params) (written_bare epr endpoint e h)
 
 pub endpoint_small : (deep : ℕ) (epr : Epr) (endpoint : Endpoint) (name : QName) → epr.params ≡ [] → IsEndpointOf epr endpoint
     → AreSmall (suc (suc deep)) 2 (endpoint_tree endpoint name ∷ [])

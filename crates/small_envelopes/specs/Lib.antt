@@ -1,1 +1,2 @@
+pub mod ShortEnvelopes
 pub mod SmallEnvelopes
