@@ -1,0 +1,4 @@
+mod ReadLines
+mod PossibleRuns
+mod PossibleRests
+mod PossibleLines

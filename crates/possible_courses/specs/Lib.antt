@@ -1,0 +1,2 @@
+pub mod ScheduleLines
+pub mod PossibleCourses
