@@ -7,3 +7,4 @@ pub mod ReplayRuns
 mod EventLines
 mod LineDraws
 mod TakenLines
+mod EventCounts

@@ -10,14 +10,7 @@ use Rattle.model_laws.specs.MadeIds.{MakesNoIdTwice}
 use Rattle.model_laws.specs.Settlement.{MayStart, Settles, is_settled, settle}
 use Rattle.replay_cmd.specs.ReportOf.{Course, all_happen, course_of, happens, nodes_of, world_of, world_with}
 use Rattle.replay_cmd.specs.Laws.{IsOfRun, IsSafe, ReportsAreSafe, ReportsComeToRest, ReportsRuns}
-use Rattle.replay_cmd.proofs.ReplayRuns.{report_run, step_on}
-
--- events happen in a run
-
-pub happen_on :
-    (count : ℕ) (es : List WorldEvent) (c : Course) → IsOfRun count c.world → IsOfRun count (all_happen es c).world
-happen_on count [] c r = r
-happen_on count (e ∷ es) c r = happen_on count es (happens None e c) (step_on count c.world e r)
+use Rattle.replay_cmd.proofs.ReplayRuns.{OfRun, happen_on, report_run, run_step}
 
 happened_on : (es : List WorldEvent) (c : Course) → (all_happen es c).world ≡ run_on c.world es
 happened_on [] c = refl
@@ -26,7 +19,7 @@ happened_on (e ∷ es) c = happened_on es (happens None e c)
 pub reports_runs : ReportsRuns
 reports_runs false draws all = report_run draws all
 reports_runs true draws all =
-    happen_on (nodes_of all) (settle (world_of draws all)) (course_of draws all) (report_run draws all)
+    happen_on (OfRun (nodes_of all)) (run_step (nodes_of all)) (settle (world_of draws all)) (course_of draws all) (report_run draws all)
 
 -- what holds of each run holds of the world of a report
 

@@ -4,3 +4,4 @@ pub mod Faults
 pub mod Laws
 pub mod Lines
 pub mod ReportOf
+pub mod EventCounts

@@ -17,6 +17,7 @@ use Rattle.model_laws.specs.Settlement.{settle}
 use Rattle.raw_requests.specs.declared.Drawn.{Drawn}
 use Rattle.raw_requests.specs.declared.Drawn.TheVariants as drawns
 use Rattle.schedules.specs.Generator.{made}
+use Rattle.schedules.specs.Values.{bytes_in}
 use Rattle.schedules.specs.declared.line.Line.{Line}
 use Rattle.schedules.specs.declared.line.Line.TheVariants as lines
 use Rattle.world_laws.specs.Firsts.{first_records}
@@ -149,12 +150,14 @@ event_lines f s w e =
     ++ effect_lines (node_of e) (losses_of w e))
 
 -- How far a replay has come: the world, what happened to it, in order, for each message from the first on whether it was
--- delivered (those behind the list weren't), which call is armed at each node, and what was printed.
+-- delivered (those behind the list weren't), which call is armed at each node, the bytes that the events of raw bytes brought, in
+-- order, and what was printed.
 pub record Course : Type 0 where
   pub world : World
   pub events : List WorldEvent
   pub delivered : List Bool
   pub armed : List (Option Armed)
+  pub raws : List (List ℕ)
   pub text : List ℕ
 
 -- An event happens, which met this fault or none; raw bytes draw this status.
@@ -212,13 +215,16 @@ raw_comes None waits s n c = comes_to None s (raw_at n) c
 raw_comes (Some a) waits s n c = comes_by_line (waits && is_some (incarnation_at c.world n)) a s n c
 
 -- Bytes that draw this come to a node: one that is up says the interim line where the client waits for it, and refuses them.
-abbrev pub injects : Drawn → ℕ → Course → Course
-injects drawns.Forged n c = printed (forged_line n) c
-injects (drawns.Refused s waits) n c = raw_comes (armed_at n c.armed) waits s n c
+abbrev pub brings : List ℕ → Course → Course
+brings bytes c = record c { raws = c.raws ++ bytes ∷ [] }
 
-abbrev pub injects_where : Option Drawn → ℕ → Course → Course
-injects_where None n c = c
-injects_where (Some d) n c = injects d n c
+abbrev pub injects : Drawn → List ℕ → ℕ → Course → Course
+injects drawns.Forged bytes n c = printed (forged_line n) c
+injects (drawns.Refused s waits) bytes n c = raw_comes (armed_at n c.armed) waits s n (brings bytes c)
+
+abbrev pub injects_where : Option Drawn → List ℕ → ℕ → Course → Course
+injects_where None bytes n c = c
+injects_where (Some d) bytes n c = injects d bytes n c
 
 -- A message goes to its node, whether it did before or not.
 abbrev pub goes_to : ℕ → Option ℕ → Course → Course
@@ -262,7 +268,7 @@ taken d (lines.Crash n) c = comes (Crash n) c
 taken d (lines.Up n) c = comes (up n) c
 taken d (lines.Stop n call left) c = with_armed n (Some (record { call = call; fault = faults.Stop left })) c
 taken d (lines.Fail n call) c = with_armed n (Some (record { call = call; fault = faults.Fail })) c
-taken d (lines.Inject n digits) c = injects_where d n c
+taken d (lines.Inject n digits) c = injects_where d (bytes_in digits) n c
 
 -- For each line, what its bytes draw.
 abbrev pub all_taken : List (Option Drawn) → List Line → Course → Course
@@ -278,7 +284,7 @@ all_up (suc count) n c = all_up count (n + 1) (happens None (up n) c)
 -- Every node comes up, in a world where nothing happened before.
 abbrev pub begun : ℕ → Course
 begun count =
-    all_up count 1 (record { world = opening (example_hosts count); events = []; delivered = []; armed = nobody_armed; text = [] })
+    all_up count 1 (record { world = opening (example_hosts count); events = []; delivered = []; armed = nobody_armed; raws = []; text = [] })
 
 abbrev pub is_ending : Ending → Ending → Bool
 is_ending endings.Committed endings.Committed = true

@@ -1,16 +1,18 @@
 //! A replay on its way.
 
-ghost use Rattle.std.specs.Prelude.{◌≡◌, ◌≤◌, ◌<◌, ◌+◌, ◌-◌, ◌^◌, ◌++◌, ◌∷◌, [], IfOk, OnOk, None, Some, length, drop, map, option_map};
+ghost use Rattle.std.specs.Prelude.{◌≡◌, ◌≤◌, ◌<◌, ◌+◌, ◌-◌, ◌^◌, ◌++◌, ◌∷◌, [], IfErr, IfOk, OnOk, None, Some, length, drop, map, option_map};
 ghost use Rattle.at_model.specs.Views.{deliver_to, request, tick_at, up};
 ghost use Rattle.at_model.specs.World.{Turn, Ask, Crash, nth, opening, run_of, world_step, example_hosts};
 ghost use Rattle.world_laws.specs.Events.{event_of, input_of};
 ghost use Rattle.world_laws.specs.Runs.{book_at, world_of};
 ghost use Rattle.world_laws.specs.Firsts.{first_records};
 ghost use Rattle.world_laws.specs.Moves.{left_of, losses_of, steps_of};
+ghost use Rattle.settlement.specs.declared.run_error.RunError.TheVariants.{TooManyEvents};
 ghost use Rattle.replay_cmd.specs.Deliveries.{lowest, yes_at};
+ghost use Rattle.replay_cmd.specs.EventCounts.{HasTooManyEvents};
 ghost use Rattle.replay_cmd.specs.Faults.{raw_at, struck_line};
 ghost use Rattle.replay_cmd.specs.Lines.{forged_line, no_message_line};
-ghost use Rattle.replay_cmd.specs.ReportOf.{all_happen, all_up, comes, comes_behind_line, comes_by_line, comes_to, comes_to_rest, delivers, effect_lines, flushes, goes_to, happens, happens_so, injects, line_before, line_behind, behind_of, meets, meets_line, raw_comes, armed_at, nobody_armed, printed, receiver_in, request_result, start_result, step_lines, summed, whole, with_armed, begun};
+ghost use Rattle.replay_cmd.specs.ReportOf.{all_happen, all_up, brings, comes, comes_behind_line, comes_by_line, comes_to, comes_to_rest, delivers, effect_lines, flushes, goes_to, happens, happens_so, injects, line_before, line_behind, behind_of, meets, meets_line, raw_comes, armed_at, nobody_armed, printed, receiver_in, request_result, start_result, step_lines, summed, whole, with_armed, begun};
 
 use crate::armed_calls::{is_stop, strike};
 use crate::arms::{Arms, known_rest, still_armed};
@@ -18,11 +20,13 @@ use crate::deliveries::Delivered;
 use crate::endings::{push_ended, push_summed};
 use crate::fault::{Armed, Fault};
 use crate::lines::{Lines, Started};
+use crate::raw_bytes::RawBytes;
 use crate::steps::{outcome_of, push_effects, push_steps, started_by, status_in};
 use at_base::event::Local;
 use at_base::outs::Effects;
 use effect_words::refusal_word;
 use raw_requests::Drawn;
+use settlement::run_error::RunError;
 use settlement::settle::settle;
 use std::alloc::{AllocError, Global};
 use std::marker::Model;
@@ -39,6 +43,8 @@ pub struct Course {
     world: World,
     delivered: Delivered,
     armed: Arms,
+    /// What the events of raw bytes brought, in order.
+    raws: Vec<RawBytes>,
     lines: Lines,
     /// For each event so far, which call of its node was armed, where that call came in it.
     met: Vec<Option<Armed>>,
@@ -52,19 +58,20 @@ impl Model for Course {
 
     ghost Value = { Known };
 
-    ghost view = { λ c. record { world = world_of c.world; events = map event_of c.world.events; delivered = c.delivered; armed = c.armed; text = c.lines } };
+    ghost view = { λ c. record { world = world_of c.world; events = map event_of c.world.events; delivered = c.delivered; armed = c.armed; raws = c.raws.items; text = c.lines } };
 }
 
 #[tactic(auto, using(crate::proofs::Loops::one_more))]
-fn stepped(world: World, alloc: Global, event: WorldEvent) -> Result<Stepped, AllocError>
+fn stepped(world: World, alloc: Global, event: WorldEvent) -> Result<Stepped, RunError>
     ensures events { IfOk result (λ s. map event_of s.world.events ≡ map event_of world.events ++ event_of event ∷ []) }
     ensures world { IfOk result (λ s. world_of s.world ≡ world_step (world_of world) (event_of event)) }
     ensures steps { IfOk result (λ s. s.steps ≡ steps_of (world_of world) (event_of event)) }
     ensures lost { IfOk result (λ s. s.lost ≡ losses_of (world_of world) (event_of event)) }
     ensures left { IfOk result (λ s. s.left ≡ left_of (world_of world) (event_of event)) }
+    ensures many { IfErr result (λ e. e ≡ TooManyEvents → 4294967295 ≤ length world.events) }
 {
     if world.events().len() >= MOST {
-        return Err(AllocError);
+        return Err(RunError::TooManyEvents);
     }
     let stepped = world.step(alloc, event)?;
     Ok(stepped)
@@ -316,47 +323,57 @@ fn push_event(
     )
 }
 
+/// Adds which call of an event's node was armed.
+fn keep_met(met: &mut Vec<Option<Armed>>, armed: Option<Armed>) -> Result<(), AllocError> {
+    met.push(armed)?;
+    Ok(())
+}
+
 impl Course {
     /// A world of so many nodes, each of which is down.
     fn opening(alloc: Global, count: u8) -> Result<Course, AllocError>
         requires { (1 ≤ count) × (count ≤ 8) }
-        ensures { IfOk result (λ c. c ≡ record { world = opening (example_hosts count); events = []; delivered = []; armed = nobody_armed; text = [] }) }
+        ensures { IfOk result (λ c. c ≡ record { world = opening (example_hosts count); events = []; delivered = []; armed = nobody_armed; raws = []; text = [] }) }
     {
         Ok(Course {
             world: opened(alloc, count)?,
             delivered: Delivered::new(alloc),
             armed: Arms::new(alloc)?,
+            raws: Vec::new(alloc),
             lines: Lines::new(alloc),
             met: Vec::new(alloc),
         })
     }
 
     /// An event happens, which met this fault or none; and how many of its fates it left. Raw bytes draw this status.
-    #[tactic(auto, using(crate::proofs::EventLines::happened))]
+    #[tactic(auto, using(crate::proofs::EventLines::happened, crate::proofs::EventCounts::one_too_many, crate::proofs::EventCounts::as_many))]
     fn happen(
         self,
         alloc: Global,
         fault: Option<Fault>,
         drawn: u16,
         event: WorldEvent,
-    ) -> Result<(Course, usize), AllocError>
+    ) -> Result<(Course, usize), RunError>
         ensures course { IfOk result (λ p. p.0 ≡ happens_so fault drawn (event_of event) self) }
         ensures left { IfOk result (λ p. p.1 ≡ length (left_of self.world (event_of event)).fates) }
+        ensures many { IfErr result (λ e. e ≡ TooManyEvents → HasTooManyEvents (happens_so fault drawn (event_of event) self)) }
     {
         let Course {
             world,
             delivered,
             armed,
+            raws,
             mut lines,
             mut met,
         } = self;
         let before = world.all_posted().len();
         let node = event.node();
-        met.push(if fault.is_some() {
+        let at = if fault.is_some() {
             armed.at(node)
         } else {
             None
-        })?;
+        };
+        keep_met(&mut met, at)?;
         let behind = behind_of(&world, &event);
         push_before(alloc, &mut lines, &world, &event)?;
         let stepped = stepped(world, alloc, event)?;
@@ -368,6 +385,7 @@ impl Course {
             world: stepped.world,
             delivered,
             armed,
+            raws,
             lines,
             met,
         };
@@ -375,8 +393,9 @@ impl Course {
     }
 
     /// An event happens as it is.
-    fn happen_whole(self, alloc: Global, event: WorldEvent) -> Result<Course, AllocError>
-        ensures { IfOk result (λ c. c ≡ happens None (event_of event) self) }
+    fn happen_whole(self, alloc: Global, event: WorldEvent) -> Result<Course, RunError>
+        ensures course { IfOk result (λ c. c ≡ happens None (event_of event) self) }
+        ensures many { IfErr result (λ e. e ≡ TooManyEvents → HasTooManyEvents (happens None (event_of event) self)) }
     {
         let (course, _left) = self.happen(alloc, None, 0, event)?;
         Ok(course)
@@ -401,18 +420,17 @@ impl Course {
     }
 
     /// Whether the first step of an event has a record; none where it takes no step.
-    fn first_records(
-        &mut self,
-        alloc: Global,
-        event: &WorldEvent,
-    ) -> Result<Option<bool>, AllocError>
+    #[tactic(auto, using(crate::proofs::EventCounts::as_many))]
+    fn first_records(&mut self, alloc: Global, event: &WorldEvent) -> Result<Option<bool>, RunError>
         ensures records { IfOk result (λ r. r ≡ first_records self.old.world (event_of event.now)) }
         ensures same { self.new ≡ self.old }
+        ensures many { IfErr result (λ e. e ≡ TooManyEvents → 4294967295 ≤ length self.old.events) }
     {
         if self.world.events().len() >= MOST {
-            return Err(AllocError);
+            return Err(RunError::TooManyEvents);
         }
-        self.world.records(alloc, event)
+        let first = self.world.records(alloc, event)?;
+        Ok(first)
     }
 
     /// An event happens as far as the armed call lets it; whether its first step has a record.
@@ -423,8 +441,9 @@ impl Course {
         first: Option<bool>,
         drawn: u16,
         event: WorldEvent,
-    ) -> Result<Course, AllocError>
-        ensures { IfOk result (λ c. c ≡ meets armed first drawn (event_of event) self) }
+    ) -> Result<Course, RunError>
+        ensures course { IfOk result (λ c. c ≡ meets armed first drawn (event_of event) self) }
+        ensures many { IfErr result (λ e. e ≡ TooManyEvents → HasTooManyEvents (meets armed first drawn (event_of event) self)) }
     {
         let node = event.node();
         let was_up = self.world.incarnation(node).is_some();
@@ -440,14 +459,16 @@ impl Course {
         Ok(course.arm(node, still))
     }
 
+    #[tactic(auto, using(crate::proofs::EventCounts::one_too_many))]
     fn meet(
         self,
         alloc: Global,
         armed: Armed,
         drawn: u16,
         event: WorldEvent,
-    ) -> Result<Course, AllocError>
-        ensures { IfOk result (λ c. c ≡ comes_to (Some armed) drawn (event_of event) self) }
+    ) -> Result<Course, RunError>
+        ensures course { IfOk result (λ c. c ≡ comes_to (Some armed) drawn (event_of event) self) }
+        ensures many { IfErr result (λ e. e ≡ TooManyEvents → HasTooManyEvents (comes_to (Some armed) drawn (event_of event) self)) }
     {
         let mut course = self;
         let first = course.first_records(alloc, &event)?;
@@ -461,8 +482,9 @@ impl Course {
         fault: Fault,
         drawn: u16,
         node: u8,
-    ) -> Result<Course, AllocError>
-        ensures { IfOk result (λ c. c ≡ meets_line fault drawn node self) }
+    ) -> Result<Course, RunError>
+        ensures course { IfOk result (λ c. c ≡ meets_line fault drawn node self) }
+        ensures many { IfErr result (λ e. e ≡ TooManyEvents → HasTooManyEvents (meets_line fault drawn node self)) }
     {
         let event = line_struck(alloc, node, fault);
         let (course, _left) = self.happen(alloc, Some(fault), drawn, event)?;
@@ -470,14 +492,9 @@ impl Course {
     }
 
     /// Raw bytes come to a node at which a call is armed.
-    fn meet_raw(
-        self,
-        alloc: Global,
-        armed: Armed,
-        drawn: u16,
-        node: u8,
-    ) -> Result<Course, AllocError>
-        ensures { IfOk result (λ c. c ≡ comes_to (Some armed) drawn (raw_at node) self) }
+    fn meet_raw(self, alloc: Global, armed: Armed, drawn: u16, node: u8) -> Result<Course, RunError>
+        ensures course { IfOk result (λ c. c ≡ comes_to (Some armed) drawn (raw_at node) self) }
+        ensures many { IfErr result (λ e. e ≡ TooManyEvents → HasTooManyEvents (comes_to (Some armed) drawn (raw_at node) self)) }
     {
         self.meet(alloc, armed, drawn, turn(alloc, node, Input::Raw))
     }
@@ -490,8 +507,9 @@ impl Course {
         fault: Fault,
         drawn: u16,
         node: u8,
-    ) -> Result<Course, AllocError>
-        ensures { IfOk result (λ c. c ≡ comes_behind_line rest fault drawn node self) }
+    ) -> Result<Course, RunError>
+        ensures course { IfOk result (λ c. c ≡ comes_behind_line rest fault drawn node self) }
+        ensures many { IfErr result (λ e. e ≡ TooManyEvents → HasTooManyEvents (comes_behind_line rest fault drawn node self)) }
     {
         match rest {
             None => self.meet_line(alloc, fault, drawn, node),
@@ -507,8 +525,9 @@ impl Course {
         armed: Armed,
         drawn: u16,
         node: u8,
-    ) -> Result<Course, AllocError>
-        ensures { IfOk result (λ c. c ≡ comes_by_line says armed drawn node self) }
+    ) -> Result<Course, RunError>
+        ensures course { IfOk result (λ c. c ≡ comes_by_line says armed drawn node self) }
+        ensures many { IfErr result (λ e. e ≡ TooManyEvents → HasTooManyEvents (comes_by_line says armed drawn node self)) }
     {
         if !says {
             return self.meet_raw(alloc, armed, drawn, node);
@@ -518,8 +537,9 @@ impl Course {
     }
 
     /// Raw bytes that draw this status come to a node; whether the client waits for the interim line.
-    fn refuse(self, alloc: Global, waits: bool, drawn: u16, node: u8) -> Result<Course, AllocError>
-        ensures { IfOk result (λ c. c ≡ raw_comes (armed_at node self.armed) waits drawn node self) }
+    fn refuse(self, alloc: Global, waits: bool, drawn: u16, node: u8) -> Result<Course, RunError>
+        ensures course { IfOk result (λ c. c ≡ raw_comes (armed_at node self.armed) waits drawn node self) }
+        ensures many { IfErr result (λ e. e ≡ TooManyEvents → HasTooManyEvents (raw_comes (armed_at node self.armed) waits drawn node self)) }
     {
         match self.armed.at(node) {
             None => {
@@ -543,18 +563,38 @@ impl Course {
     }
 
     /// Bytes that draw this come to a node, where they are no message and ask for nothing.
-    pub fn inject(self, alloc: Global, drawn: Drawn, node: u8) -> Result<Course, AllocError>
-        ensures { IfOk result (λ c. c ≡ injects drawn node self) }
+    pub fn inject(
+        self,
+        alloc: Global,
+        drawn: Drawn,
+        bytes: RawBytes,
+        node: u8,
+    ) -> Result<Course, RunError>
+        ensures course { IfOk result (λ c. c ≡ injects drawn bytes node self) }
+        ensures many { IfErr result (λ e. e ≡ TooManyEvents → HasTooManyEvents (injects drawn bytes node self)) }
     {
         match drawn {
-            Drawn::Forged => self.forge(alloc, node),
-            Drawn::Refused { status, waits } => self.refuse(alloc, waits, status, node),
+            Drawn::Forged => Ok(self.forge(alloc, node)?),
+            Drawn::Refused { status, waits } => {
+                let course = self.bring(bytes)?;
+                course.refuse(alloc, waits, status, node)
+            }
         }
     }
 
+    /// The next raw bytes.
+    fn bring(self, bytes: RawBytes) -> Result<Course, AllocError>
+        ensures { IfOk result (λ c. c ≡ brings bytes self) }
+    {
+        let mut course = self;
+        course.raws.push(bytes)?;
+        Ok(course)
+    }
+
     /// An event that a line asks for.
-    pub fn come(self, alloc: Global, event: WorldEvent) -> Result<Course, AllocError>
-        ensures { IfOk result (λ c. c ≡ comes (event_of event) self) }
+    pub fn come(self, alloc: Global, event: WorldEvent) -> Result<Course, RunError>
+        ensures course { IfOk result (λ c. c ≡ comes (event_of event) self) }
+        ensures many { IfErr result (λ e. e ≡ TooManyEvents → HasTooManyEvents (comes (event_of event) self)) }
     {
         match self.armed.at(event.node()) {
             None => self.happen_whole(alloc, event),
@@ -563,23 +603,26 @@ impl Course {
     }
 
     /// A node comes up, where it is down.
-    pub fn up(self, alloc: Global, node: u8) -> Result<Course, AllocError>
-        ensures { IfOk result (λ c. c ≡ comes (up node) self) }
+    pub fn up(self, alloc: Global, node: u8) -> Result<Course, RunError>
+        ensures course { IfOk result (λ c. c ≡ comes (up node) self) }
+        ensures many { IfErr result (λ e. e ≡ TooManyEvents → HasTooManyEvents (comes (up node) self)) }
     {
         self.come(alloc, coming_up(node))
     }
 
     /// A node goes down at rest.
-    pub fn crash(self, alloc: Global, node: u8) -> Result<Course, AllocError>
-        ensures { IfOk result (λ c. c ≡ comes (Crash node) self) }
+    pub fn crash(self, alloc: Global, node: u8) -> Result<Course, RunError>
+        ensures course { IfOk result (λ c. c ≡ comes (Crash node) self) }
+        ensures many { IfErr result (λ e. e ≡ TooManyEvents → HasTooManyEvents (comes (Crash node) self)) }
     {
         self.come(alloc, WorldEvent::Crash { node })
     }
 
     /// So many nodes come up.
-    #[tactic(auto, using(crate::proofs::Loops::up_more))]
-    fn all_up(self, alloc: Global, count: u8) -> Result<Course, AllocError>
-        ensures { IfOk result (λ c. c ≡ all_up count 1 self) }
+    #[tactic(auto, using(crate::proofs::Loops::up_more, crate::proofs::EventCounts::up_many))]
+    fn all_up(self, alloc: Global, count: u8) -> Result<Course, RunError>
+        ensures course { IfOk result (λ c. c ≡ all_up count 1 self) }
+        ensures many { IfErr result (λ e. e ≡ TooManyEvents → HasTooManyEvents (all_up count 1 self)) }
     {
         let mut course = self;
         for place in 0..count {
@@ -589,21 +632,24 @@ impl Course {
     }
 
     /// A node is asked by its own program.
-    pub fn ask(self, alloc: Global, node: u8, local: Local) -> Result<Course, AllocError>
-        ensures { IfOk result (λ c. c ≡ comes (request node local) self) }
+    pub fn ask(self, alloc: Global, node: u8, local: Local) -> Result<Course, RunError>
+        ensures course { IfOk result (λ c. c ≡ comes (request node local) self) }
+        ensures many { IfErr result (λ e. e ≡ TooManyEvents → HasTooManyEvents (comes (request node local) self)) }
     {
         self.come(alloc, asking(alloc, node, local))
     }
 
     /// So many milliseconds go by at a node.
-    pub fn tick(self, alloc: Global, node: u8, ms: u32) -> Result<Course, AllocError>
-        ensures { IfOk result (λ c. c ≡ comes (tick_at node ms) self) }
+    pub fn tick(self, alloc: Global, node: u8, ms: u32) -> Result<Course, RunError>
+        ensures course { IfOk result (λ c. c ≡ comes (tick_at node ms) self) }
+        ensures many { IfErr result (λ e. e ≡ TooManyEvents → HasTooManyEvents (comes (tick_at node ms) self)) }
     {
         self.come(alloc, turn(alloc, node, Input::Tick(ms)))
     }
 
-    fn deliver_to(self, alloc: Global, number: u64, node: u8) -> Result<Course, AllocError>
-        ensures { IfOk result (λ c. c ≡ comes (deliver_to node number) self) }
+    fn deliver_to(self, alloc: Global, number: u64, node: u8) -> Result<Course, RunError>
+        ensures course { IfOk result (λ c. c ≡ comes (deliver_to node number) self) }
+        ensures many { IfErr result (λ e. e ≡ TooManyEvents → HasTooManyEvents (comes (deliver_to node number) self)) }
     {
         self.come(alloc, turn(alloc, node, Input::Deliver(number)))
     }
@@ -624,12 +670,13 @@ impl Course {
         Ok(course)
     }
 
-    fn goes_to(self, alloc: Global, number: u64, receiver: Option<u8>) -> Result<Course, AllocError>
-        ensures { IfOk result (λ c. c ≡ goes_to number receiver self) }
+    fn goes_to(self, alloc: Global, number: u64, receiver: Option<u8>) -> Result<Course, RunError>
+        ensures course { IfOk result (λ c. c ≡ goes_to number receiver self) }
+        ensures many { IfErr result (λ e. e ≡ TooManyEvents → HasTooManyEvents (goes_to number receiver self)) }
     {
         match receiver {
             Some(node) => self.deliver_to(alloc, number, node),
-            None => self.no_message(alloc, number),
+            None => Ok(self.no_message(alloc, number)?),
         }
     }
 
@@ -641,15 +688,16 @@ impl Course {
     }
 
     /// A message goes to its node, whether it did before or not.
-    pub fn deliver(self, alloc: Global, number: u64) -> Result<Course, AllocError>
-        ensures { IfOk result (λ c. c ≡ delivers number self) }
+    pub fn deliver(self, alloc: Global, number: u64) -> Result<Course, RunError>
+        ensures course { IfOk result (λ c. c ≡ delivers number self) }
+        ensures many { IfErr result (λ e. e ≡ TooManyEvents → HasTooManyEvents (delivers number self)) }
     {
         match self.receiver(number) {
             Some(receiver) => {
                 let marked = self.mark(number)?;
                 marked.goes_to(alloc, number, receiver)
             }
-            None => self.no_message(alloc, number),
+            None => Ok(self.no_message(alloc, number)?),
         }
     }
 
@@ -663,9 +711,10 @@ impl Course {
     }
 
     /// Up to so many times, the lowest message that was never delivered goes to its node.
-    #[tactic(auto, using(crate::proofs::Loops::flush_more, crate::proofs::Loops::flush_none))]
-    pub fn flush(self, alloc: Global, most: u16) -> Result<Course, AllocError>
-        ensures { IfOk result (λ c. c ≡ flushes most self) }
+    #[tactic(auto, using(crate::proofs::Loops::flush_more, crate::proofs::Loops::flush_none, crate::proofs::EventCounts::flush_many))]
+    pub fn flush(self, alloc: Global, most: u16) -> Result<Course, RunError>
+        ensures course { IfOk result (λ c. c ≡ flushes most self) }
+        ensures many { IfErr result (λ e. e ≡ TooManyEvents → HasTooManyEvents (flushes most self)) }
     {
         let mut course = self;
         for _time in 0..most {
@@ -678,17 +727,20 @@ impl Course {
     }
 
     /// A world of so many nodes, each of which comes up.
-    pub fn begin(alloc: Global, count: u8) -> Result<Course, AllocError>
+    pub fn begin(alloc: Global, count: u8) -> Result<Course, RunError>
         requires { (1 ≤ count) × (count ≤ 8) }
-        ensures { IfOk result (λ c. c ≡ begun count) }
+        ensures course { IfOk result (λ c. c ≡ begun count) }
+        ensures many { IfErr result (λ e. e ≡ TooManyEvents → HasTooManyEvents (begun count)) }
     {
         let course = Course::opening(alloc, count)?;
         course.all_up(alloc, count)
     }
 
     /// Events happen, one after another.
-    fn all_happen(self, alloc: Global, events: &[WorldEvent]) -> Result<Course, AllocError>
-        ensures { IfOk result (λ c. c ≡ all_happen (map event_of events.now) self) }
+    #[tactic(auto, using(crate::proofs::EventCounts::happen_many))]
+    fn all_happen(self, alloc: Global, events: &[WorldEvent]) -> Result<Course, RunError>
+        ensures course { IfOk result (λ c. c ≡ all_happen (map event_of events.now) self) }
+        ensures many { IfErr result (λ e. e ≡ TooManyEvents → HasTooManyEvents (all_happen (map event_of events.now) self)) }
     {
         let mut course = self;
         for event in events {
@@ -698,8 +750,10 @@ impl Course {
     }
 
     /// The events that bring its world to rest happen.
-    pub fn come_to_rest(self, alloc: Global) -> Result<Course, AllocError>
-        ensures { IfOk result (λ c. c ≡ comes_to_rest self) }
+    #[tactic(auto, using(crate::proofs::EventCounts::rest_many))]
+    pub fn come_to_rest(self, alloc: Global) -> Result<Course, RunError>
+        ensures course { IfOk result (λ c. c ≡ comes_to_rest self) }
+        ensures many { IfErr result (λ e. e ≡ TooManyEvents → HasTooManyEvents (comes_to_rest self)) }
     {
         let events = settle(alloc, &self.world)?;
         self.all_happen(alloc, events.as_slice())
@@ -710,6 +764,7 @@ impl Course {
     pub fn run(&self) -> (u8, &[WorldEvent])
         ensures world { self.now.world ≡ run_of (example_hosts result.0) (map event_of result.1.now) }
         ensures events { map event_of result.1.now ≡ self.now.events }
+        ensures few { length result.1.now ≤ 4294967295 }
         ensures count { (1 ≤ result.0) × (result.0 ≤ 8) }
     {
         (self.world.count(), self.world.events())
@@ -719,6 +774,13 @@ impl Course {
     /// come in an event, so none of them fails.
     pub fn met(&self) -> &[Option<Armed>] {
         self.met.as_slice()
+    }
+
+    /// What the events of raw bytes brought, in order.
+    pub fn raws(&self) -> &[RawBytes]
+        ensures { result.now ≡ self.now.raws }
+    {
+        self.raws.as_slice()
     }
 
     /// The messages that were posted, in order.
@@ -736,6 +798,7 @@ impl Course {
             world,
             delivered: _delivered,
             armed: _armed,
+            raws: _raws,
             mut lines,
             met: _met,
         } = self;

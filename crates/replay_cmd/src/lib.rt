@@ -11,6 +11,7 @@ pub mod fault;
 pub mod laws;
 pub mod lines;
 pub mod options;
+pub mod raw_bytes;
 pub mod replay;
 pub mod requests;
 pub mod steps;

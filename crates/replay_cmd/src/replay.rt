@@ -1,22 +1,28 @@
 //! How a schedule comes out, and that of a seed on a line.
 
-ghost use Rattle.std.specs.Prelude.{◌≡◌, ◌≤◌, IfOk};
+ghost use Rattle.std.specs.Prelude.{◌≡◌, ◌≤◌, IfErr, IfOk};
+ghost use Rattle.settlement.specs.declared.run_error.RunError.TheVariants.{TooManyEvents};
 ghost use Rattle.at_base.specs.declared.event.Local.TheVariants as locals;
 ghost use Rattle.replay_cmd.specs.declared.fault.Fault.TheVariants as faults;
+ghost use Rattle.replay_cmd.specs.EventCounts.{HasTooManyEvents};
 ghost use Rattle.replay_cmd.specs.Laws.{IsReplayable, IsSafe};
 ghost use Rattle.replay_cmd.specs.ReportOf.{all_taken, course_of, course_with, injects_where, nodes_of, summary_of, taken, world_made};
 ghost use Rattle.schedules.specs.Generator.{made};
+ghost use Rattle.schedules.specs.Values.{bytes_in};
 
 use crate::course::Course;
 use crate::draws::quiet;
 use crate::fault::{Armed, Fault};
 use crate::laws::reports_are_safe;
 use crate::lines::Lines;
+use crate::raw_bytes::RawBytes;
 use crate::requests::{begin, interpose, work};
 use at_base::event::Local;
 use raw_requests::Drawn;
 use schedules::generator::make;
 use schedules::line::{Leaves, Line, Schedule};
+use schedules::values::bytes_in;
+use settlement::run_error::RunError;
 use std::alloc::{AllocError, Global};
 
 /// A call at which a node stops.
@@ -39,17 +45,22 @@ fn failure(call: u32) -> Armed
     }
 }
 
-/// Bytes come to a node, which draw this, where they were read.
+/// Bytes come to a node, in hexadecimal, which draw this, where they were read.
 fn inject(
     course: Course,
     alloc: Global,
     drawn: Option<Drawn>,
+    digits: &str,
     node: u8,
-) -> Result<Course, AllocError>
-    ensures { IfOk result (λ c. c ≡ injects_where drawn node course) }
+) -> Result<Course, RunError>
+    ensures course { IfOk result (λ c. c ≡ injects_where drawn (bytes_in digits.now) node course) }
+    ensures many { IfErr result (λ e. e ≡ TooManyEvents → HasTooManyEvents (injects_where drawn (bytes_in digits.now) node course)) }
 {
     match drawn {
-        Some(drawn) => course.inject(alloc, drawn, node),
+        Some(drawn) => {
+            let bytes = RawBytes::new(bytes_in(alloc, digits)?);
+            course.inject(alloc, drawn, bytes, node)
+        }
         None => Ok(course),
     }
 }
@@ -59,8 +70,9 @@ fn take_line(
     alloc: Global,
     drawn: Option<Drawn>,
     line: &Line,
-) -> Result<Course, AllocError>
-    ensures { IfOk result (λ c. c ≡ taken drawn line.now course) }
+) -> Result<Course, RunError>
+    ensures course { IfOk result (λ c. c ≡ taken drawn line.now course) }
+    ensures many { IfErr result (λ e. e ≡ TooManyEvents → HasTooManyEvents (taken drawn line.now course)) }
 {
     match line {
         Line::Nodes { .. } => Ok(course),
@@ -111,7 +123,7 @@ fn take_line(
         Line::Up { node } => course.up(alloc, *node),
         Line::Stop { node, call, leaves } => Ok(course.arm(*node, Some(stop(*call, *leaves)))),
         Line::Fail { node, call } => Ok(course.arm(*node, Some(failure(*call)))),
-        Line::Inject { node, .. } => inject(course, alloc, drawn, *node),
+        Line::Inject { node, digits } => inject(course, alloc, drawn, digits.as_str(), *node),
     }
 }
 
@@ -122,8 +134,9 @@ fn take_lines(
     alloc: Global,
     draws: &[Option<Drawn>],
     lines: &[Line],
-) -> Result<Course, AllocError>
-    ensures { IfOk result (λ c. c ≡ all_taken draws.now lines.now course) }
+) -> Result<Course, RunError>
+    ensures course { IfOk result (λ c. c ≡ all_taken draws.now lines.now course) }
+    ensures many { IfErr result (λ e. e ≡ TooManyEvents → HasTooManyEvents (all_taken draws.now lines.now course)) }
 {
     let mut course = course;
     for place in 0..lines.len().min(draws.len()) {
@@ -143,9 +156,11 @@ fn nodes_of(lines: &[Line]) -> u8
 }
 
 /// How a schedule comes out, given what the bytes of its lines draw.
-fn ran(alloc: Global, schedule: &Schedule, draws: &[Option<Drawn>]) -> Result<Course, AllocError>
+#[tactic(auto, using(crate::proofs::EventCounts::begun_many))]
+fn ran(alloc: Global, schedule: &Schedule, draws: &[Option<Drawn>]) -> Result<Course, RunError>
     requires { IsReplayable schedule.now }
-    ensures { IfOk result (λ course. course ≡ course_of draws.now schedule.now) }
+    ensures course { IfOk result (λ course. course ≡ course_of draws.now schedule.now) }
+    ensures many { IfErr result (λ e. e ≡ TooManyEvents → HasTooManyEvents (course_of draws.now schedule.now)) }
 {
     let lines = schedule.as_slice();
     let course = Course::begin(alloc, nodes_of(lines))?;
@@ -153,14 +168,16 @@ fn ran(alloc: Global, schedule: &Schedule, draws: &[Option<Drawn>]) -> Result<Co
 }
 
 /// How a schedule comes out, given what the bytes of its lines draw; behind its last line its world is brought to rest, where that is asked.
+#[tactic(auto, using(crate::proofs::EventCounts::ended_many))]
 pub fn ended(
     alloc: Global,
     schedule: &Schedule,
     draws: &[Option<Drawn>],
     settle: bool,
-) -> Result<Course, AllocError>
+) -> Result<Course, RunError>
     requires { IsReplayable schedule.now }
-    ensures { IfOk result (λ course. course ≡ course_with settle draws.now schedule.now) }
+    ensures course { IfOk result (λ course. course ≡ course_with settle draws.now schedule.now) }
+    ensures many { IfErr result (λ e. e ≡ TooManyEvents → HasTooManyEvents (course_with settle draws.now schedule.now)) }
 {
     let course = ran(alloc, schedule, draws)?;
     if settle {
@@ -181,14 +198,18 @@ fn made(alloc: Global, seed: u64, steps: u16) -> Result<Schedule, AllocError>
     Ok(schedule)
 }
 
+#[tactic(auto, using(crate::proofs::EventCounts::made_few))]
 fn summed(alloc: Global, seed: u64, steps: u16) -> Result<Lines, AllocError>
     requires { steps ≤ 9999 }
     ensures { IfOk result (λ lines. lines ≡ summary_of seed steps) }
 {
     let schedule = made(alloc, seed, steps)?;
     let draws = quiet(alloc, schedule.as_slice())?;
-    let course = ran(alloc, &schedule, draws.as_slice())?;
-    course.summed(alloc, steps)
+    match ran(alloc, &schedule, draws.as_slice()) {
+        Ok(course) => course.summed(alloc, steps),
+        Err(RunError::NoMemory) => Err(AllocError),
+        Err(RunError::TooManyEvents) => unreachable!(),
+    }
 }
 
 /// How the schedule of a seed, of at most 9,999 lines, comes out, on one line: how many messages there were, and how many

@@ -1,18 +1,26 @@
 -- Lists of events, one after another.
 use Rattle.std.proofs.Common.{ℕ, zero, suc, ◌+◌, ◌-◌, ◌<◌, ◌≤◌, ◌≡◌, refl, List, [], ◌∷◌, ◌++◌, length, map, drop, ap, ◌∙◌, sym, arith}
-use Rattle.std.proofs.lemmas.List.{append-nil, append_assoc, map-append}
+use Rattle.std.proofs.lemmas.List.{append-nil, append_assoc, length-append, length-map, map-append}
 use Rattle.std.specs.Prelude.{None, option_and_then}
 use Rattle.at_base.specs.declared.limits.TheConstants.{RESEND_AFTER}
-use Rattle.at_model.specs.World.{Node, Tick, Turn, WorldEvent, nth, run_of, example_hosts}
-use Rattle.model_laws.specs.Settlement.{ticks, up_if, ups}
+use Rattle.at_model.specs.World.{Node, Tick, Turn, World, WorldEvent, nth, run_of, world_step, example_hosts}
+use Rattle.model_laws.specs.Settlement.{also, ticks, up_if, ups}
 use Rattle.settling.proofs.Places.{nth_behind}
 use Rattle.settling.proofs.Runs.{run_length}
 use Rattle.world_laws.specs.Events.{event_of}
 use Rattle.world_laws.specs.Runs.{Run, book_of, world_of}
+use Rattle.settlement.specs.Ways.{Way}
 use Rattle.world_laws.specs.declared.event.WorldEvent.{WorldEvent as Given}
 
 pub one_behind : (old new : List Given) (e : Given) → new ≡ old ++ e ∷ [] → map event_of new ≡ map event_of old ++ event_of e ∷ []
 one_behind old new e h = ap (map event_of) h ∙ map-append event_of old (e ∷ [])
+
+pub one_longer : (r : Run) (count : ℕ) (events : List Given) (e : Given) → r ≡ record { count = count; events = events ++ e ∷ [] } → length r.events ≡ length events + 1
+one_longer r count events e h = ap (λ (x : Run). length x.events) h ∙ length-append events (e ∷ [])
+
+-- the events before and those that are counted are those of the world
+pub all_counted : (past : ℕ) (events all : List Given) → past + length events ≡ length all → past + length (map event_of events) ≡ length all
+all_counted past events all e = ap (λ n. past + n) (length-map events event_of) ∙ e
 
 -- a world has as many nodes as its run
 pub nodes_counted : (r : Run) → length (world_of r).nodes ≡ r.count
@@ -86,3 +94,9 @@ all_ups r place m old all h e = no_more_ups (world_of r).nodes place m old all (
 
 pub all_ticks : (r : Run) (place m : ℕ) (old all : List WorldEvent) → r.count ≤ place → old ++ ticks m (drop place (world_of r).nodes) ≡ all → old ≡ all
 all_ticks r place m old all h e = no_more_ticks (world_of r).nodes place m old all (omega (arith, h, nodes_counted r)) e
+
+-- one event more of a world that had so many before
+pub one_way : (past : ℕ) (world after : World) (old new : List Given) (e : Given) → after ≡ world_step world (event_of e)
+    → map event_of new ≡ map event_of old ++ event_of e ∷ []
+    → ◌≡◌ {A = Way} (record { past = past; settling = record { world = after; events = map event_of new } }) (record { past = past; settling = also (event_of e) (record { world = world; events = map event_of old }) })
+one_way past world after old new e w es = λ i. record { past = past; settling = record { world = w i; events = es i } }

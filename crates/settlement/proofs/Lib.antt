@@ -2,3 +2,4 @@ mod Events
 mod Rounds
 mod SettledWorlds
 mod EventCounts
+mod EventGrowth

@@ -19,7 +19,7 @@ abbrev node_of : Option (ℕ × ℕ) → ℕ
 node_of None = 0
 node_of (Some p) = p.1
 
-some_or_none : (o : Option (ℕ × ℕ)) (p : ℕ × ℕ) → o ≡ None → o ≡ Some p → ⊥
+pub some_or_none : (o : Option (ℕ × ℕ)) (p : ℕ × ℕ) → o ≡ None → o ≡ Some p → ⊥
 some_or_none o p e f = cc
 
 -- There is one way to deliver until nothing is left.
@@ -62,3 +62,14 @@ one_delivered last s t j k n e found is t_is d = one_more k n (sym found) (subst
 
 pub all_delivered : (s : Settling) (j : ℕ) → None ≡ first_received (j + 1) (drop j s.world.posted) → Delivers s j s
 all_delivered s j none = none_left (sym none) refl
+
+pub delivered_on :
+    (last s t : Settling) (j k n : ℕ) (e : WorldEvent) → Some (k, n) ≡ first_received (j + 1) (drop j s.world.posted) → e ≡ Turn n (Deliver k) [] None
+    → t ≡ also e s → Delivers last j s → Delivers last k t
+delivered_on last s t j k n e found is t_is (none_left f g) = absurd (some_or_none _ _ f (sym found))
+delivered_on last s t j k n e found is t_is (one_more l m f more) =
+    let number : l ≡ k = ap place_of (sym f ∙ sym found) in
+    let node : m ≡ n = ap node_of (sym f ∙ sym found) in
+    subst (Delivers last k) (ap (λ x. also x s) (sym is) ∙ sym t_is)
+    (subst (λ x. Delivers last k (also (Turn x (Deliver k) [] None) s)) node
+    (subst (λ x. Delivers last x (also (Turn m (Deliver x) [] None) s)) number more))

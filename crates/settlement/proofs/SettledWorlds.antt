@@ -1,5 +1,5 @@
 -- What settling is, of the world of a run.
-use Rattle.std.proofs.Common.{ℕ, ◌≡◌, ◌≤◌, ◌<◌, List, length, map, true, arith}
+use Rattle.std.proofs.Common.{ℕ, ◌≡◌, ◌≤◌, ◌<◌, ◌+◌, List, length, map, true, arith}
 use Rattle.std.specs.List.{AllByRecursion}
 use Rattle.at_model.specs.World.{World, WorldEvent, example_hosts, run_on}
 use Rattle.model_laws.specs.ReachedWorlds.{ExamplesAreApart}
@@ -17,6 +17,13 @@ pub settles : (r : Run) (es : List WorldEvent) → Drains
     → es ≡ settle (world_of r)
 unfolding world_of settle settled settle_from
 settles r es h are = are (granted_of (world_of r)) (h.rounds (example_hosts r.count) (map event_of r.events))
+
+-- and so are they where they are too many
+pub too_many : (r : Run) (past : ℕ) → Drains
+    → ((most : ℕ) → ((n : ℕ) → n < 8 → IsDrained most (settle_rounds n most (all_up (world_of r)))) → 4294967295 < past + length (settle_rounds 8 most (all_up (world_of r))).events)
+    → 4294967295 < past + length (settle (world_of r))
+unfolding world_of settle settled settle_from
+too_many r past h are = are (granted_of (world_of r)) (h.rounds (example_hosts r.count) (map event_of r.events))
 
 pub are_few : (r : Run) → Drains → length (settle (world_of r)) ≤ settle_bound (world_of r)
 unfolding world_of

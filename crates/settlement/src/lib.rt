@@ -3,5 +3,6 @@
 #![tactic(auto)]
 
 pub mod holdings;
+pub mod run_error;
 pub mod settle;
 mod settling_world;

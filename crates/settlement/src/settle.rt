@@ -1,19 +1,21 @@
 //! The events that bring a world to rest.
 
 ghost use Rattle.std.specs.List.{AllByRecursion};
-ghost use Rattle.std.specs.Prelude.{◌≡◌, ◌≤◌, IfOk, length, map, true};
+ghost use Rattle.std.specs.Prelude.{◌≡◌, ◌≤◌, ◌+◌, IfErr, IfOk, length, map, true};
 ghost use Rattle.at_model.specs.World.{run_on};
 ghost use Rattle.model_laws.specs.Settlement.{MayStart, is_settled, settle, settle_bound};
 ghost use Rattle.settlement.specs.Holdings.{held_up, most_events};
+ghost use Rattle.settlement.specs.declared.run_error.RunError.TheVariants.{TooManyEvents};
 ghost use Rattle.std.specs.Prelude.{◌<◌, ◌-◌, ◌^◌};
 ghost use Rattle.world_laws.specs.Events.{event_of};
 ghost use Rattle.world_laws.specs.Runs.{world_of};
 
+use crate::run_error::RunError;
 use crate::settling_world::settled;
 use model_laws::rules::examples_are_apart;
 use settled::laws::settles;
 use settling::laws::drains;
-use std::alloc::{AllocError, Global};
+use std::alloc::Global;
 use world_laws::event::WorldEvent;
 use world_laws::world::World;
 
@@ -23,12 +25,13 @@ use world_laws::world::World;
 ///
 /// Behind them no durable participant is in doubt, no subordinate that has voted waits for an outcome, and no decision waits to be
 /// carried out, where no node has spent its incarnations (`rests`). They are few (`few`): at most N + 8 (N + 128 (K + 1)) for N
-/// nodes, which hold K seats, completion seats, links (two for each subordinate), leaves and activities once all are up. Want of
-/// memory is answered too where a world would have more than 4,294,967,295 events.
+/// nodes, which hold K seats, completion seats, links (two for each subordinate), leaves and activities once all are up. That there
+/// are too many is answered only where the world would have more than 4,294,967,295 with them (`many`).
 ///
 /// What they hold is what `World::held` counts then, and `held_once_up` says beforehand (`holdings`).
-pub fn settle(alloc: Global, world: &World) -> Result<Vec<WorldEvent>, AllocError>
+pub fn settle(alloc: Global, world: &World) -> Result<Vec<WorldEvent>, RunError>
     ensures is { IfOk result (λ events. map event_of events.items ≡ settle (world_of world.now)) }
+    ensures many { IfErr result (λ e. e ≡ TooManyEvents → 4294967295 < length world.now.events + length (settle (world_of world.now))) }
     ensures few { length (settle (world_of world.now)) ≤ settle_bound (world_of world.now) }
     ensures held { held_up (world_of world.now) < 2 ^ 64 - 1
         → length (settle (world_of world.now))

@@ -82,7 +82,9 @@ fn rounds_of(events: &[WorldEvent], nodes: usize) -> Deliveries {
 
 /// How many messages are delivered while a world of nodes that are up comes to rest.
 fn delivered(alloc: Global, world: &World) -> Result<Deliveries, AllocError> {
-    let events = settle(alloc, world)?;
+    let Ok(events) = settle(alloc, world) else {
+        return Err(AllocError);
+    };
     Ok(rounds_of(events.as_slice(), world.count() as usize))
 }
 
@@ -108,7 +110,9 @@ fn one_round_registers_and_commits(rt: HostRuntime) -> Result<(), Fail> {
 fn holds(alloc: Global, leaves: u8) -> Result<bool, AllocError> {
     let script = unregistered(alloc, leaves)?;
     let wanted = u128::from(leaves) + 2;
-    let risen = held_once_up(alloc, script.world())?;
+    let Ok(risen) = held_once_up(alloc, script.world()) else {
+        return Err(AllocError);
+    };
     Ok(risen == wanted && script.world().held() == wanted)
 }
 

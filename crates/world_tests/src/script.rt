@@ -177,7 +177,9 @@ impl Script {
     /// The world comes to rest.
     fn settle(self, alloc: Global) -> Result<Script, AllocError> {
         let mut script = self;
-        let events = settle(alloc, &script.world)?;
+        let Ok(events) = settle(alloc, &script.world) else {
+            return Err(AllocError);
+        };
         for event in events {
             script = script.happen(alloc, event)?;
         }

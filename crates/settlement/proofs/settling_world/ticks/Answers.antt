@@ -10,7 +10,7 @@ pub loop-place-preserved : goal.loop-place-preserved
 loop-place-preserved c =
     tick_more c.loop-place.place c.args.world.now (map event_of c.loop-place.events.items) (map event_of c.keep.new.events.items)
     (ticks 1 (world_of c.args.world.now).nodes) (subst (λ n. c.loop-place.place < n) c.count-place-end.ensures.value c.loop-place-test.true)
-    (c.in_ok-keep.ensures ∙ ap (λ e. map event_of c.loop-place.events.items ++ e ∷ []) c.tick.ensures) c.loop-place.invariant
+    (c.in_ok-keep.ensures.kept ∙ ap (λ e. map event_of c.loop-place.events.items ++ e ∷ []) c.tick.ensures) c.loop-place.invariant
 
 pub returns : goal.returns
 returns c =
