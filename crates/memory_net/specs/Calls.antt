@@ -5,6 +5,7 @@ use Rattle.node_at.specs.Endings.{TakesTurn}
 use Rattle.node_at.specs.Locals.{Asked}
 use Rattle.node_at.specs.StartedNodes.{Starts}
 use Rattle.node_at.specs.State.{IsNode, seen}
+use Rattle.node_at.specs.Steps.{Keeping}
 use Rattle.node_at.specs.declared.fault.StartFault.{StartFault}
 use Rattle.node_at.specs.declared.local.Locally.{Locally}
 use Rattle.node_at.specs.declared.local.Locally.TheVariants as answers
@@ -48,6 +49,7 @@ pub record Requests (request : Local) (answer : Locally) (n m : Node) (old new :
   pub asked : Asked answer (seen n) (seen m) request (told_of old) (told_of new)
   pub nothing : (why : Refusal) → answer ≡ answers.Refused why → new ≡ old
   pub halted : n.halted ≡ true → new ≡ old
+  pub counted : Keeping (told_of old) (told_of new)
   pub serving : IsServing m
 
 -- a start

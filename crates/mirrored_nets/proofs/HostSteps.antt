@@ -1,5 +1,5 @@
 -- What the calls of a node on its machine come to.
-use Rattle.std.specs.Prelude.{ℕ, List, ◌≡◌, ◌+◌, ◌++◌, ◌<◌, ◌^◌, Bool, Option, Some, Result, IfOk, Ok, Err, drop, length, replicate, take, ◌≤◌}
+use Rattle.std.specs.Prelude.{ℕ, List, ◌≡◌, ◌+◌, ◌++◌, ◌<◌, ◌^◌, Bool, Option, Some, Result, IfOk, IsErrAnd, Ok, Err, drop, length, replicate, take, ◌≤◌}
 use Rattle.std.proofs.Common.{ap, sym, subst, ◌∙◌}
 use Rattle.std.proofs.lemmas.List.{drop-map, take-map}
 use Rattle.memory_net.specs.Calls.{Begins, IsServing, Requests, Turns}
@@ -16,15 +16,32 @@ use Rattle.site_memory.specs.declared.entry.Entry.{Entry}
 use Rattle.site_memory.specs.declared.machine.MemSite.{MemSite}
 use Rattle.http_post.specs.Conversations.{interim}
 use Rattle.site_model.specs.Told.{Call, done, sent_by}
+use Rattle.mirrored_nets.specs.Counted.{IsCounted}
 use Rattle.mirrored_nets.specs.Fates.{failures, refusals}
 use Rattle.mirrored_nets.specs.Goings.{CameUp}
 use Rattle.mirrored_nets.specs.Took.{Adds, AnswersSo, ComesTo, EndsSo, HasRoom, LeftSo, TookRequest, TookTurn, kept_of}
+use Rattle.mirrored_nets.specs.Unarmed.{IsntApart}
 use Rattle.mirrored_nets.specs.declared.came.Came.{Came}
 use Rattle.mirrored_nets.specs.declared.came.Came.TheVariants as cames
+use Rattle.mirrored_nets.specs.declared.fault.Unlike.{Unlike}
+use Rattle.mirrored_nets.specs.declared.fault.Unlike.TheVariants.{Apart}
+use Rattle.mirrored_nets.specs.declared.host.Counts.{Counts}
 
 pub if_ok : {A E : Type 0} {P Q : A → Type 0} (r : Result A E) → IfOk r P → ((x : A) → P x → Q x) → IfOk r Q
 if_ok (Ok x) h f = f x h
 if_ok (Err e) h f = tt
+
+pub ok_is : {A E : Type 0} (r : Result A E) (x y : A) → r ≡ Ok x → r ≡ Ok y → x ≡ y
+ok_is (Ok z) x y e f = cc
+ok_is (Err z) x y e f = absurd cc
+
+pub not_err : {A E : Type 0} (r : Result A E) (x : E) (y : A) → r ≡ Err x → r ≡ Ok y → ⊥
+not_err (Ok z) x y e f = absurd cc
+not_err (Err z) x y e f = absurd cc
+
+pub passed_up : {A : Type 0} (r : Result A Unlike) (e : Unlike) → IsErrAnd r (λ y. y ≡ e) → (e ≡ Apart → ⊥) → IsntApart r
+passed_up (Ok x) e is p = tt
+passed_up (Err y) e is p = subst (λ z. z ≡ Apart → ⊥) (sym is) p
 
 pub came_up : (base : List ℕ) (old site : MemSite) (new : Host) (n : Node) → Begins base (Ok n) old site → IsServing n → new.node ≡ Some n → new.site ≡ site → CameUp base old new
 came_up base old site new n begins serving node is = record { node = n; begins = subst (Begins base (Ok n) old) (sym is) begins; is = node; serving = serving }
@@ -33,26 +50,17 @@ pub kept_so : (came : Came) (kept : ℕ) (choice : Choice) (calls some : List En
 kept_so came kept choice calls some is e =
     ap mades e ∙ sym (take-map made_of kept calls) ∙ ap (λ k. take k (mades calls)) (sym (ap (λ z. kept_of z (mades calls)) is))
 
--- the calls since, and the count of those that failed
-pub record Since (before failed now refusing refused : ℕ) (calls : List Entry) (old new : MemSite) : Type 0 where
-  pub before_is : before ≡ length (calls_in old.device)
-  pub are : calls ≡ drop before new.device.log.items
-  pub failed_is : failed ≡ old.tally.link
-  pub now_is : now ≡ new.tally.link
-  pub counted : now ≡ failed + failures (mades calls)
-  pub uncapped : now < 2 ^ 63
-  pub refusing_is : refusing ≡ old.tally.disk
-  pub refused_is : refused ≡ new.tally.disk
-  pub most : refused ≤ refusing + refusals (mades calls)
-  pub below : refused < 2 ^ 63
-
-adds_so : (before failed now refusing refused : ℕ) (calls : List Entry) (old new : MemSite) → Since before failed now refusing refused calls old new → Adds (mades calls) old new
-adds_so before failed now refusing refused calls old new h = record {
-  calls = ap mades h.are ∙ sym (drop-map made_of before new.device.log.items) ∙ ap (λ k. drop k (calls_in new.device)) h.before_is;
-  counted = sym h.now_is ∙ h.counted ∙ ap (λ k. k + failures (mades calls)) h.failed_is;
-  uncapped = subst (λ k. k < 2 ^ 63) h.now_is h.uncapped;
-  refused = subst (λ k. k ≤ old.tally.disk + refusals (mades calls)) h.refused_is (subst (λ k. refused ≤ k + refusals (mades calls)) h.refusing_is h.most);
-  below = subst (λ k. k < 2 ^ 63) h.refused_is h.below;
+pub adds_so : (before : Counts) (calls : List Entry) (failed refused gates : ℕ) (old new : MemSite) → IsCounted before old → calls ≡ drop before.calls new.device.log.items
+    → failed ≡ new.tally.link → refused ≡ new.tally.disk → gates ≡ new.tally.gate → (failed ≡ before.sends + failures (mades calls)) × (failed < 2 ^ 63)
+    → (refused ≤ before.disk + refusals (mades calls)) × (refused < 2 ^ 63) → (gates ≤ before.gates + refusals (mades calls)) × (gates < 2 ^ 63) → Adds (mades calls) old new
+adds_so before calls failed refused gates old new was are links disk gate counted refusals_are gates_are = record {
+  calls = ap mades are ∙ sym (drop-map made_of before.calls new.device.log.items) ∙ ap (λ k. drop k (calls_in new.device)) was.calls;
+  counted = sym links ∙ counted.0 ∙ ap (λ k. k + failures (mades calls)) was.sends;
+  uncapped = subst (λ k. k < 2 ^ 63) links counted.1;
+  refused = subst (λ k. k ≤ old.tally.disk + refusals (mades calls)) disk (subst (λ k. refused ≤ k + refusals (mades calls)) was.disk refusals_are.0);
+  below = subst (λ k. k < 2 ^ 63) disk refusals_are.1;
+  raised = subst (λ k. k ≤ old.tally.gate + refusals (mades calls)) gate (subst (λ k. gates ≤ k + refusals (mades calls)) was.gates gates_are.0);
+  under = subst (λ k. k < 2 ^ 63) gate gates_are.1;
 }
 
 abbrev pub Posts : (i count : ℕ) → Came → List Entry → List Entry → List Mail → List Mail → Type 0
@@ -62,11 +70,11 @@ posted_so : (i count : ℕ) (came : Came) (calls kept : List Entry) (mails more 
     → more ≡ mails ++ mails_in i count (sent_by (take (kept_of came (mades calls)) (mades calls)))
 posted_so i count came calls kept mails more (e, h) = h ∙ ap (λ ms. mails ++ mails_in i count (sent_by ms)) e
 
-pub took_turn : (i count lines before failed now refusing refused : ℕ) (bytes : List ℕ) (n m : Node) (old site : MemSite) (new : Host) (mails more : List Mail) (fates : List Bool) (until : Option ℕ) (result : Turned) (came : Came) (calls kept : List Entry)
-    → HasRoom old → Turns bytes result n m old site → Since before failed now refusing refused calls old site → EndsSo came result → ComesTo came lines (mades calls) fates until
+pub took_turn : (i count lines before : ℕ) (bytes : List ℕ) (n m : Node) (old site : MemSite) (new : Host) (mails more : List Mail) (fates : List Bool) (until : Option ℕ) (result : Turned) (came : Came) (calls kept : List Entry)
+    → HasRoom old → Turns bytes result n m old site → before ≡ length (calls_in old.device) → Adds (mades calls) old site → EndsSo came result → ComesTo came lines (mades calls) fates until
     → ((z : MemSite) → before ≡ length (calls_in z.device) → LeftSo came m z site new) → Posts i count came calls kept mails more
     → take lines (mades calls) ≡ replicate lines (done (Call.Send interim)) → TookTurn i count lines bytes n old new mails more fates until
-took_turn i count lines before failed now refusing refused bytes n m old site new mails more fates until result came calls kept room turns since ends comes left posts said = record {
+took_turn i count lines before bytes n m old site new mails more fates until result came calls kept room turns since adds ends comes left posts said = record {
   room = room;
   result = result;
   node = m;
@@ -74,29 +82,29 @@ took_turn i count lines before failed now refusing refused bytes n m old site ne
   turns = turns;
   made = mades calls;
   said = said;
-  adds = adds_so before failed now refusing refused calls old site since;
+  adds = adds;
   came = came;
   ends = ends;
   comes = comes;
-  left = left old since.before_is;
+  left = left old since;
   posted = posted_so i count came calls kept mails more posts;
 }
 
-pub took_request : (i count before failed now refusing refused : ℕ) (request : Local) (n m : Node) (old site : MemSite) (new : Host) (mails more : List Mail) (fates : List Bool) (until : Option ℕ) (answer : Locally) (came : Came) (calls kept : List Entry)
-    → HasRoom old → Requests request answer n m old site → Since before failed now refusing refused calls old site → AnswersSo came answer → ComesTo came 0 (mades calls) fates until
+pub took_request : (i count before : ℕ) (request : Local) (n m : Node) (old site : MemSite) (new : Host) (mails more : List Mail) (fates : List Bool) (until : Option ℕ) (answer : Locally) (came : Came) (calls kept : List Entry)
+    → HasRoom old → Requests request answer n m old site → before ≡ length (calls_in old.device) → Adds (mades calls) old site → AnswersSo came answer → ComesTo came 0 (mades calls) fates until
     → ((z : MemSite) → before ≡ length (calls_in z.device) → LeftSo came m z site new) → Posts i count came calls kept mails more
     → TookRequest i count request n old new mails more fates until
-took_request i count before failed now refusing refused request n m old site new mails more fates until answer came calls kept room requests since ends comes left posts = record {
+took_request i count before request n m old site new mails more fates until answer came calls kept room requests since adds ends comes left posts = record {
   room = room;
   answer = answer;
   node = m;
   site = site;
   requests = requests;
   made = mades calls;
-  adds = adds_so before failed now refusing refused calls old site since;
+  adds = adds;
   came = came;
   ends = ends;
   comes = comes;
-  left = left old since.before_is;
+  left = left old since;
   posted = posted_so i count came calls kept mails more posts;
 }

@@ -50,5 +50,13 @@ pub mod UpsAndDowns
 pub mod WholeTurns
 pub mod NetPlaces
 pub mod OpenedNets
+pub mod BroughtLines
 pub mod NetEvents
 pub mod NetStarts
+pub mod ToldMachines
+pub mod UnarmedTurns
+pub mod UnarmedRequests
+pub mod ReadyHosts
+pub mod ExampleBases
+pub mod PossibleMoves
+pub mod DoneCalls

@@ -1,9 +1,8 @@
 -- The events that are done to the hosts of a net.
-use Rattle.std.specs.Prelude.{ℕ, List, ◌+◌, ◌≡◌, ◌≤◌, ◌⊎◌, Bool, true, false, IfSome, Option, Some, None, is_some, length, map, suc, zero}
+use Rattle.std.specs.Prelude.{ℕ, List, [], ◌+◌, ◌≡◌, ◌≤◌, ◌⊎◌, Bool, true, false, Err, IfSome, IsErrAnd, Ok, Option, Result, Some, None, is_some, length, map, suc, zero}
 use Rattle.std.proofs.Common.{ap, arith, refl, subst, sym, inl, inr, ◌∙◌}
 use Rattle.at_base.specs.declared.event.Local.{Local}
 use Rattle.at_model.specs.World.{Input, World, WorldEvent, Turn, Ask, Crash, Up, example_base, node_of, nth, put_nth, world_step}
-use Rattle.memory_net.specs.Calls.{IsServing}
 use Rattle.memory_net.specs.Closed.{IsExampleRequest}
 use Rattle.memory_net.specs.Mails.{Mail, mail_of}
 use Rattle.memory_net.specs.declared.host.Host.{Host}
@@ -16,14 +15,16 @@ use Rattle.site_model.specs.Told.{Files}
 use Rattle.world_laws.proofs.NumberedItems.{nth_none}
 use Rattle.mirrored_nets.specs.Goings.{CameUp, IsBrought, IsNothing, IsSet, NetsMirror, WentDown, ms_of}
 use Rattle.mirrored_nets.specs.Mirrors.{AllServe, MayServe, Mirrors}
-use Rattle.mirrored_nets.specs.NetSteps.{MoveAnswers, MovesNode, NetMove, NetStep, StartsNode, StepAnswers}
+use Rattle.mirrored_nets.specs.NetSteps.{IsGiven, MoveAnswers, MovesNode, NetMove, NetStep, StartsNode, StepAnswers}
 use Rattle.mirrored_nets.specs.Seen.{Seen}
 use Rattle.mirrored_nets.specs.Started.{Started}
 use Rattle.mirrored_nets.specs.Rooms.{HasRoomAt, IsFullAt}
-use Rattle.mirrored_nets.specs.Took.{HasRoom, IsFull, LeftSo, TookRequest, TookTurn}
+use Rattle.mirrored_nets.specs.Took.{HasRoom, IsFull, TookRequest, TookTurn}
 use Rattle.mirrored_nets.specs.TookStart.{TookStart}
-use Rattle.mirrored_nets.specs.declared.came.Came.{Came}
+use Rattle.mirrored_nets.specs.Unarmed.{IsntApart}
 use Rattle.mirrored_nets.specs.declared.came.Came.TheVariants as cames
+use Rattle.mirrored_nets.specs.declared.fault.Unlike.{Unlike}
+use Rattle.mirrored_nets.specs.declared.fault.Unlike.TheVariants.{Apart}
 use Rattle.mirrored_nets.proofs.OpenedNets.{serve_put}
 
 -- whether the host of that number is up
@@ -75,15 +76,15 @@ pub room_set : (i now : ℕ) (inside net : Seen) (h : Host) (site old : MemSite)
 room_set i now inside net h site old e room here same set =
     room_kept now site old set (subst HasRoom (sym same) (room h (subst (λ (s : Seen). nth i s.hosts ≡ Some h) e here)))
 
-pub rests_down : (net : Seen) (i : ℕ) (e : WorldEvent) (up : Bool) → node_of e ≡ i → IsUp net.hosts i up → up ≡ false → IsNothing e None → NetStep e net net
-rests_down net i e up at (h, here, is) down nothing = inr (record {
+pub rests_down : (raw : List ℕ) (net : Seen) (i : ℕ) (e : WorldEvent) (up : Bool) → node_of e ≡ i → IsUp net.hosts i up → up ≡ false → IsNothing e None → NetStep e raw net net
+rests_down raw net i e up at (h, here, is) down nothing = inr (record {
   host = h;
   here = ap (λ k. nth k net.hosts) at ∙ here;
   nothing = subst (IsNothing e) (sym (node_of_none h.node (sym is ∙ down))) nothing;
   same = refl;
 })
 
-pub rests_up : (net : Seen) (i : ℕ) (landed stop up : Bool) → IsUp net.hosts i up → up ≡ true → NetStep (Up i landed stop) net net
+pub rests_up : (net : Seen) (i : ℕ) (landed stop up : Bool) → IsUp net.hosts i up → up ≡ true → NetStep (Up i landed stop) [] net net
 rests_up net i landed stop up (h, here, is) here_up =
     let n = node_of_some h.node (sym is ∙ here_up) in
     inr (record { host = h; here = here; nothing = subst (IsNothing (Up i landed stop)) (sym n.1) tt; same = refl })
@@ -95,7 +96,7 @@ module _ (i : ℕ) (hosts new : List Host) (clocks : List ℕ) (letters : List L
   put : net_of new clocks letters ≡ net_of (put_nth i g hosts) clocks letters
   put = ap (λ (l : List Host). net_of l clocks letters) puts
 
-  pub crashes : (up : Bool) (site : MemSite) → IsUp hosts i up → up ≡ true → site ≡ h.site → WentDown site g → NetStep (Crash i) (net_of hosts clocks letters) (net_of new clocks letters)
+  pub crashes : (up : Bool) (site : MemSite) → IsUp hosts i up → up ≡ true → site ≡ h.site → WentDown site g → NetStep (Crash i) [] (net_of hosts clocks letters) (net_of new clocks letters)
   crashes up site is e same down =
       let n = up_node hosts i up h is here e in
       inl (record {
@@ -109,7 +110,7 @@ module _ (i : ℕ) (hosts new : List Host) (clocks : List ℕ) (letters : List L
       })
 
   pub starts : (up landed stop : Bool) (c : ℕ) (site : MemSite) (base : List ℕ) → IsUp hosts i up → up ≡ false → nth i clocks ≡ Some c → base ≡ example_base i → site ≡ h.site → Started base c landed stop site g
-      → NetStep (Up i landed stop) (net_of hosts clocks letters) (net_of new clocks letters)
+      → NetStep (Up i landed stop) [] (net_of hosts clocks letters) (net_of new clocks letters)
   starts up landed stop c site base is e clock named same started =
       inl (record {
         host = h;
@@ -124,7 +125,7 @@ module _ (i : ℕ) (hosts new : List Host) (clocks : List ℕ) (letters : List L
 
   pub asks : (n : Node) (c many : ℕ) (request : Local) (site machine : MemSite) (more : List Letter) (fates : List Bool) (until : Option ℕ) → h.node ≡ Some n → nth i clocks ≡ Some c → many ≡ length hosts → IsExampleRequest request
       → site ≡ h.site → IsSet c site machine → TookRequest i many request n machine g (map mail_of letters) (map mail_of more) fates until
-      → NetStep (Ask i request fates until) (net_of hosts clocks letters) (net_of new clocks more)
+      → NetStep (Ask i request fates until) [] (net_of hosts clocks letters) (net_of new clocks more)
   asks n c many request site machine more fates until up clock all named same set took =
       inl (record {
         host = h;
@@ -142,11 +143,11 @@ module _ (i : ℕ) (hosts new : List Host) (clocks : List ℕ) (letters : List L
         clocks = refl;
       })
 
-  pub turns : (n : Node) (c many now lines : ℕ) (input : Input) (bytes : List ℕ) (site machine : MemSite) (times : List ℕ) (more : List Letter) (fates : List Bool) (until : Option ℕ) → h.node ≡ Some n → nth i clocks ≡ Some c
-      → many ≡ length hosts → IsBrought (map mail_of letters) i input lines bytes → now ≡ c + ms_of input → site ≡ h.site → IsSet now site machine
+  pub turns : (n : Node) (c many now lines : ℕ) (input : Input) (bytes raw : List ℕ) (site machine : MemSite) (times : List ℕ) (more : List Letter) (fates : List Bool) (until : Option ℕ) → h.node ≡ Some n → nth i clocks ≡ Some c
+      → many ≡ length hosts → IsBrought (map mail_of letters) i input lines bytes → IsGiven input raw bytes → now ≡ c + ms_of input → site ≡ h.site → IsSet now site machine
       → TookTurn i many lines bytes n machine g (map mail_of letters) (map mail_of more) fates until → times ≡ put_nth i now clocks
-      → NetStep (Turn i input fates until) (net_of hosts clocks letters) (net_of new times more)
-  turns n c many now lines input bytes site machine times more fates until up clock all brought later same set took ticks =
+      → NetStep (Turn i input fates until) raw (net_of hosts clocks letters) (net_of new times more)
+  turns n c many now lines input bytes raw site machine times more fates until up clock all brought given later same set took ticks =
       inl (record {
         host = h;
         here = here;
@@ -157,6 +158,7 @@ module _ (i : ℕ) (hosts new : List Host) (clocks : List ℕ) (letters : List L
         lines = lines;
         bytes = bytes;
         brought = brought;
+        given = given;
         machine = machine;
         set = subst (λ (s : MemSite). IsSet (c + ms_of input) s machine) same (subst (λ k. IsSet k site machine) later set);
         behind = g;
@@ -187,24 +189,24 @@ module _ (mirror : NetsMirror) (old new : Seen) (count : ℕ) (w : World) (few :
       by machine set (inr (stops, took)) =
           mirror.upped_not count old.hosts old.clocks (map mail_of old.letters) w i s.clock s.host s.behind machine landed stop few mirrors (numbered i old.hosts s.host s.here) s.here s.down set took stops
 
-  moved : (e : WorldEvent) → MovesNode e old new → Mirrors count new.hosts new.clocks (map mail_of new.letters) (world_step w e)
-  moved (Turn i input fates until) s =
+  moved : (e : WorldEvent) (raw : List ℕ) → MovesNode e raw old new → Mirrors count new.hosts new.clocks (map mail_of new.letters) (world_step w e)
+  moved (Turn i input fates until) raw s =
       of_parts (world_step w (Turn i input fates until)) (put_nth i s.behind old.hosts) (put_nth i (s.clock + ms_of input) old.clocks) s.hosts s.clocks
       (mirror.turned count old.hosts old.clocks (map mail_of old.letters) (map mail_of new.letters) w i s.clock s.host s.behind s.node input s.lines s.bytes s.machine fates until few mirrors (numbered i old.hosts s.host s.here) s.here
       s.up s.time s.brought s.set (subst (λ k. TookTurn i k s.lines s.bytes s.node s.machine s.behind (map mail_of old.letters) (map mail_of new.letters) fates until) mirrors.many s.took))
-  moved (Ask i request fates until) s =
+  moved (Ask i request fates until) raw s =
       of_parts (world_step w (Ask i request fates until)) (put_nth i s.behind old.hosts) old.clocks s.hosts s.clocks
       (mirror.asked count old.hosts old.clocks (map mail_of old.letters) (map mail_of new.letters) w i s.clock s.host s.behind s.node request s.machine fates until few mirrors (numbered i old.hosts s.host s.here) s.here
       s.up s.time s.named s.set (subst (λ k. TookRequest i k request s.node s.machine s.behind (map mail_of old.letters) (map mail_of new.letters) fates until) mirrors.many s.took))
-  moved (Crash i) s =
+  moved (Crash i) raw s =
       seen_as (world_step w (Crash i)) (record old { hosts = put_nth i s.behind old.hosts }) s.are
       (mirror.downed count old.hosts old.clocks (map mail_of old.letters) w i s.host s.behind s.node few mirrors (numbered i old.hosts s.host s.here) s.here s.up s.went)
-  moved (Up i landed stop) s =
+  moved (Up i landed stop) raw s =
       seen_as (world_step w (Up i landed stop)) (record old { hosts = put_nth i s.behind old.hosts }) s.are (begun_by i landed stop s)
 
-  mirrored : (e : WorldEvent) → NetStep e old new → Mirrors count new.hosts new.clocks (map mail_of new.letters) (world_step w e)
-  mirrored e (inl s) = moved e s
-  mirrored e (inr r) = seen_as (world_step w e) old r.same (mirror.unmoved count old.hosts old.clocks (map mail_of old.letters) w e r.host mirrors r.here r.nothing)
+  mirrored : (e : WorldEvent) (raw : List ℕ) → NetStep e raw old new → Mirrors count new.hosts new.clocks (map mail_of new.letters) (world_step w e)
+  mirrored e raw (inl s) = moved e raw s
+  mirrored e raw (inr r) = seen_as (world_step w e) old r.same (mirror.unmoved count old.hosts old.clocks (map mail_of old.letters) w e r.host mirrors r.here r.nothing)
 
   -- with as many nodes as it has hosts
   same_few : length old.hosts ≤ 8
@@ -213,30 +215,30 @@ module _ (mirror : NetsMirror) (old new : Seen) (count : ℕ) (w : World) (few :
   same_mirrors : Mirrors (length old.hosts) old.hosts old.clocks (map mail_of old.letters) w
   same_mirrors = subst (λ n. Mirrors n old.hosts old.clocks (map mail_of old.letters) w) (sym mirrors.many) mirrors
 
-  move_answers : (e : WorldEvent) (s : MovesNode e old new) → MoveAnswers w e old new s
-  move_answers (Turn i input fates until) s = λ stays. (
+  move_answers : (e : WorldEvent) (raw : List ℕ) (s : MovesNode e raw old new) → MoveAnswers w e raw old new s
+  move_answers (Turn i input fates until) raw s = λ stays. (
     mirror.answered (length old.hosts) old.hosts old.clocks (map mail_of old.letters) (map mail_of new.letters) w i s.clock s.host s.behind s.node input s.lines s.bytes s.machine fates until same_few same_mirrors
         (numbered i old.hosts s.host s.here) s.here s.up s.time s.brought s.set s.took stays,
     mirror.turned_effects (length old.hosts) old.hosts old.clocks (map mail_of old.letters) (map mail_of new.letters) w i s.clock s.host s.behind s.node input s.lines s.bytes s.machine fates until same_few
         same_mirrors (numbered i old.hosts s.host s.here) s.here s.up s.time s.brought s.set s.took stays,
   )
-  move_answers (Ask i request fates until) s =
+  move_answers (Ask i request fates until) raw s =
       mirror.asked_effects (length old.hosts) old.hosts old.clocks (map mail_of old.letters) (map mail_of new.letters) w i s.clock s.host s.behind s.node request s.machine fates until same_few same_mirrors
       (numbered i old.hosts s.host s.here) s.here s.up s.time s.named s.set s.took
-  move_answers (Crash i) s = tt
-  move_answers (Up i landed stop) s = tt
+  move_answers (Crash i) raw s = tt
+  move_answers (Up i landed stop) raw s = tt
 
-  step_answers : (e : WorldEvent) (s : NetStep e old new) → StepAnswers w e old new s
-  step_answers e (inl s) = move_answers e s
-  step_answers e (inr r) = tt
+  step_answers : (e : WorldEvent) (raw : List ℕ) (s : NetStep e raw old new) → StepAnswers w e raw old new s
+  step_answers e raw (inl s) = move_answers e raw s
+  step_answers e raw (inr r) = tt
 
   -- whatever event of a world is done to a net that mirrors it
-  pub moves : (e : WorldEvent) → NetStep e old new → NetMove count w e old new
-  moves e step = record { step = step; answers = step_answers e step; mirrors = mirrored e step }
+  pub moves : (e : WorldEvent) (raw : List ℕ) → NetStep e raw old new → NetMove count w e raw old new
+  moves e raw step = record { step = step; answers = step_answers e raw step; mirrors = mirrored e raw step }
 
 -- a net as its callers see it is one of these parts
-pub seen_by : (e : WorldEvent) (net next old : Seen) → old ≡ net → NetStep e old next → NetStep e net next
-seen_by e net next old is step = subst (λ (s : Seen). NetStep e s next) is step
+pub seen_by : (e : WorldEvent) (raw : List ℕ) (net next old : Seen) → old ≡ net → NetStep e raw old next → NetStep e raw net next
+seen_by e raw net next old is step = subst (λ (s : Seen). NetStep e raw s next) is step
 
 pub up_at : (hosts slice : List Host) (i : ℕ) (up : Bool) → slice ≡ hosts → IsUp slice i up → IsUp hosts i up
 up_at hosts slice i up e is = subst (λ (l : List Host). IsUp l i up) e is
@@ -245,20 +247,7 @@ up_at hosts slice i up e is = subst (λ (l : List Host). IsUp l i up) e is
 pub serve_on : (i : ℕ) (g : Host) (hosts new : List Host) → AllServe hosts → MayServe g → new ≡ put_nth i g hosts → AllServe new
 serve_on i g hosts new all here puts = subst AllServe (sym puts) (serve_put i g hosts all here)
 
-pub down_serves : (old : MemSite) (g : Host) → WentDown old g → MayServe g
-down_serves old g went = subst (λ o. IfSome o IsServing) (sym went.down) tt
-
-pub started_serves : (base : List ℕ) (c : ℕ) (landed stop : Bool) (site : MemSite) (g : Host) → Started base c landed stop site g → MayServe g
-started_serves base c landed stop site g (old, set, inl (lands, stays, came)) = subst (λ o. IfSome o IsServing) (sym came.is) came.serving
-started_serves base c landed stop site g (old, set, inr (stops, took)) = subst (λ o. IfSome o IsServing) (sym took.down) tt
-
-left_serves : (came : Came) (m : Node) (old t : MemSite) (g : Host) → LeftSo came m old t g → IsServing m → MayServe g
-left_serves cames.Stays m old t g left serves = subst (λ o. IfSome o IsServing) (sym left.0) serves
-left_serves (cames.Falls kept choice) m old t g left serves = subst (λ o. IfSome o IsServing) (sym left.0) tt
-left_serves cames.Halts m old t g left serves = subst (λ o. IfSome o IsServing) (sym left.0) tt
-
-pub turned_serves : (i count lines : ℕ) (bytes : List ℕ) (n : Node) (old : MemSite) (g : Host) (mails more : List Mail) (fates : List Bool) (until : Option ℕ) → TookTurn i count lines bytes n old g mails more fates until → MayServe g
-turned_serves i count lines bytes n old g mails more fates until t = left_serves t.came t.node old t.site g t.left t.turns.serving
-
-pub asked_serves : (i count : ℕ) (request : Local) (n : Node) (old : MemSite) (g : Host) (mails more : List Mail) (fates : List Bool) (until : Option ℕ) → TookRequest i count request n old g mails more fates until → MayServe g
-asked_serves i count request n old g mails more fates until t = left_serves t.came t.node old t.site g t.left t.requests.serving
+-- a fault that is handed on
+pub still_isnt : {A : Type 0} (e : Unlike) (r : Result A Unlike) → IsErrAnd r (λ x. x ≡ e) → (e ≡ Apart → ⊥) → IsntApart r
+still_isnt e (Ok x) same isnt = tt
+still_isnt e (Err f) same isnt = λ apart. isnt (sym same ∙ apart)

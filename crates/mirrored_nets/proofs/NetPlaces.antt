@@ -3,7 +3,7 @@ use Rattle.std.specs.Prelude.{ℕ, List, [], ◌∷◌, ◌≡◌, ◌≤◌, �
 use Rattle.std.proofs.Common.{ap, arith, get_or, refl, sym, ◌∙◌}
 use Rattle.std.proofs.lemmas.Option.{slice_get_read}
 use Rattle.at_model.specs.World.{nth, put_nth}
-use Rattle.memory_net.specs.Mails.{mail_of}
+use Rattle.memory_net.specs.Mails.{Mail, mail_of}
 use Rattle.memory_net.specs.declared.letter.Letter.{Letter}
 use Rattle.world_laws.proofs.Nodes.{put_put}
 use Rattle.world_laws.proofs.NumberedItems.{nth_back, put_back}
@@ -29,3 +29,13 @@ mail_at n letters l e = nth_map mail_of n letters ∙ ap (option_map mail_of) (s
 pub some_map : {A B : Type 0} (f : A → B) (o : Option A) → is_some o ≡ is_some (option_map f o)
 some_map f None = refl
 some_map f (Some x) = refl
+
+pub no_letter : (n : ℕ) (letters : List Letter) (m : Mail) → nth n (map mail_of letters) ≡ Some m → None ≡ nth n letters → ⊥
+no_letter n letters m at none = let e : None ≡ Some m = ap (option_map mail_of) none ∙ sym (nth_map mail_of n letters) ∙ at in absurd cc
+
+pub letter_is : (n : ℕ) (letters : List Letter) (l : Letter) (m : Mail) → Some l ≡ nth n letters → nth n (map mail_of letters) ≡ Some m → mail_of l ≡ m
+letter_is n letters l m here at = let e : Some (mail_of l) ≡ Some m = sym (mail_at n letters l here) ∙ at in cc
+
+pub not_up : {A : Type 0} (o : Option A) → is_some o ≡ true → o ≡ None → ⊥
+not_up None up down = absurd cc
+not_up (Some x) up down = absurd cc

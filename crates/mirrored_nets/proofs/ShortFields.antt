@@ -1,6 +1,6 @@
 -- The key and the value of the examples can be delivered.
 use Rattle.std.specs.Prelude.{List, Bool, codes, not, true, false, ℕ, ◌≡◌}
-use Rattle.std.proofs.Common.{lit≤, refl, sym, subst, ◌∙◌}
+use Rattle.std.proofs.Common.{ap, lit≤, refl, sym, subst, ◌∙◌}
 use Rattle.std.specs.Str.{bytes_eq, chars, is_utf8}
 use Rattle.std.proofs.lemmas.Slice.Eq.{bytes_eq-Decides}
 use Rattle.deliverables.specs.Deliverables.{IsDeliverableField}
@@ -22,3 +22,6 @@ is_key key b e f = by (bytes_eq key (codes "k")) refl (sym e ∙ f)
 
 pub is_value : (value : List ℕ) → bytes_eq value (codes "v") ≡ true → IsDeliverableField value
 is_value value h = subst IsDeliverableField (sym ((bytes_eq-Decides value (codes "v")).0 h)) value_so
+
+pub no_key : (key : List ℕ) (b : Bool) → b ≡ not (bytes_eq key (codes "k")) → b ≡ true → key ≡ codes "k" → ⊥
+no_key key b e f same = let g : not true ≡ true = ap not (sym ((bytes_eq-Decides key (codes "k")).1 same)) ∙ sym e ∙ f in absurd cc

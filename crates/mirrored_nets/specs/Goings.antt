@@ -22,6 +22,7 @@ use Rattle.mirrored_nets.specs.Answered.{HasEffects, IsAnswered, RefusesAlike}
 use Rattle.mirrored_nets.specs.Mirrors.{Mirrors}
 use Rattle.mirrored_nets.specs.Took.{TookRequest, TookTurn}
 use Rattle.mirrored_nets.specs.TookStart.{TookStart}
+use Rattle.mirrored_nets.specs.Unarmed.{IsReady, IsTold}
 use Rattle.mirrored_nets.specs.declared.came.Came.TheVariants as cames
 
 -- the bytes that ask a node for what is due
@@ -32,11 +33,12 @@ pub record IsTick (bytes : List ℕ) : Type 0 where
   pub path : to.path ≡ tick_path
   pub are : bytes ≡ tick_of to
 
--- the host's machine at that time, where a call of it may be armed
+-- the host's machine at that time, which was told which call of it is to fail, or that none is
 pub record IsSet (now : ℕ) (h old : MemSite) : Type 0 where
   pub opening : opening_in old.device ≡ opening_in h.device
   pub calls : calls_in old.device ≡ calls_in h.device
   pub clock : old.clock ≡ now
+  pub told : IsReady h → IsTold old
 
 -- how much time an input lets go by
 abbrev pub ms_of : Input → ℕ
@@ -62,6 +64,7 @@ pub record CameUp (base : List ℕ) (old : MemSite) (new : Host) : Type 0 where
 pub record WentDown (old : MemSite) (new : Host) : Type 0 where
   pub down : new.node ≡ None
   pub left : Leaves Drop old.device new.site.device
+  pub links : new.site.links ≡ old.links
 
 -- an event of the world that is nothing at a node that is down, or up
 abbrev pub IsNothing : WorldEvent → Option Node → Type 0

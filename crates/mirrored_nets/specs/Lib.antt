@@ -8,3 +8,6 @@ pub mod Rooms
 pub mod Goings
 pub mod Started
 pub mod NetSteps
+pub mod Unarmed
+pub mod PossibleMoves
+pub mod Counted

@@ -1,5 +1,5 @@
 -- A net in memory that mirrors a world of the model.
-use Rattle.std.specs.Prelude.{ℕ, List, Option, ◌≡◌, IfSome, Some, length}
+use Rattle.std.specs.Prelude.{ℕ, List, Option, false, ◌≡◌, IfSome, Some, length}
 use Rattle.std.specs.List.{AllByRecursion}
 use Rattle.at_base.specs.declared.epr.Epr.{Epr}
 use Rattle.at_model.specs.World.{Node as Known, World, example_base, example_hosts, new_nodes, nth, receiver_of}
@@ -9,10 +9,13 @@ use Rattle.memory_net.specs.Stands.{Stands}
 use Rattle.memory_net.specs.declared.host.Host.{Host}
 use Rattle.node_at.specs.declared.node.Node.{Node}
 use Rattle.node_worlds.specs.Nets.{IsWorldOf}
+use Rattle.mirrored_nets.specs.Unarmed.{IsReady}
 
--- the node of a host serves, where it is up
-abbrev pub MayServe : Host → Type 0
-MayServe h = IfSome h.node IsServing
+-- The node of a host serves and hasn't halted, where it is up; and its machine can be told which call is to fail.
+pub record MayServe (h : Host) : Type 0 where
+  pub serving : IfSome h.node IsServing
+  pub runs : IfSome h.node (λ n. n.halted ≡ false)
+  pub ready : IsReady h.site
 
 abbrev pub AllServe : List Host → Type 0
 AllServe hosts = AllByRecursion MayServe hosts

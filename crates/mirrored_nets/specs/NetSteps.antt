@@ -3,7 +3,7 @@ use Rattle.std.specs.Prelude.{ℕ, List, [], ◌+◌, ◌≡◌, ◌⊎◌, Bool
 use Rattle.std.specs.List.{AllByRecursion}
 use Rattle.std.proofs.Common.{inl, inr}
 use Rattle.at_base.specs.declared.event.Local.{Local}
-use Rattle.at_model.specs.World.{Input, World, WorldEvent, Turn, Ask, Crash, Up, example_base, node_of, nth, put_nth, world_step}
+use Rattle.at_model.specs.World.{Input, World, WorldEvent, Turn, Ask, Crash, Up, Raw, example_base, node_of, nth, put_nth, world_step}
 use Rattle.memory_net.specs.Closed.{IsExampleRequest}
 use Rattle.memory_net.specs.Hosts.{IsFresh}
 use Rattle.memory_net.specs.Mails.{mail_of}
@@ -25,9 +25,14 @@ pub record IsUnstarted (count : ℕ) (net : Seen) : Type 0 where
   pub clocks : net.clocks ≡ replicate count 0
   pub letters : net.letters ≡ []
 
--- A node that is up took one turn: of a connection that brought what the event does, when its clock showed that time. Its posts are the next
--- letters, and nothing else changed.
-pub record TurnsNode (i : ℕ) (input : Input) (fates : List Bool) (until : Option ℕ) (old new : Seen) : Type 0 where
+-- raw bytes are those that are given
+abbrev pub IsGiven : Input → List ℕ → List ℕ → Type 0
+IsGiven Raw raw bytes = bytes ≡ raw
+IsGiven other raw bytes = Unit {0}
+
+-- A node that is up took one turn: of a connection that brought what the event does, where that is raw bytes those that are given, when its clock
+-- showed that time. Its posts are the next letters, and nothing else changed.
+pub record TurnsNode (i : ℕ) (input : Input) (fates : List Bool) (until : Option ℕ) (raw : List ℕ) (old new : Seen) : Type 0 where
   pub host : Host
   pub here : nth i old.hosts ≡ Some host
   pub node : Node
@@ -37,6 +42,7 @@ pub record TurnsNode (i : ℕ) (input : Input) (fates : List Bool) (until : Opti
   pub lines : ℕ
   pub bytes : List ℕ
   pub brought : IsBrought (map mail_of old.letters) i input lines bytes
+  pub given : IsGiven input raw bytes
   pub machine : MemSite
   pub set : IsSet (clock + ms_of input) host.site machine
   pub behind : Host
@@ -81,11 +87,11 @@ pub record StartsNode (i : ℕ) (landed stop : Bool) (old new : Seen) : Type 0 w
   pub started : Started (example_base i) clock landed stop host.site behind
   pub are : new ≡ record old { hosts = put_nth i behind old.hosts }
 
-abbrev pub MovesNode : WorldEvent → Seen → Seen → Type 0
-MovesNode (Turn i input fates until) old new = TurnsNode i input fates until old new
-MovesNode (Ask i request fates until) old new = AsksNode i request fates until old new
-MovesNode (Crash i) old new = CrashesNode i old new
-MovesNode (Up i landed stop) old new = StartsNode i landed stop old new
+abbrev pub MovesNode : WorldEvent → List ℕ → Seen → Seen → Type 0
+MovesNode (Turn i input fates until) raw old new = TurnsNode i input fates until raw old new
+MovesNode (Ask i request fates until) raw old new = AsksNode i request fates until old new
+MovesNode (Crash i) raw old new = CrashesNode i old new
+MovesNode (Up i landed stop) raw old new = StartsNode i landed stop old new
 
 -- At a node that is down, or up where it is to start, nothing was done.
 pub record RestsNode (e : WorldEvent) (old new : Seen) : Type 0 where
@@ -94,23 +100,24 @@ pub record RestsNode (e : WorldEvent) (old new : Seen) : Type 0 where
   pub nothing : IsNothing e host.node
   pub same : new ≡ old
 
-abbrev pub NetStep : WorldEvent → Seen → Seen → Type 0
-NetStep e old new = MovesNode e old new ⊎ RestsNode e old new
+abbrev pub NetStep : WorldEvent → List ℕ → Seen → Seen → Type 0
+NetStep e raw old new = MovesNode e raw old new ⊎ RestsNode e old new
 
 -- What a call gives behind which its node stays up is what the world says of its event: what a turn is answered, whether a request is refused,
 -- and the effects of both. Of one in which its node goes down this isn't said.
-abbrev pub MoveAnswers : (w : World) (e : WorldEvent) (old new : Seen) → MovesNode e old new → Type 0
-MoveAnswers w (Turn i input fates until) old new t =
+abbrev pub MoveAnswers : (w : World) (e : WorldEvent) (raw : List ℕ) (old new : Seen) → MovesNode e raw old new → Type 0
+MoveAnswers w (Turn i input fates until) raw old new t =
     t.took.came ≡ cames.Stays → IsAnswered w (Turn i input fates until) input t.bytes t.took.result × HasEffects w (Turn i input fates until) t.took.node
-MoveAnswers w (Ask i request fates until) old new t = t.took.came ≡ cames.Stays → RefusesAlike w i request t.took.answer × HasEffects w (Ask i request fates until) t.took.node
-MoveAnswers w other old new t = Unit {0}
+MoveAnswers w (Ask i request fates until) raw old new t = t.took.came ≡ cames.Stays → RefusesAlike w i request t.took.answer × HasEffects w (Ask i request fates until) t.took.node
+MoveAnswers w other raw old new t = Unit {0}
 
-abbrev pub StepAnswers : (w : World) (e : WorldEvent) (old new : Seen) → NetStep e old new → Type 0
-StepAnswers w e old new (inl moves) = MoveAnswers w e old new moves
-StepAnswers w e old new (inr rests) = Unit {0}
+abbrev pub StepAnswers : (w : World) (e : WorldEvent) (raw : List ℕ) (old new : Seen) → NetStep e raw old new → Type 0
+StepAnswers w e raw old new (inl moves) = MoveAnswers w e raw old new moves
+StepAnswers w e raw old new (inr rests) = Unit {0}
 
--- An event of a world was done to a net that mirrors it: what its call gives is what the world says, and the net behind it mirrors the world behind it.
-pub record NetMove (count : ℕ) (w : World) (e : WorldEvent) (old new : Seen) : Type 0 where
-  pub step : NetStep e old new
-  pub answers : StepAnswers w e old new step
+-- An event of a world was done to a net that mirrors it, with these bytes where it brings raw ones: what its call gives is what the world says, and
+-- the net behind it mirrors the world behind it.
+pub record NetMove (count : ℕ) (w : World) (e : WorldEvent) (raw : List ℕ) (old new : Seen) : Type 0 where
+  pub step : NetStep e raw old new
+  pub answers : StepAnswers w e raw old new step
   pub mirrors : Mirrors count new.hosts new.clocks (map mail_of new.letters) (world_step w e)

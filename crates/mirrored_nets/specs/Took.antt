@@ -22,13 +22,15 @@ use Rattle.mirrored_nets.specs.declared.came.Came.{Came}
 use Rattle.mirrored_nets.specs.declared.came.Came.TheVariants as cames
 use Rattle.mirrored_nets.specs.Fates.{AllDone, AreAsked, disk_part, failures, refusals, sent_of}
 
--- the calls that it made are these, and no answer or post failed, and no record was refused, beside those among them
+-- the calls that it made are these, and no answer or post failed, and no record was refused and no gate left shut, beside those among them
 pub record Adds (made : List Made) (old new : MemSite) : Type 0 where
   pub calls : made ≡ drop (length (calls_in old.device)) (calls_in new.device)
   pub counted : new.tally.link ≡ old.tally.link + failures made
   pub uncapped : new.tally.link < 2 ^ 63
   pub refused : new.tally.disk ≤ old.tally.disk + refusals made
   pub below : new.tally.disk < 2 ^ 63
+  pub raised : new.tally.gate ≤ old.tally.gate + refusals made
+  pub under : new.tally.gate < 2 ^ 63
 
 -- there is room for a record of any length in both files
 pub record HasRoom (s : MemSite) : Type 0 where
@@ -50,6 +52,7 @@ pub record FellBack (old t : MemSite) (kept : ℕ) (choice : Choice) (new : MemS
   pub mid : MemSite
   pub back : GoesBack (length (calls_in old.device) + kept) t.device mid.device
   pub left : Leaves choice mid.device new.device
+  pub links : new.links ≡ t.links
 
 -- How many calls are kept at a stop behind so many fates and one more, which is yes or no, of calls all of which were done: of a record's
 -- append so many as leave it standing exactly where that is yes; else all of the append's, and then one for each answer and post.
@@ -115,7 +118,7 @@ kept_of cames.Halts made = length made
 abbrev pub LeftSo : Came → Node → (old t : MemSite) → Host → Type 0
 LeftSo cames.Stays m old t new = (new.node ≡ Some m) × (new.site ≡ t)
 LeftSo (cames.Falls kept choice) m old t new = (new.node ≡ None) × FellBack old t kept choice new.site
-LeftSo cames.Halts m old t new = (new.node ≡ None) × Leaves Keep t.device new.site.device
+LeftSo cames.Halts m old t new = (new.node ≡ None) × Leaves Keep t.device new.site.device × (new.site.links ≡ t.links)
 
 -- the turn went to its end, or halted
 abbrev pub EndsSo : Came → Turned → Type 0

@@ -1,6 +1,6 @@
 //! The calls that a node made in one event, and the fates that they had.
 
-ghost use Rattle.std.specs.Prelude.{◌≡◌, ◌≤◌, drop, length, map, take, true, replicate};
+ghost use Rattle.std.specs.Prelude.{◌≡◌, ◌≤◌, [], drop, length, map, take, true, replicate};
 ghost use Rattle.fated_walks.specs.Fated.{StartsWith};
 ghost use Rattle.site_memory.specs.Entries.{call_of, made_of, mades};
 ghost use Rattle.site_model.specs.Told.{done};
@@ -87,7 +87,8 @@ pub fn all_done(calls: &[Entry]) -> bool
 
 fn had(calls: &[Entry], fates: &Fates, from: usize) -> bool
     requires { from ≤ 1 }
-    ensures { result ≡ true → StartsWith (map is_done (mades calls.now)) (drop from fates.now) }
+    ensures had { result ≡ true → StartsWith (map is_done (mades calls.now)) (drop from fates.now) }
+    ensures all { AllDone (mades calls.now) → fates.now ≡ [] → result ≡ true }
 {
     for place in 0..calls.len() {
         if calls[place].done != fates.at(from + place) {
@@ -99,7 +100,8 @@ fn had(calls: &[Entry], fates: &Fates, from: usize) -> bool
 
 /// Whether a record's append, if one comes first, and the answers and posts behind it had the first of these fates.
 pub fn had_fates(calls: &[Entry], fates: &Fates) -> bool
-    ensures { result ≡ true → StartsWith (fates_in (mades calls.now)) fates.now }
+    ensures had { result ≡ true → StartsWith (fates_in (mades calls.now)) fates.now }
+    ensures all { AllDone (mades calls.now) → fates.now ≡ [] → result ≡ true }
 {
     let disk = disk_calls(calls);
     let step = behind(calls, disk);
@@ -156,14 +158,16 @@ pub fn refusals(calls: &[Entry]) -> u64
 /// Whether these bytes are the interim line.
 #[tactic(auto, using(crate::proofs::InterimBytes::is_interim))]
 fn is_line(bytes: &[u8]) -> bool
-    ensures { result ≡ true → bytes.now ≡ interim }
+    ensures is { result ≡ true → bytes.now ≡ interim }
+    ensures exact { bytes.now ≡ interim → result ≡ true }
 {
     bytes == b"HTTP/1.1 100 Continue\r\n\r\n".as_slice()
 }
 
 /// Whether a call said it.
 fn says_line(entry: &Entry) -> bool
-    ensures { result ≡ true → made_of entry.now ≡ done (Send interim) }
+    ensures is { result ≡ true → made_of entry.now ≡ done (Send interim) }
+    ensures exact { made_of entry.now ≡ done (Send interim) → result ≡ true }
 {
     if !entry.done {
         return false;
@@ -178,6 +182,7 @@ fn says_line(entry: &Entry) -> bool
 pub fn said(calls: &[Entry], lines: usize) -> bool
     ensures is { result ≡ true → take lines (mades calls.now) ≡ replicate lines (done (Send interim)) }
     ensures few { result ≡ true → lines ≤ 1 }
+    ensures exact { lines ≤ 1 → take lines (mades calls.now) ≡ replicate lines (done (Send interim)) → result ≡ true }
 {
     if lines == 0 {
         return true;

@@ -1,21 +1,27 @@
 //! An event that is done to a node on its machine.
 
-ghost use Rattle.std.specs.Prelude.{◌≡◌, ◌+◌, ◌≤◌, ◌<◌, ◌^◌, IfOk, false, length, map, replicate, take, true};
-ghost use Rattle.http_post.specs.Conversations.{interim};
+ghost use Rattle.std.specs.Prelude.{◌≡◌, ◌+◌, ◌≤◌, ◌<◌, ◌^◌, ◌⊎◌, [], IfOk, None, false, length, map, replicate, take, true};
+ghost use Rattle.http_post.specs.Conversations.{Waits, interim};
 ghost use Rattle.site_model.specs.Told.{done};
 ghost use Rattle.site_model.specs.Told.Call.{Send};
 ghost use Rattle.memory_net.specs.Calls.{IsServing};
 ghost use Rattle.memory_net.specs.Mails.{mail_of};
 ghost use Rattle.site_memory.specs.Devices.{calls_in};
 ghost use Rattle.site_memory.specs.Entries.{mades};
+ghost use Rattle.mirrored_nets.specs.Counted.{IsCounted};
 ghost use Rattle.mirrored_nets.specs.Fates.{failures, refusals};
 ghost use Rattle.mirrored_nets.specs.Goings.{CameUp, IsSet, WentDown};
-ghost use Rattle.mirrored_nets.specs.Took.{AnswersSo, EndsSo, FellBack, HasRoom, IsFull, LeftSo, TookRequest, TookTurn, kept_of};
+ghost use Rattle.mirrored_nets.specs.Took.{Adds, AnswersSo, EndsSo, FellBack, HasRoom, IsFull, LeftSo, TookRequest, TookTurn, kept_of};
+ghost use Rattle.mirrored_nets.specs.Unarmed.{IsReady, IsUnarmed, IsntApart};
+ghost use Rattle.mirrored_nets.specs.declared.came.Came.TheVariants.{Stays};
+ghost use Rattle.node_at.specs.declared.local.Locally.TheVariants as answers;
+ghost use Rattle.node_at.specs.declared.turn.Turned.TheVariants as turneds;
 
 use crate::calls::{failures, refusals, said, since};
 use crate::came::Came;
 use crate::fault::Unlike;
 use crate::judged::{Armed, judged};
+use crate::laws::unarmed_do;
 use at_base::event::Local;
 use at_base::text::Text;
 use memory_net::host::Host;
@@ -43,7 +49,8 @@ pub fn has_room(site: &MemSite) -> bool
 
 /// The machine at that time, with a failure armed, or none. A stop is no failure: the machine goes back to it behind the event.
 pub fn set(site: MemSite, armed: Armed, now: u64) -> MemSite
-    ensures { IsSet now site result }
+    ensures set { IsSet now site result }
+    ensures unarmed { armed ≡ Armed.No → IsReady site → IsUnarmed result }
 {
     let mut site = site;
     match armed {
@@ -54,9 +61,31 @@ pub fn set(site: MemSite, armed: Armed, now: u64) -> MemSite
     site
 }
 
+/// How many calls a machine has made, how many answers and posts failed, how many calls of its disk, and how many gates.
+#[derive(Clone, Copy, Debug, PartialEq, Eq)]
+struct Counts {
+    calls: usize,
+    sends: u64,
+    disk: u64,
+    gates: u64,
+}
+
+/// Its counts now.
+fn counts_of(site: &MemSite) -> Counts
+    ensures { IsCounted result site.now }
+{
+    Counts {
+        calls: site.calls(),
+        sends: site.failed_sends(),
+        disk: site.failed_disk_calls(),
+        gates: site.failed_gates(),
+    }
+}
+
 /// Whether no answer and no post failed beside those among these calls.
 fn counted(failed: u64, now: u64, calls: &[Entry]) -> Result<(), Unlike>
-    ensures { IfOk result (λ _. (now ≡ failed + failures (mades calls.now)) × (now < 2 ^ 63)) }
+    ensures counted { IfOk result (λ _. (now ≡ failed + failures (mades calls.now)) × (now < 2 ^ 63)) }
+    ensures memory { IsntApart result }
 {
     if now >= (1 << 63) || now < failed || now - failed != failures(calls) {
         return Err(Unlike::NoMemory);
@@ -64,9 +93,10 @@ fn counted(failed: u64, now: u64, calls: &[Entry]) -> Result<(), Unlike>
     Ok(())
 }
 
-/// Whether no record was refused beside those of whose calls one is among these.
+/// Whether no record was refused, or no gate left shut, beside those of whose calls one is among these.
 fn refused(failed: u64, now: u64, calls: &[Entry]) -> Result<(), Unlike>
-    ensures { IfOk result (λ _. (now ≤ failed + refusals (mades calls.now)) × (now < 2 ^ 63)) }
+    ensures memory { IsntApart result }
+    ensures refused { IfOk result (λ _. (now ≤ failed + refusals (mades calls.now)) × (now < 2 ^ 63)) }
 {
     if now >= (1 << 63) || now.saturating_sub(failed) > refusals(calls) {
         return Err(Unlike::NoMemory);
@@ -74,9 +104,22 @@ fn refused(failed: u64, now: u64, calls: &[Entry]) -> Result<(), Unlike>
     Ok(())
 }
 
+/// The calls since, beside which no answer and no post failed, no record was refused and no gate left shut.
+fn made_since<'a>(before: &Counts, site: &'a MemSite) -> Result<&'a [Entry], Unlike>
+    ensures adds { IfOk result (λ calls. (old : MemSite) → IsCounted before.now old → Adds (mades calls.now) old site.now) }
+    ensures memory { IsntApart result }
+{
+    let calls = since(site, before.calls);
+    counted(before.sends, site.failed_sends(), calls)?;
+    refused(before.disk, site.failed_disk_calls(), calls)?;
+    refused(before.gates, site.failed_gates(), calls)?;
+    Ok(calls)
+}
+
 /// Whether the calls that come before the first step said the interim line.
 fn spoke(lines: usize, calls: &[Entry]) -> Result<(), Unlike>
-    ensures { IfOk result (λ _. (take lines (mades calls.now) ≡ replicate lines (done (Send interim))) × (lines ≤ 1)) }
+    ensures spoke { IfOk result (λ _. (take lines (mades calls.now) ≡ replicate lines (done (Send interim))) × (lines ≤ 1)) }
+    ensures said { lines ≤ 1 → take lines (mades calls.now) ≡ replicate lines (done (Send interim)) → IsntApart result }
 {
     if said(calls, lines) {
         Ok(())
@@ -85,9 +128,21 @@ fn spoke(lines: usize, calls: &[Entry]) -> Result<(), Unlike>
     }
 }
 
+/// Whether there was memory for a turn.
+fn remembered(turned: Turned) -> Result<(), Unlike>
+    ensures room { IfOk result (λ _. turned ≡ turneds.NoRoom → ⊥) }
+    ensures memory { IsntApart result }
+{
+    match turned {
+        Turned::NoRoom => Err(Unlike::NoMemory),
+        _ => Ok(()),
+    }
+}
+
 /// Whether a turn ended as that says.
 fn ends(came: Came, turned: Turned) -> Result<(), Unlike>
-    ensures { IfOk result (λ _. EndsSo came turned) }
+    ensures ends { IfOk result (λ _. EndsSo came turned) }
+    ensures whole { EndsSo came turned → IsntApart result }
 {
     match (came, turned) {
         (Came::Halts, Turned::Halted) => Ok(()),
@@ -99,14 +154,14 @@ fn ends(came: Came, turned: Turned) -> Result<(), Unlike>
                 Ok(())
             }
         }
-        (_, Turned::NoRoom) => Err(Unlike::NoMemory),
         _ => Err(Unlike::Apart),
     }
 }
 
 /// Whether a request did.
 fn answers(came: Came, locally: Locally) -> Result<(), Unlike>
-    ensures { IfOk result (λ _. AnswersSo came locally) }
+    ensures answers { IfOk result (λ _. AnswersSo came locally) }
+    ensures whole { (locally ≡ answers.NoRoom) ⊎ AnswersSo came locally → IsntApart result }
 {
     match (came, locally) {
         (Came::Halts, Locally::Halted) => Ok(()),
@@ -158,7 +213,8 @@ fn kept_of(came: Came, calls: &[Entry]) -> &[Entry]
 
 /// The host behind an event.
 fn left(came: Came, node: Node, site: MemSite, before: usize) -> Result<Host, Unlike>
-    ensures { IfOk result (λ host. (old : MemSite) → before ≡ length (calls_in old.device) → LeftSo came node old site host) }
+    ensures left { IfOk result (λ host. (old : MemSite) → before ≡ length (calls_in old.device) → LeftSo came node old site host) }
+    ensures stays { came ≡ Stays → IsntApart result }
 {
     match came {
         Came::Stays => Ok(Host::of(Some(node), site)),
@@ -191,22 +247,25 @@ pub(crate) fn take(
 ) -> Result<Host, Unlike>
     requires serving { IsServing node }
     requires room { HasRoom site }
-    ensures { IfOk result (λ host. TookTurn number count lines bytes.now node site host (map mail_of letters.old.items) (map mail_of letters.new.items) fates.now until) }
+    ensures took { IfOk result (λ host. TookTurn number count lines bytes.now node site host (map mail_of letters.old.items) (map mail_of letters.new.items) fates.now until) }
+    ensures unarmed { IsUnarmed site → node.halted ≡ false → fates.now ≡ [] → until ≡ None → lines ≤ 1 → (lines ≡ 1 → Waits bytes.now true) → IsntApart result }
 {
+    unarmed_do();
     let mut after = node;
     let mut machine = site;
-    let before = machine.calls();
-    let failed = machine.failed_sends();
-    let refusing = machine.failed_disk_calls();
-    let turned = turn(alloc, &mut after, &mut machine, bytes)?;
-    let calls = since(&machine, before);
-    counted(failed, machine.failed_sends(), calls)?;
-    refused(refusing, machine.failed_disk_calls(), calls)?;
+    let before = counts_of(&machine);
+    let Ok(turned) = turn(alloc, &mut after, &mut machine, bytes) else {
+        return Err(Unlike::NoMemory);
+    };
+    let calls = made_since(&before, &machine)?;
+    remembered(turned)?;
     spoke(lines, calls)?;
     let came = judged(lines, calls, armed, fates, until)?;
     ends(came, turned)?;
-    gather(alloc, number, count, kept_of(came, calls), letters)?;
-    left(came, after, machine, before)
+    let Ok(()) = gather(alloc, number, count, kept_of(came, calls), letters) else {
+        return Err(Unlike::NoMemory);
+    };
+    left(came, after, machine, before.calls)
 }
 
 /// A request of its own program: the event with these fates and this stop.
@@ -224,26 +283,27 @@ pub(crate) fn request(
 ) -> Result<Host, Unlike>
     requires serving { IsServing node }
     requires room { HasRoom site }
-    ensures { IfOk result (λ host. TookRequest number count local.now node site host (map mail_of letters.old.items) (map mail_of letters.new.items) fates.now until) }
+    ensures took { IfOk result (λ host. TookRequest number count local.now node site host (map mail_of letters.old.items) (map mail_of letters.new.items) fates.now until) }
+    ensures unarmed { IsUnarmed site → node.halted ≡ false → fates.now ≡ [] → until ≡ None → IsntApart result }
 {
+    unarmed_do();
     let mut after = node;
     let mut machine = site;
-    let before = machine.calls();
-    let failed = machine.failed_sends();
-    let refusing = machine.failed_disk_calls();
+    let before = counts_of(&machine);
     let locally = ask(alloc, &mut after, &mut machine, local);
-    let calls = since(&machine, before);
-    counted(failed, machine.failed_sends(), calls)?;
-    refused(refusing, machine.failed_disk_calls(), calls)?;
+    let calls = made_since(&before, &machine)?;
     let came = judged(0, calls, armed, fates, until)?;
     answers(came, locally)?;
-    gather(alloc, number, count, kept_of(came, calls), letters)?;
-    left(came, after, machine, before)
+    let Ok(()) = gather(alloc, number, count, kept_of(came, calls), letters) else {
+        return Err(Unlike::NoMemory);
+    };
+    left(came, after, machine, before.calls)
 }
 
 /// A node that comes up under this base, without any fault.
 pub(crate) fn come_up(alloc: Global, site: MemSite, base: &Text) -> Result<Host, Unlike>
-    ensures { IfOk result (λ host. CameUp base.now site host) }
+    ensures came { IfOk result (λ host. CameUp base.now site host) }
+    ensures memory { IsntApart result }
 {
     let mut machine = site;
     match begin(alloc, &mut machine, base) {

@@ -1,14 +1,15 @@
 //! Whether the calls of an event are what it asks for.
 
-ghost use Rattle.std.specs.Prelude.{ℕ, List, [], ◌∷◌, ◌≡◌, ◌≤◌, IfOk, IfSome, drop, true};
+ghost use Rattle.std.specs.Prelude.{ℕ, List, [], ◌∷◌, ◌≡◌, ◌≤◌, IfOk, IfSome, None, Ok, drop, true};
 ghost use Rattle.node_events.specs.NodeEvents.{one_if, struck};
 ghost use Rattle.site_memory.specs.Entries.{call_of, mades};
 ghost use Rattle.site_model.specs.Told.{failed};
 ghost use Rattle.site_model.specs.Told.Call.{Sync, Write};
 ghost use Rattle.torn_appends.specs.TornAppends.{gate_stands, stands_behind};
 ghost use Rattle.fated_walks.specs.Fated.{IsBeyond};
-ghost use Rattle.mirrored_nets.specs.Fates.{AreAsked};
+ghost use Rattle.mirrored_nets.specs.Fates.{AllDone, AreAsked};
 ghost use Rattle.mirrored_nets.specs.Took.{ComesTo, IsKept};
+ghost use Rattle.mirrored_nets.specs.declared.came.Came.TheVariants.{Stays};
 
 use crate::calls::{all_done, anew, behind, disk_calls, fates_count, had_fates, send_calls};
 use crate::came::Came;
@@ -111,7 +112,8 @@ fn is_kept(
 
 /// Whether a stop comes behind all of so many fates, or there is none.
 fn is_beyond(until: Option<u64>, fates: usize) -> bool
-    ensures { result ≡ true → IsBeyond until fates }
+    ensures is { result ≡ true → IsBeyond until fates }
+    ensures none { until ≡ None → result ≡ true }
 {
     match until {
         None => true,
@@ -121,7 +123,8 @@ fn is_beyond(until: Option<u64>, fates: usize) -> bool
 
 /// Whether an event goes to its end.
 fn is_whole(lines: usize, calls: &[Entry], fates: &Fates, until: Option<u64>) -> bool
-    ensures { result ≡ true → AreAsked lines (mades calls.now) fates.now until }
+    ensures asked { result ≡ true → AreAsked lines (mades calls.now) fates.now until }
+    ensures all { AllDone (mades calls.now) → fates.now ≡ [] → until ≡ None → result ≡ true }
 {
     let step = behind(calls, lines);
     if !is_beyond(until, fates_count(step)) {
@@ -223,7 +226,8 @@ pub(crate) fn judged(
     until: Option<u64>,
 ) -> Result<Came, Unlike>
     requires { lines ≤ 1 }
-    ensures { IfOk result (λ came. ComesTo came lines (mades calls.now) fates.now until) }
+    ensures comes { IfOk result (λ came. ComesTo came lines (mades calls.now) fates.now until) }
+    ensures whole { AllDone (mades calls.now) → fates.now ≡ [] → until ≡ None → result ≡ Ok Stays }
 {
     if is_whole(lines, calls, fates, until) {
         return Ok(Came::Stays);

@@ -1,6 +1,7 @@
 //! Laws of nets that mirror worlds.
 
 ghost use Rattle.mirrored_nets.specs.Goings.{NetsMirror};
+ghost use Rattle.mirrored_nets.specs.Unarmed.{UnarmedLaws};
 
 use addressed_posts::laws::posts_are_addressed;
 use carried_meanings::laws::{bytes_mean_one_thing, posts_dont_wait, posts_say, ticks_ask};
@@ -10,7 +11,9 @@ use deliverables::laws::{examples_are_node_bases, nodes_own_is_deliverable, step
 use deliveries::laws::{calls_post, serve_as_nets};
 use endpoints::target::paths_name_targets;
 use http_post::laws::bytes_wait_or_not;
-use memory_net::laws::{are_no_messages, examples_ask_so, hosts_tell_receivers, stays_closed};
+use memory_net::laws::{
+    are_no_messages, examples_ask_so, hosts_tell_receivers, stays_closed, turns_are_heard,
+};
 use model_laws::rules::{recovers_the_compacted, steps_keep_place};
 use node_at::laws::steps_reply;
 use node_events::laws::{
@@ -21,11 +24,21 @@ use node_worlds::laws::{nets_keep, restarts_on_records};
 use node_worlds::lives::{crashes_are_met, runs_on_machines};
 use record_bytes::read::are_apart;
 use record_bytes::write::are_bodies;
-use site_memory::laws::chosen_are_images;
+use site_memory::laws::{calls_fail_as_told, chosen_are_images, links_hold};
 use site_memory::machine::MemSite;
 use small_envelopes::laws::bare_are_in_limits;
 use torn_appends::laws::appends_torn;
 use world_laws::laws::changes_by_moves;
+
+/// What an event at which no call is armed stands on.
+pub fn unarmed_do()
+    ensures { UnarmedLaws }
+{
+    calls_fail_as_told();
+    links_hold();
+    turns_are_heard();
+    bytes_wait_or_not();
+}
 
 /// Whatever events come to a world, and are done to hosts in memory, the hosts mirror it.
 pub fn nets_mirror()

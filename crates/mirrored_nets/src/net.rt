@@ -1,16 +1,19 @@
 //! A net in memory that mirrors a world.
 
-ghost use Rattle.std.specs.Prelude.{ℕ, ◌≡◌, ◌≤◌, [], false, true, IfErr, IfOk, OnOk, Some, is_some, length, map, option_copied};
+ghost use Rattle.std.specs.Prelude.{ℕ, ◌≡◌, ◌≤◌, ◌<◌, ◌^◌, [], false, true, IfErr, IfOk, OnOk, Some, is_some, length, map, option_copied};
 ghost use Rattle.at_model.specs.World.{World, Ask, Crash, Deliver, Raw, Turn, Up, example_base, example_hosts, node_of, nth, opening, put_nth};
 ghost use Rattle.memory_net.specs.Mails.{mail_of};
 ghost use Rattle.memory_net.specs.declared.host.Host.{Host};
 ghost use Rattle.world_laws.specs.Events.{event_of, input_of};
 ghost use Rattle.mirrored_nets.specs.Goings.{IsBrought, IsTick, ms_of};
 ghost use Rattle.mirrored_nets.specs.Mirrors.{Mirrors};
-ghost use Rattle.mirrored_nets.specs.NetSteps.{IsUnstarted, NetMove, NetStep};
+ghost use Rattle.mirrored_nets.specs.NetSteps.{IsGiven, IsUnstarted, NetMove, NetStep};
 ghost use Rattle.mirrored_nets.specs.Rooms.{HasRoomAt, IsFullAt};
 ghost use Rattle.mirrored_nets.specs.Started.{Started};
-ghost use Rattle.mirrored_nets.specs.declared.fault.Fault.TheVariants.{Full};
+ghost use Rattle.mirrored_nets.specs.PossibleMoves.{IsNumbered, MayBe, MayCome};
+ghost use Rattle.mirrored_nets.specs.Unarmed.{IsntApart};
+ghost use Rattle.mirrored_nets.specs.declared.fault.Fault.TheVariants.{Apart, Full};
+ghost use Rattle.possible_events.specs.PossibleEvents.{IsPossible};
 
 use crate::asks::names_examples;
 use crate::fault::{Fault, Unlike};
@@ -21,11 +24,14 @@ use crate::starts::start_struck;
 use addressing::post_to::PostTo;
 use at_base::event::Local;
 use at_base::text::Text;
+use carried_meanings::laws::bytes_mean_one_thing;
 use http_post::writer::tick_bytes;
 use memory_net::host::{Host, fresh};
+use memory_net::laws::letters_are_short;
 use memory_net::letter::Letter;
 use node_at::node::Node;
 use raw_requests::{Drawn, draw};
+use site_memory::laws::links_hold;
 use site_memory::machine::MemSite;
 use std::alloc::{AllocError, Global};
 use std::marker::Model;
@@ -81,7 +87,8 @@ fn letter_at(letters: &[Letter], number: u64) -> Option<&Letter>
 
 /// The letter of that number, where it goes to that node.
 fn letter_to(alloc: Global, letters: &[Letter], node: u8, number: u64) -> Result<Brought, Unlike>
-    ensures { IfOk result (λ b. IsBrought (map mail_of letters.now) node (Deliver number) b.lines b.bytes.items) }
+    ensures brought { IfOk result (λ b. IsBrought (map mail_of letters.now) node (Deliver number) b.lines b.bytes.items) }
+    ensures there { MayCome (map mail_of letters.now) node (Deliver number) [] → IsntApart result }
 {
     let Some(letter) = letter_at(letters, number) else {
         return Err(Unlike::Apart);
@@ -89,14 +96,14 @@ fn letter_to(alloc: Global, letters: &[Letter], node: u8, number: u64) -> Result
     if letter.receiver != node || letter.bytes.len() > 65_536 {
         return Err(Unlike::Apart);
     }
-    Ok(Brought {
-        bytes: Vec::from_slice(alloc, letter.bytes.as_slice())?,
-        lines: 0,
-    })
+    let Ok(bytes) = Vec::from_slice(alloc, letter.bytes.as_slice()) else {
+        return Err(Unlike::NoMemory);
+    };
+    Ok(Brought { bytes, lines: 0 })
 }
 
 /// The bytes that ask for what is due.
-fn tick(alloc: Global) -> Result<Brought, Unlike>
+fn tick(alloc: Global) -> Result<Brought, AllocError>
     ensures { IfOk result (λ b. IsTick b.bytes.items × (b.lines ≡ 0)) }
 {
     let to = PostTo {
@@ -112,15 +119,24 @@ fn tick(alloc: Global) -> Result<Brought, Unlike>
 
 /// Bytes that are refused.
 fn refused(alloc: Global, raw: &[u8]) -> Result<Brought, Unlike>
-    ensures { IfOk result (λ b. IsBrought [] 0 Raw b.lines b.bytes.items) }
+    ensures brought { IfOk result (λ b. IsBrought [] 0 Raw b.lines b.bytes.items) }
+    ensures given { IfOk result (λ b. b.bytes.items ≡ raw.now) }
+    ensures drawn { MayCome [] 0 Raw raw.now → IsntApart result }
 {
-    match draw(alloc, raw)? {
-        Drawn::Refused { waits, .. } => Ok(Brought {
-            bytes: Vec::from_slice(alloc, raw)?,
-            lines: if waits { 1 } else { 0 },
-        }),
-        Drawn::Forged => Err(Unlike::Apart),
-    }
+    bytes_mean_one_thing();
+    let Ok(drawn) = draw(alloc, raw) else {
+        return Err(Unlike::NoMemory);
+    };
+    let Drawn::Refused { waits, .. } = drawn else {
+        return Err(Unlike::Apart);
+    };
+    let Ok(bytes) = Vec::from_slice(alloc, raw) else {
+        return Err(Unlike::NoMemory);
+    };
+    Ok(Brought {
+        bytes,
+        lines: if waits { 1 } else { 0 },
+    })
 }
 
 /// What an event brings to a node.
@@ -131,11 +147,16 @@ fn brought_by(
     input: Input,
     raw: &[u8],
 ) -> Result<Brought, Unlike>
-    ensures { IfOk result (λ b. IsBrought (map mail_of letters.now) node (input_of input) b.lines b.bytes.items) }
+    ensures brought { IfOk result (λ b. IsBrought (map mail_of letters.now) node (input_of input) b.lines b.bytes.items) }
+    ensures given { IfOk result (λ b. IsGiven (input_of input) raw.now b.bytes.items) }
+    ensures there { MayCome (map mail_of letters.now) node (input_of input) raw.now → IsntApart result }
 {
     match input {
         Input::Deliver(number) => letter_to(alloc, letters, node, number),
-        Input::Tick(_) => tick(alloc),
+        Input::Tick(_) => match tick(alloc) {
+            Ok(brought) => Ok(brought),
+            Err(_) => Err(Unlike::NoMemory),
+        },
         Input::Raw => refused(alloc, raw),
     }
 }
@@ -161,7 +182,9 @@ fn host_of(hosts: &[Host], number: u8) -> Option<&Host>
 }
 
 /// What is armed behind the interim line, which is said: a failure of its call is none.
-fn spoken(armed: Armed, lines: usize) -> Armed {
+fn spoken(armed: Armed, lines: usize) -> Armed
+    ensures { armed ≡ Armed.No → result ≡ Armed.No }
+{
     match armed {
         Armed::Fail(1) if lines == 1 => Armed::No,
         Armed::No | Armed::Fail(_) | Armed::Stop(..) => armed,
@@ -170,7 +193,8 @@ fn spoken(armed: Armed, lines: usize) -> Armed {
 
 /// Whether a node is up.
 fn is_up(hosts: &[Host], number: u8) -> Result<bool, Unlike>
-    ensures { IfOk result (λ up. (h : Host) × (nth number hosts.now ≡ Some h) × (up ≡ is_some h.node)) }
+    ensures up { IfOk result (λ up. (h : Host) × (nth number hosts.now ≡ Some h) × (up ≡ is_some h.node)) }
+    ensures there { 1 ≤ number → number ≤ length hosts.now → IsntApart result }
 {
     match host_of(hosts, number) {
         Some(host) => Ok(host.node().is_some()),
@@ -180,7 +204,9 @@ fn is_up(hosts: &[Host], number: u8) -> Result<bool, Unlike>
 
 /// The clock of a node.
 fn clock_of(clocks: &[u64], number: u8) -> Result<u64, Unlike>
-    ensures { IfOk result (λ clock. nth number clocks.now ≡ Some clock) }
+    ensures clock { IfOk result (λ clock. nth number clocks.now ≡ Some clock) }
+    ensures fits { IfOk result (λ clock. clock < 2 ^ 64) }
+    ensures there { 1 ≤ number → number ≤ length clocks.now → IsntApart result }
 {
     if number == 0 {
         return Err(Unlike::Apart);
@@ -195,6 +221,8 @@ fn clock_of(clocks: &[u64], number: u8) -> Result<u64, Unlike>
 fn taken(alloc: Global, hosts: &mut Vec<Host>, number: u8) -> Result<Host, Unlike>
     ensures here { IfOk result (λ h. nth number hosts.old.items ≡ Some h) }
     ensures place { OnOk result ((g : Host) → put_nth number g hosts.new.items ≡ put_nth number g hosts.old.items) }
+    ensures many { length hosts.new.items ≡ length hosts.old.items }
+    ensures there { 1 ≤ number → number ≤ length hosts.old.items → IsntApart result }
 {
     if number == 0 || hosts.len() < number as usize {
         return Err(Unlike::Apart);
@@ -206,6 +234,8 @@ fn taken(alloc: Global, hosts: &mut Vec<Host>, number: u8) -> Result<Host, Unlik
 fn taken_up(alloc: Global, hosts: &mut Vec<Host>, number: u8) -> Result<(Node, MemSite), Unlike>
     ensures here { IfOk result (λ p. (h : Host) × (nth number hosts.old.items ≡ Some h) × (h.node ≡ Some p.0) × (p.1 ≡ h.site)) }
     ensures place { OnOk result ((g : Host) → put_nth number g hosts.new.items ≡ put_nth number g hosts.old.items) }
+    ensures many { length hosts.new.items ≡ length hosts.old.items }
+    ensures there { 1 ≤ number → number ≤ length hosts.old.items → ((h : Host) → nth number hosts.old.items ≡ Some h → is_some h.node ≡ true) → IsntApart result }
 {
     let (node, site) = taken(alloc, hosts, number)?.into_parts();
     match node {
@@ -216,7 +246,8 @@ fn taken_up(alloc: Global, hosts: &mut Vec<Host>, number: u8) -> Result<(Node, M
 
 /// Puts a host into its place.
 fn put_host(hosts: &mut Vec<Host>, number: u8, host: Host) -> Result<(), Unlike>
-    ensures { OnOk result (hosts.new.items ≡ put_nth number host hosts.old.items) }
+    ensures put { OnOk result (hosts.new.items ≡ put_nth number host hosts.old.items) }
+    ensures there { 1 ≤ number → number ≤ length hosts.old.items → IsntApart result }
 {
     if number == 0 || hosts.len() < number as usize {
         return Err(Unlike::Apart);
@@ -227,7 +258,8 @@ fn put_host(hosts: &mut Vec<Host>, number: u8, host: Host) -> Result<(), Unlike>
 
 /// Puts a clock into its place.
 fn put_clock(clocks: &mut Vec<u64>, number: u8, clock: u64) -> Result<(), Unlike>
-    ensures { OnOk result (clocks.new.items ≡ put_nth number clock clocks.old.items) }
+    ensures put { OnOk result (clocks.new.items ≡ put_nth number clock clocks.old.items) }
+    ensures there { 1 ≤ number → number ≤ length clocks.old.items → IsntApart result }
 {
     if number == 0 || clocks.len() < number as usize {
         return Err(Unlike::Apart);
@@ -238,7 +270,8 @@ fn put_clock(clocks: &mut Vec<u64>, number: u8, clock: u64) -> Result<(), Unlike
 
 /// How many there are.
 fn count_of(hosts: &[Host]) -> Result<u8, Unlike>
-    ensures { IfOk result (λ count. count ≡ length hosts.now) }
+    ensures count { IfOk result (λ count. count ≡ length hosts.now) }
+    ensures few { length hosts.now ≤ 8 → IsntApart result }
 {
     match u8::try_from(hosts.len()) {
         Ok(count) => Ok(count),
@@ -256,7 +289,8 @@ fn started(
     landed: bool,
     stop: bool,
 ) -> Result<Host, Unlike>
-    ensures { IfOk result (λ host. Started base.now clock landed stop site host) }
+    ensures started { IfOk result (λ host. Started base.now clock landed stop site host) }
+    ensures done { landed ≡ true → stop ≡ false → IsntApart result }
 {
     if landed && !stop {
         come_up(alloc, set(site, Armed::No, clock), base)
@@ -317,8 +351,10 @@ impl Net {
         raw: &[u8],
     ) -> Result<Net, Unlike>
         requires { HasRoomAt number self.hosts }
-        ensures { IfOk result (NetStep (Turn number (input_of input) fates.now until) self) }
+        ensures step { IfOk result (NetStep (Turn number (input_of input) fates.now until) raw.now self) }
+        ensures unarmed { armed ≡ Armed.No → MayBe self (Turn number (input_of input) fates.now until) raw.now → IsntApart result }
     {
+        links_hold();
         if !is_up(self.hosts.as_slice(), number)? {
             return Ok(self);
         }
@@ -368,12 +404,17 @@ impl Net {
         until: Option<u64>,
     ) -> Result<Net, Unlike>
         requires { HasRoomAt number self.hosts }
-        ensures { IfOk result (NetStep (Ask number local.now fates.now until) self) }
+        ensures step { IfOk result (NetStep (Ask number local.now fates.now until) [] self) }
+        ensures unarmed { armed ≡ Armed.No → MayBe self (Ask number local.now fates.now until) [] → IsntApart result }
     {
+        links_hold();
         if !is_up(self.hosts.as_slice(), number)? {
             return Ok(self);
         }
-        if !names_examples(alloc, local)? {
+        let Ok(named) = names_examples(alloc, local) else {
+            return Err(Unlike::NoMemory);
+        };
+        if !named {
             return Err(Unlike::Apart);
         }
         let Net {
@@ -406,7 +447,8 @@ impl Net {
 
     /// A crash of a node that is up.
     fn crash(self, alloc: Global, number: u8) -> Result<Net, Unlike>
-        ensures { IfOk result (NetStep (Crash number) self) }
+        ensures step { IfOk result (NetStep (Crash number) [] self) }
+        ensures unarmed { IsNumbered self number → IsntApart result }
     {
         if !is_up(self.hosts.as_slice(), number)? {
             return Ok(self);
@@ -434,8 +476,10 @@ impl Net {
         landed: bool,
         stop: bool,
     ) -> Result<Net, Unlike>
-        ensures { IfOk result (NetStep (Up number landed stop) self) }
+        ensures step { IfOk result (NetStep (Up number landed stop) [] self) }
+        ensures unarmed { MayBe self (Up number landed stop) [] → IsntApart result }
     {
+        links_hold();
         if is_up(self.hosts.as_slice(), number)? {
             return Ok(self);
         }
@@ -446,7 +490,9 @@ impl Net {
         } = self;
         let clock = clock_of(clocks.as_slice(), number)?;
         let (_node, site) = taken(alloc, &mut hosts, number)?.into_parts();
-        let base = base_of(alloc, number)?;
+        let Ok(base) = base_of(alloc, number) else {
+            return Err(Unlike::NoMemory);
+        };
         let host = started(alloc, site, &base, clock, armed, landed, stop)?;
         put_host(&mut hosts, number, host)?;
         Ok(Net {
@@ -465,7 +511,8 @@ impl Net {
         raw: &[u8],
     ) -> Result<Net, Unlike>
         requires { HasRoomAt (node_of (event_of event.now)) self.hosts }
-        ensures { IfOk result (NetStep (event_of event.now) self) }
+        ensures step { IfOk result (NetStep (event_of event.now) raw.now self) }
+        ensures unarmed { armed ≡ Armed.No → MayBe self (event_of event.now) raw.now → IsntApart result }
     {
         match event {
             WorldEvent::Turn {
@@ -497,10 +544,13 @@ impl Net {
         raw: &[u8],
     ) -> Result<Net, Fault>
         ensures moves { (count : ℕ) (w : World) → count ≤ 8 → Mirrors count self.hosts self.clocks (map mail_of self.letters) w
-            → IfOk result (NetMove count w (event_of event.now) self) }
+            → IfOk result (NetMove count w (event_of event.now) raw.now self) }
         ensures full { IfErr result (λ fault. fault ≡ Full → IsFullAt (node_of (event_of event.now)) self.hosts) }
+        ensures done { (count : ℕ) (w : World) → count ≤ 8 → Mirrors count self.hosts self.clocks (map mail_of self.letters) w
+            → IsPossible count w (event_of event.now) raw.now → armed ≡ Armed.No → IfErr result (λ fault. fault ≡ Apart → ⊥) }
     {
         nets_mirror();
+        letters_are_short();
         if !self.has_room(event.node()) {
             return Err(Fault::Full);
         }

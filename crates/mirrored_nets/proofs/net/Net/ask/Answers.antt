@@ -1,16 +1,17 @@
 use Rattle.std.proofs.Common.{ap, refl, subst, ◌∙◌, ◌≡◌, length, List, ℕ}
-use Rattle.std.specs.Prelude.{Some}
+use Rattle.std.specs.Prelude.{Some, []}
 use Rattle.at_model.specs.World.{Ask, nth}
 use Rattle.memory_net.specs.declared.host.Host.{Host}
 use Rattle.mirrored_nets.specs.Seen.{Seen}
-use Rattle.mirrored_nets.proofs.NetEvents.{asked_serves, asks, rests_down, room_set, seen_by, serve_on, up_at}
-use Rattle.mirrored_nets.proofs.OpenedNets.{there_serves}
+use Rattle.mirrored_nets.proofs.NetEvents.{asks, rests_down, room_set, seen_by, serve_on, still_isnt, up_at}
+use Rattle.mirrored_nets.proofs.OpenedNets.{there_ready, there_runs, there_serves}
+use Rattle.mirrored_nets.proofs.ReadyHosts.{asked_serves}
 use Rattle.mirrored_nets.proofs.net.Net.ask.Goals as goal
 
-pub returns-then-not-branch : goal.returns-then-not-branch
-returns-then-not-branch c =
-    rests_down c.args.self c.args.number (Ask c.args.number c.args.local.now c.args.fates.now c.args.until) c.in_ok-is_up.field-0 refl
-    (up_at c.args.self.hosts c.as_slice.result.now c.args.number c.in_ok-is_up.field-0 (c.as_slice.ensures.value ∙ ap (λ (s : Seen). s.hosts) c.self.view_is) c.in_ok-is_up.ensures) c.if-not-branch.true tt
+pub returns-then-not-branch-clause-step : goal.returns-then-not-branch-clause-step
+returns-then-not-branch-clause-step c =
+    rests_down [] c.args.self c.args.number (Ask c.args.number c.args.local.now c.args.fates.now c.args.until) c.in_ok-is_up.field-0 refl
+    (up_at c.args.self.hosts c.as_slice.result.now c.args.number c.in_ok-is_up.field-0 (c.as_slice.ensures.value ∙ ap (λ (s : Seen). s.hosts) c.self.view_is) c.in_ok-is_up.ensures.up) c.if-not-branch.true tt
 
 pub request-requires-clause-serving : goal.request-requires-clause-serving
 request-requires-clause-serving c = there_serves c.args.number c.self.inside.hosts.items c.in_ok-node.node c.in_ok-node.site c.self.invariant c.in_ok-node.ensures.here
@@ -18,21 +19,30 @@ request-requires-clause-serving c = there_serves c.args.number c.self.inside.hos
 pub request-requires-clause-room : goal.request-requires-clause-room
 request-requires-clause-room c =
     let there = c.in_ok-node.ensures.here in
-    room_set c.args.number _ _ c.args.self there.0 c.in_ok-node.site c.set.result c.self.view_is c.requires there.1 there.3 c.set.ensures
+    room_set c.args.number _ _ c.args.self there.0 c.in_ok-node.site c.set.result c.self.view_is c.requires there.1 there.3 c.set.ensures.set
 
 pub invariant_of-result : goal.invariant_of-result
 invariant_of-result c =
-    serve_on c.args.number c.in_ok-host.host c.self.inside.hosts.items c.put_host.new.hosts.items c.self.invariant
-    (asked_serves c.args.number c.in_ok-count.count c.args.local.now c.in_ok-node.node c.set.result c.in_ok-host.host _ _ c.args.fates.now c.args.until c.in_ok-host.ensures)
-    (c.in_ok-put_host.ensures ∙ c.in_ok-node.ensures.place c.in_ok-host.host)
-
-pub returns : goal.returns
-returns c =
     let there = c.in_ok-node.ensures.here in
-    let clock : nth c.args.number c.self.inside.clocks.items ≡ Some c.in_ok-clock.clock = subst (λ (l : List ℕ). nth c.args.number l ≡ Some c.in_ok-clock.clock) c.as_slice-3.ensures.value c.in_ok-clock.ensures in
-    seen_by (Ask c.args.number c.args.local.now c.args.fates.now c.args.until) c.args.self
+    serve_on c.args.number c.in_ok-host.host c.self.inside.hosts.items c.put_host.new.hosts.items c.self.invariant
+    (asked_serves c.links_hold.ensures c.args.number c.in_ok-count.count c.args.local.now c.in_ok-node.node c.set.result c.in_ok-host.host _ _ c.args.fates.now c.args.until
+    (c.set.ensures.set.told (there_ready c.args.number c.self.inside.hosts.items there.0 c.in_ok-node.site c.self.invariant there.1 there.3)) c.in_ok-host.ensures.took)
+    (c.in_ok-put_host.ensures.put ∙ c.in_ok-node.ensures.place c.in_ok-host.host)
+
+pub returns-clause-step : goal.returns-clause-step
+returns-clause-step c =
+    let there = c.in_ok-node.ensures.here in
+    let clock : nth c.args.number c.self.inside.clocks.items ≡ Some c.in_ok-clock.clock = subst (λ (l : List ℕ). nth c.args.number l ≡ Some c.in_ok-clock.clock) c.as_slice-3.ensures.value c.in_ok-clock.ensures.clock in
+    seen_by (Ask c.args.number c.args.local.now c.args.fates.now c.args.until) [] c.args.self
     (record { hosts = c.put_host.new.hosts.items; clocks = c.self.inside.clocks.items; letters = c.request.new.letters.items }) _ c.self.view_is
     (asks c.args.number c.self.inside.hosts.items c.put_host.new.hosts.items c.self.inside.clocks.items c.self.inside.letters.items there.0 c.in_ok-host.host there.1
-    (c.in_ok-put_host.ensures ∙ c.in_ok-node.ensures.place c.in_ok-host.host) c.in_ok-node.node c.in_ok-clock.clock c.in_ok-count.count c.args.local.now c.in_ok-node.site c.set.result
-    c.request.new.letters.items c.args.fates.now c.args.until there.2 clock (c.in_ok-count.ensures ∙ ap (λ (l : List Host). length l) c.as_slice-2.ensures.value)
-    (c.in_ok-names_examples.ensures c.if-not-branch-2.false) there.3 c.set.ensures c.in_ok-host.ensures)
+    (c.in_ok-put_host.ensures.put ∙ c.in_ok-node.ensures.place c.in_ok-host.host) c.in_ok-node.node c.in_ok-clock.clock c.in_ok-count.count c.args.local.now c.in_ok-node.site c.set.result
+    c.request.new.letters.items c.args.fates.now c.args.until there.2 clock (c.in_ok-count.ensures.count ∙ ap (λ (l : List Host). length l) c.as_slice-2.ensures.value)
+    (c.in-Ok.ensures.is c.if-not-named.false) there.3 c.set.ensures.set c.in_ok-host.ensures.took)
+
+pub returns-in_err-host-clause-unarmed : goal.returns-in_err-host-clause-unarmed
+returns-in_err-host-clause-unarmed c = λ none may.
+    let there = c.in_ok-node.ensures.here in
+    still_isnt c.in_err-host.field-0.0 c.from_residual-in_err-host.result c.from_residual-in_err-host.ensures.1
+    (c.in_err-host.ensures.unarmed (c.set.ensures.unarmed none (there_ready c.args.number c.self.inside.hosts.items there.0 c.in_ok-node.site c.self.invariant there.1 there.3))
+    (there_runs c.args.number c.self.inside.hosts.items c.in_ok-node.node c.in_ok-node.site c.self.invariant there) may.2 may.3)

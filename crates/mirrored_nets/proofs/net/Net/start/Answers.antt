@@ -1,27 +1,30 @@
 use Rattle.std.proofs.Common.{ap, subst, ◌∙◌, ◌≡◌, List, ℕ}
-use Rattle.std.specs.Prelude.{Some}
+use Rattle.std.specs.Prelude.{Some, []}
 use Rattle.at_model.specs.World.{Up, nth}
 use Rattle.mirrored_nets.specs.Seen.{Seen}
-use Rattle.mirrored_nets.proofs.NetEvents.{rests_up, seen_by, serve_on, started_serves, starts, up_at}
+use Rattle.mirrored_nets.proofs.NetEvents.{rests_up, seen_by, serve_on, starts, up_at}
+use Rattle.mirrored_nets.proofs.OpenedNets.{there_ready}
+use Rattle.mirrored_nets.proofs.ReadyHosts.{started_serves}
 use Rattle.mirrored_nets.proofs.net.Net.start.Goals as goal
 
-pub returns : goal.returns
-returns c =
-    let clock : nth c.args.number c.self.inside.clocks.items ≡ Some c.in_ok-clock.clock = subst (λ (l : List ℕ). nth c.args.number l ≡ Some c.in_ok-clock.clock) c.as_slice-2.ensures.value c.in_ok-clock.ensures in
-    seen_by (Up c.args.number c.args.landed c.args.stop) c.args.self
+pub returns-clause-step : goal.returns-clause-step
+returns-clause-step c =
+    let clock : nth c.args.number c.self.inside.clocks.items ≡ Some c.in_ok-clock.clock = subst (λ (l : List ℕ). nth c.args.number l ≡ Some c.in_ok-clock.clock) c.as_slice-2.ensures.value c.in_ok-clock.ensures.clock in
+    seen_by (Up c.args.number c.args.landed c.args.stop) [] c.args.self
     (record { hosts = c.put_host.new.hosts.items; clocks = c.self.inside.clocks.items; letters = c.self.inside.letters.items }) _ c.self.view_is
     (starts c.args.number c.self.inside.hosts.items c.put_host.new.hosts.items c.self.inside.clocks.items c.self.inside.letters.items c.in_ok-taken.field-0 c.in_ok-host.host c.in_ok-taken.ensures.here
-    (c.in_ok-put_host.ensures ∙ c.in_ok-taken.ensures.place c.in_ok-host.host) c.in_ok-is_up.field-0
-    c.args.landed c.args.stop c.in_ok-clock.clock c.into_parts-node.result.1 c.in_ok-base.base
-    (up_at c.self.inside.hosts.items c.as_slice.result.now c.args.number c.in_ok-is_up.field-0 c.as_slice.ensures.value c.in_ok-is_up.ensures) c.if-branch.false clock
-    c.in_ok-base.ensures c.into_parts-node.ensures.1 c.in_ok-host.ensures)
+    (c.in_ok-put_host.ensures.put ∙ c.in_ok-taken.ensures.place c.in_ok-host.host) c.in_ok-is_up.field-0
+    c.args.landed c.args.stop c.in_ok-clock.clock c.into_parts-node.result.1 c.in-Ok.base
+    (up_at c.self.inside.hosts.items c.as_slice.result.now c.args.number c.in_ok-is_up.field-0 c.as_slice.ensures.value c.in_ok-is_up.ensures.up) c.if-branch.false clock
+    c.in-Ok.ensures c.into_parts-node.ensures.1 c.in_ok-host.ensures.started)
 
 pub invariant_of-result : goal.invariant_of-result
 invariant_of-result c =
-    serve_on c.args.number c.in_ok-host.host c.self.inside.hosts.items c.put_host.new.hosts.items c.self.invariant (started_serves c.in_ok-base.base c.in_ok-clock.clock c.args.landed c.args.stop _ c.in_ok-host.host c.in_ok-host.ensures)
-    (c.in_ok-put_host.ensures ∙ c.in_ok-taken.ensures.place c.in_ok-host.host)
+    serve_on c.args.number c.in_ok-host.host c.self.inside.hosts.items c.put_host.new.hosts.items c.self.invariant (started_serves c.links_hold.ensures c.in-Ok.base c.in_ok-clock.clock c.args.landed c.args.stop _ c.in_ok-host.host
+    (there_ready c.args.number c.self.inside.hosts.items c.in_ok-taken.field-0 c.into_parts-node.result.1 c.self.invariant c.in_ok-taken.ensures.here c.into_parts-node.ensures.1) c.in_ok-host.ensures.started)
+    (c.in_ok-put_host.ensures.put ∙ c.in_ok-taken.ensures.place c.in_ok-host.host)
 
-pub returns-then-branch : goal.returns-then-branch
-returns-then-branch c =
+pub returns-then-branch-clause-step : goal.returns-then-branch-clause-step
+returns-then-branch-clause-step c =
     rests_up c.args.self c.args.number c.args.landed c.args.stop c.in_ok-is_up.field-0
-    (up_at c.args.self.hosts c.as_slice.result.now c.args.number c.in_ok-is_up.field-0 (c.as_slice.ensures.value ∙ ap (λ (s : Seen). s.hosts) c.self.view_is) c.in_ok-is_up.ensures) c.if-branch.true
+    (up_at c.args.self.hosts c.as_slice.result.now c.args.number c.in_ok-is_up.field-0 (c.as_slice.ensures.value ∙ ap (λ (s : Seen). s.hosts) c.self.view_is) c.in_ok-is_up.ensures.up) c.if-branch.true
