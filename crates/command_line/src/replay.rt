@@ -2,15 +2,18 @@
 
 ghost use Rattle.std.specs.Prelude.{◌≡◌, IfErr, IfOk};
 ghost use Rattle.envelope_cmd.specs.Output.{refused};
-ghost use Rattle.mirrored_nets.specs.declared.fault.Fault.TheVariants.{Full};
-ghost use Rattle.net_replay.specs.NetReports.{HasNoRoom};
+ghost use Rattle.net_replay.specs.NetReports.{HasNoRoom, TakesTooManyEvents};
+ghost use Rattle.net_replay.specs.declared.replay_error.ReplayError.TheVariants.{Apart, Full, TooManyEvents};
+ghost use Rattle.possible_courses.specs.ScheduleLines.{AreCalm, AreWithin};
 ghost use Rattle.replay_cmd.specs.Laws.{IsReplayable};
+ghost use Rattle.replay_cmd.specs.ReportOf.{nodes_of};
 ghost use Rattle.schedules.specs.Schedules.{schedule_of};
-ghost use Rattle.command_line.specs.Reports.{FindsNoRoom, IsReplayOf, IsReplayed, Replays, bad_line};
+ghost use Rattle.command_line.specs.Reports.{FindsNoRoom, FindsTooManyEvents, IsReplayOf, IsntCalm, IsReplayed, Replays, bad_line};
 
 use envelope_cmd::output::Printed;
-use mirrored_nets::fault::Fault;
 use net_replay::replay::{Replayed, replay};
+use net_replay::replay_error::ReplayError;
+use possible_courses::laws::what_is_read_is_within;
 use replay_cmd::laws::{reports_are_safe, reports_come_to_rest, what_is_read_is_replayable};
 use replay_cmd::options::Options;
 use schedules::line::{BadLine, Schedule, ScheduleError};
@@ -26,10 +29,12 @@ pub(crate) fn refusal(alloc: Global, bad: BadLine) -> Result<Printed, AllocError
 }
 
 #[tactic(auto, using(crate::proofs::Reports::replayed_so))]
-fn report(alloc: Global, schedule: &Schedule, options: Options) -> Result<Printed, Fault>
+fn report(alloc: Global, schedule: &Schedule, options: Options) -> Result<Printed, ReplayError>
     requires { IsReplayable schedule.now }
     ensures report { IfOk result (IsReplayed options schedule.now) }
-    ensures full { IfErr result (λ fault. fault ≡ Full → HasNoRoom options schedule.now) }
+    ensures full { IfErr result (λ e. e ≡ Full → HasNoRoom options schedule.now) }
+    ensures many { IfErr result (λ e. e ≡ TooManyEvents → TakesTooManyEvents options schedule.now) }
+    ensures apart { IfErr result (λ e. e ≡ Apart → AreWithin (nodes_of schedule.now) schedule.now → AreCalm schedule.now → ⊥) }
 {
     match replay(alloc, schedule, options) {
         Ok(replayed) => {
@@ -37,41 +42,46 @@ fn report(alloc: Global, schedule: &Schedule, options: Options) -> Result<Printe
             let printed = Printed::accepted(lines.into_vec());
             Ok(printed)
         }
-        Err(fault) => Err(fault),
+        Err(e) => Err(e),
     }
 }
 
-#[tactic(auto, using(crate::proofs::Reports::replays_so, crate::proofs::Reports::refuses_so, crate::proofs::Reports::finds_so))]
-fn printed(alloc: Global, input: &[u8], options: Options) -> Result<Printed, Fault>
+#[tactic(auto, using(crate::proofs::Reports::replays_so, crate::proofs::Reports::refuses_so, crate::proofs::Reports::finds_so, crate::proofs::Reports::finds_many_so, crate::proofs::Reports::isnt_calm))]
+fn printed(alloc: Global, input: &[u8], options: Options) -> Result<Printed, ReplayError>
     ensures replays { IfOk result (Replays options (schedule_of input.now)) }
-    ensures full { IfErr result (λ fault. fault ≡ Full → FindsNoRoom options (schedule_of input.now)) }
+    ensures full { IfErr result (λ e. e ≡ Full → FindsNoRoom options (schedule_of input.now)) }
+    ensures many { IfErr result (λ e. e ≡ TooManyEvents → FindsTooManyEvents options (schedule_of input.now)) }
+    ensures apart { IfErr result (λ e. e ≡ Apart → IsntCalm (schedule_of input.now)) }
 {
     what_is_read_is_replayable();
+    what_is_read_is_within();
     match read_schedule(alloc, input) {
         Ok(schedule) => match report(alloc, &schedule, options) {
             Ok(printed) => Ok(printed),
-            Err(fault) => Err(fault),
+            Err(e) => Err(e),
         },
         Err(ScheduleError::Bad(bad)) => match refusal(alloc, bad) {
             Ok(printed) => Ok(printed),
-            Err(_) => Err(Fault::NoMemory),
+            Err(_) => Err(ReplayError::NoMemory),
         },
-        Err(ScheduleError::OutOfMemory) => Err(Fault::NoMemory),
+        Err(ScheduleError::OutOfMemory) => Err(ReplayError::NoMemory),
     }
 }
 
 /// The report of the schedule that the bytes are, with what is asked beside it, or the line of their first bad line. In the world of the report no two participants of one transaction ended differently
 /// (WS-AtomicTransaction 1.2, section 1).
 #[tactic(auto, using(crate::proofs::Reports::replay_of))]
-pub fn replayed(alloc: Global, input: &[u8], options: Options) -> Result<Printed, Fault>
+pub fn replayed(alloc: Global, input: &[u8], options: Options) -> Result<Printed, ReplayError>
     ensures replays { IfOk result (λ printed. IsReplayOf options input.now printed) }
-    ensures full { IfErr result (λ fault. fault ≡ Full → FindsNoRoom options (schedule_of input.now)) }
+    ensures full { IfErr result (λ e. e ≡ Full → FindsNoRoom options (schedule_of input.now)) }
+    ensures many { IfErr result (λ e. e ≡ TooManyEvents → FindsTooManyEvents options (schedule_of input.now)) }
+    ensures apart { IfErr result (λ e. e ≡ Apart → IsntCalm (schedule_of input.now)) }
 {
     what_is_read_is_replayable();
     reports_are_safe();
     reports_come_to_rest();
     match printed(alloc, input, options) {
         Ok(printed) => Ok(printed),
-        Err(fault) => Err(fault),
+        Err(e) => Err(e),
     }
 }

@@ -3,6 +3,7 @@ use Rattle.std.specs.Prelude.{ℕ, List, Option, length, map, ◌≡◌}
 use Rattle.memory_net.specs.Mails.{mail_of}
 use Rattle.mirrored_nets.specs.Seen.{Seen}
 use Rattle.raw_requests.specs.declared.Drawn.{Drawn}
+use Rattle.replay_cmd.specs.EventCounts.{HasTooManyEvents}
 use Rattle.replay_cmd.specs.Laws.{AreDrawn}
 use Rattle.replay_cmd.specs.ReportOf.{Course, course_with, whole}
 use Rattle.replay_cmd.specs.declared.options.Options.{Options}
@@ -22,11 +23,17 @@ pub record IsNetReport (options : Options) (all : List Line) (text : List ℕ) (
   pub course : Course
   pub of : IsCourseOf options all course
   pub is : text ≡ shown options.bytes (map mail_of net.letters) (whole course)
-  pub run : IsNetRun (length course.world.nodes) course.world course.events net
+  pub run : IsNetRun (length course.world.nodes) course.world course.events course.raws net
 
 -- There is no report: on the way the journal of a node has no room for another record.
 pub record HasNoRoom (options : Options) (all : List Line) : Type 0 where
   pub course : Course
   pub of : IsCourseOf options all course
   pub count : ℕ
-  pub full : IsNetFull count course.events
+  pub full : IsNetFull count course.events course.raws
+
+-- There is no report: what happens in it is more than a world takes.
+pub record TakesTooManyEvents (options : Options) (all : List Line) : Type 0 where
+  pub course : Course
+  pub of : IsCourseOf options all course
+  pub many : HasTooManyEvents course

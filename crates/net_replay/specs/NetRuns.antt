@@ -6,36 +6,38 @@ use Rattle.mirrored_nets.specs.Mirrors.{Mirrors}
 use Rattle.mirrored_nets.specs.NetSteps.{IsUnstarted, NetMove}
 use Rattle.mirrored_nets.specs.Rooms.{IsFullAt}
 use Rattle.mirrored_nets.specs.Seen.{Seen}
+use Rattle.possible_events.specs.BroughtBytes.{first_of, left_by}
 
 abbrev pub MirrorsAt : ℕ → Seen → World → Type 0
 MirrorsAt count net w = Mirrors count net.hosts net.clocks (map mail_of net.letters) w
 
--- These events were done to this net one after another, each as the call of a node on its machine, and left that one; each net on the way
--- mirrors its world, and what its calls give is what that says.
-abbrev pub NetRun : (count : ℕ) → Seen → World → List WorldEvent → Seen → Type 0
-NetRun count net w [] last = MirrorsAt count net w × (last ≡ net)
-NetRun count net w (e ∷ es) last = MirrorsAt count net w × ((next : Seen) × NetMove count w e net next × NetRun count next (world_step w e) es last)
+-- These events were done to this net one after another, each as the call of a node on its machine, and left that one; the raw bytes that they bring
+-- are these, in order. Each net on the way mirrors its world, and what its calls give is what that says.
+abbrev pub NetRun : (count : ℕ) → Seen → World → List WorldEvent → List (List ℕ) → Seen → Type 0
+NetRun count net w [] raws last = MirrorsAt count net w × (last ≡ net)
+NetRun count net w (e ∷ es) raws last =
+    MirrorsAt count net w × ((next : Seen) × NetMove count w e (first_of raws) net next × NetRun count next (world_step w e) es (left_by e raws) last)
 
 -- When those of these events were done that come before it, one comes to a node whose journal has no room for another record.
-pub record FillsUp (count : ℕ) (net : Seen) (w : World) (es : List WorldEvent) : Type 0 where
+pub record FillsUp (count : ℕ) (net : Seen) (w : World) (es : List WorldEvent) (raws : List (List ℕ)) : Type 0 where
   pub front : List WorldEvent
   pub next : WorldEvent
   pub rest : List WorldEvent
   pub all : es ≡ front ++ next ∷ rest
   pub last : Seen
-  pub run : NetRun count net w front last
+  pub run : NetRun count net w front raws last
   pub full : IsFullAt (node_of next) last.hosts
 
 -- From so many nodes, none of which had started, these events lead to that net; and the world to which they lead is the one that it mirrors.
-pub record IsNetRun (count : ℕ) (w : World) (events : List WorldEvent) (last : Seen) : Type 0 where
+pub record IsNetRun (count : ℕ) (w : World) (events : List WorldEvent) (raws : List (List ℕ)) (last : Seen) : Type 0 where
   pub is : w ≡ run_of (example_hosts count) events
   pub first : Seen
   pub unstarted : IsUnstarted count first
-  pub run : NetRun count first (opening (example_hosts count)) events last
+  pub run : NetRun count first (opening (example_hosts count)) events raws last
   pub mirrors : MirrorsAt count last w
 
 -- the same of events that come to no end, since a journal has no room
-pub record IsNetFull (count : ℕ) (events : List WorldEvent) : Type 0 where
+pub record IsNetFull (count : ℕ) (events : List WorldEvent) (raws : List (List ℕ)) : Type 0 where
   pub first : Seen
   pub unstarted : IsUnstarted count first
-  pub fills : FillsUp count first (opening (example_hosts count)) events
+  pub fills : FillsUp count first (opening (example_hosts count)) events raws

@@ -1,26 +1,33 @@
 //! `replay`, over nodes that serve.
 
-ghost use Rattle.std.specs.Prelude.{◌≡◌, IfErr, IfOk, List, Option, map};
+ghost use Rattle.std.specs.Prelude.{◌≡◌, [], IfErr, IfOk, List, Option, map};
 ghost use Rattle.memory_net.specs.Mails.{mail_of};
-ghost use Rattle.mirrored_nets.specs.declared.fault.Fault.TheVariants.{Full};
 ghost use Rattle.net_replay.specs.MessageBytes.{shown};
-ghost use Rattle.net_replay.specs.NetReports.{HasNoRoom, IsCourseOf, IsNetReport};
+ghost use Rattle.net_replay.specs.NetReports.{HasNoRoom, IsCourseOf, IsNetReport, TakesTooManyEvents};
+ghost use Rattle.net_replay.specs.declared.replay_error.ReplayError.TheVariants.{Apart, Full, TooManyEvents};
+ghost use Rattle.possible_courses.specs.ScheduleLines.{AreCalm, AreWithin};
 ghost use Rattle.raw_requests.specs.declared.Drawn.{Drawn as Drew};
 ghost use Rattle.replay_cmd.specs.Laws.{ComesToRest, IsReplayable, IsSafe};
 ghost use Rattle.replay_cmd.specs.ReportOf.{nodes_of, whole, world_with};
+ghost use Rattle.settlement.specs.declared.run_error.RunError.TheVariants as run_errors;
 
-use crate::followed::{followed, refused_bytes};
+use crate::calm_lines::are_calm;
+use crate::followed::followed;
 use crate::message_bytes::shown;
+use crate::replay_error::ReplayError;
 use memory_net::letter::Letter;
 use mirrored_nets::fault::Fault;
 use mirrored_nets::net::Net;
+use possible_courses::laws::courses_are_possible;
 use replay_cmd::course::Course;
 use replay_cmd::draws::draw_all;
+use replay_cmd::fault::Armed;
 use replay_cmd::laws::{reports_are_safe, reports_come_to_rest};
 use replay_cmd::lines::Lines;
 use replay_cmd::options::Options;
 use replay_cmd::replay::ended;
 use schedules::line::Schedule;
+use settlement::run_error::RunError;
 use std::alloc::{AllocError, Global};
 
 /// A report, and the nodes that it is of, as they are at its end.
@@ -30,22 +37,26 @@ pub struct Replayed {
     pub net: Net,
 }
 
-/// How a schedule comes out, and the bytes that its lines bring to nodes, where these refuse them.
-#[derive(Drop)]
-struct Played {
-    course: Course,
-    raws: Vec<Vec<u8>>,
-}
-
-#[tactic(auto, using(crate::proofs::ReportedNets::is_course))]
-fn play(alloc: Global, schedule: &Schedule, options: Options) -> Result<Played, AllocError>
+#[tactic(auto, using(crate::proofs::ReportedNets::is_course, crate::proofs::ReportedNets::takes_too_many))]
+fn play(alloc: Global, schedule: &Schedule, options: Options) -> Result<Course, RunError>
     requires { IsReplayable schedule.now }
-    ensures { IfOk result (λ played. IsCourseOf options schedule.now played.course) }
+    ensures many { IfErr result (λ e. e ≡ run_errors.TooManyEvents → TakesTooManyEvents options schedule.now) }
+    ensures course { IfOk result (IsCourseOf options schedule.now) }
 {
     let draws = draw_all(alloc, schedule.as_slice())?;
     let course = ended(alloc, schedule, draws.as_slice(), options.settle)?;
-    let raws = refused_bytes(alloc, schedule.as_slice(), draws.as_slice())?;
-    Ok(Played { course, raws })
+    Ok(course)
+}
+
+/// For each event of a course which call was armed at its node; none where no line of its schedule arms one.
+fn met_in<'a>(schedule: &Schedule, course: &'a Course) -> &'a [Option<Armed>]
+    ensures { AreCalm schedule.now → result.now ≡ [] }
+{
+    if are_calm(schedule.as_slice()) {
+        &[]
+    } else {
+        course.met()
+    }
 }
 
 /// What is printed of a course whose messages are these letters.
@@ -61,23 +72,30 @@ fn print(
     shown(alloc, report, letters, bytes)
 }
 
-#[tactic(auto, using(crate::proofs::ReportedNets::is_report, crate::proofs::ReportedNets::has_no_room))]
-fn with_nodes(alloc: Global, schedule: &Schedule, options: Options) -> Result<Replayed, Fault>
+#[tactic(auto, using(crate::proofs::ReportedNets::is_report, crate::proofs::ReportedNets::has_no_room, crate::proofs::ReportedNets::possible))]
+fn with_nodes(alloc: Global, schedule: &Schedule, options: Options) -> Result<Replayed, ReplayError>
     requires { IsReplayable schedule.now }
     ensures report { IfOk result (λ r. IsNetReport options schedule.now r.lines r.net) }
-    ensures full { IfErr result (λ fault. fault ≡ Full → HasNoRoom options schedule.now) }
+    ensures full { IfErr result (λ e. e ≡ Full → HasNoRoom options schedule.now) }
+    ensures many { IfErr result (λ e. e ≡ TooManyEvents → TakesTooManyEvents options schedule.now) }
+    ensures apart { IfErr result (λ e. e ≡ Apart → AreWithin (nodes_of schedule.now) schedule.now → AreCalm schedule.now → ⊥) }
 {
-    let Ok(played) = play(alloc, schedule, options) else {
-        return Err(Fault::NoMemory);
+    courses_are_possible();
+    reports_are_safe();
+    let course = match play(alloc, schedule, options) {
+        Ok(course) => course,
+        Err(RunError::NoMemory) => return Err(ReplayError::NoMemory),
+        Err(RunError::TooManyEvents) => return Err(ReplayError::TooManyEvents),
     };
-    let Played { course, raws } = played;
-    let net = match followed(alloc, &course, raws.as_slice()) {
+    let net = match followed(alloc, &course, met_in(schedule, &course)) {
         Ok(net) => net,
-        Err(fault) => return Err(fault),
+        Err(Fault::NoMemory) => return Err(ReplayError::NoMemory),
+        Err(Fault::Full) => return Err(ReplayError::Full),
+        Err(Fault::Apart) => return Err(ReplayError::Apart),
     };
     match print(alloc, course, net.letters(), options.bytes) {
         Ok(lines) => Ok(Replayed { lines, net }),
-        Err(_) => Err(Fault::NoMemory),
+        Err(_) => Err(ReplayError::NoMemory),
     }
 }
 
@@ -87,10 +105,12 @@ fn with_nodes(alloc: Global, schedule: &Schedule, options: Options) -> Result<Re
 ///
 /// With `settle` the events that bring the world to rest happen behind the last line, and are reported as others are. Behind them
 /// nobody is in doubt (`rests`). With `bytes` the bytes by which each message was posted stand behind its line, in hexadecimal.
-pub fn replay(alloc: Global, schedule: &Schedule, options: Options) -> Result<Replayed, Fault>
+pub fn replay(alloc: Global, schedule: &Schedule, options: Options) -> Result<Replayed, ReplayError>
     requires { IsReplayable schedule.now }
     ensures report { IfOk result (λ r. IsNetReport options schedule.now r.lines r.net) }
-    ensures full { IfErr result (λ fault. fault ≡ Full → HasNoRoom options schedule.now) }
+    ensures full { IfErr result (λ e. e ≡ Full → HasNoRoom options schedule.now) }
+    ensures many { IfErr result (λ e. e ≡ TooManyEvents → TakesTooManyEvents options schedule.now) }
+    ensures apart { IfErr result (λ e. e ≡ Apart → AreWithin (nodes_of schedule.now) schedule.now → AreCalm schedule.now → ⊥) }
     ensures safe { (draws : List (Option Drew)) → IsSafe (nodes_of schedule.now) (world_with options.settle draws schedule.now) }
     ensures rests { (draws : List (Option Drew)) → ComesToRest draws schedule.now }
 {
