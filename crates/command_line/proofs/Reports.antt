@@ -17,7 +17,7 @@ use Rattle.replay_cmd.specs.Laws.{ReadIsReplayable, ReportsAreSafe, ReportsComeT
 use Rattle.schedules.specs.Schedules.{schedule_of}
 use Rattle.schedules.specs.declared.line.BadLine.{BadLine}
 use Rattle.schedules.specs.declared.line.Line.{Line}
-use Rattle.command_line.specs.Reports.{FindsNoRoom, FindsTooManyEvents, IsntCalm, IsntCalmFor, HasNoRoomFor, HasTooManyEventsFor, IsCut, IsDone, IsReplayOf, IsReplayed, Replays, Reports, bad_line, status_of}
+use Rattle.command_line.specs.Reports.{FindsNoRoom, FindsTooManyEvents, IsntCalm, IsntCalmFor, HasNoRoomFor, IsCut, IsDone, IsReplayOf, IsReplayed, Replays, Reports, bad_line, status_of}
 
 pub on_some : {P Q : List ℕ → Type 0} (left : Option (List ℕ)) → ((input : List ℕ) → P input → Q input) → IfSome left P → IfSome left Q
 on_some None f h = tt
@@ -93,10 +93,6 @@ isnt_calm law text lines e h = subst IsntCalm (sym e) (λ calm. h (law text line
 pub none_given : (left : Option (List ℕ)) (before now : ℕ) (bytes told : List ℕ) (job : Filter) → IsWhole left before now bytes → told ≡ bytes → HasNoRoomFor job told → IfSome left (HasNoRoomFor job)
 none_given left before now bytes told job whole t none =
     on_some {P = λ input. bytes ≡ input} {Q = λ input. HasNoRoomFor job input} left (λ input f. subst (HasNoRoomFor job) (t ∙ f) none) whole.all
-
-pub many_given : (left : Option (List ℕ)) (before now : ℕ) (bytes told : List ℕ) (job : Filter) → IsWhole left before now bytes → told ≡ bytes → HasTooManyEventsFor job told → IfSome left (HasTooManyEventsFor job)
-many_given left before now bytes told job whole t many =
-    on_some {P = λ input. bytes ≡ input} {Q = λ input. HasTooManyEventsFor job input} left (λ input f. subst (HasTooManyEventsFor job) (t ∙ f) many) whole.all
 
 pub apart_given : (left : Option (List ℕ)) (before now : ℕ) (bytes told : List ℕ) (job : Filter) → IsWhole left before now bytes → told ≡ bytes → IsntCalmFor job told → IfSome left (IsntCalmFor job)
 apart_given left before now bytes told job whole t calm =

@@ -1,5 +1,5 @@
 use Rattle.command_line.specs.Views.{meant_filter}
-use Rattle.command_line.proofs.Reports.{all_given, all_printed, apart_given, many_given, none_given, part_printed}
+use Rattle.command_line.proofs.Reports.{all_given, all_printed, apart_given, none_given, part_printed}
 use Rattle.command_line.proofs.run.filter.Goals as goal
 
 pub returns-in-Ok-report-clause-whole : goal.returns-in-Ok-report-clause-whole
@@ -18,10 +18,6 @@ returns-in-Ok-report-clause-cut g c = λ failed.
 pub returns-in-Err-Full-clause-full : goal.returns-in-Err-Full-clause-full
 returns-in-Err-Full-clause-full g c = λ is.
     none_given _ _ _ _ _ (meant_filter c.args.filter.now) c.in-Ok.ensures.whole c.as_slice.ensures.value (c.in-Err-Full.ensures.full c.in-Err-Full.field-0-is)
-
-pub returns-in-Err-TooManyEvents-clause-many : goal.returns-in-Err-TooManyEvents-clause-many
-returns-in-Err-TooManyEvents-clause-many g c = λ is.
-    many_given _ _ _ _ _ (meant_filter c.args.filter.now) c.in-Ok.ensures.whole c.as_slice.ensures.value (c.in-Err-TooManyEvents.ensures.many c.in-Err-TooManyEvents.field-0-is)
 
 pub returns-in-Err-Apart-clause-apart : goal.returns-in-Err-Apart-clause-apart
 returns-in-Err-Apart-clause-apart g c = λ is.
