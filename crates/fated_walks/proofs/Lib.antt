@@ -1,2 +1,3 @@
+pub mod ComingCalls
 pub mod FatedOuts
 pub mod FatedWalks

@@ -1,5 +1,6 @@
 -- Steps with the fates that their calls had, and what a walk through them comes to.
 use Rattle.std.specs.Prelude.{ℕ, List, [], ◌∷◌, ◌++◌, ◌-◌, ◌<◌, Option, Some, None, Bool, true, false, ◌≡◌, if◌then◌else◌, map}
+use Rattle.std.specs.List.{AllByRecursion}
 use Rattle.at_base.specs.declared.outs.Out.{Out}
 use Rattle.at_base.specs.declared.outs.Out.TheVariants as outs
 use Rattle.at_base.specs.declared.outs.Post.{Post}
@@ -140,3 +141,10 @@ abbrev pub AreCut : List Fated → Type 0
 AreCut [] = ⊥
 AreCut (f ∷ []) = IsPart f × (fates_of f ≡ [] → ⊥)
 AreCut (f ∷ (g ∷ gs)) = IsWhole f × AreCut (g ∷ gs)
+
+-- its record stands, and every answer and every post left
+abbrev pub HasLeft : Way → Type 0
+HasLeft way = way.went ≡ true
+
+abbrev pub AllLeft : List Fated → Type 0
+AllLeft fs = AllByRecursion (λ (f : Fated). (f.landed ≡ true) × AllByRecursion HasLeft f.ways) fs

@@ -1,3 +1,4 @@
 pub mod Fated
 pub mod WalksByFates
 pub mod Statuses
+pub mod CallsComing

@@ -3,12 +3,12 @@ use Rattle.std.specs.Prelude.{ℕ, List, [], ◌∷◌, ◌++◌, ◌+◌, ◌�
 use Rattle.std.proofs.Common.{inl, inr, sym, subst, ap, arith, ◌∙◌}
 use Rattle.std.proofs.lemmas.List.{append-nil, length-append, length-map, length-replicate, take-append-le}
 use Rattle.at_model.specs.Step.{Outcome, Plan}
-use Rattle.fated_walks.specs.Fated.{AreCut, AreUnrecorded, Fated, IsPlanned, IsUnrecorded, IsWhole, all_fates, all_posts, fates_of, posts_of, record_fates, went_of}
+use Rattle.fated_walks.specs.Fated.{AllLeft, AreCut, AreUnrecorded, Fated, IsPlanned, IsUnrecorded, IsWhole, all_fates, all_posts, fates_of, posts_of, record_fates, went_of}
 use Rattle.node_at.specs.Doings.{Doing}
 use Rattle.node_at.specs.Steps.{if_landed}
 use Rattle.node_at.specs.TurnText.{AreDue, TurnStep}
 use Rattle.node_events.specs.Fares.{AreFared, IsFared}
-use Rattle.node_events.specs.NodeEvents.{AllLeft, all_made, one_if, struck}
+use Rattle.node_events.specs.NodeEvents.{all_made, one_if, struck}
 use Rattle.node_events.proofs.CutSteps.{AreGone, OneStruck, gone_fates, gone_length, gone_sent, one_struck, step_gone, struck_past, struck_some}
 use Rattle.node_events.proofs.PlannedSteps.{ComesTo, comes_to}
 use Rattle.node_events.proofs.Rows.{no_front, take_past, within_or_past}

@@ -5,12 +5,12 @@ use Rattle.std.proofs.Common.{inl, sym, subst, ap, arith, ◌∙◌}
 use Rattle.std.proofs.lemmas.List.{append-nil, append_assoc, length-map, replicate-append-replicate}
 use Rattle.at_base.specs.declared.outs.Out.{Out}
 use Rattle.at_base.specs.declared.outs.Post.{Post}
-use Rattle.fated_walks.specs.Fated.{Fated, IsWhole, Way, out_of, post_by, posts_of, went_of}
+use Rattle.fated_walks.specs.Fated.{Fated, HasLeft, IsWhole, Way, out_of, post_by, posts_of, went_of}
 use Rattle.node_at.specs.Doings.{Doing}
 use Rattle.node_at.specs.Texts.{Leaving, call_by}
 use Rattle.node_at.specs.TurnText.{TurnStep}
 use Rattle.node_events.specs.Fares.{Fare, IsFared, calls_of, mades_of, way_of}
-use Rattle.node_events.specs.NodeEvents.{HasLeft, one_if, struck}
+use Rattle.node_events.specs.NodeEvents.{one_if, struck}
 use Rattle.node_events.proofs.LeavingOuts.{AllAlike, Goes, IsAlike, all_leave}
 use Rattle.node_events.proofs.PlannedSteps.{ComesTo}
 use Rattle.node_events.proofs.StepFares.{also_first}

@@ -6,13 +6,13 @@ use Rattle.std.proofs.lemmas.List.{append-nil}
 use Rattle.at_base.specs.declared.outs.Out.{Out}
 use Rattle.at_base.specs.declared.outs.Out.TheVariants as outs
 use Rattle.at_base.specs.declared.outs.Post.{Post}
-use Rattle.fated_walks.specs.Fated.{StartsWith, Way, out_of, post_by, posts_of, went_of}
+use Rattle.fated_walks.specs.Fated.{HasLeft, StartsWith, Way, out_of, post_by, posts_of, went_of}
 use Rattle.node_at.specs.Texts.{Leaving, call_by}
 use Rattle.node_worlds.specs.SentPosts.{AreSome, Sent, also}
 use Rattle.node_worlds.specs.SentPosts.{posts_of as posts_among}
 use Rattle.site_model.specs.Told.{Made, done, sent_by, sent_if}
 use Rattle.node_events.specs.Fares.{Fare, calls_of, mades_of, way_of}
-use Rattle.node_events.specs.NodeEvents.{HasLeft, one_if, struck}
+use Rattle.node_events.specs.NodeEvents.{one_if, struck}
 use Rattle.node_events.proofs.LeavingOuts.{AllAlike}
 
 -- so many outs left, and then one that left or not

@@ -9,7 +9,7 @@ use Rattle.at_base.specs.declared.event.Local.{Local}
 use Rattle.at_base.specs.declared.record.Record.{Record}
 use Rattle.at_model.specs.Step.{Plan, plan}
 use Rattle.at_model.specs.World.{Ask, Hosts, Node, World}
-use Rattle.fated_walks.specs.Fated.{Fated, IsPart, IsPlanned, Way, fates_of, out_of, posts_of, stands_by, went_of}
+use Rattle.fated_walks.specs.Fated.{AllLeft, Fated, HasLeft, IsPart, IsPlanned, Way, fates_of, out_of, posts_of, stands_by, went_of}
 use Rattle.fated_walks.specs.WalksByFates.{WalksByFates}
 use Rattle.node_at.specs.Doings.{Doing}
 use Rattle.node_at.specs.State.{State}
@@ -21,7 +21,7 @@ use Rattle.node_worlds.specs.SentPosts.{Sent, recorded, records_by}
 use Rattle.site_model.specs.Told.{done}
 use Rattle.world_laws.specs.Moves.{ChangesByMoves}
 use Rattle.node_events.specs.Fares.{IsFared, way_of}
-use Rattle.node_events.specs.NodeEvents.{AllLeft, HasLeft, IsAt, IsStruck, RequestsAreEvents, one_if, records_if, struck}
+use Rattle.node_events.specs.NodeEvents.{IsAt, IsStruck, RequestsAreEvents, one_if, records_if, struck}
 use Rattle.node_events.proofs.LeavingOuts.{AllAlike, all_leave}
 use Rattle.node_events.proofs.PlannedSteps.{comes_fated, step_of}
 use Rattle.node_events.proofs.RequestCuts.{all_made, cut_at, cut_fates, cut_front, cut_sent}

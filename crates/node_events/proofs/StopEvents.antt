@@ -5,7 +5,7 @@ use Rattle.std.proofs.lemmas.List.{append-nil, append_assoc, length-append}
 use Rattle.at_base.specs.declared.record.Record.{Record}
 use Rattle.at_model.specs.Step.{Outcome, items_of}
 use Rattle.at_model.specs.World.{Hosts, Input, Node, Turn, World}
-use Rattle.fated_walks.specs.Fated.{AreFirstDue, AreUnrecorded, Fated, IsPlanned, all_fates, all_posts, fates_of, stands_by}
+use Rattle.fated_walks.specs.Fated.{AllLeft, AreFirstDue, AreUnrecorded, Fated, IsPlanned, all_fates, all_posts, fates_of, stands_by}
 use Rattle.fated_walks.specs.WalksByFates.{WalksByFates}
 use Rattle.interposition.specs.Due.{due_outcomes}
 use Rattle.node_at.specs.Doings.{Doing}
@@ -15,7 +15,7 @@ use Rattle.node_at.specs.Steps.{if_landed}
 use Rattle.node_at.specs.TurnText.{AreDue, DueSteps, IsFirst, Steppings, TurnStep}
 use Rattle.node_at.specs.TurnText.Steppings.{asked, unasked}
 use Rattle.node_events.specs.Fares.{AreFared, IsFared}
-use Rattle.node_events.specs.NodeEvents.{AllLeft, AreStepsOf, IsAt, IsStruck, StopsAreEvents, all_made, one_if, records_if, struck}
+use Rattle.node_events.specs.NodeEvents.{AreStepsOf, IsAt, IsStruck, StopsAreEvents, all_made, one_if, records_if, struck}
 use Rattle.node_events.proofs.CutRows.{Struck, cut_first, cut_more, due_recorded, due_struck, takes_more, takes_within, yes_fates, yes_length}
 use Rattle.node_events.proofs.CutSteps.{AreGone, gone_sent, sent_none, step_gone, struck_past}
 use Rattle.node_events.proofs.HaltEvents.{cut_leads, halt_leads, none_due}

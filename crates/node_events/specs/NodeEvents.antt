@@ -1,6 +1,5 @@
 -- What a call of a node does is one event of the model's world.
 use Rattle.std.specs.Prelude.{ℕ, List, [], ◌∷◌, ◌++◌, ◌+◌, ◌-◌, ◌≡◌, ◌<◌, Bool, true, false, Option, Some, None, length, nat_lt, take}
-use Rattle.std.specs.List.{AllByRecursion}
 use Rattle.at_base.specs.declared.epr.Epr.{Epr}
 use Rattle.at_base.specs.declared.event.Arrived.{Arrived}
 use Rattle.at_base.specs.declared.event.Event.TheVariants as events
@@ -12,7 +11,7 @@ use Rattle.at_model.specs.Book.{Book}
 use Rattle.at_model.specs.Recovery.{last_incarnation, recover}
 use Rattle.at_model.specs.Step.{Plan, plan, refuses}
 use Rattle.at_model.specs.World.{Hosts, Input, Node, Posted, World, WorldEvent, Deliver, Tick, Raw, Turn, Ask, Crash, Up, decoded, new_nodes, nth, receiver_of, world_step}
-use Rattle.fated_walks.specs.Fated.{AreFirstDue, Fated, IsBeyond, IsPlanned, StartsWith, Way, all_fates, all_posts, fates_of, posts_of}
+use Rattle.fated_walks.specs.Fated.{AllLeft, AreFirstDue, Fated, IsBeyond, IsPlanned, StartsWith, all_fates, all_posts, fates_of, posts_of}
 use Rattle.node_at.specs.Doings.{AreDoings, Doing, IsDoing, book_behind, came_of}
 use Rattle.node_at.specs.Meanings.{Meaning}
 use Rattle.node_at.specs.Meanings.Meaning.{Refused, Steps}
@@ -86,13 +85,6 @@ TurnsAreEvents =
     (hosts : Hosts) (net : Net) (w : World) (i : ℕ) (p : Place) (x : Node) (n m : State) (input : Input) (meaning : Meaning) (now status : ℕ) (steps : List TurnStep) (doings : List Doing)
     → IsAt hosts net w i p x n → IsInput w i x input meaning now → Steppings now n.book [] meaning steps status → AreDoings n.kept steps doings → m.book ≡ book_behind n.book steps → m.effects ≡ came_of steps
     → IsTurn hosts net w i p x n m input now steps doings
-
--- every answer and every post left
-abbrev pub HasLeft : Way → Type 0
-HasLeft way = way.went ≡ true
-
-abbrev pub AllLeft : List Fated → Type 0
-AllLeft fs = AllByRecursion (λ (f : Fated). (f.landed ≡ true) × AllByRecursion HasLeft f.ways) fs
 
 -- one, where it counts
 abbrev pub one_if : Bool → ℕ
