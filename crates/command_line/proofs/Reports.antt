@@ -9,15 +9,12 @@ use Rattle.envelope_cmd.specs.Output.{Output, accepted, refused}
 use Rattle.mirrored_nets.specs.Seen.{Seen}
 use Rattle.net_replay.specs.NetReports.{HasNoRoom, IsNetReport, TakesTooManyEvents}
 use Rattle.command_line.specs.Jobs.{Filter}
-use Rattle.possible_courses.specs.PossibleCourses.{ReadIsWithin}
-use Rattle.possible_courses.specs.ScheduleLines.{AreCalm, AreWithin}
-use Rattle.replay_cmd.specs.ReportOf.{nodes_of}
 use Rattle.replay_cmd.specs.declared.options.Options.{Options}
 use Rattle.replay_cmd.specs.Laws.{ReadIsReplayable, ReportsAreSafe, ReportsComeToRest}
 use Rattle.schedules.specs.Schedules.{schedule_of}
 use Rattle.schedules.specs.declared.line.BadLine.{BadLine}
 use Rattle.schedules.specs.declared.line.Line.{Line}
-use Rattle.command_line.specs.Reports.{FindsNoRoom, FindsTooManyEvents, IsntCalm, IsntCalmFor, HasNoRoomFor, IsCut, IsDone, IsReplayOf, IsReplayed, Replays, Reports, bad_line, status_of}
+use Rattle.command_line.specs.Reports.{FindsNoRoom, FindsTooManyEvents, HasNoRoomFor, IsCut, IsDone, IsReplayOf, IsReplayed, Replays, Reports, bad_line, status_of}
 
 pub on_some : {P Q : List ℕ → Type 0} (left : Option (List ℕ)) → ((input : List ℕ) → P input → Q input) → IfSome left P → IfSome left Q
 on_some None f h = tt
@@ -86,14 +83,6 @@ finds_so options r lines e h = subst (λ x. FindsNoRoom options x) (sym e) h
 pub finds_many_so : (options : Options) (r : Result (List Line) BadLine) (lines : List Line) → r ≡ Ok lines → TakesTooManyEvents options lines → FindsTooManyEvents options r
 finds_many_so options r lines e h = subst (λ x. FindsTooManyEvents options x) (sym e) h
 
--- what is read and isn't done arms a call, or brings bytes
-pub isnt_calm : ReadIsWithin → (text : List ℕ) (lines : List Line) → schedule_of text ≡ Ok lines → (AreWithin (nodes_of lines) lines → AreCalm lines → ⊥) → IsntCalm (schedule_of text)
-isnt_calm law text lines e h = subst IsntCalm (sym e) (λ calm. h (law text lines e) calm)
-
 pub none_given : (left : Option (List ℕ)) (before now : ℕ) (bytes told : List ℕ) (job : Filter) → IsWhole left before now bytes → told ≡ bytes → HasNoRoomFor job told → IfSome left (HasNoRoomFor job)
 none_given left before now bytes told job whole t none =
     on_some {P = λ input. bytes ≡ input} {Q = λ input. HasNoRoomFor job input} left (λ input f. subst (HasNoRoomFor job) (t ∙ f) none) whole.all
-
-pub apart_given : (left : Option (List ℕ)) (before now : ℕ) (bytes told : List ℕ) (job : Filter) → IsWhole left before now bytes → told ≡ bytes → IsntCalmFor job told → IfSome left (IsntCalmFor job)
-apart_given left before now bytes told job whole t calm =
-    on_some {P = λ input. bytes ≡ input} {Q = λ input. IsntCalmFor job input} left (λ input f. subst (IsntCalmFor job) (t ∙ f) calm) whole.all

@@ -6,7 +6,6 @@ use Rattle.envelope_cmd.specs.Cells.{IsCellOf}
 use Rattle.envelope_cmd.specs.Checks.{IsCheckOf}
 use Rattle.mirrored_nets.specs.Seen.{Seen}
 use Rattle.net_replay.specs.NetReports.{HasNoRoom, IsNetReport, TakesTooManyEvents}
-use Rattle.possible_courses.specs.ScheduleLines.{AreCalm}
 use Rattle.raw_requests.specs.declared.Drawn.{Drawn}
 use Rattle.replay_cmd.specs.Laws.{ComesToRest, IsSafe}
 use Rattle.replay_cmd.specs.declared.options.Options.{Options}
@@ -62,16 +61,6 @@ HasTooManyEventsFor (Cell state) input = ⊥
 HasTooManyEventsFor (Check path) input = ⊥
 HasTooManyEventsFor (Replay options) input = FindsTooManyEvents options (schedule_of input)
 
--- There is no report, as the nodes didn't do what an event asks: a line arms a call of a node, or brings bytes that are no message.
-abbrev pub IsntCalm : Result (List Line) BadLine → Type 0
-IsntCalm (Ok lines) = AreCalm lines → ⊥
-IsntCalm (Err bad) = ⊥
-
-abbrev pub IsntCalmFor : Filter → List ℕ → Type 0
-IsntCalmFor (Cell state) input = ⊥
-IsntCalmFor (Check path) input = ⊥
-IsntCalmFor (Replay options) input = IsntCalm (schedule_of input)
-
 -- a filter prints this of its input
 abbrev pub Reports : Filter → List ℕ → Output → Type 0
 Reports (Cell state) input output = IsCellOf input state output
@@ -97,10 +86,10 @@ pub record IsCut (filter : Filter) (input : List ℕ) (old new : Option (List �
   pub within : count ≤ length output.text
   pub printed : Appends old new (take count output.text)
 
--- memory ran out; or of the nodes that a replay runs one had no room for another record in its journal (12), or they didn't do what the events of
--- the world ask (13), or the world would have had more events than it takes (14)
+-- memory ran out; or of the nodes that a replay runs one had no room for another record in its journal (12), or the world would have had more events
+-- than it takes (14)
 abbrev pub IsFailure : Filter → ℕ → Type 0
-IsFailure filter status = (status ≡ 9) ⊎ ((is_replay filter ≡ true) × ((status ≡ 12) ⊎ ((status ≡ 13) ⊎ (status ≡ 14))))
+IsFailure filter status = (status ≡ 9) ⊎ ((is_replay filter ≡ true) × ((status ≡ 12) ⊎ (status ≡ 14)))
 
 -- so it ended before anything was printed
 pub record IsUndone (filter : Filter) (old new : Option (List ℕ)) (status : ℕ) : Type 0 where

@@ -3,12 +3,12 @@
 ghost use Rattle.std.specs.Prelude.{◌≡◌, IfErr, IfOk};
 ghost use Rattle.envelope_cmd.specs.Output.{refused};
 ghost use Rattle.net_replay.specs.NetReports.{HasNoRoom, TakesTooManyEvents};
-ghost use Rattle.net_replay.specs.declared.replay_error.ReplayError.TheVariants.{Apart, Full, TooManyEvents};
-ghost use Rattle.possible_courses.specs.ScheduleLines.{AreCalm, AreWithin};
+ghost use Rattle.net_replay.specs.declared.replay_error.ReplayError.TheVariants.{Full, TooManyEvents};
+ghost use Rattle.possible_courses.specs.ScheduleLines.{AreWithin};
 ghost use Rattle.replay_cmd.specs.Laws.{IsReplayable};
 ghost use Rattle.replay_cmd.specs.ReportOf.{nodes_of};
 ghost use Rattle.schedules.specs.Schedules.{schedule_of};
-ghost use Rattle.command_line.specs.Reports.{FindsNoRoom, FindsTooManyEvents, IsReplayOf, IsntCalm, IsReplayed, Replays, bad_line};
+ghost use Rattle.command_line.specs.Reports.{FindsNoRoom, FindsTooManyEvents, IsReplayOf, IsReplayed, Replays, bad_line};
 
 use envelope_cmd::output::Printed;
 use net_replay::replay::{Replayed, replay};
@@ -30,11 +30,11 @@ pub(crate) fn refusal(alloc: Global, bad: BadLine) -> Result<Printed, AllocError
 
 #[tactic(auto, using(crate::proofs::Reports::replayed_so))]
 fn report(alloc: Global, schedule: &Schedule, options: Options) -> Result<Printed, ReplayError>
-    requires { IsReplayable schedule.now }
+    requires replayable { IsReplayable schedule.now }
+    requires within { AreWithin (nodes_of schedule.now) schedule.now }
     ensures report { IfOk result (IsReplayed options schedule.now) }
     ensures full { IfErr result (λ e. e ≡ Full → HasNoRoom options schedule.now) }
     ensures many { IfErr result (λ e. e ≡ TooManyEvents → TakesTooManyEvents options schedule.now) }
-    ensures apart { IfErr result (λ e. e ≡ Apart → AreWithin (nodes_of schedule.now) schedule.now → AreCalm schedule.now → ⊥) }
 {
     match replay(alloc, schedule, options) {
         Ok(replayed) => {
@@ -46,12 +46,11 @@ fn report(alloc: Global, schedule: &Schedule, options: Options) -> Result<Printe
     }
 }
 
-#[tactic(auto, using(crate::proofs::Reports::replays_so, crate::proofs::Reports::refuses_so, crate::proofs::Reports::finds_so, crate::proofs::Reports::finds_many_so, crate::proofs::Reports::isnt_calm))]
+#[tactic(auto, using(crate::proofs::Reports::replays_so, crate::proofs::Reports::refuses_so, crate::proofs::Reports::finds_so, crate::proofs::Reports::finds_many_so))]
 fn printed(alloc: Global, input: &[u8], options: Options) -> Result<Printed, ReplayError>
     ensures replays { IfOk result (Replays options (schedule_of input.now)) }
     ensures full { IfErr result (λ e. e ≡ Full → FindsNoRoom options (schedule_of input.now)) }
     ensures many { IfErr result (λ e. e ≡ TooManyEvents → FindsTooManyEvents options (schedule_of input.now)) }
-    ensures apart { IfErr result (λ e. e ≡ Apart → IsntCalm (schedule_of input.now)) }
 {
     what_is_read_is_replayable();
     what_is_read_is_within();
@@ -75,7 +74,6 @@ pub fn replayed(alloc: Global, input: &[u8], options: Options) -> Result<Printed
     ensures replays { IfOk result (λ printed. IsReplayOf options input.now printed) }
     ensures full { IfErr result (λ e. e ≡ Full → FindsNoRoom options (schedule_of input.now)) }
     ensures many { IfErr result (λ e. e ≡ TooManyEvents → FindsTooManyEvents options (schedule_of input.now)) }
-    ensures apart { IfErr result (λ e. e ≡ Apart → IsntCalm (schedule_of input.now)) }
 {
     what_is_read_is_replayable();
     reports_are_safe();

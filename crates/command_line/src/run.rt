@@ -9,11 +9,11 @@ ghost use Rattle.clap.specs.Faults.{fault_of};
 ghost use Rattle.clap.specs.Simple.{subcommand_of};
 ghost use Rattle.command_line.specs.Commands.{whole};
 ghost use Rattle.command_line.specs.Jobs.{Filter as Filtering, IsFaulty, IsFilter, IsInitiator, IsJob, IsJobOf, IsQuestion, IsServing, Serving as Served, is_replay};
-ghost use Rattle.command_line.specs.Reports.{HasNoRoomFor, HasTooManyEventsFor, IsCut, IsntCalmFor, IsDone, IsReport, Reports, status_of};
+ghost use Rattle.command_line.specs.Reports.{HasNoRoomFor, HasTooManyEventsFor, IsCut, IsDone, IsReport, Reports, status_of};
 ghost use Rattle.command_line.specs.Jobs.Job.{Filters, Make, Serve, Tick};
 ghost use Rattle.command_line.specs.Servings.{HasServed, Initiates, initiates};
 ghost use Rattle.command_line.specs.Summaries.{IsSummed, IsSummedInPart};
-ghost use Rattle.net_replay.specs.declared.replay_error.ReplayError.TheVariants.{Apart, Full, NoMemory, TooManyEvents};
+ghost use Rattle.net_replay.specs.declared.replay_error.ReplayError.TheVariants.{Full, NoMemory, TooManyEvents};
 ghost use Rattle.command_line.specs.Ticks.{FailedToTick, HasTicked};
 ghost use Rattle.command_line.specs.Views.{meant_filter, no_destination, no_numbers, no_serving, statuses_of, told, unknown_state, unread_text, Leaves};
 
@@ -55,9 +55,6 @@ pub const NO_MEMORY: u8 = 9;
 /// The source has more than 1,048,576 bytes.
 pub const TOO_LONG: u8 = 10;
 
-/// The nodes of a replay didn't do what the events of its world ask.
-pub const APART: u8 = 13;
-
 /// The world of a replay would have more than 4,294,967,295 events.
 pub const TOO_MANY_EVENTS: u8 = 14;
 
@@ -67,7 +64,6 @@ fn report(alloc: Global, filter: &Filter<'_>, input: &[u8]) -> Result<Printed, R
     ensures memory { IfErr result (λ e. (e ≡ NoMemory) ⊎ (is_replay (meant_filter filter.now) ≡ true)) }
     ensures full { IfErr result (λ e. e ≡ Full → HasNoRoomFor (meant_filter filter.now) input.now) }
     ensures many { IfErr result (λ e. e ≡ TooManyEvents → HasTooManyEventsFor (meant_filter filter.now) input.now) }
-    ensures apart { IfErr result (λ e. e ≡ Apart → IsntCalmFor (meant_filter filter.now) input.now) }
 {
     match filter {
         Filter::Cell(state) => match cell(alloc, input, *state) {
@@ -170,20 +166,19 @@ fn filter<S: Source, K: Sink>(
     source: &mut S,
     sink: &mut K,
 ) -> u8
-    ensures statuses { IsTrue (list_any (nat_eq result) (0 ∷ 3 ∷ 4 ∷ 5 ∷ 9 ∷ 10 ∷ 12 ∷ 13 ∷ 14 ∷ [])) }
-    ensures gave_up { IsTrue (list_any (nat_eq result) (12 ∷ 13 ∷ 14 ∷ [])) → is_replay (meant_filter filter.now) ≡ true }
+    ensures statuses { IsTrue (list_any (nat_eq result) (0 ∷ 3 ∷ 4 ∷ 5 ∷ 9 ∷ 10 ∷ 12 ∷ 14 ∷ [])) }
+    ensures gave_up { IsTrue (list_any (nat_eq result) (12 ∷ 14 ∷ [])) → is_replay (meant_filter filter.now) ≡ true }
     ensures source_failed { result ≡ 4 → Rose (S.faults source.old) (S.faults source.new) }
     ensures sink_failed { result ≡ 5 → Rose (K.faults sink.old) (K.faults sink.new) }
     ensures too_long { result ≡ 10 → capped (S.given source.old + 1048577) ≤ S.given source.new }
     ensures not_longer { S.given source.old + 1048576 < S.given source.new → result ≡ 10 }
     ensures longer { result ≡ 10 → IfSome (S.left source.old) (λ input. 1048576 < length input) }
     ensures whole { IsTrue (list_any (nat_eq result) (0 ∷ 3 ∷ 5 ∷ [])) → IfSome (S.left source.old) (λ input. RisesBy (length input) (S.given source.old) (S.given source.new)) }
-    ensures quiet { IsTrue (list_any (nat_eq result) (4 ∷ 9 ∷ 10 ∷ 12 ∷ 13 ∷ 14 ∷ [])) → Appends (K.contents sink.old) (K.contents sink.new) [] }
+    ensures quiet { IsTrue (list_any (nat_eq result) (4 ∷ 9 ∷ 10 ∷ 12 ∷ 14 ∷ [])) → Appends (K.contents sink.old) (K.contents sink.new) [] }
     ensures ended { IsTrue (list_any (nat_eq result) (0 ∷ 3 ∷ [])) → IfSome (S.left source.old) (λ input. IsDone (meant_filter filter.now) input (K.contents sink.old) (K.contents sink.new) result) }
     ensures cut { result ≡ 5 → IfSome (S.left source.old) (λ input. IsCut (meant_filter filter.now) input (K.contents sink.old) (K.contents sink.new)) }
     ensures full { result ≡ 12 → IfSome (S.left source.old) (HasNoRoomFor (meant_filter filter.now)) }
     ensures many { result ≡ 14 → IfSome (S.left source.old) (HasTooManyEventsFor (meant_filter filter.now)) }
-    ensures apart { result ≡ 13 → IfSome (S.left source.old) (IsntCalmFor (meant_filter filter.now)) }
     ensures report { (input : List ℕ) → S.left source.old ≡ Some input → length input ≤ 1048576 → ¬ (Rose (S.faults source.old) (S.faults source.new)) → ¬ (Rose (K.faults sink.old) (K.faults sink.new)) → IsReport (meant_filter filter.now) input (K.contents sink.old) (K.contents sink.new) result }
 {
     let bytes = match read_all(alloc, source) {
@@ -196,7 +191,6 @@ fn filter<S: Source, K: Sink>(
         Ok(printed) => print(sink, &printed),
         Err(ReplayError::NoMemory) => NO_MEMORY,
         Err(ReplayError::Full) => FULL,
-        Err(ReplayError::Apart) => APART,
         Err(ReplayError::TooManyEvents) => TOO_MANY_EVENTS,
     }
 }
@@ -220,12 +214,12 @@ pub fn run<S: Source, K: Sink, H: Site>(
     sink: &mut K,
     site: &mut H,
 ) -> u8
-    ensures statuses { IsTrue (list_any (nat_eq result) (0 ∷ 2 ∷ 3 ∷ 4 ∷ 5 ∷ 6 ∷ 7 ∷ 8 ∷ 9 ∷ 10 ∷ 11 ∷ 12 ∷ 13 ∷ 14 ∷ [])) }
+    ensures statuses { IsTrue (list_any (nat_eq result) (0 ∷ 2 ∷ 3 ∷ 4 ∷ 5 ∷ 6 ∷ 7 ∷ 8 ∷ 9 ∷ 10 ∷ 11 ∷ 12 ∷ 14 ∷ [])) }
     ensures words { result ≡ 2 → IsFaulty (map string_bytes words.now) }
     ensures faulty { IsFaulty (map string_bytes words.now) → IsTrue (list_any (nat_eq result) (2 ∷ 5 ∷ 9 ∷ [])) }
     ensures question { IsQuestion (map string_bytes words.now) → IsTrue (list_any (nat_eq result) (0 ∷ 5 ∷ 9 ∷ [])) }
-    ensures filtered { IsFilter (map string_bytes words.now) → IsTrue (list_any (nat_eq result) (0 ∷ 3 ∷ 4 ∷ 5 ∷ 9 ∷ 10 ∷ 12 ∷ 13 ∷ 14 ∷ [])) }
-    ensures gave_up { (filter : Filtering) → IsJobOf (map string_bytes words.now) (Filters filter) → IsTrue (list_any (nat_eq result) (12 ∷ 13 ∷ 14 ∷ [])) → is_replay filter ≡ true }
+    ensures filtered { IsFilter (map string_bytes words.now) → IsTrue (list_any (nat_eq result) (0 ∷ 3 ∷ 4 ∷ 5 ∷ 9 ∷ 10 ∷ 12 ∷ 14 ∷ [])) }
+    ensures gave_up { (filter : Filtering) → IsJobOf (map string_bytes words.now) (Filters filter) → IsTrue (list_any (nat_eq result) (12 ∷ 14 ∷ [])) → is_replay filter ≡ true }
     ensures unread { ¬ (IsFilter (map string_bytes words.now)) → ¬ (IsInitiator (map string_bytes words.now)) → source.new ≡ source.old }
     ensures said { ¬ (IsJob (map string_bytes words.now)) → (said : List ℕ) × Appends (K.contents sink.old) (K.contents sink.new) said }
     ensures unknown { result ≡ 2 → fault_of whole (map string_bytes words.now) ≡ [] → Appends (K.contents sink.old) (K.contents sink.new) (unread_text (subcommand_of whole (map string_bytes words.now))) }
@@ -247,12 +241,11 @@ pub fn run<S: Source, K: Sink, H: Site>(
     ensures not_longer { S.given source.old + 1048576 < S.given source.new → result ≡ 10 }
     ensures longer { result ≡ 10 → IfSome (S.left source.old) (λ input. 1048576 < length input) }
     ensures whole { IsFilter (map string_bytes words.now) → IsTrue (list_any (nat_eq result) (0 ∷ 3 ∷ 5 ∷ [])) → IfSome (S.left source.old) (λ input. RisesBy (length input) (S.given source.old) (S.given source.new)) }
-    ensures quiet { ¬ (IsServing (map string_bytes words.now)) → IsTrue (list_any (nat_eq result) (4 ∷ 8 ∷ 9 ∷ 10 ∷ 12 ∷ 13 ∷ 14 ∷ [])) → Appends (K.contents sink.old) (K.contents sink.new) [] }
+    ensures quiet { ¬ (IsServing (map string_bytes words.now)) → IsTrue (list_any (nat_eq result) (4 ∷ 8 ∷ 9 ∷ 10 ∷ 12 ∷ 14 ∷ [])) → Appends (K.contents sink.old) (K.contents sink.new) [] }
     ensures ended { (filter : Filtering) → IsJobOf (map string_bytes words.now) (Filters filter) → IsTrue (list_any (nat_eq result) (0 ∷ 3 ∷ [])) → IfSome (S.left source.old) (λ input. IsDone filter input (K.contents sink.old) (K.contents sink.new) result) }
     ensures cut { (filter : Filtering) → IsJobOf (map string_bytes words.now) (Filters filter) → result ≡ 5 → IfSome (S.left source.old) (λ input. IsCut filter input (K.contents sink.old) (K.contents sink.new)) }
     ensures full { (filter : Filtering) → IsJobOf (map string_bytes words.now) (Filters filter) → result ≡ 12 → IfSome (S.left source.old) (HasNoRoomFor filter) }
     ensures many { (filter : Filtering) → IsJobOf (map string_bytes words.now) (Filters filter) → result ≡ 14 → IfSome (S.left source.old) (HasTooManyEventsFor filter) }
-    ensures apart { (filter : Filtering) → IsJobOf (map string_bytes words.now) (Filters filter) → result ≡ 13 → IfSome (S.left source.old) (IsntCalmFor filter) }
     ensures report { (filter : Filtering) → (input : List ℕ) → IsJobOf (map string_bytes words.now) (Filters filter) → S.left source.old ≡ Some input → length input ≤ 1048576 → ¬ (Rose (S.faults source.old) (S.faults source.new)) → ¬ (Rose (K.faults sink.old) (K.faults sink.new)) → IsReport filter input (K.contents sink.old) (K.contents sink.new) result }
 {
     match job_of(alloc, words) {

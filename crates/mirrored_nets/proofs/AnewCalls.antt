@@ -1,7 +1,7 @@
 -- The calls by which a journal is written anew.
-use Rattle.std.specs.Prelude.{ℕ, List, [], ◌∷◌, ◌++◌, ◌≡◌, ◌≤◌, Bool, true, false, if◌then◌else◌, map, option_map}
-use Rattle.std.proofs.Common.{refl, sym, ap, subst, inl, inr}
-use Rattle.journal_at.specs.Compactions.{Steps, prepare_calls}
+use Rattle.std.specs.Prelude.{ℕ, List, [], ◌∷◌, ◌++◌, ◌≡◌, ◌≤◌, ◌⊎◌, Bool, true, false, if◌then◌else◌, map, option_map}
+use Rattle.std.proofs.Common.{refl, sym, ap, subst, arith, ◌∙◌, inl, inr, true≢false}
+use Rattle.journal_at.specs.Compactions.{HasGround, Steps, prepare_calls}
 use Rattle.journal_at.specs.StandingBodies.{raise}
 use Rattle.journal_at.specs.declared.journal.Compact.{Compact}
 use Rattle.journal_at.specs.declared.journal.Compact.TheVariants as compacts
@@ -15,10 +15,12 @@ use Rattle.node_at.specs.declared.turn.Turned.TheVariants as turneds
 use Rattle.node_worlds.proofs.Rows.{grown_same}
 use Rattle.site_memory.specs.Sites.{told_of}
 use Rattle.site_memory.specs.declared.machine.MemSite.{MemSite}
+use Rattle.site_model.specs.Counts.{Rose}
 use Rattle.site_model.specs.Site.{Counts}
-use Rattle.site_model.specs.Told.{Made, Told, done}
+use Rattle.site_model.specs.Told.{Call, Made, Told, done}
+use Rattle.mirrored_nets.specs.Fates.{AllDone, refusals}
 use Rattle.mirrored_nets.specs.Took.{IsWhole}
-use Rattle.mirrored_nets.proofs.CallRows.{AreOnDisk, disk_calls}
+use Rattle.mirrored_nets.proofs.CallRows.{AreOnDisk, all_refused_none, disk_calls}
 
 all_join : (xs ys : List Made) → AreOnDisk xs → AreOnDisk ys → AreOnDisk (xs ++ ys)
 all_join [] ys h k = k
@@ -27,6 +29,14 @@ all_join (x ∷ xs) ys (h, more) k = (h, all_join xs ys more k)
 prepare_on_disk : (unshut : Bool) (file : ℕ) (text : List ℕ) → AreOnDisk (map done (prepare_calls unshut file text))
 prepare_on_disk true file text = (refl, (refl, (refl, (refl, tt))))
 prepare_on_disk false file text = (refl, (refl, (refl, tt)))
+
+all_two : (xs ys : List Made) → AllDone xs → AllDone ys → AllDone (xs ++ ys)
+all_two [] ys h k = k
+all_two (x ∷ xs) ys (h, more) k = (h, all_two xs ys more k)
+
+each_done : (cs : List Call) → AllDone (map done cs)
+each_done [] = tt
+each_done (c ∷ cs) = (refl, each_done cs)
 
 anew_on_disk : (r : Compact) (unshut : Bool) (file : ℕ) (text : List ℕ) (made : List Made) → Steps r unshut file text made → AreOnDisk made
 anew_on_disk compacts.Done unshut file text made e =
@@ -45,9 +55,12 @@ pub record GoesAnew (n m : State) (old new : MemSite) : Type 0 where
   pub effects : m.effects ≡ n.effects
   pub limit : m.journal.limit ≡ n.journal.limit
   pub disk : old.tally.disk ≤ new.tally.disk
+  pub gate : old.tally.gate ≤ new.tally.gate
   pub link : new.tally.link ≡ old.tally.link
+  -- one of them that failed is counted
+  pub failed : 1 ≤ refusals made → Rose old.tally.disk new.tally.disk ⊎ Rose old.tally.gate new.tally.gate
 
-module _ (n m : State) (old new : MemSite) (sure : n.journal.unsure ≡ false) (disk : old.tally.disk ≤ new.tally.disk) (link : new.tally.link ≡ old.tally.link) where
+module _ (n m : State) (old new : MemSite) (sure : n.journal.unsure ≡ false) (disk : old.tally.disk ≤ new.tally.disk) (gate : old.tally.gate ≤ new.tally.gate) (link : new.tally.link ≡ old.tally.link) where
   not_called : m ≡ n → new ≡ old → GoesAnew n m old new
   not_called same e = record {
     made = [];
@@ -57,8 +70,21 @@ module _ (n m : State) (old new : MemSite) (sure : n.journal.unsure ≡ false) (
     effects = ap (λ (z : State). z.effects) same;
     limit = ap (λ (z : State). z.journal.limit) same;
     disk = disk;
+    gate = gate;
     link = link;
+    failed = λ some. absurd (omega (arith, some));
   }
+
+  -- why calls of it failed
+  why_failed : (r : Compact) (unshut : Bool) (file : ℕ) (text : List ℕ) (made : List Made) → Steps r unshut file text made → HasGround r n.journal (told_of old) (told_of new) → 1 ≤ refusals made
+      → Rose old.tally.disk new.tally.disk ⊎ Rose old.tally.gate new.tally.gate
+  why_failed compacts.Done unshut file text made e ground some =
+      let none = all_refused_none made (subst AllDone (sym e) (all_two (map done (prepare_calls unshut file text)) (map done (raise file 0)) (each_done (prepare_calls unshut file text)) (refl, (refl, tt)))) in
+      absurd (omega (arith, none, some))
+  why_failed compacts.Kept unshut file text made b ground some = inl ground
+  why_failed compacts.Unsure unshut file text made are (inl unsure) some = absurd (true≢false (sym unsure ∙ sure))
+  why_failed compacts.Unsure unshut file text made are (inr rose) some = inr rose
+  why_failed compacts.Full unshut file text made e ground some = let none = ap refusals e in absurd (omega (arith, none, some))
 
   written : (r : Compact) (halted : Bool) → Anew r halted n m (told_of old) (told_of new) → GoesAnew n m old new
   written r halted a =
@@ -71,7 +97,9 @@ module _ (n m : State) (old new : MemSite) (sure : n.journal.unsure ≡ false) (
         effects = ap (λ (z : State). z.effects) a.same;
         limit = a.limit;
         disk = disk;
+        gate = gate;
         link = link;
+        failed = why_failed r _ _ _ moves.made moves.are a.compacted.ground;
       }
 
   shrinks_so : (shrunk : Shrunk) → Shrinks shrunk n m (told_of old) (told_of new) → ((IsDue n → ⊥) → new ≡ old) → (shrunk ≡ shrunks.NoMemory → new ≡ old) → GoesAnew n m old new
@@ -85,9 +113,9 @@ module _ (n m : State) (old new : MemSite) (sure : n.journal.unsure ≡ false) (
 -- so a turn ended that went to its end
 pub ends_anew : (first result : Turned) (shrunk : Shrunk) (n m : State) (old new : MemSite) → n.journal.unsure ≡ false → IsWhole first → Ends told_of first result shrunk n m old new → GoesAnew n m old new
 ends_anew (turneds.Served status) result shrunk n m old new sure whole e =
-    shrinks_so n m old new sure e.counted.disk (ap (λ (z : Counts). z.link) e.counted.others) shrunk e.shrinks e.idle e.memory
+    shrinks_so n m old new sure e.counted.disk e.counted.gate (ap (λ (z : Counts). z.link) e.counted.others) shrunk e.shrinks e.idle e.memory
 ends_anew turneds.Ticked result shrunk n m old new sure whole e =
-    shrinks_so n m old new sure e.counted.disk (ap (λ (z : Counts). z.link) e.counted.others) shrunk e.shrinks e.idle e.memory
+    shrinks_so n m old new sure e.counted.disk e.counted.gate (ap (λ (z : Counts). z.link) e.counted.others) shrunk e.shrinks e.idle e.memory
 ends_anew turneds.NoRoom result shrunk n m old new sure whole e = absurd whole
 ends_anew turneds.Halted result shrunk n m old new sure whole e = absurd whole
 ends_anew turneds.Closed result shrunk n m old new sure whole e = absurd whole

@@ -16,3 +16,12 @@ asked_so lines calls step anew fates until n is count beyond starts same done =
       beyond = subst (λ ms. IsBeyond until (length (fates_in ms))) (sym made) (subst (IsBeyond until) count beyond);
       anew = subst (λ ms. AllDone (anew_of ms)) (sym made) (subst AllDone same done);
     }
+
+pub so_asked : (lines : ℕ) (calls step : List Entry) (fates : List Bool) (until : Option ℕ) (n : ℕ) → step ≡ drop lines calls → n ≡ length (fates_in (mades step)) → AreAsked lines (mades calls) fates until
+    → IsBeyond until n × StartsWith (fates_in (mades step)) fates × AllDone (anew_of (mades step))
+so_asked lines calls step fates until n is count asked =
+    let made = behind_lines lines calls step is in (
+      subst (IsBeyond until) (sym count) (subst (λ ms. IsBeyond until (length (fates_in ms))) made asked.beyond),
+      subst (λ ms. StartsWith (fates_in ms) fates) made asked.fates_are,
+      subst (λ ms. AllDone (anew_of ms)) made asked.anew,
+    )

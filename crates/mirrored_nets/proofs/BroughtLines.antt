@@ -2,7 +2,6 @@
 use Rattle.std.specs.Prelude.{ℕ, List, ◌+◌, ◌≡◌, ◌≤◌, ◌<◌, ◌^◌, Bool, Some, true, false}
 use Rattle.std.proofs.Common.{arith, subst, sym, ◌∙◌}
 use Rattle.at_model.specs.World.{Input, Deliver, Raw, Tick, nth}
-use Rattle.http_post.specs.Conversations.{Waits}
 use Rattle.memory_net.specs.Mails.{Mail}
 use Rattle.node_events.specs.NodeEvents.{one_if}
 use Rattle.mirrored_nets.specs.Goings.{IsBrought, ms_of}
@@ -12,21 +11,11 @@ one_or_none : (waits : Bool) (lines : ℕ) → lines ≡ one_if waits → lines 
 one_or_none true lines e = omega (arith, e)
 one_or_none false lines e = omega (arith, e)
 
-waited_for : (waits : Bool) (lines : ℕ) (bytes : List ℕ) → Waits bytes waits → lines ≡ one_if waits → lines ≡ 1 → Waits bytes true
-waited_for true lines bytes w e one = w
-waited_for false lines bytes w e one = let z : 0 ≡ 1 = sym e ∙ one in absurd cc
-
 -- at most one
 pub few_lines : (mails : List Mail) (i : ℕ) (input : Input) (lines : ℕ) (bytes : List ℕ) → IsBrought mails i input lines bytes → lines ≤ 1
 few_lines mails i (Deliver k) lines bytes (m, at, to, same, short, none) = omega (arith, none)
 few_lines mails i (Tick ms) lines bytes (tick, none) = omega (arith, none)
 few_lines mails i Raw lines bytes (status, waits, draws, short, e) = one_or_none waits lines e
-
--- where the client waits for it
-pub line_waited : (mails : List Mail) (i : ℕ) (input : Input) (lines : ℕ) (bytes : List ℕ) → IsBrought mails i input lines bytes → lines ≡ 1 → Waits bytes true
-line_waited mails i (Deliver k) lines bytes (m, at, to, same, short, none) one = let z : 0 ≡ 1 = sym none ∙ one in absurd cc
-line_waited mails i (Tick ms) lines bytes (tick, none) one = let z : 0 ≡ 1 = sym none ∙ one in absurd cc
-line_waited mails i Raw lines bytes (status, waits, draws, short, e) one = waited_for waits lines bytes draws.1 e one
 
 -- the clock shows the time behind it
 pub clock_fits : (clocks : List ℕ) (i c ms : ℕ) (input : Input) → FitsClock clocks i input → nth i clocks ≡ Some c → c < 2 ^ 64 → ms ≡ ms_of input → c + ms < 2 ^ 64

@@ -93,7 +93,7 @@ module _ (disk : List Made) where
 abbrev one_failed : Bool → Bool → ℕ
 one_failed b t = if b then 0 else (if t then 0 else 1)
 
-abbrev one_refused : Bool → Bool → ℕ
+abbrev pub one_refused : Bool → Bool → ℕ
 one_refused b t = if b then (if t then 0 else 1) else 0
 
 pub failures_join : (xs ys : List Made) → failures (xs ++ ys) ≡ failures xs + failures ys
@@ -118,7 +118,7 @@ none_refused (m ∷ ms) (h, more) =
     let k = none_refused ms more in
     omega (arith, e, k)
 
-count_none : (b t : Bool) → t ≡ true → one_refused b t ≡ 0
+pub count_none : (b t : Bool) → t ≡ true → one_refused b t ≡ 0
 count_none true t h = ap (λ z. if z then 0 else 1) h
 count_none false t h = refl
 

@@ -40,7 +40,7 @@ abbrev HasReason : Out → Type 0
 HasReason (outs.Answer status reply) = has_reason status ≡ true
 HasReason (outs.Post p) = Unit {0}
 
-replied : (status : ℕ) → IsReplied status → has_reason status ≡ true
+pub replied : (status : ℕ) → IsReplied status → has_reason status ≡ true
 replied status (inl e) = ap has_reason e
 replied status (inr (inl e)) = ap has_reason e
 replied status (inr (inr e)) = ap has_reason e

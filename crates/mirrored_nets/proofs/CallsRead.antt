@@ -40,6 +40,8 @@ pub record Read (j : Journal) (line made : List Made) (s : TurnStep) (ss : List 
   pub unrecorded : AllByRecursion HasNone ss
   pub lost : lost_of (d ∷ ds) ≤ failures made
   pub refused : d.refused ≤ refusals made
+  -- nor was one beside a call that failed by which the journal is written anew
+  pub both : 1 ≤ refusals anew → d.refused + 1 ≤ refusals made
 
 pub breaks_on_disk : (j : Journal) (body : List ℕ) (made : List Made) → BreaksOff (lay j.live j.end body) made → AreOnDisk made
 breaks_on_disk j body made b = disk_calls (lay j.live j.end body) made (refl, (refl, tt)) b
@@ -50,7 +52,7 @@ record_on_disk (Some r) true j disk refused (e, n) = subst AreOnDisk (sym e) (re
 record_on_disk (Some r) false j disk refused (b, n) = breaks_on_disk j (bytes_of r) disk b
 
 -- the fate of the first step's record
-record_fate_is : (ms : List Made) → (ms ≡ [] → ⊥) → record_fate ms ≡ all_done ms ∷ []
+pub record_fate_is : (ms : List Made) → (ms ≡ [] → ⊥) → record_fate ms ≡ all_done ms ∷ []
 record_fate_is [] h = absurd (h refl)
 record_fate_is (m ∷ ms) h = refl
 
@@ -105,6 +107,17 @@ module _ (j : Journal) (line made : List Made) (s : TurnStep) (ss : List TurnSte
     pub told : AllTold (s ∷ ss) (d ∷ ds) (f ∷ fs) fared
     told = let a = failures_are in let b = R.lost in all_are_told (s ∷ ss) (d ∷ ds) (f ∷ fs) fared R.outs have (omega (arith, a, b))
 
+    -- the fates of the steps
+    pub steps_fated : all_fates (f ∷ fs) ≡ record_fates f.entry f.landed ++ map is_done (all_made (d ∷ ds))
+    steps_fated = append_over (record_fates f.entry f.landed) (map went_of f.ways) (all_fates fs) ∙ ap (λ z. record_fates f.entry f.landed ++ z) (sym sends_fates)
+      where
+        append_over : (xs ys zs : List Bool) → (xs ++ ys) ++ zs ≡ xs ++ (ys ++ zs)
+        append_over [] ys zs = refl
+        append_over (x ∷ xs) ys zs = ap (λ z. x ∷ z) (append_over xs ys zs)
+
+        sends_fates : map is_done (all_made (d ∷ ds)) ≡ map went_of f.ways ++ all_fates fs
+        sends_fates = map-append is_done d.made (all_made ds) ∙ (λ i. sym (ways_are s d f fared.0 told.0) i ++ sym (due_fates ss ds fs fared.1 told.1 R.unrecorded) i)
+
     pub behind_line : drop (length line) made ≡ d.first ++ (all_made (d ∷ ds) ++ R.anew)
     behind_line = ap (drop (length line)) R.are ∙ drop-append_seam line (d.first ++ (all_made (d ∷ ds) ++ R.anew))
 
@@ -123,21 +136,18 @@ module _ (j : Journal) (line made : List Made) (s : TurnStep) (ss : List TurnSte
       pub anew_behind : anew_of (drop (length line) made) ≡ R.anew
       anew_behind = ap anew_of behind_line ∙ anew_is d.first (all_made (d ∷ ds)) R.anew parts
 
-      -- where no call failed by which it was written anew, the fates are those of the calls
+      -- the fates are those of the calls
+      pub fates_of_calls : fates_in (drop (length line) made) ≡ record_fate d.first ++ map is_done (all_made (d ∷ ds))
+      fates_of_calls = ap fates_in behind_line ∙ fates_are d.first (all_made (d ∷ ds)) R.anew parts
+
+      -- where no call failed by which it was written anew, so are those of the steps
       pub fates_read : AllDone (anew_of (drop (length line) made)) → fates_in (drop (length line) made) ≡ all_fates (f ∷ fs)
       fates_read none =
           let a = refusals_are in
           let b = all_refused_none R.anew (subst AllDone anew_behind none) in
           let c = R.refused in
           let few : d.refused ≤ refusals d.first = omega (arith, a, b, c) in
-          ap fates_in behind_line ∙ fates_are d.first (all_made (d ∷ ds)) R.anew parts
-          ∙ (λ i. fate_of_record s.entry s.landed f.landed j d.first d.refused R.record_is few (ap (λ o. stands_by o f.landed) (sym fared.0.entry) ∙ fared.0.records) i ++ sends_fates i)
-          ∙ ap (λ o. record_fates o f.landed ++ (map went_of f.ways ++ all_fates fs)) (sym fared.0.entry)
-          ∙ sym (append_over (record_fates f.entry f.landed) (map went_of f.ways) (all_fates fs))
-        where
-          append_over : (xs ys zs : List Bool) → (xs ++ ys) ++ zs ≡ xs ++ (ys ++ zs)
-          append_over [] ys zs = refl
-          append_over (x ∷ xs) ys zs = ap (λ z. x ∷ z) (append_over xs ys zs)
-
-          sends_fates : map is_done (all_made (d ∷ ds)) ≡ map went_of f.ways ++ all_fates fs
-          sends_fates = map-append is_done d.made (all_made ds) ∙ (λ i. sym (ways_are s d f fared.0 told.0) i ++ sym (due_fates ss ds fs fared.1 told.1 R.unrecorded) i)
+          fates_of_calls
+          ∙ (λ i. fate_of_record s.entry s.landed f.landed j d.first d.refused R.record_is few (ap (λ o. stands_by o f.landed) (sym fared.0.entry) ∙ fared.0.records) i ++ map is_done (all_made (d ∷ ds)))
+          ∙ ap (λ o. record_fates o f.landed ++ map is_done (all_made (d ∷ ds))) (sym fared.0.entry)
+          ∙ sym steps_fated

@@ -14,10 +14,11 @@ use Rattle.memory_net.specs.Closed.{AsksOf, ExamplesAskSo, IsExampleRequest, clo
 use Rattle.memory_net.specs.Mails.{Mail, mails_in}
 use Rattle.memory_net.specs.declared.host.Host.{Host}
 use Rattle.memory_net.proofs.Standing.{goes_so, placed_at}
-use Rattle.mirrored_nets.specs.Mirrors.{Mirrors}
+use Rattle.mirrored_nets.specs.Mirrors.{AreOfTwo, Mirrors}
 use Rattle.mirrored_nets.proofs.CutTurns.{CutAt, same_mails}
 use Rattle.mirrored_nets.proofs.FallenHosts.{IsBefore, NetLaws, at_this, fallen, hold, is_up, left_at, sites, up_there, waits}
 use Rattle.mirrored_nets.proofs.LeftFiles.{opening_kept}
+use Rattle.mirrored_nets.proofs.MarkedFiles.{done_two, on_two}
 use Rattle.mirrored_nets.proofs.UnbegunAsks.{broken_none}
 use Rattle.node_at.specs.Doings.{Doing, deeds_of}
 use Rattle.node_at.specs.Moments.{sent_of}
@@ -84,6 +85,13 @@ module _ (L : NetLaws) (ask_so : ExamplesAskSo) (count : ℕ) (few : count ≤ 8
             goes = goes_so i g.site asked_sites;
           }
 
+      -- the files are of version 2
+      of_two : (rs : List Record) → AreOfTwo (asked_records ++ rs) g.site
+      of_two rs =
+          on_two (asked_records ++ rs) _ g.site crash.on
+          (done_two (asked_sites i) t _ _ crash.left asked_records (asked_records ++ rs) (seen n) _ up_now
+          (request_did L.bodies L.grows told_of asked_records answer (seen n) (seen m) request (asked_sites i) t up_now requests).time)
+
       -- nothing of it was done
       pub undone_fallen : StandsFor asked_records (chosen_files choice (opening_in s.device) (calls_in s.device ++ take kept made)) → AllByRecursion IsNoPost (sent_by (take kept made)) → AskLeadsTo now e [] []
           → Mirrors count (put_nth i g hosts) (put_nth i now clocks) more (world_step w e)
@@ -95,7 +103,7 @@ module _ (L : NetLaws) (ask_so : ExamplesAskSo) (count : ℕ) (few : count ≤ 8
           (hold L count few hosts clocks mails more w M i h g n here up c time s before).here (is_up L count few hosts clocks mails more w M i h g n here up c time s before) requests.asked crash stands
           (broken_none (example_hosts count) i M.stands.net p (seen n)) in
           fallen L count few hosts clocks mails more w M i h g n here up c time s before [] [] [] serves M.stands.asks tt
-          (posted ∙ same_mails i count mails (sent_by (take kept made)) [] (take kept made) none (sym (append-nil (sent_by (take kept made))))) now e leads down
+          (posted ∙ same_mails i count mails (sent_by (take kept made)) [] (take kept made) none (sym (append-nil (sent_by (take kept made))))) now e leads down (of_two [])
 
       -- its step was begun
       begun_fallen : (at : ℕ) (begun : TurnStep) → IsStep n.book (events.Local request) at begun → (doing : Doing) (posts : List Post) → Sent begun.leaving doing.made posts
@@ -112,7 +120,7 @@ module _ (L : NetLaws) (ask_so : ExamplesAskSo) (count : ℕ) (few : count ≤ 8
           (subst (λ rs. StandsFor (asked_records ++ rs) (chosen_files choice (opening_in s.device) (calls_in s.device ++ take kept made))) (append-nil (records_by (if_landed begun.landed begun.entry))) stands) refl in
           let asks : AsksOf closed told_of (example_hosts count) (broken (example_hosts count) i M.stands.net p (seen n) (begun ∷ []) posts) (placed_at i g.site asked_sites) serves = ((ask_so request named).1, M.stands.asks) in
           fallen L count few hosts clocks mails more w M i h g n here up c time s before (begun ∷ []) posts (sent_by doing.made) serves asks
-          (L.calls.one_letters begun.leaving doing.made posts (leaving_called (step n.book (events.Local request) at begun.landed).outs begun.leaving is.outcome.leaving) sent) (posted ∙ same) now e leads down
+          (L.calls.one_letters begun.leaving doing.made posts (leaving_called (step n.book (events.Local request) at begun.landed).outs begun.leaving is.outcome.leaving) sent) (posted ∙ same) now e leads down (of_two (recorded (begun ∷ [])))
 
       pub ask_fallen : (at : ℕ) (begun : TurnStep) → IsStep n.book (events.Local request) at begun
           → CutAt asked_records (begun ∷ []) (chosen_files choice (opening_in s.device) (calls_in s.device ++ take kept made)) (take kept made) (AskLeadsTo now e)

@@ -15,6 +15,7 @@ use Rattle.memory_net.proofs.Standing.{goes_so, placed_at}
 use Rattle.mirrored_nets.specs.Mirrors.{Mirrors}
 use Rattle.mirrored_nets.proofs.FallenHosts.{IsBefore, NetLaws, at_this, fallen, hold, is_up, left_at, sites, up_there, waits}
 use Rattle.mirrored_nets.proofs.LeftFiles.{opening_kept}
+use Rattle.mirrored_nets.proofs.MarkedFiles.{done_two, on_two}
 use Rattle.node_at.specs.Doings.{Doing, deeds_of}
 use Rattle.node_at.specs.Endings.{TakesTurn}
 use Rattle.node_at.specs.Moments.{sent_of}
@@ -109,3 +110,6 @@ module _ (L : NetLaws) (count : ℕ) (few : count ≤ 8) (hosts : List Host) (cl
         (subst (λ x. AllAreCalled x) cut.of (L.calls.begun_called r All m.shrunk (seen n) (seen m) (at_sites i) t turn))) cut.sent in
         fallen L count few hosts clocks mails more w M i h g n here up c time s before cut.front cut.posts (sent_of (deeds_of cut.doings)) serves M.stands.asks letters
         (posted ∙ same_mails i count mails cut.said (sent_of (deeds_of cut.doings)) (take kept made) cut.no_posts cut.calls) now e cut.leads down
+        (on_two (place_records ++ recorded cut.front) d g.site back
+        (done_two (at_sites i) t l d left place_records (place_records ++ recorded cut.front) (seen n) _ up_now
+        (turn_did L.bodies L.grows told_of place_records r All m.shrunk (seen n) (seen m) (at_sites i) t up_now turn).time))

@@ -8,7 +8,7 @@ use Rattle.site_memory.specs.declared.entry.Entry.{Entry}
 use Rattle.site_model.specs.Told.{Made}
 use Rattle.mirrored_nets.specs.Fates.{AllDone, all_done, anew_of, behind_disk, behind_sent, is_disk}
 
-all_drop : (n : ℕ) (made : List Made) → AllDone made → AllDone (drop n made)
+pub all_drop : (n : ℕ) (made : List Made) → AllDone made → AllDone (drop n made)
 all_drop zero made all = all
 all_drop (suc n) [] all = tt
 all_drop (suc n) (m ∷ made) (is, all) = all_drop n made all
@@ -24,7 +24,7 @@ all_dropped n calls all = subst AllDone (drop-map made_of n calls) (all_drop n (
 pub all_taken : (n : ℕ) (calls : List Entry) → AllDone (mades calls) → AllDone (mades (take n calls))
 all_taken n calls all = subst AllDone (take-map made_of n calls) (all_take n (mades calls) all)
 
-all_behind_disk : (made : List Made) → AllDone made → AllDone (behind_disk made)
+pub all_behind_disk : (made : List Made) → AllDone made → AllDone (behind_disk made)
 all_behind_disk [] all = tt
 all_behind_disk (m ∷ made) (is, all) = by (is_disk m.call) (all_behind_disk made all)
   where

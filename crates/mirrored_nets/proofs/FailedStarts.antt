@@ -1,5 +1,5 @@
 -- A node whose start meets a fault, as the world's does, whether its Start landed or not.
-use Rattle.std.specs.Prelude.{ℕ, List, [], ◌∷◌, ◌++◌, ◌+◌, ◌≡◌, ◌≤◌, ◌<◌, ◌⊎◌, IfSome, Bool, true, false, Some, None, Ok, Err, Result, drop, length, nat_lt, option_map, suc, take, zero}
+use Rattle.std.specs.Prelude.{ℕ, List, [], ◌∷◌, ◌++◌, ◌+◌, ◌≡◌, ◌≤◌, ◌<◌, ◌⊎◌, IfSome, Bool, true, false, Some, None, drop, length, nat_lt, option_map, suc, take, zero}
 use Rattle.std.proofs.Common.{refl, sym, ap, subst, arith, ◌∙◌, inl, inr}
 use Rattle.std.proofs.lemmas.Bool.{ltb-false, ltb-true}
 use Rattle.std.proofs.lemmas.List.{append_assoc, take-append-drop}
@@ -15,12 +15,8 @@ use Rattle.memory_net.specs.Calls.{IsServing}
 use Rattle.memory_net.specs.Mails.{Mail}
 use Rattle.memory_net.specs.declared.host.Host.{Host}
 use Rattle.memory_net.proofs.Standing.{alone_where, comes_on, goes_so, placed_at, placed_other, placed_this, same_some}
-use Rattle.node_at.specs.StartedNodes.{Starts}
 use Rattle.node_at.specs.Starts.{carried, start_after}
 use Rattle.node_at.specs.State.{seen}
-use Rattle.node_at.specs.declared.fault.StartFault.{StartFault}
-use Rattle.node_at.specs.declared.node.Node.{Node}
-use Rattle.node_at.specs.declared.role.Role.TheVariants.{All}
 use Rattle.node_events.specs.NodeEvents.{StartsAreEvents}
 use Rattle.node_worlds.specs.Crashes.{CrashesAreMet}
 use Rattle.node_worlds.specs.Machines.{Begins, Crashes, IsLeft, IsOn, RunsOn}
@@ -38,8 +34,9 @@ use Rattle.site_memory.specs.declared.machine.MemSite.{MemSite}
 use Rattle.site_model.specs.Told.{Files, Made}
 use Rattle.world_laws.proofs.Nodes.{put_same}
 use Rattle.mirrored_nets.specs.Goings.{IsSet}
-use Rattle.mirrored_nets.specs.Mirrors.{Mirrors}
+use Rattle.mirrored_nets.specs.Mirrors.{AreOfTwo, IsOfTwo, Mirrors}
 use Rattle.mirrored_nets.specs.TookStart.{HasLast, TookStart}
+use Rattle.mirrored_nets.proofs.MarkedFiles.{on_two, recorded_two, same_two, start_two}
 use Rattle.mirrored_nets.proofs.Remirrored.{remirror}
 use Rattle.mirrored_nets.proofs.UpsAndDowns.{last_push, same_clocks, this, time}
 
@@ -98,15 +95,11 @@ module _ (starts : StartsAreEvents) (bases : ExamplesAreNodeBases) (nets : Serve
   abbrev files : Files
   files = chosen_files T.choice (opening_in T.fell.mid.device) l
 
-  begun_so : (r : Result Node StartFault) → Starts r (example_base i) All 4294967295 (told_of old) (told_of T.site) → Begins (example_base i) 4294967295 (told_of old) (told_of T.site)
-  begun_so (Ok n) h = inl (seen n, h.0)
-  begun_so (Err e) h = inr (e, h)
-
   begun : Begins (example_base i) 4294967295 (told_of (sites i)) (told_of T.site)
-  begun = subst (λ z. Begins (example_base i) 4294967295 (told_of z) (told_of T.site)) (sym at_this) (begun_so T.result T.begins)
+  begun = subst (λ z. Begins (example_base i) 4294967295 (told_of z) (told_of T.site)) (sym at_this) (inl (seen T.node, T.begins.0))
 
   added : Adds (told_of old) (told_of T.site)
-  added = calls.starts_add (example_base i) 4294967295 old T.site (begun_so T.result T.begins)
+  added = calls.starts_add (example_base i) 4294967295 old T.site (inl (seen T.node, T.begins.0))
 
   grown : calls_in T.site.device ≡ calls_in old.device ++ added.made
   grown = same_some (calls_in T.site.device) (calls_in old.device ++ added.made) added.calls
@@ -127,6 +120,11 @@ module _ (starts : StartsAreEvents) (bases : ExamplesAreNodeBases) (nets : Serve
 
   on : IsOn files (told_of g.site)
   on = comes_on T.choice T.fell.mid g.site T.fell.left
+
+  files_two : IsOfTwo p.records files
+  files_two =
+      start_two (sites i) T.site l files left apart images p.records
+      (subst (AreOfTwo p.records) (sym at_this) (same_two p.records h.site old set.opening set.calls (M.of_two i h p here down at_p))) (example_base i) 4294967295 begun
 
   abbrev ws : ℕ → MemSite
   ws = placed_at i g.site sites
@@ -159,7 +157,7 @@ module _ (starts : StartsAreEvents) (bases : ExamplesAreNodeBases) (nets : Serve
           M.stands.asks p p at_p (sym (put_same i M.stands.net.places p at_p)) (is_down ∙ sym (ap (option_map seen) T.down)) (subst (λ o. IfSome o IsServing) (sym T.down) tt) (placed_this i g.site sites)
           (λ j f. placed_other i g.site sites j f ∙ placed_other i old M.stands.sites j f) M.stands.letters
           (λ m e. let f : None ≡ Some m = sym T.down ∙ e in absurd cc)
-          (starts.unrecorded (example_hosts count) M.stands.net w i p x stop M.world at_p known is_down))
+          (starts.unrecorded (example_hosts count) M.stands.net w i p x stop M.world at_p known is_down) (λ off. on_two p.records files g.site on files_two))
       by x known (inr (small, stands)) =
           let q : Place = record { node = None; records = p.records ++ start_after p.records ∷ [] } in
           let high : last_incarnation q.records ≡ last_incarnation p.records + 1 = let e = last_push p.records (start_after p.records) in omega (arith, e) in
@@ -172,4 +170,5 @@ module _ (starts : StartsAreEvents) (bases : ExamplesAreNodeBases) (nets : Serve
           M.stands.asks p q at_p refl (sym (ap (option_map seen) T.down)) (subst (λ o. IfSome o IsServing) (sym T.down) tt) (placed_this i g.site sites)
           (λ j f. placed_other i g.site sites j f ∙ placed_other i old M.stands.sites j f) M.stands.letters
           (λ m e. let f : None ≡ Some m = sym T.down ∙ e in absurd cc)
-          (starts.recorded (example_hosts count) M.stands.net w i p x M.world at_p known is_down small)))
+          (starts.recorded (example_hosts count) M.stands.net w i p x M.world at_p known is_down small)
+          (λ off. on_two q.records files g.site on (recorded_two apart shrinks (λ rs. last_push rs (start_after rs)) p.records files stands files_two))))

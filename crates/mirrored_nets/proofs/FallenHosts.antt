@@ -16,7 +16,7 @@ use Rattle.memory_net.specs.Stands.{AreMailsOf, Holds}
 use Rattle.memory_net.specs.declared.host.Host.{Host}
 use Rattle.memory_net.proofs.Going.{are, letters_last, small}
 use Rattle.memory_net.proofs.Standing.{alone_where, comes_on, mails_join, placed_at, placed_other, placed_this}
-use Rattle.mirrored_nets.specs.Mirrors.{Mirrors}
+use Rattle.mirrored_nets.specs.Mirrors.{AreOfTwo, Mirrors}
 use Rattle.mirrored_nets.specs.Took.{FellBack}
 use Rattle.mirrored_nets.proofs.Remirrored.{remirror}
 use Rattle.node_at.specs.State.{seen}
@@ -127,9 +127,9 @@ module _ (L : NetLaws) (count : ℕ) (few : count ≤ 8) (hosts : List Host) (cl
       (serves : Serves told_of (example_hosts count) (broken (example_hosts count) i M.stands.net hold.place (seen n) front posts) (placed_at i g.site sites))
       → AsksOf closed told_of (example_hosts count) (broken (example_hosts count) i M.stands.net hold.place (seen n) front posts) (placed_at i g.site sites) serves
       → AreLetters posts (posts_in sent) → more ≡ mails ++ mails_in i count sent → (now : ℕ) (e : WorldEvent)
-      → Leads (example_hosts count) i now w e (broken (example_hosts count) i M.stands.net hold.place (seen n) front posts) → g.node ≡ None
+      → Leads (example_hosts count) i now w e (broken (example_hosts count) i M.stands.net hold.place (seen n) front posts) → g.node ≡ None → AreOfTwo (hold.place.records ++ recorded front) g.site
       → Mirrors count (put_nth i g hosts) (put_nth i now clocks) more (world_step w e)
-  fallen front posts sent serves asks letters posted now e leads down =
+  fallen front posts sent serves asks letters posted now e leads down two =
       remirror count hosts clocks mails more w M i h g here c now time in_world.node in_world.known e (broken (example_hosts count) i M.stands.net hold.place (seen n) front posts)
       (placed_at i g.site sites) serves asks hold.place (record { node = None; records = hold.place.records ++ recorded front }) hold.here
       (put_put i M.stands.net.places (record { node = Some (as_far (seen n) front); records = hold.place.records ++ recorded front }) (record { node = None; records = hold.place.records ++ recorded front }))
@@ -139,7 +139,7 @@ module _ (L : NetLaws) (count : ℕ) (few : count ≤ 8) (hosts : List Host) (cl
       (mails_join M.stands.net.posted (posts_from (example_hosts count) i posts) mails (mails_in i count sent) M.stands.letters
       (letters_last L.tell L.bases L.closes L.nets L.crashes L.calls L.images count few i M.stands.net.posted posts sent letters
       (L.closes count (broken (example_hosts count) i M.stands.net hold.place (seen n) front posts) (placed_at i g.site sites) (small L.tell L.bases L.closes L.nets L.crashes L.calls L.images count few) serves asks).posted)))
-      (λ m f. absurd (nobody m (sym down ∙ f))) leads
+      (λ m f. absurd (nobody m (sym down ∙ f))) leads (λ none. two)
     where
       nobody : (m : Node) → None ≡ Some m → ⊥
       nobody m f = cc

@@ -5,7 +5,7 @@ use Rattle.std.proofs.Common.{refl, sym, ap, subst, arith, ◌∙◌, inl, inr}
 use Rattle.std.proofs.Math.Seq.{drop-append_seam}
 use Rattle.at_base.specs.declared.record.Record.{Record}
 use Rattle.at_model.specs.World.{Deliver, Input, Node as Known, Raw, Tick, Turn, World, example_base, nth, put_nth, world_step}
-use Rattle.fated_walks.specs.Fated.{Fated}
+use Rattle.fated_walks.specs.Fated.{AllLeft, Fated}
 use Rattle.http_post.specs.Conversations.{interim}
 use Rattle.journal_at.specs.declared.version.Version.TheVariants.{Two}
 use Rattle.memory_net.specs.Mails.{Mail, mails_in}
@@ -33,7 +33,7 @@ use Rattle.node_at.specs.Turns.{IsLine, is_heard}
 use Rattle.node_at.specs.declared.node.Node.{Node}
 use Rattle.node_at.specs.declared.role.Role.TheVariants.{All}
 use Rattle.node_at.specs.declared.turn.Turned.TheVariants as turneds
-use Rattle.node_events.specs.NodeEvents.{AllLeft, HaltsAreEvents, IsInput, StopsAreEvents, UnbegunAreEvents, one_if}
+use Rattle.node_events.specs.NodeEvents.{HaltsAreEvents, IsInput, StopsAreEvents, UnbegunAreEvents, one_if}
 use Rattle.node_worlds.specs.Acts.{IsUp}
 use Rattle.node_worlds.proofs.LifeLaws.{turn_did}
 use Rattle.record_bytes.specs.Bytes.{bytes_of}

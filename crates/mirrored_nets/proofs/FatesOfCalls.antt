@@ -68,6 +68,10 @@ pub anew_are : (calls : List Entry) (disk sent : ℕ) → AreFirst calls disk se
 anew_are calls disk sent h =
     sym (drop-map made_of sent (drop disk calls)) ∙ sym h.behind_sent_is ∙ ap behind_sent (sym (h.behind_is ∙ drop-map made_of disk calls))
 
+one_left : (fates : List Bool) → drop 1 fates ≡ fates_left fates
+one_left [] = refl
+one_left (f ∷ fs) = refl
+
 -- what was looked at says so
 pub starts_none : (calls step : List Entry) (disk sent : ℕ) (fates : List Bool) → step ≡ drop disk calls → AreFirst calls disk sent → disk ≡ 0 → StartsWith (map is_done (mades (take sent step))) (drop 0 fates)
     → StartsWith (fates_in (mades calls)) fates
@@ -78,8 +82,17 @@ pub starts_some : (calls step : List Entry) (disk sent : ℕ) (fates : List Bool
     → StartsWith (map is_done (mades (take sent step))) (drop 1 fates) → StartsWith (fates_in (mades calls)) fates
 starts_some calls step disk sent fates is h some had had_so =
     subst (λ bs. StartsWith bs fates) (ap (λ (l : List Entry). all_done (mades (take disk calls)) ∷ map is_done (mades (take sent l))) is ∙ sym (fates_some calls disk sent h some))
-    (sym had, subst (StartsWith (map is_done (mades (take sent step)))) (left fates) had_so)
-  where
-    left : (fates : List Bool) → drop 1 fates ≡ fates_left fates
-    left [] = refl
-    left (f ∷ fs) = refl
+    (sym had, subst (StartsWith (map is_done (mades (take sent step)))) (one_left fates) had_so)
+
+-- and this is what is to be looked at
+pub none_starts : (calls step : List Entry) (disk sent : ℕ) (fates : List Bool) → step ≡ drop disk calls → AreFirst calls disk sent → disk ≡ 0 → StartsWith (fates_in (mades calls)) fates
+    → StartsWith (map is_done (mades (take sent step))) (drop 0 fates)
+none_starts calls step disk sent fates is h none starts =
+    subst (λ bs. StartsWith bs fates) (fates_none calls disk sent h none ∙ ap (λ (l : List Entry). map is_done (mades (take sent l))) (sym is)) starts
+
+pub some_starts : (calls step : List Entry) (disk sent : ℕ) (fates : List Bool) → step ≡ drop disk calls → AreFirst calls disk sent → 0 < disk → StartsWith (fates_in (mades calls)) fates
+    → (all_done (mades (take disk calls)) ≡ fate fates) × StartsWith (map is_done (mades (take sent step))) (drop 1 fates)
+some_starts calls step disk sent fates is h some starts =
+    let had : StartsWith (all_done (mades (take disk calls)) ∷ map is_done (mades (take sent step))) fates =
+    subst (λ bs. StartsWith bs fates) (fates_some calls disk sent h some ∙ ap (λ (l : List Entry). all_done (mades (take disk calls)) ∷ map is_done (mades (take sent l))) (sym is)) starts in
+    (sym had.0, subst (StartsWith (map is_done (mades (take sent step)))) (sym (one_left fates)) had.1)

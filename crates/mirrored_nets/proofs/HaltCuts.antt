@@ -30,7 +30,7 @@ use Rattle.site_memory.specs.declared.machine.MemSite.{MemSite}
 use Rattle.site_model.specs.Told.{Call, Made, done, sent_by}
 use Rattle.torn_appends.specs.TornAppends.{AppendsTorn, append_calls, up_to}
 
-drop_behind : {A : Type 0} (xs ys : List A) (k : ℕ) → drop (length xs + k) (xs ++ ys) ≡ drop k ys
+pub drop_behind : {A : Type 0} (xs ys : List A) (k : ℕ) → drop (length xs + k) (xs ++ ys) ≡ drop k ys
 drop_behind [] ys k = let e : 0 + k ≡ k = omega arith in ap (λ z. drop z ys) e
 drop_behind (x ∷ xs) ys k = let e : suc (length xs) + k ≡ suc (length xs + k) = omega arith in ap (λ z. drop z (x ∷ (xs ++ ys))) e ∙ drop_behind xs ys k
 

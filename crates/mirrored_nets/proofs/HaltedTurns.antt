@@ -93,6 +93,25 @@ pub record DidHalt (first : Turned) (n node : State) (c behind : MemSite) (t : T
   pub halts : Halts (line_of line) meaning now (calm n) node (told_of c) (told_of behind)
   pub begun : begun_in first All n node (told_of c) (told_of behind) t ≡ halts.step ∷ []
 
+pub began_halting : (first : Turned) (n node : State) (c behind : MemSite) (t : Turns first All n node (told_of c) (told_of behind)) → first ≡ turneds.Halted → n.halted ≡ false → DidHalt first n node c behind t
+began_halting (turneds.Served status) n node c behind t e runs = absurd cc
+began_halting turneds.Ticked n node c behind t e runs = absurd cc
+began_halting turneds.NoRoom n node c behind t e runs = absurd cc
+began_halting turneds.Closed n node c behind t e runs = absurd cc
+began_halting turneds.LinkDown n node c behind t e runs = absurd cc
+began_halting turneds.Halted n node c behind (inl (halted, rests)) e runs = absurd (true≢false (sym halted ∙ runs))
+began_halting turneds.Halted n node c behind (inr (going, opens)) e runs = record {
+  meaning = opens.serves.meaning;
+  now = opens.serves.now;
+  line = opens.serves.made;
+  heard = opens.serves.heard;
+  fit = opens.serves.fit;
+  clock = opens.serves.clock;
+  is_line = opens.serves.line;
+  halts = opens.serves.works;
+  begun = refl;
+}
+
 -- what was added to the same calls
 pub same_behind : (xs ys zs : List Made) → xs ++ ys ≡ xs ++ zs → ys ≡ zs
 same_behind xs ys zs e = sym (drop-append_seam xs ys) ∙ ap (drop (length xs)) e ∙ drop-append_seam xs zs
@@ -120,21 +139,7 @@ module _ (lines : ℕ) (few : lines ≤ 1) (made : List Made) (said : take lines
   did_halt turneds.NoRoom shrunk node m mid steps ends = absurd (let e = ends.answers in cc)
   did_halt turneds.Closed shrunk node m mid steps ends = absurd (let e = ends.answers in cc)
   did_halt turneds.LinkDown shrunk node m mid steps ends = absurd (let e = ends.answers in cc)
-  did_halt turneds.Halted shrunk node m mid (inl (halted, rests)) ends = absurd (true≢false (sym halted ∙ runs))
-  did_halt turneds.Halted shrunk node m mid (inr (going, opens)) ends = (
-    record {
-      meaning = opens.serves.meaning;
-      now = opens.serves.now;
-      line = opens.serves.made;
-      heard = opens.serves.heard;
-      fit = opens.serves.fit;
-      clock = opens.serves.clock;
-      is_line = opens.serves.line;
-      halts = opens.serves.works;
-      begun = refl;
-    },
-    ends.site,
-  )
+  did_halt turneds.Halted shrunk node m mid steps ends = (began_halting turneds.Halted n node c mid steps refl runs, ends.site)
 
 -- its calls are those of the line, and of the append that halts
 pub halt_made : (first : Turned) (n node : State) (c behind : MemSite) (steps : Turns first All n node (told_of c) (told_of behind)) (W : DidHalt first n node c behind steps) (s t : MemSite) (made : List Made)

@@ -1,7 +1,11 @@
 -- What the calls of a node on its machine come to.
-use Rattle.std.specs.Prelude.{ℕ, List, ◌≡◌, ◌+◌, ◌++◌, ◌<◌, ◌^◌, Bool, Option, Some, Result, IfOk, IsErrAnd, Ok, Err, drop, length, replicate, take, ◌≤◌}
-use Rattle.std.proofs.Common.{ap, sym, subst, ◌∙◌}
-use Rattle.std.proofs.lemmas.List.{drop-map, take-map}
+use Rattle.std.specs.Prelude.{ℕ, List, [], ◌≡◌, ◌+◌, ◌-◌, ◌++◌, ◌<◌, ◌^◌, ◌⊎◌, Bool, Option, Some, Result, IfOk, IsErrAnd, Ok, Err, drop, length, min, replicate, take, ◌≤◌}
+use Rattle.std.proofs.Common.{ap, arith, inl, inr, refl, sym, subst, ◌∙◌}
+use Rattle.std.proofs.lemmas.List.{drop-map, take-map, take_all}
+use Rattle.std.proofs.lemmas.Bool.{cases_lt}
+use Rattle.armed_calls.specs.declared.fault.Armed.{Armed as Known}
+use Rattle.armed_calls.specs.declared.fault.Fault.TheVariants as faults
+use Rattle.schedules.specs.declared.line.Leaves.{Leaves}
 use Rattle.memory_net.specs.Calls.{Begins, IsServing, Requests, Turns}
 use Rattle.memory_net.specs.Mails.{Mail, mails_in}
 use Rattle.memory_net.specs.declared.host.Host.{Host}
@@ -15,17 +19,22 @@ use Rattle.site_memory.specs.declared.arm.Choice.{Choice}
 use Rattle.site_memory.specs.declared.entry.Entry.{Entry}
 use Rattle.site_memory.specs.declared.machine.MemSite.{MemSite}
 use Rattle.http_post.specs.Conversations.{interim}
-use Rattle.site_model.specs.Told.{Call, done, sent_by}
+use Rattle.site_model.specs.Told.{Call, Made, done, sent_by}
+use Rattle.mirrored_nets.specs.ArmedCalls.{choice_of}
 use Rattle.mirrored_nets.specs.Counted.{IsCounted}
-use Rattle.mirrored_nets.specs.Fates.{failures, refusals}
+use Rattle.mirrored_nets.specs.Fates.{AllDone, AreAsked, failures, refusals}
 use Rattle.mirrored_nets.specs.Goings.{CameUp}
-use Rattle.mirrored_nets.specs.Took.{Adds, AnswersSo, ComesTo, EndsSo, HasRoom, LeftSo, TookRequest, TookTurn, kept_of}
+use Rattle.mirrored_nets.specs.Struck.{ComesAt, IsUnhalted}
+use Rattle.mirrored_nets.specs.StruckTurns.{Goes, halts, stays, stops, unbegun}
+use Rattle.mirrored_nets.specs.Took.{Adds, AnswersSo, ComesTo, EndsSo, HaltsSo, HasRoom, IsWhole, LeftSo, TookRequest, TookTurn, kept_of}
 use Rattle.mirrored_nets.specs.Unarmed.{IsntApart}
 use Rattle.mirrored_nets.specs.declared.came.Came.{Came}
 use Rattle.mirrored_nets.specs.declared.came.Came.TheVariants as cames
 use Rattle.mirrored_nets.specs.declared.fault.Unlike.{Unlike}
 use Rattle.mirrored_nets.specs.declared.fault.Unlike.TheVariants.{Apart}
 use Rattle.mirrored_nets.specs.declared.host.Counts.{Counts}
+use Rattle.mirrored_nets.specs.declared.judged.Armed.{Armed}
+use Rattle.mirrored_nets.specs.declared.judged.Armed.TheVariants as arms
 
 pub if_ok : {A E : Type 0} {P Q : A → Type 0} (r : Result A E) → IfOk r P → ((x : A) → P x → Q x) → IfOk r Q
 if_ok (Ok x) h f = f x h
@@ -50,10 +59,23 @@ pub kept_so : (came : Came) (kept : ℕ) (choice : Choice) (calls some : List En
 kept_so came kept choice calls some is e =
     ap mades e ∙ sym (take-map made_of kept calls) ∙ ap (λ k. take k (mades calls)) (sym (ap (λ z. kept_of z (mades calls)) is))
 
+-- no more calls than there are
+pub back_so : {A : Type 0} (xs : List A) (before kept sum calls all : ℕ) → sum ≡ min (before + kept) (2 ^ 64 - 1) → all ≡ length xs → all < 2 ^ 64 → calls ≡ min sum all → take calls xs ≡ take (before + kept) xs
+back_so xs before kept sum calls all sums counts most is = by (cases_lt (before + kept) all)
+  where
+    by : (before + kept < all) ⊎ (all ≤ before + kept) → take calls xs ≡ take (before + kept) xs
+    by (inl less) = ap (λ k. take k xs) (omega (arith, sums, most, is, less))
+    by (inr more) = take_all calls xs (omega (arith, sums, counts, most, is, more)) ∙ sym (take_all (before + kept) xs (omega (arith, counts, more)))
+
+-- both counts, where the sum of the old ones is cut off at its type's end
+pub both_so : (disk gates old_disk old_gates sum made : ℕ) → sum ≡ min (old_disk + old_gates) (2 ^ 64 - 1) → disk + gates ≤ sum + made → disk + gates ≤ old_disk + old_gates + made
+both_so disk gates old_disk old_gates sum made is most = omega (arith, is, most)
+
 pub adds_so : (before : Counts) (calls : List Entry) (failed refused gates : ℕ) (old new : MemSite) → IsCounted before old → calls ≡ drop before.calls new.device.log.items
     → failed ≡ new.tally.link → refused ≡ new.tally.disk → gates ≡ new.tally.gate → (failed ≡ before.sends + failures (mades calls)) × (failed < 2 ^ 63)
-    → (refused ≤ before.disk + refusals (mades calls)) × (refused < 2 ^ 63) → (gates ≤ before.gates + refusals (mades calls)) × (gates < 2 ^ 63) → Adds (mades calls) old new
-adds_so before calls failed refused gates old new was are links disk gate counted refusals_are gates_are = record {
+    → (refused ≤ before.disk + refusals (mades calls)) × (refused < 2 ^ 63) → (gates ≤ before.gates + refusals (mades calls)) × (gates < 2 ^ 63)
+    → refused + gates ≤ before.disk + before.gates + refusals (mades calls) → Adds (mades calls) old new
+adds_so before calls failed refused gates old new was are links disk gate counted refusals_are gates_are both = record {
   calls = ap mades are ∙ sym (drop-map made_of before.calls new.device.log.items) ∙ ap (λ k. drop k (calls_in new.device)) was.calls;
   counted = sym links ∙ counted.0 ∙ ap (λ k. k + failures (mades calls)) was.sends;
   uncapped = subst (λ k. k < 2 ^ 63) links counted.1;
@@ -61,7 +83,32 @@ adds_so before calls failed refused gates old new was are links disk gate counte
   below = subst (λ k. k < 2 ^ 63) disk refusals_are.1;
   raised = subst (λ k. k ≤ old.tally.gate + refusals (mades calls)) gate (subst (λ k. gates ≤ k + refusals (mades calls)) was.gates gates_are.0);
   under = subst (λ k. k < 2 ^ 63) gate gates_are.1;
+  both = let d = was.disk in let g = was.gates in omega (arith, both, disk, gate, d, g);
 }
+
+-- What the calls of a turn come to that goes as its event asks, and how that turn ended.
+pub record CameSo (result : Result Came Unlike) (r : Turned) : Type 0 where
+  pub came : Came
+  pub is : result ≡ Ok came
+  pub ends : EndsSo came r
+
+unhalted : (result : Result Came Unlike) (r : Turned) → IsWhole r → IsUnhalted result → CameSo result r
+unhalted result r whole (came, is, goes) = record { came = came; is = is; ends = by came goes }
+  where
+    by : (z : Came) → (z ≡ cames.Halts → ⊥) → EndsSo z r
+    by cames.Stays on = whole
+    by (cames.Falls kept choice) on = whole
+    by cames.Halts on = absurd (on refl)
+
+module _ (lines : ℕ) (made : List Made) (armed : Armed) (fates : List Bool) (until : Option ℕ) (r : Turned) (result : Result Came Unlike) where
+  pub judged_so : Goes lines made armed fates until r → (AreAsked lines made fates until → result ≡ Ok cames.Stays)
+      → ((k : ℕ) → armed ≡ arms.Fail k → HaltsSo lines made fates until → result ≡ Ok cames.Halts)
+      → ((a : Known) (left : Leaves) → a.fault ≡ faults.Stop left → armed ≡ arms.Stop (lines + a.call) (choice_of left) → AllDone made → ComesAt lines made a fates until → IsUnhalted result)
+      → ((k : ℕ) (choice : Choice) → armed ≡ arms.Stop k choice → 1 ≤ k → k ≤ lines → AllDone made → fates ≡ [] → until ≡ Some 0 → IsUnhalted result) → CameSo result r
+  judged_so (stays whole asked) to_stay to_halt to_stop to_begin = record { came = cames.Stays; is = to_stay asked; ends = whole }
+  judged_so (halts k e halted so) to_stay to_halt to_stop to_begin = record { came = cames.Halts; is = to_halt k e so; ends = halted }
+  judged_so (stops a left f e whole all comes) to_stay to_halt to_stop to_begin = unhalted result r whole (to_stop a left f e all comes)
+  judged_so (unbegun k choice e least most whole all none now) to_stay to_halt to_stop to_begin = unhalted result r whole (to_begin k choice e least most all none now)
 
 abbrev pub Posts : (i count : ℕ) → Came → List Entry → List Entry → List Mail → List Mail → Type 0
 Posts i count came calls kept mails more = (mades kept ≡ take (kept_of came (mades calls)) (mades calls)) × (more ≡ mails ++ mails_in i count (sent_by (mades kept)))

@@ -43,5 +43,24 @@ module _ (lines : ℕ) (made : List Made) (step : List Entry) (disk sent : ℕ) 
   pub kept_behind_record : 0 < disk → 1 ≤ before → before ≤ sent → kept ≡ lines + (4 + (before - 1 + one_if last)) → IsKept lines made choice before last kept
   kept_behind_record some least within are = inr (inl (record { some = some_are some; least = least; within = subst (λ n. before ≤ n) sent_count within; are = are }))
 
+  -- where so many are kept, these are the tests
+  pub out_kept : disk ≡ 0 → IsKept lines made choice before last kept → (before < sent) × (kept ≡ lines + (before + one_if last))
+  out_kept none (inl h) = absurd (h.some (disk_are ∙ ap (λ n. take n (mades step)) none))
+  out_kept none (inr (inl h)) = absurd (h.some (disk_are ∙ ap (λ n. take n (mades step)) none))
+  out_kept none (inr (inr h)) = (subst (λ n. before < n) (sym sent_count) h.within, h.are)
+
+  pub record_kept : 0 < disk → before ≡ 0 → IsKept lines made choice before last kept → (kept - lines ≤ 4) × (last ≡ stands_behind (kept - lines) choice)
+  record_kept some none (inl h) =
+      let are = h.are in
+      let calls : h.calls ≡ kept - lines = omega (arith, are) in
+      (subst (λ n. n ≤ 4) calls h.most, h.last_is ∙ ap (λ n. stands_behind n choice) calls)
+  record_kept some none (inr (inl h)) = let least = h.least in absurd (omega (arith, none, least))
+  record_kept some none (inr (inr h)) = absurd (some_are some h.none)
+
+  pub behind_kept : 0 < disk → 1 ≤ before → IsKept lines made choice before last kept → (before ≤ sent) × (kept ≡ lines + (4 + (before - 1 + one_if last)))
+  behind_kept some least (inl h) = let none = h.first in absurd (omega (arith, none, least))
+  behind_kept some least (inr (inl h)) = (subst (λ n. before ≤ n) (sym sent_count) h.within, h.are)
+  behind_kept some least (inr (inr h)) = absurd (some_are some h.none)
+
 pub behind_lines : (lines : ℕ) (calls step : List Entry) → step ≡ drop lines calls → drop lines (mades calls) ≡ mades step
 behind_lines lines calls step is = drop-map made_of lines calls ∙ sym (ap mades is)

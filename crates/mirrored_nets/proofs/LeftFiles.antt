@@ -50,15 +50,15 @@ without_more : (o : Option Mark) (b : List ℕ) (rest xs : List (List ℕ)) → 
 without_more (Some mark) b rest xs = refl
 without_more None b rest xs = refl
 
-records_more : (bodies xs : List (List ℕ)) → (head_of bodies).version ≡ Two → records_of (bodies ++ xs) ≡ records_of bodies ++ xs
+pub records_more : (bodies xs : List (List ℕ)) → (head_of bodies).version ≡ Two → records_of (bodies ++ xs) ≡ records_of bodies ++ xs
 records_more [] xs e = absurd (search (rules, e))
 records_more (b ∷ rest) xs e = without_more (mark_of b) b rest xs
 
-head_more : (bodies xs : List (List ℕ)) → (head_of bodies).version ≡ Two → (head_of (bodies ++ xs)).version ≡ Two
+pub head_more : (bodies xs : List (List ℕ)) → (head_of bodies).version ≡ Two → (head_of (bodies ++ xs)).version ≡ Two
 head_more [] xs e = absurd (search (rules, e))
 head_more (b ∷ rest) xs e = e
 
-records_push : (rs : List Record) (xs : List (List ℕ)) (r : Record) → AreRecords Two rs xs → IsRecord Two r (bytes_of r) → AreRecords Two (rs ++ r ∷ []) (xs ++ bytes_of r ∷ [])
+pub records_push : (rs : List Record) (xs : List (List ℕ)) (r : Record) → AreRecords Two rs xs → IsRecord Two r (bytes_of r) → AreRecords Two (rs ++ r ∷ []) (xs ++ bytes_of r ∷ [])
 records_push [] [] r h k = (k, tt)
 records_push [] (x ∷ xs) r h k = absurd h
 records_push (s ∷ rs) [] r h k = absurd h

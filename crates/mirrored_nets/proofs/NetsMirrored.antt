@@ -43,6 +43,6 @@ nets_mirror L K E torn ask_so apart keep machines recovers = record {
       upped count hosts clocks mails w M i least h g here E.starts L.bases L.nets keep machines recovers few down c old set U;
   upped_not = λ count hosts clocks mails w i c h g old landed stop few M least here down set T stopped.
       upped_not E.starts L.bases L.nets L.crashes L.calls L.images apart L.shrinks count hosts clocks mails w M i least h g here few down c old set landed T stop stopped;
-  downed = λ count hosts clocks mails w i h g n few M least here up D. downed count hosts clocks mails w M i least h g here E.starts L.images n up D;
+  downed = λ count hosts clocks mails w i h g n few M least here up D. downed count hosts clocks mails w M i least h g here E.starts L few L.images n up D;
   unmoved = unmoved;
 }

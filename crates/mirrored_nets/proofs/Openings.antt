@@ -1,7 +1,7 @@
 -- Hosts on new machines mirror the opening world.
 use Rattle.std.specs.Prelude.{ℕ, List, [], ◌∷◌, ◌+◌, ◌-◌, ◌≡◌, ◌≤◌, IfSome, Option, Some, None, Bool, true, false, if◌then◌else◌, nat_eq, length, option_map, replicate, zero, suc}
 use Rattle.std.specs.List.{AllByRecursion}
-use Rattle.std.proofs.Common.{refl, sym, ap, subst, arith, ◌∙◌}
+use Rattle.std.proofs.Common.{refl, sym, ap, subst, arith, ◌∙◌, inr}
 use Rattle.std.proofs.lemmas.List.{length-replicate}
 use Rattle.at_model.specs.World.{Hosts, Node as Known, example_base, example_hosts, new_node, new_nodes, nth, opening}
 use Rattle.deliveries.specs.ByteNets.{Serves}
@@ -22,6 +22,7 @@ use Rattle.site_memory.specs.Tells.{reads}
 use Rattle.site_memory.specs.declared.machine.MemSite.{MemSite}
 use Rattle.site_model.specs.Told.{Files}
 use Rattle.mirrored_nets.specs.Mirrors.{Mirrors}
+use Rattle.mirrored_nets.proofs.MarkedFiles.{empty_stands, on_two}
 
 abbrev no_files : Files
 no_files = record { first = []; second = [] }
@@ -133,6 +134,8 @@ opened_with count h hosts long fresh all = record {
   reach = λ to. refl;
   clocks_are = λ i c x e f. ap (λ (y : Known). y.clock) (opening_node (example_hosts count) i x f) ∙ sym (all_zero count i c e);
   limits = λ i g n e up. absurd (no_node g.node n (fresh_at hosts i g all e).node up);
+  of_two = λ i g p e down at.
+      on_two p.records no_files g.site (new_on g.site (fresh_at hosts i g all e).site) (inr (ap (λ (q : Place). q.records) (opens_at example_base count 1 i p at).0, empty_stands));
 }
 
 pub opened : (count : ℕ) (hosts : List Host) → length hosts ≡ count → 1 ≤ count → count ≤ 8 → AllByRecursion IsFresh hosts → Mirrors count hosts (replicate count 0) [] (opening (example_hosts count))

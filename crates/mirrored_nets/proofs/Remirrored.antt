@@ -10,7 +10,7 @@ use Rattle.memory_net.specs.Mails.{Mail}
 use Rattle.memory_net.specs.Stands.{AreMailsOf, Holds}
 use Rattle.memory_net.specs.declared.host.Host.{Host}
 use Rattle.memory_net.proofs.Standing.{same_some}
-use Rattle.mirrored_nets.specs.Mirrors.{Mirrors}
+use Rattle.mirrored_nets.specs.Mirrors.{AreOfTwo, Mirrors}
 use Rattle.node_at.specs.State.{seen}
 use Rattle.node_at.specs.declared.node.Node.{Node}
 use Rattle.node_events.specs.NodeEvents.{Leads}
@@ -77,7 +77,8 @@ module _ (count : ℕ) (hosts : List Host) (clocks : List ℕ) (mails more : Lis
     (c now : ℕ) (time : nth i clocks ≡ Some c) (x : Known) (known : nth i w.nodes ≡ Some x) (e : WorldEvent) (net : Net) (sites : ℕ → MemSite) (serves : Serves told_of (example_hosts count) net sites)
     (asks : AsksOf closed told_of (example_hosts count) net sites serves) (p q : Place) (at : nth i M.stands.net.places ≡ Some p) (placed : net.places ≡ put_nth i q M.stands.net.places)
     (node : q.node ≡ option_map seen g.node) (serving : IfSome g.node IsServing) (site : sites i ≡ g.site) (others : (j : ℕ) → (j ≡ i → ⊥) → sites j ≡ M.stands.sites j)
-    (letters : AreMailsOf net.posted more) (limit : (m : Node) → g.node ≡ Some m → m.journal.limit ≡ 4294967295) (leads : Leads (example_hosts count) i now w e net) where
+    (letters : AreMailsOf net.posted more) (limit : (m : Node) → g.node ≡ Some m → m.journal.limit ≡ 4294967295) (leads : Leads (example_hosts count) i now w e net)
+    (two : g.node ≡ None → AreOfTwo q.records g.site) where
   this : Holds net sites i g
   this = record { place = q; here = ap (nth i) placed ∙ nth_this M.stands.net.places i p q at; node = node; site = site; serving = serving }
 
@@ -117,6 +118,16 @@ module _ (count : ℕ) (hosts : List Host) (clocks : List ℕ) (mails more : Lis
           limit m (ap (λ (z : Host). z.node) same ∙ up)
       by (inr k) = M.limits j y m (sym (nth_other hosts j i g k) ∙ f) up
 
+  of_version : (j : ℕ) (y : Host) (r : Place) → nth j (put_nth i g hosts) ≡ Some y → y.node ≡ None → nth j net.places ≡ Some r → AreOfTwo r.records y.site
+  of_version j y r f down l = by (cases_eq j i)
+    where
+      by : (j ≡ i) ⊎ (j ≡ i → ⊥) → AreOfTwo r.records y.site
+      by (inl k) =
+          let same : g ≡ y = same_some g y (sym (nth_this hosts i h g here) ∙ ap (λ n. nth n (put_nth i g hosts)) (sym k) ∙ f) in
+          let place : q ≡ r = same_some q r (sym (nth_this M.stands.net.places i p q at) ∙ sym (ap (nth i) placed) ∙ ap (λ n. nth n net.places) (sym k) ∙ l) in
+          subst (λ (z : Host). AreOfTwo r.records z.site) same (subst (λ (z : Place). AreOfTwo z.records g.site) place (two (ap (λ (z : Host). z.node) same ∙ down)))
+      by (inr k) = M.of_two j y r (sym (nth_other hosts j i g k) ∙ f) down (sym (nth_other M.stands.net.places j i q k) ∙ sym (ap (nth j) placed) ∙ l)
+
   pub remirror : Mirrors count (put_nth i g hosts) (put_nth i now clocks) more (world_step w e)
   remirror = record {
     many = length_put i g hosts ∙ M.many;
@@ -127,4 +138,5 @@ module _ (count : ℕ) (hosts : List Host) (clocks : List ℕ) (mails more : Lis
     reach = λ to. leads.moves.reach to ∙ M.reach to;
     clocks_are = told;
     limits = bounded;
+    of_two = of_version;
   }

@@ -105,6 +105,7 @@ module _ (n m : State) (l : Local) (now status : ℕ) (s t : MemSite) (D : IsSte
           let k = D.went.counted below in
           omega (arith, a, e, k);
       refused = fate.1;
+      both = λ some. absurd (omega (arith, some));
     },
     refl,
   )

@@ -1,6 +1,6 @@
 -- A request behind which its node stays up leads to a net that mirrors the world behind the event, is refused where the world refuses it, and has
 -- the effects of its event.
-use Rattle.std.specs.Prelude.{ℕ, List, [], ◌++◌, ◌≡◌, ◌≤◌, IfSome, Option, Some, Bool, drop, length, option_and_then, option_map, take}
+use Rattle.std.specs.Prelude.{ℕ, List, [], ◌++◌, ◌≡◌, ◌≤◌, IfSome, Option, Some, None, Bool, drop, length, option_and_then, option_map, take}
 use Rattle.std.proofs.Common.{refl, sym, ap, subst, arith, ◌∙◌, inr}
 use Rattle.std.proofs.Math.Seq.{drop-append_seam}
 use Rattle.std.proofs.lemmas.List.{append-nil}
@@ -82,6 +82,9 @@ module _ (L : NetLaws) (K : TurnLaws) (requests : RequestsAreEvents) (ask_so : E
   serving_node : IfSome g.node IsServing
   serving_node = subst (λ o. IfSome o IsServing) (sym node) serves_on
 
+  still_up : g.node ≡ None → ⊥
+  still_up down = let e : Some m ≡ None = sym node ∙ down in cc
+
   -- time doesn't go on
   at_rest : Mirrors count (put_nth i g hosts) (put_nth i there.node.clock clocks) more (world_step w (Ask i request fates until))
       → Mirrors count (put_nth i g hosts) clocks more (world_step w (Ask i request fates until))
@@ -119,7 +122,7 @@ module _ (L : NetLaws) (K : TurnLaws) (requests : RequestsAreEvents) (ask_so : E
         (from_is ∙ sym stays ∙ sym site) (λ j f. placed_other i s M.stands.sites j f)
         (subst (AreMailsOf M.stands.net.posted) (sym (posted ∙ ap (λ ms. mails ++ mails_in i count (sent_by ms)) none_made ∙ append-nil mails)) M.stands.letters)
         (λ x e. ap (λ (z : Node). z.journal.limit) (sym (same_some m x (sym node ∙ e))) ∙ ap (λ (z : State). z.journal.limit) same ∙ M.limits i h n here up)
-        (requests.refused (example_hosts count) M.stands.net w i old_place there.node (seen n) request (refusal_of why) fates until there.is_at says not_before))
+        (requests.refused (example_hosts count) M.stands.net w i old_place there.node (seen n) request (refusal_of why) fates until there.is_at says not_before) (λ down. absurd (still_up down)))
 
     refused_effects : EffectsAgree → HasEffects w (Ask i request fates until) m
     refused_effects agree =
@@ -213,7 +216,7 @@ module _ (L : NetLaws) (K : TurnLaws) (requests : RequestsAreEvents) (ask_so : E
         (record { node = Some (seen m); records = old_place.records ++ recorded_so }) (M.stands.holds i h here).here refl (sym (ap (option_map seen) node)) serving_node
         (placed_this i t starts ∙ sym site) (λ j f. placed_other i t starts j f ∙ placed_other i s M.stands.sites j f) mails_are
         (λ x e. ap (λ (z : Node). z.journal.limit) (sym (same_some m x (sym node ∙ e))) ∙ D.3.3.went.limit ∙ M.limits i h n here up)
-        (is_ask.leads fates until starts_so ends_so))
+        (is_ask.leads fates until starts_so ends_so) (λ down. absurd (still_up down)))
 
     done_effects : EffectsAgree → HasEffects w (Ask i request fates until) m
     done_effects agree =

@@ -1,5 +1,5 @@
 -- A turn behind which its node stays up leads to a net that mirrors the world behind the event.
-use Rattle.std.specs.Prelude.{ℕ, List, [], ◌∷◌, ◌++◌, ◌+◌, ◌≡◌, ◌≤◌, IfSome, Option, Some, Bool, true, false, drop, length, option_map, take}
+use Rattle.std.specs.Prelude.{ℕ, List, [], ◌∷◌, ◌++◌, ◌+◌, ◌≡◌, ◌≤◌, IfSome, None, Option, Some, Bool, true, false, drop, length, option_map, take}
 use Rattle.std.specs.List.{AllByRecursion}
 use Rattle.std.proofs.Common.{refl, sym, ap, subst, ◌∙◌}
 use Rattle.std.proofs.lemmas.List.{append-nil, append_assoc}
@@ -143,6 +143,9 @@ module _ (L : NetLaws) (count : ℕ) (few : count ≤ 8) (hosts : List Host) (cl
         let same : m ≡ x = same_some m x (sym node ∙ e) in
         ap (λ (z : Node). z.journal.limit) (sym same) ∙ H.anew.limit ∙ H.did.whole.ran.does.limit ∙ M.limits i h n here up
 
+    still_up : g.node ≡ None → ⊥
+    still_up down = let e : Some m ≡ None = sym node ∙ down in cc
+
     pub stayed_turn : Mirrors count (put_nth i g hosts) (put_nth i (c + ms_of input) clocks) more (world_step w (Turn i input fates until))
     unfolding serves
     stayed_turn =
@@ -150,7 +153,7 @@ module _ (L : NetLaws) (count : ℕ) (few : count ≤ 8) (hosts : List Host) (cl
         (remirror count hosts clocks mails more w M i h g here c H.did.now time there.node there.known (Turn i input fates until) behind_it ends_at serves M.stands.asks old_place
         (record { node = Some (seen m); records = old_place.records ++ recorded H.did.whole.steps }) (M.stands.holds i h here).here refl (sym (ap (option_map seen) node))
         (subst (λ o. IfSome o IsServing) (sym node) serves_on) (placed_this i t starts ∙ sym site)
-        (λ j f. placed_other i t starts j f ∙ placed_other i s M.stands.sites j f) mails_are limit_kept leads)
+        (λ j f. placed_other i t starts j f ∙ placed_other i s M.stands.sites j f) mails_are limit_kept leads (λ down. absurd (still_up down)))
 
 -- so it is of one that was taken
 pub turned_stays : (L : NetLaws) (K : TurnLaws) (count : ℕ) (hosts : List Host) (clocks : List ℕ) (mails more : List Mail) (w : World) (i c : ℕ) (h g : Host) (n : Node) (input : Input) (lines : ℕ) (bytes : List ℕ)

@@ -4,7 +4,7 @@ use Rattle.std.specs.List.{AllByRecursion}
 use Rattle.std.proofs.Common.{refl, sym, ap, subst, arith, ◌∙◌}
 use Rattle.at_base.specs.declared.record.Record.{Record}
 use Rattle.at_model.specs.Step.{Outcome}
-use Rattle.fated_walks.specs.Fated.{AreUnrecorded, Fated, Way, all_fates, stands_by, went_of}
+use Rattle.fated_walks.specs.Fated.{AllLeft, AreUnrecorded, Fated, HasLeft, Way, all_fates, stands_by, went_of}
 use Rattle.http_post.specs.Conversations.{interim}
 use Rattle.journal_at.specs.declared.journal.Journal.{Journal}
 use Rattle.journal_at.specs.declared.version.Version.TheVariants.{Two}
@@ -21,7 +21,7 @@ use Rattle.node_at.specs.Doings.{Doing}
 use Rattle.node_at.specs.Steps.{if_landed}
 use Rattle.node_at.specs.TurnText.{TurnStep}
 use Rattle.node_events.specs.Fares.{AreFared}
-use Rattle.node_events.specs.NodeEvents.{AllLeft, HasLeft, all_made}
+use Rattle.node_events.specs.NodeEvents.{all_made}
 use Rattle.node_worlds.specs.SentPosts.{records_by}
 use Rattle.record_bytes.specs.Bytes.{bytes_of}
 use Rattle.record_bytes.specs.Versions.{IsRecord}
@@ -66,7 +66,15 @@ record_landed None landed j disk refused f h none e sure is = sure e
 record_landed (Some r) true j disk refused f h none e sure is = stands_landed r f.landed (sym (ap (λ o. stands_by o f.landed) e) ∙ is)
 record_landed (Some r) false j disk refused f (b, one) none e sure is = absurd (omega (arith, one, none))
 
--- Of steps that were read, all of whose calls were done.
+-- Of steps that were read, whose record wasn't refused and whose outs all left, whatever became of writing the journal anew.
+module _ (j : Journal) (line made : List Made) (steps : List TurnStep) (doings : List Doing) (fated : List Fated) (r : StepsRead j line made steps doings fated) where
+  pub first_lands : r.d.refused ≡ 0 → (r.f.entry ≡ None → r.f.landed ≡ true) → IsLanded r.f
+  first_lands none sure = record_landed r.s.entry r.s.landed j r.d.first r.d.refused r.f r.read.record_is none r.fared.0.entry sure r.fared.0.records
+
+  pub all_leave : AllDone (all_made (r.d ∷ r.ds)) → AllByRecursion IsLanded (r.f ∷ r.fs) → AllLeft (r.f ∷ r.fs)
+  all_leave outs landed = steps_left (r.s ∷ r.ss) (r.d ∷ r.ds) (r.f ∷ r.fs) r.fared (told j line made r.s r.ss r.d r.ds r.read r.f r.fs r.fared r.have) outs landed
+
+-- Of steps all of whose calls were done.
 module _ (j : Journal) (lines : ℕ) (line made : List Made) (steps : List TurnStep) (doings : List Doing) (fated : List Fated) (r : StepsRead j line made steps doings fated) (all : AllDone made)
     (is_line : line ≡ replicate lines (done (Call.Send interim))) where
   behind : AllDone (r.d.first ++ (all_made (r.d ∷ r.ds) ++ r.read.anew))
@@ -83,11 +91,10 @@ module _ (j : Journal) (lines : ℕ) (line made : List Made) (steps : List TurnS
 
   -- the first step's record stands, where steps without one count as ones whose record stands
   pub first_landed : (r.f.entry ≡ None → r.f.landed ≡ true) → IsLanded r.f
-  first_landed sure = record_landed r.s.entry r.s.landed j r.d.first r.d.refused r.f r.read.record_is none_refused r.fared.0.entry sure r.fared.0.records
+  first_landed sure = first_lands j line made steps doings fated r none_refused sure
 
   pub left_so : AllByRecursion IsLanded (r.f ∷ r.fs) → AllLeft (r.f ∷ r.fs)
-  left_so landed =
-      steps_left (r.s ∷ r.ss) (r.d ∷ r.ds) (r.f ∷ r.fs) r.fared (told j line made r.s r.ss r.d r.ds r.read r.f r.fs r.fared r.have) outs_done landed
+  left_so landed = all_leave j line made steps doings fated r outs_done landed
 
   are_parts : AreParts r.d.first (all_made (r.d ∷ r.ds)) r.read.anew
   are_parts = parts j line made r.s r.ss r.d r.ds r.read r.f r.fs r.fared r.have r.answered

@@ -5,7 +5,7 @@ use Rattle.at_base.specs.declared.event.Event.TheVariants as events
 use Rattle.at_base.specs.declared.event.Local.{Local}
 use Rattle.at_model.specs.Step.{plan}
 use Rattle.at_model.specs.World.{Ask, World, WorldEvent, example_hosts, nth, put_nth, world_step}
-use Rattle.fated_walks.specs.Fated.{Fated, IsPlanned, fates_of}
+use Rattle.fated_walks.specs.Fated.{AllLeft, Fated, IsPlanned, fates_of}
 use Rattle.memory_net.specs.Closed.{ExamplesAskSo, IsExampleRequest}
 use Rattle.memory_net.specs.Mails.{Mail, mails_in}
 use Rattle.memory_net.specs.declared.host.Host.{Host}
@@ -24,7 +24,7 @@ use Rattle.node_at.specs.TurnText.{IsStep, TurnStep}
 use Rattle.node_at.specs.declared.local.Locally.{Locally}
 use Rattle.node_at.specs.declared.node.Node.{Node}
 use Rattle.node_events.specs.Fares.{IsFared}
-use Rattle.node_events.specs.NodeEvents.{AllLeft, Leads, RequestsAreEvents, struck}
+use Rattle.node_events.specs.NodeEvents.{Leads, RequestsAreEvents, struck}
 use Rattle.node_worlds.specs.Crashes.{IsNoPost}
 use Rattle.node_worlds.specs.Lives.{Requests}
 use Rattle.node_worlds.specs.Machines.{IsOn}

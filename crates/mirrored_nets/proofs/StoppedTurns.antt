@@ -4,7 +4,7 @@ use Rattle.std.proofs.Common.{refl, sym, ap, subst, ◌∙◌}
 use Rattle.at_base.specs.declared.record.Record.{Record}
 use Rattle.at_model.specs.World.{Input, Turn, World, WorldEvent, example_hosts, nth, put_nth, world_step}
 use Rattle.deliveries.specs.ByteNets.{Carries}
-use Rattle.fated_walks.specs.Fated.{Fated, all_fates}
+use Rattle.fated_walks.specs.Fated.{AllLeft, Fated, all_fates}
 use Rattle.memory_net.specs.Mails.{Mail, mails_in}
 use Rattle.memory_net.specs.declared.host.Host.{Host}
 use Rattle.mirrored_nets.specs.Fates.{fates_in}
@@ -23,7 +23,7 @@ use Rattle.node_at.specs.declared.role.Role.TheVariants.{All}
 use Rattle.node_at.specs.declared.turn.Turned.{Turned}
 use Rattle.node_at.specs.declared.turn.Turned.TheVariants as turneds
 use Rattle.node_events.specs.Fares.{AreFared}
-use Rattle.node_events.specs.NodeEvents.{AllLeft, AreStepsOf, IsInput, StopsAreEvents, UnbegunAreEvents, struck}
+use Rattle.node_events.specs.NodeEvents.{AreStepsOf, IsInput, StopsAreEvents, UnbegunAreEvents, struck}
 use Rattle.node_worlds.specs.Machines.{IsOn}
 use Rattle.node_worlds.specs.Nets.{begun_in, steps_in}
 use Rattle.site_memory.specs.Devices.{calls_in, opening_in}

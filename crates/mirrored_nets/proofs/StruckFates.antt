@@ -3,6 +3,7 @@ use Rattle.std.specs.Prelude.{ℕ, List, [], ◌∷◌, ◌+◌, ◌≡◌, ◌<
 use Rattle.std.proofs.Common.{add-one, ap, arith, refl, sym, subst, ◌∙◌}
 use Rattle.at_model.specs.World.{fate}
 use Rattle.world_laws.specs.Fates.{behind_done}
+use Rattle.world_laws.proofs.Fates.{fate_before}
 
 one_more : (n : ℕ) (fates : List Bool) → n < length fates → fate (drop n fates) ≡ true → fates ≡ behind_done n (drop n fates) → fates ≡ behind_done (suc n) (drop (suc n) fates)
 one_more zero [] within last h = absurd (none within)
@@ -46,3 +47,7 @@ left_length (suc n) (f ∷ fs) e = left_length n fs (less (length fs) n e)
 -- the last one
 pub struck_so : (n : ℕ) (fates : List Bool) → length fates ≡ suc n → fates ≡ behind_done n (drop n fates) → fates ≡ behind_done n (fate (drop n fates) ∷ [])
 struck_so n fates e h = h ∙ ap (behind_done n) (only_one (drop n fates) (left_length n fates e))
+
+-- each of those before it is yes
+pub struck_before : (n place : ℕ) (last : Bool) (fates : List Bool) → fates ≡ behind_done n (last ∷ []) → place < n → fate (drop place fates) ≡ true
+struck_before n place last fates is within = ap (λ (fs : List Bool). fate (drop place fs)) is ∙ sym (fate_before n place (last ∷ []) within)

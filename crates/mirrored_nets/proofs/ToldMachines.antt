@@ -1,7 +1,7 @@
 -- Machines that were told which of their calls is to fail, or that none is.
-use Rattle.std.specs.Prelude.{ℕ, List, [], ◌∷◌, ◌≡◌, ◌&&◌, true, false, not, Some, None, cond, drop, length, nat_le, option_map, suc}
+use Rattle.std.specs.Prelude.{ℕ, List, ◌≡◌, ◌&&◌, true, false, Some, None, cond, drop, length, nat_le, option_map}
 use Rattle.std.proofs.Common.{refl, sym, ap, subst, arith, ◌∙◌}
-use Rattle.std.proofs.lemmas.Bool.{and_parts, false≢true, ne_eqb}
+use Rattle.std.proofs.lemmas.Bool.{and_parts, false≢true}
 use Rattle.site_memory.specs.Armings.{are_armed, arming_of, call_number, is_armed, told_arming}
 use Rattle.site_memory.specs.Arms.{armed}
 use Rattle.site_memory.specs.Devices.{calls_in, opening_in}
@@ -17,19 +17,16 @@ use Rattle.site_model.specs.Told.{Made}
 use Rattle.mirrored_nets.specs.Fates.{AllDone}
 use Rattle.mirrored_nets.specs.Goings.{IsSet}
 use Rattle.mirrored_nets.specs.Took.{Adds}
-use Rattle.mirrored_nets.specs.Unarmed.{IsReady, IsTold, IsUnarmed}
+use Rattle.mirrored_nets.specs.Unarmed.{IsReady, IsTold}
 use Rattle.mirrored_nets.proofs.CallRows.{all_refused_none}
 
-none_failed : (before : ℕ) (made : List Made) → AreArmed before 0 made → AllDone made
-none_failed before [] are = tt
-none_failed before (m ∷ made) (is, are) = (is ∙ ap not (ne_eqb (suc before) 0 (λ e. omega (arith, e))), none_failed (suc before) made are)
-
--- Where it was told that none of them is to fail, all calls since were done.
-pub all_were_done : CallsFailAsTold → LinksHold → (old new : MemSite) (made : List Made) → IsUnarmed old → (told_of new).counts.arming ≡ (told_of old).counts.arming → Adds made old new → AllDone made
-all_were_done calls links old new made unarmed kept adds =
+-- The calls since it was told which is to fail were done but for that one.
+pub armed_row : CallsFailAsTold → LinksHold → (old new : MemSite) (made : List Made) (fails : ℕ) → (told_of old).counts.arming ≡ Some (record { since = length (calls_in old.device); fails = fails })
+    → (told_of new).counts.arming ≡ (told_of old).counts.arming → Adds made old new → AreArmed (length (calls_in old.device)) fails made
+armed_row calls links old new made fails told kept adds =
     let since = length (calls_in old.device) in
-    let armed = (links new (record { since = since; fails = 0 }) (kept ∙ unarmed)).3 in
-    subst AllDone (sym adds.calls) (none_failed since (drop since (calls_in new.device)) (calls new (record { since = since; fails = 0 }) armed).1)
+    let armed = (links new (record { since = since; fails = fails }) (kept ∙ told)).3 in
+    subst (AreArmed since fails) (sym adds.calls) (calls new (record { since = since; fails = fails }) armed).1
 
 isnt_stopped : (a : Arming) (made : List Made) → is_armed (Some a) Stopped made ≡ true → ⊥
 isnt_stopped a made h =

@@ -27,7 +27,7 @@ use Rattle.node_at.specs.Endings.{TakesTurn}
 use Rattle.node_at.specs.Meanings.{Hears, Means, next_input}
 use Rattle.node_at.specs.Meanings.Meaning.{Steps}
 use Rattle.node_at.specs.Replies.{StepsReply}
-use Rattle.node_at.specs.State.{seen}
+use Rattle.node_at.specs.State.{State, seen}
 use Rattle.node_at.specs.Turns.{IsLine, calm, is_heard}
 use Rattle.node_at.specs.declared.node.Node.{Node}
 use Rattle.node_at.specs.declared.role.Role.TheVariants.{All}
@@ -69,7 +69,7 @@ pub record TurnLaws : Type 0 where
   pub small : BareAreInLimits
   pub no_messages : AreNoMessages
 
--- What a whole turn of a node of the net heard was the event's input, and its calls are read.
+-- What a turn of a node of the net heard whose steps went to their end was the event's input, and its calls are read.
 pub record HeardTurn (count : ℕ) (w : World) (net : Net) (i c : ℕ) (p : Place) (x : Known) (n m : Node) (from t : MemSite) (r : Turned) (turn : TakesTurn told_of r All m.shrunk (seen n) (seen m) from t)
     (input : Input) (lines : ℕ) (made : List Made) : Type 0 where
   pub ends : IsWhole turn.first
@@ -94,6 +94,10 @@ nth_in k (n ∷ ms) m e = by (λ f. nth_in (k - 1) ms m f) (nat_eq k 1) e
     by : (nth (k - 1) ms ≡ Some m → IsIn m ms) → (b : Bool) → (if b then Some n else nth (k - 1) ms) ≡ Some m → IsIn m (n ∷ ms)
     by later true f = inl (sym (same_some n m f))
     by later false f = inr (later f)
+
+-- the steps of a turn that went to its end did
+pub ends_first : (r : Turned) (m : Node) (t from : MemSite) {n : State} (turn : TakesTurn told_of r All m.shrunk n (seen m) from t) → IsWhole r → IsWhole turn.first
+ends_first r m t from turn whole = subst IsWhole (sym (first_whole told_of turn.first r m.shrunk turn.node (seen m) turn.behind t whole turn.ends)) whole
 
 module _ (L : NetLaws) (K : TurnLaws) (count : ℕ) (few : count ≤ 8) (hosts : List Host) (clocks : List ℕ) (mails more : List Mail) (w : World) (M : Mirrors count hosts clocks mails w) (i : ℕ) (least : 1 ≤ i)
     (h g : Host) (n : Node) (here : nth i hosts ≡ Some h) (up : h.node ≡ Some n) (c : ℕ) (time : nth i clocks ≡ Some c) where
@@ -173,18 +177,12 @@ module _ (L : NetLaws) (K : TurnLaws) (count : ℕ) (few : count ≤ 8) (hosts :
           }
           by Raw (status, waiting, drawn, held, lines_are) = record { input = bytes; tells = tells; carried = inr (K.no_messages.refused bytes status drawn.0.0 drawn.0.1) }
 
-      -- a turn that went to its end
+      -- a turn whose steps went to their end
       module _ (old : MemSite) (set : IsSet (c + ms_of input) h.site old) (others : s ≡ record old { line = s.line }) (has : HasRoom old) (r : Turned) (m : Node) (t : MemSite)
-          (turn : TakesTurn told_of r All m.shrunk (seen n) (seen m) from t) (whole : IsWhole r) (made : List Made) (adds : Adds made old t)
+          (turn : TakesTurn told_of r All m.shrunk (seen n) (seen m) from t) (first_ends : IsWhole turn.first) (made : List Made) (adds : Adds made old t)
           (said : take lines made ≡ replicate lines (done (Call.Send interim))) where
-        from_others : from ≡ record old { line = from.line }
+        pub from_others : from ≡ record old { line = from.line }
         from_others = from_is ∙ others ∙ ap (λ (z : MemSite). record old { line = z.line }) (sym from_is)
-
-        first_is : turn.first ≡ r
-        first_is = first_whole told_of turn.first r m.shrunk turn.node (seen m) turn.behind t whole turn.ends
-
-        first_ends : IsWhole turn.first
-        first_ends = subst IsWhole (sym first_is) whole
 
         did : DidWhole turn.first (seen n) turn.node from turn.behind turn.steps
         did = did_whole turn.first (seen n) turn.node from turn.behind turn.steps first_ends
@@ -263,4 +261,5 @@ module _ (L : NetLaws) (K : TurnLaws) (count : ℕ) (few : count ≤ 8) (hosts :
         → HeardTurn count w M.stands.net i c (M.stands.holds i h here).place (in_world L count few hosts clocks mails more w M i h g n here up c time T.turns.connected before_turn).node n T.node
         (from T.turns.connected before_turn) T.site T.result turn_there input lines T.made
     took_heard whole =
-        heard_turn T.turns.connected before_turn bytes T.turns.connects.brings input lines brought old set T.turns.connects.others T.room T.result T.node T.site turn_there whole T.made T.adds T.said
+        heard_turn T.turns.connected before_turn bytes T.turns.connects.brings input lines brought old set T.turns.connects.others T.room T.result T.node T.site turn_there
+        (ends_first T.result T.node T.site (from T.turns.connected before_turn) turn_there whole) T.made T.adds T.said

@@ -38,6 +38,8 @@ use Rattle.site_model.specs.Told.{Files}
 use Rattle.world_laws.proofs.Nodes.{put_same}
 use Rattle.mirrored_nets.specs.Goings.{CameUp, IsSet, WentDown}
 use Rattle.mirrored_nets.specs.Mirrors.{Mirrors}
+use Rattle.mirrored_nets.proofs.FallenHosts.{NetLaws, up_there}
+use Rattle.mirrored_nets.proofs.MarkedFiles.{on_two, up_two}
 use Rattle.mirrored_nets.proofs.Remirrored.{nth_past, nth_within, remirror}
 
 same_book : RecoversTheCompacted → (base : List ℕ) (xs ys : List Record) → kept_of Two xs ≡ kept_of Two ys → recover base xs ≡ recover base ys
@@ -130,9 +132,10 @@ module _ (count : ℕ) (hosts : List Host) (clocks : List ℕ) (mails : List Mai
           refl (sym (ap (option_map seen) U.is)) (subst (λ o. IfSome o IsServing) (sym U.is) U.serving) (placed_this i g.site sites)
           (λ j f. placed_other i g.site sites j f ∙ placed_other i old M.stands.sites j f) M.stands.letters
           (λ m e. ap (λ (n : Node). n.journal.limit) (sym (same_some U.node m (sym U.is ∙ e))) ∙ begins.0.limit_is)
-          (starts.started (example_hosts count) M.stands.net w i this.place x (seen U.node) M.world this.here known is_down small book))
+          (starts.started (example_hosts count) M.stands.net w i this.place x (seen U.node) M.world this.here known is_down small book)
+          (λ off. let e : Some U.node ≡ None = sym U.is ∙ off in absurd cc))
 
-    module _ (images : ChosenAreImages) (n : Node) (up : h.node ≡ Some n) (D : WentDown h.site g) where
+    module _ (L : NetLaws) (few : count ≤ 8) (images : ChosenAreImages) (n : Node) (up : h.node ≡ Some n) (D : WentDown h.site g) where
       is_up : this.place.node ≡ Some (seen n)
       is_up = this.node ∙ ap (option_map seen) up
 
@@ -150,4 +153,9 @@ module _ (count : ℕ) (hosts : List Host) (clocks : List ℕ) (mails : List Mai
           (remirror count hosts clocks mails mails w M i h g here time.0 x.clock time.1 x known (Crash i) v (placed_at i g.site M.stands.sites) serves M.stands.asks this.place p this.here refl
           (sym (ap (option_map seen) D.down)) (subst (λ o. IfSome o IsServing) (sym D.down) tt) (placed_this i g.site M.stands.sites) (placed_other i g.site M.stands.sites) M.stands.letters
           (λ m e. let f : None ≡ Some m = sym D.down ∙ e in absurd cc)
-          (starts.ended (example_hosts count) M.stands.net w i this.place x (seen n) (record { world = M.world; place = this.here; node = known; up = is_up; reach = M.reach })))
+          (starts.ended (example_hosts count) M.stands.net w i this.place x (seen n) (record { world = M.world; place = this.here; node = known; up = is_up; reach = M.reach }))
+          (λ off.
+          on_two this.place.records d g.site (comes_on Drop h.site g.site D.left)
+          (up_two this.place.records this.place.records (seen n) h.site
+          (up_there L count few hosts clocks mails mails w M i h g n here up time.0 time.1 h.site (record { opening = refl; calls = refl })) d
+          (images Drop (opening_in h.site.device) (calls_in h.site.device)))))

@@ -1,5 +1,5 @@
 -- A turn of a node that went to its end, and the calls that it made.
-use Rattle.std.specs.Prelude.{ℕ, List, [], ◌∷◌, ◌++◌, ◌+◌, ◌-◌, ◌^◌, ◌≡◌, ◌≤◌, ◌<◌, IfSome, Option, Some, None, Bool, true, false, drop, length, zero, suc}
+use Rattle.std.specs.Prelude.{ℕ, List, [], ◌∷◌, ◌++◌, ◌+◌, ◌-◌, ◌^◌, ◌≡◌, ◌≤◌, ◌<◌, ◌⊎◌, IfSome, Option, Some, None, Bool, true, false, drop, length, zero, suc}
 use Rattle.std.specs.List.{AllByRecursion}
 use Rattle.std.proofs.Common.{refl, sym, ap, subst, arith, ◌∙◌, inl, inr}
 use Rattle.std.proofs.Math.Seq.{drop-append_seam}
@@ -28,9 +28,10 @@ use Rattle.site_memory.specs.Devices.{calls_in, opening_in}
 use Rattle.site_memory.specs.Sites.{told_of}
 use Rattle.site_memory.specs.Tells.{reads}
 use Rattle.site_memory.specs.declared.machine.MemSite.{MemSite}
+use Rattle.site_model.specs.Counts.{Rose}
 use Rattle.site_model.specs.Told.{Made, file_of}
 use Rattle.mirrored_nets.specs.Answered.{AnswersWith}
-use Rattle.mirrored_nets.specs.Fates.{AllDone}
+use Rattle.mirrored_nets.specs.Fates.{AllDone, refusals}
 use Rattle.mirrored_nets.specs.Took.{Adds, HasRoom, IsWhole}
 use Rattle.mirrored_nets.proofs.AnewCalls.{GoesAnew}
 use Rattle.mirrored_nets.proofs.CallRows.{AreSendings}
@@ -141,6 +142,12 @@ made_are n node m old c behind site made line steps doings others ran anew adds 
     (same_some (calls_in site.device) (calls_in behind.device ++ anew.made) anew.calls) adds.calls
     ∙ append_assoc line (calls_of doings) anew.made
 
+-- A count that rose behind the steps rose beside the records that were refused.
+pub beside_so : (disk mid later gate mid_gate later_gate refused made : ℕ) → later + later_gate ≤ disk + gate + made → later < 2 ^ 63 → later_gate < 2 ^ 63 → disk + refused ≤ mid → mid ≤ later → gate ≤ mid_gate
+    → mid_gate ≤ later_gate → Rose mid later ⊎ Rose mid_gate later_gate → refused + 1 ≤ made
+beside_so disk mid later gate mid_gate later_gate refused made both below under some more first second (inl rose) = omega (arith, both, below, under, some, more, first, second, rose)
+beside_so disk mid later gate mid_gate later_gate refused made both below under some more first second (inr rose) = omega (arith, both, below, under, some, more, first, second, rose)
+
 -- the calls of a whole turn
 pub whole_read : RecordsAreBodies → (n node m : State) (old c behind site : MemSite) (made line : List Made) (bodies : List (List ℕ)) (s : TurnStep) (ss : List TurnStep) (d : Doing) (ds : List Doing)
     → c ≡ record old { line = c.line } → HasRoom old → Keeps n.journal bodies (told_of c) → n.journal.limit ≡ 4294967295 → Ran (line_of line) (s ∷ ss) (d ∷ ds) n node (told_of c) (told_of behind)
@@ -173,6 +180,7 @@ whole_read law n node m old c behind site made line bodies s ss d ds others has 
       let below : behind.tally.disk < 2 ^ 64 - 1 = omega (arith, a, e) in
       let k = ran.refused below in
       omega (arith, a, b, e, f, k);
+  both = λ some. beside (anew.failed some);
 }
   where
     fates : AreFates n.journal.live n.journal.limit bodies (s ∷ ss) (d ∷ ds)
@@ -186,3 +194,12 @@ whole_read law n node m old c behind site made line bodies s ss d ds others has 
 
     disk_here : c.tally.disk ≡ old.tally.disk
     disk_here = ap (λ (z : MemSite). z.tally.disk) others
+
+    gate_here : c.tally.gate ≡ old.tally.gate
+    gate_here = ap (λ (z : MemSite). z.tally.gate) others
+
+    beside : Rose behind.tally.disk site.tally.disk ⊎ Rose behind.tally.gate site.tally.gate → d.refused + 1 ≤ refusals made
+    beside rose =
+        beside_so c.tally.disk behind.tally.disk site.tally.disk c.tally.gate behind.tally.gate site.tally.gate d.refused (refusals made)
+        (let f = disk_here in let g = gate_here in let b = adds.both in omega (arith, f, g, b)) adds.below adds.under
+        (let a = anew.disk in let e = adds.below in let below : behind.tally.disk < 2 ^ 64 - 1 = omega (arith, a, e) in let k = ran.refused below in omega (arith, k)) anew.disk ran.later.gate anew.gate rose

@@ -11,3 +11,9 @@ pub mod NetSteps
 pub mod Unarmed
 pub mod PossibleMoves
 pub mod Counted
+pub mod ArmedCalls
+pub mod Struck
+pub mod Kept
+pub mod StruckTurns
+pub mod StruckStarts
+pub mod StruckRequests

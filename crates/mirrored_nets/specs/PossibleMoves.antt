@@ -1,11 +1,15 @@
--- Events at which no call fails that can be done to a net in memory.
-use Rattle.std.specs.Prelude.{ℕ, List, [], ◌+◌, ◌≡◌, ◌≤◌, ◌<◌, ◌^◌, Bool, true, false, Some, None, length, map}
-use Rattle.at_model.specs.World.{Input, WorldEvent, Deliver, Tick, Raw, Turn, Ask, Crash, Up, nth}
+-- Events that can be done to a net in memory.
+use Rattle.std.specs.Prelude.{ℕ, List, Option, Bool, ◌+◌, ◌≡◌, ◌≤◌, ◌<◌, ◌^◌, Some, length, map}
+use Rattle.armed_calls.specs.declared.fault.Armed.{Armed as Known}
+use Rattle.at_model.specs.World.{Input, World, WorldEvent, Deliver, Tick, Raw, nth}
 use Rattle.memory_net.specs.Mails.{Mail, mail_of}
-use Rattle.possible_events.specs.PossibleEvents.{IsOfEight}
+use Rattle.possible_events.specs.PossibleEvents.{IsPossible}
 use Rattle.raw_requests.specs.Draws.{Draws}
 use Rattle.raw_requests.specs.declared.Drawn.TheVariants as drawns
+use Rattle.mirrored_nets.specs.ArmedCalls.{call_of}
+use Rattle.mirrored_nets.specs.Mirrors.{Mirrors}
 use Rattle.mirrored_nets.specs.Seen.{Seen}
+use Rattle.mirrored_nets.specs.declared.judged.Armed.{Armed}
 
 -- The node of that number is there, and has a clock.
 pub record IsNumbered (net : Seen) (i : ℕ) : Type 0 where
@@ -25,9 +29,12 @@ abbrev pub FitsClock : List ℕ → ℕ → Input → Type 0
 FitsClock clocks i (Tick ms) = (c : ℕ) → nth i clocks ≡ Some c → c + ms < 2 ^ 64
 FitsClock clocks i other = Unit {0}
 
--- An event at which no call fails can be done to a net.
-abbrev pub MayBe : Seen → WorldEvent → List ℕ → Type 0
-MayBe net (Turn i input fates until) raw = IsNumbered net i × MayCome (map mail_of net.letters) i input raw × FitsClock net.clocks i input × (fates ≡ []) × (until ≡ None)
-MayBe net (Ask i request fates until) raw = IsNumbered net i × IsOfEight request × (fates ≡ []) × (until ≡ None)
-MayBe net (Crash i) raw = IsNumbered net i
-MayBe net (Up i landed stop) raw = IsNumbered net i × (landed ≡ true) × (stop ≡ false)
+-- An event of a world that the net mirrors can be done to it, where that call is armed, or none; with these bytes where it brings raw ones.
+pub record CanBe (net : Seen) (e : WorldEvent) (raw : List ℕ) (armed : Armed) : Type 0 where
+  pub count : ℕ
+  pub world : World
+  pub few : count ≤ 8
+  pub mirrors : Mirrors count net.hosts net.clocks (map mail_of net.letters) world
+  pub known : Option Known
+  pub armed_is : armed ≡ call_of known
+  pub possible : IsPossible count world e raw known

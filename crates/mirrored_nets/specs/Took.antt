@@ -22,7 +22,8 @@ use Rattle.mirrored_nets.specs.declared.came.Came.{Came}
 use Rattle.mirrored_nets.specs.declared.came.Came.TheVariants as cames
 use Rattle.mirrored_nets.specs.Fates.{AllDone, AreAsked, disk_part, failures, refusals, sent_of}
 
--- the calls that it made are these, and no answer or post failed, and no record was refused and no gate left shut, beside those among them
+-- the calls that it made are these, and no answer or post failed, and no record was refused and no gate left shut, beside those among them; nor
+-- both beside one of them
 pub record Adds (made : List Made) (old new : MemSite) : Type 0 where
   pub calls : made ≡ drop (length (calls_in old.device)) (calls_in new.device)
   pub counted : new.tally.link ≡ old.tally.link + failures made
@@ -31,6 +32,7 @@ pub record Adds (made : List Made) (old new : MemSite) : Type 0 where
   pub below : new.tally.disk < 2 ^ 63
   pub raised : new.tally.gate ≤ old.tally.gate + refusals made
   pub under : new.tally.gate < 2 ^ 63
+  pub both : new.tally.disk + new.tally.gate ≤ old.tally.disk + old.tally.gate + refusals made
 
 -- there is room for a record of any length in both files
 pub record HasRoom (s : MemSite) : Type 0 where

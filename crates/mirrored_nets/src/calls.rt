@@ -88,7 +88,7 @@ pub fn all_done(calls: &[Entry]) -> bool
 fn had(calls: &[Entry], fates: &Fates, from: usize) -> bool
     requires { from ≤ 1 }
     ensures had { result ≡ true → StartsWith (map is_done (mades calls.now)) (drop from fates.now) }
-    ensures all { AllDone (mades calls.now) → fates.now ≡ [] → result ≡ true }
+    ensures exact { StartsWith (map is_done (mades calls.now)) (drop from fates.now) → result ≡ true }
 {
     for place in 0..calls.len() {
         if calls[place].done != fates.at(from + place) {
@@ -101,7 +101,7 @@ fn had(calls: &[Entry], fates: &Fates, from: usize) -> bool
 /// Whether a record's append, if one comes first, and the answers and posts behind it had the first of these fates.
 pub fn had_fates(calls: &[Entry], fates: &Fates) -> bool
     ensures had { result ≡ true → StartsWith (fates_in (mades calls.now)) fates.now }
-    ensures all { AllDone (mades calls.now) → fates.now ≡ [] → result ≡ true }
+    ensures exact { StartsWith (fates_in (mades calls.now)) fates.now → result ≡ true }
 {
     let disk = disk_calls(calls);
     let step = behind(calls, disk);

@@ -1,7 +1,5 @@
 //! Why an event wasn't done to a host.
 
-use std::alloc::AllocError;
-
 /// Why an event wasn't done.
 #[derive(Clone, Copy, Debug, PartialEq, Eq)]
 pub enum Fault {
@@ -20,10 +18,4 @@ pub(crate) enum Unlike {
     NoMemory,
     /// What the calls came to isn't what the event asks for.
     Apart,
-}
-
-impl From<AllocError> for Unlike {
-    fn from(_error: AllocError) -> Unlike {
-        Unlike::NoMemory
-    }
 }

@@ -1,7 +1,7 @@
 //! An event that is done to a node on its machine.
 
-ghost use Rattle.std.specs.Prelude.{◌≡◌, ◌+◌, ◌≤◌, ◌<◌, ◌^◌, ◌⊎◌, [], IfOk, None, false, length, map, replicate, take, true};
-ghost use Rattle.http_post.specs.Conversations.{Waits, interim};
+ghost use Rattle.std.specs.Prelude.{◌≡◌, ◌+◌, ◌≤◌, ◌<◌, ◌^◌, IfOk, false, length, map, replicate, take, true};
+ghost use Rattle.http_post.specs.Conversations.{interim};
 ghost use Rattle.site_model.specs.Told.{done};
 ghost use Rattle.site_model.specs.Told.Call.{Send};
 ghost use Rattle.memory_net.specs.Calls.{IsServing};
@@ -12,8 +12,9 @@ ghost use Rattle.mirrored_nets.specs.Counted.{IsCounted};
 ghost use Rattle.mirrored_nets.specs.Fates.{failures, refusals};
 ghost use Rattle.mirrored_nets.specs.Goings.{CameUp, IsSet, WentDown};
 ghost use Rattle.mirrored_nets.specs.Took.{Adds, AnswersSo, EndsSo, FellBack, HasRoom, IsFull, LeftSo, TookRequest, TookTurn, kept_of};
-ghost use Rattle.mirrored_nets.specs.Unarmed.{IsReady, IsUnarmed, IsntApart};
-ghost use Rattle.mirrored_nets.specs.declared.came.Came.TheVariants.{Stays};
+ghost use Rattle.mirrored_nets.specs.StruckRequests.{IsStruckRequest};
+ghost use Rattle.mirrored_nets.specs.StruckTurns.{IsStruckTurn, IsToldOf};
+ghost use Rattle.mirrored_nets.specs.Unarmed.{IsReady, IsntApart};
 ghost use Rattle.node_at.specs.declared.local.Locally.TheVariants as answers;
 ghost use Rattle.node_at.specs.declared.turn.Turned.TheVariants as turneds;
 
@@ -21,7 +22,7 @@ use crate::calls::{failures, refusals, said, since};
 use crate::came::Came;
 use crate::fault::Unlike;
 use crate::judged::{Armed, judged};
-use crate::laws::unarmed_do;
+use crate::laws::{struck_requests, struck_turns};
 use at_base::event::Local;
 use at_base::text::Text;
 use memory_net::host::Host;
@@ -50,7 +51,7 @@ pub fn has_room(site: &MemSite) -> bool
 /// The machine at that time, with a failure armed, or none. A stop is no failure: the machine goes back to it behind the event.
 pub fn set(site: MemSite, armed: Armed, now: u64) -> MemSite
     ensures set { IsSet now site result }
-    ensures unarmed { armed ≡ Armed.No → IsReady site → IsUnarmed result }
+    ensures told { IsReady site → IsToldOf armed result }
 {
     let mut site = site;
     match armed {
@@ -104,27 +105,35 @@ fn refused(failed: u64, now: u64, calls: &[Entry]) -> Result<(), Unlike>
     Ok(())
 }
 
-/// The calls since, beside which no answer and no post failed, no record was refused and no gate left shut.
+/// The calls since, beside which no answer and no post failed, no record was refused and no gate left shut; nor was one refused for want of
+/// memory while the call of another's gate failed.
 fn made_since<'a>(before: &Counts, site: &'a MemSite) -> Result<&'a [Entry], Unlike>
     ensures adds { IfOk result (λ calls. (old : MemSite) → IsCounted before.now old → Adds (mades calls.now) old site.now) }
     ensures memory { IsntApart result }
 {
     let calls = since(site, before.calls);
+    let disk = site.failed_disk_calls();
+    let gates = site.failed_gates();
     counted(before.sends, site.failed_sends(), calls)?;
-    refused(before.disk, site.failed_disk_calls(), calls)?;
-    refused(before.gates, site.failed_gates(), calls)?;
+    refused(before.disk, disk, calls)?;
+    refused(before.gates, gates, calls)?;
+    refused(
+        before.disk.saturating_add(before.gates),
+        disk + gates,
+        calls,
+    )?;
     Ok(calls)
 }
 
-/// Whether the calls that come before the first step said the interim line.
+/// Whether the calls that come before the first step said the interim line. No call of it is to fail, so it isn't said only for want of memory.
 fn spoke(lines: usize, calls: &[Entry]) -> Result<(), Unlike>
     ensures spoke { IfOk result (λ _. (take lines (mades calls.now) ≡ replicate lines (done (Send interim))) × (lines ≤ 1)) }
-    ensures said { lines ≤ 1 → take lines (mades calls.now) ≡ replicate lines (done (Send interim)) → IsntApart result }
+    ensures memory { IsntApart result }
 {
     if said(calls, lines) {
         Ok(())
     } else {
-        Err(Unlike::Apart)
+        Err(Unlike::NoMemory)
     }
 }
 
@@ -158,35 +167,46 @@ fn ends(came: Came, turned: Turned) -> Result<(), Unlike>
     }
 }
 
-/// Whether a request did.
+/// Whether there was memory for a request.
+fn had_room(locally: &Locally) -> Result<(), Unlike>
+    ensures room { IfOk result (λ _. locally.now ≡ answers.NoRoom → ⊥) }
+    ensures memory { IsntApart result }
+{
+    match locally {
+        Locally::NoRoom => Err(Unlike::NoMemory),
+        _ => Ok(()),
+    }
+}
+
+/// Whether a request ended as that says.
 fn answers(came: Came, locally: Locally) -> Result<(), Unlike>
     ensures answers { IfOk result (λ _. AnswersSo came locally) }
-    ensures whole { (locally ≡ answers.NoRoom) ⊎ AnswersSo came locally → IsntApart result }
+    ensures whole { AnswersSo came locally → IsntApart result }
 {
     match (came, locally) {
         (Came::Halts, Locally::Halted) => Ok(()),
         (Came::Stays | Came::Falls { .. }, Locally::Done { .. } | Locally::Refused { .. }) => Ok(
             (),
         ),
-        (_, Locally::NoRoom) => Err(Unlike::NoMemory),
         _ => Err(Unlike::Apart),
     }
 }
 
-/// A machine that went back to behind so many calls of an event, before which it had made `before`, and crashed there.
+/// A machine that went back to behind so many calls of an event, before which it had made `before`, or all that it made; and crashed there.
 pub(crate) fn fallen_back(
     site: MemSite,
     before: usize,
     kept: usize,
     choice: Choice,
 ) -> Result<MemSite, Unlike>
-    ensures { IfOk result (λ new. (old : MemSite) → before ≡ length (calls_in old.device) → FellBack old site kept choice new) }
+    ensures fell { IfOk result (λ new. (old : MemSite) → before ≡ length (calls_in old.device) → FellBack old site kept choice new) }
+    ensures memory { IsntApart result }
 {
-    let Some(calls) = before.checked_add(kept) else {
-        return Err(Unlike::Apart);
-    };
+    let calls = before.saturating_add(kept).min(site.calls());
     let mut site = site;
-    site.go_back(calls)?;
+    let Ok(()) = site.go_back(calls) else {
+        return Err(Unlike::NoMemory);
+    };
     site.crash(choice);
     Ok(site)
 }
@@ -214,7 +234,7 @@ fn kept_of(came: Came, calls: &[Entry]) -> &[Entry]
 /// The host behind an event.
 fn left(came: Came, node: Node, site: MemSite, before: usize) -> Result<Host, Unlike>
     ensures left { IfOk result (λ host. (old : MemSite) → before ≡ length (calls_in old.device) → LeftSo came node old site host) }
-    ensures stays { came ≡ Stays → IsntApart result }
+    ensures memory { IsntApart result }
 {
     match came {
         Came::Stays => Ok(Host::of(Some(node), site)),
@@ -248,9 +268,9 @@ pub(crate) fn take(
     requires serving { IsServing node }
     requires room { HasRoom site }
     ensures took { IfOk result (λ host. TookTurn number count lines bytes.now node site host (map mail_of letters.old.items) (map mail_of letters.new.items) fates.now until) }
-    ensures unarmed { IsUnarmed site → node.halted ≡ false → fates.now ≡ [] → until ≡ None → lines ≤ 1 → (lines ≡ 1 → Waits bytes.now true) → IsntApart result }
+    ensures possible { IsStruckTurn number count lines bytes.now node site armed fates.now until → IsntApart result }
 {
-    unarmed_do();
+    struck_turns();
     let mut after = node;
     let mut machine = site;
     let before = counts_of(&machine);
@@ -284,14 +304,15 @@ pub(crate) fn request(
     requires serving { IsServing node }
     requires room { HasRoom site }
     ensures took { IfOk result (λ host. TookRequest number count local.now node site host (map mail_of letters.old.items) (map mail_of letters.new.items) fates.now until) }
-    ensures unarmed { IsUnarmed site → node.halted ≡ false → fates.now ≡ [] → until ≡ None → IsntApart result }
+    ensures possible { IsStruckRequest number count local.now node site armed fates.now until → IsntApart result }
 {
-    unarmed_do();
+    struck_requests();
     let mut after = node;
     let mut machine = site;
     let before = counts_of(&machine);
     let locally = ask(alloc, &mut after, &mut machine, local);
     let calls = made_since(&before, &machine)?;
+    had_room(&locally)?;
     let came = judged(0, calls, armed, fates, until)?;
     answers(came, locally)?;
     let Ok(()) = gather(alloc, number, count, kept_of(came, calls), letters) else {

@@ -1,15 +1,22 @@
 //! Whether the calls of an event are what it asks for.
 
-ghost use Rattle.std.specs.Prelude.{ℕ, List, [], ◌∷◌, ◌≡◌, ◌≤◌, IfOk, IfSome, None, Ok, drop, true};
+ghost use Rattle.std.specs.Prelude.{ℕ, List, [], ◌∷◌, ◌+◌, ◌≡◌, ◌≤◌, Bool, IfOk, IfSome, None, Ok, Some, drop, true};
+ghost use Rattle.armed_calls.specs.declared.fault.Armed.{Armed as Known};
+ghost use Rattle.armed_calls.specs.declared.fault.Fault.TheVariants as faults;
 ghost use Rattle.node_events.specs.NodeEvents.{one_if, struck};
+ghost use Rattle.schedules.specs.declared.line.Leaves.{Leaves};
 ghost use Rattle.site_memory.specs.Entries.{call_of, mades};
-ghost use Rattle.site_model.specs.Told.{failed};
+ghost use Rattle.site_memory.specs.declared.arm.Choice.{Choice as Chosen};
+ghost use Rattle.site_model.specs.Told.{Call, failed};
 ghost use Rattle.site_model.specs.Told.Call.{Sync, Write};
 ghost use Rattle.torn_appends.specs.TornAppends.{gate_stands, stands_behind};
 ghost use Rattle.fated_walks.specs.Fated.{IsBeyond};
+ghost use Rattle.mirrored_nets.specs.ArmedCalls.{choice_of};
 ghost use Rattle.mirrored_nets.specs.Fates.{AllDone, AreAsked};
-ghost use Rattle.mirrored_nets.specs.Took.{ComesTo, IsKept};
-ghost use Rattle.mirrored_nets.specs.declared.came.Came.TheVariants.{Stays};
+ghost use Rattle.mirrored_nets.specs.Kept.{is_write, kept_at, writes_at};
+ghost use Rattle.mirrored_nets.specs.Struck.{ComesAt, IsUnhalted};
+ghost use Rattle.mirrored_nets.specs.Took.{ComesTo, HaltsSo, IsKept};
+ghost use Rattle.mirrored_nets.specs.declared.came.Came.TheVariants.{Halts, Stays};
 
 use crate::calls::{all_done, anew, behind, disk_calls, fates_count, had_fates, send_calls};
 use crate::came::Came;
@@ -53,7 +60,8 @@ fn one_if(yes: bool) -> usize
 
 /// The last of these fates, where there is one more than so many, and all before it are yes.
 fn struck(fates: &Fates, before: usize) -> Option<bool>
-    ensures { IfSome result (λ last. fates.now ≡ struck before last) }
+    ensures is { IfSome result (λ last. fates.now ≡ struck before last) }
+    ensures exact { (last : Bool) → fates.now ≡ struck before last → result ≡ Some last }
 {
     if fates.len() == 0 || fates.len() - 1 != before {
         return None;
@@ -66,21 +74,35 @@ fn struck(fates: &Fates, before: usize) -> Option<bool>
     Some(fates.at(before))
 }
 
+fn is_write(entry: &Entry) -> bool
+    ensures { result ≡ is_write (call_of entry.now.deed) }
+{
+    match &entry.deed {
+        Deed::Write { .. } => true,
+        _ => false,
+    }
+}
+
+/// Whether the call at that place is a write.
+fn writes_at(calls: &[Entry], place: usize) -> bool
+    ensures { result ≡ writes_at place (mades calls.now) }
+{
+    match calls.get(place) {
+        Some(entry) => is_write(entry),
+        None => false,
+    }
+}
+
 /// How many calls are kept of an event that stops at the k-th of them: at a `Keep` that call was done, and at a `Fill` a write may have left
 /// anything.
-pub(crate) fn kept_at(calls: &[Entry], k: usize, choice: Choice) -> usize {
+pub(crate) fn kept_at(calls: &[Entry], k: usize, choice: Choice) -> usize
+    ensures { result ≡ kept_at (mades calls.now) k choice }
+{
     let last = k.saturating_sub(1);
-    let writes = match calls.get(last) {
-        Some(entry) => match &entry.deed {
-            Deed::Write { .. } => true,
-            _ => false,
-        },
-        None => false,
-    };
     match choice {
         Choice::Keep => k,
         Choice::Drop => last,
-        Choice::Fill(_) => if writes { k } else { last },
+        Choice::Fill(_) => if writes_at(calls, last) { k } else { last },
     }
 }
 
@@ -93,7 +115,8 @@ fn is_kept(
     last: bool,
     kept: usize,
 ) -> bool
-    ensures { result ≡ true → IsKept lines (mades calls.now) choice before last kept }
+    ensures is { result ≡ true → IsKept lines (mades calls.now) choice before last kept }
+    ensures exact { IsKept lines (mades calls.now) choice before last kept → result ≡ true }
 {
     let step = behind(calls, lines);
     let disk = disk_calls(step);
@@ -113,7 +136,7 @@ fn is_kept(
 /// Whether a stop comes behind all of so many fates, or there is none.
 fn is_beyond(until: Option<u64>, fates: usize) -> bool
     ensures is { result ≡ true → IsBeyond until fates }
-    ensures none { until ≡ None → result ≡ true }
+    ensures exact { IsBeyond until fates → result ≡ true }
 {
     match until {
         None => true,
@@ -124,7 +147,7 @@ fn is_beyond(until: Option<u64>, fates: usize) -> bool
 /// Whether an event goes to its end.
 fn is_whole(lines: usize, calls: &[Entry], fates: &Fates, until: Option<u64>) -> bool
     ensures asked { result ≡ true → AreAsked lines (mades calls.now) fates.now until }
-    ensures all { AllDone (mades calls.now) → fates.now ≡ [] → until ≡ None → result ≡ true }
+    ensures exact { AreAsked lines (mades calls.now) fates.now until → result ≡ true }
 {
     let step = behind(calls, lines);
     if !is_beyond(until, fates_count(step)) {
@@ -145,7 +168,10 @@ fn stopped(
     fates: &Fates,
     until: u64,
 ) -> Result<Came, Unlike>
-    ensures { IfOk result (λ came. ComesTo came lines (mades calls.now) fates.now (Some until)) }
+    ensures comes { IfOk result (λ came. ComesTo came lines (mades calls.now) fates.now (Some until)) }
+    ensures stops { (a : Known) (leaves : Leaves) → a.fault ≡ faults.Stop leaves → k ≡ lines + a.call → choice ≡ choice_of leaves → AllDone (mades calls.now)
+        → ComesAt lines (mades calls.now) a fates.now (Some until) → IsUnhalted result }
+    ensures unbegun { k ≤ lines → AllDone (mades calls.now) → fates.now ≡ [] → until ≡ 0 → IsUnhalted result }
 {
     let kept = kept_at(calls, k, choice);
     if !all_done(calls) {
@@ -168,7 +194,8 @@ fn stopped(
 
 /// The one call behind so many, where that failed.
 fn failed_behind(calls: &[Entry], count: usize) -> Option<&Deed>
-    ensures { IfSome result (λ deed. drop count (mades calls.now) ≡ failed (call_of deed.now) ∷ []) }
+    ensures is { IfSome result (λ deed. drop count (mades calls.now) ≡ failed (call_of deed.now) ∷ []) }
+    ensures none { result ≡ None → (call : Call) → drop count (mades calls.now) ≡ failed call ∷ [] → ⊥ }
 {
     let rest = behind(calls, count);
     if rest.len() != 1 || rest[0].done {
@@ -179,7 +206,8 @@ fn failed_behind(calls: &[Entry], count: usize) -> Option<&Deed>
 
 /// Whether the last call behind so many is the write of a gate that failed.
 fn write_failed(calls: &[Entry], count: usize) -> bool
-    ensures { result ≡ true → (file : ℕ) × (place : ℕ) × (bytes : List ℕ) × (drop count (mades calls.now) ≡ failed (Write file place bytes) ∷ []) }
+    ensures is { result ≡ true → (file : ℕ) × (place : ℕ) × (bytes : List ℕ) × (drop count (mades calls.now) ≡ failed (Write file place bytes) ∷ []) }
+    ensures exact { (file place : ℕ) (bytes : List ℕ) → drop count (mades calls.now) ≡ failed (Write file place bytes) ∷ [] → result ≡ true }
 {
     match failed_behind(calls, count) {
         Some(Deed::Write { .. }) => true,
@@ -189,7 +217,8 @@ fn write_failed(calls: &[Entry], count: usize) -> bool
 
 /// Whether it is a sync that failed.
 fn sync_failed(calls: &[Entry], count: usize) -> bool
-    ensures { result ≡ true → (file : ℕ) × (drop count (mades calls.now) ≡ failed (Sync file) ∷ []) }
+    ensures is { result ≡ true → (file : ℕ) × (drop count (mades calls.now) ≡ failed (Sync file) ∷ []) }
+    ensures exact { (file : ℕ) → drop count (mades calls.now) ≡ failed (Sync file) ∷ [] → result ≡ true }
 {
     match failed_behind(calls, count) {
         Some(Deed::Sync { .. }) => true,
@@ -200,7 +229,8 @@ fn sync_failed(calls: &[Entry], count: usize) -> bool
 /// One in which it halts, behind so many calls that have no fate: its gate's write failed, or its sync.
 fn halted(lines: usize, calls: &[Entry], fates: &Fates, until: u64) -> Result<Came, Unlike>
     requires { lines ≤ 1 }
-    ensures { IfOk result (λ came. ComesTo came lines (mades calls.now) fates.now (Some until)) }
+    ensures comes { IfOk result (λ came. ComesTo came lines (mades calls.now) fates.now (Some until)) }
+    ensures halts { HaltsSo lines (mades calls.now) fates.now (Some until) → result ≡ Ok Halts }
 {
     let Some(stands) = struck(fates, 0) else {
         return Err(Unlike::Apart);
@@ -227,7 +257,11 @@ pub(crate) fn judged(
 ) -> Result<Came, Unlike>
     requires { lines ≤ 1 }
     ensures comes { IfOk result (λ came. ComesTo came lines (mades calls.now) fates.now until) }
-    ensures whole { AllDone (mades calls.now) → fates.now ≡ [] → until ≡ None → result ≡ Ok Stays }
+    ensures whole { AreAsked lines (mades calls.now) fates.now until → result ≡ Ok Stays }
+    ensures halts { (k : ℕ) → armed ≡ Armed.Fail k → HaltsSo lines (mades calls.now) fates.now until → result ≡ Ok Halts }
+    ensures stops { (a : Known) (leaves : Leaves) → a.fault ≡ faults.Stop leaves → armed ≡ Armed.Stop (lines + a.call) (choice_of leaves) → AllDone (mades calls.now)
+        → ComesAt lines (mades calls.now) a fates.now until → IsUnhalted result }
+    ensures unbegun { (k : ℕ) (choice : Chosen) → armed ≡ Armed.Stop k choice → 1 ≤ k → k ≤ lines → AllDone (mades calls.now) → fates.now ≡ [] → until ≡ Some 0 → IsUnhalted result }
 {
     if is_whole(lines, calls, fates, until) {
         return Ok(Came::Stays);

@@ -1,7 +1,9 @@
 //! Laws of nets that mirror worlds.
 
 ghost use Rattle.mirrored_nets.specs.Goings.{NetsMirror};
-ghost use Rattle.mirrored_nets.specs.Unarmed.{UnarmedLaws};
+ghost use Rattle.mirrored_nets.specs.StruckRequests.{StruckRequestsGo};
+ghost use Rattle.mirrored_nets.specs.StruckStarts.{DownAreMarked, StartsLeave};
+ghost use Rattle.mirrored_nets.specs.StruckTurns.{StruckTurnsGo};
 
 use addressed_posts::laws::posts_are_addressed;
 use carried_meanings::laws::{bytes_mean_one_thing, posts_dont_wait, posts_say, ticks_ask};
@@ -10,10 +12,9 @@ use decision_log::shrink::shrinks_the_same;
 use deliverables::laws::{examples_are_node_bases, nodes_own_is_deliverable, steps_pass_on};
 use deliveries::laws::{calls_post, serve_as_nets};
 use endpoints::target::paths_name_targets;
+use fated_walks::laws::calls_come;
 use http_post::laws::bytes_wait_or_not;
-use memory_net::laws::{
-    are_no_messages, examples_ask_so, hosts_tell_receivers, stays_closed, turns_are_heard,
-};
+use memory_net::laws::{are_no_messages, examples_ask_so, hosts_tell_receivers, stays_closed};
 use model_laws::rules::{recovers_the_compacted, steps_keep_place};
 use node_at::laws::steps_reply;
 use node_events::laws::{
@@ -30,14 +31,93 @@ use small_envelopes::laws::bare_are_in_limits;
 use torn_appends::laws::appends_torn;
 use world_laws::laws::changes_by_moves;
 
-/// What an event at which no call is armed stands on.
-pub fn unarmed_do()
-    ensures { UnarmedLaws }
+/// A turn at which a call is armed, or none, goes as the event asks that is possible there.
+pub fn struck_turns()
+    ensures { StruckTurnsGo }
 {
+    posts_are_addressed();
+    bytes_mean_one_thing();
+    posts_say();
+    posts_dont_wait();
+    ticks_ask();
+    examples_are_node_bases();
+    calls_post::<MemSite>();
+    serve_as_nets::<MemSite>();
+    are_no_messages();
+    hosts_tell_receivers();
+    stays_closed::<MemSite>();
+    turns_are_events();
+    crashes_are_met::<MemSite>();
+    chosen_are_images();
+    bare_are_in_limits();
+    bytes_wait_or_not();
+    restarts_on_records::<MemSite>();
+    are_bodies();
+    grows_by_one();
+    shrinks_the_same();
+    steps_keep_place();
+    steps_pass_on();
+    steps_reply();
+    paths_name_targets();
+    nodes_own_is_deliverable();
     calls_fail_as_told();
     links_hold();
-    turns_are_heard();
+    calls_come();
+}
+
+/// So does a request.
+pub fn struck_requests()
+    ensures { StruckRequestsGo }
+{
+    posts_are_addressed();
+    bytes_mean_one_thing();
+    posts_say();
+    posts_dont_wait();
+    ticks_ask();
+    examples_are_node_bases();
+    calls_post::<MemSite>();
+    serve_as_nets::<MemSite>();
+    are_no_messages();
+    examples_ask_so();
+    hosts_tell_receivers();
+    stays_closed::<MemSite>();
+    requests_are_events();
+    turns_are_events();
+    crashes_are_met::<MemSite>();
+    chosen_are_images();
+    bare_are_in_limits();
     bytes_wait_or_not();
+    restarts_on_records::<MemSite>();
+    are_bodies();
+    grows_by_one();
+    shrinks_the_same();
+    steps_keep_place();
+    steps_pass_on();
+    steps_reply();
+    paths_name_targets();
+    nodes_own_is_deliverable();
+    calls_fail_as_told();
+    links_hold();
+    calls_come();
+}
+
+/// The machine of a node that is down and has started before has files of version 2.
+pub fn down_are_marked()
+    ensures { DownAreMarked }
+{
+    examples_are_node_bases();
+    serve_as_nets::<MemSite>();
+    crashes_are_met::<MemSite>();
+    are_apart();
+}
+
+/// What a crash behind some of the calls of a start leaves of such files.
+pub fn starts_leave()
+    ensures { StartsLeave }
+{
+    are_apart();
+    are_bodies();
+    chosen_are_images();
 }
 
 /// Whatever events come to a world, and are done to hosts in memory, the hosts mirror it.

@@ -1,6 +1,8 @@
 //! A net in memory that mirrors a world.
 
-ghost use Rattle.std.specs.Prelude.{ℕ, ◌≡◌, ◌≤◌, ◌<◌, ◌^◌, [], false, true, IfErr, IfOk, OnOk, Some, is_some, length, map, option_copied};
+ghost use Rattle.armed_calls.specs.Faults.{record_stands, start_calls};
+ghost use Rattle.armed_calls.specs.declared.fault.Armed.{Armed as Known};
+ghost use Rattle.std.specs.Prelude.{ℕ, Option, List, ◌-◌, ◌≡◌, ◌≤◌, ◌<◌, ◌^◌, [], false, true, IfErr, IfOk, OnOk, Some, is_some, length, map, option_copied};
 ghost use Rattle.at_model.specs.World.{World, Ask, Crash, Deliver, Raw, Turn, Up, example_base, example_hosts, node_of, nth, opening, put_nth};
 ghost use Rattle.memory_net.specs.Mails.{mail_of};
 ghost use Rattle.memory_net.specs.declared.host.Host.{Host};
@@ -10,7 +12,10 @@ ghost use Rattle.mirrored_nets.specs.Mirrors.{Mirrors};
 ghost use Rattle.mirrored_nets.specs.NetSteps.{IsGiven, IsUnstarted, NetMove, NetStep};
 ghost use Rattle.mirrored_nets.specs.Rooms.{HasRoomAt, IsFullAt};
 ghost use Rattle.mirrored_nets.specs.Started.{Started};
-ghost use Rattle.mirrored_nets.specs.PossibleMoves.{IsNumbered, MayBe, MayCome};
+ghost use Rattle.mirrored_nets.specs.PossibleMoves.{CanBe, IsNumbered, MayCome};
+ghost use Rattle.mirrored_nets.specs.ArmedCalls.{call_of};
+ghost use Rattle.mirrored_nets.specs.StruckStarts.{IsMarked};
+ghost use Rattle.mirrored_nets.specs.StruckTurns.{spoken_of};
 ghost use Rattle.mirrored_nets.specs.Unarmed.{IsntApart};
 ghost use Rattle.mirrored_nets.specs.declared.fault.Fault.TheVariants.{Apart, Full};
 ghost use Rattle.possible_events.specs.PossibleEvents.{IsPossible};
@@ -19,12 +24,13 @@ use crate::asks::names_examples;
 use crate::fault::{Fault, Unlike};
 use crate::host::{come_up, go_down, has_room, request, set, take};
 use crate::judged::Armed;
-use crate::laws::nets_mirror;
+use crate::laws::{down_are_marked, nets_mirror};
 use crate::starts::start_struck;
 use addressing::post_to::PostTo;
 use at_base::event::Local;
 use at_base::text::Text;
 use carried_meanings::laws::bytes_mean_one_thing;
+use http_post::laws::bytes_wait_or_not;
 use http_post::writer::tick_bytes;
 use memory_net::host::{Host, fresh};
 use memory_net::laws::letters_are_short;
@@ -183,7 +189,7 @@ fn host_of(hosts: &[Host], number: u8) -> Option<&Host>
 
 /// What is armed behind the interim line, which is said: a failure of its call is none.
 fn spoken(armed: Armed, lines: usize) -> Armed
-    ensures { armed ≡ Armed.No → result ≡ Armed.No }
+    ensures { result ≡ spoken_of lines armed }
 {
     match armed {
         Armed::Fail(1) if lines == 1 => Armed::No,
@@ -291,11 +297,13 @@ fn started(
 ) -> Result<Host, Unlike>
     ensures started { IfOk result (λ host. Started base.now clock landed stop site host) }
     ensures done { landed ≡ true → stop ≡ false → IsntApart result }
+    ensures struck { (a : Known) (last : ℕ) → armed ≡ call_of (Some a) → IsMarked last site → 1 ≤ a.call → a.call ≤ start_calls → landed ≡ record_stands (a.call - 2) a.fault → IsntApart result }
 {
+    let machine = set(site, Armed::No, clock);
     if landed && !stop {
-        come_up(alloc, set(site, Armed::No, clock), base)
+        come_up(alloc, machine, base)
     } else {
-        start_struck(alloc, set(site, armed, clock), base, armed, landed)
+        start_struck(alloc, machine, base, armed, landed)
     }
 }
 
@@ -352,9 +360,11 @@ impl Net {
     ) -> Result<Net, Unlike>
         requires { HasRoomAt number self.hosts }
         ensures step { IfOk result (NetStep (Turn number (input_of input) fates.now until) raw.now self) }
-        ensures unarmed { armed ≡ Armed.No → MayBe self (Turn number (input_of input) fates.now until) raw.now → IsntApart result }
+        ensures possible { CanBe self (Turn number (input_of input) fates.now until) raw.now armed → IsntApart result }
     {
         links_hold();
+        letters_are_short();
+        bytes_wait_or_not();
         if !is_up(self.hosts.as_slice(), number)? {
             return Ok(self);
         }
@@ -405,7 +415,7 @@ impl Net {
     ) -> Result<Net, Unlike>
         requires { HasRoomAt number self.hosts }
         ensures step { IfOk result (NetStep (Ask number local.now fates.now until) [] self) }
-        ensures unarmed { armed ≡ Armed.No → MayBe self (Ask number local.now fates.now until) [] → IsntApart result }
+        ensures possible { (raw : List ℕ) → CanBe self (Ask number local.now fates.now until) raw armed → IsntApart result }
     {
         links_hold();
         if !is_up(self.hosts.as_slice(), number)? {
@@ -448,7 +458,7 @@ impl Net {
     /// A crash of a node that is up.
     fn crash(self, alloc: Global, number: u8) -> Result<Net, Unlike>
         ensures step { IfOk result (NetStep (Crash number) [] self) }
-        ensures unarmed { IsNumbered self number → IsntApart result }
+        ensures there { IsNumbered self number → IsntApart result }
     {
         if !is_up(self.hosts.as_slice(), number)? {
             return Ok(self);
@@ -477,9 +487,10 @@ impl Net {
         stop: bool,
     ) -> Result<Net, Unlike>
         ensures step { IfOk result (NetStep (Up number landed stop) [] self) }
-        ensures unarmed { MayBe self (Up number landed stop) [] → IsntApart result }
+        ensures possible { (raw : List ℕ) → CanBe self (Up number landed stop) raw armed → IsntApart result }
     {
         links_hold();
+        down_are_marked();
         if is_up(self.hosts.as_slice(), number)? {
             return Ok(self);
         }
@@ -512,7 +523,7 @@ impl Net {
     ) -> Result<Net, Unlike>
         requires { HasRoomAt (node_of (event_of event.now)) self.hosts }
         ensures step { IfOk result (NetStep (event_of event.now) raw.now self) }
-        ensures unarmed { armed ≡ Armed.No → MayBe self (event_of event.now) raw.now → IsntApart result }
+        ensures possible { CanBe self (event_of event.now) raw.now armed → IsntApart result }
     {
         match event {
             WorldEvent::Turn {
@@ -546,11 +557,10 @@ impl Net {
         ensures moves { (count : ℕ) (w : World) → count ≤ 8 → Mirrors count self.hosts self.clocks (map mail_of self.letters) w
             → IfOk result (NetMove count w (event_of event.now) raw.now self) }
         ensures full { IfErr result (λ fault. fault ≡ Full → IsFullAt (node_of (event_of event.now)) self.hosts) }
-        ensures done { (count : ℕ) (w : World) → count ≤ 8 → Mirrors count self.hosts self.clocks (map mail_of self.letters) w
-            → IsPossible count w (event_of event.now) raw.now → armed ≡ Armed.No → IfErr result (λ fault. fault ≡ Apart → ⊥) }
+        ensures done { (count : ℕ) (w : World) (a : Option Known) → count ≤ 8 → Mirrors count self.hosts self.clocks (map mail_of self.letters) w → armed ≡ call_of a
+            → IsPossible count w (event_of event.now) raw.now a → IfErr result (λ fault. fault ≡ Apart → ⊥) }
     {
         nets_mirror();
-        letters_are_short();
         if !self.has_room(event.node()) {
             return Err(Fault::Full);
         }

@@ -1,21 +1,28 @@
 //! Starts that meet a fault.
 
-ghost use Rattle.std.specs.Prelude.{ℕ, List, Result, ◌≡◌, IfOk, length};
+ghost use Rattle.std.specs.Prelude.{ℕ, List, Ok, Some, ◌-◌, ◌≡◌, ◌≤◌, IfOk};
+ghost use Rattle.armed_calls.specs.Faults.{record_stands, start_calls};
+ghost use Rattle.armed_calls.specs.declared.fault.Armed.{Armed as Known};
 ghost use Rattle.at_base.specs.declared.record.Record.{Record};
 ghost use Rattle.at_model.specs.Recovery.{last_incarnation};
 ghost use Rattle.decision_log.specs.Folds.{AreRecords};
 ghost use Rattle.journal_at.specs.Scans.{records_in};
 ghost use Rattle.memory_net.specs.Calls.{Begins};
-ghost use Rattle.node_at.specs.declared.fault.StartFault.{StartFault};
 ghost use Rattle.node_at.specs.declared.node.Node.{Node};
+ghost use Rattle.site_memory.specs.Entries.{mades};
 ghost use Rattle.site_memory.specs.Sites.{told_of};
 ghost use Rattle.site_memory.specs.declared.arm.Choice.{Choice as Chosen};
+ghost use Rattle.mirrored_nets.specs.ArmedCalls.{call_of};
+ghost use Rattle.mirrored_nets.specs.Kept.{kept_at};
+ghost use Rattle.mirrored_nets.specs.StruckStarts.{IsMarked, IsStanding};
 ghost use Rattle.mirrored_nets.specs.TookStart.{HasLast, TookStart};
+ghost use Rattle.mirrored_nets.specs.Unarmed.{IsntApart};
 
 use crate::calls::since;
 use crate::fault::Unlike;
 use crate::host::fallen_back;
 use crate::judged::{Armed, kept_at};
+use crate::laws::starts_leave;
 use at_base::text::Text;
 use decision_log::fold::{FoldFault, fold};
 use journal_at::load::{LoadFault, load};
@@ -30,7 +37,8 @@ use std::alloc::Global;
 
 /// Another machine, of which reads give the same.
 fn copied(alloc: Global, site: &MemSite) -> Result<MemSite, Unlike>
-    ensures { IfOk result (λ copy. (told_of copy).files ≡ (told_of site.now).files) }
+    ensures files { IfOk result (λ copy. (told_of copy).files ≡ (told_of site.now).files) }
+    ensures memory { IsntApart result }
 {
     let mut copy = MemSite::new(alloc);
     let Ok(()) = copy.write_at(0, 0, site.file(0)) else {
@@ -44,7 +52,8 @@ fn copied(alloc: Global, site: &MemSite) -> Result<MemSite, Unlike>
 
 /// The last incarnation of the records that were read.
 fn last_of(alloc: Global, found: &Records) -> Result<u32, Unlike>
-    ensures { IfOk result (λ last. (rs : List Record) × AreRecords found.now.version rs (records_in found.now) × (last ≡ last_incarnation rs)) }
+    ensures last { IfOk result (λ last. (rs : List Record) × AreRecords found.now.version rs (records_in found.now) × (last ≡ last_incarnation rs)) }
+    ensures records { (rs : List Record) → AreRecords found.now.version rs (records_in found.now) → IsntApart result }
 {
     match fold(alloc, found) {
         Ok(kept) => Ok(kept.start()),
@@ -56,7 +65,8 @@ fn last_of(alloc: Global, found: &Records) -> Result<u32, Unlike>
 /// The last incarnation of the records that the files of a machine stand for, as they read. Nothing is done to the machine: a copy is read, of
 /// which no call fails but for want of memory.
 pub(crate) fn last_in(alloc: Global, site: &MemSite) -> Result<u32, Unlike>
-    ensures { IfOk result (λ last. HasLast last site.now) }
+    ensures last { IfOk result (λ last. HasLast last site.now) }
+    ensures stands { IsStanding site.now → IsntApart result }
 {
     let mut copy = copied(alloc, site)?;
     match load(alloc, &mut copy, u32::MAX) {
@@ -66,28 +76,33 @@ pub(crate) fn last_in(alloc: Global, site: &MemSite) -> Result<u32, Unlike>
     }
 }
 
-/// A start. The node that begins, if it does, is let go.
-fn begin_alone(alloc: Global, site: &mut MemSite, base: &Text)
-    ensures { (begun : Result Node StartFault) × Begins base.now begun site.old site.new }
+/// A start, of which all calls were done. The node that begins is let go.
+fn begin_alone(alloc: Global, site: &mut MemSite, base: &Text) -> Result<(), Unlike>
+    ensures begun { IfOk result (λ _. (node : Node) × Begins base.now (Ok node) site.old site.new) }
+    ensures memory { IsntApart result }
 {
-    let _begun = begin(alloc, site, base);
+    match begin(alloc, site, base) {
+        Ok(_node) => Ok(()),
+        Err(_) => Err(Unlike::NoMemory),
+    }
 }
 
-/// How many calls of a start are kept behind its fault, and what a crash behind them leaves.
+/// How many calls of a start are kept behind its fault, and what a crash behind them leaves. A call that fails ends the start, and reads don't see
+/// it: so those before it are kept, and the files as they read.
 fn kept_behind(calls: &[Entry], armed: Armed) -> Result<(usize, Choice), Unlike>
-    ensures none { armed ≡ Armed.No → result ≡ Err Unlike.Apart }
-    ensures fails { (k : ℕ) → armed ≡ Armed.Fail k → IfOk result (λ p. (p.0 ≡ length calls.now) × (p.1 ≡ Choice.Keep)) }
-    ensures stops { (k : ℕ) (choice : Chosen) → armed ≡ Armed.Stop k choice → IfOk result (λ p. p.1 ≡ choice) }
+    ensures fails { (k : ℕ) → armed ≡ Armed.Fail k → result ≡ Ok (k - 1, Choice.Keep) }
+    ensures stops { (k : ℕ) (choice : Chosen) → armed ≡ Armed.Stop k choice → result ≡ Ok (kept_at (mades calls.now) k choice, choice) }
 {
     match armed {
         Armed::No => Err(Unlike::Apart),
-        Armed::Fail(_) => Ok((calls.len(), Choice::Keep)),
+        Armed::Fail(k) => Ok(((k as usize).saturating_sub(1), Choice::Keep)),
         Armed::Stop(k, choice) => Ok((kept_at(calls, k as usize, choice), choice)),
     }
 }
 
-/// The start of a node at one of whose calls a fault comes, on a machine that is set for it: what is left is the machine behind a crash. It is
-/// refused where the last incarnation in its files rose and no Start is to land there, or the other way round.
+/// The start of a node at one of whose calls a fault comes, on a machine at which none is to fail: it goes back to behind the calls that are kept, and
+/// what is left is the machine behind a crash there. It is refused where the last incarnation in its files rose and no Start is to land, or the other
+/// way round.
 pub(crate) fn start_struck(
     alloc: Global,
     site: MemSite,
@@ -95,12 +110,14 @@ pub(crate) fn start_struck(
     armed: Armed,
     landed: bool,
 ) -> Result<Host, Unlike>
-    ensures { IfOk result (λ host. TookStart base.now site host landed) }
+    ensures took { IfOk result (λ host. TookStart base.now site host landed) }
+    ensures struck { (a : Known) (last : ℕ) → armed ≡ call_of (Some a) → IsMarked last site → 1 ≤ a.call → a.call ≤ start_calls → landed ≡ record_stands (a.call - 2) a.fault → IsntApart result }
 {
+    starts_leave();
     let before = last_in(alloc, &site)?;
     let mut machine = site;
     let count = machine.calls();
-    begin_alone(alloc, &mut machine, base);
+    begin_alone(alloc, &mut machine, base)?;
     let (kept, choice) = kept_behind(since(&machine, count), armed)?;
     let left = fallen_back(machine, count, kept, choice)?;
     let behind = last_in(alloc, &left)?;

@@ -1,13 +1,14 @@
 -- Nets that follow the events of a run.
-use Rattle.std.specs.Prelude.{ℕ, List, [], ◌∷◌, ◌++◌, ◌+◌, ◌<◌, ◌≤◌, ◌≡◌, Bool, true, false, None, Some, drop, if◌then◌else◌, length, map, slice_get, take}
-use Rattle.std.proofs.Common.{add-one, ap, drop-cons, get_or, refl, suc, subst, sym, zero, ◌∙◌}
-use Rattle.std.proofs.lemmas.List.{drop-drop, length-map, map-append, map_more, take-append-drop, take_all}
+use Rattle.std.specs.Prelude.{ℕ, List, [], ◌∷◌, ◌++◌, ◌+◌, ◌<◌, ◌≤◌, ◌≡◌, Bool, true, false, Option, None, Some, drop, if◌then◌else◌, length, map, slice_get, take}
+use Rattle.std.proofs.Common.{add-one, ap, arith, drop-cons, get_or, refl, suc, subst, sym, zero, ◌∙◌}
+use Rattle.std.proofs.lemmas.List.{drop-drop, length-map, length-take-le, map-append, map_more, take-append-drop, take_all}
+use Rattle.armed_calls.specs.declared.fault.Armed.{Armed}
 use Rattle.at_model.specs.World.{World, WorldEvent as Event, example_hosts, node_of, opening, run_of, run_on, world_step}
 use Rattle.mirrored_nets.specs.NetSteps.{IsUnstarted, NetMove}
 use Rattle.mirrored_nets.specs.Rooms.{IsFullAt}
 use Rattle.mirrored_nets.specs.Seen.{Seen}
 use Rattle.possible_events.specs.BroughtBytes.{first_of, is_raw, left_by}
-use Rattle.possible_events.specs.PossibleEvents.{ArePossible, IsPossible}
+use Rattle.possible_events.specs.PossibleEvents.{ArePossible, IsPossible, next_met}
 use Rattle.settling.proofs.Runs.{run_length}
 use Rattle.world_laws.specs.Events.{event_of}
 use Rattle.world_laws.specs.declared.event.WorldEvent.{WorldEvent}
@@ -32,10 +33,14 @@ run_more count net w (d ∷ ds) raws last e next (mirrors, (mid, first, run)) mo
     (mirrors, (mid, first, run_more count mid (world_step w d) ds (left_by d raws) last e next run moves))
 
 -- an event that comes behind others is possible there
-possible_at : (count : ℕ) (es : List Event) (e : Event) (rest : List Event) (w : World) (raws : List (List ℕ)) → ArePossible count w (es ++ e ∷ rest) raws
-    → IsPossible count (run_on w es) e (first_of (left_behind es raws))
-possible_at count [] e rest w raws h = h.0
-possible_at count (d ∷ ds) e rest w raws h = possible_at count ds e rest (world_step w d) (left_by d raws) h.1
+possible_at : (count : ℕ) (es : List Event) (e : Event) (rest : List Event) (w : World) (raws : List (List ℕ)) (met : List (Option Armed)) → ArePossible count w (es ++ e ∷ rest) raws met
+    → IsPossible count (run_on w es) e (first_of (left_behind es raws)) (next_met (drop (length es) met))
+possible_at count [] e rest w raws met h = h.0
+possible_at count (d ∷ ds) e rest w raws met h =
+    let one : 1 + length ds ≡ suc (length ds) = omega arith in
+    let more : drop (length ds) (drop 1 met) ≡ drop (suc (length ds)) met = drop-drop (length ds) 1 met ∙ ap (λ n. drop n met) one in
+    subst (λ m. IsPossible count (run_on (world_step w d) ds) e (first_of (left_behind ds (left_by d raws))) (next_met m)) more
+    (possible_at count ds e rest (world_step w d) (left_by d raws) (drop 1 met) h.1)
 
 -- the last net mirrors the last world
 ended : (count : ℕ) (net : Seen) (w : World) (es : List Event) (raws : List (List ℕ)) (last : Seen) → NetRun count net w es raws last → MirrorsAt count last (run_on w es)
@@ -72,18 +77,21 @@ module _ (count : ℕ) (begin : Seen) (w : World) (events : List WorldEvent) (ra
   done place brought net past at = subst (λ es. NetRun count begin w (map event_of es) raws net) (take_all place events past) at.run
 
   -- where all are possible, an event that isn't done would be one that can't be
-  pub isnt_apart : (place brought : ℕ) (e : WorldEvent) (net : Seen) (raw : List ℕ) → place < length events → e ≡ get_or events place e → Until place brought net → raw ≡ first_of (drop brought raws)
-      → ArePossible count w (map event_of events) raws → ((v : World) → MirrorsAt count net v → IsPossible count v (event_of e) raw → ⊥) → ⊥
-  isnt_apart place brought e net raw within is at first all none =
+  pub isnt_apart : (met : List (Option Armed)) (place brought : ℕ) (e : WorldEvent) (net : Seen) (raw : List ℕ) → place < length events → e ≡ get_or events place e → Until place brought net
+      → raw ≡ first_of (drop brought raws) → ArePossible count w (map event_of events) raws met
+      → ((v : World) → MirrorsAt count net v → IsPossible count v (event_of e) raw (next_met (drop place met)) → ⊥) → ⊥
+  isnt_apart met place brought e net raw within is at first all none =
       let es = map event_of (take place events) in
       let here : drop place events ≡ e ∷ drop (place + 1) events =
       drop-cons events place e within ∙ (ap (λ y. y ∷ drop (suc place) events) (sym is) ∙ ap (λ m. e ∷ drop m events) (sym (add-one place))) in
       let split : map event_of events ≡ es ++ event_of e ∷ map event_of (drop (place + 1) events) =
       ap (map event_of) (sym (take-append-drop place events) ∙ ap (λ l. take place events ++ l) here) ∙ map-append event_of (take place events) (e ∷ drop (place + 1) events) in
       let given : raw ≡ first_of (left_behind es raws) = first ∙ ap first_of at.left in
+      let many : length es ≡ place = length-map (take place events) event_of ∙ length-take-le place events (omega (arith, within)) in
       none (run_on w es) (ended count begin w es raws net at.run)
-      (subst (λ r. IsPossible count (run_on w es) (event_of e) r) (sym given)
-      (possible_at count es (event_of e) (map event_of (drop (place + 1) events)) w raws (subst (λ l. ArePossible count w l raws) split all)))
+      (subst (λ n. IsPossible count (run_on w es) (event_of e) raw (next_met (drop n met))) many
+      (subst (λ r. IsPossible count (run_on w es) (event_of e) r (next_met (drop (length es) met))) (sym given)
+      (possible_at count es (event_of e) (map event_of (drop (place + 1) events)) w raws met (subst (λ l. ArePossible count w l raws met) split all))))
 
   pub fills : (place brought : ℕ) (e : WorldEvent) (net : Seen) → place < length events → e ≡ get_or events place e → Until place brought net → IsFullAt (node_of (event_of e)) net.hosts
       → FillsUp count begin w (map event_of events) raws
@@ -122,6 +130,21 @@ none_there (suc place) [] e = refl
 none_there zero (r ∷ rs) e = absurd cc
 none_there (suc place) (r ∷ rs) e = none_there place rs e
 
+-- the armed call at a place
+pub met_there : (place : ℕ) (met : List (Option Armed)) (a : Option Armed) → slice_get met place ≡ Some a → a ≡ next_met (drop place met)
+met_there place [] a e = absurd cc
+met_there zero (m ∷ ms) a e = by e
+  where
+    by : Some m ≡ Some a → a ≡ m
+    by f = cc
+met_there (suc place) (m ∷ ms) a e = met_there place ms a e
+
+pub met_none : (place : ℕ) (met : List (Option Armed)) → slice_get met place ≡ None → None ≡ next_met (drop place met)
+met_none zero [] e = refl
+met_none (suc place) [] e = refl
+met_none zero (m ∷ ms) e = absurd cc
+met_none (suc place) (m ∷ ms) e = met_none place ms e
+
 -- the number of nodes is that of the world
 pub counted : (count : ℕ) (events es : List Event) (raws : List (List ℕ)) (w : World) (first last : Seen) → w ≡ run_of (example_hosts count) events → events ≡ es → IsUnstarted count first
     → NetRun count first (opening (example_hosts count)) events raws last → IsNetRun (length w.nodes) w es raws last
@@ -136,10 +159,10 @@ counted count events es raws w first last is same unstarted run =
     }))
 
 -- the same of the events that are to be done to them
-pub of_count : (count : ℕ) (events : List WorldEvent) (es : List Event) (raws : List (List ℕ)) (w : World) → w ≡ run_of (example_hosts count) (map event_of events) → map event_of events ≡ es
-    → length events ≤ 4294967295 → (length es ≤ 4294967295 → ArePossible (length w.nodes) (opening (example_hosts (length w.nodes))) es raws)
-    → ArePossible count (opening (example_hosts count)) (map event_of events) raws
-of_count count events es raws w is same few all =
+pub of_count : (count : ℕ) (events : List WorldEvent) (es : List Event) (raws : List (List ℕ)) (met : List (Option Armed)) (w : World) → w ≡ run_of (example_hosts count) (map event_of events) → map event_of events ≡ es
+    → length events ≤ 4294967295 → (length es ≤ 4294967295 → ArePossible (length w.nodes) (opening (example_hosts (length w.nodes))) es raws met)
+    → ArePossible count (opening (example_hosts count)) (map event_of events) raws met
+of_count count events es raws met w is same few all =
     let many : length w.nodes ≡ count = run_length (example_hosts count) w (record { events = map event_of events; is = is }) in
     let within : length es ≤ 4294967295 = subst (λ (l : List Event). length l ≤ 4294967295) same (subst (λ n. n ≤ 4294967295) (sym (length-map events event_of)) few) in
-    subst (λ l. ArePossible count (opening (example_hosts count)) l raws) (sym same) (subst (λ n. ArePossible n (opening (example_hosts n)) es raws) many (all within))
+    subst (λ l. ArePossible count (opening (example_hosts count)) l raws met) (sym same) (subst (λ n. ArePossible n (opening (example_hosts n)) es raws met) many (all within))

@@ -6,8 +6,8 @@ use Rattle.memory_net.specs.Mails.{mail_of}
 use Rattle.mirrored_nets.specs.Seen.{Seen}
 use Rattle.raw_requests.specs.declared.Drawn.{Drawn}
 use Rattle.replay_cmd.specs.EventCounts.{HasTooManyEvents}
-use Rattle.possible_courses.specs.PossibleCourses.{CoursesArePossible}
-use Rattle.possible_courses.specs.ScheduleLines.{AreCalm, AreWithin}
+use Rattle.possible_courses.specs.PossibleCourses.{CoursesArePossible, IsPossibleCourse}
+use Rattle.possible_courses.specs.ScheduleLines.{AreWithin}
 use Rattle.possible_events.specs.PossibleEvents.{ArePossible}
 use Rattle.replay_cmd.specs.Laws.{AreDrawn, IsReplayable, ReportsAreSafe}
 use Rattle.replay_cmd.specs.ReportOf.{Course, course_with, nodes_of, whole}
@@ -33,14 +33,13 @@ pub takes_too_many : (options : Options) (all : List Line) (draws : List (Option
 takes_too_many options all draws are many =
     record { course = course_with options.settle draws all; of = record { draws = draws; are = are; is = refl }; many = many }
 
--- the events of a schedule that arms no call and brings no bytes can be done
-pub possible : ReportsAreSafe → CoursesArePossible → (options : Options) (all : List Line) (c : Course) → IsReplayable all → IsCourseOf options all c → AreWithin (nodes_of all) all → AreCalm all
-    → length c.events ≤ 4294967295 → ArePossible (length c.world.nodes) (opening (example_hosts (length c.world.nodes))) c.events c.raws
-possible safe law options all c replayable of within calm few =
+-- the events of a schedule can be done
+pub possible : ReportsAreSafe → CoursesArePossible → (options : Options) (all : List Line) (c : Course) → IsReplayable all → IsCourseOf options all c → AreWithin (nodes_of all) all
+    → length c.events ≤ 4294967295 → ArePossible (length c.world.nodes) (opening (example_hosts (length c.world.nodes))) c.events c.raws c.met
+possible safe law options all c replayable of within few =
     let D = course_with options.settle of.draws all in
     let run = (safe options.settle of.draws all replayable).of_run in
     let many : length D.world.nodes ≡ nodes_of all = run_length (example_hosts (nodes_of all)) D.world (record { events = run.events; is = run.run }) in
-    let done : ArePossible (nodes_of all) (opening (example_hosts (nodes_of all))) D.events D.raws =
-    law options.settle of.draws all D.raws replayable within calm (subst (λ (x : Course). length x.events ≤ 4294967295) of.is few) in
-    subst (λ (x : Course). ArePossible (length x.world.nodes) (opening (example_hosts (length x.world.nodes))) x.events x.raws) (sym of.is)
-    (subst (λ n. ArePossible n (opening (example_hosts n)) D.events D.raws) (sym many) done)
+    let done : IsPossibleCourse (nodes_of all) D =
+    law options.settle of.draws all replayable within of.are (subst (λ (x : Course). length x.events ≤ 4294967295) of.is few) in
+    subst (λ (x : Course). IsPossibleCourse (length x.world.nodes) x) (sym of.is) (subst (λ n. IsPossibleCourse n D) (sym many) done)

@@ -1,17 +1,16 @@
 //! `replay`, over nodes that serve.
 
-ghost use Rattle.std.specs.Prelude.{◌≡◌, [], IfErr, IfOk, List, Option, map};
+ghost use Rattle.std.specs.Prelude.{◌≡◌, IfErr, IfOk, List, Option, map};
 ghost use Rattle.memory_net.specs.Mails.{mail_of};
 ghost use Rattle.net_replay.specs.MessageBytes.{shown};
 ghost use Rattle.net_replay.specs.NetReports.{HasNoRoom, IsCourseOf, IsNetReport, TakesTooManyEvents};
-ghost use Rattle.net_replay.specs.declared.replay_error.ReplayError.TheVariants.{Apart, Full, TooManyEvents};
-ghost use Rattle.possible_courses.specs.ScheduleLines.{AreCalm, AreWithin};
+ghost use Rattle.net_replay.specs.declared.replay_error.ReplayError.TheVariants.{Full, TooManyEvents};
+ghost use Rattle.possible_courses.specs.ScheduleLines.{AreWithin};
 ghost use Rattle.raw_requests.specs.declared.Drawn.{Drawn as Drew};
 ghost use Rattle.replay_cmd.specs.Laws.{ComesToRest, IsReplayable, IsSafe};
 ghost use Rattle.replay_cmd.specs.ReportOf.{nodes_of, whole, world_with};
 ghost use Rattle.settlement.specs.declared.run_error.RunError.TheVariants as run_errors;
 
-use crate::calm_lines::are_calm;
 use crate::followed::followed;
 use crate::message_bytes::shown;
 use crate::replay_error::ReplayError;
@@ -21,7 +20,6 @@ use mirrored_nets::net::Net;
 use possible_courses::laws::courses_are_possible;
 use replay_cmd::course::Course;
 use replay_cmd::draws::draw_all;
-use replay_cmd::fault::Armed;
 use replay_cmd::laws::{reports_are_safe, reports_come_to_rest};
 use replay_cmd::lines::Lines;
 use replay_cmd::options::Options;
@@ -48,17 +46,6 @@ fn play(alloc: Global, schedule: &Schedule, options: Options) -> Result<Course, 
     Ok(course)
 }
 
-/// For each event of a course which call was armed at its node; none where no line of its schedule arms one.
-fn met_in<'a>(schedule: &Schedule, course: &'a Course) -> &'a [Option<Armed>]
-    ensures { AreCalm schedule.now → result.now ≡ [] }
-{
-    if are_calm(schedule.as_slice()) {
-        &[]
-    } else {
-        course.met()
-    }
-}
-
 /// What is printed of a course whose messages are these letters.
 fn print(
     alloc: Global,
@@ -74,11 +61,11 @@ fn print(
 
 #[tactic(auto, using(crate::proofs::ReportedNets::is_report, crate::proofs::ReportedNets::has_no_room, crate::proofs::ReportedNets::possible))]
 fn with_nodes(alloc: Global, schedule: &Schedule, options: Options) -> Result<Replayed, ReplayError>
-    requires { IsReplayable schedule.now }
+    requires replayable { IsReplayable schedule.now }
+    requires within { AreWithin (nodes_of schedule.now) schedule.now }
     ensures report { IfOk result (λ r. IsNetReport options schedule.now r.lines r.net) }
     ensures full { IfErr result (λ e. e ≡ Full → HasNoRoom options schedule.now) }
     ensures many { IfErr result (λ e. e ≡ TooManyEvents → TakesTooManyEvents options schedule.now) }
-    ensures apart { IfErr result (λ e. e ≡ Apart → AreWithin (nodes_of schedule.now) schedule.now → AreCalm schedule.now → ⊥) }
 {
     courses_are_possible();
     reports_are_safe();
@@ -87,11 +74,11 @@ fn with_nodes(alloc: Global, schedule: &Schedule, options: Options) -> Result<Re
         Err(RunError::NoMemory) => return Err(ReplayError::NoMemory),
         Err(RunError::TooManyEvents) => return Err(ReplayError::TooManyEvents),
     };
-    let net = match followed(alloc, &course, met_in(schedule, &course)) {
+    let net = match followed(alloc, &course) {
         Ok(net) => net,
         Err(Fault::NoMemory) => return Err(ReplayError::NoMemory),
         Err(Fault::Full) => return Err(ReplayError::Full),
-        Err(Fault::Apart) => return Err(ReplayError::Apart),
+        Err(Fault::Apart) => unreachable!(),
     };
     match print(alloc, course, net.letters(), options.bytes) {
         Ok(lines) => Ok(Replayed { lines, net }),
@@ -106,11 +93,11 @@ fn with_nodes(alloc: Global, schedule: &Schedule, options: Options) -> Result<Re
 /// With `settle` the events that bring the world to rest happen behind the last line, and are reported as others are. Behind them
 /// nobody is in doubt (`rests`). With `bytes` the bytes by which each message was posted stand behind its line, in hexadecimal.
 pub fn replay(alloc: Global, schedule: &Schedule, options: Options) -> Result<Replayed, ReplayError>
-    requires { IsReplayable schedule.now }
+    requires replayable { IsReplayable schedule.now }
+    requires within { AreWithin (nodes_of schedule.now) schedule.now }
     ensures report { IfOk result (λ r. IsNetReport options schedule.now r.lines r.net) }
     ensures full { IfErr result (λ e. e ≡ Full → HasNoRoom options schedule.now) }
     ensures many { IfErr result (λ e. e ≡ TooManyEvents → TakesTooManyEvents options schedule.now) }
-    ensures apart { IfErr result (λ e. e ≡ Apart → AreWithin (nodes_of schedule.now) schedule.now → AreCalm schedule.now → ⊥) }
     ensures safe { (draws : List (Option Drew)) → IsSafe (nodes_of schedule.now) (world_with options.settle draws schedule.now) }
     ensures rests { (draws : List (Option Drew)) → ComesToRest draws schedule.now }
 {

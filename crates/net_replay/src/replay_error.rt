@@ -9,6 +9,4 @@ pub enum ReplayError {
     TooManyEvents,
     /// The journal of a node has no room for another record.
     Full,
-    /// A node didn't do what an event asks of it.
-    Apart,
 }

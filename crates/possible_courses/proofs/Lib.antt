@@ -1,4 +1,7 @@
 mod ReadLines
 mod PossibleRuns
 mod PossibleRests
+mod Incarnations
+mod StartedNodes
+mod ArmedEvents
 mod PossibleLines

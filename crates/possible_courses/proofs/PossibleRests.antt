@@ -1,20 +1,22 @@
 -- The events that bring a world to rest are possible where they come.
-use Rattle.std.proofs.Common.{ℕ, zero, suc, ◌+◌, ◌<◌, ◌≤◌, ◌≡◌, refl, List, [], ◌∷◌, ◌++◌, length, drop, ap, ◌∙◌, sym, subst, arith}
+use Rattle.std.proofs.Common.{ℕ, zero, suc, ◌+◌, ◌<◌, ◌≤◌, ◌≡◌, false, refl, List, [], ◌∷◌, ◌++◌, length, drop, ap, ◌∙◌, sym, subst, arith}
 use Rattle.std.specs.Prelude.{Option, Some, None}
 use Rattle.std.proofs.lemmas.List.{append-nil, append_assoc}
+use Rattle.armed_calls.specs.declared.fault.Armed.{Armed}
 use Rattle.at_base.specs.declared.limits.TheConstants.{RESEND_AFTER}
 use Rattle.at_model.specs.Book.{Book}
 use Rattle.at_model.specs.World.{Node, Posted, World, WorldEvent, example_hosts, nth}
 use Rattle.at_model.specs.Views.{deliver_to, tick_at, up}
 use Rattle.model_laws.specs.Order.{IdsRise}
 use Rattle.model_laws.specs.Settlement.{Settling, all_also, all_up, also, deliver_next, deliveries_from, first_received, most_deliveries, settle, settle_from, settle_round, settle_rounds, settled, ticks, up_if, ups, waiting}
+use Rattle.possible_events.specs.BroughtBytes.{is_raw}
 use Rattle.schedules.specs.Values.{largest}
 use Rattle.settled.proofs.CalmTurns.{FirstAt, first_at}
 use Rattle.settling.proofs.Places.{nth_drop}
 use Rattle.settling.proofs.Runs.{run_length}
 use Rattle.world_laws.specs.Moves.{ChangesByMoves, seen}
 use Rattle.world_laws.specs.Runs.{IsFit}
-use Rattle.possible_courses.proofs.PossibleRuns.{WerePossible, MayCome, IsPossibleRun, delivery_comes, step_possible, tick_comes, up_comes}
+use Rattle.possible_courses.proofs.PossibleRuns.{IsPossibleRun, MayCome, WerePossible, calm_delivery, calm_tick, calm_up, step_without}
 
 -- the first message that has a receiver
 record IsReceived (ps : List Posted) (k n : ℕ) : Type 0 where
@@ -32,16 +34,27 @@ next_is passed ps k n e =
       receiver = f.receiver;
     }
 
-module _ (count : ℕ) (raws : List (List ℕ)) (ids : IdsRise) (moves : ChangesByMoves) (front : List WorldEvent) where
+-- no call comes in any of these
+abbrev pub none_in : List WorldEvent → List (Option Armed)
+none_in [] = []
+none_in (e ∷ es) = None ∷ none_in es
+
+none_more : (met : List (Option Armed)) (es : List WorldEvent) (e : WorldEvent) → (met ++ none_in es) ++ None ∷ [] ≡ met ++ none_in (es ++ e ∷ [])
+none_more [] [] e = refl
+none_more [] (x ∷ es) e = ap (λ l. None ∷ l) (none_more [] es e)
+none_more (m ∷ ms) es e = ap (λ l. m ∷ l) (none_more ms es e)
+
+module _ (count : ℕ) (ids : IdsRise) (moves : ChangesByMoves) (front : List WorldEvent) (raws : List (List ℕ)) (met : List (Option Armed)) where
   -- behind the events before it began
   abbrev IsOn : Settling → Type 0
-  IsOn s = IsPossibleRun count raws s.world (front ++ s.events)
+  IsOn s = IsPossibleRun count s.world (front ++ s.events) raws (met ++ none_in s.events)
 
-  also_on : (e : WorldEvent) (s : Settling) → IsOn s
-      → (length (front ++ s.events) < largest → IsFit (length (front ++ s.events)) (seen s.world) → MayCome count s.world e) → IsOn (also e s)
-  also_on e s h may =
-      subst (IsPossibleRun count raws (also e s).world) (append_assoc front s.events (e ∷ []))
-      (step_possible count raws ids moves s.world (front ++ s.events) e h may)
+  also_on : (e : WorldEvent) (s : Settling) → IsOn s → is_raw e ≡ false
+      → (length (front ++ s.events) < largest → IsFit (length (front ++ s.events)) (seen s.world) → MayCome count s.world e [] None) → IsOn (also e s)
+  also_on e s h none may =
+      subst (λ all. IsPossibleRun count (also e s).world (front ++ (s.events ++ e ∷ [])) raws all) (none_more met s.events e)
+      (subst (λ es. IsPossibleRun count (also e s).world es raws ((met ++ none_in s.events) ++ None ∷ [])) (append_assoc front s.events (e ∷ []))
+      (step_without count ids moves s.world (front ++ s.events) e raws (met ++ none_in s.events) None h none may))
 
   nodes_on : (s : Settling) → IsOn s → length s.world.nodes ≡ count
   nodes_on s h = run_length (example_hosts count) s.world (record { events = front ++ s.events; is = h.run })
@@ -51,15 +64,15 @@ module _ (count : ℕ) (raws : List (List ℕ)) (ids : IdsRise) (moves : Changes
   ups_on n (x ∷ xs) s least most h = by_book x.book (λ t k. ups_on (n + 1) xs t (omega arith) (omega (arith, most)) k)
     where
       by_book : (o : Option Book) → ((t : Settling) → IsOn t → IsOn (all_also (ups (n + 1) xs) t)) → IsOn (all_also (up_if n o ++ ups (n + 1) xs) s)
-      by_book None rest = rest (also (up n) s) (also_on (up n) s h (λ few fit. up_comes count s.world n (least, omega (arith, most))))
+      by_book None rest = rest (also (up n) s) (also_on (up n) s h refl (λ few fit. calm_up count s.world n (least, omega (arith, most))))
       by_book (Some b) rest = rest s h
 
   ticks_on : (n : ℕ) (xs : List Node) (s : Settling) → 1 ≤ n → n + length xs ≤ count + 1 → IsOn s → IsOn (all_also (ticks n xs) s)
   ticks_on n [] s least most h = h
   ticks_on n (x ∷ xs) s least most h =
       ticks_on (n + 1) xs (also (tick_at n RESEND_AFTER) s) (omega arith) (omega (arith, most))
-      (also_on (tick_at n RESEND_AFTER) s h
-      (λ few fit. tick_comes count s.world n RESEND_AFTER (length (front ++ s.events)) (least, omega (arith, most)) (omega arith) few fit))
+      (also_on (tick_at n RESEND_AFTER) s h refl
+      (λ few fit. calm_tick count s.world n RESEND_AFTER (length (front ++ s.events)) (least, omega (arith, most)) (omega arith) few fit))
 
   deliveries_on : (most passed : ℕ) (s : Settling) → IsOn s → IsOn (deliveries_from most passed s)
   unfolding deliveries_from
@@ -73,7 +86,7 @@ module _ (count : ℕ) (raws : List (List ℕ)) (ids : IdsRise) (moves : Changes
       by_next rest (Some p) e =
           let f : IsReceived s.world.posted p.0 p.1 = next_is passed s.world.posted p.0 p.1 e in
           rest p.0 (also (deliver_to p.1 p.0) s)
-          (also_on (deliver_to p.1 p.0) s h (λ few fit. delivery_comes count raws s.world (front ++ s.events) h p.0 f.post f.at p.1 f.receiver))
+          (also_on (deliver_to p.1 p.0) s h refl (λ few fit. calm_delivery count s.world (front ++ s.events) h.run p.0 f.post f.at p.1 f.receiver))
 
   round_on : (most : ℕ) (s : Settling) → IsOn s → IsOn (settle_round most s)
   unfolding settle_round
@@ -92,6 +105,8 @@ module _ (count : ℕ) (raws : List (List ℕ)) (ids : IdsRise) (moves : Changes
       rounds_on 8 (most_deliveries (waiting (all_up w).world)) (all_up w)
       (ups_on 1 w.nodes (record { world = w; events = [] }) (omega arith) (omega (arith, nodes_on (record { world = w; events = [] }) h)) h)
 
-  pub settle_possible : (w : World) → IsPossibleRun count raws w front → (length (front ++ settle w) ≤ largest) → WerePossible count raws (settled w).world (front ++ settle w)
+  pub settle_possible : (w : World) → IsPossibleRun count w front raws met → length (front ++ settle w) ≤ largest
+      → WerePossible count (settled w).world (front ++ settle w) raws (met ++ none_in (settle w))
   unfolding settle
-  settle_possible w h few = (settled_on w (subst (IsPossibleRun count raws w) (sym (append-nil front)) h)).were few
+  settle_possible w h few =
+      (settled_on w (subst (λ all. IsPossibleRun count w (front ++ []) raws all) (sym (append-nil met)) (subst (λ es. IsPossibleRun count w es raws met) (sym (append-nil front)) h))).were few

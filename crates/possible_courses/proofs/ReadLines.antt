@@ -8,7 +8,7 @@ use Rattle.schedules.specs.declared.line.Cause.{Cause}
 use Rattle.schedules.specs.declared.line.Cause.TheVariants as causes
 use Rattle.schedules.specs.declared.line.Line.{Line}
 use Rattle.schedules.specs.declared.line.Line.TheVariants as lines
-use Rattle.schedules.specs.LineTexts.{IsNode}
+use Rattle.schedules.specs.LineTexts.{IsCall, IsNode}
 use Rattle.schedules.specs.Meanings.{◌>>=◌, begin_line, commit_line, crash_line, deliver_line, fail_line, filled, flush_line, inject_line, interpose_line, meaning, rollback_line, stop_filled, stop_line, stop_so, tick_line, up_line, work_line}
 use Rattle.schedules.specs.Schedules.{at_line, first_line, lines_from, next_line, next_words, schedule_in}
 use Rattle.schedules.specs.Values.{call_in, decimal_of, hex_in, id_in, kind_in, largest, leaves_in, node_in, number_in, vote_in, within}
@@ -45,6 +45,10 @@ module _ (count : ℕ) where
   -- a line that begins with its node
   at_node : (word : List ℕ) (next : ℕ → Result Line Cause) → ((n : ℕ) → IsNode count n → Within (next n)) → Within (node_in count word >>= next)
   at_node word next h = behind (IsWithin count) (node_in count word) next (λ n e. h n (number 1 count word n e))
+
+  -- and one that names a call
+  with_call : (word : List ℕ) (next : ℕ → Result Line Cause) → ((k : ℕ) → IsCall k → Within (next k)) → Within (call_in word >>= next)
+  with_call word next h = behind (IsWithin count) (call_in word) next (λ k e. h k (number 1 1000000 word k e))
 
   then_ : {A : Type 0} (first : Result A Cause) (next : A → Result Line Cause) → ((a : A) → Within (next a)) → Within (first >>= next)
   then_ first next h = behind (IsWithin count) first next (λ a e. h a)
@@ -114,13 +118,13 @@ module _ (count : ℕ) where
   so_within : (i k w : List ℕ) → Within (stop_so count i k w)
   so_within i k w =
       either (IsWithin count) (bytes_eq w (codes "fill")) (Err causes.WordCount) _ tt
-      (at_node i _ (λ n h. then_ (call_in k) _ (λ call. then_ (leaves_in w) _ (λ left. h))))
+      (at_node i _ (λ n h. with_call k _ (λ call j. then_ (leaves_in w) _ (λ left. (h, j)))))
 
   filled_within : (i k w b : List ℕ) → Within (stop_filled count i k w b)
   filled_within i k w b =
       either (IsWithin count) (bytes_eq w (codes "keep") || bytes_eq w (codes "drop")) (Err causes.WordCount) _ tt
-      (at_node i _ (λ n h. then_ (call_in k) _ (λ call.
-      either (IsWithin count) (bytes_eq w (codes "fill")) (filled n call b) (Err causes.Keyword) (then_ (number_in 0 255 b) _ (λ byte. h)) tt)))
+      (at_node i _ (λ n h. with_call k _ (λ call j.
+      either (IsWithin count) (bytes_eq w (codes "fill")) (filled n call b) (Err causes.Keyword) (then_ (number_in 0 255 b) _ (λ byte. (h, j))) tt)))
 
   stop_within : (ws : List (List ℕ)) → Within (stop_line count ws)
   stop_within (i ∷ k ∷ w ∷ []) = so_within i k w
@@ -131,7 +135,7 @@ module _ (count : ℕ) where
   stop_within (i ∷ k ∷ w ∷ b ∷ x ∷ more) = tt
 
   fail_within : (ws : List (List ℕ)) → Within (fail_line count ws)
-  fail_within (i ∷ k ∷ []) = at_node i _ (λ n h. then_ (call_in k) _ (λ call. h))
+  fail_within (i ∷ k ∷ []) = at_node i _ (λ n h. with_call k _ (λ call j. (h, j)))
   fail_within [] = tt
   fail_within (i ∷ []) = tt
   fail_within (i ∷ k ∷ x ∷ more) = tt

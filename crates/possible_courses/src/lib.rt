@@ -1,4 +1,4 @@
-//! Laws alone: the events of a schedule that arms no call are possible where they come.
+//! Laws alone: the events of a schedule are possible where they come.
 #![tactic(auto)]
 
 pub mod laws;

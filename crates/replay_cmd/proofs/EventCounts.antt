@@ -1,5 +1,5 @@
 -- How many events a replay has, line by line.
-use Rattle.std.proofs.Common.{ℕ, zero, suc, ◌+◌, ◌-◌, ◌*◌, ◌%◌, ◌≡◌, ◌≤◌, ◌<◌, refl, List, [], ◌∷◌, ◌++◌, Bool, true, false, length, map, drop, drop-cons, get_or, add-one, ap, ◌∙◌, arith, sym, subst}
+use Rattle.std.proofs.Common.{ℕ, zero, suc, ◌+◌, ◌-◌, ◌*◌, ◌%◌, ◌≡◌, ◌≤◌, ◌<◌, List, [], ◌∷◌, ◌++◌, Bool, true, false, length, map, drop, drop-cons, get_or, ap, ◌∙◌, arith, sym, subst}
 use Rattle.std.proofs.lemmas.List.{length-append, length-map}
 use Rattle.std.specs.Prelude.{Option, Some, None, if◌then◌else◌, nat_eq, nat_lt, option_map}
 use Rattle.at_base.specs.declared.event.Local.TheVariants as locals
@@ -14,10 +14,10 @@ use Rattle.schedules.specs.declared.line.Line.TheVariants as lines
 use Rattle.world_laws.specs.Events.{event_of}
 use Rattle.world_laws.specs.Firsts.{first_records}
 use Rattle.world_laws.specs.declared.event.WorldEvent.{WorldEvent as Given}
-use Rattle.replay_cmd.specs.declared.fault.Armed.{Armed}
+use Rattle.armed_calls.specs.declared.fault.Armed.{Armed}
 use Rattle.replay_cmd.specs.Deliveries.{lowest, yes_at}
 use Rattle.replay_cmd.specs.EventCounts.{HasTooManyEvents}
-use Rattle.replay_cmd.specs.Faults.{struck}
+use Rattle.armed_calls.specs.Faults.{struck}
 use Rattle.replay_cmd.specs.ReportOf.{Course, all_happen, all_taken, all_up, armed_at, begun, comes, comes_to, comes_to_rest, course_of, course_with, delivered_to, delivers, delivers_lowest, delivers_where, flushes, happens, nobody_armed, nodes_of, quiet, receiver_in, taken}
 use Rattle.replay_cmd.proofs.Loops.{flush_more, up_more}
 use Rattle.replay_cmd.proofs.ReplayRuns.{all_on, flush_on, happen_on, up_on}
@@ -42,15 +42,15 @@ flush_many m t k c first within found same many =
     subst HasTooManyEvents (sym (flush_more m t k c within found) ∙ same) (flush_on IsMore more (m - (t + 1)) (delivers k c) many)
 
 pub up_many : (m p : ℕ) (c first : Course) → p < m → all_up (m - p) (p + 1) c ≡ all_up m 1 first
-    → HasTooManyEvents (happens None (up (p + 1)) c) → HasTooManyEvents (all_up m 1 first)
+    → HasTooManyEvents (happens (up (p + 1)) c) → HasTooManyEvents (all_up m 1 first)
 up_many m p c first within same many =
-    subst HasTooManyEvents (sym (up_more m p c within) ∙ same) (up_on IsMore more (m - (p + 1)) (p + 1 + 1) (happens None (up (p + 1)) c) many)
+    subst HasTooManyEvents (sym (up_more m p c within) ∙ same) (up_on IsMore more (m - (p + 1)) (p + 1 + 1) (happens (up (p + 1)) c) many)
 
 pub happen_many : (all behind next : List Given) (e : Given) (c first : Course) → behind ≡ e ∷ next → all_happen (map event_of behind) c ≡ all_happen (map event_of all) first
-    → HasTooManyEvents (happens None (event_of e) c) → HasTooManyEvents (all_happen (map event_of all) first)
+    → HasTooManyEvents (happens (event_of e) c) → HasTooManyEvents (all_happen (map event_of all) first)
 happen_many all behind next e c first here same many =
     subst HasTooManyEvents (sym (ap (λ (l : List Given). all_happen (map event_of l) c) here) ∙ same)
-    (happen_on IsMore more (map event_of next) (happens None (event_of e) c) many)
+    (happen_on IsMore more (map event_of next) (happens (event_of e) c) many)
 
 pub take_many : (p : ℕ) (draws : List (Option Drawn)) (all : List Line) (d : Option Drawn) (line : Line) (c first : Course) → p < length draws → p < length all
     → d ≡ get_or draws p d → line ≡ get_or all p line → all_taken (drop p draws) (drop p all) c ≡ all_taken draws all first
@@ -64,7 +64,7 @@ take_many p draws all d line c first within in_lines is_draw is_line same many =
 
 happened_length : (es : List WorldEvent) (c : Course) → length (all_happen es c).events ≡ length c.events + length es
 happened_length [] c = omega arith
-happened_length (e ∷ es) c = omega (arith, happened_length es (happens None e c), length-append c.events (e ∷ []))
+happened_length (e ∷ es) c = omega (arith, happened_length es (happens e c), length-append c.events (e ∷ []))
 
 pub rest_many : (events : List Given) (c : Course) → c.events ≡ map event_of events → 4294967295 < length events + length (settle c.world)
     → HasTooManyEvents (comes_to_rest c)
@@ -156,11 +156,11 @@ all_count (suc count) x c =
 
 up_count : (left n : ℕ) (c : Course) → length (all_up left n c).events ≡ length c.events + left
 up_count zero n c = omega arith
-up_count (suc left) n c = omega (arith, up_count left (n + 1) (happens None (up n) c), length-append c.events (up n ∷ []))
+up_count (suc left) n c = omega (arith, up_count left (n + 1) (happens (up n) c), length-append c.events (up n ∷ []))
 
 few_made : (seed steps : ℕ) → steps ≤ 9999 → HasTooManyEvents (course_of (quiet (made seed steps)) (made seed steps)) → ⊥
 few_made seed steps h many =
-    omega (arith, h, many, all_count steps seed (begun 4), up_count 4 1 (record { world = opening (example_hosts 4); events = []; delivered = []; armed = nobody_armed; raws = []; text = [] }))
+    omega (arith, h, many, all_count steps seed (begun 4), up_count 4 1 (record { world = opening (example_hosts 4); events = []; delivered = []; armed = nobody_armed; raws = []; met = []; text = [] }))
 
 pub made_few : (seed steps : ℕ) (draws : List (Option Drawn)) (all : List Line) → all ≡ made seed steps → draws ≡ quiet all → steps ≤ 9999
     → HasTooManyEvents (course_of draws all) → ⊥

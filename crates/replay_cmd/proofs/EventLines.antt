@@ -6,7 +6,7 @@ use Rattle.at_base.specs.declared.outs.Effect.{Effect}
 use Rattle.at_model.specs.World.{World, WorldEvent, Raw, Deliver, Tick, Turn, Ask, Crash, Up, node_of, world_step}
 use Rattle.world_laws.specs.Moves.{losses_of, steps_of}
 use Rattle.world_laws.specs.declared.posts.Counted.{Counted}
-use Rattle.replay_cmd.specs.declared.fault.Fault.{Fault}
+use Rattle.armed_calls.specs.declared.fault.Fault.{Fault}
 use Rattle.replay_cmd.specs.ReportOf.{Course, behind_of, effect_lines, event_lines, line_before, line_behind, result_line, step_lines}
 
 two_parts :

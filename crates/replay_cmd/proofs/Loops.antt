@@ -38,5 +38,5 @@ flush_none (suc m) c e = ap (λ o. flushes m (delivers_where o c)) (sym e) ∙ f
 
 pub up_more :
     (m p : ℕ) (c : Course) → p < m
-    → all_up (m - p) (p + 1) c ≡ all_up (m - (p + 1)) (p + 1 + 1) (happens None (up (p + 1)) c)
+    → all_up (m - p) (p + 1) c ≡ all_up (m - (p + 1)) (p + 1 + 1) (happens (up (p + 1)) c)
 up_more m p c h = let d : m - p ≡ suc (m - (p + 1)) = omega arith in rw d refl

@@ -12,9 +12,9 @@ use Rattle.schedules.specs.declared.line.Line.{Line}
 use Rattle.schedules.specs.declared.line.Line.TheVariants as lines
 use Rattle.world_laws.specs.Firsts.{first_records}
 use Rattle.world_laws.specs.Runs.{incarnation_at}
-use Rattle.replay_cmd.specs.declared.fault.Armed.{Armed}
+use Rattle.armed_calls.specs.declared.fault.Armed.{Armed}
 use Rattle.replay_cmd.specs.Deliveries.{lowest, yes_at}
-use Rattle.replay_cmd.specs.Faults.{raw_at, still_armed, struck, struck_line}
+use Rattle.armed_calls.specs.Faults.{raw_at, still_armed, struck, struck_line}
 use Rattle.replay_cmd.specs.ReportOf.{Course, all_happen, all_taken, all_up, armed_at, begun, brings, comes, comes_behind_line, comes_by_line, comes_to, delivered_to, delivers_lowest, delivers_where, flushes, happens, injects_where, nobody_armed, nodes_of, raw_comes, receiver_in, taken, world_of}
 use Rattle.replay_cmd.specs.Laws.{IsOfRun, IsReplayable}
 
@@ -95,11 +95,11 @@ module _ (P : World → List WorldEvent → Type 0) (step : (w : World) (es : Li
 
   pub up_on : (left n : ℕ) (c : Course) → Holds c → Holds (all_up left n c)
   up_on zero n c r = r
-  up_on (suc left) n c r = up_on left (n + 1) (happens None (up n) c) (step c.world c.events (up n) r)
+  up_on (suc left) n c r = up_on left (n + 1) (happens (up n) c) (step c.world c.events (up n) r)
 
   pub happen_on : (es : List WorldEvent) (c : Course) → Holds c → Holds (all_happen es c)
   happen_on [] c r = r
-  happen_on (e ∷ es) c r = happen_on es (happens None e c) (step c.world c.events e r)
+  happen_on (e ∷ es) c r = happen_on es (happens e c) (step c.world c.events e r)
 
 abbrev pub OfRun : ℕ → World → List WorldEvent → Type 0
 OfRun count w es = IsOfRun count w
@@ -111,7 +111,7 @@ run_step count w es e r = step_on count w e r
 pub report_run : (draws : List (Option Drawn)) (all : List Line) → IsOfRun (nodes_of all) (world_of draws all)
 report_run draws all =
     all_on (OfRun (nodes_of all)) (run_step (nodes_of all)) draws all (begun (nodes_of all))
-    (up_on (OfRun (nodes_of all)) (run_step (nodes_of all)) (nodes_of all) 1 (record { world = opening (example_hosts (nodes_of all)); events = []; delivered = []; armed = nobody_armed; raws = []; text = [] })
+    (up_on (OfRun (nodes_of all)) (run_step (nodes_of all)) (nodes_of all) 1 (record { world = opening (example_hosts (nodes_of all)); events = []; delivered = []; armed = nobody_armed; raws = []; met = []; text = [] })
     (record { events = []; run = refl }))
 
 -- what is made of a seed may be replayed

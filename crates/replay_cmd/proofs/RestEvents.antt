@@ -1,6 +1,5 @@
 -- The events that bring the world of a report to rest, and what holds of it with them and without.
 use Rattle.std.proofs.Common.{ℕ, ◌≡◌, refl, true, false, List, [], ◌∷◌, ap, ◌∙◌, sym, arith, subst}
-use Rattle.std.specs.Prelude.{None}
 use Rattle.std.specs.List.{AllByRecursion}
 use Rattle.at_model.specs.World.{World, WorldEvent, run_on, HaveOwnAddresses, example_hosts}
 use Rattle.model_laws.specs.ReachedWorlds.{ExamplesAreApart}
@@ -14,7 +13,7 @@ use Rattle.replay_cmd.proofs.ReplayRuns.{OfRun, happen_on, report_run, run_step}
 
 happened_on : (es : List WorldEvent) (c : Course) → (all_happen es c).world ≡ run_on c.world es
 happened_on [] c = refl
-happened_on (e ∷ es) c = happened_on es (happens None e c)
+happened_on (e ∷ es) c = happened_on es (happens e c)
 
 pub reports_runs : ReportsRuns
 reports_runs false draws all = report_run draws all

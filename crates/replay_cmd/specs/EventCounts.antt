@@ -1,5 +1,5 @@
 -- How many events a replay has at most.
-use Rattle.std.specs.Prelude.{ℕ, ◌<◌, length}
+use Rattle.std.specs.Prelude.{◌<◌, length}
 use Rattle.replay_cmd.specs.ReportOf.{Course}
 
 -- a world takes 4,294,967,295

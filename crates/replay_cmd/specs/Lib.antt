@@ -1,6 +1,6 @@
 pub mod Deliveries
 pub mod Examples
-pub mod Faults
+pub mod Rests
 pub mod Laws
 pub mod Lines
 pub mod ReportOf

@@ -1,5 +1,5 @@
 -- The report of a schedule: what its lines do to a world, and what is printed of that.
-use Rattle.std.specs.Prelude.{ℕ, List, [], ◌∷◌, ◌++◌, Option, Some, None, Bool, true, false, ◌&&◌, ◌+◌, ◌-◌, zero, suc, length, min, take, drop, filter, is_some, option_and_then, option_map, replicate, slice_get, slice_set, codes}
+use Rattle.std.specs.Prelude.{ℕ, List, [], ◌∷◌, ◌++◌, Option, Some, None, Bool, true, false, ◌&&◌, ◌+◌, ◌-◌, zero, suc, length, min, take, drop, filter, if◌then◌else◌, is_some, option_and_then, option_map, replicate, slice_get, slice_set, codes}
 use Rattle.at_base.specs.declared.event.Local.{Local}
 use Rattle.at_base.specs.declared.event.Local.TheVariants as locals
 use Rattle.at_base.specs.declared.notice.Kind.TheVariants as kinds
@@ -25,17 +25,17 @@ use Rattle.world_laws.specs.Runs.{clock_at, book_at, incarnation_at}
 use Rattle.world_laws.specs.Moves.{left_of, losses_of, steps_of}
 use Rattle.fated_walks.specs.Statuses.{status_in}
 use Rattle.world_laws.specs.declared.posts.Counted.{Counted}
-use Rattle.replay_cmd.specs.declared.course.Behind.{Behind}
-use Rattle.replay_cmd.specs.declared.course.Behind.TheVariants as behinds
-use Rattle.replay_cmd.specs.declared.fault.Armed.{Armed}
-use Rattle.replay_cmd.specs.declared.fault.Fault.{Fault}
-use Rattle.replay_cmd.specs.declared.fault.Fault.TheVariants as faults
+use Rattle.replay_cmd.specs.declared.event_lines.Behind.{Behind}
+use Rattle.replay_cmd.specs.declared.event_lines.Behind.TheVariants as behinds
+use Rattle.armed_calls.specs.declared.fault.Armed.{Armed}
+use Rattle.armed_calls.specs.declared.fault.Fault.{Fault}
+use Rattle.armed_calls.specs.declared.fault.Fault.TheVariants as faults
 use Rattle.replay_cmd.specs.declared.lines.Outcome.{Outcome}
 use Rattle.replay_cmd.specs.declared.lines.Outcome.TheVariants as outcomes
 use Rattle.replay_cmd.specs.declared.lines.Started.{Started}
 use Rattle.replay_cmd.specs.declared.lines.Started.TheVariants as starts
 use Rattle.replay_cmd.specs.Deliveries.{yes_at, lowest}
-use Rattle.replay_cmd.specs.Faults.{armed_behind, raw_at, still_armed, struck, struck_line}
+use Rattle.armed_calls.specs.Faults.{armed_behind, raw_at, still_armed, struck, struck_line}
 use Rattle.effect_words.specs.Words.{refusal_word}
 use Rattle.replay_cmd.specs.Lines.{up_line, up_already_line, down_line, deliver_line, no_message_line, tick_line, inject_line, forged_line, refused_line, effect_line, message_line, end_line, summary_line}
 
@@ -151,22 +151,27 @@ event_lines f s w e =
 
 -- How far a replay has come: the world, what happened to it, in order, for each message from the first on whether it was
 -- delivered (those behind the list weren't), which call is armed at each node, the bytes that the events of raw bytes brought, in
--- order, and what was printed.
+-- order, for each event which armed call came in it, if one did, and what was printed.
 pub record Course : Type 0 where
   pub world : World
   pub events : List WorldEvent
   pub delivered : List Bool
   pub armed : List (Option Armed)
   pub raws : List (List ℕ)
+  pub met : List (Option Armed)
   pub text : List ℕ
 
 -- An event happens, which met this fault or none; raw bytes draw this status.
 abbrev pub happens_so : Option Fault → ℕ → WorldEvent → Course → Course
 happens_so f s e c = record c { world = world_step c.world e; events = c.events ++ e ∷ []; text = c.text ++ event_lines f s c.world e }
 
--- Another event than raw bytes happens.
-abbrev pub happens : Option Fault → WorldEvent → Course → Course
-happens f e c = happens_so f 0 e c
+-- This call came in the last event, or none.
+abbrev pub noted : Option Armed → Course → Course
+noted a c = record c { met = c.met ++ a ∷ [] }
+
+-- Another event than raw bytes happens, in which no armed call comes.
+abbrev pub happens : WorldEvent → Course → Course
+happens e c = noted None (happens_so None 0 e c)
 
 -- there are at most 8 nodes
 abbrev pub nobody_armed : List (Option Armed)
@@ -179,15 +184,19 @@ armed_at n armed = option_and_then (λ a. a) (slice_get armed (n - 1))
 abbrev pub with_armed : ℕ → Option Armed → Course → Course
 with_armed n a c = record c { armed = slice_set c.armed (n - 1) a }
 
+-- what is armed behind an event: a call that is still armed didn't come in it
+abbrev pub noted_at : ℕ → Option Armed → Option Armed → Course → Course
+noted_at n was still c = noted (if is_some still then None else was) (with_armed n still c)
+
 -- An event happens as far as the call that is armed at its node lets it.
 abbrev pub meets : Armed → Option Bool → ℕ → WorldEvent → Course → Course
 meets a first s e c =
-    with_armed (node_of e)
+    noted_at (node_of e) (armed_at (node_of e) c.armed)
     (armed_behind a (is_some (incarnation_at c.world (node_of e))) first (length (left_of c.world (struck a first e)).fates) e)
     (happens_so (Some a.fault) s (struck a first e) c)
 
 abbrev pub comes_to : Option Armed → ℕ → WorldEvent → Course → Course
-comes_to None s e c = happens_so None s e c
+comes_to None s e c = noted None (happens_so None s e c)
 comes_to (Some a) s e c = meets a (first_records c.world e) s e c
 
 -- An event that a line asks for.
@@ -199,7 +208,7 @@ printed line c = record c { text = c.text ++ line }
 
 -- The armed call is the interim line of raw bytes that come to a node.
 abbrev pub meets_line : Fault → ℕ → ℕ → Course → Course
-meets_line f s n c = with_armed n None (happens_so (Some f) s (struck_line n f) c)
+meets_line f s n c = noted_at n (armed_at n c.armed) None (happens_so (Some f) s (struck_line n f) c)
 
 -- What is armed behind the interim line, where that isn't the armed call itself.
 abbrev pub comes_behind_line : Option Armed → Fault → ℕ → ℕ → Course → Course
@@ -279,12 +288,12 @@ all_taken (d ∷ ds) (line ∷ rest) c = all_taken ds rest (taken d line c)
 -- so many nodes come up, numbered from this one on
 abbrev pub all_up : ℕ → ℕ → Course → Course
 all_up zero n c = c
-all_up (suc count) n c = all_up count (n + 1) (happens None (up n) c)
+all_up (suc count) n c = all_up count (n + 1) (happens (up n) c)
 
 -- Every node comes up, in a world where nothing happened before.
 abbrev pub begun : ℕ → Course
 begun count =
-    all_up count 1 (record { world = opening (example_hosts count); events = []; delivered = []; armed = nobody_armed; raws = []; text = [] })
+    all_up count 1 (record { world = opening (example_hosts count); events = []; delivered = []; armed = nobody_armed; raws = []; met = []; text = [] })
 
 abbrev pub is_ending : Ending → Ending → Bool
 is_ending endings.Committed endings.Committed = true
@@ -345,7 +354,7 @@ report_of all = whole (course_of (quiet all) all)
 -- These events happen, one after another.
 abbrev pub all_happen : List WorldEvent → Course → Course
 all_happen [] c = c
-all_happen (e ∷ es) c = all_happen es (happens None e c)
+all_happen (e ∷ es) c = all_happen es (happens e c)
 
 -- The events that bring its world to rest happen behind all that happened. What was armed is no more.
 abbrev pub comes_to_rest : Course → Course

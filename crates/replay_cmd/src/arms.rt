@@ -1,12 +1,13 @@
 //! Which call is armed at each node.
 
 ghost use Rattle.std.specs.Prelude.{ℕ, ◌≡◌, ◌-◌, IfOk, slice_set};
-ghost use Rattle.replay_cmd.specs.Faults.{armed_behind, rest_of, still_armed};
+ghost use Rattle.armed_calls.specs.Faults.{armed_behind, still_armed};
+ghost use Rattle.replay_cmd.specs.Rests.{rest_of};
 ghost use Rattle.replay_cmd.specs.ReportOf.{armed_at, nobody_armed};
 ghost use Rattle.world_laws.specs.Events.{event_of};
 
-use crate::armed_calls::START_CALLS;
-use crate::fault::Armed;
+use crate::struck_events::START_CALLS;
+use armed_calls::fault::Armed;
 use std::alloc::{AllocError, Global};
 use std::marker::Model;
 use world_laws::event::WorldEvent;
@@ -19,7 +20,7 @@ pub struct Arms {
 
 impl Model for Arms {
     ghost use Rattle.std.specs.Prelude.{List, Option};
-    ghost use Rattle.replay_cmd.specs.declared.fault.Armed.{Armed as Known};
+    ghost use Rattle.armed_calls.specs.declared.fault.Armed.{Armed as Known};
 
     ghost Value = { List (Option Known) };
 

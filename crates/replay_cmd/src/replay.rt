@@ -3,7 +3,7 @@
 ghost use Rattle.std.specs.Prelude.{◌≡◌, ◌≤◌, IfErr, IfOk};
 ghost use Rattle.settlement.specs.declared.run_error.RunError.TheVariants.{TooManyEvents};
 ghost use Rattle.at_base.specs.declared.event.Local.TheVariants as locals;
-ghost use Rattle.replay_cmd.specs.declared.fault.Fault.TheVariants as faults;
+ghost use Rattle.armed_calls.specs.declared.fault.Fault.TheVariants as faults;
 ghost use Rattle.replay_cmd.specs.EventCounts.{HasTooManyEvents};
 ghost use Rattle.replay_cmd.specs.Laws.{IsReplayable, IsSafe};
 ghost use Rattle.replay_cmd.specs.ReportOf.{all_taken, course_of, course_with, injects_where, nodes_of, summary_of, taken, world_made};
@@ -12,11 +12,11 @@ ghost use Rattle.schedules.specs.Values.{bytes_in};
 
 use crate::course::Course;
 use crate::draws::quiet;
-use crate::fault::{Armed, Fault};
 use crate::laws::reports_are_safe;
 use crate::lines::Lines;
 use crate::raw_bytes::RawBytes;
 use crate::requests::{begin, interpose, work};
+use armed_calls::fault::{Armed, Fault};
 use at_base::event::Local;
 use raw_requests::Drawn;
 use schedules::generator::make;

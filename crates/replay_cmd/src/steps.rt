@@ -4,8 +4,8 @@ ghost use Rattle.std.specs.Prelude.{◌≡◌, ◌≤◌, ◌<◌, ◌+◌, ◌^
 ghost use Rattle.replay_cmd.specs.ReportOf.{cut_by, effect_lines, message_lines, outcome_of, own_count, start_cut_by, started_by, step_lines};
 ghost use Rattle.fated_walks.specs.Statuses.{status_in, status_of};
 
-use crate::fault::Fault;
 use crate::lines::{Lines, Outcome, Started};
+use armed_calls::fault::Fault;
 use at_base::outs::Effect;
 use std::alloc::{AllocError, Global};
 use world_laws::posts::{Counted, Posted};

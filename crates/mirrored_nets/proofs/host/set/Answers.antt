@@ -1,7 +1,6 @@
-use Rattle.std.proofs.Common.{◌≡◌, ◌∙◌, subst, sym}
+use Rattle.std.proofs.Common.{◌≡◌, subst}
 use Rattle.site_memory.specs.declared.machine.MemSite.{MemSite}
-use Rattle.mirrored_nets.specs.declared.judged.Armed.TheVariants.{Fail, No}
-use Rattle.mirrored_nets.proofs.ToldMachines.{is_set, set_told}
+use Rattle.mirrored_nets.proofs.ToldMachines.{is_set}
 use Rattle.mirrored_nets.proofs.host.set.Goals as goal
 use Rattle.mirrored_nets.proofs.host.set.Goals.{in-Fail, in-No}
 
@@ -10,12 +9,5 @@ returns-clause-set c = elim c.match-armed.branch [
   | in-Fail w ↦ is_set _ c.args.now c.args.site w.fail.new.self c.set_now.new.self w.fail.ensures.arm w.fail.ensures.arming w.fail.ensures.told
       (subst (λ (s : MemSite). c.set_now.new.self ≡ record s { clock = c.args.now }) w.site-is c.set_now.ensures)
   | in-No w ↦ is_set 0 c.args.now c.args.site w.fail-in-No.new.self c.set_now.new.self w.fail-in-No.ensures.arm w.fail-in-No.ensures.arming w.fail-in-No.ensures.told
-      (subst (λ (s : MemSite). c.set_now.new.self ≡ record s { clock = c.args.now }) w.site-is c.set_now.ensures)
-]
-
-pub returns-clause-unarmed : goal.returns-clause-unarmed
-returns-clause-unarmed c = elim c.match-armed.branch [
-  | in-Fail w ↦ λ none. let e : No ≡ Fail w.in-Fail.call = sym none ∙ w.in-Fail.is in absurd cc
-  | in-No w ↦ λ none ready. set_told 0 c.args.now c.args.site w.fail-in-No.new.self c.set_now.new.self ready w.fail-in-No.ensures.arm w.fail-in-No.ensures.arming w.fail-in-No.ensures.told
       (subst (λ (s : MemSite). c.set_now.new.self ≡ record s { clock = c.args.now }) w.site-is c.set_now.ensures)
 ]

@@ -1,10 +1,8 @@
-use Rattle.std.proofs.Common.{◌≡◌, subst, sym}
+use Rattle.std.proofs.Common.{subst, sym}
 use Rattle.site_memory.specs.Entries.{mades}
-use Rattle.mirrored_nets.specs.Fates.{AllDone}
-use Rattle.mirrored_nets.specs.Took.{EndsSo, IsWhole}
-use Rattle.mirrored_nets.specs.declared.came.Came.TheVariants.{Stays}
-use Rattle.mirrored_nets.proofs.HostSteps.{if_ok, not_err, ok_is, passed_up, took_turn}
-use Rattle.mirrored_nets.proofs.UnarmedTurns.{turn_done, turn_said, turn_whole}
+use Rattle.mirrored_nets.specs.StruckTurns.{Goes, IsStruckTurn}
+use Rattle.mirrored_nets.specs.Took.{EndsSo}
+use Rattle.mirrored_nets.proofs.HostSteps.{CameSo, if_ok, judged_so, not_err, ok_is, passed_up, took_turn}
 use Rattle.mirrored_nets.proofs.host.take.Goals as goal
 
 pub returns-clause-took : goal.returns-clause-took
@@ -15,31 +13,23 @@ returns-clause-took c =
     c.requires.room c.in-Ok.ensures c.counts_of-before.ensures.calls (c.in_ok-calls.ensures.adds c.args.site c.counts_of-before.ensures) c.in_ok-ends.ensures.ends c.in_ok-came.ensures.comes left (c.kept_of.ensures, c.in-Ok-gather.ensures)
     c.in_ok-spoke.ensures.spoke.0)
 
-pub returns-in_err-spoke-clause-unarmed : goal.returns-in_err-spoke-clause-unarmed
-returns-in_err-spoke-clause-unarmed c = λ unarmed runs none nostop few waits.
-    passed_up c.from_residual-in_err-spoke.result c.in_err-spoke.field-0.0 c.from_residual-in_err-spoke.ensures.1
-    (c.in_err-spoke.ensures.said few
-    (turn_said c.unarmed_do.ensures c.args.bytes.now c.in-Ok.turned c.args.node c.turn.new.node c.args.site c.turn.new.site c.in-Ok.ensures (mades c.in_ok-calls.calls.now)
-    (c.in_ok-calls.ensures.adds c.args.site c.counts_of-before.ensures) unarmed runs c.requires.serving c.in_ok-remembered.ensures.room c.args.lines few waits))
+pub returns-in_err-came-clause-possible : goal.returns-in_err-came-clause-possible
+returns-in_err-came-clause-possible c = λ possible.
+    let goes : Goes c.args.lines (mades c.in_ok-calls.calls.now) c.args.armed c.args.fates.now c.args.until c.in-Ok.turned =
+    c.struck_turns.ensures c.args.number c.args.count c.args.lines c.args.bytes.now c.args.node c.turn.new.node c.args.site c.turn.new.site c.args.armed c.args.fates.now c.args.until c.in-Ok.turned
+    (mades c.in_ok-calls.calls.now) possible c.requires.room c.in-Ok.ensures (c.in_ok-calls.ensures.adds c.args.site c.counts_of-before.ensures) c.in_ok-remembered.ensures.room c.in_ok-spoke.ensures.spoke.0 in
+    let came : CameSo c.judged.result c.in-Ok.turned =
+    judged_so c.args.lines (mades c.in_ok-calls.calls.now) c.args.armed c.args.fates.now c.args.until c.in-Ok.turned c.judged.result goes c.judged.ensures.whole c.judged.ensures.halts c.judged.ensures.stops
+    c.judged.ensures.unbegun in
+    absurd (not_err c.judged.result _ came.came c.in_err-came.was came.is)
 
-pub returns-in_err-came-clause-unarmed : goal.returns-in_err-came-clause-unarmed
-returns-in_err-came-clause-unarmed c = λ unarmed runs none nostop few waits.
-    let done : AllDone (mades c.in_ok-calls.calls.now) = turn_done c.unarmed_do.ensures c.args.bytes.now c.in-Ok.turned c.args.node c.turn.new.node c.args.site c.turn.new.site c.in-Ok.ensures (mades c.in_ok-calls.calls.now)
-    (c.in_ok-calls.ensures.adds c.args.site c.counts_of-before.ensures) unarmed runs c.requires.serving c.in_ok-remembered.ensures.room in
-    absurd (not_err c.judged.result _ Stays c.in_err-came.was (c.judged.ensures.whole done none nostop))
-
-pub returns-in_err-ends-clause-unarmed : goal.returns-in_err-ends-clause-unarmed
-returns-in_err-ends-clause-unarmed c = λ unarmed runs none nostop few waits.
-    let done : AllDone (mades c.in_ok-calls.calls.now) = turn_done c.unarmed_do.ensures c.args.bytes.now c.in-Ok.turned c.args.node c.turn.new.node c.args.site c.turn.new.site c.in-Ok.ensures (mades c.in_ok-calls.calls.now)
-    (c.in_ok-calls.ensures.adds c.args.site c.counts_of-before.ensures) unarmed runs c.requires.serving c.in_ok-remembered.ensures.room in
-    let stays : c.in_ok-came.came ≡ Stays = ok_is c.judged.result _ Stays c.in_ok-came.was (c.judged.ensures.whole done none nostop) in
-    let whole : IsWhole c.in-Ok.turned = turn_whole c.unarmed_do.ensures c.args.bytes.now c.in-Ok.turned c.args.node c.turn.new.node c.args.site c.turn.new.site c.in-Ok.ensures (mades c.in_ok-calls.calls.now)
-    (c.in_ok-calls.ensures.adds c.args.site c.counts_of-before.ensures) unarmed runs c.requires.serving c.in_ok-remembered.ensures.room in
+pub returns-in_err-ends-clause-possible : goal.returns-in_err-ends-clause-possible
+returns-in_err-ends-clause-possible c = λ possible.
+    let goes : Goes c.args.lines (mades c.in_ok-calls.calls.now) c.args.armed c.args.fates.now c.args.until c.in-Ok.turned =
+    c.struck_turns.ensures c.args.number c.args.count c.args.lines c.args.bytes.now c.args.node c.turn.new.node c.args.site c.turn.new.site c.args.armed c.args.fates.now c.args.until c.in-Ok.turned
+    (mades c.in_ok-calls.calls.now) possible c.requires.room c.in-Ok.ensures (c.in_ok-calls.ensures.adds c.args.site c.counts_of-before.ensures) c.in_ok-remembered.ensures.room c.in_ok-spoke.ensures.spoke.0 in
+    let came : CameSo c.judged.result c.in-Ok.turned =
+    judged_so c.args.lines (mades c.in_ok-calls.calls.now) c.args.armed c.args.fates.now c.args.until c.in-Ok.turned c.judged.result goes c.judged.ensures.whole c.judged.ensures.halts c.judged.ensures.stops
+    c.judged.ensures.unbegun in
     passed_up c.from_residual-in_err-ends.result c.in_err-ends.field-0.0 c.from_residual-in_err-ends.ensures.1
-    (c.in_err-ends.ensures.whole (subst (λ came. EndsSo came c.in-Ok.turned) (sym stays) whole))
-
-pub returns-clause-unarmed : goal.returns-clause-unarmed
-returns-clause-unarmed c = λ unarmed runs none nostop few waits.
-    let done : AllDone (mades c.in_ok-calls.calls.now) = turn_done c.unarmed_do.ensures c.args.bytes.now c.in-Ok.turned c.args.node c.turn.new.node c.args.site c.turn.new.site c.in-Ok.ensures (mades c.in_ok-calls.calls.now)
-    (c.in_ok-calls.ensures.adds c.args.site c.counts_of-before.ensures) unarmed runs c.requires.serving c.in_ok-remembered.ensures.room in
-    c.left.ensures.stays (ok_is c.judged.result _ Stays c.in_ok-came.was (c.judged.ensures.whole done none nostop))
+    (c.in_err-ends.ensures.whole (subst (λ z. EndsSo z c.in-Ok.turned) (sym (ok_is c.judged.result _ came.came c.in_ok-came.was came.is)) came.ends))

@@ -1,31 +1,59 @@
-use Rattle.std.proofs.Common.{Bool, true, false, not, nat_lt, ◌≡◌, refl, sym, subst}
-use Rattle.std.proofs.Math.Bool.{beq}
+use Rattle.std.proofs.Common.{nat_lt, subst, sym, ◌-◌, ◌∙◌}
+use Rattle.site_memory.specs.Entries.{mades}
 use Rattle.site_memory.specs.declared.machine.MemSite.{MemSite}
+use Rattle.torn_appends.specs.TornAppends.{stands_behind}
+use Rattle.mirrored_nets.specs.StruckStarts.{LeavesStart}
 use Rattle.mirrored_nets.specs.Took.{FellBack}
 use Rattle.mirrored_nets.specs.TookStart.{HasLast}
+use Rattle.mirrored_nets.proofs.HostSteps.{not_err, passed_up}
+use Rattle.mirrored_nets.proofs.StartFaults.{KeptSo, kept_is, kept_so, made_since, marked_stands, not_other, same_test}
 use Rattle.mirrored_nets.proofs.starts.start_struck.Goals as goal
 
--- two tests that aren't apart
-same : (a b : Bool) → not (beq a b) ≡ false → a ≡ b
-same true true e = refl
-same true false e = e
-same false true e = sym e
-same false false e = refl
-
-pub returns : goal.returns
-returns c =
+pub returns-clause-took : goal.returns-clause-took
+returns-clause-took c =
     let site = sym c.of.ensures.1 in
     record {
-      result = c.begin_alone.ensures.0;
+      node = c.in_ok-begin_alone.ensures.begun.0;
       site = c.begin_alone.new.site;
-      begins = c.begin_alone.ensures.1;
+      begins = c.in_ok-begin_alone.ensures.begun.1;
       kept = c.in_ok-kept.kept;
       choice = c.in_ok-kept.choice;
       down = c.of.ensures.0;
-      fell = subst (λ (s : MemSite). FellBack c.args.site c.begin_alone.new.site c.in_ok-kept.kept c.in_ok-kept.choice s) site (c.in_ok-left.ensures c.args.site c.calls-count.ensures);
+      fell = subst (λ (s : MemSite). FellBack c.args.site c.begin_alone.new.site c.in_ok-kept.kept c.in_ok-kept.choice s) site (c.in_ok-left.ensures.fell c.args.site c.calls-count.ensures);
       before = c.in_ok-before.before;
-      was = c.in_ok-before.ensures;
+      was = c.in_ok-before.ensures.last;
       behind = c.in_ok-behind.behind;
-      is = subst (λ (s : MemSite). HasLast c.in_ok-behind.behind s) site c.in_ok-behind.ensures;
-      landed_is = same c.args.landed (nat_lt c.in_ok-before.before c.in_ok-behind.behind) c.if-landed-before.false;
+      is = subst (λ (s : MemSite). HasLast c.in_ok-behind.behind s) site c.in_ok-behind.ensures.last;
+      landed_is = same_test c.args.landed (nat_lt c.in_ok-before.before c.in_ok-behind.behind) c.if-landed-before.false;
     }
+
+pub returns-in_err-before-clause-struck : goal.returns-in_err-before-clause-struck
+returns-in_err-before-clause-struck c = λ a last armed marked least most lands.
+    passed_up c.from_residual.result c.in_err-before.field-0.0 c.from_residual.ensures.1 (c.in_err-before.ensures.stands (marked_stands last c.args.site marked))
+
+pub returns-in_err-kept-clause-struck : goal.returns-in_err-kept-clause-struck
+returns-in_err-kept-clause-struck c = λ a last armed marked least most lands.
+    let (node, begins) = c.in_ok-begin_alone.ensures.begun in
+    let left : LeavesStart c.args.site c.begin_alone.new.site = c.starts_leave.ensures c.args.base.now node c.args.site c.begin_alone.new.site last marked begins in
+    let kept : KeptSo a c.kept_behind.result = kept_so a c.args.site c.begin_alone.new.site c.args.armed (mades c.since.result.now) c.kept_behind.result armed least most left
+    (made_since c.since.result.now c.calls-count.result c.args.site c.begin_alone.new.site c.since.ensures c.calls-count.ensures) c.kept_behind.ensures.fails c.kept_behind.ensures.stops in
+    absurd (not_err c.kept_behind.result _ (kept.kept, kept.choice) c.in_err-kept.was kept.is)
+
+pub returns-in_err-behind-clause-struck : goal.returns-in_err-behind-clause-struck
+returns-in_err-behind-clause-struck c = λ a last armed marked least most lands.
+    let (node, begins) = c.in_ok-begin_alone.ensures.begun in
+    let left : LeavesStart c.args.site c.begin_alone.new.site = c.starts_leave.ensures c.args.base.now node c.args.site c.begin_alone.new.site last marked begins in
+    passed_up c.from_residual-in_err-behind.result c.in_err-behind.field-0.0 c.from_residual-in_err-behind.ensures.1
+    (c.in_err-behind.ensures.stands (left.stands c.in_ok-kept.kept c.in_ok-kept.choice c.in_ok-left.left (c.in_ok-left.ensures.fell c.args.site c.calls-count.ensures)))
+
+pub returns-then-landed-before-clause-struck : goal.returns-then-landed-before-clause-struck
+returns-then-landed-before-clause-struck c = λ a last armed marked least most lands.
+    let (node, begins) = c.in_ok-begin_alone.ensures.begun in
+    let left : LeavesStart c.args.site c.begin_alone.new.site = c.starts_leave.ensures c.args.base.now node c.args.site c.begin_alone.new.site last marked begins in
+    let kept : KeptSo a c.kept_behind.result = kept_so a c.args.site c.begin_alone.new.site c.args.armed (mades c.since.result.now) c.kept_behind.result armed least most left
+    (made_since c.since.result.now c.calls-count.result c.args.site c.begin_alone.new.site c.since.ensures c.calls-count.ensures) c.kept_behind.ensures.fails c.kept_behind.ensures.stops in
+    let (same, choice) = kept_is c.in_ok-kept.kept kept.kept c.in_ok-kept.choice kept.choice c.kept_behind.result c.in_ok-kept.was kept.is in
+    let rose = left.rose c.in_ok-kept.kept c.in_ok-kept.choice c.in_ok-left.left c.in_ok-before.before c.in_ok-behind.behind (c.in_ok-left.ensures.fell c.args.site c.calls-count.ensures)
+    c.in_ok-before.ensures.last c.in_ok-behind.ensures.last in
+    λ _. not_other c.args.landed (nat_lt c.in_ok-before.before c.in_ok-behind.behind)
+    (lands ∙ kept.stands ∙ (λ j. stands_behind (sym same j - 2) (sym choice j)) ∙ sym rose) c.if-landed-before.true

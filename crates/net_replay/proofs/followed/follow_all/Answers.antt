@@ -16,6 +16,6 @@ returns-in-Err-clause-full c = λ count w few mirrors is.
     (c.loop-place.invariant.1 count w few mirrors) (c.in-Err.ensures.full is)
 
 pub returns-in-Err-clause-done : goal.returns-in-Err-clause-done
-returns-in-Err-clause-done c = λ count w few mirrors all none is.
-    isnt_apart count c.args.net w c.args.events.now c.args.raws.now c.loop-place.place c.loop-place.raw c.index-events-place.result c.loop-place.net _ c.loop-place-test.true c.index-events-place.is
-    (c.loop-place.invariant.1 count w few mirrors) c.bytes_at.ensures all (λ v at possible. c.in-Err.ensures.done count v few at possible (c.armed_at.ensures none) is)
+returns-in-Err-clause-done c = λ count w few mirrors all is.
+    isnt_apart count c.args.net w c.args.events.now c.args.raws.now c.args.met.now c.loop-place.place c.loop-place.raw c.index-events-place.result c.loop-place.net _ c.loop-place-test.true c.index-events-place.is
+    (c.loop-place.invariant.1 count w few mirrors) c.bytes_at.ensures all (λ v at possible. c.in-Err.ensures.done count v _ few at c.armed_at.ensures possible is)

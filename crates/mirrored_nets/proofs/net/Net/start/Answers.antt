@@ -1,9 +1,12 @@
-use Rattle.std.proofs.Common.{ap, subst, ◌∙◌, ◌≡◌, List, ℕ}
-use Rattle.std.specs.Prelude.{Some, []}
+use Rattle.std.proofs.Common.{ap, length, subst, sym, ◌∙◌, ◌≡◌, ◌≤◌, List, ℕ}
+use Rattle.std.specs.Prelude.{None, Some, []}
 use Rattle.at_model.specs.World.{Up, nth}
 use Rattle.mirrored_nets.specs.Seen.{Seen}
-use Rattle.mirrored_nets.proofs.NetEvents.{rests_up, seen_by, serve_on, starts, up_at}
+use Rattle.mirrored_nets.specs.StruckStarts.{IsMarked}
+use Rattle.mirrored_nets.proofs.NetEvents.{down_node, rests_up, seen_by, serve_on, starts, still_isnt, up_at}
 use Rattle.mirrored_nets.proofs.OpenedNets.{there_ready}
+use Rattle.mirrored_nets.proofs.PossibleMoves.{can_number}
+use Rattle.mirrored_nets.proofs.PossibleStarts.{start_can}
 use Rattle.mirrored_nets.proofs.ReadyHosts.{started_serves}
 use Rattle.mirrored_nets.proofs.net.Net.start.Goals as goal
 
@@ -28,3 +31,19 @@ pub returns-then-branch-clause-step : goal.returns-then-branch-clause-step
 returns-then-branch-clause-step c =
     rests_up c.args.self c.args.number c.args.landed c.args.stop c.in_ok-is_up.field-0
     (up_at c.args.self.hosts c.as_slice.result.now c.args.number c.in_ok-is_up.field-0 (c.as_slice.ensures.value ∙ ap (λ (s : Seen). s.hosts) c.self.view_is) c.in_ok-is_up.ensures.up) c.if-branch.true
+
+pub returns-in_err-host-clause-possible : goal.returns-in_err-host-clause-possible
+returns-in_err-host-clause-possible c = λ raw possible.
+    let here : nth c.args.number c.args.self.hosts ≡ Some c.in_ok-taken.field-0 = subst (λ (s : Seen). nth c.args.number s.hosts ≡ Some c.in_ok-taken.field-0) c.self.view_is c.in_ok-taken.ensures.here in
+    let down : c.in_ok-taken.field-0.node ≡ None = down_node c.self.inside.hosts.items c.args.number c.in_ok-is_up.field-0 c.in_ok-taken.field-0
+    (up_at c.self.inside.hosts.items c.as_slice.result.now c.args.number c.in_ok-is_up.field-0 c.as_slice.ensures.value c.in_ok-is_up.ensures.up) c.in_ok-taken.ensures.here c.if-branch.false in
+    still_isnt c.in_err-host.field-0.0 c.from_residual-in_err-host.result c.from_residual-in_err-host.ensures.1
+    (start_can c.down_are_marked.ensures c.args.self c.args.number c.args.landed c.args.stop raw c.args.armed possible c.in_ok-taken.field-0 here down c.in_err-host.ensures.done
+    (λ a last armed marked. c.in_err-host.ensures.struck a last armed (subst (IsMarked last) (sym c.into_parts-node.ensures.1) marked)))
+
+pub returns-in_err-put_host-clause-possible : goal.returns-in_err-put_host-clause-possible
+returns-in_err-put_host-clause-possible c = λ raw possible.
+    let is = can_number c.args.self (Up c.args.number c.args.landed c.args.stop) raw c.args.armed possible in
+    let many : length c.taken.new.hosts.items ≡ length c.args.self.hosts = c.taken.ensures.many ∙ ap (λ (s : Seen). length s.hosts) c.self.view_is in
+    still_isnt c.in_err-put_host.field-0.0 c.from_residual-in_err-put_host.result c.from_residual-in_err-put_host.ensures.1
+    (c.in_err-put_host.ensures.there is.least (subst (λ k. c.args.number ≤ k) (sym many) is.within))

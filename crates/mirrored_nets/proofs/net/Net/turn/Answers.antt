@@ -1,18 +1,19 @@
-use Rattle.std.proofs.Common.{ap, refl, subst, sym, ◌∙◌, ◌≡◌, ◌+◌, length, List, ℕ}
-use Rattle.std.specs.Prelude.{Some, map, true}
+use Rattle.std.proofs.Common.{ap, arith, refl, subst, sym, ◌∙◌, ◌≡◌, ◌+◌, length, List, ℕ}
+use Rattle.std.specs.Prelude.{Some, map}
 use Rattle.at_model.specs.World.{Turn, nth}
-use Rattle.http_post.specs.Conversations.{Waits}
 use Rattle.memory_net.specs.Mails.{mail_of}
 use Rattle.memory_net.specs.declared.host.Host.{Host}
 use Rattle.memory_net.specs.declared.letter.Letter.{Letter}
 use Rattle.world_laws.specs.Events.{input_of}
 use Rattle.mirrored_nets.specs.Goings.{IsBrought, ms_of}
 use Rattle.mirrored_nets.specs.PossibleMoves.{MayCome}
+use Rattle.mirrored_nets.specs.StruckTurns.{IsStruckTurn}
 use Rattle.mirrored_nets.specs.Took.{TookTurn}
 use Rattle.mirrored_nets.specs.Seen.{Seen}
-use Rattle.mirrored_nets.proofs.BroughtLines.{clock_fits, few_lines, line_waited}
+use Rattle.mirrored_nets.proofs.BroughtLines.{clock_fits}
 use Rattle.mirrored_nets.proofs.NetEvents.{rests_down, room_set, seen_by, serve_on, still_isnt, turns, up_at}
 use Rattle.mirrored_nets.proofs.OpenedNets.{there_ready, there_runs, there_serves}
+use Rattle.mirrored_nets.proofs.PossibleMoves.{can_come, can_fit, can_number, struck_turn}
 use Rattle.mirrored_nets.proofs.ReadyHosts.{turned_serves}
 use Rattle.mirrored_nets.proofs.net.Net.turn.Goals as goal
 
@@ -56,28 +57,54 @@ returns-clause-step c =
     c.in_ok-brought.brought.bytes.items c.args.raw.now c.in_ok-node.site c.set.result c.put_clock.new.clocks.items c.take.new.letters.items c.args.fates.now c.args.until there.2 clock
     (c.in_ok-count.ensures.count ∙ ap (λ (l : List Host). length l) c.as_slice-2.ensures.value) brought c.in_ok-brought.ensures.given later there.3 c.set.ensures.set took c.in_ok-put_clock.ensures.put)
 
-pub returns-in_default-clause-unarmed : goal.returns-in_default-clause-unarmed
-returns-in_default-clause-unarmed c = λ none may.
+pub returns-in_default-clause-possible : goal.returns-in_default-clause-possible
+returns-in_default-clause-possible c = λ possible.
     let clock : nth c.args.number c.args.self.clocks ≡ Some c.in_ok-clock.clock =
     subst (λ (l : List ℕ). nth c.args.number l ≡ Some c.in_ok-clock.clock) (c.as_slice-3.ensures.value ∙ ap (λ (s : Seen). s.clocks) c.self.view_is) c.in_ok-clock.ensures.clock in
-    let fits = clock_fits c.args.self.clocks c.args.number c.in_ok-clock.clock c.ms_of.result (input_of c.args.input) may.2 clock c.in_ok-clock.ensures.fits c.ms_of.ensures in
+    let fits = clock_fits c.args.self.clocks c.args.number c.in_ok-clock.clock c.ms_of.result (input_of c.args.input)
+    (can_fit c.args.self c.args.number (input_of c.args.input) c.args.fates.now c.args.until c.args.raw.now c.args.armed possible) clock c.in_ok-clock.ensures.fits c.ms_of.ensures in
     absurd (c.in_default.ensures fits)
 
-pub returns-in_err-brought-clause-unarmed : goal.returns-in_err-brought-clause-unarmed
-returns-in_err-brought-clause-unarmed c = λ none may.
+pub returns-in_err-brought-clause-possible : goal.returns-in_err-brought-clause-possible
+returns-in_err-brought-clause-possible c = λ possible.
     still_isnt c.in_err-brought.field-0.0 c.from_residual-in_err-brought.result c.from_residual-in_err-brought.ensures.1
     (c.in_err-brought.ensures.there
-    (subst (λ (l : List Letter). MayCome (map mail_of l) c.args.number (input_of c.args.input) c.args.raw.now) (sym (c.as_slice-4.ensures.value ∙ ap (λ (s : Seen). s.letters) c.self.view_is)) may.1))
+    (subst (λ (l : List Letter). MayCome (map mail_of l) c.args.number (input_of c.args.input) c.args.raw.now) (sym (c.as_slice-4.ensures.value ∙ ap (λ (s : Seen). s.letters) c.self.view_is))
+    (can_come c.letters_are_short.ensures c.args.self c.args.number (input_of c.args.input) c.args.fates.now c.args.until c.args.raw.now c.args.armed possible)))
 
-pub returns-in_err-host-clause-unarmed : goal.returns-in_err-host-clause-unarmed
-returns-in_err-host-clause-unarmed c = λ none may.
+pub returns-in_err-host-clause-possible : goal.returns-in_err-host-clause-possible
+returns-in_err-host-clause-possible c = λ possible.
     let there = c.in_ok-node.ensures.here in
-    let lines = c.in_ok-brought.brought.lines in
-    let bytes = c.in_ok-brought.brought.bytes.items in
-    let mails = map mail_of c.as_slice-4.result.now in
+    let here : nth c.args.number c.args.self.hosts ≡ Some there.0 = subst (λ (s : Seen). nth c.args.number s.hosts ≡ Some there.0) c.self.view_is there.1 in
+    let clock : nth c.args.number c.args.self.clocks ≡ Some c.in_ok-clock.clock =
+    subst (λ (l : List ℕ). nth c.args.number l ≡ Some c.in_ok-clock.clock) (c.as_slice-3.ensures.value ∙ ap (λ (s : Seen). s.clocks) c.self.view_is) c.in_ok-clock.ensures.clock in
+    let brought : IsBrought (map mail_of c.args.self.letters) c.args.number (input_of c.args.input) c.in_ok-brought.brought.lines c.in_ok-brought.brought.bytes.items =
+    subst (λ (l : List Letter). IsBrought (map mail_of l) c.args.number (input_of c.args.input) c.in_ok-brought.brought.lines c.in_ok-brought.brought.bytes.items)
+    (c.as_slice-4.ensures.value ∙ ap (λ (s : Seen). s.letters) c.self.view_is) c.in_ok-brought.ensures.brought in
+    let struck : IsStruckTurn c.args.number c.in_ok-count.count c.in_ok-brought.brought.lines c.in_ok-brought.brought.bytes.items c.in_ok-node.node c.set.result c.spoken-armed.result c.args.fates.now c.args.until =
+    struck_turn c.bytes_wait_or_not.ensures c.args.self c.args.number c.in_ok-count.count (input_of c.args.input) c.args.fates.now c.args.until c.args.raw.now c.args.armed c.spoken-armed.result possible
+    (c.in_ok-count.ensures.count ∙ ap (λ (l : List Host). length l) (c.as_slice-2.ensures.value ∙ ap (λ (s : Seen). s.hosts) c.self.view_is)) there.0 here c.in_ok-node.node there.2 c.in_ok-clock.clock c.in-Some.now
+    clock c.in_ok-brought.brought.lines c.in_ok-brought.brought.bytes.items brought c.in_ok-brought.ensures.given c.in_ok-node.site c.set.result there.3
+    (c.in-Some.ensures.1 ∙ ap (λ k. c.in_ok-clock.clock + k) c.ms_of.ensures) c.set.ensures.set
+    (c.set.ensures.told (there_ready c.args.number c.self.inside.hosts.items there.0 c.in_ok-node.site c.self.invariant there.1 there.3)) c.spoken-armed.ensures in
     still_isnt c.in_err-host.field-0.0 c.from_residual-in_err-host.result c.from_residual-in_err-host.ensures.1
-    (c.in_err-host.ensures.unarmed
-    (c.set.ensures.unarmed (c.spoken-armed.ensures none) (there_ready c.args.number c.self.inside.hosts.items there.0 c.in_ok-node.site c.self.invariant there.1 there.3))
-    (there_runs c.args.number c.self.inside.hosts.items c.in_ok-node.node c.in_ok-node.site c.self.invariant there) may.3 may.4
-    (few_lines mails c.args.number (input_of c.args.input) lines bytes c.in_ok-brought.ensures.brought)
-    (λ one. subst (λ (b : List ℕ). Waits b true) (sym c.as_slice-5.ensures.value) (line_waited mails c.args.number (input_of c.args.input) lines bytes c.in_ok-brought.ensures.brought one)))
+    (c.in_err-host.ensures.possible
+    (subst (λ (b : List ℕ). IsStruckTurn c.args.number c.in_ok-count.count c.in_ok-brought.brought.lines b c.in_ok-node.node c.set.result c.spoken-armed.result c.args.fates.now c.args.until) (sym c.as_slice-5.ensures.value) struck))
+
+pub returns-in_err-put_host-clause-possible : goal.returns-in_err-put_host-clause-possible
+returns-in_err-put_host-clause-possible c = λ possible.
+    let there = can_number c.args.self (Turn c.args.number (input_of c.args.input) c.args.fates.now c.args.until) c.args.raw.now c.args.armed possible in
+    let within = there.within in
+    let many = c.in_ok-node.ensures.many in
+    let same = ap (λ (s : Seen). length s.hosts) c.self.view_is in
+    still_isnt c.in_err-put_host.field-0.0 c.from_residual-in_err-put_host.result c.from_residual-in_err-put_host.ensures.1
+    (c.in_err-put_host.ensures.there there.least (omega (arith, within, many, same)))
+
+pub returns-in_err-put_clock-clause-possible : goal.returns-in_err-put_clock-clause-possible
+returns-in_err-put_clock-clause-possible c = λ possible.
+    let there = can_number c.args.self (Turn c.args.number (input_of c.args.input) c.args.fates.now c.args.until) c.args.raw.now c.args.armed possible in
+    let within = there.within in
+    let times = there.times in
+    let same = ap (λ (s : Seen). length s.clocks) c.self.view_is in
+    still_isnt c.in_err-put_clock.field-0.0 c.from_residual-in_err-put_clock.result c.from_residual-in_err-put_clock.ensures.1
+    (c.in_err-put_clock.ensures.there there.least (omega (arith, within, times, same)))

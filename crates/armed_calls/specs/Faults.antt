@@ -5,11 +5,9 @@ use Rattle.at_model.specs.World.{WorldEvent, Turn, Ask, Crash, Up, Raw}
 use Rattle.schedules.specs.declared.line.Leaves.{Leaves}
 use Rattle.schedules.specs.declared.line.Leaves.TheVariants as leaves
 use Rattle.world_laws.specs.Fates.{behind_done}
-use Rattle.replay_cmd.specs.declared.arms.Rest.{Rest}
-use Rattle.replay_cmd.specs.declared.arms.Rest.TheVariants as rests
-use Rattle.replay_cmd.specs.declared.fault.Armed.{Armed}
-use Rattle.replay_cmd.specs.declared.fault.Fault.{Fault}
-use Rattle.replay_cmd.specs.declared.fault.Fault.TheVariants as faults
+use Rattle.armed_calls.specs.declared.fault.Armed.{Armed}
+use Rattle.armed_calls.specs.declared.fault.Fault.{Fault}
+use Rattle.armed_calls.specs.declared.fault.Fault.TheVariants as faults
 
 -- A record is appended by four calls: its body is written and synced, and then its gate. It stands where its gate is 1. What a
 -- stop leaves of a gate whose write isn't synced:
@@ -120,8 +118,3 @@ armed_behind a was_up first left (Turn n input fates until) = behind_steps a fir
 armed_behind a was_up first left (Ask n l fates until) = behind_steps a first left
 armed_behind a was_up first left (Crash n) = behind_crash a was_up
 armed_behind a was_up first left (Up n landed stop) = behind_up a was_up
-
--- The same in two parts: what is known before the event, and what its steps leave.
-abbrev pub rest_of : Rest → Armed → ℕ → Option Armed
-rest_of (rests.Known armed) a left = armed
-rest_of rests.Steps a left = still_armed a (min left a.call)

@@ -1,10 +1,10 @@
 //! Where an armed call comes in an event, and what it makes of the event.
 
 ghost use Rattle.std.specs.Prelude.{◌≡◌, IfOk, OnOk};
-ghost use Rattle.replay_cmd.specs.Faults.{at_out, at_record, fates_of, gate_stands, is_stop, met, out_leaves, record_ends, record_stands, struck, until_of};
+ghost use Rattle.armed_calls.specs.Faults.{at_out, at_record, fates_of, gate_stands, is_stop, met, out_leaves, record_ends, record_stands, struck, until_of};
 ghost use Rattle.world_laws.specs.Events.{event_of};
 
-use crate::fault::{Armed, Fault};
+use armed_calls::fault::{Armed, Fault};
 use schedules::line::Leaves;
 use std::alloc::{AllocError, Global};
 use std::marker::Model;
@@ -22,7 +22,7 @@ pub struct Met {
 }
 
 impl Model for Met {
-    ghost use Rattle.replay_cmd.specs.Faults.{Met as Known};
+    ghost use Rattle.armed_calls.specs.Faults.{Met as Known};
 
     ghost Value = { Known };
 

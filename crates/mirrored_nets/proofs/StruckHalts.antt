@@ -1,0 +1,107 @@
+-- A turn that halted in its first step, on a machine that was told which of its calls is to fail: that call is its gate's, and the event asks for a
+-- failure there.
+use Rattle.std.specs.Prelude.{ℕ, List, [], ◌∷◌, ◌++◌, ◌+◌, ◌≡◌, ◌≤◌, ◌<◌, ◌⊎◌, Bool, Option, Some, true, false, drop, is_some, length, map, nat_eq, not, suc}
+use Rattle.std.proofs.Common.{ap, arith, inl, inr, refl, subst, sym, true≢false, ◌∙◌}
+use Rattle.std.proofs.lemmas.Bool.{eqb-true}
+use Rattle.at_base.specs.declared.record.Record.{Record}
+use Rattle.at_model.specs.World.{Hosts, Input, Node as Known, Turn, World}
+use Rattle.http_post.specs.Conversations.{interim}
+use Rattle.journal_at.specs.StandingBodies.{Makes, lay}
+use Rattle.journal_at.specs.declared.journal.Append.TheVariants as appends
+use Rattle.journal_at.specs.declared.journal.Journal.{Journal}
+use Rattle.memory_net.proofs.Standing.{same_some}
+use Rattle.node_at.specs.Meanings.{Meaning}
+use Rattle.node_at.specs.State.{State}
+use Rattle.node_at.specs.TurnText.{IsFirst, TurnStep}
+use Rattle.node_events.specs.NodeEvents.{IsAt, IsInput}
+use Rattle.node_events.proofs.HeardInputs.{Heard, heard}
+use Rattle.node_worlds.specs.Nets.{Net, Place}
+use Rattle.possible_events.specs.PossibleEvents.{IsStruck}
+use Rattle.site_memory.specs.ToldCalls.{AreArmed}
+use Rattle.site_model.specs.Told.{BreaksOff, Call, Made, done, failed}
+use Rattle.mirrored_nets.specs.Fates.{AllDone, refusals}
+use Rattle.mirrored_nets.specs.Took.{HaltsSo}
+use Rattle.mirrored_nets.proofs.CallRows.{all_refused_none, refusals_join}
+use Rattle.mirrored_nets.proofs.HaltCuts.{drop_behind}
+use Rattle.mirrored_nets.proofs.HaltedGates.{FailsAt, IsBroken, broken_gate}
+use Rattle.mirrored_nets.proofs.HaltedGates.IsBroken.{unheard, unsynced, untried, unwritten}
+use Rattle.mirrored_nets.proofs.StruckRecords.{HaltsAt, failing, halts_at}
+use Rattle.mirrored_nets.proofs.StruckRows.{IsWithin, failed_within, parts_armed}
+use Rattle.mirrored_nets.proofs.StruckWalks.{records_are}
+
+-- Which of a gate's calls failed, behind the two of its body: the third or the fourth of the append.
+pub record GateFails (k lines : ℕ) (made : List Made) (file : ℕ) : Type 0 where
+  pub stands : Bool
+  pub place : ((k ≡ 3) × (stands ≡ false)) ⊎ ((k ≡ 4) × (stands ≡ true))
+  pub calls : FailsAt lines made file stands
+
+-- a call that failed is the one that was to
+at_last : (before fails : ℕ) (c : Call) → AreArmed before fails (failed c ∷ []) → fails ≡ suc before
+at_last before fails c (is, more) = by (nat_eq (suc before) fails) refl
+  where
+    by : (b : Bool) → nat_eq (suc before) fails ≡ b → fails ≡ suc before
+    by true e = sym (eqb-true (suc before) fails e)
+    by false e = absurd (true≢false (sym (is ∙ ap not e)))
+
+module _ (file end since lines k : ℕ) (body : List ℕ) (made line first : List Made) (long : length line ≡ lines) (is : made ≡ line ++ first) (armed : AreArmed (since + lines) (since + lines + k) first)
+    (some : 1 ≤ refusals first) where
+  behind : (n : ℕ) → drop (lines + n) made ≡ drop n first
+  behind n = (λ i. drop (sym long i + n) (is i)) ∙ drop_behind line first n
+
+  within : IsWithin (since + lines) (since + lines + k) first
+  within = failed_within (since + lines) (since + lines + k) first armed some
+
+  pub gate_fails : (rest : List Made) → first ≡ map done (lay file end body) ++ rest → IsBroken file end rest → GateFails k lines made file
+  gate_fails _ e untried = absurd (let none = all_refused_none first (subst AllDone (sym e) (refl, (refl, tt))) in omega (arith, none, some))
+  gate_fails _ e unheard = absurd (let none = all_refused_none first (subst AllDone (sym e) (refl, (refl, (refl, tt)))) in omega (arith, none, some))
+  gate_fails _ e unwritten = record {
+    stands = false;
+    place = inl (third, refl);
+    calls = inl (end, 1 ∷ [], behind 2 ∙ ap (drop 2) e, refl);
+  }
+    where
+      here : AreArmed (since + lines) (since + lines + k) (map done (lay file end body) ++ failed (Call.Write file end (1 ∷ [])) ∷ [])
+      here = subst (AreArmed (since + lines) (since + lines + k)) e armed
+
+      last : AreArmed (since + lines + 2) (since + lines + k) (failed (Call.Write file end (1 ∷ [])) ∷ [])
+      last = (parts_armed (since + lines) (since + lines + k) (map done (lay file end body)) (failed (Call.Write file end (1 ∷ [])) ∷ []) here).1
+
+      third : k ≡ 3
+      third = let a = at_last (since + lines + 2) (since + lines + k) (Call.Write file end (1 ∷ [])) last in omega (arith, a)
+  gate_fails _ e unsynced = record {
+    stands = true;
+    place = inr (fourth, refl);
+    calls = inr (behind 3 ∙ ap (drop 3) e, refl);
+  }
+    where
+      here : AreArmed (since + lines) (since + lines + k) ((map done (lay file end body) ++ done (Call.Write file end (1 ∷ [])) ∷ []) ++ failed (Call.Sync file) ∷ [])
+      here = subst (AreArmed (since + lines) (since + lines + k)) e armed
+
+      last : AreArmed (since + lines + 3) (since + lines + k) (failed (Call.Sync file) ∷ [])
+      last = (parts_armed (since + lines) (since + lines + k) (map done (lay file end body) ++ done (Call.Write file end (1 ∷ [])) ∷ []) (failed (Call.Sync file) ∷ []) here).1
+
+      fourth : k ≡ 4
+      fourth = let a = at_last (since + lines + 3) (since + lines + k) (Call.Sync file) last in omega (arith, a)
+
+-- The step that halts has a record, and so has the plan that is the event's.
+module _ (hosts : Hosts) (net : Net) (w : World) (i : ℕ) (p : Place) (x : Known) (n : State) (at : IsAt hosts net w i p x n) (input : Input) (meaning : Meaning) (now status : ℕ)
+    (heard_so : IsInput w i x input meaning now) (step : TurnStep) (is_first : IsFirst n.book now meaning step status) (entry : Record) (records : step.entry ≡ Some entry) (k lines : ℕ)
+    (made : List Made) (fates : List Bool) (until : Option ℕ) (struck : IsStruck w (Turn i input fates until) (failing k) fates until) where
+  abbrev h : Heard w i x n.book input meaning now
+  h = heard w i x n.book input meaning now heard_so
+
+  first_so : struck.first ≡ true
+  first_so =
+      same_some struck.first true
+      (sym struck.is ∙ records_are hosts net w i p x n at input meaning now h fates until ∙ ap (λ o. Some (is_some o)) (sym (h.first step status is_first).entry ∙ records))
+
+  pub halts_so : (file : ℕ) → GateFails k lines made file → HaltsSo lines made fates until
+  halts_so file g =
+      let so : HaltsAt k struck.first g.stands = halts_at k struck.first g.stands first_so g.place in
+      record {
+        stands = g.stands;
+        fates_are = struck.fates_are ∙ so.fates_are;
+        until_is = struck.until_is ∙ so.until_is;
+        file = file;
+        calls = g.calls;
+      }
