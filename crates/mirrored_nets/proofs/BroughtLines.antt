@@ -1,6 +1,6 @@
 -- What a connection brings: how many calls come before its first step, and the time behind it.
 use Rattle.std.specs.Prelude.{ℕ, List, ◌+◌, ◌≡◌, ◌≤◌, ◌<◌, ◌^◌, Bool, Some, true, false}
-use Rattle.std.proofs.Common.{arith, subst, sym, ◌∙◌}
+use Rattle.std.proofs.Common.{arith, subst, sym}
 use Rattle.at_model.specs.World.{Input, Deliver, Raw, Tick, nth}
 use Rattle.memory_net.specs.Mails.{Mail}
 use Rattle.node_events.specs.NodeEvents.{one_if}

@@ -153,10 +153,6 @@ pub some_refused : (ms : List Made) → 1 ≤ refusals ms → ms ≡ [] → ⊥
 some_refused [] h e = omega (arith, h)
 some_refused (m ∷ ms) h e = absurd cc
 
-pub all_were_done : (cs : List Call) → all_done (map done cs) ≡ true
-all_were_done [] = refl
-all_were_done (c ∷ cs) = all_were_done cs
-
 -- calls of the disk of which one failed, or was not tried
 pub disk_calls : (calls : List Call) (made : List Made) → AreOnDisk (map done calls) → BreaksOff calls made → AreOnDisk made
 disk_calls calls made h b = by b.is

@@ -1,5 +1,5 @@
 -- How turns end: what their machine was told stays, and where no gate is left shut behind steps that went to their end, they go to it.
-use Rattle.std.specs.Prelude.{ℕ, List, [], ◌∷◌, ◌≡◌, ◌⊎◌, Bool, true, false, if◌then◌else◌}
+use Rattle.std.specs.Prelude.{ℕ, List, [], ◌∷◌, ◌≡◌, ◌⊎◌, true, false, if◌then◌else◌}
 use Rattle.std.proofs.Common.{refl, sym, ap, subst, ◌∙◌, inl, inr}
 use Rattle.memory_net.specs.Calls.{Turns}
 use Rattle.node_at.specs.Endings.{Ends}

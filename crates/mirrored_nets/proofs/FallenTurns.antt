@@ -15,6 +15,7 @@ use Rattle.mirrored_nets.specs.Goings.{IsBrought, IsSet, ms_of}
 use Rattle.mirrored_nets.specs.Mirrors.{Mirrors}
 use Rattle.mirrored_nets.specs.Took.{ComesTo, EndsSo, IsWhole, LeftSo, StopsBefore, StopsInStep, TookTurn, kept_of}
 use Rattle.mirrored_nets.specs.declared.came.Came.TheVariants as cames
+use Rattle.mirrored_nets.proofs.BroughtLines.{few_lines}
 use Rattle.mirrored_nets.proofs.CutTurns.{at_sites, place_records}
 use Rattle.mirrored_nets.proofs.FallenHosts.{InWorld, IsBefore, NetLaws, at_this, in_world, up_there}
 use Rattle.mirrored_nets.proofs.HaltedTurns.{DidHalt, did_halt, halt_made, halted_turn}
@@ -51,15 +52,6 @@ pub since_then : (old s t : MemSite) (made more : List Made) → calls_in s.devi
 since_then old s t made more same e f =
     let all : made ≡ more = e ∙ (λ i. drop (length (sym same i)) (f i)) ∙ drop-append_seam (calls_in s.device) more in
     f ∙ ap (λ z. calls_in s.device ++ z) (sym all)
-
-few_lines : (mails : List Mail) (i lines : ℕ) (bytes : List ℕ) (input : Input) → IsBrought mails i input lines bytes → lines ≤ 1
-few_lines mails i lines bytes (Deliver k) (m, found, to, is, short, none) = omega (arith, none)
-few_lines mails i lines bytes (Tick ms) (tick, none) = omega (arith, none)
-few_lines mails i lines bytes Raw (status, waits, drawn, held, lines_are) = let a = at_most waits in omega (arith, lines_are, a)
-  where
-    at_most : (b : Bool) → one_if b ≤ 1
-    at_most true = omega arith
-    at_most false = omega arith
 
 formed_first : (n : State) (steps : List TurnStep) (doings : List Doing) (s : TurnStep) (ss : List TurnStep) (d : Doing) (ds : List Doing) → AreDoings n.kept steps doings → steps ≡ s ∷ ss → doings ≡ d ∷ ds
     → IfSome s.entry (λ r. IsRecord Two r (bytes_of r))
@@ -179,7 +171,7 @@ module _ (L : NetLaws) (K : TurnLaws) (torn : AppendsTorn) (count : ℕ) (hosts 
 
     did : DidHalt halt.first (seen n) halt.node from halt.behind halt.steps × (T.site ≡ halt.behind)
     did =
-        did_halt lines (few_lines mails i lines bytes input brought) T.made T.said fates until halt_comes (seen n) up_now.runs up_now.holds.sure from T.site adds_here halt.first T.node.shrunk halt.node (seen T.node) halt.behind
+        did_halt lines (few_lines mails i input lines bytes brought) T.made T.said fates until halt_comes (seen n) up_now.runs up_now.holds.sure from T.site adds_here halt.first T.node.shrunk halt.node (seen T.node) halt.behind
         halt.steps halt.ends
 
     abbrev W : DidHalt halt.first (seen n) halt.node from halt.behind halt.steps

@@ -1,6 +1,6 @@
 -- Fates that are yes but for the last.
 use Rattle.std.specs.Prelude.{ℕ, List, [], ◌∷◌, ◌+◌, ◌≡◌, ◌<◌, Bool, true, drop, length, zero, suc}
-use Rattle.std.proofs.Common.{add-one, ap, arith, refl, sym, subst, ◌∙◌}
+use Rattle.std.proofs.Common.{add-one, ap, arith, sym, subst, ◌∙◌}
 use Rattle.at_model.specs.World.{fate}
 use Rattle.world_laws.specs.Fates.{behind_done}
 use Rattle.world_laws.proofs.Fates.{fate_before}
@@ -24,29 +24,6 @@ one_more (suc n) (f ∷ fs) within last h =
 -- one more of them is yes
 pub one_more_done : (n : ℕ) (fates : List Bool) → n < length fates → fate (drop n fates) ≡ true → fates ≡ behind_done n (drop n fates) → fates ≡ behind_done (n + 1) (drop (n + 1) fates)
 one_more_done n fates within last h = subst (λ k. fates ≡ behind_done k (drop k fates)) (sym (add-one n)) (one_more n fates within last h)
-
-only_one : (fates : List Bool) → length fates ≡ 1 → fates ≡ fate fates ∷ []
-only_one [] e = absurd cc
-only_one (f ∷ []) e = refl
-only_one (f ∷ (g ∷ gs)) e = absurd (more (length gs) e)
-  where
-    more : (n : ℕ) → suc (suc n) ≡ 1 → ⊥
-    more n h = omega (arith, h)
-
-left_length : (n : ℕ) (fates : List Bool) → length fates ≡ suc n → length (drop n fates) ≡ 1
-left_length zero fates e = e
-left_length (suc n) [] e = absurd (none n e)
-  where
-    none : (n : ℕ) → 0 ≡ suc (suc n) → ⊥
-    none n h = omega (arith, h)
-left_length (suc n) (f ∷ fs) e = left_length n fs (less (length fs) n e)
-  where
-    less : (k n : ℕ) → suc k ≡ suc (suc n) → k ≡ suc n
-    less k n h = omega (arith, h)
-
--- the last one
-pub struck_so : (n : ℕ) (fates : List Bool) → length fates ≡ suc n → fates ≡ behind_done n (drop n fates) → fates ≡ behind_done n (fate (drop n fates) ∷ [])
-struck_so n fates e h = h ∙ ap (behind_done n) (only_one (drop n fates) (left_length n fates e))
 
 -- each of those before it is yes
 pub struck_before : (n place : ℕ) (last : Bool) (fates : List Bool) → fates ≡ behind_done n (last ∷ []) → place < n → fate (drop place fates) ≡ true

@@ -1,14 +1,11 @@
 -- A turn that halted in its first step, on a machine that was told which of its calls is to fail: that call is its gate's, and the event asks for a
 -- failure there.
-use Rattle.std.specs.Prelude.{ℕ, List, [], ◌∷◌, ◌++◌, ◌+◌, ◌≡◌, ◌≤◌, ◌<◌, ◌⊎◌, Bool, Option, Some, true, false, drop, is_some, length, map, nat_eq, not, suc}
+use Rattle.std.specs.Prelude.{ℕ, List, [], ◌∷◌, ◌++◌, ◌+◌, ◌≡◌, ◌≤◌, ◌⊎◌, Bool, Option, Some, true, false, drop, is_some, length, map, nat_eq, not, suc}
 use Rattle.std.proofs.Common.{ap, arith, inl, inr, refl, subst, sym, true≢false, ◌∙◌}
 use Rattle.std.proofs.lemmas.Bool.{eqb-true}
 use Rattle.at_base.specs.declared.record.Record.{Record}
 use Rattle.at_model.specs.World.{Hosts, Input, Node as Known, Turn, World}
-use Rattle.http_post.specs.Conversations.{interim}
-use Rattle.journal_at.specs.StandingBodies.{Makes, lay}
-use Rattle.journal_at.specs.declared.journal.Append.TheVariants as appends
-use Rattle.journal_at.specs.declared.journal.Journal.{Journal}
+use Rattle.journal_at.specs.StandingBodies.{lay}
 use Rattle.memory_net.proofs.Standing.{same_some}
 use Rattle.node_at.specs.Meanings.{Meaning}
 use Rattle.node_at.specs.State.{State}
@@ -18,12 +15,12 @@ use Rattle.node_events.proofs.HeardInputs.{Heard, heard}
 use Rattle.node_worlds.specs.Nets.{Net, Place}
 use Rattle.possible_events.specs.PossibleEvents.{IsStruck}
 use Rattle.site_memory.specs.ToldCalls.{AreArmed}
-use Rattle.site_model.specs.Told.{BreaksOff, Call, Made, done, failed}
+use Rattle.site_model.specs.Told.{Call, Made, done, failed}
 use Rattle.mirrored_nets.specs.Fates.{AllDone, refusals}
 use Rattle.mirrored_nets.specs.Took.{HaltsSo}
-use Rattle.mirrored_nets.proofs.CallRows.{all_refused_none, refusals_join}
+use Rattle.mirrored_nets.proofs.CallRows.{all_refused_none}
 use Rattle.mirrored_nets.proofs.HaltCuts.{drop_behind}
-use Rattle.mirrored_nets.proofs.HaltedGates.{FailsAt, IsBroken, broken_gate}
+use Rattle.mirrored_nets.proofs.HaltedGates.{FailsAt, IsBroken}
 use Rattle.mirrored_nets.proofs.HaltedGates.IsBroken.{unheard, unsynced, untried, unwritten}
 use Rattle.mirrored_nets.proofs.StruckRecords.{HaltsAt, failing, halts_at}
 use Rattle.mirrored_nets.proofs.StruckRows.{IsWithin, failed_within, parts_armed}

@@ -13,9 +13,9 @@ use Rattle.fated_walks.specs.Fated.{AllLeft, AreWhole, Fated, IsBeyond, StartsWi
 use Rattle.http_post.specs.Conversations.{interim}
 use Rattle.memory_net.proofs.MailedPosts.{all_left, all_right}
 use Rattle.memory_net.proofs.Standing.{same_some}
-use Rattle.node_at.specs.Doings.{Doing, refused_of}
+use Rattle.node_at.specs.Doings.{refused_of}
 use Rattle.node_at.specs.Endings.{TakesTurn}
-use Rattle.node_at.specs.State.{State, seen}
+use Rattle.node_at.specs.State.{seen}
 use Rattle.node_at.specs.declared.node.Node.{Node}
 use Rattle.node_at.specs.declared.role.Role.TheVariants.{All}
 use Rattle.node_at.specs.declared.turn.Turned.{Turned}
@@ -23,7 +23,7 @@ use Rattle.node_events.specs.NodeEvents.{AreStepsOf, IsAt, all_made}
 use Rattle.node_events.proofs.FatedSteps.{all_whole}
 use Rattle.node_events.proofs.HeardInputs.{Heard, heard}
 use Rattle.node_worlds.specs.Nets.{Net, Place}
-use Rattle.possible_events.specs.PossibleEvents.{IsMissed, IsStruck, IsUnharmed}
+use Rattle.possible_events.specs.PossibleEvents.{IsStruck, IsUnharmed}
 use Rattle.record_bytes.specs.Bytes.{bytes_of}
 use Rattle.site_memory.specs.Sites.{told_of}
 use Rattle.site_memory.specs.ToldCalls.{AreArmed}
@@ -31,15 +31,15 @@ use Rattle.site_memory.specs.declared.machine.MemSite.{MemSite}
 use Rattle.site_model.specs.Counts.{Rose}
 use Rattle.site_model.specs.Told.{Call, Made, done}
 use Rattle.world_laws.specs.Fates.{behind_done}
-use Rattle.mirrored_nets.specs.Fates.{AllDone, AreAsked, IsDone, all_done, anew_of, disk_part, fates_in, is_done, record_fate, refusals}
+use Rattle.mirrored_nets.specs.Fates.{AllDone, AreAsked, IsDone, anew_of, disk_part, fates_in, is_done, record_fate, refusals}
 use Rattle.mirrored_nets.specs.Struck.{ComesAt, HasRecord}
-use Rattle.mirrored_nets.specs.Took.{Adds, IsWhole}
+use Rattle.mirrored_nets.specs.Took.{Adds}
 use Rattle.mirrored_nets.proofs.CallRows.{AreParts, all_refused_none, disk_is, not_all_done, some_refused}
 use Rattle.mirrored_nets.proofs.CallsRead.{IsRecordOf, anew_behind, behind_line, fates_of_calls, fates_read, parts, record_fate_is, refusals_are, steps_fated}
-use Rattle.mirrored_nets.proofs.DoneCalls.{all_drop, all_test}
+use Rattle.mirrored_nets.proofs.DoneCalls.{all_drop}
 use Rattle.mirrored_nets.proofs.LeavingCalls.{line_length}
 use Rattle.mirrored_nets.proofs.StepsLeft.{IsLanded, all_leave, first_lands, unrecorded_landed}
-use Rattle.mirrored_nets.proofs.StruckRecords.{FailsSo, RecordSo, absent, failing, fails_at_lay, fails_past, fails_unrecorded, none, record_so, stood}
+use Rattle.mirrored_nets.proofs.StruckRecords.{RecordSo, absent, failing, fails_at_lay, fails_past, fails_unrecorded, none, record_so, stood}
 use Rattle.mirrored_nets.proofs.StruckRows.{AllYes, done_before, done_behind, failed_within, few_refused, none_failed_done, parts_armed, starts_done, starts_missed, starts_none, starts_struck, yes_fates}
 use Rattle.mirrored_nets.proofs.StruckWalks.{comes_so, missed_so, planned, records_are}
 use Rattle.mirrored_nets.proofs.TurnsRead.{StepsRead}
@@ -287,9 +287,6 @@ module _ (come : CallsComing) (count : ℕ) (w : World) (net : Net) (i c : ℕ) 
   module _ (all : AllDone made) where
     behind_done_all : AllDone (R.d.first ++ (sends ++ R.read.anew))
     behind_done_all = subst AllDone behind_is (all_drop lines made all)
-
-    first_done : AllDone R.d.first
-    first_done = all_left IsDone R.d.first (sends ++ R.read.anew) behind_done_all
 
     sends_done : AllDone sends
     sends_done = all_left IsDone sends R.read.anew (all_right IsDone R.d.first (sends ++ R.read.anew) behind_done_all)

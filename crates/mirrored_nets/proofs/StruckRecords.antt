@@ -1,5 +1,5 @@
 -- The calls of a record on a machine that was told which of its calls is to fail, and the fates of a fault at that call.
-use Rattle.std.specs.Prelude.{ℕ, List, [], ◌∷◌, ◌++◌, ◌+◌, ◌-◌, ◌≡◌, ◌≤◌, ◌<◌, ◌⊎◌, Bool, Option, Some, None, true, false, if◌then◌else◌, length, map, nat_eq, nat_le, not, suc, zero}
+use Rattle.std.specs.Prelude.{ℕ, List, [], ◌∷◌, ◌++◌, ◌+◌, ◌-◌, ◌≡◌, ◌≤◌, ◌⊎◌, Bool, Option, Some, None, true, false, if◌then◌else◌, length, map, nat_eq, nat_le, not, suc, zero}
 use Rattle.std.proofs.Common.{ap, arith, inl, inr, refl, subst, sym, true≢false, ◌∙◌}
 use Rattle.std.proofs.lemmas.Bool.{eq-eqb, lt-leb}
 use Rattle.std.proofs.lemmas.List.{length-append, length-map}

@@ -7,7 +7,7 @@ use Rattle.fated_walks.specs.Fated.{StartsWith}
 use Rattle.site_memory.specs.ToldCalls.{AreArmed}
 use Rattle.site_model.specs.Told.{Made}
 use Rattle.world_laws.specs.Fates.{behind_done}
-use Rattle.mirrored_nets.specs.Fates.{AllDone, all_done, behind_disk, disk_part, fates_in, is_disk, is_done, record_fate, refusals, sent_of, sent_part}
+use Rattle.mirrored_nets.specs.Fates.{AllDone, behind_disk, disk_part, fates_in, is_disk, is_done, record_fate, refusals, sent_of, sent_part}
 use Rattle.mirrored_nets.proofs.CallRows.{AreOnDisk, all_refused_none, count_none, one_refused}
 use Rattle.mirrored_nets.proofs.DoneCalls.{all_behind_disk, all_test}
 

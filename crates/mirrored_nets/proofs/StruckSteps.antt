@@ -1,5 +1,5 @@
 -- What the steps of a turn came to on a machine that was told which of its calls is to fail: their end, or the node halted in the first.
-use Rattle.std.specs.Prelude.{ℕ, List, [], ◌∷◌, ◌≡◌, ◌⊎◌, false, Some}
+use Rattle.std.specs.Prelude.{ℕ, List, [], ◌∷◌, ◌≡◌, ◌⊎◌, Some}
 use Rattle.std.proofs.Common.{ap, arith, inl, inr, refl, sym, true≢false, ◌∙◌}
 use Rattle.at_base.specs.declared.event.Event.TheVariants as events
 use Rattle.at_base.specs.declared.outs.Out.{Out}

@@ -7,23 +7,22 @@ use Rattle.armed_calls.specs.Faults.{is_stop}
 use Rattle.armed_calls.specs.declared.fault.Armed.{Armed as Known}
 use Rattle.armed_calls.specs.declared.fault.Fault.{Fault}
 use Rattle.armed_calls.specs.declared.fault.Fault.TheVariants as faults
-use Rattle.at_base.specs.declared.record.Record.{Record}
 use Rattle.at_model.specs.World.{Node, Turn, example_base, example_hosts}
 use Rattle.fated_walks.specs.CallsComing.{CallsComing}
 use Rattle.http_post.specs.Conversations.{interim}
-use Rattle.journal_at.specs.StandingBodies.{Keeps, Makes}
+use Rattle.journal_at.specs.StandingBodies.{Makes}
 use Rattle.journal_at.specs.declared.journal.Append.TheVariants as appends
 use Rattle.memory_net.proofs.Standing.{same_some}
-use Rattle.memory_net.specs.Calls.{IsServing, Turns}
+use Rattle.memory_net.specs.Calls.{Turns}
 use Rattle.node_at.specs.Endings.{Ends, Rested, TakesTurn}
 use Rattle.node_at.specs.Meanings.{Hears, next_input}
-use Rattle.node_at.specs.State.{State, seen}
+use Rattle.node_at.specs.State.{seen}
 use Rattle.node_at.specs.Turns.{IsLine, is_heard}
 use Rattle.node_at.specs.declared.node.Node.{Node as Noded}
 use Rattle.node_at.specs.declared.role.Role.TheVariants.{All}
 use Rattle.node_at.specs.declared.turn.Turned.{Turned}
 use Rattle.node_at.specs.declared.turn.Turned.TheVariants as turneds
-use Rattle.node_events.specs.NodeEvents.{IsAt, IsInput}
+use Rattle.node_events.specs.NodeEvents.{IsInput}
 use Rattle.node_worlds.specs.Acts.{IsUp}
 use Rattle.node_worlds.specs.Nets.{Place}
 use Rattle.possible_events.specs.PossibleEvents.{IsStruck, IsStruckBefore, Strikes}

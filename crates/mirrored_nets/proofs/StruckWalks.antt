@@ -2,7 +2,6 @@
 use Rattle.std.specs.Prelude.{ℕ, List, [], ◌∷◌, ◌+◌, ◌≡◌, ◌≤◌, ◌<◌, Bool, Option, None, Some, true, false, if◌then◌else◌, length, option_and_then, option_map}
 use Rattle.std.proofs.Common.{ap, inl, inr, refl, sym, subst, ◌∙◌}
 use Rattle.armed_calls.specs.Faults.{Met, fates_of, until_of}
-use Rattle.at_model.specs.Step.{Plan}
 use Rattle.at_model.specs.World.{Hosts, Input, Node, Turn, World, WorldEvent}
 use Rattle.fated_walks.specs.CallsComing.{CallsComing, IsUntil}
 use Rattle.fated_walks.specs.Fated.{AllLeft, AreWhole, Fated, IsPlanned, all_fates}

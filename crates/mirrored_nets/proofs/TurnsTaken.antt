@@ -181,7 +181,7 @@ module _ (L : NetLaws) (K : TurnLaws) (count : ℕ) (few : count ≤ 8) (hosts :
       module _ (old : MemSite) (set : IsSet (c + ms_of input) h.site old) (others : s ≡ record old { line = s.line }) (has : HasRoom old) (r : Turned) (m : Node) (t : MemSite)
           (turn : TakesTurn told_of r All m.shrunk (seen n) (seen m) from t) (first_ends : IsWhole turn.first) (made : List Made) (adds : Adds made old t)
           (said : take lines made ≡ replicate lines (done (Call.Send interim))) where
-        pub from_others : from ≡ record old { line = from.line }
+        from_others : from ≡ record old { line = from.line }
         from_others = from_is ∙ others ∙ ap (λ (z : MemSite). record old { line = z.line }) (sym from_is)
 
         did : DidWhole turn.first (seen n) turn.node from turn.behind turn.steps

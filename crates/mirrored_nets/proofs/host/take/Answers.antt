@@ -1,6 +1,6 @@
 use Rattle.std.proofs.Common.{subst, sym}
 use Rattle.site_memory.specs.Entries.{mades}
-use Rattle.mirrored_nets.specs.StruckTurns.{Goes, IsStruckTurn}
+use Rattle.mirrored_nets.specs.StruckTurns.{Goes}
 use Rattle.mirrored_nets.specs.Took.{EndsSo}
 use Rattle.mirrored_nets.proofs.HostSteps.{CameSo, if_ok, judged_so, not_err, ok_is, passed_up, took_turn}
 use Rattle.mirrored_nets.proofs.host.take.Goals as goal
