@@ -1,10 +1,10 @@
 -- A turn that was taken, and behind which its host is down: at a stop, or since the node halted.
-use Rattle.std.specs.Prelude.{ℕ, List, ◌∷◌, ◌++◌, ◌+◌, ◌≡◌, ◌≤◌, ◌⊎◌, IfSome, Bool, Option, Some, None, true, false, drop, length, replicate, take}
+use Rattle.std.specs.Prelude.{ℕ, List, ◌∷◌, ◌++◌, ◌+◌, ◌≡◌, ◌≤◌, ◌⊎◌, IfSome, Bool, Option, Some, None, true, drop, length, replicate, take}
 use Rattle.std.specs.List.{AllByRecursion}
-use Rattle.std.proofs.Common.{refl, sym, ap, subst, arith, ◌∙◌, inl, inr}
+use Rattle.std.proofs.Common.{refl, sym, ap, subst, ◌∙◌, inl, inr}
 use Rattle.std.proofs.Math.Seq.{drop-append_seam}
 use Rattle.at_base.specs.declared.record.Record.{Record}
-use Rattle.at_model.specs.World.{Deliver, Input, Node as Known, Raw, Tick, Turn, World, example_base, nth, put_nth, world_step}
+use Rattle.at_model.specs.World.{Input, Node as Known, Turn, World, example_base, nth, put_nth, world_step}
 use Rattle.fated_walks.specs.Fated.{AllLeft, Fated}
 use Rattle.http_post.specs.Conversations.{interim}
 use Rattle.journal_at.specs.declared.version.Version.TheVariants.{Two}
@@ -34,7 +34,7 @@ use Rattle.node_at.specs.Turns.{IsLine, is_heard}
 use Rattle.node_at.specs.declared.node.Node.{Node}
 use Rattle.node_at.specs.declared.role.Role.TheVariants.{All}
 use Rattle.node_at.specs.declared.turn.Turned.TheVariants as turneds
-use Rattle.node_events.specs.NodeEvents.{HaltsAreEvents, IsInput, StopsAreEvents, UnbegunAreEvents, one_if}
+use Rattle.node_events.specs.NodeEvents.{HaltsAreEvents, IsInput, StopsAreEvents, UnbegunAreEvents}
 use Rattle.node_worlds.specs.Acts.{IsUp}
 use Rattle.node_worlds.proofs.LifeLaws.{turn_did}
 use Rattle.record_bytes.specs.Bytes.{bytes_of}

@@ -1,10 +1,10 @@
 -- The events that are done to the hosts of a net.
-use Rattle.std.specs.Prelude.{ℕ, List, [], ◌+◌, ◌≡◌, ◌≤◌, ◌⊎◌, Bool, true, false, Err, IfSome, IsErrAnd, Ok, Option, Result, Some, None, is_some, length, map, suc, zero}
+use Rattle.std.specs.Prelude.{ℕ, List, [], ◌+◌, ◌≡◌, ◌≤◌, ◌⊎◌, Bool, true, false, Err, IsErrAnd, Ok, Option, Result, Some, None, is_some, length, map, suc, zero}
 use Rattle.std.proofs.Common.{ap, arith, refl, subst, sym, inl, inr, ◌∙◌}
 use Rattle.at_base.specs.declared.event.Local.{Local}
 use Rattle.at_model.specs.World.{Input, World, WorldEvent, Turn, Ask, Crash, Up, example_base, node_of, nth, put_nth, world_step}
 use Rattle.memory_net.specs.Closed.{IsExampleRequest}
-use Rattle.memory_net.specs.Mails.{Mail, mail_of}
+use Rattle.memory_net.specs.Mails.{mail_of}
 use Rattle.memory_net.specs.declared.host.Host.{Host}
 use Rattle.memory_net.specs.declared.letter.Letter.{Letter}
 use Rattle.node_at.specs.declared.node.Node.{Node}
@@ -22,7 +22,6 @@ use Rattle.mirrored_nets.specs.Rooms.{HasRoomAt, IsFullAt}
 use Rattle.mirrored_nets.specs.Took.{HasRoom, IsFull, TookRequest, TookTurn}
 use Rattle.mirrored_nets.specs.TookStart.{TookStart}
 use Rattle.mirrored_nets.specs.Unarmed.{IsntApart}
-use Rattle.mirrored_nets.specs.declared.came.Came.TheVariants as cames
 use Rattle.mirrored_nets.specs.declared.fault.Unlike.{Unlike}
 use Rattle.mirrored_nets.specs.declared.fault.Unlike.TheVariants.{Apart}
 use Rattle.mirrored_nets.proofs.OpenedNets.{serve_put}

@@ -29,7 +29,7 @@ use Rattle.site_memory.specs.Sites.{told_of}
 use Rattle.site_memory.specs.ToldCalls.{AreArmed}
 use Rattle.site_memory.specs.declared.machine.MemSite.{MemSite}
 use Rattle.site_model.specs.Counts.{Rose}
-use Rattle.site_model.specs.Told.{Call, Made, done}
+use Rattle.site_model.specs.Told.{Call, Made}
 use Rattle.world_laws.specs.Fates.{behind_done}
 use Rattle.mirrored_nets.specs.Fates.{AllDone, AreAsked, IsDone, anew_of, disk_part, fates_in, is_done, record_fate, refusals}
 use Rattle.mirrored_nets.specs.Struck.{ComesAt, HasRecord}
