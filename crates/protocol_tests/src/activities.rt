@@ -1,6 +1,6 @@
 //! What an activity does at each message and request that can reach it, and by itself, written out by hand.
 
-use crate::shared::{arrived, context, epr, moment_at, outs_line, part, time_of};
+use crate::shared::{arrived, context, epr, follows, moment_at, part, time_of};
 use at_base::event::{Event, Item, Local, Moment};
 use at_base::id::Id;
 use at_base::notice::{Kind, Notice, Vote};
@@ -209,25 +209,26 @@ fn event_of(alloc: Global, name: &str) -> Result<Event, AllocError> {
     }
 }
 
-fn states_line(alloc: Global, activities: &Activities) -> Result<String, AllocError> {
-    let mut line = String::new(alloc);
+/// Whether activities have come so far, as `Active+Creating`; `gone` where there is none.
+fn have_come(activities: &Activities, words: &str) -> bool {
+    let mut place = 0usize;
     for activity in activities.as_slice() {
-        if !line.is_empty() {
-            line.push_str("+")?;
+        if name_of(activity.progress) != part(words, '+', place) {
+            return false;
         }
-        line.push_str(name_of(activity.progress))?;
+        place = place.saturating_add(1);
     }
-    if line.is_empty() {
-        line.push_str("gone")?;
+    match place {
+        0 => words == "gone",
+        _ => words.split('+').count() == place,
     }
-    Ok(line)
 }
 
 fn refusal_name(refusal: Option<Refusal>) -> &'static str {
     match refusal {
-        Some(Refusal::Stale) => " Stale",
-        Some(Refusal::Full) => " Full",
-        Some(Refusal::Spent) => " Spent",
+        Some(Refusal::Stale) => "Stale",
+        Some(Refusal::Full) => "Full",
+        Some(Refusal::Spent) => "Spent",
         None => "",
     }
 }
@@ -251,17 +252,20 @@ fn outs_of(
     Ok(activities.apply(plan, true))
 }
 
-/// What follows an event: what is sent and told, and why it is refused.
-fn step(
+/// Whether an event is refused as the last word says, or what the words say follows it, but for the first one.
+fn does(
     alloc: Global,
     activities: &mut Activities,
     event: &Event,
     moment: &Moment,
-) -> Result<String, AllocError> {
+    words: &str,
+) -> Result<bool, AllocError> {
     let refusal = refusal_of(activities, event, moment);
     let outs = outs_of(alloc, activities, event, moment)?;
-    let line = outs_line(alloc, &outs)?;
-    format!(in alloc; "{line}{refusal}")
+    if refusal.is_empty() {
+        return Ok(follows(&outs, words, 0));
+    }
+    Ok(follows(&outs, words, 1) && words.ends_with(refusal))
 }
 
 /// Activities of these numbers and roots that have come so far and sent so many Works.
@@ -289,10 +293,8 @@ fn moves(
     moment: &Moment,
     wanted: &str,
 ) -> Result<bool, AllocError> {
-    let line = step(alloc, activities, event, moment)?;
-    let states = states_line(alloc, activities)?;
-    let found = format!(in alloc; "{states}{line}")?;
-    Ok(found.as_str() == wanted)
+    let right = does(alloc, activities, event, moment, wanted)?;
+    Ok(right && have_come(activities, part(wanted, ' ', 0)))
 }
 
 /// Whether a step does what its row says.
@@ -328,21 +330,6 @@ fn many(alloc: Global, count: u32) -> Result<Activities, AllocError> {
     Activities::from_vec(items)
 }
 
-/// Whether so many activities live behind an event, of which the first sent so many Works, and this follows it.
-fn counts(
-    alloc: Global,
-    activities: &mut Activities,
-    event: &Event,
-    moment: &Moment,
-    wanted: &str,
-) -> Result<bool, AllocError> {
-    let line = step(alloc, activities, event, moment)?;
-    let live = activities.len();
-    let works = works_of(activities);
-    let found = format!(in alloc; "{live} {works}{line}")?;
-    Ok(found.as_str() == wanted)
-}
-
 fn works_of(activities: &Activities) -> u32 {
     match activities.find(Id::new(1, 1)) {
         Some(activity) => activity.works,
@@ -350,49 +337,56 @@ fn works_of(activities: &Activities) -> u32 {
     }
 }
 
-/// How many live, whether an id is left, and what Begin gives: how many live then, how many Works the first sent, and
-/// what follows.
-const BEGINS: &[(u32, bool, &str)] = &[
-    (255, true, "256 0 Create@http://n2.example/activation"),
-    (256, true, "256 0 Full"),
-    (256, false, "256 0 Full"),
-    (1, false, "1 0 Spent"),
+/// How many live, whether an id is left, and what Begin gives: how many live then, and what follows.
+const BEGINS: &[(u32, bool, usize, &str)] = &[
+    (255, true, 256, "- Create@http://n2.example/activation"),
+    (256, true, 256, "- Full"),
+    (256, false, 256, "- Full"),
+    (1, false, 1, "- Spent"),
 ];
 
-fn begins(alloc: Global, count: u32, left: bool, wanted: &str) -> Result<bool, AllocError> {
+fn begins(
+    alloc: Global,
+    count: u32,
+    left: bool,
+    live: usize,
+    wanted: &str,
+) -> Result<bool, AllocError> {
     let next = if left { Some(Id::new(1, 300)) } else { None };
     let moment = moment_at(alloc, BASE, 7, next)?;
     let event = event_of(alloc, "AskBegin")?;
     let mut activities = many(alloc, count)?;
-    counts(alloc, &mut activities, &event, &moment, wanted)
+    let right = does(alloc, &mut activities, &event, &moment, wanted)?;
+    Ok(right && activities.len() == live)
 }
 
 #[test]
 fn room_and_ids(rt: HostRuntime) -> Result<(), Fail> {
-    for (count, left, line) in BEGINS {
-        let right = begins(rt.alloc(), *count, *left, line)?;
+    for (count, left, live, line) in BEGINS {
+        let right = begins(rt.alloc(), *count, *left, *live, line)?;
         assert!(rt; right, "at {count} {left}");
     }
     Ok(())
 }
 
-/// How many Works an activity sent, and what one more gives, as above.
-const WORKS: &[(u32, &str)] = &[
-    (4294967294, "1 4294967295 Work@http://n3.example/work"),
-    (4294967295, "1 4294967295 Spent"),
+/// How many Works an activity sent, and what one more gives: how many it sent then, and what follows.
+const WORKS: &[(u32, u32, &str)] = &[
+    (4294967294, 4294967295, "- Work@http://n3.example/work"),
+    (4294967295, 4294967295, "- Spent"),
 ];
 
-fn works(alloc: Global, count: u32, wanted: &str) -> Result<bool, AllocError> {
+fn works(alloc: Global, count: u32, then: u32, wanted: &str) -> Result<bool, AllocError> {
     let moment = moment_at(alloc, BASE, 7, None)?;
     let event = work(alloc)?;
     let mut activities = rooted(alloc, &[(1, 1)], Progress::Active, count)?;
-    counts(alloc, &mut activities, &event, &moment, wanted)
+    let right = does(alloc, &mut activities, &event, &moment, wanted)?;
+    Ok(right && works_of(&activities) == then)
 }
 
 #[test]
 fn the_last_work(rt: HostRuntime) -> Result<(), Fail> {
-    for (count, line) in WORKS {
-        let right = works(rt.alloc(), *count, line)?;
+    for (count, then, line) in WORKS {
+        let right = works(rt.alloc(), *count, *then, line)?;
         assert!(rt; right, "at {count}");
     }
     Ok(())

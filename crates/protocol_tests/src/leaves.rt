@@ -1,6 +1,6 @@
 //! What a leaf does at each message that can reach it, and by itself, written out by hand.
 
-use crate::shared::{arrived, context, epr, moment_at, outs_line, part, reply_named, time_of};
+use crate::shared::{arrived, context, epr, follows, moment_at, part, reply_named, time_of};
 use at_base::epr::Reply;
 use at_base::event::{Arrived, Event, Item, Moment};
 use at_base::id::Id;
@@ -181,10 +181,8 @@ fn moves(
     let plan = leaves.plan(alloc, event, moment)?;
     let recorded = record_name(plan.entry()) == part(row, '|', 1);
     let outs = leaves.apply(plan, landed);
-    let line = outs_line(alloc, &outs)?;
-    let found = format!(in alloc; "{}{line}", state_name(leaves))?;
-    let fate = if landed { 2 } else { 3 };
-    Ok(recorded && found.as_str() == part(row, '|', fate))
+    let wanted = part(row, '|', if landed { 2 } else { 3 });
+    Ok(recorded && state_name(leaves) == part(wanted, ' ', 0) && follows(&outs, wanted, 0))
 }
 
 /// One leaf of this kind and vote, in this state.
@@ -285,7 +283,7 @@ fn many(alloc: Global, count: u32) -> Result<Leaves, AllocError> {
     Leaves::from_vec(items)
 }
 
-/// Whether so many leaves live behind a step, the Work made its leaf or not, and this is answered.
+/// Whether this is answered at a step.
 fn answers(
     alloc: Global,
     leaves: &mut Leaves,
@@ -295,21 +293,24 @@ fn answers(
 ) -> Result<bool, AllocError> {
     let plan = leaves.plan(alloc, event, moment)?;
     let outs = leaves.apply(plan, true);
-    let line = outs_line(alloc, &outs)?;
-    let live = leaves.len();
-    let made = is_made(leaves);
-    let found = format!(in alloc; "{live} {made}{line}")?;
-    Ok(found.as_str() == wanted)
+    Ok(follows(&outs, wanted, 0))
 }
 
 /// How many leaves live, the number of the next id, none where it is 0, and where the answer of a Work goes; and how
 /// many live then, whether the leaf 1-2 is the Work's, and what is answered.
-const WORKS: &[(u32, u32, &str, &str)] = &[
-    (0, 2, "asker", "1 true 202 Register@registration"),
-    (0, 2, "anonymous", "0 false 200"),
-    (1023, 1100, "asker", "1024 false 202 Register@registration"),
-    (1024, 1100, "asker", "1024 false 202 WorkRefused@asker"),
-    (0, 0, "asker", "0 false 202 WorkRefused@asker"),
+const WORKS: &[(u32, u32, &str, usize, bool, &str)] = &[
+    (0, 2, "asker", 1, true, "- 202 Register@registration"),
+    (0, 2, "anonymous", 0, false, "- 200"),
+    (
+        1023,
+        1100,
+        "asker",
+        1024,
+        false,
+        "- 202 Register@registration",
+    ),
+    (1024, 1100, "asker", 1024, false, "- 202 WorkRefused@asker"),
+    (0, 0, "asker", 0, false, "- 202 WorkRefused@asker"),
 ];
 
 fn next_of(number: u32) -> Option<Id> {
@@ -320,19 +321,19 @@ fn next_of(number: u32) -> Option<Id> {
 }
 
 /// Whether a Work at 7 is answered as its row says.
-fn works(alloc: Global, row: &(u32, u32, &str, &str)) -> Result<bool, AllocError> {
-    let (count, next, reply, wanted) = row;
-    let moment = moment_at(alloc, BASE, 7, next_of(*next))?;
-    let event = asked(alloc, reply)?;
-    let mut leaves = many(alloc, *count)?;
-    answers(alloc, &mut leaves, &event, &moment, wanted)
+fn works(alloc: Global, row: &(u32, u32, &str, usize, bool, &str)) -> Result<bool, AllocError> {
+    let moment = moment_at(alloc, BASE, 7, next_of(row.1))?;
+    let event = asked(alloc, row.2)?;
+    let mut leaves = many(alloc, row.0)?;
+    let right = answers(alloc, &mut leaves, &event, &moment, row.5)?;
+    Ok(right && leaves.len() == row.3 && is_made(&leaves) == row.4)
 }
 
 #[test]
 fn work_makes_a_leaf_where_there_is_room(rt: HostRuntime) -> Result<(), Fail> {
     for row in WORKS {
         let right = works(rt.alloc(), row)?;
-        assert!(rt; right, "at {}", row.3);
+        assert!(rt; right, "at {}", row.5);
     }
     Ok(())
 }
@@ -350,20 +351,5 @@ fn due_leaves(rt: HostRuntime) -> Result<(), Fail> {
     let late = is_next(rt.alloc(), 105000, None)?;
     let behind = is_next(rt.alloc(), 105000, Some(Id::new(1, 1)))?;
     assert!(rt; !early && late && !behind);
-    Ok(())
-}
-
-/// How many leaves going down loses, of one in this state.
-fn lost_in(alloc: Global, state: &str) -> Result<usize, AllocError> {
-    let leaves = leaves_in(alloc, Kind::Durable, Vote::Prepared, state)?;
-    let lost = leaves.lost(alloc)?;
-    Ok(lost.as_slice().len())
-}
-
-#[test]
-fn lost_leaves(rt: HostRuntime) -> Result<(), Fail> {
-    let voted = lost_in(rt.alloc(), "PreparedSuccess")?;
-    let active = lost_in(rt.alloc(), "Active")?;
-    assert!(rt; voted == 0 && active == 1);
     Ok(())
 }

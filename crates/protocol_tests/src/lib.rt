@@ -1,13 +1,11 @@
-//! Tests of records, of the state tables, of what a node posts, of lists of live items, and of leaves and activities. They
-//! stand apart, since a crate with tests is proved twice.
+//! Tests of records, of the state tables, of what a node posts, and of leaves and activities. They stand apart, since a
+//! crate with tests is proved twice.
 #![tactic(auto)]
 
 #[cfg(test)]
 mod activities;
 #[cfg(test)]
 mod leaves;
-#[cfg(test)]
-mod lists;
 #[cfg(test)]
 mod posts;
 #[cfg(test)]

@@ -164,16 +164,11 @@ fn voted(alloc: Global, numbers: &[u16]) -> Result<Record, AllocError> {
     })
 }
 
-/// Whether a record may have an endpoint, a key and a value of these lengths.
-fn may_have(
-    alloc: Global,
-    endpoint_lengths: (usize, usize),
-    key: &str,
-    value: usize,
-) -> Result<bool, AllocError> {
-    let key = Text::copied(alloc, key)?;
-    let value = repeated(alloc, "v", value)?;
-    let coordinator = endpoint(alloc, endpoint_lengths.0, endpoint_lengths.1)?;
+/// Whether a record may have what a row says.
+fn may_have(alloc: Global, row: &(usize, usize, &str, usize, bool)) -> Result<bool, AllocError> {
+    let key = Text::copied(alloc, row.2)?;
+    let value = repeated(alloc, "v", row.3)?;
+    let coordinator = endpoint(alloc, row.0, row.1)?;
     let entry = Record::LeafPrepared {
         id: Id::new(1, 1),
         coordinator,
@@ -201,43 +196,32 @@ fn starts_at_their_bounds(rt: HostRuntime) -> Result<(), Fail> {
     Ok(())
 }
 
-/// Lengths of an address and of reference parameters, and whether an endpoint may have them.
-const ENDPOINTS: &[(usize, usize, bool)] = &[
-    (1, 0, true),
-    (1, 2047, true),
-    (2048, 0, true),
-    (0, 1, false),
-    (1, 2048, false),
-];
-
-#[test]
-fn endpoints_at_their_bounds(rt: HostRuntime) -> Result<(), Fail> {
-    for (address, params, good) in ENDPOINTS {
-        let found = may_have(rt.alloc(), (*address, *params), "key", 256)?;
-        assert!(rt; found == *good, "at {address} and {params}");
-    }
-    Ok(())
-}
-
-/// Keys, lengths of a value, and whether a record may have them.
-const KEYS: &[(&str, usize, bool)] = &[
+/// Lengths of an address and of reference parameters, a key, and the length of a value; and whether a record may have them.
+const FIELDS: &[(usize, usize, &str, usize, bool)] = &[
+    (1, 0, "key", 256, true),
+    (1, 2047, "key", 256, true),
+    (2048, 0, "key", 256, true),
+    (0, 1, "key", 256, false),
+    (1, 2048, "key", 256, false),
     (
+        1,
+        0,
         "\u{9}\u{a}\u{d} \u{d7ff}\u{e000}\u{fffd}\u{10000}\u{10ffff}",
         0,
         true,
     ),
-    ("\u{b}", 0, false),
-    ("\u{0}", 0, false),
-    ("\u{fffe}", 0, false),
-    ("\u{ffff}", 0, false),
-    ("key", 257, false),
+    (1, 0, "\u{b}", 0, false),
+    (1, 0, "\u{0}", 0, false),
+    (1, 0, "\u{fffe}", 0, false),
+    (1, 0, "\u{ffff}", 0, false),
+    (1, 0, "key", 257, false),
 ];
 
 #[test]
-fn keys_at_their_bounds(rt: HostRuntime) -> Result<(), Fail> {
-    for (key, value, good) in KEYS {
-        let found = may_have(rt.alloc(), (1, 0), key, *value)?;
-        assert!(rt; found == *good, "at {key:?}");
+fn fields_at_their_bounds(rt: HostRuntime) -> Result<(), Fail> {
+    for row in FIELDS {
+        let found = may_have(rt.alloc(), row)?;
+        assert!(rt; found == row.4, "at {} and {}", row.0, row.1);
     }
     Ok(())
 }

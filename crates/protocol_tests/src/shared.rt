@@ -1,11 +1,11 @@
-//! What the tests of leaves, activities and posts share: what they are made of, and texts of what is sent.
+//! What the tests of leaves, activities and posts share: what they are made of, and whether a step gave what a row says.
 
 use at_base::epr::{Epr, Reply};
 use at_base::event::{Arrived, Event, Moment};
 use at_base::id::Id;
 use at_base::message::{Context, Message};
 use at_base::notice::Notice;
-use at_base::outs::{Effect, Out, Outs};
+use at_base::outs::{Effect, Ending, Out, Outs, Told};
 use at_base::target::Target;
 use at_base::text::Text;
 use std::alloc::{AllocError, Global};
@@ -85,6 +85,19 @@ fn related(alloc: Global, id: &str) -> Result<Option<Text>, AllocError> {
     Ok(Some(Text::copied(alloc, id)?))
 }
 
+fn coming(target: Target, relates: Option<Text>, from: Epr, message: Message) -> Event {
+    Event::Arrived(Arrived {
+        target,
+        id: None,
+        relates,
+        from: Some(from),
+        reply: Reply::Nobody,
+        fault: Reply::Nobody,
+        postable: false,
+        message,
+    })
+}
+
 /// The message of a name for this target, which answers this MessageID, none where that is empty.
 pub fn arrived(
     alloc: Global,
@@ -92,20 +105,10 @@ pub fn arrived(
     relates: &str,
     name: &str,
 ) -> Result<Event, AllocError> {
-    let id = Text::copied(alloc, "id")?;
+    let relates = related(alloc, relates)?;
     let from = epr(alloc, "from")?;
     let message = message_of(alloc, name)?;
-    let relates = related(alloc, relates)?;
-    Ok(Event::Arrived(Arrived {
-        target,
-        id: Some(id),
-        relates,
-        from: Some(from),
-        reply: Reply::Nobody,
-        fault: Reply::Nobody,
-        postable: false,
-        message,
-    }))
+    Ok(coming(target, relates, from, message))
 }
 
 /// The part of a text at this place, empty where there is none.
@@ -132,13 +135,7 @@ pub fn address_in(epr: &Option<Epr>) -> &str {
 
 pub fn message_name(message: &Message) -> &str {
     match message {
-        Message::Notice(Notice::Prepare) => "Prepare",
-        Message::Notice(Notice::Commit) => "Commit",
-        Message::Notice(Notice::Rollback) => "Rollback",
-        Message::Notice(Notice::Prepared) => "Prepared",
-        Message::Notice(Notice::ReadOnly) => "ReadOnly",
-        Message::Notice(Notice::Aborted) => "Aborted",
-        Message::Notice(Notice::Committed) => "Committed",
+        Message::Notice(notice) => notice.name(),
         Message::Fault { name } => name.as_str(),
         Message::Register(_) => "Register",
         Message::Create(_) => "Create",
@@ -149,40 +146,74 @@ pub fn message_name(message: &Message) -> &str {
     }
 }
 
-fn push_out(alloc: Global, line: &mut String, out: &Out) -> Result<(), AllocError> {
-    let text = match out {
-        Out::Answer { status, .. } => format!(in alloc; " {status}")?,
-        Out::Post(post) => format!(in alloc;
-            " {}@{}",
-            message_name(&post.message),
-            address_in(&post.to)
-        )?,
-    };
-    line.push_str(text.as_str())
-}
-
-fn push_effect(alloc: Global, line: &mut String, effect: &Effect) -> Result<(), AllocError> {
-    let text = match effect {
-        Effect::Told { what, .. } => format!(in alloc; " {what:?}")?,
-        Effect::Leaf { what, .. } => format!(in alloc; " {what:?}")?,
-        _ => return Ok(()),
-    };
-    line.push_str(text.as_str())
-}
-
-fn push_outs(alloc: Global, line: &mut String, outs: &Outs) -> Result<(), AllocError> {
-    for out in outs.outs.as_slice() {
-        push_out(alloc, line, out)?;
+pub fn status_word(status: u16) -> &'static str {
+    match status {
+        200 => "200",
+        202 => "202",
+        500 => "500",
+        _ => "another",
     }
-    for effect in outs.effects.as_slice() {
-        push_effect(alloc, line, effect)?;
-    }
-    Ok(())
 }
 
-/// The HTTP status, what is posted and where, and what is told or how a leaf ended.
-pub fn outs_line(alloc: Global, outs: &Outs) -> Result<String, AllocError> {
-    let mut line = String::new(alloc);
-    push_outs(alloc, &mut line, outs)?;
-    Ok(line)
+/// Whether a word is an answer's HTTP status, or what is posted and where, as `Prepared@coordinator`.
+fn is_out(out: &Out, word: &str) -> bool {
+    match out {
+        Out::Answer { status, .. } => status_word(*status) == word,
+        Out::Post(post) => {
+            message_name(&post.message) == part(word, '@', 0)
+                && address_in(&post.to) == part(word, '@', 1)
+        }
+    }
+}
+
+fn are_outs(outs: &[Out], words: &str, first: usize) -> bool {
+    let mut place = first;
+    for out in outs {
+        if !is_out(out, part(words, ' ', place)) {
+            return false;
+        }
+        place = place.saturating_add(1);
+    }
+    true
+}
+
+/// What is told, or how a leaf ended.
+fn effect_word(effect: &Effect) -> &'static str {
+    match effect {
+        Effect::Told { what, .. } => match what {
+            Told::Committed => "Committed",
+            Told::Aborted => "Aborted",
+            Told::Unknown => "Unknown",
+            Told::Refused => "Refused",
+        },
+        Effect::Leaf { what, .. } => match what {
+            Ending::Committed => "Committed",
+            Ending::Aborted => "Aborted",
+            Ending::Lost => "Lost",
+        },
+        _ => "another",
+    }
+}
+
+fn are_effects(effects: &[Effect], words: &str, first: usize) -> bool {
+    let mut place = first;
+    for effect in effects {
+        if effect_word(effect) != part(words, ' ', place) {
+            return false;
+        }
+        place = place.saturating_add(1);
+    }
+    true
+}
+
+/// Whether a step gave what the words behind the first one say and no more, but for so many at the end: the HTTP status,
+/// what is posted and where, and what is told or how a leaf ended.
+pub fn follows(outs: &Outs, words: &str, others: usize) -> bool {
+    let sent = outs.outs.as_slice();
+    let happened = outs.effects.as_slice();
+    let first = sent.len().saturating_add(1);
+    let count = first.saturating_add(happened.len()).saturating_add(others);
+    are_outs(sent, words, 1)
+        && are_effects(happened, words, first)
+        && words.split(' ').count() == count
 }

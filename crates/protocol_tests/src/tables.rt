@@ -187,14 +187,3 @@ fn every_cell(rt: HostRuntime) -> Result<(), Fail> {
     }
     Ok(())
 }
-
-#[test]
-fn every_name(rt: HostRuntime) -> Result<(), Fail> {
-    for state in STATES {
-        let same = State::from_name(state.name()) == Some(*state);
-        assert!(rt; same, "at {}", state.name());
-    }
-    let absent = State::from_name("none").is_none() && State::from_name("").is_none();
-    assert!(rt; absent);
-    Ok(())
-}

@@ -5,4 +5,6 @@
 #[cfg(test)]
 mod moves;
 #[cfg(test)]
+mod shared;
+#[cfg(test)]
 mod transactions;

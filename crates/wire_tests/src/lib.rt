@@ -17,4 +17,4 @@ mod reports;
 #[cfg(test)]
 mod requests;
 #[cfg(test)]
-mod spellings;
+mod shared;

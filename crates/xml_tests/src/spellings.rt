@@ -60,6 +60,26 @@ const READ: &[(&str, &str)] = &[
         "<n1:a xmlns:n1=\"u\" n1:b=\"1\" b=\"2\"/>",
     ),
     (
+        "\u{feff}<?xml version = '1.1' encoding=\"utf-8\" standalone='no' ?>\n<!-- a - b --><a/> <!----> ",
+        "<a/>",
+    ),
+    (
+        "<a b=']]>>'>]]&gt;]] > </a>",
+        "<a b=\"]]&gt;&gt;\">]]&gt;]] &gt; </a>",
+    ),
+    (
+        "<a>&#00000065;&#x000041;&#x10FFFF;&#9;<![CDATA[&<]]]]></a>",
+        "<a>AA\u{10ffff}\t&amp;&lt;]]</a>",
+    ),
+    (
+        "<a xmlns=''><xml:b xml:lang='' xmlns:xml='http://www.w3.org/XML/1998/namespace'/></a>",
+        "<a><xml:b xml:lang=\"\"/></a>",
+    ),
+    (
+        "<\u{e4}.-1 _='' xmlns:p='u' p:_=''/>",
+        "<\u{e4}.-1 xmlns:n1=\"u\" _=\"\" n1:_=\"\"/>",
+    ),
+    (
         "<a xmlns:p='urn&#58;x' p:b='&#x10FFFF;'/>",
         "<a xmlns:n1=\"urn:x\" n1:b=\"\u{10ffff}\"/>",
     ),
@@ -130,6 +150,29 @@ const REFUSED: &[&str] = &[
     "<?xml version='2.0'?><a/>",
     "<?xml encoding='UTF-8' version='1.0'?><a/>",
     "<?xml version='1.0' encoding='latin1'?><a/>",
+    "<a/>x",
+    "<?xml version='1.'?><a/>",
+    "<?xml encoding='UTF-8'?><a/>",
+    "<?xml version='1.0' encoding='ISO-8859-1'?><a/>",
+    "<?xml version='1.0' standalone='yes' encoding='UTF-8'?><a/>",
+    "<?xml version='1.0' standalone='maybe'?><a/>",
+    "<?xml version='1.0'encoding='UTF-8'?><a/>",
+    "<?b c?><a/>",
+    "<!DOCTYPE a [<!ENTITY b 'c'>]><a>&b;</a>",
+    "<.a/>",
+    "<a b:-c='' xmlns:b='u'/>",
+    "<a b='\u{7}'/>",
+    "<a>\u{fffe}</a>",
+    "<a>&nbsp;</a>",
+    "<a>&amp</a>",
+    "<a b='&'/>",
+    "<a>&#18446744073709551681;</a>",
+    "<a>&#X41;</a>",
+    "<a><![CDATA[]]</a>",
+    "<a><!-- a ---></a>",
+    "<a><!-- a -></a>",
+    "<a></ a>",
+    "<p:a xmlns:p='u' xmlns='u'></a>",
 ];
 
 /// The canonical text of the tree that a text spells.
