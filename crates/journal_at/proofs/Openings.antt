@@ -13,8 +13,9 @@ use Rattle.journal_at.specs.declared.records.Records.{Records}
 use Rattle.journal_at.specs.declared.scan.Scan.{Scan}
 use Rattle.journal_at.specs.declared.scan.Both.{Both}
 use Rattle.journal_at.specs.Format.{AreListed, Closed, FileOf, Mark, frames, head_of, mark_of, marked, records_of, without}
-use Rattle.journal_at.specs.Loads.{Alike, Fails, IsBare, Lasts, Loads, Ready, Rests, Spent, shuts, shuts_if, syncs}
-use Rattle.journal_at.specs.Pairs.{FilesOf, Holds, IsLive}
+use Rattle.journal_at.specs.Loads.{Alike, AreEmpty, Fails, IsBare, Lasts, Loads, Ready, Rests, Spent, shuts, shuts_if, syncs}
+use Rattle.journal_at.specs.Loads.FailsAt.{gate}
+use Rattle.journal_at.specs.Pairs.{FilesOf, HasLive, Holds, IsLive}
 use Rattle.journal_at.specs.Frames.{ArePlaced, bodies_of, listed_in}
 use Rattle.journal_at.specs.Scans.{IsOpened, IsPicked, IsScan, IsSeen, is_bare, mark_in, records_in, second_lives, starts}
 use Rattle.journal_at.specs.StandingBodies.{Keeps, Laid, Spare, Stands}
@@ -92,9 +93,8 @@ written_short f l =
     omega (arith, l, n, length-drop 1 f)
 
 -- the pair whose one file is live
-pub pair_of : (w : ℕ) (s o : Scan) (f : Files) → IsScan s (file_of w f) → IsScan o (other_than w f) → IsLive w (listed s) (listed o) → FilesOf f s.head.version (drop s.head.start (listed s))
-pair_of w s o f h k l =
-    record { live = w; bodies = listed s; others = listed o; is = h.is; other = k.is; newer = l; versions = sym (version_is s _ h); all = records_from s _ h }
+pub pair_of : (w : ℕ) (s o : Scan) (f : Files) → IsScan s (file_of w f) → IsScan o (other_than w f) → IsLive w (listed s) (listed o) → HasLive w (listed s) f
+pair_of w s o f h k l = (h.is, record { others = listed o; is = k.is; newer = l })
 
 pub holds_of : (w : ℕ) (s o : Scan) (f : Files) → Closed (listed s) (file_of w f) → IsScan o (other_than w f) → IsLive w (listed s) (listed o) → Holds w (listed s) f
 holds_of w s o f h k l = record { closed = h; beside = record { others = listed o; is = k.is; newer = l } }
@@ -115,13 +115,19 @@ module _ (w limit : ℕ) (u : Bool) (s : Scan) (f : List ℕ) (journal : Journal
         generation = opened.generation ∙ generation_is s f scan;
       }
 
-  pub opens : (old new : Told) (bare : Bool) → ((g : Files) → Is old.files g → FilesOf g s.head.version (drop s.head.start (listed s))) → Stands w (listed s) new → Spare u w (listed s) new → ((g : Files) → Is old.files g → (bare ≡ true) ↔ IsBare journal g)
+  -- so it stands for the records
+  stand_of : (g : Files) → HasLive w (listed s) g → FilesOf g s.head.version (drop s.head.start (listed s))
+  stand_of g (h, k) =
+      record { live = w; bodies = listed s; others = k.others; is = h; other = k.is; newer = k.newer; versions = sym (version_is s f scan); all = records_from s f scan }
+
+  pub opens : (old new : Told) (bare : Bool) → ((g : Files) → Is old.files g → HasLive w (listed s) g) → Stands w (listed s) new → Spare u w (listed s) new → ((g : Files) → Is old.files g → (bare ≡ true) ↔ IsBare journal g)
       → new.calls ≡ option_map (λ l. l ++ map done (syncs ++ shuts_if bare)) old.calls → ((c : Files) → new.images c → Lasts old c) → Elapses old new (λ l c. Between old new l × Lasts old c) → Spent old new
       → Loads (Ok (journal, records)) limit old new
-  opens old new bare is stands spare when grown images time spent = (
+  opens old new bare has stands spare when grown images time spent = (
     record {
-      is = λ g k. subst (λ z. FilesOf g z (records_in records)) (sym opened.version) (subst (FilesOf g s.head.version) records_same (is g k));
+      is = λ g k. subst (λ z. FilesOf g z (records_in records)) (sym opened.version) (subst (FilesOf g s.head.version) records_same (stand_of g (has g k)));
       bodies = listed s;
+      held = λ g k. subst (λ n. HasLive n (listed s) g) (sym opened.live_is) (has g k);
       keeps = keeps_of new stands spare;
       version = sym (version_is s f scan) ∙ sym opened.version;
       records_are = records_from s f scan ∙ records_same;
@@ -214,12 +220,27 @@ module _ (old mid : Told) (both : Both) (ready : Ready old mid) (a : IsSeen both
       torn : TornFrom 0 0 1 (Is mid.files) f → (g : Files) × Is old.files g × Alike g f
       torn (g, was, t) = (g, sym ready.files ∙ was, alike_torn g f ((first_of g was).bare bare) t)
 
-    pub fails_shut : {T E : Type 0} (r : Result T E) (x : E) → r ≡ Err x → Laid 0 0 (0 ∷ []) r mid new → Fails Disk old new
-    fails_shut r x e h =
+    -- no file has a body
+    pub shut_empty : second_lives both ≡ false → AreEmpty old
+    shut_empty n f is =
+        let none : listed both.first ≡ [] = bare_none f.first _ ((first_of f (then_mid f is)).bare bare) (first_of f (then_mid f is)).is in
+        record {
+          live = 0;
+          bodies = [];
+          others = listed both.second;
+          is = subst (FileOf f.first) none (first_of f (then_mid f is)).is;
+          other = (second_of f (then_mid f is)).is;
+          newer = subst (λ z. IsLive 0 z (listed both.second)) none (first_newer n);
+          versions = refl;
+          all = refl;
+        }
+
+    pub fails_shut : {T E : Type 0} (r : Result T E) (x : E) → r ≡ Err x → Laid 0 0 (0 ∷ []) r mid new → second_lives both ≡ false → Fails Disk old new
+    fails_shut r x e h n =
         record {
           cause = rose_later old.counts.disk mid.counts.disk new.counts.disk ready.spent.disk (subst (λ z. OnErr z (Rose mid.counts.disk new.counts.disk)) e h.cause.failed);
           made = map done syncs ++ h.calls.made;
-          ends = breaks_then syncs shuts (map done syncs) h.calls.made refl (subst (λ z. Outcome shuts z h.calls.made) e h.calls.outcome);
+          ends = gate (shut_empty n) (breaks_then syncs shuts (map done syncs) h.calls.made refl (subst (λ z. Outcome shuts z h.calls.made) e h.calls.outcome));
           grown = grown_then old.calls mid.calls new.calls (map done syncs) h.calls.made ready.grown h.calls.grown;
           files = shut_rests r x e h;
           images = λ c im. lasts_torn c (h.images c im);
@@ -272,8 +293,15 @@ bare_first both e = by_case both.first.bare (second_lives both) refl e where
   by_case true s k e = k
   by_case false s k e = absurd (no_true e)
 
+pub bare_second : (both : Both) → is_bare both ≡ true → second_lives both ≡ false
+bare_second both e = by_case both.first.bare (second_lives both) refl e where
+  by_case : (f s : Bool) → second_lives both ≡ s → (f && not s) ≡ true → second_lives both ≡ false
+  by_case true false k e = k
+  by_case true true k e = absurd (no_true e)
+  by_case false s k e = absurd (no_true e)
+
 pub fails_bare : (old mid new : Told) (both : Both) → Ready old mid → IsSeen both.first 0 mid → IsSeen both.second 1 mid → {T E : Type 0} (r : Result T E) (x : E) → r ≡ Err x → Laid 0 0 (0 ∷ []) r mid new → is_bare both ≡ true → Fails Disk old new
-fails_bare old mid new both ready a b {T} {E} r x e h n = fails_shut old mid both ready a b new (bare_first both n) r x e h
+fails_bare old mid new both ready a b {T} {E} r x e h n = fails_shut old mid both ready a b new (bare_first both n) r x e h (bare_second both n)
 
 pub opens_plain : (old mid : Told) (both : Both) → Ready old mid → IsSeen both.first 0 mid → IsSeen both.second 1 mid → (journal : Journal) (records : Records) (limit : ℕ) → is_bare both ≡ false → IsPicked (second_lives both) limit both journal records → Loads (Ok (journal, records)) limit old mid
 opens_plain old mid both ready a b journal records limit n p = by_case (second_lives both) both.first.bare refl refl n p where

@@ -1,18 +1,19 @@
 -- Both files are synced and read.
-use Rattle.std.proofs.Common.{ℕ, List, Option, Some, None, Result, Ok, Err, [], ◌∷◌, ◌≡◌, ◌++◌, ◌≤◌, inl, inr, refl, sym, ◌∙◌, ap, subst, map, option_map, OnOk, OnErr, IfOk, arith}
+use Rattle.std.proofs.Common.{ℕ, List, Option, Some, None, Result, Ok, Err, [], ◌∷◌, ◌≡◌, ◌++◌, ◌≤◌, inl, refl, sym, ◌∙◌, ap, subst, map, option_map, OnOk, OnErr, IfOk, arith}
 use Rattle.site_model.proofs.Past.{and_then, weaker}
 use Rattle.site_model.specs.Counts.{Rose}
 use Rattle.site_model.specs.Site.{Counts}
 use Rattle.site_model.specs.Calls.{Outcome, Synced}
 use Rattle.site_model.specs.Told.{Told, Files, Made, Is, Within, Between, Settled, done}
-use Rattle.site_model.specs.Told.Call.{Write, Sync}
+use Rattle.site_model.specs.Told.Call.{Sync}
 use Rattle.journal_at.specs.declared.load.LoadFault.{LoadFault}
 use Rattle.journal_at.specs.declared.load.LoadFault.TheVariants.{NoMemory, Disk, Bad}
 use Rattle.journal_at.specs.declared.scan.Both.{Both}
 use Rattle.journal_at.specs.declared.scan.Scan.{Scan}
-use Rattle.journal_at.specs.Loads.{Ends, Fails, IsCause, LoadCause, Quiet, Ready, Rests, Settles, Surveys, shuts, syncs}
+use Rattle.journal_at.specs.Loads.{Ends, Fails, IsCause, LoadCause, Quiet, Ready, Rests, Settles, Surveys, syncs}
+use Rattle.journal_at.specs.Loads.FailsAt.{sync, read}
 use Rattle.journal_at.specs.Scans.{IsSeen}
-use Rattle.journal_at.proofs.DeviceCalls.{all_ran, breaks_more, grown_then, is_between, is_last, map_err, map_ok, on_err, runs_cut, runs_then}
+use Rattle.journal_at.proofs.DeviceCalls.{all_ran, grown_then, is_between, is_last, map_err, map_ok, on_err, runs_cut, runs_then}
 use Rattle.journal_at.proofs.SyncedWrites.{rose_later}
 
 pub settles_cut : {T U E F : Type 0} (r : Result T E) (e : E) (q : Result U F) (f : F) (old new : Told) → r ≡ Err e → q ≡ Err f → Synced 0 r old new → Settles q old new
@@ -100,7 +101,7 @@ fails_early r e old new re h =
     record {
       cause = subst (λ z. OnErr z (Rose old.counts.disk new.counts.disk)) re h.counts.cause.failed;
       made = h.calls.made;
-      ends = breaks_more syncs shuts h.calls.made (subst (λ z. Outcome syncs z h.calls.made) re h.calls.outcome);
+      ends = sync (subst (λ z. Outcome syncs z h.calls.made) re h.calls.outcome);
       grown = h.calls.grown;
       files = rests old new h.files;
       images = λ c im. inl (h.images c im);
@@ -122,7 +123,7 @@ fails_ready e old new cause h =
     } where
       ends : (e : LoadFault) → Ends e (map done syncs) old new
       ends NoMemory = (refl, h.files, h.images)
-      ends Disk = record { front = syncs; call = Write 0 0 (0 ∷ []); rest = Sync 0 ∷ []; split = refl; is = inr refl }
+      ends Disk = read refl
       ends (Bad file place) = (refl, h.files, h.images)
 
 pub cause_later : (e : LoadFault) (old mid new : Told) → old.counts.disk ≤ mid.counts.disk → mid.files ≡ old.files → IsCause e mid new → IsCause e old new

@@ -11,8 +11,9 @@ use Rattle.journal_at.specs.declared.load.LoadFault.TheVariants.{NoMemory, Disk,
 use Rattle.journal_at.specs.declared.records.Records.{Records}
 use Rattle.journal_at.specs.declared.scan.Both.{Both}
 use Rattle.journal_at.specs.declared.version.Version.{Version}
+use Rattle.journal_at.specs.declared.version.Version.TheVariants.{One}
 use Rattle.journal_at.specs.Format.{FileOf, head_of, records_of}
-use Rattle.journal_at.specs.Pairs.{FilesOf}
+use Rattle.journal_at.specs.Pairs.{FilesOf, HasLive}
 use Rattle.journal_at.specs.Frames.{ArePlaced, IsBadAt}
 use Rattle.journal_at.specs.Scans.{IsSeen, records_in}
 use Rattle.journal_at.specs.StandingBodies.{Keeps}
@@ -87,10 +88,20 @@ pub record Ready (old new : Told) : Type 0 where
   pub time : Elapses old new (λ l c. Between old new l × old.images c)
   pub spent : Spent old new
 
+-- no file has a body
+abbrev pub AreEmpty : Told → Type 0
+AreEmpty old = (f : Files) → Is old.files f → FilesOf f One []
+
+-- A disk that failed: at a sync; in reading, behind both; or as a first gate was written, where no file has a body.
+pub data FailsAt (made : List Made) (old : Told) : Type 0 where
+  sync : BreaksOff syncs made → FailsAt made old
+  read : made ≡ map done syncs → FailsAt made old
+  gate : AreEmpty old → BreaksOff (syncs ++ shuts) made → FailsAt made old
+
 -- the calls that ended it, and what it left
 abbrev pub Ends : LoadFault → List Made → Told → Told → Type 0
 Ends NoMemory made old new = (made ≡ map done syncs) × (new.files ≡ old.files) × Within old.images new.images
-Ends Disk made old new = BreaksOff (syncs ++ shuts) made
+Ends Disk made old new = FailsAt made old
 Ends (Bad file place) made old new = (made ≡ map done syncs) × (new.files ≡ old.files) × Within old.images new.images
 
 pub record Fails (e : LoadFault) (old new : Told) : Type 0 where
@@ -118,6 +129,7 @@ IsBare journal f = (journal.live ≡ 0) × (length f.first ≤ 1)
 pub record Opens (journal : Journal) (records : Records) (old new : Told) : Type 0 where
   pub is : (f : Files) → Is old.files f → FilesOf f records.version (records_in records)
   pub bodies : List (List ℕ)
+  pub held : (f : Files) → Is old.files f → HasLive journal.live bodies f
   pub keeps : Keeps journal bodies new
   pub version : (head_of bodies).version ≡ records.version
   pub records_are : records_of bodies ≡ records_in records

@@ -26,6 +26,10 @@ pub record Beside (live : ℕ) (bodies : List (List ℕ)) (other : List ℕ) : T
   pub is : FileOf other others
   pub newer : IsLive live bodies others
 
+-- the file that is live has these bodies
+abbrev pub HasLive : (live : ℕ) → (bodies : List (List ℕ)) → Files → Type 0
+HasLive live bodies c = FileOf (file_of live c) bodies × Beside live bodies (other_than live c)
+
 -- the file that is live holds these bodies, up to a gate that is there
 pub record Holds (live : ℕ) (bodies : List (List ℕ)) (c : Files) : Type 0 where
   pub closed : Closed bodies (file_of live c)

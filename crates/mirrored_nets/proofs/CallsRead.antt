@@ -18,7 +18,7 @@ use Rattle.site_model.specs.Told.{BreaksOff, Made, done}
 use Rattle.std.proofs.lemmas.List.{map-append}
 use Rattle.torn_appends.specs.TornAppends.{append_calls}
 use Rattle.mirrored_nets.specs.Fates.{AllDone, all_done, anew_of, failures, fates_in, is_done, record_fate, refusals}
-use Rattle.mirrored_nets.proofs.CallRows.{AreOnDisk, AreParts, AreSendings, all_failed_none, all_refused_none, anew_is, disk_calls, failures_join, fates_are, none_fails, none_refused, not_all_done, refusals_join, some_refused}
+use Rattle.mirrored_nets.proofs.CallRows.{AreOnDisk, AreParts, AreSendings, all_refused_none, anew_is, disk_calls, failures_join, fates_are, none_fails, none_refused, not_all_done, refusals_join, some_refused}
 use Rattle.mirrored_nets.proofs.ToldFares.{AllAreOuts, AllTold, HasNone, HaveCalls, all_are_told, all_sendings, due_fates, none_made, ways_are}
 
 -- A record's calls: all four of an append, where it landed; or the first of them up to one that failed or wasn't tried, where it was refused.
@@ -34,11 +34,10 @@ pub record Read (j : Journal) (line made : List Made) (s : TurnStep) (ss : List 
   pub are : made ≡ line ++ (d.first ++ (all_made (d ∷ ds) ++ anew))
   pub anew_are : AreOnDisk anew
   pub line_sent : AreSendings line
-  pub line_done : AllDone line
   pub record_is : IsRecordOf s.entry s.landed j d.first d.refused
   pub outs : AllAreOuts (s ∷ ss)
   pub unrecorded : AllByRecursion HasNone ss
-  pub lost : lost_of (d ∷ ds) ≤ failures made
+  pub lost : failures line + lost_of (d ∷ ds) ≤ failures made
   pub refused : d.refused ≤ refusals made
   -- nor was one beside a call that failed by which the journal is written anew
   pub both : 1 ≤ refusals anew → d.refused + 1 ≤ refusals made
@@ -81,17 +80,16 @@ module _ (j : Journal) (line made : List Made) (s : TurnStep) (ss : List TurnSte
   first_on_disk : AreOnDisk d.first
   first_on_disk = record_on_disk s.entry s.landed j d.first d.refused R.record_is
 
-  -- what failed is among the answers and posts, and among the calls of the disk
-  pub failures_are : failures made ≡ failures (all_made (d ∷ ds))
+  -- what failed is among the line, the answers and posts, and among the calls of the disk
+  pub failures_are : failures made ≡ failures line + failures (all_made (d ∷ ds))
   failures_are =
       let a = failures_join line (d.first ++ (all_made (d ∷ ds) ++ R.anew)) in
       let b = failures_join d.first (all_made (d ∷ ds) ++ R.anew) in
       let c = failures_join (all_made (d ∷ ds)) R.anew in
       let e = none_fails d.first first_on_disk in
       let k = none_fails R.anew R.anew_are in
-      let l = all_failed_none line R.line_done in
       let m = ap failures R.are in
-      omega (arith, a, b, c, e, k, l, m)
+      omega (arith, a, b, c, e, k, m)
 
   pub refusals_are : refusals made ≡ refusals d.first + refusals R.anew
   refusals_are =

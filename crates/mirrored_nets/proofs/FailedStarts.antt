@@ -1,5 +1,5 @@
 -- A node whose start meets a fault, as the world's does, whether its Start landed or not.
-use Rattle.std.specs.Prelude.{ℕ, List, [], ◌∷◌, ◌++◌, ◌+◌, ◌≡◌, ◌≤◌, ◌<◌, ◌⊎◌, IfSome, Bool, true, false, Some, None, drop, length, nat_lt, option_map, suc, take, zero}
+use Rattle.std.specs.Prelude.{ℕ, List, [], ◌∷◌, ◌++◌, ◌+◌, ◌≡◌, ◌≤◌, ◌<◌, ◌⊎◌, IfSome, Bool, true, false, Some, None, Ok, Err, Result, drop, length, nat_lt, option_map, suc, take, zero}
 use Rattle.std.proofs.Common.{refl, sym, ap, subst, arith, ◌∙◌, inl, inr}
 use Rattle.std.proofs.lemmas.Bool.{ltb-false, ltb-true}
 use Rattle.std.proofs.lemmas.List.{append_assoc, take-append-drop}
@@ -15,8 +15,12 @@ use Rattle.memory_net.specs.Calls.{IsServing}
 use Rattle.memory_net.specs.Mails.{Mail}
 use Rattle.memory_net.specs.declared.host.Host.{Host}
 use Rattle.memory_net.proofs.Standing.{alone_where, comes_on, goes_so, placed_at, placed_other, placed_this, same_some}
+use Rattle.node_at.specs.StartedNodes.{Starts}
 use Rattle.node_at.specs.Starts.{carried, start_after}
 use Rattle.node_at.specs.State.{seen}
+use Rattle.node_at.specs.declared.fault.StartFault.{StartFault}
+use Rattle.node_at.specs.declared.node.Node.{Node}
+use Rattle.node_at.specs.declared.role.Role.TheVariants.{All}
 use Rattle.node_events.specs.NodeEvents.{StartsAreEvents}
 use Rattle.node_worlds.specs.Crashes.{CrashesAreMet}
 use Rattle.node_worlds.specs.Machines.{Begins, Crashes, IsLeft, IsOn, RunsOn}
@@ -95,11 +99,15 @@ module _ (starts : StartsAreEvents) (bases : ExamplesAreNodeBases) (nets : Serve
   abbrev files : Files
   files = chosen_files T.choice (opening_in T.fell.mid.device) l
 
+  begun_so : (r : Result Node StartFault) → Starts r (example_base i) All 4294967295 (told_of old) (told_of T.site) → Begins (example_base i) 4294967295 (told_of old) (told_of T.site)
+  begun_so (Ok n) h = inl (seen n, h.0)
+  begun_so (Err e) h = inr (e, h)
+
   begun : Begins (example_base i) 4294967295 (told_of (sites i)) (told_of T.site)
-  begun = subst (λ z. Begins (example_base i) 4294967295 (told_of z) (told_of T.site)) (sym at_this) (inl (seen T.node, T.begins.0))
+  begun = subst (λ z. Begins (example_base i) 4294967295 (told_of z) (told_of T.site)) (sym at_this) (begun_so T.result T.begins)
 
   added : Adds (told_of old) (told_of T.site)
-  added = calls.starts_add (example_base i) 4294967295 old T.site (inl (seen T.node, T.begins.0))
+  added = calls.starts_add (example_base i) 4294967295 old T.site (begun_so T.result T.begins)
 
   grown : calls_in T.site.device ≡ calls_in old.device ++ added.made
   grown = same_some (calls_in T.site.device) (calls_in old.device ++ added.made) added.calls

@@ -153,12 +153,12 @@ module _ (L : NetLaws) (K : TurnLaws) (torn : AppendsTorn) (asks : RequestsAreEv
         → Mirrors count (put_nth i g hosts) clocks more (world_step w (Ask i request fates until))
     stopped id D S =
         let r = steps_read id D in
-        let landed : IsLanded (is_ask id D).fated = first_landed n.journal 0 [] T.made (its_step id D ∷ []) (its_doing id D ∷ []) ((is_ask id D).fated ∷ []) r comes.0 refl (is_ask id D).planned.sure in
+        let landed : IsLanded (is_ask id D).fated = first_landed n.journal 0 [] T.made (its_step id D ∷ []) (its_doing id D ∷ []) ((is_ask id D).fated ∷ []) r comes.0 (inl (refl, refl)) (is_ask id D).planned.sure in
         stopped_request L torn ask_so asks moves count few hosts clocks mails more w M i h g n here up c time old before T.node T.site T.answer request named requests T.made kept choice adds left.0 left.1 posted
         (its_step id D) (its_doing id D) (is_ask id D).fated there.node.clock refl (is_now id D) (is_ask id D).planned (is_ask id D).fared
-        (left_so n.journal 0 [] T.made (its_step id D ∷ []) (its_doing id D ∷ []) ((is_ask id D).fated ∷ []) r comes.0 refl (landed, tt))
-        (calls_so n.journal 0 [] T.made (its_step id D ∷ []) (its_doing id D ∷ []) ((is_ask id D).fated ∷ []) r comes.0 refl D.3.3.went.formed landed)
-        (fates_so n.journal 0 [] T.made (its_step id D ∷ []) (its_doing id D ∷ []) ((is_ask id D).fated ∷ []) r comes.0 refl ∙ ap length (append-nil _)) fates until S
+        (left_so n.journal 0 [] T.made (its_step id D ∷ []) (its_doing id D ∷ []) ((is_ask id D).fated ∷ []) r comes.0 (inl (refl, refl)) (landed, tt))
+        (calls_so n.journal 0 [] T.made (its_step id D ∷ []) (its_doing id D ∷ []) ((is_ask id D).fated ∷ []) r comes.0 (inl (refl, refl)) D.3.3.went.formed landed)
+        (fates_so n.journal 0 [] T.made (its_step id D ∷ []) (its_doing id D ∷ []) ((is_ask id D).fated ∷ []) r comes.0 (inl (refl, refl)) ∙ ap length (append-nil _)) fates until S
 
     none_made : T.site ≡ old → T.made ≡ []
     none_made same =

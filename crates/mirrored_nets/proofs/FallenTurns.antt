@@ -1,19 +1,18 @@
 -- A turn that was taken, and behind which its host is down: at a stop, or since the node halted.
-use Rattle.std.specs.Prelude.{ℕ, List, ◌∷◌, ◌++◌, ◌+◌, ◌≡◌, ◌≤◌, ◌⊎◌, IfSome, Bool, Option, Some, None, true, drop, length, replicate, take}
+use Rattle.std.specs.Prelude.{ℕ, List, ◌∷◌, ◌++◌, ◌+◌, ◌≡◌, ◌≤◌, ◌⊎◌, IfSome, Bool, Option, Some, None, true, drop, length, take}
 use Rattle.std.specs.List.{AllByRecursion}
 use Rattle.std.proofs.Common.{refl, sym, ap, subst, ◌∙◌, inl, inr}
 use Rattle.std.proofs.Math.Seq.{drop-append_seam}
 use Rattle.at_base.specs.declared.record.Record.{Record}
 use Rattle.at_model.specs.World.{Input, Node as Known, Turn, World, example_base, nth, put_nth, world_step}
 use Rattle.fated_walks.specs.Fated.{AllLeft, Fated}
-use Rattle.http_post.specs.Conversations.{interim}
 use Rattle.journal_at.specs.declared.version.Version.TheVariants.{Two}
 use Rattle.memory_net.specs.Mails.{Mail, mails_in}
 use Rattle.memory_net.specs.declared.host.Host.{Host}
 use Rattle.memory_net.proofs.Standing.{same_some}
 use Rattle.mirrored_nets.specs.Goings.{IsBrought, IsSet, ms_of}
 use Rattle.mirrored_nets.specs.Mirrors.{Mirrors}
-use Rattle.mirrored_nets.specs.Took.{ComesTo, EndsSo, IsWhole, LeftSo, StopsBefore, StopsInStep, TookTurn, kept_of}
+use Rattle.mirrored_nets.specs.Took.{ComesTo, EndsSo, IsTriedLine, IsWhole, LeftSo, StopsBefore, StopsInStep, TookTurn, kept_of}
 use Rattle.mirrored_nets.specs.declared.came.Came.TheVariants as cames
 use Rattle.mirrored_nets.proofs.BroughtLines.{few_lines}
 use Rattle.mirrored_nets.proofs.CutTurns.{at_sites, place_records}
@@ -43,7 +42,7 @@ use Rattle.site_memory.specs.Devices.{calls_in}
 use Rattle.site_memory.specs.Sites.{told_of}
 use Rattle.site_memory.specs.declared.arm.Choice.{Choice}
 use Rattle.site_memory.specs.declared.machine.MemSite.{MemSite}
-use Rattle.site_model.specs.Told.{Call, Made, done, sent_by}
+use Rattle.site_model.specs.Told.{Made, sent_by}
 use Rattle.torn_appends.specs.TornAppends.{AppendsTorn}
 
 -- the calls that a machine made since
@@ -171,7 +170,7 @@ module _ (L : NetLaws) (K : TurnLaws) (torn : AppendsTorn) (count : ℕ) (hosts 
 
     did : DidHalt halt.first (seen n) halt.node from halt.behind halt.steps × (T.site ≡ halt.behind)
     did =
-        did_halt lines (few_lines mails i input lines bytes brought) T.made T.said fates until halt_comes (seen n) up_now.runs up_now.holds.sure from T.site adds_here halt.first T.node.shrunk halt.node (seen T.node) halt.behind
+        did_halt lines (few_lines mails i input lines bytes brought) T.made T.tried fates until halt_comes (seen n) up_now.runs up_now.holds.sure from T.site adds_here halt.first T.node.shrunk halt.node (seen T.node) halt.behind
         halt.steps halt.ends
 
     abbrev W : DidHalt halt.first (seen n) halt.node from halt.behind halt.steps
@@ -199,11 +198,11 @@ module _ (L : NetLaws) (K : TurnLaws) (torn : AppendsTorn) (count : ℕ) (hosts 
     made_is : T.made ≡ W.line ++ W.halts.first
     made_is = halt_made halt.first (seen n) halt.node from halt.behind halt.steps W T.turns.connected T.site T.made same_site did.1 adds
 
-    line_is : W.line ≡ replicate lines (done (Call.Send interim))
+    line_is : IsTriedLine lines W.line
     line_is =
         line_told K.says K.quiet K.ticks K.one K.wait_or_not K.small L.bases L.nets L.closes count few hosts clocks mails w M i least input lines bytes (told_of from) (told_of halt.behind) W.line W.halts.first T.made
         brought (subst (λ b. IsLine (Some bytes) b (told_of from) (told_of halt.behind) W.line) heard_so (subst (λ o. IsLine o (is_heard W.meaning) (told_of from) (told_of halt.behind) W.line) tells W.is_line))
-        made_is T.said (λ none. halts_no_line _ _ _ W.halts.first (W.halts.makes up_now.holds.bodies up_now.holds.keeps))
+        made_is T.tried (λ none. halts_no_line _ _ _ W.halts.first (W.halts.makes up_now.holds.bodies up_now.holds.keeps))
 
     pub turned_halts : Mirrors count (put_nth i g hosts) (put_nth i (c + ms_of input) clocks) more (world_step w (Turn i input fates until))
     turned_halts =

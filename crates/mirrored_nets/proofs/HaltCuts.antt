@@ -1,22 +1,22 @@
 -- What stands of a step whose record may stand or not, on the files as they read.
-use Rattle.std.specs.Prelude.{ℕ, List, [], ◌∷◌, ◌++◌, ◌+◌, ◌≡◌, ◌⊎◌, Bool, true, false, Some, drop, length, nat_eq, replicate, suc}
+use Rattle.std.specs.Prelude.{ℕ, List, [], ◌∷◌, ◌++◌, ◌+◌, ◌≡◌, ◌⊎◌, Bool, true, false, Some, drop, length, nat_eq, suc}
+use Rattle.std.specs.List.{AllByRecursion}
 use Rattle.std.proofs.Common.{refl, sym, ap, subst, ◌∙◌, inl, inr, arith}
 use Rattle.at_base.specs.declared.outs.Post.{Post}
 use Rattle.at_base.specs.declared.record.Record.{Record}
-use Rattle.http_post.specs.Conversations.{interim}
 use Rattle.journal_at.specs.declared.journal.Journal.{Journal}
 use Rattle.journal_at.specs.declared.version.Version.TheVariants.{Two}
-use Rattle.mirrored_nets.proofs.CallRows.{AreOnDisk}
+use Rattle.mirrored_nets.proofs.CallRows.{AreOnDisk, AreSendings}
 use Rattle.mirrored_nets.proofs.CutTurns.{CutAt}
 use Rattle.mirrored_nets.proofs.HaltedGates.{FailsAt, IsHalt}
 use Rattle.mirrored_nets.proofs.CutCalls.{silent, touch_none}
 use Rattle.mirrored_nets.proofs.LeftFiles.{halted_files}
-use Rattle.mirrored_nets.proofs.StandingCalls.{lines_post_none, lines_said}
 use Rattle.node_at.specs.State.{State}
 use Rattle.node_at.specs.Steps.{if_landed}
 use Rattle.node_at.specs.TurnText.{TurnStep}
 use Rattle.node_events.specs.NodeEvents.{front_by, records_if}
 use Rattle.node_worlds.specs.Acts.{IsUp}
+use Rattle.node_worlds.specs.Crashes.{IsNoPost}
 use Rattle.node_worlds.specs.Restarts.{StandsFor}
 use Rattle.node_worlds.specs.SentPosts.{recorded, records_by}
 use Rattle.node_worlds.proofs.Rows.{sent_append}
@@ -27,7 +27,7 @@ use Rattle.site_memory.specs.Disk.{chosen_files}
 use Rattle.site_memory.specs.Sites.{told_of}
 use Rattle.site_memory.specs.declared.arm.Choice.TheVariants.{Keep}
 use Rattle.site_memory.specs.declared.machine.MemSite.{MemSite}
-use Rattle.site_model.specs.Told.{Call, Made, done, sent_by}
+use Rattle.site_model.specs.Told.{Made, sent_by}
 use Rattle.torn_appends.specs.TornAppends.{AppendsTorn, append_calls, up_to}
 
 pub drop_behind : {A : Type 0} (xs ys : List A) (k : ℕ) → drop (length xs + k) (xs ++ ys) ≡ drop k ys
@@ -57,21 +57,21 @@ front_recorded : (stands : Bool) (step : TurnStep) (r : Record) → step.entry �
 front_recorded true step r entry landed = λ i. records_by (if_landed (landed i) (entry i)) ++ []
 front_recorded false step r entry landed = refl
 
-module _ (law : RecordsAreBodies) (torn : AppendsTorn) (rs : List Record) (n : State) (s : MemSite) (up : IsUp rs n (told_of s)) (lines : ℕ) (made line first : List Made)
-    (is_line : line ≡ replicate lines (done (Call.Send interim))) (is : made ≡ line ++ first) (step : TurnStep) (r : Record) (entry : step.entry ≡ Some r) (landed : step.landed ≡ true)
+module _ (law : RecordsAreBodies) (torn : AppendsTorn) (rs : List Record) (n : State) (s : MemSite) (up : IsUp rs n (told_of s)) (made line first : List Made)
+    (sends : AreSendings line) (no_posts : AllByRecursion IsNoPost (sent_by line)) (is : made ≡ line ++ first) (step : TurnStep) (r : Record) (entry : step.entry ≡ Some r) (landed : step.landed ≡ true)
     (formed : IsRecord Two r (bytes_of r)) (stands : Bool) (K : IsHalt n.journal (bytes_of r) stands first) (Leads : List TurnStep → List Post → Type 0) where
   files_so : StandsFor (rs ++ recorded (front_by stands step)) (chosen_files Keep (opening_in s.device) (calls_in s.device ++ made))
   files_so =
       subst (λ z. StandsFor (rs ++ z) (chosen_files Keep (opening_in s.device) (calls_in s.device ++ made)))
       (ap (λ b. records_if b (r ∷ [])) (stands_so K.k stands K.stands_is) ∙ sym (front_recorded stands step r entry landed))
       (subst (λ z. StandsFor (rs ++ records_if (nat_eq K.k 4) (r ∷ [])) (chosen_files Keep (opening_in s.device) (calls_in s.device ++ z)))
-      ((λ i. sym is_line i ++ sym K.first_is i) ∙ sym is)
-      (halted_files rs n s up law r formed torn (replicate lines (done (Call.Send interim))) (touch_none (replicate lines (done (Call.Send interim))) (lines_said lines)) K.k K.either))
+      (ap (λ z. line ++ z) (sym K.first_is) ∙ sym is)
+      (halted_files rs n s up law r formed torn line (touch_none line sends) K.k K.either))
 
-  quiet : sent_by made ≡ sent_by (replicate lines (done (Call.Send interim))) ++ []
+  quiet : sent_by made ≡ sent_by line ++ []
   quiet =
       ap sent_by is ∙ sent_append line first
-      ∙ (λ i. sent_by (is_line i) ++ (ap sent_by K.first_is ∙ silent (up_to K.k false (append_calls n.journal (bytes_of r))) (gate_on_disk n.journal (bytes_of r) K.k K.either)) i)
+      ∙ ap (λ z. sent_by line ++ z) (ap sent_by K.first_is ∙ silent (up_to K.k false (append_calls n.journal (bytes_of r))) (gate_on_disk n.journal (bytes_of r) K.k K.either))
 
   pub halt_cut : Leads (front_by stands step) [] → CutAt rs (step ∷ []) (chosen_files Keep (opening_in s.device) (calls_in s.device ++ made)) made Leads
   halt_cut leads = by stands files_so leads
@@ -86,8 +86,8 @@ module _ (law : RecordsAreBodies) (torn : AppendsTorn) (rs : List Record) (n : S
         posts = [];
         sent = ([], [], record { went = []; some = tt; calls = refl; posts = refl }, refl, refl);
         stands = files;
-        said = sent_by (replicate lines (done (Call.Send interim)));
-        no_posts = lines_post_none lines;
+        said = sent_by line;
+        no_posts = no_posts;
         calls = quiet;
         leads = so;
       }
@@ -99,8 +99,8 @@ module _ (law : RecordsAreBodies) (torn : AppendsTorn) (rs : List Record) (n : S
         posts = [];
         sent = refl;
         stands = files;
-        said = sent_by (replicate lines (done (Call.Send interim)));
-        no_posts = lines_post_none lines;
+        said = sent_by line;
+        no_posts = no_posts;
         calls = quiet;
         leads = so;
       }

@@ -1,13 +1,13 @@
 -- The calls of a journal whose last gate may be raised or not, of which the last one failed.
-use Rattle.std.specs.Prelude.{ℕ, List, [], ◌∷◌, ◌++◌, ◌+◌, ◌≡◌, ◌≤◌, ◌⊎◌, Bool, Option, true, false, drop, length, map, replicate, take, zero, suc}
+use Rattle.std.specs.Prelude.{ℕ, List, [], ◌∷◌, ◌++◌, ◌+◌, ◌≡◌, ◌≤◌, ◌⊎◌, Bool, Option, true, false, drop, length, map, take, zero, suc}
 use Rattle.std.proofs.Common.{refl, sym, ap, subst, ◌∙◌, inl, inr, arith, append-nil, length-append, length-drop}
 use Rattle.std.proofs.lemmas.List.{append_assoc}
-use Rattle.http_post.specs.Conversations.{interim}
 use Rattle.journal_at.specs.Compactions.{prepare_calls}
 use Rattle.journal_at.specs.StandingBodies.{Makes, lay, raise}
 use Rattle.journal_at.specs.declared.journal.Append.TheVariants as appends
 use Rattle.journal_at.specs.declared.journal.Journal.{Journal}
-use Rattle.mirrored_nets.specs.Took.{HaltsSo}
+use Rattle.mirrored_nets.specs.Took.{HaltsSo, IsTriedLine}
+use Rattle.mirrored_nets.proofs.TriedLines.{disk_untried}
 use Rattle.site_model.specs.Told.{BreaksOff, Call, Made, done, failed}
 use Rattle.torn_appends.specs.TornAppends.{append_calls, up_to}
 
@@ -78,12 +78,6 @@ other_calls file place at bytes e = cc
 no_sync : (file place at : ℕ) (bytes : List ℕ) → failed (Call.Write file place bytes) ≡ failed (Call.Sync at) → ⊥
 no_sync file place at bytes e = other_calls file place at bytes (ap (λ (m : Made). m.call) e)
 
-sync_no_line : (file : ℕ) → Call.Sync file ≡ Call.Send interim → ⊥
-sync_no_line file e = cc
-
-write_no_line : (file place : ℕ) (bytes : List ℕ) → Call.Write file place bytes ≡ Call.Send interim → ⊥
-write_no_line file place bytes e = cc
-
 -- the last call failed, the gate's write or its sync
 abbrev pub FailsAt : ℕ → List Made → (file : ℕ) → Bool → Type 0
 FailsAt lines made file stands =
@@ -117,7 +111,7 @@ module _ (j : Journal) (body : List ℕ) (first : List Made) (file : ℕ) (stand
   halt_by (rest, e, b) (inr (is, f)) = at_sync rest e (broken_gate j.live j.end rest b) is f
 
 -- so a turn whose append was done can't have halted while its journal was written anew
-module _ (lines : ℕ) (few : lines ≤ 1) (made : List Made) (said : take lines made ≡ replicate lines (done (Call.Send interim))) (front : List Made) (unshut : Bool) (file place : ℕ) (text : List ℕ) where
+module _ (lines : ℕ) (few : lines ≤ 1) (made : List Made) (tried : IsTriedLine lines (take lines made)) (front : List Made) (unshut : Bool) (file place : ℕ) (text : List ℕ) where
   abbrev prepared : List Made
   prepared = map done (prepare_calls unshut file text)
 
@@ -130,19 +124,15 @@ module _ (lines : ℕ) (few : lines ≤ 1) (made : List Made) (said : take lines
   long_prepared false = omega arith
 
   -- its first call isn't the line's
-  first_other : (unshut : Bool) (rest : List Made) (k : ℕ) → k ≡ 1 → take k (map done (prepare_calls unshut file text) ++ rest) ≡ replicate k (done (Call.Send interim)) → ⊥
-  first_other true rest k e f =
-      let g : done (Call.Write file 0 (0 ∷ [])) ∷ [] ≡ done (Call.Send interim) ∷ [] = subst (λ z. take z (map done (prepare_calls true file text) ++ rest) ≡ replicate z (done (Call.Send interim))) e f in
-      write_no_line file 0 (0 ∷ []) (ap (λ (m : Made). m.call) (heads _ _ [] [] g))
-  first_other false rest k e f =
-      let g : done (Call.Sync file) ∷ [] ≡ done (Call.Send interim) ∷ [] = subst (λ z. take z (map done (prepare_calls false file text) ++ rest) ≡ replicate z (done (Call.Send interim))) e f in
-      sync_no_line file (ap (λ (m : Made). m.call) (heads _ _ [] [] g))
+  first_other : (unshut : Bool) (rest : List Made) (k : ℕ) → k ≡ 1 → IsTriedLine k (take k (map done (prepare_calls unshut file text) ++ rest)) → ⊥
+  first_other true rest k e f = disk_untried (done (Call.Write file 0 (0 ∷ []))) (done (Call.Sync file) ∷ done (Call.Write file 1 text) ∷ done (Call.Sync file) ∷ rest) k refl e f
+  first_other false rest k e f = disk_untried (done (Call.Sync file)) (done (Call.Write file 1 text) ∷ done (Call.Sync file) ∷ rest) k refl e f
 
   too_few : (rest : List Made) → made ≡ front ++ (prepared ++ rest) → length made ≤ lines + (2 + length rest) → ⊥
   too_few rest e most = by front e (ap length e ∙ length-append front (prepared ++ rest) ∙ ap (λ k. length front + k) (length-append prepared rest))
     where
       by : (xs : List Made) → made ≡ xs ++ (prepared ++ rest) → length made ≡ length xs + (length prepared + length rest) → ⊥
-      by [] f l = let p = long_prepared unshut in first_other unshut rest lines (omega (arith, few, l, p, most)) (ap (take lines) (sym f) ∙ said)
+      by [] f l = let p = long_prepared unshut in first_other unshut rest lines (omega (arith, few, l, p, most)) (subst (λ z. IsTriedLine lines (take lines z)) f tried)
       by (x ∷ xs) f l = let p = long_prepared unshut in omega (arith, few, l, p, most)
 
   -- the last of them

@@ -107,7 +107,7 @@ module _ (L : NetLaws) (torn : AppendsTorn) (ask_so : ExamplesAskSo) (asks : Req
           let e : WorldEvent = Ask i request (H.stands ∷ []) (Some 1) in
           let is_now = subst (λ k. IsStep n.book (events.Local request) k begun) (time_is ∙ sym x.clock) is_step in
           let K = halt_by n.journal (bytes_of S.entry) S.stopped.first H.file H.stands S.stopped.makes (fails_behind 0 [] S.stopped.first made H.file H.stands refl made_is H.calls) in
-          let cut = halt_cut L.bodies torn old_records (seen n) s is_up_there 0 made [] S.stopped.first refl made_is begun S.entry S.is refl S.stopped.formed H.stands K
+          let cut = halt_cut L.bodies torn old_records (seen n) s is_up_there made [] S.stopped.first tt tt made_is begun S.entry S.is refl S.stopped.formed H.stands K
           (AskLeadsTo L ask_so count few hosts clocks mails more w M i h g n here up c time s before m t answers.Halted request named x.node.clock e)
           (asks.halted (example_hosts count) M.stands.net w i p.place x.node (seen n) request begun S.entry H.stands x.is_at is_now S.is refl) in
           subst (λ (z : WorldEvent). Mirrors count (put_nth i g hosts) clocks more (world_step w z)) (λ j. Ask i request (sym H.fates_are j) (sym H.until_is j))

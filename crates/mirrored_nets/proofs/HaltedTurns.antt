@@ -1,12 +1,11 @@
 -- A turn that halts, since the record of its first step may stand or not.
-use Rattle.std.specs.Prelude.{ℕ, List, [], ◌∷◌, ◌++◌, ◌≡◌, ◌≤◌, Bool, true, false, Option, Some, None, if◌then◌else◌, drop, length, map, replicate, take}
+use Rattle.std.specs.Prelude.{ℕ, List, [], ◌∷◌, ◌++◌, ◌≡◌, ◌≤◌, Bool, true, false, Option, Some, None, if◌then◌else◌, drop, length, map, take}
 use Rattle.std.proofs.Common.{refl, sym, ap, subst, ◌∙◌, inl, inr, append-nil, true≢false}
-use Rattle.std.proofs.lemmas.List.{append_assoc, length-replicate}
+use Rattle.std.proofs.lemmas.List.{append_assoc}
 use Rattle.std.proofs.Math.Seq.{drop-append_seam}
 use Rattle.at_base.specs.declared.record.Record.{Record}
 use Rattle.at_model.specs.World.{Input, Turn, World, WorldEvent, example_hosts, nth, put_nth, world_step}
 use Rattle.deliveries.specs.ByteNets.{Carries}
-use Rattle.http_post.specs.Conversations.{interim}
 use Rattle.journal_at.specs.Compactions.{prepare_calls}
 use Rattle.journal_at.specs.StandingBodies.{Makes}
 use Rattle.journal_at.specs.declared.journal.Append.TheVariants as appends
@@ -14,11 +13,12 @@ use Rattle.memory_net.specs.Mails.{Mail, mails_in}
 use Rattle.memory_net.specs.declared.host.Host.{Host}
 use Rattle.memory_net.proofs.Standing.{comes_on, same_some}
 use Rattle.mirrored_nets.specs.Mirrors.{Mirrors}
-use Rattle.mirrored_nets.specs.Took.{HaltsSo}
+use Rattle.mirrored_nets.specs.Took.{HaltsSo, IsTriedLine}
 use Rattle.mirrored_nets.proofs.CutTurns.{CutAt, LeadsTo, at_sites, place_records, turn_fallen}
 use Rattle.mirrored_nets.proofs.FallenHosts.{IsBefore, NetLaws, at_this, in_world, up_there}
 use Rattle.mirrored_nets.proofs.HaltCuts.{fails_behind, halt_cut}
 use Rattle.mirrored_nets.proofs.HaltedGates.{IsBroken, broken_gate, halt_by, not_anew}
+use Rattle.mirrored_nets.proofs.TriedLines.{line_long, line_no_posts, line_sendings}
 use Rattle.node_at.specs.Doings.{calls_of}
 use Rattle.node_at.specs.Endings.{Ends, Renews, TakesTurn}
 use Rattle.node_at.specs.Meanings.{Hears, IsFit, Meaning, next_input}
@@ -43,7 +43,7 @@ use Rattle.site_memory.specs.Disk.{chosen_files}
 use Rattle.site_memory.specs.Sites.{told_of}
 use Rattle.site_memory.specs.declared.arm.Choice.TheVariants.{Keep}
 use Rattle.site_memory.specs.declared.machine.MemSite.{MemSite}
-use Rattle.site_model.specs.Told.{Call, Made, done, sent_by}
+use Rattle.site_model.specs.Told.{Made, done, sent_by}
 use Rattle.torn_appends.specs.TornAppends.{AppendsTorn}
 
 -- the journal was written anew up to its gate, which isn't raised for certain
@@ -117,13 +117,13 @@ pub same_behind : (xs ys zs : List Made) → xs ++ ys ≡ xs ++ zs → ys ≡ zs
 same_behind xs ys zs e = sym (drop-append_seam xs ys) ∙ ap (drop (length xs)) e ∙ drop-append_seam xs zs
 
 -- a turn that halted behind all its steps made other calls
-module _ (lines : ℕ) (few : lines ≤ 1) (made : List Made) (said : take lines made ≡ replicate lines (done (Call.Send interim))) (fates : List Bool) (until : Option ℕ) (H : HaltsSo lines made fates until)
+module _ (lines : ℕ) (few : lines ≤ 1) (made : List Made) (tried : IsTriedLine lines (take lines made)) (fates : List Bool) (until : Option ℕ) (H : HaltsSo lines made fates until)
     (n : State) (runs : n.halted ≡ false) (sure : n.journal.unsure ≡ false) (c t : MemSite) (adds : calls_in t.device ≡ calls_in c.device ++ made) where
   not_renewed : (first : Turned) (shrunk : Shrunk) (node m : State) (mid : MemSite) (steps : List Made) → (first ≡ turneds.Halted → ⊥) → node.halted ≡ false → node.journal.unsure ≡ false
       → (told_of mid).calls ≡ Some (calls_in c.device ++ steps) → Renews told_of first turneds.Halted shrunk node m mid t → ⊥
   not_renewed first shrunk node m mid steps other going certain before r =
       let b = shrinks_broken node m mid t going certain (by_halted m.halted first other r.answers) shrunk r.shrinks in
-      not_anew lines few made said steps b.unshut b.file 0 b.text b.rest
+      not_anew lines few made tried steps b.unshut b.file 0 b.text b.rest
       (same_behind (calls_in c.device) made (steps ++ (map done (prepare_calls b.unshut b.file b.text) ++ b.rest))
       (sym adds ∙ b.calls ∙ ap (λ z. z ++ (map done (prepare_calls b.unshut b.file b.text) ++ b.rest)) (same_some (calls_in mid.device) (calls_in c.device ++ steps) before)
       ∙ append_assoc (calls_in c.device) steps (map done (prepare_calls b.unshut b.file b.text) ++ b.rest))) b.gate fates until H
@@ -166,7 +166,7 @@ module _ (L : NetLaws) (torn : AppendsTorn) (halts_lead : HaltsAreEvents) (count
   is_up_there = up_there L count few hosts clocks mails more w M i h g n here up c time s before
 
   module _ (turn : TakesTurn told_of turneds.Halted All m.shrunk (seen n) (seen m) from t) (W : DidHalt turn.first (seen n) turn.node from turn.behind turn.steps) (stays : t ≡ turn.behind) (input : Input)
-      (lines : ℕ) (made : List Made) (adds : calls_in t.device ≡ calls_in s.device ++ made) (is_line : W.line ≡ replicate lines (done (Call.Send interim)))
+      (lines : ℕ) (made : List Made) (adds : calls_in t.device ≡ calls_in s.device ++ made) (is_line : IsTriedLine lines W.line)
       (carries : Carries (example_hosts count) M.stands.net i All (told_of from))
       (heard : IsInput w i (in_world L count few hosts clocks mails more w M i h g n here up c time s before).node input W.meaning W.now) (down : g.node ≡ None)
       (fell : Leaves Keep t.device g.site.device) (posted : more ≡ mails ++ mails_in i count (sent_by (take (length made) made))) where
@@ -211,8 +211,8 @@ module _ (L : NetLaws) (torn : AppendsTorn) (halts_lead : HaltsAreEvents) (count
         let p = M.stands.holds i h here in
         let e = Turn i input (H.stands ∷ []) (Some 1) in
         let K = halt_by n.journal (bytes_of W.halts.entry) W.halts.first H.file H.stands makes
-        (fails_behind lines W.line W.halts.first made H.file H.stands (ap length is_line ∙ length-replicate lines (done (Call.Send interim))) made_is H.calls) in
-        let cut = halt_cut L.bodies torn old_records (seen n) s is_up_there lines made W.line W.halts.first is_line made_is W.halts.step W.halts.entry W.halts.records W.halts.landed W.halts.formed H.stands K
+        (fails_behind lines W.line W.halts.first made H.file H.stands (line_long lines W.line is_line) made_is H.calls) in
+        let cut = halt_cut L.bodies torn old_records (seen n) s is_up_there made W.line W.halts.first (line_sendings lines W.line is_line) (line_no_posts lines W.line is_line) made_is W.halts.step W.halts.entry W.halts.records W.halts.landed W.halts.formed H.stands K
         (LeadsTo L count few hosts clocks mails more w M i h g n here up c time s before m t turneds.Halted turn W.now e)
         (halts_lead (example_hosts count) M.stands.net w i p.place x.node (seen n) input W.meaning W.now W.halts.status W.halts.step W.halts.entry H.stands x.is_at heard W.halts.is_first W.halts.records W.halts.landed) in
         subst (λ (z : WorldEvent). Mirrors count (put_nth i g hosts) (put_nth i W.now clocks) more (world_step w z)) (λ j. Turn i input (sym H.fates_are j) (sym H.until_is j))

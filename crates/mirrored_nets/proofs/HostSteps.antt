@@ -1,5 +1,5 @@
 -- What the calls of a node on its machine come to.
-use Rattle.std.specs.Prelude.{ℕ, List, [], ◌≡◌, ◌+◌, ◌-◌, ◌++◌, ◌<◌, ◌^◌, ◌⊎◌, Bool, Option, Some, Result, IfOk, IsErrAnd, Ok, Err, drop, length, min, replicate, take, ◌≤◌}
+use Rattle.std.specs.Prelude.{ℕ, List, [], ◌≡◌, ◌+◌, ◌-◌, ◌++◌, ◌<◌, ◌^◌, ◌⊎◌, Bool, Option, Some, Result, IfOk, IsErrAnd, Ok, Err, drop, length, min, take, ◌≤◌}
 use Rattle.std.proofs.Common.{ap, arith, inl, inr, refl, sym, subst, ◌∙◌}
 use Rattle.std.proofs.lemmas.List.{drop-map, take-map, take_all}
 use Rattle.std.proofs.lemmas.Bool.{cases_lt}
@@ -18,15 +18,14 @@ use Rattle.site_memory.specs.Entries.{made_of, mades}
 use Rattle.site_memory.specs.declared.arm.Choice.{Choice}
 use Rattle.site_memory.specs.declared.entry.Entry.{Entry}
 use Rattle.site_memory.specs.declared.machine.MemSite.{MemSite}
-use Rattle.http_post.specs.Conversations.{interim}
-use Rattle.site_model.specs.Told.{Call, Made, done, sent_by}
+use Rattle.site_model.specs.Told.{Made, sent_by}
 use Rattle.mirrored_nets.specs.ArmedCalls.{choice_of}
 use Rattle.mirrored_nets.specs.Counted.{IsCounted}
 use Rattle.mirrored_nets.specs.Fates.{AllDone, AreAsked, failures, refusals}
 use Rattle.mirrored_nets.specs.Goings.{CameUp}
 use Rattle.mirrored_nets.specs.Struck.{ComesAt, IsUnhalted}
 use Rattle.mirrored_nets.specs.StruckTurns.{Goes, halts, stays, stops, unbegun}
-use Rattle.mirrored_nets.specs.Took.{Adds, AnswersSo, ComesTo, EndsSo, HaltsSo, HasRoom, IsWhole, LeftSo, TookRequest, TookTurn, kept_of}
+use Rattle.mirrored_nets.specs.Took.{Adds, AnswersSo, ComesTo, EndsSo, HaltsSo, HasRoom, IsTriedLine, IsWhole, LeftSo, TookRequest, TookTurn, kept_of}
 use Rattle.mirrored_nets.specs.Unarmed.{IsntApart}
 use Rattle.mirrored_nets.specs.declared.came.Came.{Came}
 use Rattle.mirrored_nets.specs.declared.came.Came.TheVariants as cames
@@ -120,15 +119,15 @@ posted_so i count came calls kept mails more (e, h) = h ∙ ap (λ ms. mails ++ 
 pub took_turn : (i count lines before : ℕ) (bytes : List ℕ) (n m : Node) (old site : MemSite) (new : Host) (mails more : List Mail) (fates : List Bool) (until : Option ℕ) (result : Turned) (came : Came) (calls kept : List Entry)
     → HasRoom old → Turns bytes result n m old site → before ≡ length (calls_in old.device) → Adds (mades calls) old site → EndsSo came result → ComesTo came lines (mades calls) fates until
     → ((z : MemSite) → before ≡ length (calls_in z.device) → LeftSo came m z site new) → Posts i count came calls kept mails more
-    → take lines (mades calls) ≡ replicate lines (done (Call.Send interim)) → TookTurn i count lines bytes n old new mails more fates until
-took_turn i count lines before bytes n m old site new mails more fates until result came calls kept room turns since adds ends comes left posts said = record {
+    → IsTriedLine lines (take lines (mades calls)) → TookTurn i count lines bytes n old new mails more fates until
+took_turn i count lines before bytes n m old site new mails more fates until result came calls kept room turns since adds ends comes left posts tried = record {
   room = room;
   result = result;
   node = m;
   site = site;
   turns = turns;
   made = mades calls;
-  said = said;
+  tried = tried;
   adds = adds;
   came = came;
   ends = ends;

@@ -1,5 +1,5 @@
 -- What a node of a net that mirrors a world hears is the input of the world's event.
-use Rattle.std.specs.Prelude.{ℕ, List, [], ◌∷◌, ◌++◌, ◌+◌, ◌-◌, ◌≡◌, ◌≤◌, ◌⊎◌, Bool, true, false, Option, Some, None, if◌then◌else◌, length, nat_eq, replicate, take, unwrap_or}
+use Rattle.std.specs.Prelude.{ℕ, List, [], ◌∷◌, ◌++◌, ◌+◌, ◌-◌, ◌≡◌, ◌≤◌, ◌⊎◌, Bool, true, false, Option, Some, None, if◌then◌else◌, length, nat_eq, take, unwrap_or}
 use Rattle.std.proofs.Common.{refl, sym, ap, subst, arith, ◌∙◌, inl, inr}
 use Rattle.at_base.specs.declared.event.Event.TheVariants as events
 use Rattle.at_base.specs.declared.outs.Post.{Post}
@@ -13,7 +13,7 @@ use Rattle.deliveries.proofs.NetForms.{posted_in}
 use Rattle.deliveries.specs.ByteNets.{ServeAsNets}
 use Rattle.deliveries.specs.DeliverableNets.{AreNodeHosts, IsDeliverableNet}
 use Rattle.deliveries.specs.Deliveries.{IsCarried}
-use Rattle.http_post.specs.Conversations.{IsSaid, Waits, interim}
+use Rattle.http_post.specs.Conversations.{IsSaid, Waits}
 use Rattle.http_post.specs.Laws.{WaitOrNot}
 use Rattle.memory_net.specs.Closed.{StaysClosed, closed}
 use Rattle.memory_net.specs.Mails.{Mail}
@@ -34,15 +34,15 @@ use Rattle.node_at.specs.declared.turn.Turned.TheVariants as turneds
 use Rattle.node_events.specs.NodeEvents.{Brings, IsInput, one_if}
 use Rattle.node_events.specs.NodeEvents.Brings.{arrives as comes, draws as is_drawn}
 use Rattle.site_memory.specs.Sites.{told_of}
-use Rattle.site_model.specs.Told.{Call, Made, Told, done}
+use Rattle.site_model.specs.Told.{Made, Told}
 use Rattle.small_envelopes.specs.SmallEnvelopes.{BareAreInLimits}
 use Rattle.wire_posts.specs.Envelopes.{action_in}
 use Rattle.wire_posts.specs.Returns.{IsInLimits}
 use Rattle.mirrored_nets.specs.Goings.{IsBrought, ms_of}
 use Rattle.mirrored_nets.specs.Mirrors.{Mirrors}
-use Rattle.mirrored_nets.specs.Took.{IsWhole}
+use Rattle.mirrored_nets.specs.Took.{IsTriedLine, IsWhole}
 use Rattle.mirrored_nets.proofs.BarePosts.{bare_post}
-use Rattle.mirrored_nets.proofs.InterimLines.{IsNoLine, IsTriedLine, line_is}
+use Rattle.mirrored_nets.proofs.InterimLines.{IsNoLine, line_is}
 
 -- A turn that went to its end, or that halted, heard a request.
 
@@ -177,11 +177,11 @@ module _ (says : PostsSay) (quiet : PostsDontWait) (ticks : TicksAsk) (one : Mea
       by true e (inr (inl none, rose)) = inr (e, none)
       by true e (inr (inr is, rose)) = inl (inr (e, inr is))
 
-  -- the calls before the first step, where the first calls said the line
+  -- the calls before the first step, where the first calls tried the line
   pub line_told : (input : Input) (lines : ℕ) (bytes : List ℕ) (old new : Told) (line rest made : List Made) → IsBrought mails i input lines bytes → IsLine (Some bytes) true old new line
-      → made ≡ line ++ rest → take lines made ≡ replicate lines (done (Call.Send interim)) → (line ≡ [] → IsNoLine rest) → line ≡ replicate lines (done (Call.Send interim))
+      → made ≡ line ++ rest → IsTriedLine lines (take lines made) → (line ≡ [] → IsNoLine rest) → IsTriedLine lines line
   line_told input lines bytes old new line rest made brought is_line all first none =
-      line_is lines line rest (line_so input lines bytes old new line brought is_line) none (subst (λ z. take lines z ≡ replicate lines (done (Call.Send interim))) all first)
+      line_is lines line rest (line_so input lines bytes old new line brought is_line) none (subst (λ z. IsTriedLine lines (take lines z)) all first)
 
   module _ (c : ℕ) (x : Known) (time : nth i clocks ≡ Some c) (node : nth i w.nodes ≡ Some x) (base : x.base ≡ example_base i) where
     clock : x.clock ≡ c

@@ -1,5 +1,5 @@
--- Where the first calls of a turn say the interim line, they are those that come before its first step.
-use Rattle.std.specs.Prelude.{ℕ, List, [], ◌∷◌, ◌++◌, ◌+◌, ◌≡◌, ◌≤◌, ◌⊎◌, Bool, true, false, Option, Some, None, codes, decimal, length, replicate, take}
+-- Where the first calls of a turn tried the interim line, they are those that come before its first step.
+use Rattle.std.specs.Prelude.{ℕ, List, [], ◌∷◌, ◌++◌, ◌+◌, ◌≡◌, ◌≤◌, ◌⊎◌, Bool, true, false, Option, Some, None, codes, decimal, length, take}
 use Rattle.std.specs.List.{AllByRecursion}
 use Rattle.std.proofs.Common.{refl, sym, ap, subst, arith, ◌∙◌, inl, inr, length-append}
 use Rattle.addressing.specs.declared.post_to.PostTo.{PostTo}
@@ -12,26 +12,29 @@ use Rattle.at_model.specs.Step.{Outcome, step}
 use Rattle.decision_log.specs.KeptRecords.{Known}
 use Rattle.decision_log.specs.Tokens.{Token}
 use Rattle.deliveries.proofs.TurnForms.{all_join}
-use Rattle.http_post.specs.Conversations.{interim, said, unsaid}
+use Rattle.http_post.specs.Conversations.{interim}
 use Rattle.http_post.specs.OutBytes.{allow_field, answer_of, field, has_reason, head_end, line, status_line, type_field}
-use Rattle.journal_at.specs.Format.{behind}
-use Rattle.journal_at.specs.StandingBodies.{Makes}
+use Rattle.at_base.specs.declared.record.Record.{Record}
+use Rattle.journal_at.specs.Format.{behind, frames}
+use Rattle.journal_at.specs.StandingBodies.{Keeps, Makes, lay}
 use Rattle.journal_at.specs.declared.journal.Append.TheVariants as appends
-use Rattle.node_at.specs.Doings.{AreDoings, Doing, calls_of, deeds_of}
+use Rattle.node_at.specs.Doings.{AreDoings, AreFates, Doing, IsFateAt, calls_of}
 use Rattle.node_at.specs.Meanings.{Meaning}
 use Rattle.node_at.specs.Meanings.Meaning.{Lost, Refused, Steps, Unread}
-use Rattle.node_at.specs.Moments.{sent_of}
 use Rattle.node_at.specs.Sends.{Tried}
 use Rattle.node_at.specs.State.{State}
 use Rattle.node_at.specs.Steps.{if_landed, kept_by}
 use Rattle.node_at.specs.Texts.{AreLeaving, IsAnswerOf, IsCallOf, IsPostOf, Leaving, goes_to}
 use Rattle.node_at.specs.TurnText.{AreDue, IsFirst, Steppings, TurnStep}
 use Rattle.node_at.specs.TurnText.Steppings.{asked, unasked}
-use Rattle.node_at.specs.Turns.{Whole, line_of}
-use Rattle.site_model.specs.Told.{Call, Made, Told, done, failed, sent_by, sent_if}
+use Rattle.node_at.specs.Turns.{Whole}
+use Rattle.record_bytes.specs.Bytes.{bytes_of}
+use Rattle.site_model.specs.Told.{Call, Made, Told, done, failed}
 use Rattle.mirrored_nets.specs.Fates.{is_disk}
+use Rattle.mirrored_nets.specs.Took.{IsTriedLine}
+use Rattle.mirrored_nets.proofs.CallRows.{AreOnDisk, disk_calls}
 
--- a call that doesn't say the line
+-- a call that isn't the line's
 abbrev pub IsOther : Call → Type 0
 IsOther (Call.Write file at bytes) = Unit {0}
 IsOther (Call.Sync file) = Unit {0}
@@ -146,72 +149,71 @@ tried_other (Tried.was_lost {xs = xs} {made = made} x tried may all (inl is) tot
 tried_other (Tried.was_lost {xs = xs} {made = made} x tried may all (inr is) total) h =
     let (rest, last) = last_other xs x (subst AreOther all h) in subst (AllByRecursion IsMadeOther) (sym is) (tried_other tried rest)
 
-sent_other : (made : List Made) → AllByRecursion IsMadeOther made → AllByRecursion IsOther (sent_by made)
-sent_other [] h = tt
-sent_other (m ∷ made) (h, more) = by m.done m.call h (sent_other made more)
-  where
-    by : (b : Bool) (c : Call) → IsOther c → AllByRecursion IsOther (sent_by made) → AllByRecursion IsOther (sent_if b c ++ sent_by made)
-    by false c k rest = rest
-    by true (Call.Write file at bytes) k rest = rest
-    by true (Call.Sync file) k rest = rest
-    by true (Call.Send bytes) k rest = (k, rest)
-    by true (Call.Post host port bytes) k rest = (tt, rest)
+other_disk : (c : Call) → is_disk c ≡ true → IsOther c
+other_disk (Call.Write file at bytes) e = tt
+other_disk (Call.Sync file) e = tt
+other_disk (Call.Send bytes) e = absurd cc
+other_disk (Call.Post host port bytes) e = absurd cc
 
-doings_other : (steps : List TurnStep) (doings : List Doing) (kept : Known) → AreDoings kept steps doings → AllAreOther steps → AllByRecursion IsOther (sent_of (deeds_of doings))
-doings_other [] [] kept are h = tt
-doings_other [] (d ∷ ds) kept are h = absurd are
-doings_other (s ∷ ss) [] kept are h = absurd are
-doings_other (s ∷ ss) (d ∷ ds) kept (is, are) (h, more) =
-    all_join IsOther (sent_by d.made) (sent_of (deeds_of ds)) (sent_other d.made (tried_other is.tried h)) (doings_other ss ds (kept_by (if_landed s.landed s.entry) kept) are more)
+disk_other : (made : List Made) → AreOnDisk made → AllByRecursion IsMadeOther made
+disk_other [] h = tt
+disk_other (m ∷ made) (h, more) = (other_disk m.call h, disk_other made more)
 
--- their first doesn't say the line
+-- those of a record's append
+fate_other : (landed : Bool) (entry : Option Record) (live limit end : ℕ) (first : List Made) (refused : ℕ) → IsFateAt landed entry live limit end first refused → AreOnDisk first
+fate_other landed None live limit end first refused (e, none) = subst AreOnDisk (sym e) tt
+fate_other true (Some r) live limit end first refused (e, within, none) = subst AreOnDisk (sym e) (refl, (refl, (refl, (refl, tt))))
+fate_other false (Some r) live limit end first refused (inl (breaks, within, one)) = disk_calls (lay live end (bytes_of r)) first (refl, (refl, tt)) breaks
+fate_other false (Some r) live limit end first refused (inr (e, past, none)) = subst AreOnDisk (sym e) tt
+
+doings_other : (steps : List TurnStep) (doings : List Doing) (kept : Known) (live limit : ℕ) (bodies : List (List ℕ)) → AreDoings kept steps doings → AreFates live limit bodies steps doings → AllAreOther steps
+    → AllByRecursion IsMadeOther (calls_of doings)
+doings_other [] [] kept live limit bodies are fates h = tt
+doings_other [] (d ∷ ds) kept live limit bodies are fates h = absurd are
+doings_other (s ∷ ss) [] kept live limit bodies are fates h = absurd are
+doings_other (s ∷ ss) (d ∷ ds) kept live limit bodies (is, are) (fate, fates) (h, more) =
+    all_join IsMadeOther (d.first ++ d.made) (calls_of ds)
+    (all_join IsMadeOther d.first d.made (disk_other d.first (fate_other s.landed s.entry live limit (length (frames bodies)) d.first d.refused fate)) (tried_other is.tried h))
+    (doings_other ss ds (kept_by (if_landed s.landed s.entry) kept) live limit (bodies ++ d.landed) are fates more)
+
+-- their first isn't the line's
 abbrev pub IsNoLine : List Made → Type 0
-IsNoLine made = (more : List Made) → made ≡ done (Call.Send interim) ∷ more → ⊥
+IsNoLine made = (m : Made) (more : List Made) → made ≡ m ∷ more → m.call ≡ Call.Send interim → ⊥
 
 same_made : {A : Type 0} (x y : A) (xs ys : List A) → x ∷ xs ≡ y ∷ ys → x ≡ y
 same_made x y xs ys e = cc
 
-pub disk_no_line : (made : List Made) → AllByRecursion (λ (m : Made). is_disk m.call ≡ true) made → IsNoLine made
-disk_no_line [] h more e = absurd cc
-disk_no_line (m ∷ made) (h, _) more e = let f : false ≡ true = sym (ap (λ (x : Made). is_disk x.call) (same_made m (done (Call.Send interim)) made more e)) ∙ h in absurd cc
+pub disk_no_line : (made : List Made) → AreOnDisk made → IsNoLine made
+disk_no_line [] h n more e line = absurd cc
+disk_no_line (m ∷ made) (h, _) n more e line =
+    let f : false ≡ true = sym (ap is_disk line) ∙ sym (ap (λ (x : Made). is_disk x.call) (same_made m n made more e)) ∙ h in absurd cc
 
 -- a record's append that halts
 pub halts_no_line : (live end : ℕ) (body : List ℕ) (made : List Made) → Makes appends.Unsure live end body made → IsNoLine made
-halts_no_line live end body made (rest, is, breaks) more e =
-    let f : true ≡ false =
-    ap (λ (x : Made). is_disk x.call) (same_made (done (Call.Write live (end + 1) (behind body ++ 0 ∷ []))) (done (Call.Send interim)) (done (Call.Sync live) ∷ rest) more (sym is ∙ e)) in
+halts_no_line live end body made (rest, is, breaks) n more e line =
+    let first : done (Call.Write live (end + 1) (behind body ++ 0 ∷ [])) ≡ n = same_made _ n (done (Call.Sync live) ∷ rest) more (sym is ∙ e) in
+    let f : true ≡ false = ap (λ (x : Made). is_disk x.call) first ∙ ap is_disk line in
     absurd cc
 
-sent_no_line : (made rest : List Made) (sent : List Call) → sent_by made ≡ sent → AllByRecursion IsOther sent → IsNoLine rest → IsNoLine (made ++ rest)
-sent_no_line [] rest sent is h none more e = none more e
-sent_no_line (m ∷ made) rest sent is h none more e =
-    let same : m ≡ done (Call.Send interim) = same_made m (done (Call.Send interim)) (made ++ rest) more e in
-    let all : AllByRecursion IsOther (sent_by (done (Call.Send interim) ∷ made)) = subst (λ (x : Made). AllByRecursion IsOther (sent_by (x ∷ made))) same (subst (AllByRecursion IsOther) (sym is) h) in
-    all.0 refl
+other_no_line : (made rest : List Made) → AllByRecursion IsMadeOther made → IsNoLine rest → IsNoLine (made ++ rest)
+other_no_line [] rest h none = none
+other_no_line (m ∷ made) rest (h, _) none = λ n more e line. subst IsOther (ap (λ (x : Made). x.call) (same_made m n (made ++ rest) more e) ∙ line) h refl
 
-pub whole_no_line : (made rest : List Made) (meaning : Meaning) (now status : ℕ) (n m : State) (old new : Told) → made ≡ [] → (whole : Whole (line_of made) meaning now status n m old new) → IsNoLine rest
-    → IsNoLine (calls_of whole.doings ++ rest)
-whole_no_line made rest meaning now status n m old new none whole more =
-    sent_no_line (calls_of whole.doings) rest (sent_of (deeds_of whole.doings))
-    (subst (λ z. sent_by (calls_of (line_of z ++ whole.doings)) ≡ sent_of (deeds_of (line_of z ++ whole.doings))) none whole.ran.does.sent)
-    (doings_other whole.steps whole.doings n.kept whole.ran.are (steps_other now n.book [] meaning whole.steps status whole.turns)) more
+pub whole_no_line : (lines : List Doing) (rest : List Made) (meaning : Meaning) (now status : ℕ) (n m : State) (old new : Told) (bodies : List (List ℕ)) → (whole : Whole lines meaning now status n m old new)
+    → Keeps n.journal bodies old → IsNoLine rest → IsNoLine (calls_of whole.doings ++ rest)
+whole_no_line lines rest meaning now status n m old new bodies whole keeps more =
+    other_no_line (calls_of whole.doings) rest
+    (doings_other whole.steps whole.doings n.kept n.journal.live n.journal.limit bodies whole.ran.are (whole.ran.fates bodies keeps)
+    (steps_other now n.book [] meaning whole.steps status whole.turns)) more
 
--- the line was tried exactly where the client waits for it
-abbrev pub IsTriedLine : ℕ → List Made → Type 0
-IsTriedLine lines made = ((lines ≡ 0) × (made ≡ [])) ⊎ ((lines ≡ 1) × ((made ≡ said true) ⊎ (made ≡ unsaid)))
-
--- so it was said, where the first calls say it
-pub line_is : (lines : ℕ) (made rest : List Made) → IsTriedLine lines made ⊎ ((lines ≡ 1) × (made ≡ [])) → (made ≡ [] → IsNoLine rest) → take lines (made ++ rest) ≡ replicate lines (done (Call.Send interim))
-    → made ≡ replicate lines (done (Call.Send interim))
-line_is lines made rest (inl (inl (e, f))) no_line is = f ∙ ap (λ k. replicate k (done (Call.Send interim))) (sym e)
-line_is lines made rest (inl (inr (e, inl f))) no_line is = f ∙ ap (λ k. replicate k (done (Call.Send interim))) (sym e)
-line_is lines made rest (inl (inr (e, inr f))) no_line is =
-    let same : take 1 (unsaid ++ rest) ≡ replicate 1 (done (Call.Send interim)) =
-    subst (λ z. take 1 (z ++ rest) ≡ replicate 1 (done (Call.Send interim))) f (subst (λ k. take k (made ++ rest) ≡ replicate k (done (Call.Send interim))) e is) in
-    let differs : false ≡ true = ap (λ (x : Made). x.done) (same_made (failed (Call.Send interim)) (done (Call.Send interim)) (take 0 rest) [] same) in
-    absurd cc
-line_is lines made rest (inr (e, f)) no_line is = by rest (no_line f) (subst (λ z. take 1 (z ++ rest) ≡ replicate 1 (done (Call.Send interim))) f (subst (λ k. take k (made ++ rest) ≡ replicate k (done (Call.Send interim))) e is))
+-- so it was tried, where the first calls tried it
+pub line_is : (lines : ℕ) (made rest : List Made) → IsTriedLine lines made ⊎ ((lines ≡ 1) × (made ≡ [])) → (made ≡ [] → IsNoLine rest) → IsTriedLine lines (take lines (made ++ rest)) → IsTriedLine lines made
+line_is lines made rest (inl is) no_line first = is
+line_is lines made rest (inr (e, f)) no_line first = absurd (by rest (no_line f) (subst (λ z. IsTriedLine 1 (take 1 (z ++ rest))) f (subst (λ k. IsTriedLine k (take k (made ++ rest))) e first)))
   where
-    by : (xs : List Made) → IsNoLine xs → take 1 xs ≡ replicate 1 (done (Call.Send interim)) → made ≡ replicate lines (done (Call.Send interim))
-    by [] none same = absurd cc
-    by (x ∷ xs) none same = absurd (none xs (ap (λ (y : Made). y ∷ xs) (same_made x (done (Call.Send interim)) (take 0 xs) [] same)))
+    by : (xs : List Made) → IsNoLine xs → IsTriedLine 1 (take 1 xs) → ⊥
+    by xs none (inl (one, is)) = cc
+    by [] none (inr (one, inl is)) = cc
+    by [] none (inr (one, inr is)) = cc
+    by (x ∷ xs) none (inr (one, inl is)) = none x xs refl (ap (λ (m : Made). m.call) (same_made x (done (Call.Send interim)) [] [] is))
+    by (x ∷ xs) none (inr (one, inr is)) = none x xs refl (ap (λ (m : Made). m.call) (same_made x (failed (Call.Send interim)) [] [] is))

@@ -1,7 +1,7 @@
 -- The outs of a turn's steps leave by answers and posts, and no step but its first has a record.
-use Rattle.std.specs.Prelude.{ℕ, List, [], ◌∷◌, ◌≡◌, Bool, true, false, Option, Some, None, replicate, length, zero, suc}
+use Rattle.std.specs.Prelude.{ℕ, List, [], ◌∷◌, ◌≡◌, Bool, true, false, Option, Some, None}
 use Rattle.std.specs.List.{AllByRecursion}
-use Rattle.std.proofs.Common.{refl, sym, ap, subst, ◌∙◌}
+use Rattle.std.proofs.Common.{refl, sym, subst}
 use Rattle.addressing.specs.declared.post_to.PostTo.{PostTo}
 use Rattle.at_base.specs.declared.outs.Out.{Out}
 use Rattle.at_base.specs.declared.outs.Out.TheVariants as outs
@@ -16,9 +16,7 @@ use Rattle.node_at.specs.Texts.{AreLeaving, IsAnswerOf, IsCallOf, IsPostOf, Leav
 use Rattle.node_at.specs.Texts.AreLeaving.{leaves, none, stays}
 use Rattle.node_at.specs.TurnText.{AreDue, DueSteps, IsFirst, Steppings, TurnStep}
 use Rattle.node_at.specs.TurnText.Steppings.{asked, unasked}
-use Rattle.site_model.specs.Told.{Call, Made, done}
-use Rattle.mirrored_nets.specs.Fates.{AllDone, is_disk}
-use Rattle.mirrored_nets.proofs.CallRows.{AreSendings}
+use Rattle.site_model.specs.Told.{Call}
 use Rattle.mirrored_nets.proofs.ToldFares.{AllAreOuts, AreOuts, HasNone, IsOut}
 
 answer_out : (b : Bool) (status : ℕ) (reply : Option Post) (c : Call) → IsAnswerOf b status reply (Some c) → IsOut c
@@ -66,16 +64,3 @@ asked_steps now b meaning steps status told (unasked due) = absurd (told refl)
 asked_steps now b meaning steps status told (asked first rest is due e) =
     let (are, none_recorded) = due_outs due.done rest due.are in
     record { first = first; rest = rest; is = is; due = due; all = e; outs = (first_outs b now status meaning first is, are); unrecorded = none_recorded }
-
--- the calls that say a line
-pub line_sendings : (c : Call) → is_disk c ≡ false → (lines : ℕ) (line : List Made) → line ≡ replicate lines (done c) → AreSendings line
-line_sendings c h zero line e = subst AreSendings (sym e) tt
-line_sendings c h (suc k) line e = subst AreSendings (sym e) (h, line_sendings c h k (replicate k (done c)) refl)
-
-pub line_all_done : (c : Call) (lines : ℕ) (line : List Made) → line ≡ replicate lines (done c) → AllDone line
-line_all_done c zero line e = subst AllDone (sym e) tt
-line_all_done c (suc k) line e = subst AllDone (sym e) (refl, line_all_done c k (replicate k (done c)) refl)
-
-pub line_length : (c : Call) (lines : ℕ) (line : List Made) → line ≡ replicate lines (done c) → length line ≡ lines
-line_length c zero line e = ap length e
-line_length c (suc k) line e = ap length e ∙ ap suc (line_length c k (replicate k (done c)) refl)

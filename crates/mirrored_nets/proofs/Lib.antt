@@ -42,6 +42,7 @@ pub mod StruckCuts
 pub mod StruckFates
 pub mod TakenCalls
 pub mod ToldFares
+pub mod TriedLines
 pub mod TurnsRead
 pub mod TurnsTaken
 pub mod UnbegunAsks
@@ -70,9 +71,11 @@ pub mod StruckTurns
 pub mod OneStanding
 pub mod MarkedFiles
 pub mod DownMachines
-pub mod FirstFrames
+pub mod StoodStarts
 pub mod LeftStarts
+pub mod BrokenStarts
 pub mod ReadRecords
+pub mod DueStarts
 pub mod StruckKept
 pub mod StruckAsks
 pub mod StruckRequests

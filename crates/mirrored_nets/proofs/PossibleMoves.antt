@@ -20,7 +20,7 @@ use Rattle.mirrored_nets.specs.Mirrors.{Mirrors}
 use Rattle.mirrored_nets.specs.NetSteps.{IsGiven}
 use Rattle.mirrored_nets.specs.PossibleMoves.{CanBe, FitsClock, IsNumbered, MayCome}
 use Rattle.mirrored_nets.specs.Seen.{Seen}
-use Rattle.mirrored_nets.specs.StruckTurns.{IsStruckTurn, IsToldOf, spoken_of}
+use Rattle.mirrored_nets.specs.StruckTurns.{IsStruckTurn, IsToldOf}
 use Rattle.mirrored_nets.specs.declared.judged.Armed.{Armed}
 use Rattle.mirrored_nets.proofs.Remirrored.{nth_within}
 
@@ -103,14 +103,14 @@ same_lines law w mails i Raw raw bytes known lines (status, waits, draws, is) (a
     is ∙ ap one_call (law raw waits wait draws.1 (subst (λ b. Waits b wait) given drawn.1)) ∙ one_line wait ∙ sym so
 
 -- So it is a turn that can be done there.
-module _ (law : WaitOrNot) (net : Seen) (i count : ℕ) (input : Input) (fates : List Bool) (until : Option ℕ) (raw : List ℕ) (armed spoken : Armed) (C : CanBe net (Turn i input fates until) raw armed)
+module _ (law : WaitOrNot) (net : Seen) (i count : ℕ) (input : Input) (fates : List Bool) (until : Option ℕ) (raw : List ℕ) (armed : Armed) (C : CanBe net (Turn i input fates until) raw armed)
     (count_is : count ≡ length net.hosts) (h : Host) (here : nth i net.hosts ≡ Some h) (n : Node) (up : h.node ≡ Some n) (c now : ℕ) (time : nth i net.clocks ≡ Some c) (lines : ℕ) (bytes : List ℕ)
     (brought : IsBrought (map mail_of net.letters) i input lines bytes) (given : IsGiven input raw bytes) (site old : MemSite) (same : site ≡ h.site) (later : now ≡ c + ms_of input) (set : IsSet now site old)
-    (told : IsToldOf spoken old) (spoken_is : spoken ≡ spoken_of lines armed) where
+    (told : IsToldOf armed old) where
   many : C.count ≡ count
   many = sym C.mirrors.many ∙ sym count_is
 
-  pub struck_turn : IsStruckTurn i count lines bytes n old spoken fates until
+  pub struck_turn : IsStruckTurn i count lines bytes n old armed fates until
   struck_turn =
       let (is, (known, can, strikes)) = C.possible in
       record {
@@ -131,6 +131,6 @@ module _ (law : WaitOrNot) (net : Seen) (i count : ℕ) (input : Input) (fates :
         set = subst (λ (s : MemSite). IsSet (c + ms_of input) s old) same (subst (λ k. IsSet k site old) later set);
         told = told;
         known = C.known;
-        armed_is = spoken_is ∙ ap (spoken_of lines) C.armed_is;
+        armed_is = C.armed_is;
         strikes = subst (λ k. Strikes C.world (Turn i input fates until) k C.known fates until) (same_lines law C.world (map mail_of net.letters) i input raw bytes known lines can brought given) strikes;
       }

@@ -1,5 +1,5 @@
 -- Hosts behind events: a node that is up serves and hasn't halted, and its machine can be told which call is to fail.
-use Rattle.std.specs.Prelude.{ℕ, List, ◌≡◌, Bool, true, false, IfSome, None, Ok, Option, Some, if◌then◌else◌}
+use Rattle.std.specs.Prelude.{ℕ, List, ◌≡◌, Bool, true, false, Err, IfSome, None, Ok, Option, Result, Some, if◌then◌else◌}
 use Rattle.std.proofs.Common.{refl, sym, ap, subst, ◌∙◌, inl, inr}
 use Rattle.at_base.specs.declared.event.Local.{Local}
 use Rattle.memory_net.specs.Calls.{Begins, IsServing}
@@ -8,6 +8,7 @@ use Rattle.memory_net.specs.declared.host.Host.{Host}
 use Rattle.node_at.specs.Endings.{Ends}
 use Rattle.node_at.specs.Locals.{Asked}
 use Rattle.node_at.specs.State.{State, seen}
+use Rattle.node_at.specs.declared.fault.StartFault.{StartFault}
 use Rattle.node_at.specs.declared.local.Locally.{Locally}
 use Rattle.node_at.specs.declared.local.Locally.TheVariants as answers
 use Rattle.node_at.specs.declared.node.Node.{Node}
@@ -41,8 +42,9 @@ off_serves g down ready = record { serving = subst (λ o. IfSome o IsServing) (s
 pub down_serves : (old : MemSite) (g : Host) → IsReady old → WentDown old g → MayServe g
 down_serves old g ready went = off_serves g went.down (crashed_ready old g.site went.left.arm went.links ready.links)
 
-begins_kept : (base : List ℕ) (n : Node) (old new : MemSite) → Begins base (Ok n) old new → (told_of new).counts.arming ≡ (told_of old).counts.arming
-begins_kept base n old new begins = ap (λ (k : Counts). k.arming) begins.0.counted.others
+begins_kept : (base : List ℕ) (r : Result Node StartFault) (old new : MemSite) → Begins base r old new → (told_of new).counts.arming ≡ (told_of old).counts.arming
+begins_kept base (Ok n) old new begins = ap (λ (k : Counts). k.arming) begins.0.counted.others
+begins_kept base (Err fault) old new begins = ap (λ (k : Counts). k.arming) begins.counted.others
 
 kept_told : (old new : MemSite) → (told_of new).counts.arming ≡ (told_of old).counts.arming → IsTold old → IsTold new
 kept_told old new kept (arming, told) = (arming, kept ∙ told)
@@ -50,11 +52,11 @@ kept_told old new kept (arming, told) = (arming, kept ∙ told)
 pub started_serves : LinksHold → (base : List ℕ) (c : ℕ) (landed stop : Bool) (site : MemSite) (g : Host) → IsReady site → Started base c landed stop site g → MayServe g
 started_serves law base c landed stop site g ready (old, set, inl (lands, stays, came)) =
     up_serves g came.node came.is came.serving came.begins.0.runs
-    (told_ready law g.site (kept_told old g.site (begins_kept base came.node old g.site came.begins) (set.told ready)))
+    (told_ready law g.site (kept_told old g.site (begins_kept base (Ok came.node) old g.site came.begins) (set.told ready)))
 started_serves law base c landed stop site g ready (old, set, inr (stops, took)) =
     off_serves g took.down
     (crashed_ready took.site g.site took.fell.left.arm took.fell.links
-    (told_ready law took.site (kept_told old took.site (begins_kept base took.node old took.site took.begins) (set.told ready))).links)
+    (told_ready law took.site (kept_told old took.site (begins_kept base took.result old took.site took.begins) (set.told ready))).links)
 
 left_serves : LinksHold → (came : Came) (m : Node) (old t : MemSite) (g : Host) → LeftSo came m old t g → IsServing m → (came ≡ cames.Stays → m.halted ≡ false) → IsTold t → MayServe g
 left_serves law cames.Stays m old t g left serves runs told = up_serves g m left.0 serves (runs refl) (subst IsReady (sym left.1) (told_ready law t told))

@@ -93,7 +93,6 @@ module _ (n m : State) (l : Local) (now status : ℕ) (s t : MemSite) (D : IsSte
           ∙ ap (λ z. D.went.first ++ z) (sym (append-nil D.went.made) ∙ sym (append-nil (D.went.made ++ [])));
       anew_are = tt;
       line_sent = tt;
-      line_done = tt;
       record_is = fate.0;
       outs = (leaving_outs (step n.book (events.Local l) now D.landed).outs D.leaving D.are, tt);
       unrecorded = tt;

@@ -1,36 +1,26 @@
 -- The calls of steps that all stand, as they are read.
-use Rattle.std.specs.Prelude.{ℕ, List, [], ◌∷◌, ◌++◌, ◌≡◌, Option, Some, None, IfSome, Bool, true, false, length, replicate, zero, suc}
+use Rattle.std.specs.Prelude.{ℕ, List, [], ◌∷◌, ◌++◌, ◌≡◌, Option, Some, None, IfSome, Bool, true, false}
 use Rattle.std.specs.List.{AllByRecursion}
 use Rattle.std.proofs.Common.{refl, sym, ap, subst, ◌∙◌, inl, inr}
-use Rattle.std.proofs.lemmas.List.{length-replicate}
 use Rattle.at_base.specs.declared.record.Record.{Record}
 use Rattle.fated_walks.specs.Fated.{Fated, stands_by}
-use Rattle.http_post.specs.Conversations.{interim}
 use Rattle.journal_at.specs.declared.journal.Journal.{Journal}
 use Rattle.journal_at.specs.declared.version.Version.TheVariants.{Two}
-use Rattle.mirrored_nets.proofs.CallRows.{AreParts, AreSendings}
+use Rattle.mirrored_nets.specs.Took.{IsTriedLine}
+use Rattle.mirrored_nets.proofs.CallRows.{AreParts}
 use Rattle.mirrored_nets.proofs.CallsRead.{IsRecordOf, Read}
 use Rattle.mirrored_nets.proofs.CutCalls.{AreCallsOf, HasRecord}
 use Rattle.mirrored_nets.proofs.ToldFares.{HasNone}
+use Rattle.mirrored_nets.proofs.TriedLines.{line_long, line_no_posts, line_sendings}
 use Rattle.node_at.specs.Doings.{Doing}
 use Rattle.node_at.specs.Steps.{if_landed}
 use Rattle.node_at.specs.TurnText.{TurnStep}
 use Rattle.node_events.specs.Fares.{IsFared}
 use Rattle.node_events.specs.NodeEvents.{all_made}
-use Rattle.node_worlds.specs.Crashes.{IsNoPost}
 use Rattle.node_worlds.specs.SentPosts.{recorded, records_by}
 use Rattle.record_bytes.specs.Bytes.{bytes_of}
 use Rattle.record_bytes.specs.Versions.{IsRecord}
-use Rattle.site_model.specs.Told.{Call, Made, done, sent_by}
-
--- interim lines
-pub lines_said : (lines : ℕ) → AreSendings (replicate lines (done (Call.Send interim)))
-lines_said zero = tt
-lines_said (suc k) = (refl, lines_said k)
-
-pub lines_post_none : (lines : ℕ) → AllByRecursion IsNoPost (sent_by (replicate lines (done (Call.Send interim))))
-lines_post_none zero = tt
-lines_post_none (suc k) = (tt, lines_post_none k)
+use Rattle.site_model.specs.Told.{Made}
 
 no_record : (landed : Bool) → records_by (if_landed landed None) ≡ []
 no_record true = refl
@@ -41,7 +31,7 @@ none_recorded [] h = refl
 none_recorded (s ∷ ss) (h, more) = λ i. (ap (λ o. records_by (if_landed s.landed o)) h ∙ no_record s.landed) i ++ none_recorded ss more i
 
 module _ (j : Journal) (lines : ℕ) (line made : List Made) (s : TurnStep) (ss : List TurnStep) (d : Doing) (ds : List Doing) (R : Read j line made s ss d ds)
-    (parts : AreParts d.first (all_made (d ∷ ds)) R.anew) (is_line : line ≡ replicate lines (done (Call.Send interim))) (formed : IfSome s.entry (λ r. IsRecord Two r (bytes_of r)))
+    (parts : AreParts d.first (all_made (d ∷ ds)) R.anew) (tried : IsTriedLine lines line) (formed : IfSome s.entry (λ r. IsRecord Two r (bytes_of r)))
     (f : Fated) (fared : IsFared s d f) (landed : f.landed ≡ true) where
   record_so : (o : Option Record) (b : Bool) → s.entry ≡ o → s.landed ≡ b → IsRecordOf o b j d.first d.refused → HasRecord j d.first (s ∷ ss)
   record_so None b e k (none, zero_refused) =
@@ -60,9 +50,9 @@ module _ (j : Journal) (lines : ℕ) (line made : List Made) (s : TurnStep) (ss 
     disk = d.first;
     anew = R.anew;
     are = R.are;
-    long = ap length is_line ∙ length-replicate lines (done (Call.Send interim));
-    said = subst AreSendings (sym is_line) (lines_said lines);
-    no_posts = subst (λ z. AllByRecursion IsNoPost (sent_by z)) (sym is_line) (lines_post_none lines);
+    long = line_long lines line tried;
+    said = line_sendings lines line tried;
+    no_posts = line_no_posts lines line tried;
     parts = parts;
     record_is = record_so s.entry s.landed refl refl R.record_is;
   }

@@ -1,19 +1,23 @@
 -- A start at one of whose calls a fault comes, on a machine whose files are of version 2.
-use Rattle.std.specs.Prelude.{ℕ, List, ◌-◌, ◌≡◌, ◌≤◌, Bool, Ok, Result, Some, drop, false, length, not, true}
-use Rattle.std.proofs.Common.{ap, refl, subst, sym, ◌∙◌}
+use Rattle.std.specs.Prelude.{ℕ, List, [], ◌∷◌, ◌-◌, ◌≡◌, ◌≤◌, Bool, Ok, Err, Result, Some, false, length, nat_lt, not, suc, true}
+use Rattle.std.proofs.Common.{ap, refl, subst, sym, true≢false, ◌∙◌}
 use Rattle.std.proofs.Math.Bool.{beq}
-use Rattle.std.proofs.lemmas.List.{drop-map}
 use Rattle.armed_calls.specs.Faults.{record_stands, start_calls}
 use Rattle.armed_calls.specs.declared.fault.Armed.{Armed as Known}
 use Rattle.armed_calls.specs.declared.fault.Fault.{Fault}
 use Rattle.armed_calls.specs.declared.fault.Fault.TheVariants as faults
 use Rattle.journal_at.specs.declared.version.Version.TheVariants.{Two}
+use Rattle.memory_net.specs.Calls.{Begins}
+use Rattle.node_at.specs.declared.fault.StartFault.{StartFault}
+use Rattle.node_at.specs.declared.fault.StartFault.TheVariants as starts
+use Rattle.node_at.specs.declared.node.Node.{Node}
+use Rattle.schedules.specs.declared.line.Leaves.{Leaves}
 use Rattle.site_memory.specs.Devices.{calls_in, opening_in}
 use Rattle.site_memory.specs.Disk.{Image}
-use Rattle.site_memory.specs.Entries.{made_of, mades}
-use Rattle.site_memory.specs.declared.entry.Entry.{Entry}
+use Rattle.site_memory.specs.Entries.{mades}
 use Rattle.site_memory.specs.declared.arm.Choice.{Choice}
 use Rattle.site_memory.specs.declared.arm.Choice.TheVariants.{Keep}
+use Rattle.site_memory.specs.declared.entry.Entry.{Entry}
 use Rattle.site_memory.specs.declared.machine.MemSite.{MemSite}
 use Rattle.site_memory.specs.declared.range.Which.TheVariants.{First, Second}
 use Rattle.site_memory.specs.Tells.{reads}
@@ -23,12 +27,15 @@ use Rattle.torn_appends.specs.TornAppends.{stands_behind}
 use Rattle.mirrored_nets.specs.ArmedCalls.{call_of, choice_of, fault_at}
 use Rattle.mirrored_nets.specs.Goings.{IsSet}
 use Rattle.mirrored_nets.specs.Kept.{kept_at}
-use Rattle.mirrored_nets.specs.StruckStarts.{IsMarked, IsStanding, LeavesStart}
+use Rattle.mirrored_nets.specs.StruckStarts.{FailedStartsLeave, IsBegun, IsMarked, IsStanding, LeavesFailed, LeavesStart, StartsLeave, may_fail}
+use Rattle.mirrored_nets.specs.StruckTurns.{IsToldOf}
+use Rattle.mirrored_nets.specs.Took.{Adds, FellBack}
+use Rattle.mirrored_nets.specs.TookStart.{HasLast}
 use Rattle.mirrored_nets.specs.declared.fault.Unlike.{Unlike}
 use Rattle.mirrored_nets.specs.declared.judged.Armed.{Armed}
 use Rattle.mirrored_nets.specs.declared.judged.Armed.TheVariants as calls
 use Rattle.mirrored_nets.proofs.HostSteps.{ok_is}
-use Rattle.mirrored_nets.proofs.StruckKept.{fails_at, stops_at}
+use Rattle.mirrored_nets.proofs.StruckKept.{stops_at}
 
 -- the machine when it is set for it
 pub same_marked : (now last : ℕ) (site old : MemSite) → IsSet now site old → IsMarked last site → IsMarked last old
@@ -41,36 +48,67 @@ marked_stands last s K =
     let (rs, stand, same) = K.stands (reads (opening_in s.device) (calls_in s.device)) (seen_image First (opening_in s.device) (calls_in s.device), seen_image Second (opening_in s.device) (calls_in s.device)) in
     record { version = Two; records = rs; stand = stand }
 
--- the calls since
-pub made_since : (entries : List Entry) (count : ℕ) (old t : MemSite) → entries ≡ drop count t.device.log.items → count ≡ length (calls_in old.device) → mades entries ≡ drop (length (calls_in old.device)) (calls_in t.device)
-made_since entries count old t are is = ap mades are ∙ sym (drop-map made_of count t.device.log.items) ∙ ap (λ k. drop k (calls_in t.device)) is
+stop_cannot : (fault : StartFault) (k : ℕ) (choice : Choice) → may_fail fault (calls.Stop k choice) ≡ true → ⊥
+stop_cannot starts.NoMemory k choice e = true≢false (sym e)
+stop_cannot starts.Disk k choice e = true≢false (sym e)
+stop_cannot (starts.Bad file place) k choice e = true≢false (sym e)
+stop_cannot starts.Spent k choice e = true≢false (sym e)
+stop_cannot starts.Full k choice e = true≢false (sym e)
+
+long : (entries : List Entry) → length entries ≡ length (mades entries)
+long [] = refl
+long (x ∷ xs) = ap suc (long xs)
+
+pub kept_all : (entries : List Entry) (armed : Armed) (result : Result (ℕ × Choice) Unlike) → ((k : ℕ) → armed ≡ calls.Fail k → result ≡ Ok (length entries, Keep))
+    → (k : ℕ) → armed ≡ calls.Fail k → result ≡ Ok (length (mades entries), Keep)
+kept_all entries armed result h k e = h k e ∙ ap (λ (n : ℕ). Ok (n, Keep)) (long entries)
 
 -- how many of its calls are kept, and what a crash behind them leaves
-pub record KeptSo (a : Known) (result : Result (ℕ × Choice) Unlike) : Type 0 where
+pub record KeptSo (a : Known) (old t : MemSite) (result : Result (ℕ × Choice) Unlike) : Type 0 where
   pub kept : ℕ
   pub choice : Choice
   pub is : result ≡ Ok (kept, choice)
-  pub stands : record_stands (a.call - 2) a.fault ≡ stands_behind (kept - 2) choice
+  pub stands : (new : MemSite) → FellBack old t kept choice new → IsStanding new
+  pub rose : (new : MemSite) (before behind : ℕ) → FellBack old t kept choice new → HasLast before old → HasLast behind new → nat_lt before behind ≡ record_stands (a.call - 2) a.fault
 
-pub kept_so : (a : Known) (old t : MemSite) (armed : Armed) (made : List Made) (result : Result (ℕ × Choice) Unlike) → armed ≡ call_of (Some a) → 1 ≤ a.call → a.call ≤ start_calls → LeavesStart old t
-    → made ≡ drop (length (calls_in old.device)) (calls_in t.device) → ((k : ℕ) → armed ≡ calls.Fail k → result ≡ Ok (k - 1, Keep))
-    → ((k : ℕ) (choice : Choice) → armed ≡ calls.Stop k choice → result ≡ Ok (kept_at made k choice, choice)) → KeptSo a result
-kept_so a old t armed made result e least most S is fails stops = by a.fault refl
-  where
-    by : (f : Fault) → a.fault ≡ f → KeptSo a result
-    by faults.Fail g = record {
-      kept = a.call - 1;
-      choice = Keep;
-      is = fails a.call (e ∙ ap (fault_at a.call) g);
-      stands = ap (record_stands (a.call - 2)) g ∙ fails_at a.call least most;
-    }
-    by (faults.Stop left) g = record {
-      kept = kept_at made a.call (choice_of left);
-      choice = choice_of left;
-      is = stops a.call (choice_of left) (e ∙ ap (fault_at a.call) g);
-      stands = ap (record_stands (a.call - 2)) g ∙ stops_at S.file S.end S.body left a.call least most
-          ∙ ap (λ (ms : List Made). stands_behind (kept_at ms a.call (choice_of left) - 2) (choice_of left)) (sym (is ∙ S.calls));
-    }
+module _ (leave : StartsLeave) (leave_failed : FailedStartsLeave) (base : List ℕ) (begun : Result Node StartFault) (a : Known) (last : ℕ) (old t : MemSite) (armed : Armed) (made : List Made) (result : Result (ℕ × Choice) Unlike)
+    (e : armed ≡ call_of (Some a)) (told : IsToldOf armed old) (marked : IsMarked last old) (least : 1 ≤ a.call) (most : a.call ≤ start_calls) (begins : Begins base begun old t) (is_begun : IsBegun armed begun) (adds : Adds made old t)
+    (fails : (k : ℕ) → armed ≡ calls.Fail k → result ≡ Ok (length made, Keep)) (stops : (k : ℕ) (choice : Choice) → armed ≡ calls.Stop k choice → result ≡ Ok (kept_at made k choice, choice)) where
+  -- where it is to stop, all of them were done
+  whole : (k : ℕ) (choice : Choice) (r : Result Node StartFault) → Begins base r old t → IsBegun (calls.Stop k choice) r → LeavesStart old t
+  whole k choice (Ok n) B is = leave base n old t last marked B
+  whole k choice (Err fault) B is = absurd (stop_cannot fault k choice is)
+
+  failed_so : armed ≡ calls.Fail a.call → a.fault ≡ faults.Fail → KeptSo a old t result
+  failed_so is g =
+      let L : LeavesFailed a.call made old t = leave_failed base begun old t last a.call made marked (subst (λ z. IsToldOf z old) is told) least most begins (subst (λ z. IsBegun z begun) is is_begun) adds in
+      record {
+        kept = length made;
+        choice = Keep;
+        is = fails a.call is;
+        stands = L.stands;
+        rose = λ new before behind F was now. L.rose new before behind F was now ∙ sym (ap (record_stands (a.call - 2)) g);
+      }
+
+  stopped_so : (left : Leaves) → armed ≡ calls.Stop a.call (choice_of left) → a.fault ≡ faults.Stop left → KeptSo a old t result
+  stopped_so left is g =
+      let S : LeavesStart old t = whole a.call (choice_of left) begun begins (subst (λ z. IsBegun z begun) is is_begun) in
+      let same = ap (record_stands (a.call - 2)) g ∙ stops_at S.file S.end S.body left a.call least most
+      ∙ ap (λ (ms : List Made). stands_behind (kept_at ms a.call (choice_of left) - 2) (choice_of left)) (sym (adds.calls ∙ S.calls)) in
+      record {
+        kept = kept_at made a.call (choice_of left);
+        choice = choice_of left;
+        is = stops a.call (choice_of left) is;
+        stands = λ new F. S.stands (kept_at made a.call (choice_of left)) (choice_of left) new F;
+        rose = λ new before behind F was now. S.rose (kept_at made a.call (choice_of left)) (choice_of left) new before behind F was now ∙ sym same;
+      }
+
+  pub kept_so : KeptSo a old t result
+  kept_so = by a.fault refl
+    where
+      by : (f : Fault) → a.fault ≡ f → KeptSo a old t result
+      by faults.Fail g = failed_so (e ∙ ap (fault_at a.call) g) g
+      by (faults.Stop left) g = stopped_so left (e ∙ ap (fault_at a.call) g) g
 
 -- two tests that aren't apart
 pub same_test : (a b : Bool) → not (beq a b) ≡ false → a ≡ b
@@ -89,3 +127,6 @@ pub kept_is : (kept other : ℕ) (choice choose : Choice) (r : Result (ℕ × Ch
 kept_is kept other choice choose r e f =
     let same : (kept, choice) ≡ (other, choose) = ok_is r (kept, choice) (other, choose) e f in
     (ap (λ (p : ℕ × Choice). p.0) same, ap (λ (p : ℕ × Choice). p.1) same)
+
+pub fell_same : {kept other : ℕ} {choice choose : Choice} {old t new : MemSite} → kept ≡ other → choice ≡ choose → FellBack old t kept choice new → FellBack old t other choose new
+fell_same {kept} {other} {choice} {choose} {old} {t} {new} same is F = subst (λ c. FellBack old t other c new) is (subst (λ k. FellBack old t k choice new) same F)

@@ -1,6 +1,5 @@
 -- A turn behind which its node stays up leads to a net that mirrors the world behind the event.
 use Rattle.std.specs.Prelude.{ℕ, List, [], ◌∷◌, ◌++◌, ◌+◌, ◌≡◌, ◌≤◌, IfSome, None, Option, Some, Bool, true, false, drop, length, option_map, take}
-use Rattle.std.specs.List.{AllByRecursion}
 use Rattle.std.proofs.Common.{refl, sym, ap, subst, ◌∙◌}
 use Rattle.std.proofs.lemmas.List.{append-nil, append_assoc}
 use Rattle.at_base.specs.declared.outs.Post.{Post}
@@ -23,7 +22,6 @@ use Rattle.node_at.specs.declared.role.Role.TheVariants.{All}
 use Rattle.node_at.specs.declared.turn.Turned.{Turned}
 use Rattle.node_at.specs.declared.turn.Turned.TheVariants as turneds
 use Rattle.node_events.specs.NodeEvents.{Leads}
-use Rattle.node_worlds.specs.Crashes.{IsNoPost}
 use Rattle.node_worlds.specs.Nets.{Net, Place, after, doings_in, posts_from, steps_in}
 use Rattle.node_worlds.specs.SentPosts.{AreSent, recorded}
 use Rattle.node_worlds.proofs.Rows.{sent_append}
@@ -40,8 +38,8 @@ use Rattle.mirrored_nets.proofs.CutTurns.{same_mails}
 use Rattle.mirrored_nets.proofs.FallenHosts.{InWorld, IsBefore, NetLaws, in_world, is_up, sites, waits}
 use Rattle.mirrored_nets.proofs.HeardFates.{heard_fates}
 use Rattle.mirrored_nets.proofs.Remirrored.{remirror}
-use Rattle.mirrored_nets.proofs.StandingCalls.{lines_post_none}
 use Rattle.mirrored_nets.proofs.StoppedTurns.{begun_whole}
+use Rattle.mirrored_nets.proofs.TriedLines.{line_no_posts}
 use Rattle.mirrored_nets.proofs.TurnsTaken.{HeardTurn, TurnLaws, before_turn, took_heard, turn_there}
 
 -- calls of the disk send nothing
@@ -120,7 +118,7 @@ module _ (L : NetLaws) (count : ℕ) (few : count ≤ 8) (hosts : List Host) (cl
     mailed : more ≡ mails ++ mails_in i count (sent_of (deeds_of H.did.whole.doings))
     mailed =
         posted
-        ∙ same_mails i count mails (sent_by H.did.line) (sent_of (deeds_of H.did.whole.doings)) made (subst (λ z. AllByRecursion IsNoPost (sent_by z)) (sym H.line_is) (lines_post_none lines)) sent_is
+        ∙ same_mails i count mails (sent_by H.did.line) (sent_of (deeds_of H.did.whole.doings)) made (line_no_posts lines H.did.line H.line_is) sent_is
 
     mails_are : AreMailsOf behind_it.posted more
     unfolding serves

@@ -1,21 +1,21 @@
 -- Steps all of whose calls were done: their record stands, and each of their answers and posts left.
-use Rattle.std.specs.Prelude.{ℕ, List, [], ◌∷◌, ◌++◌, ◌≡◌, IfSome, Option, Some, None, Bool, true, false, drop, length, map, replicate}
+use Rattle.std.specs.Prelude.{ℕ, List, [], ◌∷◌, ◌++◌, ◌≡◌, IfSome, Option, Some, None, Bool, true, false, drop, length, map}
 use Rattle.std.specs.List.{AllByRecursion}
 use Rattle.std.proofs.Common.{refl, sym, ap, subst, arith, ◌∙◌}
 use Rattle.at_base.specs.declared.record.Record.{Record}
 use Rattle.at_model.specs.Step.{Outcome}
 use Rattle.fated_walks.specs.Fated.{AllLeft, AreUnrecorded, Fated, HasLeft, Way, all_fates, stands_by, went_of}
-use Rattle.http_post.specs.Conversations.{interim}
 use Rattle.journal_at.specs.declared.journal.Journal.{Journal}
 use Rattle.journal_at.specs.declared.version.Version.TheVariants.{Two}
 use Rattle.memory_net.proofs.MailedPosts.{all_left, all_right}
 use Rattle.mirrored_nets.specs.Fates.{AllDone, IsDone, fates_in, is_done}
+use Rattle.mirrored_nets.specs.Took.{IsTriedLine}
 use Rattle.mirrored_nets.proofs.CallRows.{AreParts, all_refused_none}
 use Rattle.mirrored_nets.proofs.CallsRead.{IsRecordOf, anew_behind, fates_read, parts, told}
 use Rattle.mirrored_nets.proofs.CutCalls.{AreCallsOf}
-use Rattle.mirrored_nets.proofs.LeavingCalls.{line_length}
 use Rattle.mirrored_nets.proofs.StandingCalls.{standing_calls}
 use Rattle.mirrored_nets.proofs.ToldFares.{AllTold, ways_are}
+use Rattle.mirrored_nets.proofs.TriedLines.{line_long}
 use Rattle.mirrored_nets.proofs.TurnsRead.{StepsRead}
 use Rattle.node_at.specs.Doings.{Doing}
 use Rattle.node_at.specs.Steps.{if_landed}
@@ -25,7 +25,7 @@ use Rattle.node_events.specs.NodeEvents.{all_made}
 use Rattle.node_worlds.specs.SentPosts.{records_by}
 use Rattle.record_bytes.specs.Bytes.{bytes_of}
 use Rattle.record_bytes.specs.Versions.{IsRecord}
-use Rattle.site_model.specs.Told.{Call, Made, done}
+use Rattle.site_model.specs.Told.{Made}
 
 abbrev pub IsLanded : Fated → Type 0
 IsLanded f = f.landed ≡ true
@@ -76,7 +76,7 @@ module _ (j : Journal) (line made : List Made) (steps : List TurnStep) (doings :
 
 -- Of steps all of whose calls were done.
 module _ (j : Journal) (lines : ℕ) (line made : List Made) (steps : List TurnStep) (doings : List Doing) (fated : List Fated) (r : StepsRead j line made steps doings fated) (all : AllDone made)
-    (is_line : line ≡ replicate lines (done (Call.Send interim))) where
+    (tried : IsTriedLine lines line) where
   behind : AllDone (r.d.first ++ (all_made (r.d ∷ r.ds) ++ r.read.anew))
   behind = all_right IsDone line (r.d.first ++ (all_made (r.d ∷ r.ds) ++ r.read.anew)) (subst AllDone r.read.are all)
 
@@ -100,12 +100,12 @@ module _ (j : Journal) (lines : ℕ) (line made : List Made) (steps : List TurnS
   are_parts = parts j line made r.s r.ss r.d r.ds r.read r.f r.fs r.fared r.have r.answered
 
   pub calls_so : IfSome r.s.entry (λ x. IsRecord Two x (bytes_of x)) → IsLanded r.f → AreCallsOf j lines made (r.s ∷ r.ss) (r.d ∷ r.ds)
-  calls_so formed landed = standing_calls j lines line made r.s r.ss r.d r.ds r.read are_parts is_line formed r.f r.fared.0 landed
+  calls_so formed landed = standing_calls j lines line made r.s r.ss r.d r.ds r.read are_parts tried formed r.f r.fared.0 landed
 
   -- as many fates
   pub fates_so : length (fates_in (drop lines made)) ≡ length (all_fates fated)
   fates_so =
-      let long : length line ≡ lines = line_length (Call.Send interim) lines line is_line in
+      let long : length line ≡ lines = line_long lines line tried in
       subst (λ k. length (fates_in (drop k made)) ≡ length (all_fates fated)) long
       (ap length
       (fates_read j line made r.s r.ss r.d r.ds r.read r.f r.fs r.fared r.have r.answered

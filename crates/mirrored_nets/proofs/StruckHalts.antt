@@ -33,7 +33,7 @@ pub record GateFails (k lines : ℕ) (made : List Made) (file : ℕ) : Type 0 wh
   pub calls : FailsAt lines made file stands
 
 -- a call that failed is the one that was to
-at_last : (before fails : ℕ) (c : Call) → AreArmed before fails (failed c ∷ []) → fails ≡ suc before
+pub at_last : (before fails : ℕ) (c : Call) → AreArmed before fails (failed c ∷ []) → fails ≡ suc before
 at_last before fails c (is, more) = by (nat_eq (suc before) fails) refl
   where
     by : (b : Bool) → nat_eq (suc before) fails ≡ b → fails ≡ suc before

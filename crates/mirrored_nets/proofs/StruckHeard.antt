@@ -10,7 +10,6 @@ use Rattle.at_base.specs.declared.record.Record.{Record}
 use Rattle.at_model.specs.World.{Input, Node as Known, Turn, World, example_hosts}
 use Rattle.fated_walks.specs.CallsComing.{CallsComing}
 use Rattle.fated_walks.specs.Fated.{AllLeft, AreWhole, Fated, IsBeyond, StartsWith, all_fates, record_fates}
-use Rattle.http_post.specs.Conversations.{interim}
 use Rattle.memory_net.proofs.MailedPosts.{all_left, all_right}
 use Rattle.memory_net.proofs.Standing.{same_some}
 use Rattle.node_at.specs.Doings.{refused_of}
@@ -29,19 +28,18 @@ use Rattle.site_memory.specs.Sites.{told_of}
 use Rattle.site_memory.specs.ToldCalls.{AreArmed}
 use Rattle.site_memory.specs.declared.machine.MemSite.{MemSite}
 use Rattle.site_model.specs.Counts.{Rose}
-use Rattle.site_model.specs.Told.{Call, Made}
+use Rattle.site_model.specs.Told.{Made}
 use Rattle.world_laws.specs.Fates.{behind_done}
 use Rattle.mirrored_nets.specs.Fates.{AllDone, AreAsked, IsDone, anew_of, disk_part, fates_in, is_done, record_fate, refusals}
 use Rattle.mirrored_nets.specs.Struck.{ComesAt, HasRecord}
 use Rattle.mirrored_nets.specs.Took.{Adds}
 use Rattle.mirrored_nets.proofs.CallRows.{AreParts, all_refused_none, disk_is, not_all_done, some_refused}
 use Rattle.mirrored_nets.proofs.CallsRead.{IsRecordOf, anew_behind, behind_line, fates_of_calls, fates_read, parts, record_fate_is, refusals_are, steps_fated}
-use Rattle.mirrored_nets.proofs.DoneCalls.{all_drop}
-use Rattle.mirrored_nets.proofs.LeavingCalls.{line_length}
 use Rattle.mirrored_nets.proofs.StepsLeft.{IsLanded, all_leave, first_lands, unrecorded_landed}
 use Rattle.mirrored_nets.proofs.StruckRecords.{RecordSo, absent, failing, fails_at_lay, fails_past, fails_unrecorded, none, record_so, stood}
 use Rattle.mirrored_nets.proofs.StruckRows.{AllYes, done_before, done_behind, failed_within, few_refused, none_failed_done, parts_armed, starts_done, starts_missed, starts_none, starts_struck, yes_fates}
 use Rattle.mirrored_nets.proofs.StruckWalks.{comes_so, missed_so, planned, records_are}
+use Rattle.mirrored_nets.proofs.TriedLines.{line_long}
 use Rattle.mirrored_nets.proofs.TurnsRead.{StepsRead}
 use Rattle.mirrored_nets.proofs.TurnsTaken.{HeardTurn}
 use Rattle.mirrored_nets.proofs.WholeTurns.{beside_so}
@@ -90,7 +88,7 @@ module _ (come : CallsComing) (count : ℕ) (w : World) (net : Net) (i c : ℕ) 
       (sym (planned (example_hosts count) net w i p x (seen n) at input H.did.meaning H.did.now h [] None come H.is_turn.fated are).entry ∙ ap (λ (z : Fated). z.entry) (sym heads) ∙ R.fared.0.entry)
 
   long : length H.did.line ≡ lines
-  long = line_length (Call.Send interim) lines H.did.line H.line_is
+  long = line_long lines H.did.line H.line_is
 
   abbrev P : AreParts R.d.first sends R.read.anew
   P = parts n.journal H.did.line made R.s R.ss R.d R.ds R.read R.f R.fs R.fared R.have R.answered
@@ -283,10 +281,10 @@ module _ (come : CallsComing) (count : ℕ) (w : World) (net : Net) (i c : ℕ) 
           anew = subst AllDone (sym anew_is) (none_failed_done R.read.anew R.read.anew_are anew_none);
         }
 
-  -- where all calls were done
-  module _ (all : AllDone made) where
+  -- where all calls behind the line were done
+  module _ (all : AllDone (drop lines made)) where
     behind_done_all : AllDone (R.d.first ++ (sends ++ R.read.anew))
-    behind_done_all = subst AllDone behind_is (all_drop lines made all)
+    behind_done_all = subst AllDone behind_is all
 
     sends_done : AllDone sends
     sends_done = all_left IsDone sends R.read.anew (all_right IsDone R.d.first (sends ++ R.read.anew) behind_done_all)
@@ -295,7 +293,12 @@ module _ (come : CallsComing) (count : ℕ) (w : World) (net : Net) (i c : ℕ) 
     anew_done = all_right IsDone sends R.read.anew (all_right IsDone R.d.first (sends ++ R.read.anew) behind_done_all)
 
     none_refused : R.d.refused ≡ 0
-    none_refused = let a = R.read.refused in let b = all_refused_none made all in omega (arith, a, b)
+    none_refused =
+        let a = R.read.refused in
+        let b = refusals_so in
+        let first = all_refused_none R.d.first (all_left IsDone R.d.first (sends ++ R.read.anew) behind_done_all) in
+        let rest = all_refused_none R.read.anew anew_done in
+        omega (arith, a, b, first, rest)
 
     -- each of its steps has so many fates
     many : length (fates_in (drop lines made)) ≡ length (all_fates (are.first ∷ are.rest))
@@ -305,7 +308,7 @@ module _ (come : CallsComing) (count : ℕ) (w : World) (net : Net) (i c : ℕ) 
         anew_still = subst AllDone (sym (anew_behind n.journal H.did.line made R.s R.ss R.d R.ds R.read R.f R.fs R.fared R.have R.answered)) anew_done
 
     yes : AllYes (fates_in (drop lines made))
-    yes = yes_fates (drop lines made) (all_drop lines made all)
+    yes = yes_fates (drop lines made) all
 
     -- the event asks for none, or for those of a call that doesn't come
     pub unharmed_asked : (fates : List Bool) (until : Option ℕ) → IsUnharmed w (Turn i input fates until) fates until → AreAsked lines made fates until

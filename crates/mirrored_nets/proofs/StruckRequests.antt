@@ -352,7 +352,7 @@ module _ (calls : CallsFailAsTold) (hold : LinksHold) (L : NetLaws) (K : TurnLaw
   module _ (now : ℕ) (at : IsTime now (told_of old)) (H : IsStopped (cleared (seen n)) (seen m) (events.Local request) now (told_of old) (told_of new)) where
     -- not where all its calls were done
     halts_not : AllDone made → ⊥
-    halts_not all = gates_stand old new made adds all H.stopped.rose
+    halts_not all = gates_stand old new made adds (all_refused_none made all) H.stopped.rose
 
     made_is : made ≡ H.stopped.first
     made_is = adds.calls ∙ ap (drop since) (same_some (calls_in new.device) (calls_in old.device ++ H.stopped.first) H.stopped.calls) ∙ drop-append_seam (calls_in old.device) H.stopped.first

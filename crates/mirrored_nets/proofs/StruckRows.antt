@@ -1,5 +1,5 @@
 -- Rows of calls of a machine that was told which of them is to fail.
-use Rattle.std.specs.Prelude.{ℕ, List, [], ◌∷◌, ◌++◌, ◌+◌, ◌≡◌, ◌≤◌, ◌<◌, Bool, true, false, if◌then◌else◌, length, map, nat_eq, not, suc, zero}
+use Rattle.std.specs.Prelude.{ℕ, List, [], ◌∷◌, ◌++◌, ◌+◌, ◌≡◌, ◌≤◌, ◌<◌, Bool, true, false, drop, if◌then◌else◌, length, map, nat_eq, not, suc, zero}
 use Rattle.std.specs.List.{AllByRecursion}
 use Rattle.std.proofs.Common.{refl, sym, ap, subst, arith, ◌∙◌}
 use Rattle.std.proofs.lemmas.Bool.{eq-eqb, eqb-true, ne_eqb}
@@ -32,6 +32,12 @@ pub done_behind : (before fails : ℕ) (ms : List Made) → AreArmed before fail
 done_behind before fails [] h most = tt
 done_behind before fails (m ∷ ms) (is, more) most =
     (other_done (suc before) fails m.done is (λ e. omega (arith, e, most)), done_behind (suc before) fails ms more (omega (arith, most)))
+
+-- those behind so many, where it is one of these
+pub done_dropped : (n before fails : ℕ) (ms : List Made) → AreArmed before fails ms → fails ≤ before + n → AllDone (drop n ms)
+done_dropped zero before fails ms h most = done_behind before fails ms h (omega (arith, most))
+done_dropped (suc n) before fails [] h most = tt
+done_dropped (suc n) before fails (m ∷ ms) (is, more) most = done_dropped n (suc before) fails ms more (omega (arith, most))
 
 most_one : (b t : Bool) → one_refused b t ≤ 1
 most_one true true = omega arith

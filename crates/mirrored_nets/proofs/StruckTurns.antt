@@ -1,15 +1,13 @@
 -- Turns of a node in a net that mirrors a world, at which a call is armed or none: where the event can be done, they go as it asks.
-use Rattle.std.specs.Prelude.{ℕ, List, [], ◌∷◌, ◌++◌, ◌+◌, ◌-◌, ◌&&◌, ◌≡◌, ◌≤◌, ◌<◌, ◌⊎◌, Bool, Option, Some, None, true, false, drop, if◌then◌else◌, length, nat_eq, replicate, suc, take, zero}
+use Rattle.std.specs.Prelude.{ℕ, List, [], ◌∷◌, ◌++◌, ◌+◌, ◌-◌, ◌≡◌, ◌≤◌, ◌<◌, ◌⊎◌, Bool, Option, Some, None, true, drop, if◌then◌else◌, length, suc, take, zero}
 use Rattle.std.proofs.Common.{ap, append-nil, arith, inl, inr, refl, subst, sym, ◌∙◌}
 use Rattle.std.proofs.Math.Seq.{drop-append_seam}
-use Rattle.std.proofs.lemmas.Bool.{eq-eqb, eqb-true, ne_eqb}
 use Rattle.armed_calls.specs.Faults.{is_stop}
 use Rattle.armed_calls.specs.declared.fault.Armed.{Armed as Known}
 use Rattle.armed_calls.specs.declared.fault.Fault.{Fault}
 use Rattle.armed_calls.specs.declared.fault.Fault.TheVariants as faults
 use Rattle.at_model.specs.World.{Node, Turn, example_base, example_hosts}
 use Rattle.fated_walks.specs.CallsComing.{CallsComing}
-use Rattle.http_post.specs.Conversations.{interim}
 use Rattle.journal_at.specs.StandingBodies.{Makes}
 use Rattle.journal_at.specs.declared.journal.Append.TheVariants as appends
 use Rattle.memory_net.proofs.Standing.{same_some}
@@ -33,53 +31,38 @@ use Rattle.site_memory.specs.Sites.{link_of, told_of}
 use Rattle.site_memory.specs.ToldCalls.{AreArmed, CallsFailAsTold, LinksHold}
 use Rattle.site_memory.specs.declared.machine.MemSite.{MemSite}
 use Rattle.site_model.specs.Counts.{Rose}
-use Rattle.site_model.specs.Told.{Call, Made, done}
+use Rattle.site_model.specs.Told.{Made}
 use Rattle.mirrored_nets.specs.ArmedCalls.{call_of, choice_of, fault_at}
 use Rattle.mirrored_nets.specs.Fates.{AllDone, refusals}
 use Rattle.mirrored_nets.specs.Goings.{ms_of}
 use Rattle.mirrored_nets.specs.Mirrors.{Mirrors}
-use Rattle.mirrored_nets.specs.StruckTurns.{Goes, IsStruckTurn, StruckTurnsGo, fails_of, halts, spoken_of, stays, stops, unbegun}
-use Rattle.mirrored_nets.specs.Took.{Adds, HasRoom, IsWhole}
+use Rattle.mirrored_nets.specs.StruckTurns.{Goes, IsStruckTurn, StruckTurnsGo, fails_of, halts, stays, stops, unbegun}
+use Rattle.mirrored_nets.specs.Took.{Adds, HasRoom, IsTriedLine, IsWhole}
 use Rattle.mirrored_nets.specs.declared.judged.Armed.{Armed}
 use Rattle.mirrored_nets.specs.declared.judged.Armed.TheVariants as arms
-use Rattle.mirrored_nets.proofs.BroughtLines.{few_lines}
-use Rattle.mirrored_nets.proofs.CallRows.{all_refused_none, refusals_join}
+use Rattle.mirrored_nets.proofs.CallRows.{none_refused, refusals_join}
 use Rattle.mirrored_nets.proofs.EndedTurns.{ends_whole, turn_kept}
 use Rattle.mirrored_nets.proofs.FallenHosts.{InWorld, IsBefore, NetLaws, in_world, up_there}
 use Rattle.mirrored_nets.proofs.HaltedGates.{broken_gate}
 use Rattle.mirrored_nets.proofs.HaltedTurns.{DidHalt, began_halting}
 use Rattle.mirrored_nets.proofs.InputsHeard.{input_heard, line_told, means_so, works_heard}
 use Rattle.mirrored_nets.proofs.InterimLines.{halts_no_line}
-use Rattle.mirrored_nets.proofs.LeavingCalls.{line_all_done, line_length}
 use Rattle.mirrored_nets.proofs.StruckHalts.{GateFails, gate_fails, halts_so}
 use Rattle.mirrored_nets.proofs.StruckHeard.{fails_asked, gates_stand as gates_stand_so, stops_at, unharmed_asked}
 use Rattle.mirrored_nets.proofs.StruckRecords.{failing}
-use Rattle.mirrored_nets.proofs.StruckRows.{done_behind, parts_armed}
+use Rattle.mirrored_nets.proofs.StruckRows.{done_behind, done_dropped, parts_armed}
 use Rattle.mirrored_nets.proofs.StruckSteps.{steps_come}
 use Rattle.mirrored_nets.proofs.ToldMachines.{armed_row, gates_stand}
+use Rattle.mirrored_nets.proofs.TriedLines.{line_long, line_sendings, none_behind_failed}
 use Rattle.mirrored_nets.proofs.TurnsTaken.{HeardTurn, TurnLaws, from as from_of, from_is, heard_turn}
 
 numbered : (since call : ℕ) → 1 ≤ call → call_number since call ≡ since + call
 numbered since zero some = absurd (omega (arith, some))
 numbered since (suc call) some = refl
 
--- the interim line is said
-said_line : (lines call : ℕ) → 1 ≤ call → call ≤ lines → lines ≤ 1 → spoken_of lines (arms.Fail call) ≡ arms.No
-said_line lines call least most few =
-    λ j. if eq-eqb call 1 (omega (arith, least, most, few)) j && eq-eqb lines 1 (omega (arith, least, most, few)) j then arms.No else arms.Fail call
-
-behind_line : (lines call : ℕ) → lines < call → spoken_of lines (arms.Fail call) ≡ arms.Fail call
-behind_line lines call less = by (nat_eq call 1) refl
-  where
-    by : (b : Bool) → nat_eq call 1 ≡ b → (if nat_eq call 1 && nat_eq lines 1 then arms.No else arms.Fail call) ≡ arms.Fail call
-    by true e =
-        let one = eqb-true call 1 e in
-        λ j. if e j && ne_eqb lines 1 (λ f. omega (arith, f, one, less)) j then arms.No else arms.Fail call
-    by false e = λ j. if e j && nat_eq lines 1 then arms.No else arms.Fail call
-
 module _ (calls : CallsFailAsTold) (hold : LinksHold) (L : NetLaws) (K : TurnLaws) (come : CallsComing) (i count lines : ℕ) (bytes : List ℕ) (n m : Noded) (old new : MemSite) (armed : Armed)
     (fates : List Bool) (until : Option ℕ) (r : Turned) (made : List Made) (S : IsStruckTurn i count lines bytes n old armed fates until) (has : HasRoom old) (turns : Turns bytes r n m old new)
-    (adds : Adds made old new) (room : r ≡ turneds.NoRoom → ⊥) (said : take lines made ≡ replicate lines (done (Call.Send interim))) where
+    (adds : Adds made old new) (room : r ≡ turneds.NoRoom → ⊥) (tried : IsTriedLine lines (take lines made)) where
   abbrev M : Mirrors count S.hosts S.clocks S.mails S.world
   M = S.mirrors
 
@@ -112,9 +95,6 @@ module _ (calls : CallsFailAsTold) (hold : LinksHold) (L : NetLaws) (K : TurnLaw
       subst (λ z. IsUp p.records (seen n) (told_of z)) (sym same_site)
       (up_there L count S.few S.hosts S.clocks S.mails S.mails S.world M i S.host S.host n S.here S.up S.clock S.time turns.connected before)
 
-  few : lines ≤ 1
-  few = few_lines S.mails i S.input lines bytes S.brought
-
   abbrev since : ℕ
   since = length (calls_in old.device)
 
@@ -142,19 +122,19 @@ module _ (calls : CallsFailAsTold) (hold : LinksHold) (L : NetLaws) (K : TurnLaw
     abbrev H : HeardTurn count S.world M.stands.net i S.clock p there.node n m from new r turn S.input lines made
     H =
         heard_turn L K count S.few S.hosts S.clocks S.mails S.mails S.world M i S.least S.host S.host n S.here S.up S.clock S.time turns.connected before bytes turns.connects.brings S.input lines S.brought
-        old S.set turns.connects.others has r m new turn whole made adds said
+        old S.set turns.connects.others has r m new turn whole made adds tried
 
     ends_so : (Rose turn.behind.tally.gate new.tally.gate → ⊥) → IsWhole r
     ends_so gates =
         ends_whole turn.node (seen m) turn.behind new (H.did.whole.ran.runs ∙ up_here.runs) (H.did.whole.ran.sure ∙ up_here.holds.sure) gates turn.first r m.shrunk whole turn.ends
 
-    no_gate : AllDone made → Rose turn.behind.tally.gate new.tally.gate → ⊥
+    no_gate : AllDone (drop lines made) → Rose turn.behind.tally.gate new.tally.gate → ⊥
     no_gate all rose =
         let later = H.did.whole.ran.later.gate in
         let same = gate_here in
-        gates_stand old new made adds all (omega (arith, rose, later, same))
+        gates_stand old new made adds (none_behind_failed lines made tried all) (omega (arith, rose, later, same))
 
-    unharmed : (all : AllDone made) → Strikes S.world (Turn i S.input fates until) lines None fates until → Goes lines made armed fates until r
+    unharmed : (all : AllDone (drop lines made)) → Strikes S.world (Turn i S.input fates until) lines None fates until → Goes lines made armed fates until r
     unharmed all asked =
         stays (ends_so (no_gate all)) (unharmed_asked come count S.world M.stands.net i S.clock p there.node n m from new r turn S.input lines made H there.is_at all fates until asked)
 
@@ -200,23 +180,23 @@ module _ (calls : CallsFailAsTold) (hold : LinksHold) (L : NetLaws) (K : TurnLaw
         input_heard K.says K.quiet K.ticks K.one K.wait_or_not K.small L.bases L.nets L.closes count S.few S.hosts S.clocks S.mails S.world M i S.least S.clock there.node S.time there.known base_is S.input lines bytes
         W.meaning W.now S.brought (means_so bytes W.meaning heard_so (subst (λ o. Hears All o W.meaning) tells W.heard)) now_is
 
-    line_is : W.line ≡ replicate lines (done (Call.Send interim))
+    line_is : IsTriedLine lines W.line
     line_is =
         line_told K.says K.quiet K.ticks K.one K.wait_or_not K.small L.bases L.nets L.closes count S.few S.hosts S.clocks S.mails S.world M i S.least S.input lines bytes (told_of from) (told_of turn.behind) W.line
         W.halts.first made S.brought
         (subst (λ b. IsLine (Some bytes) b (told_of from) (told_of turn.behind) W.line) heard_so (subst (λ o. IsLine o (is_heard W.meaning) (told_of from) (told_of turn.behind) W.line) tells W.is_line))
-        made_is said (λ none. halts_no_line _ _ _ W.halts.first (W.halts.makes up_here.holds.bodies up_here.holds.keeps))
+        made_is tried (λ none. halts_no_line _ _ _ W.halts.first (W.halts.makes up_here.holds.bodies up_here.holds.keeps))
 
     long : length W.line ≡ lines
-    long = line_length (Call.Send interim) lines W.line line_is
+    long = line_long lines W.line line_is
 
     makes : Makes appends.Unsure n.journal.live n.journal.end (bytes_of W.halts.entry) W.halts.first
     makes =
         subst (λ z. Makes appends.Unsure n.journal.live z (bytes_of W.halts.entry) W.halts.first) (sym up_here.holds.keeps.end) (W.halts.makes up_here.holds.bodies up_here.holds.keeps)
 
-    -- not where all its calls were done
-    halts_not : AllDone made → ⊥
-    halts_not all = gates_stand old new made adds all rose
+    -- not where all its calls behind the line were done
+    halts_not : AllDone (drop lines made) → ⊥
+    halts_not all = gates_stand old new made adds (none_behind_failed lines made tried all) rose
 
     module _ (k : ℕ) (some : 1 ≤ k) (fails : AreArmed since (since + lines + k) made) where
       first_fails : AreArmed (since + lines) (since + lines + k) W.halts.first
@@ -230,7 +210,7 @@ module _ (calls : CallsFailAsTold) (hold : LinksHold) (L : NetLaws) (K : TurnLaw
           let below = adds.under in
           let all = ap refusals made_is in
           let parts = refusals_join W.line W.halts.first in
-          let none = all_refused_none W.line (line_all_done (Call.Send interim) lines W.line line_is) in
+          let none = none_refused W.line (line_sendings lines W.line line_is) in
           omega (arith, up, most, below, all, parts, none)
 
       gate : GateFails k lines made n.journal.live
@@ -244,10 +224,10 @@ module _ (calls : CallsFailAsTold) (hold : LinksHold) (L : NetLaws) (K : TurnLaw
           (halts_so (example_hosts count) M.stands.net S.world i p there.node (seen n) there.is_at S.input W.meaning W.now W.halts.status heard W.halts.step W.halts.is_first W.halts.entry W.halts.records k lines made fates
           until struck n.journal.live gate)
 
-  -- where no call is to fail
-  module _ (none_fails : fails_of since armed ≡ 0) where
-    all_done : AllDone made
-    all_done = done_behind since 0 made (subst (λ k. AreArmed since k made) none_fails row) (omega arith)
+  -- where no call behind the line is to fail
+  module _ (few_fail : fails_of since armed ≤ since + lines) where
+    all_done : AllDone (drop lines made)
+    all_done = done_dropped lines since (fails_of since armed) made row few_fail
 
     steps_whole : IsWhole turn.first
     steps_whole = by came
@@ -261,6 +241,13 @@ module _ (calls : CallsFailAsTold) (hold : LinksHold) (L : NetLaws) (K : TurnLaw
 
     result_whole : IsWhole r
     result_whole = ends_so steps_whole (no_gate steps_whole all_done)
+
+  -- where none is
+  none_most : fails_of since armed ≡ 0 → fails_of since armed ≤ since + lines
+  none_most none = omega (arith, none)
+
+  made_done : fails_of since armed ≡ 0 → AllDone made
+  made_done none = done_behind since 0 made (subst (λ k. AreArmed since k made) none row) (omega arith)
 
   -- where the one behind so many is
   goes_failing : (call : ℕ) → armed ≡ arms.Fail call → lines < call → IsStruck S.world (Turn i S.input fates until) (failing (call - lines)) fates until → Goes lines made armed fates until r
@@ -284,34 +271,34 @@ module _ (calls : CallsFailAsTold) (hold : LinksHold) (L : NetLaws) (K : TurnLaw
       by (inr halted) = halting halted (call - lines) some fails call e struck
 
   -- at the interim line
-  goes_before : (a : Known) (f : Fault) → a.fault ≡ f → armed ≡ spoken_of lines (call_of (Some a)) → 1 ≤ a.call → a.call ≤ lines → IsStruckBefore a fates until → Goes lines made armed fates until r
+  goes_before : (a : Known) (f : Fault) → a.fault ≡ f → armed ≡ call_of (Some a) → 1 ≤ a.call → a.call ≤ lines → IsStruckBefore a fates until → Goes lines made armed fates until r
   goes_before a faults.Fail is e least most struck =
-      let no : armed ≡ arms.No = e ∙ ap (λ f. spoken_of lines (fault_at a.call f)) is ∙ said_line lines a.call least most few in
-      goes_unharmed (ap (fails_of since) no) (inl (struck.fates_are, struck.until_is ∙ ap (λ f. if is_stop f then Some 0 else None) is))
+      let fails : fails_of since armed ≡ since + a.call = ap (fails_of since) (e ∙ ap (fault_at a.call) is) ∙ numbered since a.call least in
+      goes_unharmed (omega (arith, fails, most)) (inl (struck.fates_are, struck.until_is ∙ ap (λ f. if is_stop f then Some 0 else None) is))
   goes_before a (faults.Stop left) is e least most struck =
-      let stop : armed ≡ arms.Stop a.call (choice_of left) = e ∙ ap (λ f. spoken_of lines (fault_at a.call f)) is in
+      let stop : armed ≡ arms.Stop a.call (choice_of left) = e ∙ ap (fault_at a.call) is in
       let none : fails_of since armed ≡ 0 = ap (fails_of since) stop in
-      unbegun a.call (choice_of left) stop least most (result_whole none) (all_done none) struck.fates_are (struck.until_is ∙ ap (λ f. if is_stop f then Some 0 else None) is)
+      unbegun a.call (choice_of left) stop least most (result_whole (none_most none)) (made_done none) struck.fates_are (struck.until_is ∙ ap (λ f. if is_stop f then Some 0 else None) is)
 
   -- at a call of its steps
-  goes_struck : (a : Known) (f : Fault) → a.fault ≡ f → armed ≡ spoken_of lines (call_of (Some a)) → lines < a.call
+  goes_struck : (a : Known) (f : Fault) → a.fault ≡ f → armed ≡ call_of (Some a) → lines < a.call
       → IsStruck S.world (Turn i S.input fates until) (record a { call = a.call - lines }) fates until → Goes lines made armed fates until r
   goes_struck a faults.Fail is e less struck =
-      goes_failing a.call (e ∙ ap (λ f. spoken_of lines (fault_at a.call f)) is ∙ behind_line lines a.call less) less
+      goes_failing a.call (e ∙ ap (fault_at a.call) is) less
       (subst (λ f. IsStruck S.world (Turn i S.input fates until) (record { call = a.call - lines; fault = f }) fates until) is struck)
   goes_struck a (faults.Stop left) is e less struck =
-      let stop : armed ≡ arms.Stop a.call (choice_of left) = e ∙ ap (λ f. spoken_of lines (fault_at a.call f)) is in
+      let stop : armed ≡ arms.Stop a.call (choice_of left) = e ∙ ap (fault_at a.call) is in
       let none : fails_of since armed ≡ 0 = ap (fails_of since) stop in
       let least : 1 ≤ a.call - lines = omega (arith, less) in
       let again : a.call ≡ lines + (a.call - lines) = omega (arith, less) in
-      stops (record a { call = a.call - lines }) left is (stop ∙ ap (λ k. arms.Stop k (choice_of left)) again) (result_whole none) (all_done none)
-      (stops_at come count S.world M.stands.net i S.clock p there.node n m from new r turn S.input lines made (H (steps_whole none)) there.is_at (all_done none) (record a { call = a.call - lines }) fates until least struck)
+      stops (record a { call = a.call - lines }) left is (stop ∙ ap (λ k. arms.Stop k (choice_of left)) again) (result_whole (none_most none)) (made_done none)
+      (stops_at come count S.world M.stands.net i S.clock p there.node n m from new r turn S.input lines made (H (steps_whole (none_most none))) there.is_at (all_done (none_most none)) (record a { call = a.call - lines }) fates until least struck)
 
-  goes : (known : Option Known) → armed ≡ spoken_of lines (call_of known) → Strikes S.world (Turn i S.input fates until) lines known fates until → Goes lines made armed fates until r
-  goes None e asked = goes_unharmed (ap (fails_of since) e) asked
+  goes : (known : Option Known) → armed ≡ call_of known → Strikes S.world (Turn i S.input fates until) lines known fates until → Goes lines made armed fates until r
+  goes None e asked = goes_unharmed (none_most (ap (fails_of since) e)) asked
   goes (Some a) e (inl (least, most, struck)) = goes_before a a.fault refl e least most struck
   goes (Some a) e (inr (less, struck)) = goes_struck a a.fault refl e less struck
 
 pub struck_turns : CallsFailAsTold → LinksHold → NetLaws → TurnLaws → CallsComing → StruckTurnsGo
-struck_turns calls hold L K come i count lines bytes n m old new armed fates until r made S has turns adds room said =
-    goes calls hold L K come i count lines bytes n m old new armed fates until r made S has turns adds room said S.known S.armed_is S.strikes
+struck_turns calls hold L K come i count lines bytes n m old new armed fates until r made S has turns adds room tried =
+    goes calls hold L K come i count lines bytes n m old new armed fates until r made S has turns adds room tried S.known S.armed_is S.strikes

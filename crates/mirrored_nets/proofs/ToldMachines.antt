@@ -14,11 +14,10 @@ use Rattle.site_memory.specs.declared.links.Links.{Links}
 use Rattle.site_memory.specs.declared.machine.MemSite.{MemSite}
 use Rattle.site_model.specs.Counts.{Rose}
 use Rattle.site_model.specs.Told.{Made}
-use Rattle.mirrored_nets.specs.Fates.{AllDone}
+use Rattle.mirrored_nets.specs.Fates.{refusals}
 use Rattle.mirrored_nets.specs.Goings.{IsSet}
 use Rattle.mirrored_nets.specs.Took.{Adds}
 use Rattle.mirrored_nets.specs.Unarmed.{IsReady, IsTold}
-use Rattle.mirrored_nets.proofs.CallRows.{all_refused_none}
 
 -- The calls since it was told which is to fail were done but for that one.
 pub armed_row : CallsFailAsTold → LinksHold → (old new : MemSite) (made : List Made) (fails : ℕ) → (told_of old).counts.arming ≡ Some (record { since = length (calls_in old.device); fails = fails })
@@ -76,9 +75,8 @@ is_set k now old mid new arm arming same later = record {
 }
 
 -- No gate failed beside those of whose calls one is among those that failed.
-pub gates_stand : (old new : MemSite) (made : List Made) → Adds made old new → AllDone made → Rose old.tally.gate new.tally.gate → ⊥
-gates_stand old new made adds all rose =
-    let none = all_refused_none made all in
+pub gates_stand : (old new : MemSite) (made : List Made) → Adds made old new → refusals made ≡ 0 → Rose old.tally.gate new.tally.gate → ⊥
+gates_stand old new made adds none rose =
     let most = adds.raised in
     let below = adds.under in
     omega (arith, none, most, below, rose)

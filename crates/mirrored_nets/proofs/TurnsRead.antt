@@ -1,7 +1,7 @@
 -- What the calls of a whole turn of a node of a net say of its event.
-use Rattle.std.specs.Prelude.{ℕ, List, [], ◌∷◌, ◌+◌, ◌-◌, ◌≡◌, ◌⊎◌, Some, None, Bool, true, false, if◌then◌else◌, drop, length, nat_eq, replicate}
+use Rattle.std.specs.Prelude.{ℕ, List, [], ◌∷◌, ◌+◌, ◌-◌, ◌≡◌, ◌⊎◌, Some, None, Bool, true, false, if◌then◌else◌, drop, length, nat_eq}
 use Rattle.std.specs.List.{AllByRecursion}
-use Rattle.std.proofs.Common.{refl, sym, ap, subst, ◌∙◌, inl}
+use Rattle.std.proofs.Common.{arith, refl, sym, ap, subst, ◌∙◌, inl}
 use Rattle.addressed_posts.specs.AddressedPosts.{PostsAreAddressed}
 use Rattle.at_base.specs.declared.event.Arrived.{Arrived}
 use Rattle.at_base.specs.declared.outs.Post.{Post}
@@ -14,17 +14,17 @@ use Rattle.deliveries.proofs.TurnForms.{Fits}
 use Rattle.deliveries.specs.DeliverableNets.{IsPostedOf}
 use Rattle.endpoints.specs.Addresses.{PathsNameTargets}
 use Rattle.fated_walks.specs.Fated.{Fated, all_fates}
-use Rattle.http_post.specs.Conversations.{interim}
 use Rattle.journal_at.specs.StandingBodies.{Keeps}
 use Rattle.journal_at.specs.declared.journal.Journal.{Journal}
 use Rattle.memory_net.proofs.Standing.{same_some}
 use Rattle.model_laws.specs.Laws.{StepsKeepPlace}
-use Rattle.node_at.specs.Doings.{Doing, Ran}
+use Rattle.node_at.specs.Doings.{Doing, Ran, lost_of}
 use Rattle.node_at.specs.Meanings.{Meaning}
 use Rattle.node_at.specs.Replies.{StepsReply}
+use Rattle.node_at.specs.Sends.{Counts}
 use Rattle.node_at.specs.State.{State}
 use Rattle.node_at.specs.TurnText.{Steppings, TurnStep}
-use Rattle.node_at.specs.Turns.{calm, line_of}
+use Rattle.node_at.specs.Turns.{calm, line_of, unsaid_in}
 use Rattle.node_events.proofs.HeardInputs.{heard}
 use Rattle.node_events.specs.Fares.{AreFared}
 use Rattle.node_events.specs.NodeEvents.{Brings, IsInput, IsTurn, arrives, draws}
@@ -34,15 +34,16 @@ use Rattle.provenance.specs.Provenance.{StepsPassOn}
 use Rattle.record_bytes.specs.Versions.{AreBodies as RecordsAreBodies}
 use Rattle.site_memory.specs.Sites.{told_of}
 use Rattle.site_memory.specs.declared.machine.MemSite.{MemSite}
-use Rattle.site_model.specs.Told.{Call, Made, done}
+use Rattle.site_model.specs.Told.{Made}
 use Rattle.world_laws.specs.Firsts.{delivery_plan, input_plan}
 use Rattle.mirrored_nets.specs.Fates.{AllDone, anew_of, fates_in}
-use Rattle.mirrored_nets.specs.Took.{Adds, HasRoom}
+use Rattle.mirrored_nets.specs.Took.{Adds, HasRoom, IsTriedLine}
 use Rattle.mirrored_nets.proofs.AnewCalls.{GoesAnew}
 use Rattle.mirrored_nets.proofs.CalledFates.{IsAnswering, IsCalled, all_called, answer_answering, answer_called, arrived_answering, arrived_called, planned_answers, tick_answering, tick_called}
 use Rattle.mirrored_nets.proofs.CallsRead.{Read, fates_read}
-use Rattle.mirrored_nets.proofs.LeavingCalls.{AskedSteps, asked_steps, line_all_done, line_sendings}
+use Rattle.mirrored_nets.proofs.LeavingCalls.{AskedSteps, asked_steps}
 use Rattle.mirrored_nets.proofs.ToldFares.{HaveCalls}
+use Rattle.mirrored_nets.proofs.TriedLines.{line_sendings, line_unsaid}
 use Rattle.mirrored_nets.proofs.WholeTurns.{whole_read}
 
 -- Steps that answer, the calls that they made behind those of a line, and how they fared: each out has its call.
@@ -114,9 +115,10 @@ module _ (addressed : PostsAreAddressed) (reply : StepsReply) (pass : StepsPassO
       (old c behind site : MemSite) (made line : List Made) (bodies : List (List ℕ)) (lines : ℕ) where
     pub turn_read : Fits deliverable root n.book → AllByRecursion (IsPostedOf deliverable hosts) w.posted → IsInput w i x input meaning now → (T : IsTurn hosts net w i p x n m input now steps doings)
         → Steppings now n.book [] meaning steps status → c ≡ record old { line = c.line } → HasRoom old → Keeps n.journal bodies (told_of c) → n.journal.limit ≡ 4294967295
-        → Ran (line_of line) steps doings (calm n) node (told_of c) (told_of behind) → GoesAnew node m behind site → Adds made old site → line ≡ replicate lines (done (Call.Send interim))
+        → Ran (line_of line) steps doings (calm n) node (told_of c) (told_of behind) → GoesAnew node m behind site → Adds made old site → IsTriedLine lines line
+        → Counts (unsaid_in line + lost_of doings) (told_of c).counts.link (told_of behind).counts.link
         → StepsRead n.journal line made steps doings T.fated
-    turn_read fits fit is T turns others has keeps limit ran anew adds said =
+    turn_read fits fit is T turns others has keeps limit ran anew adds tried counted =
         by doings refl (asked_steps now n.book meaning steps status (heard w i x n.book input meaning now is).told turns)
       where
         plan_begins : Begins T.are.begun
@@ -140,8 +142,8 @@ module _ (addressed : PostsAreAddressed) (reply : StepsReply) (pass : StepsPassO
               doings_are = e;
               fated_are = T.are.all;
               fared = fared;
-              read = whole_read law (calm n) node m old c behind site made line bodies a.first a.rest d ds others has keeps limit runs anew adds (line_sendings (Call.Send interim) refl lines line said)
-                  (line_all_done (Call.Send interim) lines line said) a.outs a.unrecorded;
+              read = whole_read law (calm n) node m old c behind site made line bodies a.first a.rest d ds others has keeps limit runs anew adds (line_sendings lines line tried)
+                  (λ below. let k = counted below in let same = line_unsaid lines line tried in let all = ap lost_of e in omega (arith, k, same, all)) a.outs a.unrecorded;
               have = all_called addressed reply pass place root own now T.are.begun T.are.first T.are.rest plan_begins.called T.are.planned T.are.due;
               answered = inl (planned_answers T.are.begun T.are.first plan_begins.answers T.are.planned);
             }

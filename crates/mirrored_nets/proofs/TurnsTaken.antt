@@ -1,5 +1,5 @@
 -- A turn that was taken at a host, on the machine of its place: what it heard is the event's input, and its calls are read.
-use Rattle.std.specs.Prelude.{ℕ, List, [], ◌∷◌, ◌++◌, ◌+◌, ◌-◌, ◌≡◌, ◌≤◌, IfSome, Option, Some, None, Bool, true, false, if◌then◌else◌, length, nat_eq, replicate, take, unwrap_or}
+use Rattle.std.specs.Prelude.{ℕ, List, [], ◌∷◌, ◌++◌, ◌+◌, ◌-◌, ◌≡◌, ◌≤◌, IfSome, Option, Some, None, Bool, true, false, if◌then◌else◌, length, nat_eq, take, unwrap_or}
 use Rattle.std.specs.List.{AllByRecursion}
 use Rattle.std.proofs.Common.{refl, sym, ap, subst, arith, ◌∙◌, inl, inr}
 use Rattle.addressed_posts.specs.AddressedPosts.{PostsAreAddressed}
@@ -12,7 +12,6 @@ use Rattle.deliveries.proofs.TurnForms.{Fits}
 use Rattle.deliveries.specs.ByteNets.{Carries}
 use Rattle.deliveries.specs.DeliverableNets.{AreNodeHosts, IsDeliverableNet, IsPostedOf, IsStateOf}
 use Rattle.endpoints.specs.Addresses.{PathsNameTargets}
-use Rattle.http_post.specs.Conversations.{interim}
 use Rattle.http_post.specs.Laws.{WaitOrNot}
 use Rattle.journal_at.specs.StandingBodies.{Keeps}
 use Rattle.memory_net.specs.Mails.{Mail}
@@ -28,7 +27,7 @@ use Rattle.node_at.specs.Meanings.{Hears, Means, next_input}
 use Rattle.node_at.specs.Meanings.Meaning.{Steps}
 use Rattle.node_at.specs.Replies.{StepsReply}
 use Rattle.node_at.specs.State.{State, seen}
-use Rattle.node_at.specs.Turns.{IsLine, calm, is_heard}
+use Rattle.node_at.specs.Turns.{IsLine, calm, is_heard, line_of}
 use Rattle.node_at.specs.declared.node.Node.{Node}
 use Rattle.node_at.specs.declared.role.Role.TheVariants.{All}
 use Rattle.node_at.specs.declared.turn.Turned.{Turned}
@@ -39,12 +38,12 @@ use Rattle.node_worlds.specs.Nets.{Net, Place}
 use Rattle.site_memory.specs.Devices.{calls_in, opening_in}
 use Rattle.site_memory.specs.Sites.{link_of, told_of}
 use Rattle.site_memory.specs.declared.machine.MemSite.{MemSite}
-use Rattle.site_model.specs.Told.{Call, Made, done}
+use Rattle.site_model.specs.Told.{Made}
 use Rattle.small_envelopes.specs.SmallEnvelopes.{BareAreInLimits}
 use Rattle.wire_posts.specs.Envelopes.{action_in}
 use Rattle.mirrored_nets.specs.Goings.{IsBrought, IsSet, ms_of}
 use Rattle.mirrored_nets.specs.Mirrors.{Mirrors}
-use Rattle.mirrored_nets.specs.Took.{Adds, HasRoom, IsWhole, TookTurn}
+use Rattle.mirrored_nets.specs.Took.{Adds, HasRoom, IsTriedLine, IsWhole, TookTurn}
 use Rattle.mirrored_nets.proofs.AnewCalls.{GoesAnew, ends_anew, first_whole}
 use Rattle.mirrored_nets.proofs.FallenHosts.{InWorld, IsBefore, NetLaws, at_this, in_world, is_up, sites, up_there}
 use Rattle.mirrored_nets.proofs.InputsHeard.{input_heard, line_told, means_so, works_heard}
@@ -79,7 +78,7 @@ pub record HeardTurn (count : ℕ) (w : World) (net : Net) (i c : ℕ) (p : Plac
   pub carries : Carries (example_hosts count) net i All (told_of from)
   pub heard : IsInput w i x input did.meaning did.now
   pub made_are : made ≡ did.line ++ (calls_of did.whole.doings ++ anew.made)
-  pub line_is : did.line ≡ replicate lines (done (Call.Send interim))
+  pub line_is : IsTriedLine lines did.line
   pub is_turn : IsTurn (example_hosts count) net w i p x (seen n) (seen m) input did.now did.whole.steps did.whole.doings
   pub read : StepsRead n.journal did.line made did.whole.steps did.whole.doings is_turn.fated
 
@@ -180,7 +179,7 @@ module _ (L : NetLaws) (K : TurnLaws) (count : ℕ) (few : count ≤ 8) (hosts :
       -- a turn whose steps went to their end
       module _ (old : MemSite) (set : IsSet (c + ms_of input) h.site old) (others : s ≡ record old { line = s.line }) (has : HasRoom old) (r : Turned) (m : Node) (t : MemSite)
           (turn : TakesTurn told_of r All m.shrunk (seen n) (seen m) from t) (first_ends : IsWhole turn.first) (made : List Made) (adds : Adds made old t)
-          (said : take lines made ≡ replicate lines (done (Call.Send interim))) where
+          (tried : IsTriedLine lines (take lines made)) where
         from_others : from ≡ record old { line = from.line }
         from_others = from_is ∙ others ∙ ap (λ (z : MemSite). record old { line = z.line }) (sym from_is)
 
@@ -213,11 +212,12 @@ module _ (L : NetLaws) (K : TurnLaws) (count : ℕ) (few : count ≤ 8) (hosts :
         all_made_are : made ≡ did.line ++ (calls_of did.whole.doings ++ anew.made)
         all_made_are = made_are (calm (seen n)) turn.node (seen m) old from turn.behind t made did.line did.whole.steps did.whole.doings from_others did.whole.ran anew adds
 
-        line_is : did.line ≡ replicate lines (done (Call.Send interim))
+        line_is : IsTriedLine lines did.line
         line_is =
             line_told K.says K.quiet K.ticks K.one K.wait_or_not K.small L.bases L.nets L.closes count few hosts clocks mails w M i least input lines bytes (told_of from) (told_of turn.behind) did.line
-            (calls_of did.whole.doings ++ anew.made) made brought line_heard all_made_are said
-            (λ none. whole_no_line did.line anew.made did.meaning did.now did.status _ turn.node (told_of from) (told_of turn.behind) none did.whole (disk_no_line anew.made anew.on_disk))
+            (calls_of did.whole.doings ++ anew.made) made brought line_heard all_made_are tried
+            (λ none. whole_no_line (line_of did.line) anew.made did.meaning did.now did.status (calm (seen n)) turn.node (told_of from) (told_of turn.behind)
+            (up_there L count few hosts clocks mails more w M i h g n here up c time s before).holds.bodies did.whole keeps (disk_no_line anew.made anew.on_disk))
 
         is_turn : IsTurn (example_hosts count) M.stands.net w i (M.stands.holds i h here).place there.node (seen n) (seen m) input did.now did.whole.steps did.whole.doings
         is_turn =
@@ -229,7 +229,7 @@ module _ (L : NetLaws) (K : TurnLaws) (count : ℕ) (few : count ≤ 8) (hosts :
             turn_read K.addressed K.reply K.pass K.place K.paths L.bodies (example_base i)
             owned (example_hosts count) M.stands.net w i (M.stands.holds i h here).place there.node (seen n) turn.node (seen m) input did.meaning did.now did.status did.whole.steps did.whole.doings old from turn.behind t
             made did.line (up_there L count few hosts clocks mails more w M i h g n here up c time s before).holds.bodies lines fits posted_fit heard is_turn did.whole.turns from_others has keeps
-            (M.limits i h n here up) did.whole.ran anew adds line_is
+            (M.limits i h n here up) did.whole.ran anew adds line_is (did.counted is_heard_so bytes tells)
 
         pub heard_turn : HeardTurn count w M.stands.net i c (M.stands.holds i h here).place there.node n m from t r turn input lines made
         heard_turn = record {
@@ -262,4 +262,4 @@ module _ (L : NetLaws) (K : TurnLaws) (count : ℕ) (few : count ≤ 8) (hosts :
         (from T.turns.connected before_turn) T.site T.result turn_there input lines T.made
     took_heard whole =
         heard_turn T.turns.connected before_turn bytes T.turns.connects.brings input lines brought old set T.turns.connects.others T.room T.result T.node T.site turn_there
-        (ends_first T.result T.node T.site (from T.turns.connected before_turn) turn_there whole) T.made T.adds T.said
+        (ends_first T.result T.node T.site (from T.turns.connected before_turn) turn_there whole) T.made T.adds T.tried

@@ -11,11 +11,12 @@ use Rattle.journal_at.specs.declared.journal.Append.TheVariants as appends
 use Rattle.journal_at.specs.declared.journal.Journal.{Journal}
 use Rattle.journal_at.specs.declared.version.Version.TheVariants.{Two}
 use Rattle.memory_net.proofs.Standing.{same_some}
-use Rattle.node_at.specs.Doings.{AreFates, Doing, IsFateAt, Ran, calls_of}
+use Rattle.node_at.specs.Doings.{AreFates, Doing, IsFateAt, Ran, calls_of, lost_of}
 use Rattle.node_at.specs.Meanings.{Hears, IsFit, Meaning, next_input}
+use Rattle.node_at.specs.Sends.{Counts}
 use Rattle.node_at.specs.State.{State}
 use Rattle.node_at.specs.TurnText.{TurnStep}
-use Rattle.node_at.specs.Turns.{IsLine, Turns, Whole, Works, calm, is_heard, line_of}
+use Rattle.node_at.specs.Turns.{IsLine, Turns, Whole, Works, calm, is_heard, line_of, unsaid_in}
 use Rattle.node_at.specs.declared.role.Role.TheVariants.{All}
 use Rattle.node_at.specs.declared.turn.Turned.{Turned}
 use Rattle.node_at.specs.declared.turn.Turned.TheVariants as turneds
@@ -31,7 +32,7 @@ use Rattle.site_memory.specs.declared.machine.MemSite.{MemSite}
 use Rattle.site_model.specs.Counts.{Rose}
 use Rattle.site_model.specs.Told.{Made, file_of}
 use Rattle.mirrored_nets.specs.Answered.{AnswersWith}
-use Rattle.mirrored_nets.specs.Fates.{AllDone, refusals}
+use Rattle.mirrored_nets.specs.Fates.{failures, refusals}
 use Rattle.mirrored_nets.specs.Took.{Adds, HasRoom, IsWhole}
 use Rattle.mirrored_nets.proofs.AnewCalls.{GoesAnew}
 use Rattle.mirrored_nets.proofs.CallRows.{AreSendings}
@@ -51,6 +52,8 @@ pub record DidWhole (first : Turned) (n node : State) (c behind : MemSite) (t : 
   pub is_line : IsLine (next_input (told_of c).link) (is_heard meaning) (told_of c) (told_of behind) line
   pub works : Works first (line_of line) meaning now (calm n) node (told_of c) (told_of behind)
   pub whole : Whole (line_of line) meaning now status (calm n) node (told_of c) (told_of behind)
+  pub counted : is_heard meaning ≡ true → (bytes : List ℕ) → next_input (told_of c).link ≡ Some bytes
+      → Counts (unsaid_in line + lost_of whole.doings) (told_of c).counts.link (told_of behind).counts.link
   pub steps_are : steps_in first All n node (told_of c) (told_of behind) t ≡ whole.steps
   pub doings_are : doings_in first All n node (told_of c) (told_of behind) t ≡ whole.doings
 
@@ -67,6 +70,7 @@ did_whole (turneds.Served status) n node c behind t whole = record {
   is_line = t.serves.line;
   works = t.serves.works;
   whole = t.serves.works.0;
+  counted = t.serves.counted;
   steps_are = refl;
   doings_are = refl;
 }
@@ -82,6 +86,7 @@ did_whole turneds.Ticked n node c behind t whole = record {
   is_line = t.serves.line;
   works = t.serves.works;
   whole = t.serves.works.0;
+  counted = t.serves.counted;
   steps_are = refl;
   doings_are = refl;
 }
@@ -151,8 +156,9 @@ beside_so disk mid later gate mid_gate later_gate refused made both below under 
 -- the calls of a whole turn
 pub whole_read : RecordsAreBodies → (n node m : State) (old c behind site : MemSite) (made line : List Made) (bodies : List (List ℕ)) (s : TurnStep) (ss : List TurnStep) (d : Doing) (ds : List Doing)
     → c ≡ record old { line = c.line } → HasRoom old → Keeps n.journal bodies (told_of c) → n.journal.limit ≡ 4294967295 → Ran (line_of line) (s ∷ ss) (d ∷ ds) n node (told_of c) (told_of behind)
-    → GoesAnew node m behind site → Adds made old site → AreSendings line → AllDone line → AllAreOuts (s ∷ ss) → AllByRecursion HasNone ss → Read n.journal line made s ss d ds
-whole_read law n node m old c behind site made line bodies s ss d ds others has keeps limit ran anew adds sent said outs none = record {
+    → GoesAnew node m behind site → Adds made old site → AreSendings line
+    → Counts (failures line + lost_of (d ∷ ds)) (told_of c).counts.link (told_of behind).counts.link → AllAreOuts (s ∷ ss) → AllByRecursion HasNone ss → Read n.journal line made s ss d ds
+whole_read law n node m old c behind site made line bodies s ss d ds others has keeps limit ran anew adds sent counted outs none = record {
   anew = anew.made;
   are =
       made_are n node m old c behind site made line (s ∷ ss) (d ∷ ds) others ran anew adds
@@ -160,7 +166,6 @@ whole_read law n node m old c behind site made line bodies s ss d ds others has 
       ∙ in_parts line d.first d.made (all_made ds) anew.made;
   anew_are = anew.on_disk;
   line_sent = sent;
-  line_done = said;
   record_is = record_so law n.journal bodies c has_here keeps limit s.entry s.landed d.first d.refused ran.are.0.formed fates.0;
   outs = outs;
   unrecorded = none;
@@ -170,7 +175,7 @@ whole_read law n node m old c behind site made line bodies s ss d ds others has 
       let e = adds.uncapped in
       let f = link_here in
       let below : behind.tally.link < 2 ^ 64 - 1 = omega (arith, a, e) in
-      let k = ran.lost below in
+      let k = counted below in
       omega (arith, a, b, e, f, k);
   refused =
       let a = anew.disk in

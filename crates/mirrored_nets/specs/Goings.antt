@@ -47,7 +47,7 @@ ms_of (Tick ms) = ms
 ms_of Raw = 0
 
 -- A connection that brings these bytes to a node is that input of the world: the letter of a message; a tick; or bytes that are refused, before
--- which the interim line is said where the client waits for it.
+-- which the interim line is tried where the client waits for it.
 abbrev pub IsBrought : List Mail → ℕ → Input → (lines : ℕ) → List ℕ → Type 0
 IsBrought mails i (Deliver k) lines bytes = (m : Mail) × (nth k mails ≡ Some m) × (m.receiver ≡ i) × (m.bytes ≡ bytes) × (length bytes ≤ 65536) × (lines ≡ 0)
 IsBrought mails i (Tick ms) lines bytes = IsTick bytes × (lines ≡ 0)

@@ -16,4 +16,5 @@ pub mod Struck
 pub mod Kept
 pub mod StruckTurns
 pub mod StruckStarts
+pub mod DueStarts
 pub mod StruckRequests

@@ -1,5 +1,7 @@
 -- Starts at one of whose calls a fault comes.
-use Rattle.std.specs.Prelude.{ℕ, List, [], ◌++◌, ◌-◌, ◌≡◌, ◌≤◌, Some, None, Ok, drop, length, map, nat_lt}
+use Rattle.std.specs.Prelude.{ℕ, List, [], ◌++◌, ◌-◌, ◌≡◌, ◌≤◌, Bool, true, false, Some, None, Ok, Err, Result, drop, length, map, nat_lt}
+use Rattle.armed_calls.specs.Faults.{record_stands, start_calls}
+use Rattle.armed_calls.specs.declared.fault.Fault.TheVariants as faults
 use Rattle.at_base.specs.declared.record.Record.{Record}
 use Rattle.at_model.specs.Recovery.{last_incarnation}
 use Rattle.at_model.specs.World.{Node as Known, World, nth}
@@ -10,17 +12,23 @@ use Rattle.memory_net.specs.Calls.{Begins}
 use Rattle.memory_net.specs.Mails.{Mail}
 use Rattle.memory_net.specs.declared.host.Host.{Host}
 use Rattle.node_at.specs.Starts.{StandFor, append_calls}
+use Rattle.node_at.specs.declared.fault.StartFault.{StartFault}
+use Rattle.node_at.specs.declared.fault.StartFault.TheVariants.{Disk}
 use Rattle.node_at.specs.declared.node.Node.{Node}
 use Rattle.site_memory.specs.Devices.{calls_in, opening_in}
 use Rattle.site_memory.specs.Sites.{told_of}
 use Rattle.site_memory.specs.Tells.{reads}
 use Rattle.site_memory.specs.declared.arm.Choice.{Choice}
+use Rattle.site_memory.specs.declared.arm.Choice.TheVariants.{Keep}
 use Rattle.site_memory.specs.declared.machine.MemSite.{MemSite}
-use Rattle.site_model.specs.Told.{Files, done}
+use Rattle.site_model.specs.Told.{Files, Made, done}
 use Rattle.torn_appends.specs.TornAppends.{stands_behind}
 use Rattle.mirrored_nets.specs.Mirrors.{Mirrors}
-use Rattle.mirrored_nets.specs.Took.{FellBack}
+use Rattle.mirrored_nets.specs.StruckTurns.{IsToldOf}
+use Rattle.mirrored_nets.specs.Took.{Adds, FellBack}
 use Rattle.mirrored_nets.specs.TookStart.{HasLast}
+use Rattle.mirrored_nets.specs.declared.judged.Armed.{Armed}
+use Rattle.mirrored_nets.specs.declared.judged.Armed.TheVariants as calls
 
 -- The files of a machine stand for records, as they read.
 pub record IsStanding (s : MemSite) : Type 0 where
@@ -50,3 +58,24 @@ pub record LeavesStart (old t : MemSite) : Type 0 where
 
 abbrev pub StartsLeave : Type 0
 StartsLeave = (base : List ℕ) (n : Node) (old t : MemSite) (last : ℕ) → IsMarked last old → Begins base (Ok n) old t → LeavesStart old t
+
+-- A start fails only by the disk, where a call is to fail; for anything else there was no memory.
+abbrev pub may_fail : StartFault → Armed → Bool
+may_fail Disk (calls.Fail k) = true
+may_fail fault armed = false
+
+-- all its calls were done, or it failed so
+abbrev pub IsBegun : Armed → Result Node StartFault → Type 0
+IsBegun armed (Ok node) = Unit {0}
+IsBegun armed (Err fault) = may_fail fault armed ≡ true
+
+-- A start on such a machine whose k-th call was to fail, and beside which no other failed. Behind a crash that leaves the files as they read the last
+-- incarnation rose exactly where that call of the append leaves the record standing.
+pub record LeavesFailed (k : ℕ) (made : List Made) (old t : MemSite) : Type 0 where
+  pub stands : (new : MemSite) → FellBack old t (length made) Keep new → IsStanding new
+  pub rose : (new : MemSite) (before behind : ℕ) → FellBack old t (length made) Keep new → HasLast before old → HasLast behind new → nat_lt before behind ≡ record_stands (k - 2) faults.Fail
+
+abbrev pub FailedStartsLeave : Type 0
+FailedStartsLeave =
+    (base : List ℕ) (result : Result Node StartFault) (old t : MemSite) (last k : ℕ) (made : List Made) → IsMarked last old → IsToldOf (calls.Fail k) old → 1 ≤ k → k ≤ start_calls
+    → Begins base result old t → IsBegun (calls.Fail k) result → Adds made old t → LeavesFailed k made old t

@@ -1,9 +1,8 @@
 -- Turns of a node in a net that mirrors a world, at which a call is armed or none, where they are to be an event of that world.
-use Rattle.std.specs.Prelude.{ℕ, List, [], ◌+◌, ◌&&◌, ◌≡◌, ◌≤◌, Bool, Option, Some, if◌then◌else◌, length, nat_eq, replicate, take}
+use Rattle.std.specs.Prelude.{ℕ, List, [], ◌+◌, ◌≡◌, ◌≤◌, Bool, Option, Some, length, take}
 use Rattle.armed_calls.specs.declared.fault.Armed.{Armed as Known}
 use Rattle.armed_calls.specs.declared.fault.Fault.TheVariants as faults
 use Rattle.at_model.specs.World.{Input, World, Turn, nth}
-use Rattle.http_post.specs.Conversations.{interim}
 use Rattle.memory_net.specs.Calls.{Turns}
 use Rattle.memory_net.specs.Mails.{Mail}
 use Rattle.memory_net.specs.declared.host.Host.{Host}
@@ -17,13 +16,13 @@ use Rattle.site_memory.specs.Devices.{calls_in}
 use Rattle.site_memory.specs.Sites.{told_of}
 use Rattle.site_memory.specs.declared.arm.Choice.{Choice}
 use Rattle.site_memory.specs.declared.machine.MemSite.{MemSite}
-use Rattle.site_model.specs.Told.{Call, Made, done}
+use Rattle.site_model.specs.Told.{Made}
 use Rattle.mirrored_nets.specs.ArmedCalls.{call_of, choice_of}
 use Rattle.mirrored_nets.specs.Fates.{AllDone, AreAsked}
 use Rattle.mirrored_nets.specs.Goings.{IsBrought, IsSet, ms_of}
 use Rattle.mirrored_nets.specs.Mirrors.{Mirrors}
 use Rattle.mirrored_nets.specs.Struck.{ComesAt}
-use Rattle.mirrored_nets.specs.Took.{Adds, HaltsSo, HasRoom, IsWhole}
+use Rattle.mirrored_nets.specs.Took.{Adds, HaltsSo, HasRoom, IsTriedLine, IsWhole}
 use Rattle.mirrored_nets.specs.declared.judged.Armed.{Armed}
 use Rattle.mirrored_nets.specs.declared.judged.Armed.TheVariants as calls
 
@@ -36,12 +35,6 @@ fails_of since (calls.Stop k choice) = 0
 -- the machine was told so
 abbrev pub IsToldOf : Armed → MemSite → Type 0
 IsToldOf armed s = (told_of s).counts.arming ≡ Some (record { since = length (calls_in s.device); fails = fails_of (length (calls_in s.device)) armed })
-
--- What is armed where the interim line comes first, which is said: a failure of its call is none.
-abbrev pub spoken_of : (lines : ℕ) → Armed → Armed
-spoken_of lines calls.No = calls.No
-spoken_of lines (calls.Fail k) = if nat_eq k 1 && nat_eq lines 1 then calls.No else calls.Fail k
-spoken_of lines (calls.Stop k choice) = calls.Stop k choice
 
 -- The turn of a node that is up in a net that mirrors a world: of what its connection brings the event's input is, and the event can be done to
 -- it where that call is armed, or none.
@@ -63,7 +56,7 @@ pub record IsStruckTurn (i count lines : ℕ) (bytes : List ℕ) (n : Node) (old
   pub set : IsSet (clock + ms_of input) host.site old
   pub told : IsToldOf armed old
   pub known : Option Known
-  pub armed_is : armed ≡ spoken_of lines (call_of known)
+  pub armed_is : armed ≡ call_of known
   pub strikes : Strikes world (Turn i input fates until) lines known fates until
 
 -- What becomes of such a turn, that made these calls.
@@ -78,9 +71,9 @@ pub data Goes (lines : ℕ) (made : List Made) (armed : Armed) (fates : List Boo
   -- or before its first step
   unbegun : (k : ℕ) (choice : Choice) → armed ≡ calls.Stop k choice → 1 ≤ k → k ≤ lines → IsWhole r → AllDone made → fates ≡ [] → until ≡ Some 0 → Goes lines made armed fates until r
 
--- So each of them goes for which there is memory, where it said the line.
+-- So each of them goes for which there is memory, where it tried the line.
 abbrev pub StruckTurnsGo : Type 0
 StruckTurnsGo =
     (i count lines : ℕ) (bytes : List ℕ) (n m : Node) (old new : MemSite) (armed : Armed) (fates : List Bool) (until : Option ℕ) (r : Turned) (made : List Made)
     → IsStruckTurn i count lines bytes n old armed fates until → HasRoom old → Turns bytes r n m old new → Adds made old new → (r ≡ turneds.NoRoom → ⊥)
-    → take lines made ≡ replicate lines (done (Call.Send interim)) → Goes lines made armed fates until r
+    → IsTriedLine lines (take lines made) → Goes lines made armed fates until r

@@ -1,7 +1,7 @@
 -- What a call of a node on its machine came to, in the terms of an event's fates and its stop.
-use Rattle.std.specs.Prelude.{ℕ, List, [], ◌∷◌, ◌++◌, ◌+◌, ◌-◌, ◌≡◌, ◌≤◌, ◌<◌, ◌^◌, ◌⊎◌, Bool, true, false, Option, Some, None, drop, length, replicate, take}
+use Rattle.std.specs.Prelude.{ℕ, List, [], ◌∷◌, ◌++◌, ◌+◌, ◌-◌, ◌≡◌, ◌≤◌, ◌<◌, ◌^◌, ◌⊎◌, Bool, true, false, Option, Some, None, drop, length, take}
 use Rattle.at_base.specs.declared.event.Local.{Local}
-use Rattle.http_post.specs.Conversations.{interim}
+use Rattle.http_post.specs.Conversations.{said, unsaid}
 use Rattle.memory_net.specs.Calls.{Requests, Turns}
 use Rattle.memory_net.specs.Mails.{Mail, mails_in}
 use Rattle.memory_net.specs.declared.host.Host.{Host}
@@ -16,7 +16,7 @@ use Rattle.site_memory.specs.declared.arm.Choice.{Choice}
 use Rattle.site_memory.specs.declared.arm.Choice.TheVariants.{Keep}
 use Rattle.site_memory.specs.declared.machine.MemSite.{MemSite}
 use Rattle.site_memory.specs.Tells.{reads}
-use Rattle.site_model.specs.Told.{Call, Made, done, failed, sent_by}
+use Rattle.site_model.specs.Told.{Call, Made, failed, sent_by}
 use Rattle.torn_appends.specs.TornAppends.{stands_behind}
 use Rattle.mirrored_nets.specs.declared.came.Came.{Came}
 use Rattle.mirrored_nets.specs.declared.came.Came.TheVariants as cames
@@ -128,6 +128,10 @@ EndsSo cames.Stays result = IsWhole result
 EndsSo (cames.Falls kept choice) result = IsWhole result
 EndsSo cames.Halts result = result ≡ turneds.Halted
 
+-- so many calls tried the interim line: where one is to, it was said, or its call failed
+abbrev pub IsTriedLine : ℕ → List Made → Type 0
+IsTriedLine lines made = ((lines ≡ 0) × (made ≡ [])) ⊎ ((lines ≡ 1) × ((made ≡ said true) ⊎ (made ≡ unsaid)))
+
 -- a turn of a connection that brings these bytes, before whose first step so many calls come
 pub record TookTurn (i count lines : ℕ) (bytes : List ℕ) (n : Node) (old : MemSite) (new : Host) (mails more : List Mail) (fates : List Bool) (until : Option ℕ) : Type 0 where
   pub room : HasRoom old
@@ -137,8 +141,8 @@ pub record TookTurn (i count lines : ℕ) (bytes : List ℕ) (n : Node) (old : M
   pub turns : Turns bytes result n node old site
   pub made : List Made
   pub adds : Adds made old site
-  -- those that come before the first step said the interim line
-  pub said : take lines made ≡ replicate lines (done (Call.Send interim))
+  -- those that come before the first step tried the interim line
+  pub tried : IsTriedLine lines (take lines made)
   pub came : Came
   pub ends : EndsSo came result
   pub comes : ComesTo came lines made fates until

@@ -1,11 +1,12 @@
 -- What a start of a node at one of whose calls a fault comes came to.
-use Rattle.std.specs.Prelude.{ℕ, List, Bool, None, Ok, ◌≡◌, nat_lt}
+use Rattle.std.specs.Prelude.{ℕ, List, Bool, None, Result, ◌≡◌, nat_lt}
 use Rattle.at_base.specs.declared.record.Record.{Record}
 use Rattle.at_model.specs.Recovery.{last_incarnation}
 use Rattle.journal_at.specs.declared.version.Version.{Version}
 use Rattle.memory_net.specs.Calls.{Begins}
 use Rattle.memory_net.specs.declared.host.Host.{Host}
 use Rattle.node_at.specs.Starts.{StandFor}
+use Rattle.node_at.specs.declared.fault.StartFault.{StartFault}
 use Rattle.node_at.specs.declared.node.Node.{Node}
 use Rattle.site_memory.specs.Devices.{calls_in, opening_in}
 use Rattle.site_memory.specs.Tells.{reads}
@@ -20,12 +21,12 @@ pub record HasLast (last : ℕ) (s : MemSite) : Type 0 where
   pub stand : StandFor version records (reads (opening_in s.device) (calls_in s.device))
   pub last_is : last ≡ last_incarnation records
 
--- It was done; the machine went back to behind so many of its calls, or all of them, and crashed there. Its Start landed where the last incarnation
--- in the files rose.
+-- It was done, or failed; the machine went back to behind so many of its calls, or all of them, and crashed there. Its Start landed where the last
+-- incarnation in the files rose.
 pub record TookStart (base : List ℕ) (old : MemSite) (new : Host) (landed : Bool) : Type 0 where
-  pub node : Node
+  pub result : Result Node StartFault
   pub site : MemSite
-  pub begins : Begins base (Ok node) old site
+  pub begins : Begins base result old site
   pub kept : ℕ
   pub choice : Choice
   pub down : new.node ≡ None

@@ -1,12 +1,12 @@
 //! The calls that a node made in one event, and the fates that they had.
 
-ghost use Rattle.std.specs.Prelude.{◌≡◌, ◌≤◌, [], drop, length, map, take, true, replicate};
+ghost use Rattle.std.specs.Prelude.{◌≡◌, ◌≤◌, [], drop, length, map, take, true};
 ghost use Rattle.fated_walks.specs.Fated.{StartsWith};
-ghost use Rattle.site_memory.specs.Entries.{call_of, made_of, mades};
-ghost use Rattle.site_model.specs.Told.{done};
+ghost use Rattle.site_memory.specs.Entries.{call_of, mades};
 ghost use Rattle.site_model.specs.Told.Call.{Send};
 ghost use Rattle.http_post.specs.Conversations.{interim};
 ghost use Rattle.mirrored_nets.specs.Fates.{AllDone, all_done, anew_of, behind_disk, behind_sent, disk_part, failures, fates_in, is_disk, is_done, refusals, sent_part};
+ghost use Rattle.mirrored_nets.specs.Took.{IsTriedLine};
 
 use site_memory::entry::{Deed, Entry};
 use site_memory::machine::MemSite;
@@ -164,28 +164,25 @@ fn is_line(bytes: &[u8]) -> bool
     bytes == b"HTTP/1.1 100 Continue\r\n\r\n".as_slice()
 }
 
-/// Whether a call said it.
-fn says_line(entry: &Entry) -> bool
-    ensures is { result ≡ true → made_of entry.now ≡ done (Send interim) }
-    ensures exact { made_of entry.now ≡ done (Send interim) → result ≡ true }
+/// Whether a call tried it.
+fn tries_line(entry: &Entry) -> bool
+    ensures is { result ≡ true → call_of entry.now.deed ≡ Send interim }
+    ensures exact { call_of entry.now.deed ≡ Send interim → result ≡ true }
 {
-    if !entry.done {
-        return false;
-    }
     match &entry.deed {
         Deed::Send { bytes } => is_line(bytes.as_slice()),
         _ => false,
     }
 }
 
-/// Whether the first so many calls, one at most, said the interim line.
-pub fn said(calls: &[Entry], lines: usize) -> bool
-    ensures is { result ≡ true → take lines (mades calls.now) ≡ replicate lines (done (Send interim)) }
+/// Whether the first so many calls, one at most, tried the interim line.
+pub fn tried(calls: &[Entry], lines: usize) -> bool
+    ensures is { result ≡ true → IsTriedLine lines (take lines (mades calls.now)) }
     ensures few { result ≡ true → lines ≤ 1 }
-    ensures exact { lines ≤ 1 → take lines (mades calls.now) ≡ replicate lines (done (Send interim)) → result ≡ true }
+    ensures exact { IsTriedLine lines (take lines (mades calls.now)) → result ≡ true }
 {
     if lines == 0 {
         return true;
     }
-    lines == 1 && !calls.is_empty() && says_line(&calls[0])
+    lines == 1 && !calls.is_empty() && tries_line(&calls[0])
 }

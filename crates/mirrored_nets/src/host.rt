@@ -1,33 +1,33 @@
 //! An event that is done to a node on its machine.
 
-ghost use Rattle.std.specs.Prelude.{◌≡◌, ◌+◌, ◌≤◌, ◌<◌, ◌^◌, IfOk, false, length, map, replicate, take, true};
-ghost use Rattle.http_post.specs.Conversations.{interim};
-ghost use Rattle.site_model.specs.Told.{done};
-ghost use Rattle.site_model.specs.Told.Call.{Send};
+ghost use Rattle.std.specs.Prelude.{◌≡◌, ◌+◌, ◌≤◌, ◌<◌, ◌^◌, IfOk, false, length, map, take, true};
 ghost use Rattle.memory_net.specs.Calls.{IsServing};
 ghost use Rattle.memory_net.specs.Mails.{mail_of};
 ghost use Rattle.site_memory.specs.Devices.{calls_in};
 ghost use Rattle.site_memory.specs.Entries.{mades};
 ghost use Rattle.mirrored_nets.specs.Counted.{IsCounted};
+ghost use Rattle.mirrored_nets.specs.DueStarts.{CanBegin, IsWant};
 ghost use Rattle.mirrored_nets.specs.Fates.{failures, refusals};
 ghost use Rattle.mirrored_nets.specs.Goings.{CameUp, IsSet, WentDown};
-ghost use Rattle.mirrored_nets.specs.Took.{Adds, AnswersSo, EndsSo, FellBack, HasRoom, IsFull, LeftSo, TookRequest, TookTurn, kept_of};
+ghost use Rattle.mirrored_nets.specs.Took.{Adds, AnswersSo, EndsSo, FellBack, HasRoom, IsFull, IsTriedLine, LeftSo, TookRequest, TookTurn, kept_of};
 ghost use Rattle.mirrored_nets.specs.StruckRequests.{IsStruckRequest};
 ghost use Rattle.mirrored_nets.specs.StruckTurns.{IsStruckTurn, IsToldOf};
 ghost use Rattle.mirrored_nets.specs.Unarmed.{IsReady, IsntApart};
+ghost use Rattle.mirrored_nets.specs.declared.fault.Unlike.TheVariants as unlikes;
 ghost use Rattle.node_at.specs.declared.local.Locally.TheVariants as answers;
 ghost use Rattle.node_at.specs.declared.turn.Turned.TheVariants as turneds;
 
-use crate::calls::{failures, refusals, said, since};
+use crate::calls::{failures, refusals, since, tried};
 use crate::came::Came;
 use crate::fault::Unlike;
 use crate::judged::{Armed, judged};
-use crate::laws::{struck_requests, struck_turns};
+use crate::laws::{starts_fail_for_want, struck_requests, struck_turns};
 use at_base::event::Local;
 use at_base::text::Text;
 use memory_net::host::Host;
 use memory_net::letter::{Letter, gather};
 use memory_net::machine::{ask, begin, turn};
+use node_at::fault::StartFault;
 use node_at::local::Locally;
 use node_at::node::Node;
 use node_at::turn::Turned;
@@ -64,15 +64,15 @@ pub fn set(site: MemSite, armed: Armed, now: u64) -> MemSite
 
 /// How many calls a machine has made, how many answers and posts failed, how many calls of its disk, and how many gates.
 #[derive(Clone, Copy, Debug, PartialEq, Eq)]
-struct Counts {
-    calls: usize,
+pub(crate) struct Counts {
+    pub(crate) calls: usize,
     sends: u64,
     disk: u64,
     gates: u64,
 }
 
 /// Its counts now.
-fn counts_of(site: &MemSite) -> Counts
+pub(crate) fn counts_of(site: &MemSite) -> Counts
     ensures { IsCounted result site.now }
 {
     Counts {
@@ -107,7 +107,7 @@ fn refused(failed: u64, now: u64, calls: &[Entry]) -> Result<(), Unlike>
 
 /// The calls since, beside which no answer and no post failed, no record was refused and no gate left shut; nor was one refused for want of
 /// memory while the call of another's gate failed.
-fn made_since<'a>(before: &Counts, site: &'a MemSite) -> Result<&'a [Entry], Unlike>
+pub(crate) fn made_since<'a>(before: &Counts, site: &'a MemSite) -> Result<&'a [Entry], Unlike>
     ensures adds { IfOk result (λ calls. (old : MemSite) → IsCounted before.now old → Adds (mades calls.now) old site.now) }
     ensures memory { IsntApart result }
 {
@@ -125,12 +125,12 @@ fn made_since<'a>(before: &Counts, site: &'a MemSite) -> Result<&'a [Entry], Unl
     Ok(calls)
 }
 
-/// Whether the calls that come before the first step said the interim line. No call of it is to fail, so it isn't said only for want of memory.
+/// Whether the calls that come before the first step tried the interim line. Only for want of memory there is none of it.
 fn spoke(lines: usize, calls: &[Entry]) -> Result<(), Unlike>
-    ensures spoke { IfOk result (λ _. (take lines (mades calls.now) ≡ replicate lines (done (Send interim))) × (lines ≤ 1)) }
+    ensures spoke { IfOk result (λ _. IsTriedLine lines (take lines (mades calls.now)) × (lines ≤ 1)) }
     ensures memory { IsntApart result }
 {
-    if said(calls, lines) {
+    if tried(calls, lines) {
         Ok(())
     } else {
         Err(Unlike::NoMemory)
@@ -321,15 +321,27 @@ pub(crate) fn request(
     left(came, after, machine, before.calls)
 }
 
+/// What a start that failed came to: want of memory, or of a call that the machine didn't try; a bad journal, a full one and one whose incarnations
+/// are spent are none.
+pub(crate) fn wanting(fault: &StartFault) -> Unlike
+    ensures { IsWant fault.now → result ≡ unlikes.Apart → ⊥ }
+{
+    match fault {
+        StartFault::NoMemory | StartFault::Disk => Unlike::NoMemory,
+        StartFault::Bad { .. } | StartFault::Spent | StartFault::Full => Unlike::Apart,
+    }
+}
+
 /// A node that comes up under this base, without any fault.
 pub(crate) fn come_up(alloc: Global, site: MemSite, base: &Text) -> Result<Host, Unlike>
     ensures came { IfOk result (λ host. CameUp base.now site host) }
-    ensures memory { IsntApart result }
+    ensures begins { CanBegin site → IsntApart result }
 {
+    starts_fail_for_want();
     let mut machine = site;
     match begin(alloc, &mut machine, base) {
         Ok(node) => Ok(Host::of(Some(node), machine)),
-        Err(_) => Err(Unlike::NoMemory),
+        Err(fault) => Err(wanting(&fault)),
     }
 }
 

@@ -1,8 +1,9 @@
 //! Laws of nets that mirror worlds.
 
+ghost use Rattle.mirrored_nets.specs.DueStarts.{DownCanBegin, StartsFailForWant};
 ghost use Rattle.mirrored_nets.specs.Goings.{NetsMirror};
 ghost use Rattle.mirrored_nets.specs.StruckRequests.{StruckRequestsGo};
-ghost use Rattle.mirrored_nets.specs.StruckStarts.{DownAreMarked, StartsLeave};
+ghost use Rattle.mirrored_nets.specs.StruckStarts.{DownAreMarked, FailedStartsLeave, StartsLeave};
 ghost use Rattle.mirrored_nets.specs.StruckTurns.{StruckTurnsGo};
 
 use addressed_posts::laws::posts_are_addressed;
@@ -111,6 +112,23 @@ pub fn down_are_marked()
     are_apart();
 }
 
+/// The machine of a node that is down can begin, where it has incarnations left and its journal has room.
+pub fn down_can_begin()
+    ensures { DownCanBegin }
+{
+    examples_are_node_bases();
+    serve_as_nets::<MemSite>();
+    crashes_are_met::<MemSite>();
+    are_apart();
+}
+
+/// Where a node can begin a start fails for want of memory or by the disk alone.
+pub fn starts_fail_for_want()
+    ensures { StartsFailForWant }
+{
+    are_apart();
+}
+
 /// What a crash behind some of the calls of a start leaves of such files.
 pub fn starts_leave()
     ensures { StartsLeave }
@@ -118,6 +136,17 @@ pub fn starts_leave()
     are_apart();
     are_bodies();
     chosen_are_images();
+}
+
+/// What one leaves at whose call it failed that was to fail.
+pub fn failed_starts_leave()
+    ensures { FailedStartsLeave }
+{
+    are_apart();
+    are_bodies();
+    chosen_are_images();
+    calls_fail_as_told();
+    links_hold();
 }
 
 /// Whatever events come to a world, and are done to hosts in memory, the hosts mirror it.

@@ -7,6 +7,7 @@ ghost use Rattle.at_model.specs.World.{World, Ask, Crash, Deliver, Raw, Turn, Up
 ghost use Rattle.memory_net.specs.Mails.{mail_of};
 ghost use Rattle.memory_net.specs.declared.host.Host.{Host};
 ghost use Rattle.world_laws.specs.Events.{event_of, input_of};
+ghost use Rattle.mirrored_nets.specs.DueStarts.{CanBegin};
 ghost use Rattle.mirrored_nets.specs.Goings.{IsBrought, IsTick, ms_of};
 ghost use Rattle.mirrored_nets.specs.Mirrors.{Mirrors};
 ghost use Rattle.mirrored_nets.specs.NetSteps.{IsGiven, IsUnstarted, NetMove, NetStep};
@@ -15,8 +16,7 @@ ghost use Rattle.mirrored_nets.specs.Started.{Started};
 ghost use Rattle.mirrored_nets.specs.PossibleMoves.{CanBe, IsNumbered, MayCome};
 ghost use Rattle.mirrored_nets.specs.ArmedCalls.{call_of};
 ghost use Rattle.mirrored_nets.specs.StruckStarts.{IsMarked};
-ghost use Rattle.mirrored_nets.specs.StruckTurns.{spoken_of};
-ghost use Rattle.mirrored_nets.specs.Unarmed.{IsntApart};
+ghost use Rattle.mirrored_nets.specs.Unarmed.{IsReady, IsntApart};
 ghost use Rattle.mirrored_nets.specs.declared.fault.Fault.TheVariants.{Apart, Full};
 ghost use Rattle.possible_events.specs.PossibleEvents.{IsPossible};
 
@@ -24,7 +24,7 @@ use crate::asks::names_examples;
 use crate::fault::{Fault, Unlike};
 use crate::host::{come_up, go_down, has_room, request, set, take};
 use crate::judged::Armed;
-use crate::laws::{down_are_marked, nets_mirror};
+use crate::laws::{down_are_marked, down_can_begin, nets_mirror};
 use crate::starts::start_struck;
 use addressing::post_to::PostTo;
 use at_base::event::Local;
@@ -187,16 +187,6 @@ fn host_of(hosts: &[Host], number: u8) -> Option<&Host>
     hosts.get(number as usize - 1)
 }
 
-/// What is armed behind the interim line, which is said: a failure of its call is none.
-fn spoken(armed: Armed, lines: usize) -> Armed
-    ensures { result ≡ spoken_of lines armed }
-{
-    match armed {
-        Armed::Fail(1) if lines == 1 => Armed::No,
-        Armed::No | Armed::Fail(_) | Armed::Stop(..) => armed,
-    }
-}
-
 /// Whether a node is up.
 fn is_up(hosts: &[Host], number: u8) -> Result<bool, Unlike>
     ensures up { IfOk result (λ up. (h : Host) × (nth number hosts.now ≡ Some h) × (up ≡ is_some h.node)) }
@@ -296,14 +286,13 @@ fn started(
     stop: bool,
 ) -> Result<Host, Unlike>
     ensures started { IfOk result (λ host. Started base.now clock landed stop site host) }
-    ensures done { landed ≡ true → stop ≡ false → IsntApart result }
-    ensures struck { (a : Known) (last : ℕ) → armed ≡ call_of (Some a) → IsMarked last site → 1 ≤ a.call → a.call ≤ start_calls → landed ≡ record_stands (a.call - 2) a.fault → IsntApart result }
+    ensures done { CanBegin site → landed ≡ true → stop ≡ false → IsntApart result }
+    ensures struck { (a : Known) (last : ℕ) → armed ≡ call_of (Some a) → IsReady site → IsMarked last site → CanBegin site → 1 ≤ a.call → a.call ≤ start_calls → landed ≡ record_stands (a.call - 2) a.fault → IsntApart result }
 {
-    let machine = set(site, Armed::No, clock);
     if landed && !stop {
-        come_up(alloc, machine, base)
+        come_up(alloc, set(site, Armed::No, clock), base)
     } else {
-        start_struck(alloc, machine, base, armed, landed)
+        start_struck(alloc, set(site, armed, clock), base, armed, landed)
     }
 }
 
@@ -380,7 +369,6 @@ impl Net {
             return Err(Unlike::Apart);
         };
         let brought = brought_by(alloc, letters.as_slice(), number, input, raw)?;
-        let armed = spoken(armed, brought.lines);
         let host = take(
             alloc,
             node,
@@ -486,11 +474,13 @@ impl Net {
         landed: bool,
         stop: bool,
     ) -> Result<Net, Unlike>
+        requires { HasRoomAt number self.hosts }
         ensures step { IfOk result (NetStep (Up number landed stop) [] self) }
         ensures possible { (raw : List ℕ) → CanBe self (Up number landed stop) raw armed → IsntApart result }
     {
         links_hold();
         down_are_marked();
+        down_can_begin();
         if is_up(self.hosts.as_slice(), number)? {
             return Ok(self);
         }

@@ -1,6 +1,6 @@
 //! Starts that meet a fault.
 
-ghost use Rattle.std.specs.Prelude.{ℕ, List, Ok, Some, ◌-◌, ◌≡◌, ◌≤◌, IfOk};
+ghost use Rattle.std.specs.Prelude.{ℕ, List, Ok, Some, Result, ◌-◌, ◌≡◌, ◌≤◌, IfOk, length};
 ghost use Rattle.armed_calls.specs.Faults.{record_stands, start_calls};
 ghost use Rattle.armed_calls.specs.declared.fault.Armed.{Armed as Known};
 ghost use Rattle.at_base.specs.declared.record.Record.{Record};
@@ -8,27 +8,30 @@ ghost use Rattle.at_model.specs.Recovery.{last_incarnation};
 ghost use Rattle.decision_log.specs.Folds.{AreRecords};
 ghost use Rattle.journal_at.specs.Scans.{records_in};
 ghost use Rattle.memory_net.specs.Calls.{Begins};
+ghost use Rattle.node_at.specs.declared.fault.StartFault.{StartFault};
 ghost use Rattle.node_at.specs.declared.node.Node.{Node};
 ghost use Rattle.site_memory.specs.Entries.{mades};
 ghost use Rattle.site_memory.specs.Sites.{told_of};
 ghost use Rattle.site_memory.specs.declared.arm.Choice.{Choice as Chosen};
 ghost use Rattle.mirrored_nets.specs.ArmedCalls.{call_of};
+ghost use Rattle.mirrored_nets.specs.DueStarts.{CanBegin};
 ghost use Rattle.mirrored_nets.specs.Kept.{kept_at};
-ghost use Rattle.mirrored_nets.specs.StruckStarts.{IsMarked, IsStanding};
+ghost use Rattle.mirrored_nets.specs.StruckStarts.{IsBegun, IsMarked, IsStanding, may_fail};
+ghost use Rattle.mirrored_nets.specs.StruckTurns.{IsToldOf};
 ghost use Rattle.mirrored_nets.specs.TookStart.{HasLast, TookStart};
 ghost use Rattle.mirrored_nets.specs.Unarmed.{IsntApart};
 
-use crate::calls::since;
 use crate::fault::Unlike;
-use crate::host::fallen_back;
+use crate::host::{counts_of, fallen_back, made_since, wanting};
 use crate::judged::{Armed, kept_at};
-use crate::laws::starts_leave;
+use crate::laws::{failed_starts_leave, starts_fail_for_want, starts_leave};
 use at_base::text::Text;
 use decision_log::fold::{FoldFault, fold};
 use journal_at::load::{LoadFault, load};
 use journal_at::records::Records;
 use memory_net::host::Host;
 use memory_net::machine::begin;
+use node_at::fault::StartFault;
 use site_memory::arm::Choice;
 use site_memory::entry::Entry;
 use site_memory::machine::MemSite;
@@ -76,33 +79,54 @@ pub(crate) fn last_in(alloc: Global, site: &MemSite) -> Result<u32, Unlike>
     }
 }
 
-/// A start, of which all calls were done. The node that begins is let go.
-fn begin_alone(alloc: Global, site: &mut MemSite, base: &Text) -> Result<(), Unlike>
-    ensures begun { IfOk result (λ _. (node : Node) × Begins base.now (Ok node) site.old site.new) }
-    ensures memory { IsntApart result }
+/// Whether a start may fail so: only by the disk, where a call is to fail.
+fn may_fail(fault: &StartFault, armed: Armed) -> bool
+    ensures { result ≡ may_fail fault.now armed }
 {
-    match begin(alloc, site, base) {
-        Ok(_node) => Ok(()),
-        Err(_) => Err(Unlike::NoMemory),
+    match fault {
+        StartFault::Disk => match armed {
+            Armed::Fail(_) => true,
+            Armed::No | Armed::Stop(..) => false,
+        },
+        StartFault::NoMemory | StartFault::Bad { .. } | StartFault::Spent | StartFault::Full =>
+            false,
     }
 }
 
-/// How many calls of a start are kept behind its fault, and what a crash behind them leaves. A call that fails ends the start, and reads don't see
-/// it: so those before it are kept, and the files as they read.
+/// A start, of which that call is to fail, or none. The node that begins, if one does, is let go.
+fn begin_alone(alloc: Global, site: &mut MemSite, base: &Text, armed: Armed) -> Result<(), Unlike>
+    ensures begun { IfOk result (λ _. (begun : Result Node StartFault) × Begins base.now begun site.old site.new × IsBegun armed begun) }
+    ensures begins { CanBegin site.old → IsntApart result }
+{
+    starts_fail_for_want();
+    match begin(alloc, site, base) {
+        Ok(_node) => Ok(()),
+        Err(fault) => {
+            if may_fail(&fault, armed) {
+                Ok(())
+            } else {
+                Err(wanting(&fault))
+            }
+        }
+    }
+}
+
+/// How many calls of a start are kept behind its fault, and what a crash behind them leaves. A call that fails ends the start, so all are kept, and
+/// the files as they read.
 fn kept_behind(calls: &[Entry], armed: Armed) -> Result<(usize, Choice), Unlike>
-    ensures fails { (k : ℕ) → armed ≡ Armed.Fail k → result ≡ Ok (k - 1, Choice.Keep) }
+    ensures fails { (k : ℕ) → armed ≡ Armed.Fail k → result ≡ Ok (length calls.now, Choice.Keep) }
     ensures stops { (k : ℕ) (choice : Chosen) → armed ≡ Armed.Stop k choice → result ≡ Ok (kept_at (mades calls.now) k choice, choice) }
 {
     match armed {
         Armed::No => Err(Unlike::Apart),
-        Armed::Fail(k) => Ok(((k as usize).saturating_sub(1), Choice::Keep)),
+        Armed::Fail(_) => Ok((calls.len(), Choice::Keep)),
         Armed::Stop(k, choice) => Ok((kept_at(calls, k as usize, choice), choice)),
     }
 }
 
-/// The start of a node at one of whose calls a fault comes, on a machine at which none is to fail: it goes back to behind the calls that are kept, and
-/// what is left is the machine behind a crash there. It is refused where the last incarnation in its files rose and no Start is to land, or the other
-/// way round.
+/// The start of a node at one of whose calls a fault comes, on a machine that is set for it: where a call is to fail, it fails there; where the node
+/// is to stop at one, all are done, and it goes back to behind the calls that are kept. What is left is the machine behind a crash there. It is
+/// refused where the last incarnation in its files rose and no Start is to land, or the other way round.
 pub(crate) fn start_struck(
     alloc: Global,
     site: MemSite,
@@ -111,15 +135,17 @@ pub(crate) fn start_struck(
     landed: bool,
 ) -> Result<Host, Unlike>
     ensures took { IfOk result (λ host. TookStart base.now site host landed) }
-    ensures struck { (a : Known) (last : ℕ) → armed ≡ call_of (Some a) → IsMarked last site → 1 ≤ a.call → a.call ≤ start_calls → landed ≡ record_stands (a.call - 2) a.fault → IsntApart result }
+    ensures struck { (a : Known) (last : ℕ) → armed ≡ call_of (Some a) → IsToldOf armed site → IsMarked last site → CanBegin site → 1 ≤ a.call → a.call ≤ start_calls → landed ≡ record_stands (a.call - 2) a.fault → IsntApart result }
 {
     starts_leave();
+    failed_starts_leave();
     let before = last_in(alloc, &site)?;
     let mut machine = site;
-    let count = machine.calls();
-    begin_alone(alloc, &mut machine, base)?;
-    let (kept, choice) = kept_behind(since(&machine, count), armed)?;
-    let left = fallen_back(machine, count, kept, choice)?;
+    let counts = counts_of(&machine);
+    begin_alone(alloc, &mut machine, base, armed)?;
+    let calls = made_since(&counts, &machine)?;
+    let (kept, choice) = kept_behind(calls, armed)?;
+    let left = fallen_back(machine, counts.calls, kept, choice)?;
     let behind = last_in(alloc, &left)?;
     if landed != (before < behind) {
         return Err(Unlike::Apart);

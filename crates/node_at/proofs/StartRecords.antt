@@ -1,5 +1,5 @@
 -- A start, from what was read to its Start.
-use Rattle.std.proofs.Common.{ℕ, List, Bool, true, Result, Ok, Err, [], ◌∷◌, ◌++◌, ◌+◌, ◌≡◌, ◌≢◌, ◌≤◌, ◌<◌, ◌^◌, inl, inr, ⊎_elim, OnOk, map, refl, sym, ◌∙◌, ap, subst, arith}
+use Rattle.std.proofs.Common.{ℕ, List, Bool, true, false, Result, Ok, Err, [], ◌∷◌, ◌++◌, ◌+◌, ◌≡◌, ◌≢◌, ◌≤◌, ◌<◌, ◌^◌, inl, inr, ⊎_elim, OnOk, map, refl, sym, ◌∙◌, ap, subst, arith}
 use Rattle.at_base.specs.declared.record.Record.{Record}
 use Rattle.at_base.specs.declared.record.Record.TheVariants as records
 use Rattle.at_model.specs.Recovery.{last_incarnation}
@@ -14,14 +14,15 @@ use Rattle.journal_at.specs.declared.records.Records.{Records}
 use Rattle.journal_at.specs.declared.version.Version.{Version}
 use Rattle.journal_at.specs.declared.version.Version.TheVariants.{One, Two}
 use Rattle.journal_at.specs.Format.{records_of}
-use Rattle.journal_at.specs.Loads.{Fails, Loads, Spent, shuts, shuts_if, syncs}
+use Rattle.journal_at.specs.Loads.{Fails, FailsAt, Loads, Spent, shuts, shuts_if, syncs}
+use Rattle.journal_at.specs.Loads.FailsAt.{sync, read, gate}
 use Rattle.journal_at.specs.Pairs.{Holds}
 use Rattle.journal_at.specs.Scans.{records_in}
 use Rattle.journal_at.specs.StandingBodies.{Counted}
 use Rattle.record_bytes.specs.Bytes.{bytes_of}
 use Rattle.site_model.specs.Counts.{capped}
 use Rattle.site_model.specs.Site.{Counts as Numbers}
-use Rattle.site_model.specs.Told.{Told, Files, done, sent_by}
+use Rattle.site_model.specs.Told.{Told, Files, Made, done, sent_by}
 use Rattle.node_at.specs.declared.fault.StartFault.{StartFault}
 use Rattle.node_at.specs.declared.fault.StartFault.TheVariants as faults
 use Rattle.node_at.specs.declared.opened_journal.Opened.{Opened}
@@ -82,7 +83,8 @@ begins_on rs n r before after j old mid new e first behind limit then kept live 
       goes = goes_then (carrying before.version rs before.journal) calls (Either before.version rs more) (Either Two more (started before.version rs)) (OnTheWay before.version rs) tt r old mid new
           first.goes now.goes (carried_first before.version rs) (λ c z. inr z);
       holds = now.holds;
-      live = on_ok r live (λ z. (sym z, behind));
+      behind = behind;
+      live = on_ok r live (λ z. sym z);
       kept = subst (λ z. OnOk r (known after.kept ≡ kept_of Two (more ++ records.Start z ∷ []))) e kept;
       limit = same ∙ limit;
     }
@@ -95,11 +97,15 @@ begins_not rs e before after old new first limit =
     record {
       file = before.journal.live;
       goes = goes_no_further (carrying before.version rs before.journal) (append_calls before.journal.live (end_of more) (bytes_of (start_after rs))) (Either before.version rs more) (OnTheWay before.version rs) e old new first.goes (carried_first before.version rs);
+      behind = put before.version;
       holds = tt;
       live = tt;
       kept = tt;
       limit = limit;
-    }
+    } where
+      put : (version : Version) → IsLiveBehind version before.journal before.journal.live
+      put Two = refl
+      put One = λ e. refl
 
 -- reading
 spent_counted : (old new : Told) → Spent old new → Counted old new
@@ -133,6 +139,7 @@ gathers_opened o j fs limit old new (version, journal, folded, is_kept) (h, sure
       found = record { is = λ f told. record { texts = records_in fs; is = h.is f told; are = folded.are } };
       when = h.when;
       bodies = h.bodies;
+      live = h.held;
       of = h.version;
       are = are;
       end = h.keeps.end;
@@ -186,6 +193,11 @@ gathered (Err faults.Disk) j fs limit old new g h = absurd g
 gathered (Err faults.Spent) j fs limit old new g h = absurd g
 gathered (Err faults.Full) j fs limit old new g h = absurd g
 
+fails_silent : (made : List Made) (old : Told) → FailsAt made old → sent_by made ≡ []
+fails_silent made old (sync off) = disk_breaks syncs made (opening_disk false) off
+fails_silent made old (read e) = ap sent_by e ∙ disk_silent syncs (opening_disk false)
+fails_silent made old (gate empty off) = disk_breaks (syncs ++ shuts) made (opening_disk true) off
+
 pub load_failed : (e : LoadFault) (limit : ℕ) (old new : Told) → Fails e old new → CannotStart (load_fault e) limit old new
 load_failed loads.NoMemory limit old new h = record {
   cause = tt;
@@ -201,7 +213,7 @@ load_failed loads.Disk limit old new h = record {
   cause = inl h.cause;
   made = h.made;
   ends = inl h.ends;
-  silent = disk_breaks (syncs ++ shuts) h.made (opening_disk true) h.ends;
+  silent = fails_silent h.made old h.ends;
   grown = h.grown;
   images = λ c now. inl (h.images c now);
   time = weaker old new _ _ h.time (λ l c p. (p.0, inl p.1));

@@ -45,14 +45,14 @@ pub is_started : (o after : Opened) (base : List ℕ) (limit n : ℕ) (book : Bo
 is_started o after base limit n book old mid new h (is, least, fits) e b =
     let first = syncs ++ shuts_if h.bare in
     let calls : map done first ++ b.goes.made ≡ map done (start_calls h.bare o.version h.rs o.journal after.journal.live) =
-    ap (λ z. map done first ++ z) b.goes.ran ∙ sym (map-append done first (beginning_calls o.version h.rs o.journal b.file)) ∙ ap (λ z. map done (start_calls h.bare o.version h.rs o.journal z)) b.live.0 in
+    ap (λ z. map done first ++ z) b.goes.ran ∙ sym (map-append done first (beginning_calls o.version h.rs o.journal b.file)) ∙ ap (λ z. map done (start_calls h.bare o.version h.rs o.journal z)) b.live in
     record {
       version = o.version;
       rs = h.rs;
       bare = h.bare;
       journal = o.journal;
       was = h.was;
-      live = subst (IsLiveBehind o.version o.journal) b.live.0 b.live.1;
+      live = subst (IsLiveBehind o.version o.journal) b.live b.behind;
       least = least;
       fits = fits;
       book = e ∙ ap (λ z. recover base (carried o.version h.rs ++ records.Start z ∷ [])) is;
@@ -91,8 +91,9 @@ not_next o limit (faults.Bad file place) old mid h x = absurd x
 pub no_room : (o : Opened) (limit : ℕ) (old mid : Told) → Opens o limit old mid → CannotStart faults.NoMemory limit old mid
 no_room o limit old mid h = reads_in o limit old mid h faults.NoMemory tt (inl (inr (h.bare, refl)))
 
-pub begin_failed : (o after : Opened) (limit : ℕ) (e : StartFault) (old mid new : Told) (h : Opens o limit old mid) → Begins {T = Unit {0}} (Err e) h.rs o after mid new → CannotStart e limit old new
-begin_failed o after limit e old mid new h b = on e b.goes.ran b.goes.cause where
+pub begin_failed : (o after : Opened) (limit n : ℕ) (e : StartFault) (old mid new : Told) (h : Opens o limit old mid) → IsNext (Ok n) o.version h.rs limit → Begins {T = Unit {0}} (Err e) h.rs o after mid new
+    → CannotStart e limit old new
+begin_failed o after limit n e old mid new h (is, least, fits) b = on e b.goes.ran b.goes.cause where
   first : List Call
   first = syncs ++ shuts_if h.bare
 
@@ -105,7 +106,7 @@ begin_failed o after limit e old mid new h b = on e b.goes.ran b.goes.cause wher
       record {
         cause = due_then {T = Unit {0}} (Err faults.Disk) old mid new h.counted due;
         made = map done first ++ b.goes.made;
-        ends = inr (h.bare, o.version, h.rs, o.journal, b.file, h.was, off);
+        ends = inr (record { bare = h.bare; version = o.version; rs = h.rs; journal = o.journal; file = b.file; was = h.was; behind = b.behind; least = least; ended = off });
         silent = disk_breaks (first ++ behind) (map done first ++ b.goes.made) (start_disk h.bare o.version h.rs o.journal b.file) off;
         grown = grown_then old.calls mid.calls new.calls (map done first) b.goes.made h.grown b.goes.grown;
         images = λ c now. inr (o.version, h.rs, h.was.found, b.goes.images c now);
@@ -120,7 +121,7 @@ begin_failed o after limit e old mid new h b = on e b.goes.ran b.goes.cause wher
       record {
         cause = tt;
         made = map done first ++ b.goes.made;
-        ends = inr (h.bare, o.version, h.rs, o.journal, b.file, h.was, first ++ front, rest, e1, e2);
+        ends = inr (record { bare = h.bare; version = o.version; rs = h.rs; journal = o.journal; file = b.file; was = h.was; behind = b.behind; least = least; ended = (first ++ front, rest, e1, e2) });
         silent = disk_some (first ++ behind) (first ++ front) rest (map done first ++ b.goes.made) (start_disk h.bare o.version h.rs o.journal b.file) e1 e2;
         grown = grown_then old.calls mid.calls new.calls (map done first) b.goes.made h.grown b.goes.grown;
         images = λ c now. inr (o.version, h.rs, h.was.found, b.goes.images c now);

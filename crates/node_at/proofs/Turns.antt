@@ -1,11 +1,11 @@
 -- A turn, put together.
-use Rattle.std.proofs.Common.{ℕ, List, [], ◌∷◌, ◌++◌, ◌≡◌, ◌≤◌, ◌⊎◌, inl, inr, ⊎_elim, Bool, true, false, Option, Some, None, Result, Ok, Err, refl, sym, ◌∙◌, ap, subst, true≢false, arith}
+use Rattle.std.proofs.Common.{ℕ, List, [], ◌∷◌, ◌++◌, ◌+◌, ◌≡◌, ◌≤◌, ◌⊎◌, inl, inr, ⊎_elim, Bool, true, false, Option, Some, None, Result, Ok, Err, refl, sym, ◌∙◌, ap, subst, true≢false, arith}
 use Rattle.std.proofs.lemmas.List.{append-nil}
 use Rattle.at_base.specs.declared.event.Event.{Event}
 use Rattle.at_base.specs.declared.event.Event.TheVariants as events
 use Rattle.at_model.specs.Book.{Book}
 use Rattle.at_model.specs.Step.{Outcome, plan, step}
-use Rattle.http_post.specs.Conversations.{Hears as Heard, IsSaid}
+use Rattle.http_post.specs.Conversations.{Hears as Heard, IsSaid, IsUnsaid, said}
 use Rattle.site_model.specs.Calls.{Closes, Reads, Takes}
 use Rattle.site_model.specs.Counts.{Rose}
 use Rattle.site_model.specs.Site.{Counts as Numbers, Took}
@@ -22,9 +22,10 @@ use Rattle.node_at.specs.Dues.{DueRun, is_some_step}
 use Rattle.node_at.specs.Meanings.{Hears, IsFit, Meaning, first_of, next_input, open_input}
 use Rattle.node_at.specs.Meanings.Meaning.{Refused, Steps, Lost}
 use Rattle.node_at.specs.Refusals.{RanOne, Refuses}
+use Rattle.node_at.specs.Sends.{Counts}
 use Rattle.node_at.specs.State.{IsNode, State}
 use Rattle.node_at.specs.Steps.{Keeping, Steps as Stepping, status_in}
-use Rattle.node_at.specs.Turns.{Cut, IsLine, Opens, Serves, Turns, Whole, Works, busy, calm, is_heard, line_of, turned_by}
+use Rattle.node_at.specs.Turns.{Cut, IsLine, Opens, Serves, Turns, Whole, Works, busy, calm, is_heard, line_of, lost_in, turned_by, unsaid_in}
 use Rattle.node_at.specs.Turns.Begun.{none, some}
 use Rattle.node_at.specs.TurnText.{DueSteps, IsFirst, TurnStep, refusing}
 use Rattle.node_at.specs.TurnText.Steppings.{asked, unasked}
@@ -238,6 +239,55 @@ line_since input b old mid new made h same = record {
   exact = λ is bytes e. let (waits, (k, said)) = h.exact is bytes e in (waits, (k, subst (λ z. IsSaid waits z new.counts.link made) same said));
 }
 
+-- a line that wasn't said is counted
+line_counted : (waits : Bool) (before now : ℕ) (made : List Made) → before ≤ now → IsSaid waits before now made → Counts (unsaid_in made) before now
+line_counted waits before now made later h less = either h where
+  none : (waits : Bool) → unsaid_in (said waits) ≡ 0
+  none true = refl
+  none false = refl
+
+  one : (waits : Bool) → IsUnsaid waits made → unsaid_in made ≤ 1
+  one true k = ⊎_elim (λ e. let u = ap unsaid_in e in omega (arith, u)) (λ e. let u = ap unsaid_in e in omega (arith, u)) k
+  one false k = absurd k
+
+  either : IsSaid waits before now made → before + unsaid_in made ≤ now
+  either (inl e) = let u = ap unsaid_in e ∙ none waits in omega (arith, u, later)
+  either (inr (k, rose)) = let u = one waits k in omega (arith, u, rose, less)
+
+-- beside what is lost behind it
+counted_then : (lost unsaid old heard timed done new : ℕ) → Counts unsaid old heard → heard ≤ timed → Counts lost timed done → timed ≤ done → done ≤ new → Counts (unsaid + lost) old new
+counted_then lost unsaid old heard timed done new first a then b c less =
+    let x = first (omega (arith, a, b, c, less)) in
+    let y = then (omega (arith, c, less)) in
+    omega (arith, a, x, y, c)
+
+counted_behind : (result : Turned) (unsaid : ℕ) (made : List Made) (meaning : Meaning) (now : ℕ) (n m : State) (old heard timed done new : Told)
+    (does : Does (line_of made) n.journal n.journal old timed) (begun : NoLess old.counts timed.counts) (works : Works result [] meaning now n m timed done) (still : Still done new) (closed : NoLess done.counts new.counts)
+    → Counts unsaid old.counts.link heard.counts.link → heard.counts.link ≤ timed.counts.link
+    → Counts (unsaid + lost_in result (line_of made) meaning now n m old new
+    (works_last result (line_of made) meaning now n m old done new (works_behind result made meaning now n m old timed done does begun works) still closed)) old.counts.link new.counts.link
+unfolding works_last works_behind
+counted_behind (turneds.Served status) unsaid made meaning now n m old heard timed done new does begun works still closed first read =
+    counted_then _ unsaid _ _ _ _ _ first read works.0.ran.lost works.0.ran.later.link closed.link
+counted_behind turneds.Ticked unsaid made meaning now n m old heard timed done new does begun works still closed first read =
+    counted_then _ unsaid _ _ _ _ _ first read works.0.ran.lost works.0.ran.later.link closed.link
+counted_behind turneds.NoRoom unsaid made meaning now n m old heard timed done new does begun works still closed first read =
+    counted_then _ unsaid _ _ _ _ _ first read works.ran.lost works.ran.later.link closed.link
+counted_behind turneds.Halted unsaid made meaning now n m old heard timed done new does begun works still closed first read =
+    counted_then 0 unsaid _ _ timed.counts.link done.counts.link _ first read (λ less. let k = works.later.link in omega (arith, k)) works.later.link closed.link
+counted_behind turneds.Closed unsaid made meaning now n m old heard timed done new does begun works still closed first read = absurd works
+counted_behind turneds.LinkDown unsaid made meaning now n m old heard timed done new does begun works still closed first read = absurd works
+
+lost_first : (result : Turned) (ls : List Doing) (meaning : Meaning) (now : ℕ) (n m : State) (old mid new : Told) (still : Still old mid) (later : NoLess old.counts mid.counts) (works : Works result ls meaning now n m mid new)
+    → lost_in result ls meaning now n m old new (works_first result ls meaning now n m old mid new still later works) ≡ lost_in result ls meaning now n m mid new works
+unfolding works_first
+lost_first (turneds.Served status) ls meaning now n m old mid new still later works = refl
+lost_first turneds.Ticked ls meaning now n m old mid new still later works = refl
+lost_first turneds.NoRoom ls meaning now n m old mid new still later works = refl
+lost_first turneds.Halted ls meaning now n m old mid new still later works = refl
+lost_first turneds.Closed ls meaning now n m old mid new still later works = absurd works
+lost_first turneds.LinkDown ls meaning now n m old mid new still later works = absurd works
+
 -- A connection that is open.
 pub serves_so : (result : Turned) (role : Role) (meaning : Meaning) (now : ℕ) (n m : State) (old heard timed done new : Told) → Hears role (open_input old.link) meaning → IsFit meaning
     → (meaning ≡ Lost → Rose old.counts.receive heard.counts.receive) → ((meaning ≡ Lost → ⊥) → heard.counts.receive ≡ old.counts.receive)
@@ -261,6 +311,9 @@ serves_so result role meaning now n m old heard timed done new h fit lost receiv
       received = λ e. ap (λ (z : Numbers). z.receive) closes.counts ∙ since ∙ ap (λ (z : Numbers). z.receive) reads.counts ∙ received e;
       works = works_last result (line_of made) meaning now n m old done new
           (works_behind result made meaning now n m old timed done line_said begun works) closes.still closed;
+      counted = λ is bytes e.
+          let (waits, (k, said)) = line.exact is bytes e in
+          counted_behind result (unsaid_in made) made meaning now n m old heard timed done new line_said begun works closes.still closed (line_counted waits _ _ made later.link said) read.link;
       later = no_less_then old.counts heard.counts new.counts later rest;
     }
 
@@ -326,6 +379,9 @@ opens_so result role n m old mid new takes h =
         lost = λ e. subst (λ z. Rose z new.counts.receive) same (h.lost e);
         received = λ e. h.received e ∙ same;
         works = works_first result (line_of h.made) h.meaning h.now (calm n) m old mid new takes.still later h.works;
+        counted = λ is bytes e.
+            subst (λ z. Counts z old.counts.link new.counts.link) (ap (λ z. unsaid_in h.made + z) (sym (lost_first result (line_of h.made) h.meaning h.now (calm n) m old mid new takes.still later h.works)))
+            (subst (λ z. Counts (unsaid_in h.made + lost_in result (line_of h.made) h.meaning h.now (calm n) m mid new h.works) z new.counts.link) kept (h.counted is bytes (input ∙ e)));
         later = no_less_then old.counts mid.counts new.counts later h.later;
       };
       taken = let a = takes.counts.counted.0.at_least in let b = h.later.taken in omega (arith, a, b);

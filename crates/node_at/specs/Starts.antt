@@ -18,8 +18,8 @@ use Rattle.journal_at.specs.declared.records.Records.{Records}
 use Rattle.journal_at.specs.declared.version.Version.{Version}
 use Rattle.journal_at.specs.declared.version.Version.TheVariants.{One, Two}
 use Rattle.journal_at.specs.Format.{frames, head_of, mark_body, records_of}
-use Rattle.journal_at.specs.Loads.{IsBare, IsJudged, Lasts, shuts, shuts_if, syncs}
-use Rattle.journal_at.specs.Pairs.{FilesOf, Holds}
+use Rattle.journal_at.specs.Loads.{FailsAt, IsBare, IsJudged, Lasts, shuts_if, syncs}
+use Rattle.journal_at.specs.Pairs.{FilesOf, HasLive, Holds}
 use Rattle.journal_at.specs.Frames.{ArePlaced}
 use Rattle.journal_at.specs.Scans.{records_in}
 use Rattle.journal_at.specs.StandingBodies.{Counted, Keeps, lay, raise}
@@ -157,8 +157,9 @@ beginning_calls version rs journal file =
 pub record Begins {T : Type 0} (result : Result T StartFault) (rs : List Record) (before after : Opened) (old new : Told) : Type 0 where
   pub file : ℕ
   pub goes : Goes (beginning_calls before.version rs before.journal file) (OnTheWay before.version rs) result old new
+  pub behind : IsLiveBehind before.version before.journal file
   pub holds : OnOk result (IsOpen Two (started before.version rs) after.journal new)
-  pub live : OnOk result ((file ≡ after.journal.live) × IsLiveBehind before.version before.journal file)
+  pub live : OnOk result (file ≡ after.journal.live)
   pub kept : OnOk result (known after.kept ≡ kept_of Two (started before.version rs))
   pub limit : after.journal.limit ≡ before.journal.limit
 
@@ -191,6 +192,7 @@ pub record IsRead (bare : Bool) (version : Version) (rs : List Record) (journal 
   pub found : Found version rs old
   pub when : (f : Files) → Is old.files f → (bare ≡ true) ↔ IsBare journal f
   pub bodies : List (List ℕ)
+  pub live : (f : Files) → Is old.files f → HasLive journal.live bodies f
   pub of : (head_of bodies).version ≡ version
   pub are : AreRecords version rs (records_of bodies)
   pub end : journal.end ≡ length (frames bodies)
@@ -200,16 +202,26 @@ pub record IsRead (bare : Bool) (version : Version) (rs : List Record) (journal 
 abbrev pub OnlyReads : List Made → Type 0
 OnlyReads made = (made ≡ map done syncs) ⊎ ((bare : Bool) × (made ≡ map done (syncs ++ shuts_if bare)))
 
+-- the journal was read, and some of the calls of a start were made, its Start's into that file
+pub record BeganTo (calls : List Call → Type 0) (old : Told) : Type 0 where
+  pub bare : Bool
+  pub version : Version
+  pub rs : List Record
+  pub journal : Journal
+  pub file : ℕ
+  pub was : IsRead bare version rs journal old
+  pub behind : IsLiveBehind version journal file
+  pub least : last_incarnation rs < 4294967295
+  pub ended : calls (start_calls bare version rs journal file)
+
+-- all of them before one, and no more
+abbrev pub MadeSome : List Made → List Call → Type 0
+MadeSome made calls = (front rest : List Call) × (calls ≡ front ++ rest) × (made ≡ map done front)
+
 -- where a start that failed ended
 abbrev pub Ends : StartFault → List Made → Told → Type 0
-Ends Disk made old =
-    BreaksOff (syncs ++ shuts) made
-    ⊎ ((bare : Bool) × (version : Version) × (rs : List Record) × (journal : Journal) × (file : ℕ) × IsRead bare version rs journal old
-    × BreaksOff (start_calls bare version rs journal file) made)
-Ends NoMemory made old =
-    OnlyReads made
-    ⊎ ((bare : Bool) × (version : Version) × (rs : List Record) × (journal : Journal) × (file : ℕ) × IsRead bare version rs journal old
-    × (front rest : List Call) × (start_calls bare version rs journal file ≡ front ++ rest) × (made ≡ map done front))
+Ends Disk made old = FailsAt made old ⊎ BeganTo (λ calls. BreaksOff calls made) old
+Ends NoMemory made old = OnlyReads made ⊎ BeganTo (MadeSome made) old
 Ends other made old = OnlyReads made
 
 -- what a crash leaves in a start: what it might have left before, or what stands for what the files did, or for that on

@@ -1,5 +1,5 @@
 -- What a node's turn leaves: its steps, their records and what was sent, and at each moment those of a prefix of them.
-use Rattle.std.specs.Prelude.{ℕ, List, [], ◌∷◌, ◌++◌, ◌≡◌, ◌⊎◌, Bool, true, false, Option, Some, None, option_map, map, length}
+use Rattle.std.specs.Prelude.{ℕ, List, [], ◌∷◌, ◌++◌, ◌+◌, ◌≡◌, ◌⊎◌, Bool, true, false, Option, Some, None, if◌then◌else◌, option_map, map, length}
 use Rattle.at_base.specs.declared.event.Event.{Event}
 use Rattle.at_base.specs.declared.event.Event.TheVariants as events
 use Rattle.at_base.specs.declared.record.Record.{Record}
@@ -14,10 +14,11 @@ use Rattle.record_bytes.specs.Bytes.{bytes_of}
 use Rattle.record_bytes.specs.Versions.{IsRecord}
 use Rattle.site_model.specs.Counts.{Rose}
 use Rattle.site_model.specs.Told.{Told, Link, Made, Still}
-use Rattle.node_at.specs.Doings.{Doing, NoLess, Ran, calls_of, deeds_of}
+use Rattle.node_at.specs.Doings.{Doing, NoLess, Ran, calls_of, deeds_of, lost_of}
 use Rattle.node_at.specs.Meanings.{Hears, IsFit, Meaning, next_input}
 use Rattle.node_at.specs.Meanings.Meaning.{Refused, Steps, Lost, Unread}
 use Rattle.node_at.specs.Moments.{Moments}
+use Rattle.node_at.specs.Sends.{Counts}
 use Rattle.node_at.specs.State.{State}
 use Rattle.node_at.specs.Texts.{call_by}
 use Rattle.node_at.specs.TurnText.{IsFirst, Steppings, TurnStep, refusing}
@@ -115,7 +116,22 @@ Works turneds.Halted lines meaning now n m old new = Halts lines meaning now n m
 Works turneds.Closed lines meaning now n m old new = ⊥
 Works turneds.LinkDown lines meaning now n m old new = ⊥
 
--- What a turn over an open connection that brings this did. The clock is asked once.
+-- how many answers and posts of its steps were lost
+abbrev pub lost_in : (result : Turned) (lines : List Doing) (meaning : Meaning) (now : ℕ) (n m : State) (old new : Told) → Works result lines meaning now n m old new → ℕ
+lost_in (turneds.Served status) lines meaning now n m old new works = lost_of works.0.doings
+lost_in turneds.Ticked lines meaning now n m old new works = lost_of works.0.doings
+lost_in turneds.NoRoom lines meaning now n m old new works = lost_of works.doings
+lost_in turneds.Halted lines meaning now n m old new works = 0
+lost_in turneds.Closed lines meaning now n m old new works = 0
+lost_in turneds.LinkDown lines meaning now n m old new works = 0
+
+-- the calls of the line that failed
+abbrev pub unsaid_in : List Made → ℕ
+unsaid_in [] = 0
+unsaid_in (m ∷ ms) = (if m.done then 0 else 1) + unsaid_in ms
+
+-- What a turn over an open connection that brings this did. The clock is asked once. Where a request was there, a line that
+-- wasn't said is counted beside the answers and posts that were lost.
 pub record Serves (result : Turned) (role : Role) (input : Option (List ℕ)) (n m : State) (old new : Told) : Type 0 where
   pub meaning : Meaning
   pub heard : Hears role input meaning
@@ -127,6 +143,7 @@ pub record Serves (result : Turned) (role : Role) (input : Option (List ℕ)) (n
   pub lost : meaning ≡ Lost → Rose old.counts.receive new.counts.receive
   pub received : (meaning ≡ Lost → ⊥) → new.counts.receive ≡ old.counts.receive
   pub works : Works result (line_of made) meaning now n m old new
+  pub counted : is_heard meaning ≡ true → (bytes : List ℕ) → input ≡ Some bytes → Counts (unsaid_in made + lost_in result (line_of made) meaning now n m old new works) old.counts.link new.counts.link
   pub later : NoLess old.counts new.counts
 
 -- a request was there, and was answered

@@ -125,11 +125,11 @@ module _ (count : ℕ) (w : World) (n : ℕ) (there : IsThere count n) (raw : Li
       by_rest true p zero e = (there, (least, grind (arith, nat_tests, p), refl, refl, started))
       by_rest true p (suc k) e = let most : a.call ≤ start_calls = grind (arith, nat_tests, p) in absurd (omega (arith, most, e))
       by_rest false p zero e = let more : start_calls < a.call = grind (arith, nat_tests, p) in absurd (omega (arith, more, e))
-      by_rest false p (suc k) e = (there, inl (refl, refl))
+      by_rest false p (suc k) e = (there, inl (refl, refl, λ x found. (started x found).1))
 
       by_up : (u : Bool) → is_some (incarnation_at w n) ≡ u → (within : Bool) → nat_le a.call start_calls ≡ within → IsPossible count w (struck_so within) raw (came (behind_up a u) a)
       by_up true e true p = (there, inr (is_up e))
-      by_up true e false p = (there, inl (refl, refl))
+      by_up true e false p = (there, inr (is_up e))
       by_up false e within p = by_rest within p (a.call - start_calls) refl
 
       by_first : (f : Option Bool) → IsPossible count w (struck_so (nat_le a.call start_calls)) raw (came (behind_up a (is_some (incarnation_at w n))) a)

@@ -2,13 +2,13 @@
 use Rattle.std.proofs.Common.{ℕ, zero, suc, ◌+◌, ◌-◌, ◌<◌, ◌≤◌, ◌≡◌, refl, List, [], ◌∷◌, ◌++◌, length, ap, ◌∙◌, sym, subst, arith, inl, Bool, true, false}
 use Rattle.std.specs.Prelude.{Option, Some, None, ◌&&◌, if◌then◌else◌, is_some, nat_eq, nat_le, option_and_then, option_map, replicate, slice_get, slice_set}
 use Rattle.std.proofs.lemmas.Bool.{eqb-false, eqb-true}
-use Rattle.std.proofs.lemmas.List.{append-nil, append_assoc, length-append}
+use Rattle.std.proofs.lemmas.List.{append-nil, append_assoc}
 use Rattle.armed_calls.specs.Faults.{armed_behind, raw_at, record_stands, start_calls, still_armed, struck, struck_line}
 use Rattle.armed_calls.specs.declared.fault.Armed.{Armed}
 use Rattle.at_base.specs.declared.event.Local.{Local}
 use Rattle.at_base.specs.declared.event.Local.TheVariants as locals
 use Rattle.at_model.specs.Views.{request, up}
-use Rattle.at_model.specs.World.{Crash, Deliver, Input, Posted, Raw, Tick, Turn, Up, World, WorldEvent, example_base, example_hosts, node_of, nth, opening, run_of, world_step}
+use Rattle.at_model.specs.World.{Crash, Deliver, Input, Posted, Raw, Tick, Turn, Up, World, WorldEvent, example_base, example_hosts, node_of, nth, opening, world_step}
 use Rattle.model_laws.specs.DrawnIds.{IdsStayDrawn}
 use Rattle.model_laws.specs.Growth.{TakesNothingBack}
 use Rattle.model_laws.specs.Laws.{StepsKeepPlace}
@@ -33,9 +33,8 @@ use Rattle.world_laws.specs.Runs.{IsFit, incarnation_at}
 use Rattle.possible_courses.specs.PossibleCourses.{CoursesArePossible, IsPossibleCourse}
 use Rattle.possible_courses.specs.ScheduleLines.{AreWithin, IsWithin}
 use Rattle.possible_courses.proofs.ArmedEvents.{ask_strikes, behind_numbered, came, line_strikes, takes_none, turn_strikes, up_strikes, whole_rest}
-use Rattle.possible_courses.proofs.Incarnations.{AreEarly, early_on, opening_early}
 use Rattle.possible_courses.proofs.PossibleRests.{none_in, settle_possible}
-use Rattle.possible_courses.proofs.PossibleRuns.{IsPossibleRun, MayCome, calm_up, delivery_comes, opening_possible, step_possible, step_without, tick_comes}
+use Rattle.possible_courses.proofs.PossibleRuns.{IsPossibleRun, MayCome, ModelLaws, calm_up, delivery_comes, opening_possible, step_possible, step_without, tick_comes}
 use Rattle.possible_courses.proofs.StartedNodes.{HasBegun, IsFresh, begun_on, begun_started, opening_fresh, up_begins, up_others}
 
 -- each call that is armed is numbered from 1
@@ -67,13 +66,11 @@ arm_numbered armed n o are is m a e = by_place armed (n - 1) (m - 1) (are m a) e
 none_numbered : (a : Armed) → None ≡ Some a → 1 ≤ a.call
 none_numbered a e = absurd cc
 
--- Each event was possible where it came, the calls that are armed are numbered from 1, and every node has started, none more often than there were
--- events.
+-- Each event was possible where it came, the calls that are armed are numbered from 1, and every node has started.
 record IsOnAt (count : ℕ) (w : World) (es : List WorldEvent) (raws : List (List ℕ)) (met armed : List (Option Armed)) : Type 0 where
   run : IsPossibleRun count w es raws met
   numbered : AreArmed armed
   started : (n : ℕ) → IsThere count n → HasBegun w n
-  early : AreEarly (length es) w
 
 -- an input that brings a message, or lets no more time go by than the longest tick
 abbrev IsPlain : Input → Type 0
@@ -91,26 +88,7 @@ plain_short n (Deliver k) fates until h = omega arith
 plain_short n (Tick ms) fates until h = h
 plain_short n Raw fates until h = absurd h
 
--- What the laws of the model say.
-record ModelLaws : Type 0 where
-  ids : IdsRise
-  moves : ChangesByMoves
-  back : TakesNothingBack
-  drawn : IdsStayDrawn
-  place : StepsKeepPlace
-  lives : MakesNoIdTwice
-
 module _ (count : ℕ) (small : count ≤ 8) (laws : ModelLaws) where
-  ids : IdsRise
-  ids = laws.ids
-
-  moves : ChangesByMoves
-  moves = laws.moves
-
-  early_more : (w : World) (es : List WorldEvent) (e : WorldEvent) → w ≡ run_of (example_hosts count) es → AreEarly (length es) w → AreEarly (length (es ++ e ∷ [])) (world_step w e)
-  early_more w es e run h =
-      subst (λ k. AreEarly k (world_step w e)) (sym (length-append es (e ∷ []))) (early_on laws.drawn laws.place laws.lives moves (length es) (example_hosts count) w es e run h)
-
   abbrev IsOn : Course → Type 0
   IsOn c = IsOnAt count c.world c.events c.raws c.met c.armed
 
@@ -123,13 +101,12 @@ module _ (count : ℕ) (small : count ≤ 8) (laws : ModelLaws) where
     run = run;
     numbered = are;
     started = λ n there. begun_on laws.back count w (world_step w e) es (e ∷ []) h.run.run run.run n (h.started n there);
-    early = early_more w es e h.run.run h.early;
   }
 
   -- where no call is armed
   happens_on : (e : WorldEvent) (c : Course) → is_raw e ≡ false → Few c (MayCome count c.world e [] None) → IsOn c → IsOn (happens e c)
   happens_on e c none may h =
-      go_on c.world c.events e c.raws c.raws c.met (c.met ++ None ∷ []) c.armed c.armed h (step_without count ids moves c.world c.events e c.raws c.met None h.run none may) h.numbered
+      go_on c.world c.events e c.raws c.raws c.met (c.met ++ None ∷ []) c.armed c.armed h (step_without count laws c.world c.events e c.raws c.met None h.run none may) h.numbered
 
   -- where one is, of which this is left
   abbrev still_of : Armed → Option Bool → WorldEvent → Course → Option Armed
@@ -156,7 +133,7 @@ module _ (count : ℕ) (small : count ≤ 8) (laws : ModelLaws) where
       → Few c (MayCome count c.world (struck a first e) [] (came (still_of a first e c) a)) → IsOn c → IsOn (meets a first 0 e c)
   struck_on a first e c is none may h =
       meets_on a a first 0 e c c.raws is (h.numbered (node_of e) a is) h
-      (step_without count ids moves c.world c.events (struck a first e) c.raws c.met (came (still_of a first e c) a) h.run none may)
+      (step_without count laws c.world c.events (struck a first e) c.raws c.met (came (still_of a first e c) a) h.run none may)
 
   turn_on : (n : ℕ) (input : Input) (c : Course) → IsPlain input → IsThere count n → Few c (CanCome c.world n input [] 0) → IsOn c → IsOn (comes (Turn n input [] None) c)
   turn_on n input c plain there can h = by_armed (armed_at n c.armed) refl
@@ -221,17 +198,17 @@ module _ (count : ℕ) (small : count ≤ 8) (laws : ModelLaws) where
       by_first : (a : Armed) → armed_at n c.armed ≡ Some a → (f : Option Bool) → IsOn (meets a f 0 (up n) c)
       by_first a is None =
           struck_on a None (up n) c is (brings_none (nat_le a.call start_calls) (record_stands (a.call - 2) a.fault)) (λ few fit. record {
-            possible = up_strikes count c.world n there [] a (h.numbered n a is) (begun_started c.world n (length c.events) few h.early (h.started n there)) None;
+            possible = up_strikes count c.world n there [] a (h.numbered n a is) (begun_started c.world n (length c.events) few h.run.early (h.started n there)) None;
             short = is_short (nat_le a.call start_calls) (record_stands (a.call - 2) a.fault);
           }) h
       by_first a is (Some f) =
           struck_on a (Some f) (up n) c is (brings_none (nat_le a.call start_calls) (record_stands (a.call - 2) a.fault)) (λ few fit. record {
-            possible = up_strikes count c.world n there [] a (h.numbered n a is) (begun_started c.world n (length c.events) few h.early (h.started n there)) (Some f);
+            possible = up_strikes count c.world n there [] a (h.numbered n a is) (begun_started c.world n (length c.events) few h.run.early (h.started n there)) (Some f);
             short = is_short (nat_le a.call start_calls) (record_stands (a.call - 2) a.fault);
           }) h
 
       by_armed : (o : Option Armed) → armed_at n c.armed ≡ o → IsOn (comes_to o 0 (up n) c)
-      by_armed None is = happens_on (up n) c refl (λ few fit. calm_up count c.world n there) h
+      by_armed None is = happens_on (up n) c refl (λ few fit. calm_up count c.world n (length c.events) there few h.run.early) h
       by_armed (Some a) is = by_first a is (first_records c.world (up n))
 
   -- bytes that are no message
@@ -244,7 +221,7 @@ module _ (count : ℕ) (small : count ≤ 8) (laws : ModelLaws) where
 
       goes : (e : WorldEvent) (o : Option Armed) → is_raw e ≡ true → Few c (MayCome count c.world e (bytes ∷ []) o)
           → IsPossibleRun count (world_step c.world e) (c.events ++ e ∷ []) (c.raws ++ bytes ∷ []) (c.met ++ o ∷ [])
-      goes e o raw may = step_possible count ids moves c.world c.events e c.raws (bytes ∷ []) c.met o h.run (ap one_call raw) may
+      goes e o raw may = step_possible count laws c.world c.events e c.raws (bytes ∷ []) c.met o h.run (ap one_call raw) may
 
       -- the armed call, or what is left of it behind the interim line, as that comes in a step or doesn't
       by_first : (v : Bool) → Draws bytes (drawns.Refused s v) → (a d : Armed) → armed_at n c.armed ≡ Some a → d ≡ record a { call = a.call - one_call v } → 1 ≤ d.call
@@ -323,7 +300,6 @@ module _ (count : ℕ) (small : count ≤ 8) (laws : ModelLaws) where
     run = h.run;
     numbered = arm_numbered c.armed n (Some a) h.numbered (λ d e. let same : a ≡ d = cc in subst (λ (x : Armed). 1 ≤ x.call) same least);
     started = h.started;
-    early = h.early;
   }
 
   take_on : (d : Option Drawn) (line : Line) (c : Course) → IsWithin count line → IsDrawn line d → IsOn c → IsOn (taken d line c)
@@ -353,10 +329,10 @@ module _ (count : ℕ) (small : count ≤ 8) (laws : ModelLaws) where
 
   -- the nodes that are to come up
   ups_on : (left n : ℕ) (c : Course) → 1 ≤ n → n + left ≡ count + 1 → IsPossibleRun count c.world c.events c.raws c.met → AreArmed c.armed
-      → AreEarly (length c.events) c.world → ((m : ℕ) → 1 ≤ m → m < n → HasBegun c.world m) → ((m : ℕ) → n ≤ m → m ≤ count → IsFresh c.world m) → IsOn (all_up left n c)
-  ups_on zero n c least most run are early up fresh = record { run = run; numbered = are; started = λ m there. up m there.0 (omega (arith, most, there.1)); early = early }
-  ups_on (suc left) n c least most run are early up fresh =
-      ups_on left (n + 1) (happens (up_event n) c) (omega arith) (omega (arith, most)) more are (early_more c.world c.events (up_event n) run.run early)
+      → ((m : ℕ) → 1 ≤ m → m < n → HasBegun c.world m) → ((m : ℕ) → n ≤ m → m ≤ count → IsFresh c.world m) → IsOn (all_up left n c)
+  ups_on zero n c least most run are up fresh = record { run = run; numbered = are; started = λ m there. up m there.0 (omega (arith, most, there.1)) }
+  ups_on (suc left) n c least most run are up fresh =
+      ups_on left (n + 1) (happens (up_event n) c) (omega arith) (omega (arith, most)) more are
       (λ m one less. by_number m one less (nat_eq m n) refl)
       (λ m past within. up_others c.world n m here (λ e. omega (arith, e, past)) (fresh m (omega (arith, past)) within))
     where
@@ -367,7 +343,7 @@ module _ (count : ℕ) (small : count ≤ 8) (laws : ModelLaws) where
       here = fresh n (omega arith) (omega (arith, most))
 
       more : IsPossibleRun count (world_step c.world (up_event n)) (c.events ++ up_event n ∷ []) c.raws (c.met ++ None ∷ [])
-      more = step_without count ids moves c.world c.events (up_event n) c.raws c.met None run refl (λ few fit. calm_up count c.world n (least, omega (arith, most)))
+      more = step_without count laws c.world c.events (up_event n) c.raws c.met None run refl (λ few fit. calm_up count c.world n (length c.events) (least, omega (arith, most)) few run.early)
 
       by_number : (m : ℕ) → 1 ≤ m → m < n + 1 → (t : Bool) → nat_eq m n ≡ t → HasBegun (world_step c.world (up_event n)) m
       by_number m one less true e = subst (HasBegun (world_step c.world (up_event n))) (sym (eqb-true m n e)) (up_begins c.world n here)
@@ -377,7 +353,7 @@ module _ (count : ℕ) (small : count ≤ 8) (laws : ModelLaws) where
 
   begun_possible : IsOn (begun count)
   begun_possible =
-      ups_on count 1 _ (omega arith) (omega arith) (opening_possible count small) none_armed (opening_early count) (λ m one less. absurd (omega (arith, one, less)))
+      ups_on count 1 _ (omega arith) (omega arith) (opening_possible count small) none_armed (λ m one less. absurd (omega (arith, one, less)))
       (λ m one within. opening_fresh count m (one, within))
 
   -- with the events that bring its world to rest
@@ -403,7 +379,7 @@ module _ (count : ℕ) (small : count ≤ 8) (laws : ModelLaws) where
           → length all ≤ largest → ArePossible count (opening (example_hosts count)) all raws met
       by_parts all raws met is brought told few =
           rw (is, brought, told)
-          (settle_possible count ids moves c.events c.raws c.met c.world h.run (subst (λ (l : List WorldEvent). length l ≤ largest) is few)).possible
+          (settle_possible count laws c.events c.raws c.met c.world h.run (subst (λ (l : List WorldEvent). length l ≤ largest) is few)).possible
 
 pub courses_are_possible : IdsRise → ChangesByMoves → TakesNothingBack → IdsStayDrawn → StepsKeepPlace → MakesNoIdTwice → CoursesArePossible
 courses_are_possible ids moves back drawn place lives settles draws all can within are few = by_settle settles few

@@ -7,16 +7,15 @@ use Rattle.at_base.specs.declared.limits.TheConstants.{RESEND_AFTER}
 use Rattle.at_model.specs.Book.{Book}
 use Rattle.at_model.specs.World.{Node, Posted, World, WorldEvent, example_hosts, nth}
 use Rattle.at_model.specs.Views.{deliver_to, tick_at, up}
-use Rattle.model_laws.specs.Order.{IdsRise}
 use Rattle.model_laws.specs.Settlement.{Settling, all_also, all_up, also, deliver_next, deliveries_from, first_received, most_deliveries, settle, settle_from, settle_round, settle_rounds, settled, ticks, up_if, ups, waiting}
 use Rattle.possible_events.specs.BroughtBytes.{is_raw}
 use Rattle.schedules.specs.Values.{largest}
 use Rattle.settled.proofs.CalmTurns.{FirstAt, first_at}
 use Rattle.settling.proofs.Places.{nth_drop}
 use Rattle.settling.proofs.Runs.{run_length}
-use Rattle.world_laws.specs.Moves.{ChangesByMoves, seen}
+use Rattle.world_laws.specs.Moves.{seen}
 use Rattle.world_laws.specs.Runs.{IsFit}
-use Rattle.possible_courses.proofs.PossibleRuns.{IsPossibleRun, MayCome, WerePossible, calm_delivery, calm_tick, calm_up, step_without}
+use Rattle.possible_courses.proofs.PossibleRuns.{IsPossibleRun, MayCome, ModelLaws, WerePossible, calm_delivery, calm_tick, calm_up, step_without}
 
 -- the first message that has a receiver
 record IsReceived (ps : List Posted) (k n : ℕ) : Type 0 where
@@ -44,7 +43,7 @@ none_more [] [] e = refl
 none_more [] (x ∷ es) e = ap (λ l. None ∷ l) (none_more [] es e)
 none_more (m ∷ ms) es e = ap (λ l. m ∷ l) (none_more ms es e)
 
-module _ (count : ℕ) (ids : IdsRise) (moves : ChangesByMoves) (front : List WorldEvent) (raws : List (List ℕ)) (met : List (Option Armed)) where
+module _ (count : ℕ) (laws : ModelLaws) (front : List WorldEvent) (raws : List (List ℕ)) (met : List (Option Armed)) where
   -- behind the events before it began
   abbrev IsOn : Settling → Type 0
   IsOn s = IsPossibleRun count s.world (front ++ s.events) raws (met ++ none_in s.events)
@@ -54,7 +53,7 @@ module _ (count : ℕ) (ids : IdsRise) (moves : ChangesByMoves) (front : List Wo
   also_on e s h none may =
       subst (λ all. IsPossibleRun count (also e s).world (front ++ (s.events ++ e ∷ [])) raws all) (none_more met s.events e)
       (subst (λ es. IsPossibleRun count (also e s).world es raws ((met ++ none_in s.events) ++ None ∷ [])) (append_assoc front s.events (e ∷ []))
-      (step_without count ids moves s.world (front ++ s.events) e raws (met ++ none_in s.events) None h none may))
+      (step_without count laws s.world (front ++ s.events) e raws (met ++ none_in s.events) None h none may))
 
   nodes_on : (s : Settling) → IsOn s → length s.world.nodes ≡ count
   nodes_on s h = run_length (example_hosts count) s.world (record { events = front ++ s.events; is = h.run })
@@ -64,7 +63,7 @@ module _ (count : ℕ) (ids : IdsRise) (moves : ChangesByMoves) (front : List Wo
   ups_on n (x ∷ xs) s least most h = by_book x.book (λ t k. ups_on (n + 1) xs t (omega arith) (omega (arith, most)) k)
     where
       by_book : (o : Option Book) → ((t : Settling) → IsOn t → IsOn (all_also (ups (n + 1) xs) t)) → IsOn (all_also (up_if n o ++ ups (n + 1) xs) s)
-      by_book None rest = rest (also (up n) s) (also_on (up n) s h refl (λ few fit. calm_up count s.world n (least, omega (arith, most))))
+      by_book None rest = rest (also (up n) s) (also_on (up n) s h refl (λ few fit. calm_up count s.world n (length (front ++ s.events)) (least, omega (arith, most)) few h.early))
       by_book (Some b) rest = rest s h
 
   ticks_on : (n : ℕ) (xs : List Node) (s : Settling) → 1 ≤ n → n + length xs ≤ count + 1 → IsOn s → IsOn (all_also (ticks n xs) s)

@@ -8,6 +8,10 @@ use Rattle.at_base.specs.declared.target.Target.{Target}
 use Rattle.at_model.specs.Views.{deliver_to, tick_at, up}
 use Rattle.at_model.specs.World.{Ask, Crash, Deliver, Posted, Raw, Tick, Turn, Up, World, WorldEvent, example_base, example_hosts, new_nodes, nth, opening, place_of, receiver_of, run_of, run_on, world_step}
 use Rattle.model_laws.specs.Agreement.{IsIn}
+use Rattle.model_laws.specs.DrawnIds.{IdsStayDrawn}
+use Rattle.model_laws.specs.Growth.{TakesNothingBack}
+use Rattle.model_laws.specs.Laws.{StepsKeepPlace}
+use Rattle.model_laws.specs.MadeIds.{MakesNoIdTwice}
 use Rattle.model_laws.specs.Order.{IdsRise}
 use Rattle.model_laws.proofs.Addresses.{place_is}
 use Rattle.possible_events.specs.BroughtBytes.{first_of, is_raw}
@@ -20,6 +24,7 @@ use Rattle.world_laws.specs.Events.{ms_of}
 use Rattle.world_laws.specs.Moves.{ChangesByMoves, seen}
 use Rattle.world_laws.specs.Runs.{IsFit, IsNode}
 use Rattle.world_laws.proofs.RunNodes.{fit_after, opening_fits}
+use Rattle.possible_courses.proofs.Incarnations.{AreEarly, IsEarly, early_on, opening_early}
 
 posted_in : (k : ℕ) (p : Posted) (ps : List Posted) → nth k ps ≡ Some p → IsIn p ps
 posted_in k p [] e = absurd cc
@@ -62,9 +67,12 @@ pub record MayCome (count : ℕ) (w : World) (e : WorldEvent) (given : List (Lis
   pub possible : IsPossible count w e (first_of given) a
   pub short : ms_of e ≤ largest
 
--- a tick, a delivery and a start that no call is to meet
-pub calm_up : (count : ℕ) (w : World) (n : ℕ) → IsThere count n → MayCome count w (up n) [] None
-calm_up count w n there = record { possible = (there, inl (refl, refl)); short = omega arith }
+-- a start behind few events, a tick and a delivery that no call is to meet
+pub calm_up : (count : ℕ) (w : World) (n k : ℕ) → IsThere count n → k < largest → AreEarly k w → MayCome count w (up n) [] None
+calm_up count w n k there few early = record {
+  possible = (there, inl (refl, refl, λ x found. let before : IsEarly k x = all_nth (IsEarly k) n x w.nodes early found in omega (arith, few, before)));
+  short = omega arith;
+}
 
 pub calm_tick : (count : ℕ) (w : World) (n ms ticks : ℕ) → IsThere count n → ms ≤ largest → ticks < largest → IsFit ticks (seen w) → MayCome count w (tick_at n ms) [] None
 calm_tick count w n ms ticks there short few fit = record { possible = (there, (0, tick_comes w n ms ticks short few fit, inl (refl, refl))); short = short }
@@ -116,23 +124,33 @@ run_append : (w : World) (es : List WorldEvent) (e : WorldEvent) → run_on w (e
 run_append w [] e = refl
 run_append w (x ∷ es) e = run_append (world_step w x) es e
 
+-- What the laws of the model say.
+pub record ModelLaws : Type 0 where
+  pub ids : IdsRise
+  pub moves : ChangesByMoves
+  pub back : TakesNothingBack
+  pub drawn : IdsStayDrawn
+  pub place : StepsKeepPlace
+  pub lives : MakesNoIdTwice
+
 module _ (count : ℕ) where
   -- each was possible where it came, and each clock shows no more than so many of the longest ticks
   pub record WerePossible (w : World) (es : List WorldEvent) (raws : List (List ℕ)) (met : List (Option Armed)) : Type 0 where
     pub possible : ArePossible count (opening (example_hosts count)) es raws met
     pub fit : IsFit (length es) (seen w)
 
-  -- A world of a run, of which that holds where its events are few.
+  -- A world of a run, in which no node has started more often than there were events, and of which that holds where these are few.
   pub record IsPossibleRun (w : World) (es : List WorldEvent) (raws : List (List ℕ)) (met : List (Option Armed)) : Type 0 where
     pub run : w ≡ run_of (example_hosts count) es
     pub bytes : raw_count es ≡ length raws
     pub calls : length met ≡ length es
+    pub early : AreEarly (length es) w
     pub were : length es ≤ largest → WerePossible w es raws met
 
   pub opening_possible : count ≤ 8 → IsPossibleRun (opening (example_hosts count)) [] [] []
-  opening_possible small = record { run = refl; bytes = refl; calls = refl; were = λ few. record { possible = tt; fit = opening_fits count small } }
+  opening_possible small = record { run = refl; bytes = refl; calls = refl; early = opening_early count; were = λ few. record { possible = tt; fit = opening_fits count small } }
 
-  module _ (ids : IdsRise) (moves : ChangesByMoves) where
+  module _ (laws : ModelLaws) where
     pub step_possible : (w : World) (es : List WorldEvent) (e : WorldEvent) (raws given : List (List ℕ)) (met : List (Option Armed)) (a : Option Armed) → IsPossibleRun w es raws met
         → one_call (is_raw e) ≡ length given → (length es < largest → IsFit (length es) (seen w) → MayCome count w e given a)
         → IsPossibleRun (world_step w e) (es ++ e ∷ []) (raws ++ given) (met ++ a ∷ [])
@@ -142,6 +160,9 @@ module _ (count : ℕ) where
           run = ap (λ v. world_step v e) r.run ∙ sym (run_append (opening (example_hosts count)) es e);
           bytes = omega (arith, r.bytes, brings, raw_more es e, length-append raws given);
           calls = omega (arith, r.calls, more, length-append met (a ∷ []));
+          early =
+              subst (λ k. AreEarly k (world_step w e)) (sym more)
+              (early_on laws.drawn laws.place laws.lives laws.moves (length es) (example_hosts count) w es e r.run r.early);
           were = λ few.
               let before : WerePossible w es raws met = r.were (omega (arith, more, few)) in
               let is : MayCome count w e given a = may (omega (arith, more, few)) before.fit in
@@ -151,7 +172,7 @@ module _ (count : ℕ) where
                     (subst (λ v. IsPossible count v e (first_of given) a) r.run is.possible);
                 fit =
                     subst (λ k. IsFit k (seen (world_step w e))) (sym more)
-                    (subst (IsFit (length es + 1)) (sym (moves.moved w e)) (fit_after ids e (length es) (seen w) is.short before.fit));
+                    (subst (IsFit (length es + 1)) (sym (laws.moves.moved w e)) (fit_after laws.ids e (length es) (seen w) is.short before.fit));
               };
         }
 

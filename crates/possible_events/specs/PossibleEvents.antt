@@ -75,7 +75,11 @@ Strikes w e lines None fates until = IsUnharmed w e fates until
 Strikes w e lines (Some a) fates until =
     ((1 ≤ a.call) × (a.call ≤ lines) × IsStruckBefore a fates until) ⊎ ((lines < a.call) × IsStruck w e (record a { call = a.call - lines }) fates until)
 
--- The node of that number has started before, and hasn't used all its incarnations.
+-- The node of that number hasn't used all its incarnations.
+abbrev pub HasIncarnations : World → ℕ → Type 0
+HasIncarnations w n = (x : Node) → nth n w.nodes ≡ Some x → last_incarnation x.journal < 4294967295
+
+-- It has started before, and hasn't used all its incarnations.
 abbrev pub HasStarted : World → ℕ → Type 0
 HasStarted w n = (x : Node) → nth n w.nodes ≡ Some x → (x.journal ≡ [] → ⊥) × (last_incarnation x.journal < 4294967295)
 
@@ -83,10 +87,10 @@ HasStarted w n = (x : Node) → nth n w.nodes ≡ Some x → (x.journal ≡ [] �
 abbrev pub IsUpAt : World → ℕ → Type 0
 IsUpAt w n = (x : Node) → nth n w.nodes ≡ Some x → x.book ≡ None → ⊥
 
--- The same of a start, of which all calls are done; or this one comes in it, as it does in the start of a node that has started before. A node that
--- is up makes no call.
+-- The same of a start of a node that has incarnations left, of which all calls are done; or this one comes in it, as it does in the start of a node
+-- that has started before. A node that is up makes no call.
 abbrev pub StrikesStart : World → ℕ → Option Armed → (landed stop : Bool) → Type 0
-StrikesStart w n None landed stop = ((landed ≡ true) × (stop ≡ false)) ⊎ IsUpAt w n
+StrikesStart w n None landed stop = ((landed ≡ true) × (stop ≡ false) × HasIncarnations w n) ⊎ IsUpAt w n
 StrikesStart w n (Some a) landed stop =
     (1 ≤ a.call) × (a.call ≤ start_calls) × (landed ≡ record_stands (a.call - 2) a.fault) × (stop ≡ true) × HasStarted w n
 

@@ -57,4 +57,4 @@ returns-in-Err-begin-clause-starts g c =
     let o = c.in-Ok.opened in
     let n = c.in-Ok-next.incarnation in
     let x = next_in o c.args.limit (Ok n) _ _ h c.in-Ok-next.ensures in
-    begin_failed o c.begin.new.self c.args.limit c.in-Err-begin.fault _ _ _ h (begins_in o c.begin.new.self c.args.limit n _ _ _ _ h x c.in-Err-begin.ensures)
+    begin_failed o c.begin.new.self c.args.limit n c.in-Err-begin.fault _ _ _ h x (begins_in o c.begin.new.self c.args.limit n _ _ _ _ h x c.in-Err-begin.ensures)

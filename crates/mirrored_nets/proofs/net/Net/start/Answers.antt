@@ -1,6 +1,7 @@
 use Rattle.std.proofs.Common.{ap, length, subst, sym, ◌∙◌, ◌≡◌, ◌≤◌, List, ℕ}
 use Rattle.std.specs.Prelude.{None, Some, []}
 use Rattle.at_model.specs.World.{Up, nth}
+use Rattle.mirrored_nets.specs.DueStarts.{CanBegin}
 use Rattle.mirrored_nets.specs.Seen.{Seen}
 use Rattle.mirrored_nets.specs.StruckStarts.{IsMarked}
 use Rattle.mirrored_nets.proofs.NetEvents.{down_node, rests_up, seen_by, serve_on, starts, still_isnt, up_at}
@@ -38,8 +39,10 @@ returns-in_err-host-clause-possible c = λ raw possible.
     let down : c.in_ok-taken.field-0.node ≡ None = down_node c.self.inside.hosts.items c.args.number c.in_ok-is_up.field-0 c.in_ok-taken.field-0
     (up_at c.self.inside.hosts.items c.as_slice.result.now c.args.number c.in_ok-is_up.field-0 c.as_slice.ensures.value c.in_ok-is_up.ensures.up) c.in_ok-taken.ensures.here c.if-branch.false in
     still_isnt c.in_err-host.field-0.0 c.from_residual-in_err-host.result c.from_residual-in_err-host.ensures.1
-    (start_can c.down_are_marked.ensures c.args.self c.args.number c.args.landed c.args.stop raw c.args.armed possible c.in_ok-taken.field-0 here down c.in_err-host.ensures.done
-    (λ a last armed marked. c.in_err-host.ensures.struck a last armed (subst (IsMarked last) (sym c.into_parts-node.ensures.1) marked)))
+    (start_can c.down_are_marked.ensures c.down_can_begin.ensures c.args.self c.args.number c.args.landed c.args.stop raw c.args.armed possible c.in_ok-taken.field-0 here down (c.requires c.in_ok-taken.field-0 here) (λ can. c.in_err-host.ensures.done (subst CanBegin (sym c.into_parts-node.ensures.1) can))
+    (λ a last armed marked can. c.in_err-host.ensures.struck a last armed
+    (there_ready c.args.number c.self.inside.hosts.items c.in_ok-taken.field-0 c.into_parts-node.result.1 c.self.invariant c.in_ok-taken.ensures.here c.into_parts-node.ensures.1)
+    (subst (IsMarked last) (sym c.into_parts-node.ensures.1) marked) (subst CanBegin (sym c.into_parts-node.ensures.1) can)))
 
 pub returns-in_err-put_host-clause-possible : goal.returns-in_err-put_host-clause-possible
 returns-in_err-put_host-clause-possible c = λ raw possible.

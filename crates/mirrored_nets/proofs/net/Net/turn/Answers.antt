@@ -81,15 +81,15 @@ returns-in_err-host-clause-possible c = λ possible.
     let brought : IsBrought (map mail_of c.args.self.letters) c.args.number (input_of c.args.input) c.in_ok-brought.brought.lines c.in_ok-brought.brought.bytes.items =
     subst (λ (l : List Letter). IsBrought (map mail_of l) c.args.number (input_of c.args.input) c.in_ok-brought.brought.lines c.in_ok-brought.brought.bytes.items)
     (c.as_slice-4.ensures.value ∙ ap (λ (s : Seen). s.letters) c.self.view_is) c.in_ok-brought.ensures.brought in
-    let struck : IsStruckTurn c.args.number c.in_ok-count.count c.in_ok-brought.brought.lines c.in_ok-brought.brought.bytes.items c.in_ok-node.node c.set.result c.spoken-armed.result c.args.fates.now c.args.until =
-    struck_turn c.bytes_wait_or_not.ensures c.args.self c.args.number c.in_ok-count.count (input_of c.args.input) c.args.fates.now c.args.until c.args.raw.now c.args.armed c.spoken-armed.result possible
+    let struck : IsStruckTurn c.args.number c.in_ok-count.count c.in_ok-brought.brought.lines c.in_ok-brought.brought.bytes.items c.in_ok-node.node c.set.result c.args.armed c.args.fates.now c.args.until =
+    struck_turn c.bytes_wait_or_not.ensures c.args.self c.args.number c.in_ok-count.count (input_of c.args.input) c.args.fates.now c.args.until c.args.raw.now c.args.armed possible
     (c.in_ok-count.ensures.count ∙ ap (λ (l : List Host). length l) (c.as_slice-2.ensures.value ∙ ap (λ (s : Seen). s.hosts) c.self.view_is)) there.0 here c.in_ok-node.node there.2 c.in_ok-clock.clock c.in-Some.now
     clock c.in_ok-brought.brought.lines c.in_ok-brought.brought.bytes.items brought c.in_ok-brought.ensures.given c.in_ok-node.site c.set.result there.3
     (c.in-Some.ensures.1 ∙ ap (λ k. c.in_ok-clock.clock + k) c.ms_of.ensures) c.set.ensures.set
-    (c.set.ensures.told (there_ready c.args.number c.self.inside.hosts.items there.0 c.in_ok-node.site c.self.invariant there.1 there.3)) c.spoken-armed.ensures in
+    (c.set.ensures.told (there_ready c.args.number c.self.inside.hosts.items there.0 c.in_ok-node.site c.self.invariant there.1 there.3)) in
     still_isnt c.in_err-host.field-0.0 c.from_residual-in_err-host.result c.from_residual-in_err-host.ensures.1
     (c.in_err-host.ensures.possible
-    (subst (λ (b : List ℕ). IsStruckTurn c.args.number c.in_ok-count.count c.in_ok-brought.brought.lines b c.in_ok-node.node c.set.result c.spoken-armed.result c.args.fates.now c.args.until) (sym c.as_slice-5.ensures.value) struck))
+    (subst (λ (b : List ℕ). IsStruckTurn c.args.number c.in_ok-count.count c.in_ok-brought.brought.lines b c.in_ok-node.node c.set.result c.args.armed c.args.fates.now c.args.until) (sym c.as_slice-5.ensures.value) struck))
 
 pub returns-in_err-put_host-clause-possible : goal.returns-in_err-put_host-clause-possible
 returns-in_err-put_host-clause-possible c = λ possible.
