@@ -1,5 +1,4 @@
 pub mod Lists
-pub mod Plans
-pub mod Decisions
 pub mod Fates
+pub mod Plans
 pub mod Wholes

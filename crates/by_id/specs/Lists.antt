@@ -1,5 +1,5 @@
 -- Lists of live items that are found by their ids, in the order of making, as the model's book has them.
-use Rattle.std.specs.Prelude.{ℕ, List, [], ◌∷◌, ◌++◌, Option, Some, None, Bool, true, nat_lt, ◌&&◌, if◌then◌else◌, length, suc}
+use Rattle.std.specs.Prelude.{ℕ, List, [], ◌∷◌, ◌++◌, Option, Some, None, Bool, true, false, nat_lt, ◌&&◌, if◌then◌else◌, length, suc}
 use Rattle.at_base.specs.declared.limits.TheConstants.{MOST_ITEMS}
 use Rattle.at_base.specs.Numbers.{Numbers}
 use Rattle.at_model.specs.Book.{is_id, put_by}
@@ -21,6 +21,12 @@ abbrev pub altered : {A : Type 0} → (A → Numbers) → Alteration A → List 
 altered key alterations.Keep xs = xs
 altered key (alterations.Put id item) xs = put_by key id item xs
 altered key (alterations.Add x) xs = add_to x xs
+
+-- one more stands at its end
+abbrev pub is_addition : {A : Type 0} → Alteration A → Bool
+is_addition alterations.Keep = false
+is_addition (alterations.Put id item) = false
+is_addition (alterations.Add x) = true
 
 abbrev pub is_behind : Option Numbers → Numbers → Bool
 is_behind None id = true

@@ -1,10 +1,16 @@
--- What a core decided, as the model's decision on one item, or as one item more.
-use Rattle.std.specs.Prelude.{List, [], ◌++◌, Option, Some, None, Bool, if◌then◌else◌, map}
+-- What is done to a list: what becomes of one item, or one item more; and what is sent and happened.
+use Rattle.std.specs.Prelude.{List, [], ◌++◌, Option, Some, None, Bool, true, false, not, if◌then◌else◌, map}
 use Rattle.at_base.specs.Numbers.{Numbers}
 use Rattle.at_base.specs.declared.record.Record.{Record}
 use Rattle.at_base.specs.declared.outs.Out.{Out}
 use Rattle.at_base.specs.declared.outs.Out.TheVariants as outs
-use Rattle.at_model.specs.Moves.{Change, Decision, Goes, Records}
+use Rattle.by_id.specs.Lists.{is_addition}
+use Rattle.by_id.specs.declared.fates.Choice.{Choice}
+use Rattle.by_id.specs.declared.fates.Choice.TheVariants as choices
+use Rattle.by_id.specs.declared.fates.Fate.{Fate}
+use Rattle.by_id.specs.declared.fates.Fate.TheVariants as fates
+use Rattle.by_id.specs.declared.fates.Turn.{Turn}
+use Rattle.by_id.specs.declared.list.Alteration.{Alteration}
 use Rattle.by_id.specs.declared.list.Alteration.TheVariants as alterations
 use Rattle.by_id.specs.declared.plan.Branch.{Branch}
 use Rattle.by_id.specs.declared.plan.Plan.{Plan}
@@ -12,11 +18,20 @@ use Rattle.by_id.specs.declared.plan.Plan.TheVariants as plans
 
 abbrev pub entry_of : {A : Type 0} → Plan A → Option Record
 entry_of (plans.Plain branch) = None
-entry_of (plans.Recorded entry landed absent) = Some entry
+entry_of (plans.Recorded entry landed absent undone) = Some entry
 
 abbrev pub branch_of : {A : Type 0} → Plan A → Bool → Branch A
 branch_of (plans.Plain branch) landed = branch
-branch_of (plans.Recorded entry stands absent) landed = if landed then stands else absent
+branch_of (plans.Recorded entry stands absent undone) landed = if landed then stands else absent
+
+-- A step notes the time, but for one that is undone.
+abbrev pub notes_time : {A : Type 0} → Plan A → Bool → Bool
+notes_time (plans.Plain branch) landed = true
+notes_time (plans.Recorded entry stands absent undone) landed = if landed then true else not undone
+
+-- an item that is made draws an id
+abbrev pub draws : {A : Type 0} → Plan A → Bool → Bool
+draws p landed = is_addition (branch_of p landed).change
 
 -- this answer is sent, and nothing else is done
 abbrev pub unchanged : {A : Type 0} → List Out → Branch A
@@ -30,10 +45,6 @@ added item answer = record { change = alterations.Add item; outs = record { outs
 abbrev pub still : {A : Type 0} → List Out → Plan A
 still answer = plans.Plain (unchanged answer)
 
--- The event is none for the list.
-abbrev pub nothing : {A : Type 0} → Plan A
-nothing = still []
-
 -- an item is made, and this is sent
 abbrev pub making : {A : Type 0} → A → List Out → Plan A
 making item answer = plans.Plain (added item answer)
@@ -43,18 +54,20 @@ abbrev pub made : {A : Type 0} → Option A → List Out → Plan A
 made None answer = still answer
 made (Some item) answer = making item answer
 
--- What becomes of the item of this id, behind this answer.
-abbrev pub changed : {A : Type 0} → List Out → Numbers → Change A → Branch A
-changed answer id c = record {
-  change = alterations.Put id c.item;
-  outs = record { outs = answer ++ map outs.Post c.posts; effects = c.effects };
+-- What becomes of the list: an item that is kept changes nothing.
+abbrev pub alteration_of : {A : Type 0} → Numbers → Fate A → Alteration A
+alteration_of id fates.Keep = alterations.Keep
+alteration_of id fates.Forget = alterations.Put id None
+alteration_of id (fates.Put item) = alterations.Put id (Some item)
+
+-- What is done to the item of this id, behind this answer.
+abbrev pub turned : {A : Type 0} → List Out → Numbers → Turn A → Branch A
+turned answer id t = record {
+  change = alteration_of id t.fate;
+  outs = record { outs = answer ++ map outs.Post t.posts; effects = t.effects };
 }
 
-abbrev pub if_absent : {A : Type 0} → List Out → Numbers → Option (Change A) → Branch A
-if_absent answer id None = unchanged answer
-if_absent answer id (Some c) = changed answer id c
-
--- The plan of a decision on the item of this id. A step that is undone only sends its answer.
-abbrev pub decided : {A : Type 0} → List Out → Numbers → Decision A → Plan A
-decided answer id (Goes c) = plans.Plain (changed answer id c)
-decided answer id (Records entry c absent) = plans.Recorded entry (changed answer id c) (if_absent answer id absent)
+abbrev pub chosen : {A : Type 0} → List Out → Numbers → Choice A → Plan A
+chosen answer id (choices.Goes t) = plans.Plain (turned answer id t)
+chosen answer id (choices.Records entry stands (Some absent)) = plans.Recorded entry (turned answer id stands) (turned answer id absent) false
+chosen answer id (choices.Records entry stands None) = plans.Recorded entry (turned answer id stands) (unchanged answer) true

@@ -1,15 +1,16 @@
 //! What an event does to an item that was found, with no copy of one that stays as it is.
 
-ghost use Rattle.std.specs.Prelude.{◌≡◌, ◌∷◌, IfOk, [], Some};
+ghost use Rattle.std.specs.Prelude.{◌≡◌, ◌++◌, ◌∷◌, IfOk, OnOk, [], Some, map};
+ghost use Rattle.at_base.specs.declared.outs.Out.TheVariants as out;
 ghost use Rattle.at_model.specs.Moves.{ignored};
-ghost use Rattle.by_id.specs.Decisions.{decision_of};
-ghost use Rattle.by_id.specs.Fates.{meant, turn_of};
-ghost use Rattle.by_id.specs.Plans.{decided};
+ghost use Rattle.by_id.specs.Fates.{meant};
+ghost use Rattle.by_id.specs.Plans.{alteration_of, chosen, turned};
+ghost use Rattle.by_id.specs.declared.fates.Choice.TheVariants as choices;
 
-use crate::list::Identified;
-use crate::moves::{Change, Decision};
-use crate::plan::Plan;
-use at_base::outs::{Effect, Effects, OutList};
+use crate::list::Alteration;
+use crate::plan::{Branch, Plan, unchanged};
+use at_base::id::Id;
+use at_base::outs::{Effect, Effects, Out, OutList, Outs};
 use at_base::record::Record;
 use at_posts::list::PostList;
 use std::alloc::{AllocError, Global};
@@ -88,26 +89,39 @@ impl<T: Drop> Turn<T> {
     }
 }
 
-impl<T: Clone + Drop> Turn<T> {
-    /// The change of the item that was found.
-    fn into_change(self, found: &T) -> Result<Change<T>, AllocError>
-        requires { (value copy : T) → T.is_clone value copy → copy ≡ value }
-        ensures { IfOk result (λ change. change ≡ turn_of (Some found.now) self) }
+impl<T: Drop> Fate<T> {
+    /// What becomes of the list.
+    fn into_alteration(self, id: Id) -> Alteration<T>
+        ensures { result ≡ alteration_of id self }
+    {
+        match self {
+            Fate::Keep => Alteration::Keep,
+            Fate::Forget => Alteration::Put { id, item: None },
+            Fate::Put(item) => Alteration::Put {
+                id,
+                item: Some(item),
+            },
+        }
+    }
+}
+
+impl<T: Drop> Turn<T> {
+    /// What is done to the item of this id, behind this answer.
+    fn into_branch(self, mut answer: OutList, id: Id) -> Result<Branch<T>, AllocError>
+        ensures { IfOk result (λ branch. branch ≡ turned answer id self) }
     {
         let Turn {
             fate,
             posts,
             effects,
         } = self;
-        let item = match fate {
-            Fate::Keep => Some(found.clone()?),
-            Fate::Forget => None,
-            Fate::Put(item) => Some(item),
-        };
-        Ok(Change {
-            item,
-            posts,
-            effects,
+        add_posts(&mut answer, posts)?;
+        Ok(Branch {
+            change: fate.into_alteration(id),
+            outs: Outs {
+                outs: answer,
+                effects,
+            },
         })
     }
 }
@@ -121,40 +135,56 @@ impl<T: Drop> Choice<T> {
     }
 }
 
-impl<T: Identified + Clone + Drop> Choice<T> {
-    /// The decision on the item that was found.
-    fn into_decision(self, found: &T) -> Result<Decision<T>, AllocError>
-        requires { (value copy : T) → T.is_clone value copy → copy ≡ value }
-        ensures { IfOk result (λ decision. decision_of decision ≡ meant (Some found.now) self) }
+/// Sends these posts behind what is sent.
+fn add_posts(outs: &mut OutList, posts: PostList) -> Result<(), AllocError>
+    ensures { OnOk result (outs.new ≡ outs.old ++ map out.Post posts) }
+{
+    for post in posts.into_vec() {
+        outs.push(Out::Post(post))?;
+    }
+    Ok(())
+}
+
+/// The plan of what is done behind a record.
+fn recorded<T: Drop>(
+    alloc: Global,
+    answer: OutList,
+    id: Id,
+    entry: Record,
+    stands: Turn<T>,
+    absent: Option<Turn<T>>,
+) -> Result<Plan<T>, AllocError>
+    ensures { IfOk result (λ plan. plan ≡ chosen answer id (choices.Records entry stands absent)) }
+{
+    let landed = stands.into_branch(answer.clone()?, id)?;
+    match absent {
+        Some(turn) => Ok(Plan::Recorded {
+            entry,
+            landed,
+            absent: turn.into_branch(answer, id)?,
+            undone: false,
+        }),
+        None => Ok(Plan::Recorded {
+            entry,
+            landed,
+            absent: unchanged(alloc, answer),
+            undone: true,
+        }),
+    }
+}
+
+impl<T: Drop> Choice<T> {
+    /// The plan of what is done to the item of this id, behind this answer.
+    pub fn into_plan(self, alloc: Global, answer: OutList, id: Id) -> Result<Plan<T>, AllocError>
+        ensures { IfOk result (λ plan. plan ≡ chosen answer id self) }
     {
         match self {
-            Choice::Goes(turn) => Ok(Decision::Goes(turn.into_change(found)?)),
+            Choice::Goes(turn) => Ok(Plan::Plain(turn.into_branch(answer, id)?)),
             Choice::Records {
                 entry,
                 stands,
                 absent,
-            } => {
-                let stands = stands.into_change(found)?;
-                let absent = match absent {
-                    Some(turn) => Some(turn.into_change(found)?),
-                    None => None,
-                };
-                Ok(Decision::Records {
-                    entry,
-                    stands,
-                    absent,
-                })
-            }
+            } => recorded(alloc, answer, id, entry, stands, absent),
         }
-    }
-
-    /// The plan of what is done to the item that was found, behind this answer.
-    pub fn into_plan(self, alloc: Global, answer: OutList, found: &T) -> Result<Plan<T>, AllocError>
-        requires { (value copy : T) → T.is_clone value copy → copy ≡ value }
-        ensures { IfOk result
-            (λ plan. plan ≡ decided answer (T.id_of found.now) (meant (Some found.now) self)) }
-    {
-        let id = found.id();
-        self.into_decision(found)?.into_plan(alloc, answer, id)
     }
 }

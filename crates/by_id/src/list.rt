@@ -7,7 +7,7 @@ ghost use Rattle.at_base.specs.Numbers.{Numbers};
 ghost use Rattle.at_base.specs.declared.event.Moment.{Moment};
 ghost use Rattle.at_model.specs.Book.{is_id, find_by, put_by};
 ghost use Rattle.at_model.specs.Recovery.{is_before};
-ghost use Rattle.by_id.specs.Lists.{place_by, add_to, altered, is_behind, next_due};
+ghost use Rattle.by_id.specs.Lists.{add_to, altered, is_addition, is_behind, next_due, place_by};
 
 use at_base::event::Moment;
 use at_base::id::Id;
@@ -39,6 +39,18 @@ pub enum Alteration<T> {
     Put { id: Id, item: Option<T> },
     /// One more stands at its end.
     Add(T),
+}
+
+impl<T> Alteration<T> {
+    /// Whether one more stands at the list's end.
+    pub fn is_addition(&self) -> bool
+        ensures { result ≡ is_addition self.now }
+    {
+        match self {
+            Alteration::Keep | Alteration::Put { .. } => false,
+            Alteration::Add(_) => true,
+        }
+    }
 }
 
 /// Live items in the order of making.

@@ -1,10 +1,9 @@
 //! What a core decided, before it is done.
 
 ghost use Rattle.std.specs.Prelude.{◌≡◌, option_copied};
-ghost use Rattle.by_id.specs.Plans.{entry_of, branch_of, nothing, still, making};
+ghost use Rattle.by_id.specs.Plans.{branch_of, draws, entry_of, making, notes_time, still, unchanged};
 
 use crate::list::Alteration;
-use crate::moves::unchanged;
 use at_base::outs::{Effects, OutList, Outs};
 use at_base::record::Record;
 use std::alloc::Global;
@@ -16,9 +15,7 @@ pub struct Branch<T> {
     pub outs: Outs,
 }
 
-/// What an event does to a list: at once, or behind one record.
-///
-/// It holds whole items, so it can be done to the list at any time, and takes no memory then.
+/// What an event does to a list: at once, or behind one record. To do it takes no memory.
 #[derive(Debug, PartialEq, Eq)]
 pub enum Plan<T> {
     Plain(Branch<T>),
@@ -28,6 +25,8 @@ pub enum Plan<T> {
         landed: Branch<T>,
         /// Where it is certainly absent.
         absent: Branch<T>,
+        /// Whether the step is undone there, and so notes no time.
+        undone: bool,
     },
 }
 
@@ -39,8 +38,22 @@ impl<T: Drop> Drop for Plan<T> {
                 entry: _entry,
                 landed: _landed,
                 absent: _absent,
+                undone: _undone,
             } => {}
         }
+    }
+}
+
+/// The list stays as it is, and only this answer is sent.
+pub fn unchanged<T: Drop>(alloc: Global, answer: OutList) -> Branch<T>
+    ensures { result ≡ unchanged answer }
+{
+    Branch {
+        change: Alteration::Keep,
+        outs: Outs {
+            outs: answer,
+            effects: Effects::from_vec(Vec::new(alloc)),
+        },
     }
 }
 
@@ -50,13 +63,6 @@ impl<T: Drop> Plan<T> {
         ensures { result ≡ still answer }
     {
         Plan::Plain(unchanged(alloc, answer))
-    }
-
-    /// The event is none for the list.
-    pub fn nothing(alloc: Global) -> Plan<T>
-        ensures { result ≡ nothing }
-    {
-        Plan::still(alloc, OutList::from_vec(Vec::new(alloc)))
     }
 
     /// One item more, and this is sent.
@@ -106,7 +112,38 @@ impl<T: Drop> Plan<T> {
                 entry: _entry,
                 landed: stands,
                 absent,
+                undone: _undone,
             } => { if landed { stands } else { absent } }
+        }
+    }
+
+    /// Whether doing it notes the time: a step that is undone doesn't.
+    pub fn notes_time(&self, landed: bool) -> bool
+        ensures { result ≡ notes_time self.now landed }
+    {
+        match self {
+            Plan::Plain(_) => true,
+            Plan::Recorded { undone, .. } => landed || !*undone,
+        }
+    }
+
+    /// Whether doing it makes an item, which draws an id.
+    pub fn draws(&self, landed: bool) -> bool
+        ensures { result ≡ draws self.now landed }
+    {
+        match self {
+            Plan::Plain(branch) => branch.change.is_addition(),
+            Plan::Recorded {
+                landed: stands,
+                absent,
+                ..
+            } => {
+                if landed {
+                    stands.change.is_addition()
+                } else {
+                    absent.change.is_addition()
+                }
+            }
         }
     }
 }

@@ -1,4 +1,5 @@
-mod WorkPosts
+mod ActivityPlans
 mod EqualAnswers
-mod PlanLaws
+mod RequestPlans
 mod Slashes
+mod WorkPosts

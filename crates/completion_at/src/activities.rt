@@ -1,48 +1,44 @@
 //! The live activities of a node: planned first, and then done.
 
-ghost use Rattle.std.specs.Prelude.{◌≡◌, IfOk, [], None, length, option_copied, option_map, filter, not};
-ghost use Rattle.at_model.specs.Book.{find_by, activity_id};
+ghost use Rattle.std.specs.Prelude.{ℕ, ◌≡◌, IfOk, [], None, if◌then◌else◌, nat_lt, length, option_copied, option_map, filter, not};
+ghost use Rattle.at_base.specs.declared.limits.TheConstants.{MOST_ACTIVITIES};
+ghost use Rattle.at_model.specs.Activities.{on_ask, on_complete};
+ghost use Rattle.at_model.specs.Book.{Book, find_by, activity_id, next_id};
 ghost use Rattle.at_model.specs.Due.{activity_due};
-ghost use Rattle.at_model.specs.Step.{is_reached, is_under, put_activities};
+ghost use Rattle.at_model.specs.Step.{activity_at, activity_due_plan, asking_plan, begin_plan, initiator_plan, interpose_plan, is_reached, is_under, local_plan, moment_of, no_room, only_begun, plain, put_activities, refuses, refuses_named, still, stranger_plan, works_left};
+ghost use Rattle.at_tables.specs.Tables.{initiator_of};
+ghost use Rattle.at_tables.specs.declared.cells.State.TheVariants as states;
 ghost use Rattle.by_id.specs.Lists.{next_due};
-ghost use Rattle.by_id.specs.Plans.{branch_of};
+ghost use Rattle.by_id.specs.Plans.{branch_of, chosen};
+ghost use Rattle.by_id.specs.Wholes.{whole_or};
+ghost use Rattle.by_id.specs.declared.fates.Choice.TheVariants as choices;
 ghost use Rattle.completion_at.specs.Names.{refusal_of};
-ghost use Rattle.completion_at.specs.ActivityPlans.{settled, activity_arrived, arrived_at, activity_asked, item_asked, refused_at, requested, activities_plan};
-ghost use Rattle.completion_at.specs.BookPlans.{PlansAsTheModel, RefusesAsTheModel, LeavesTheBook};
+ghost use Rattle.completion_at.specs.ActivityPlans.{Holds, RefusesAsTheModel, refused_at, settled, unless, with_activities};
 
 use crate::activity::Activity;
 use crate::due::on_due;
 use crate::requests::{
-    Refusal, ask, begin, complete, interpose, no_room, only_begun, refuses_named, works_left,
+    Refusal, has_works_left, is_active, no_room, on_ask, on_begin, on_complete, on_interpose,
+    only_begun, refuses_named, works_left,
 };
-use crate::rules::on_activity;
-use at_base::event::{Arrived, Event, Item, Local, Moment};
+use crate::rules::{is_begun, on_activity};
+use at_base::event::{Arrived, Local, Moment};
 use at_base::id::Id;
-use at_base::notice::Notice;
+use at_base::limits::MOST_ACTIVITIES;
+use at_base::notice::{Kind, Notice, Vote};
 use at_base::outs::{OutList, Outs};
-use at_base::target::Target;
+use at_base::text::Text;
 use at_posts::answers::accepted;
+use by_id::fates::{Choice, Turn};
 use by_id::list::{Alteration, ById, is_same};
 use by_id::plan::{Branch, Plan};
 use std::alloc::{AllocError, Global};
 use std::marker::Model;
 
-/// At each event that moves an activity, the plan of the activities is the model's plan of the book that holds them.
-#[tactic(auto, using(crate::proofs::PlanLaws::plans_as_the_model))]
-pub fn plans_as_the_model()
-    ensures { PlansAsTheModel }
-{}
-
 /// A request is refused as the model refuses it.
-#[tactic(auto, using(crate::proofs::PlanLaws::refuses_as_the_model))]
+#[tactic(auto, using(crate::proofs::RequestPlans::refuses_as_the_model))]
 pub fn refuses_as_the_model()
     ensures { RefusesAsTheModel }
-{}
-
-/// In the model, a request that is refused leaves the book as it is, and sends nothing.
-#[tactic(auto, using(crate::proofs::PlanLaws::leaves_the_book))]
-pub fn leaves_the_book()
-    ensures { LeavesTheBook }
 {}
 
 /// The live activities of a node, in the order of making.
@@ -60,40 +56,15 @@ impl Model for Activities {
     ghost view = { λ s. s.live };
 }
 
-/// A message at the activity of an id.
-fn activity_arrived(
+/// The plan of what a request does to the activity that it names.
+fn going(
     alloc: Global,
-    moment: &Moment,
-    arrived: &Arrived,
-    found: Option<&Activity>,
+    turn: Turn<Activity>,
+    activity: &Activity,
 ) -> Result<Plan<Activity>, AllocError>
-    ensures { IfOk result
-        (λ plan. plan ≡ activity_arrived moment.entry.now arrived.now (option_copied found.entry)) }
+    ensures { IfOk result (λ plan. plan ≡ chosen [] activity.now.id (choices.Goes turn)) }
 {
-    match found {
-        Some(activity) => {
-            let answer = accepted(alloc)?;
-            on_activity(alloc, moment, arrived, activity)?.into_plan(alloc, answer, activity)
-        }
-        None => Ok(Plan::nothing(alloc)),
-    }
-}
-
-/// The activity of an id, asked whether it is due.
-fn activity_asked(
-    alloc: Global,
-    moment: &Moment,
-    found: Option<&Activity>,
-) -> Result<Plan<Activity>, AllocError>
-    ensures { IfOk result (λ plan. plan ≡ activity_asked moment.entry.now (option_copied found.entry)) }
-{
-    match found {
-        Some(activity) => {
-            let answer = OutList::from_vec(Vec::new(alloc));
-            on_due(alloc, moment, activity)?.into_plan(alloc, answer, activity)
-        }
-        None => Ok(Plan::nothing(alloc)),
-    }
+    Choice::Goes(turn).into_plan(alloc, OutList::from_vec(Vec::new(alloc)), activity.id)
 }
 
 /// Whether an activity is the one of this id, or was interposed under it.
@@ -186,22 +157,131 @@ impl Activities {
         }
     }
 
-    /// A request: one that is refused does nothing.
-    fn requested(
+    /// The id of one activity more, where there is room for it.
+    fn next_id(&self, moment: &Moment) -> Option<Id>
+        ensures { result
+            ≡ if nat_lt (length self.now) MOST_ACTIVITIES then moment.entry.now.next else None }
+    {
+        if self.live.len() < MOST_ACTIVITIES {
+            moment.next
+        } else {
+            None
+        }
+    }
+
+    /// Begin: one activity more, where there is room for it.
+    fn begin(
+        &self,
+        alloc: Global,
+        moment: &Moment,
+        coordinator: &Text,
+        ms: u32,
+    ) -> Result<Option<Plan<Activity>>, AllocError>
+        ensures { (b : Book) (now : ℕ) → Holds b now self.now moment.entry.now
+            → IfOk result (λ plan. whole_or with_activities b now (plain (still b [])) plan
+            ≡ unless b (no_room b (next_id b)) (begin_plan b now coordinator.now ms (next_id b))) }
+    {
+        let Some(id) = self.next_id(moment) else {
+            return Ok(None);
+        };
+        let plan = on_begin(alloc, moment, id, coordinator, ms)?;
+        Ok(Some(plan))
+    }
+
+    /// Interpose: one activity more under the root of this one, where that takes it and there is room.
+    fn interpose(
+        &self,
+        alloc: Global,
+        moment: &Moment,
+        activity: Id,
+        coordinator: &Text,
+    ) -> Result<Option<Plan<Activity>>, AllocError>
+        ensures { (b : Book) (now : ℕ) → Holds b now self.now moment.entry.now
+            → IfOk result (λ plan. whole_or with_activities b now (plain (still b [])) plan
+            ≡ unless b (refuses_named (activity_at b activity) (no_room b (next_id b)))
+            (interpose_plan b now coordinator.now (next_id b) (activity_at b activity))) }
+    {
+        let Some(above) = self.live.find(activity) else {
+            return Ok(None);
+        };
+        if !is_active(above.progress) {
+            return Ok(None);
+        }
+        let Some(id) = self.next_id(moment) else {
+            return Ok(None);
+        };
+        let plan = on_interpose(alloc, moment, id, coordinator, above)?;
+        Ok(Some(plan))
+    }
+
+    /// Work: asks a service for work under the activity's context, where it takes that and can count it.
+    fn ask(
+        &self,
+        alloc: Global,
+        moment: &Moment,
+        activity: Id,
+        url: &Text,
+        kind: Kind,
+        vote: Vote,
+        key: &Text,
+        value: &Text,
+    ) -> Result<Option<Plan<Activity>>, AllocError>
+        ensures { (b : Book) (now : ℕ) → Holds b now self.now moment.entry.now
+            → IfOk result (λ plan. whole_or with_activities b now (plain (still b [])) plan
+            ≡ unless b (refuses_named (activity_at b activity) (works_left (activity_at b activity)))
+            (asking_plan b now (λ a. on_ask (moment_of b now) url.now kind vote key.now value.now a a.context) (activity_at b activity))) }
+    {
+        match self.live.find(activity) {
+            Some(found) if is_active(found.progress) && has_works_left(found) => {
+                let turn = on_ask(alloc, moment, url, kind, vote, key, value, found)?;
+                let plan = going(alloc, turn, found)?;
+                Ok(Some(plan))
+            }
+            _ => Ok(None),
+        }
+    }
+
+    /// Commit or Rollback: asks the completion seat for that outcome, where the activity was begun and takes it.
+    #[tactic(auto, using(crate::proofs::RequestPlans::completes))]
+    fn complete(
+        &self,
+        alloc: Global,
+        moment: &Moment,
+        activity: Id,
+        notice: Notice,
+    ) -> Result<Option<Plan<Activity>>, AllocError>
+        ensures { (b : Book) (now : ℕ) → Holds b now self.now moment.entry.now
+            → IfOk result (λ plan. whole_or with_activities b now (plain (still b [])) plan
+            ≡ unless b (refuses_named (activity_at b activity) (only_begun (activity_at b activity)))
+            (asking_plan b now (on_complete (moment_of b now) notice) (activity_at b activity))) }
+    {
+        match self.live.find(activity) {
+            Some(found) if is_active(found.progress) && is_begun(found) => {
+                let turn = on_complete(alloc, moment, notice, found)?;
+                let plan = going(alloc, turn, found)?;
+                Ok(Some(plan))
+            }
+            _ => Ok(None),
+        }
+    }
+
+    /// What a request does; none where it is refused.
+    #[tactic(auto, using(crate::proofs::RequestPlans::requests), unfolding(at_model::specs::Step::request_plan))]
+    pub fn asked(
         &self,
         alloc: Global,
         moment: &Moment,
         local: &Local,
-    ) -> Result<Plan<Activity>, AllocError>
-        ensures { IfOk result (λ plan. plan ≡ requested moment.entry.now self.now local.now) }
+    ) -> Result<Option<Plan<Activity>>, AllocError>
+        ensures { (b : Book) (now : ℕ) → Holds b now self.now moment.entry.now
+            → IfOk result (λ plan. whole_or with_activities b now (plain (still b [])) plan ≡ local_plan b now local.now (refuses b local.now)) }
     {
-        let live = self.live.len();
         match local {
-            Local::Begin { coordinator, ms } => begin(alloc, moment, live, coordinator, *ms),
+            Local::Begin { coordinator, ms } => self.begin(alloc, moment, coordinator, *ms),
             Local::Interpose {
                 activity,
                 coordinator,
-            } => interpose(alloc, moment, live, coordinator, self.live.find(*activity)),
+            } => self.interpose(alloc, moment, *activity, coordinator),
             Local::Work {
                 activity,
                 service,
@@ -209,70 +289,55 @@ impl Activities {
                 vote,
                 key,
                 value,
-            } => {
-                let found = self.live.find(*activity);
-                ask(alloc, moment, service, *kind, *vote, key, value, found)
-            }
-            Local::Commit { activity } => complete(
+            } => self.ask(alloc, moment, *activity, service, *kind, *vote, key, value),
+            Local::Commit { activity } => self.complete(alloc, moment, *activity, Notice::Commit),
+            Local::Rollback { activity } => self.complete(
                 alloc,
                 moment,
-                Notice::Commit,
-                self.live.find(*activity),
-            ),
-            Local::Rollback { activity } => complete(
-                alloc,
-                moment,
+                *activity,
                 Notice::Rollback,
-                self.live.find(*activity),
             ),
         }
     }
 
-    /// A message, by its target.
-    fn arrived_at(
+    /// What a message does at the activity of this id; none where there is no such activity.
+    #[tactic(auto, using(crate::proofs::ActivityPlans::at_found, crate::proofs::ActivityPlans::at_none))]
+    pub fn at_activity(
         &self,
         alloc: Global,
         moment: &Moment,
         arrived: &Arrived,
-    ) -> Result<Plan<Activity>, AllocError>
-        ensures { IfOk result (λ plan. plan ≡ arrived_at moment.entry.now arrived.now self.now arrived.now.target) }
+        id: Id,
+    ) -> Result<Option<Plan<Activity>>, AllocError>
+        ensures { (b : Book) (now : ℕ) → Holds b now self.now moment.entry.now
+            → IfOk result (λ plan. whole_or with_activities b now (stranger_plan b now arrived.now (initiator_of states.None) arrived.now.message) plan
+            ≡ initiator_plan b now arrived.now (activity_at b id)) }
     {
-        match arrived.target {
-            Target::Initiator(id) => activity_arrived(alloc, moment, arrived, self.live.find(id)),
-            _ => Ok(Plan::nothing(alloc)),
-        }
+        let Some(activity) = self.live.find(id) else {
+            return Ok(None);
+        };
+        let choice = on_activity(alloc, moment, arrived, activity)?;
+        let plan = choice.into_plan(alloc, accepted(alloc)?, activity.id)?;
+        Ok(Some(plan))
     }
 
-    /// An item that is asked whether it is due.
-    fn item_asked(
+    /// What the activity of this id does by itself, where there is one.
+    #[tactic(auto, using(crate::proofs::ActivityPlans::due, crate::proofs::ActivityPlans::due_none))]
+    pub fn due(
         &self,
         alloc: Global,
         moment: &Moment,
-        item: Item,
-    ) -> Result<Plan<Activity>, AllocError>
-        ensures { IfOk result (λ plan. plan ≡ item_asked moment.entry.now self.now item) }
+        id: Id,
+    ) -> Result<Option<Plan<Activity>>, AllocError>
+        ensures { (b : Book) (now : ℕ) → Holds b now self.now moment.entry.now
+            → IfOk result (λ plan. whole_or with_activities b now (plain (still b [])) plan ≡ activity_due_plan b now (activity_at b id)) }
     {
-        match item {
-            Item::Activity(id) => activity_asked(alloc, moment, self.live.find(id)),
-            Item::Transaction(_) | Item::Leaf(_) => Ok(Plan::nothing(alloc)),
-        }
-    }
-
-    /// What an event does to the activities. It takes the memory that doing it needs, and changes nothing.
-    pub fn plan(
-        &self,
-        alloc: Global,
-        event: &Event,
-        moment: &Moment,
-    ) -> Result<Plan<Activity>, AllocError>
-        ensures { IfOk result (λ plan. plan ≡ activities_plan moment.entry.now event.now self.now) }
-    {
-        match event {
-            Event::Arrived(arrived) => self.arrived_at(alloc, moment, arrived),
-            Event::Due(item) => self.item_asked(alloc, moment, *item),
-            Event::Local(local) => self.requested(alloc, moment, local),
-            Event::Tick => Ok(Plan::nothing(alloc)),
-        }
+        let Some(activity) = self.live.find(id) else {
+            return Ok(None);
+        };
+        let choice = on_due(alloc, moment, activity)?;
+        let plan = choice.into_plan(alloc, OutList::from_vec(Vec::new(alloc)), activity.id)?;
+        Ok(Some(plan))
     }
 
     /// Drops the activity of this id, and all that are under it.

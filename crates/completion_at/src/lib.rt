@@ -3,7 +3,7 @@
 
 pub mod activities;
 pub mod activity;
-pub mod due;
-pub mod posts;
+mod due;
+mod posts;
 pub mod requests;
-pub mod rules;
+mod rules;

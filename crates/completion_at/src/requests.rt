@@ -1,15 +1,14 @@
 //! The requests of the program that runs an initiator.
 
-ghost use Rattle.std.specs.Prelude.{◌≡◌, ◌<◌, ◌+◌, IfOk, [], Some, None, option_map, option_copied};
+ghost use Rattle.std.specs.Prelude.{◌≡◌, ◌<◌, ◌+◌, IfOk, Some, None, nat_lt, option_map, option_copied};
 ghost use Rattle.at_model.specs.Activities.{service, create_post, asked_expires, new_activity, beginning, on_begin, on_interpose, on_ask, on_complete, is_active};
 ghost use Rattle.endpoints.specs.Addresses.{atomic, without_slash};
-ghost use Rattle.at_model.specs.Book.{Progress as Stage};
-ghost use Rattle.at_model.specs.Moves.{Goes, begin, post, stays};
+ghost use Rattle.at_model.specs.Book.{Progress as Stage, last_counter};
+ghost use Rattle.at_model.specs.Moves.{begin, post, stays};
 ghost use Rattle.at_model.specs.Step.{refuses_named, works_left, only_begun};
 ghost use Rattle.by_id.specs.Fates.{turn_of};
-ghost use Rattle.by_id.specs.Plans.{decided};
 ghost use Rattle.completion_at.specs.Names.{progress_of, refusal_of};
-ghost use Rattle.completion_at.specs.ActivityPlans.{no_room, unless, begun, nth_work, begin_asked, interpose_asked, asked_of};
+ghost use Rattle.completion_at.specs.ActivityPlans.{begun, no_room, nth_work};
 
 use crate::activity::{Activity, Progress};
 use crate::posts::{completion, target_of};
@@ -24,7 +23,7 @@ use at_base::outs::{Out, OutList, Post};
 use at_base::text::Text;
 use at_posts::list::PostList;
 use at_posts::posts::request_post;
-use by_id::fates::{Choice, Fate, Turn};
+use by_id::fates::{Fate, Turn};
 use by_id::plan::Plan;
 use by_id::times::deadline_of;
 use endpoints::addresses::{create_id, work_id};
@@ -43,7 +42,7 @@ pub enum Refusal {
 }
 
 /// Whether an activity takes requests.
-fn is_active(progress: Progress) -> bool
+pub(crate) fn is_active(progress: Progress) -> bool
     ensures { result ≡ is_active (progress_of progress) }
 {
     match progress {
@@ -53,7 +52,7 @@ fn is_active(progress: Progress) -> bool
 }
 
 /// Why no activity can be made.
-pub fn no_room(live: usize, next: Option<Id>) -> Option<Refusal>
+pub(crate) fn no_room(live: usize, next: Option<Id>) -> Option<Refusal>
     ensures { option_map refusal_of result ≡ no_room live next }
 {
     if live >= MOST_ACTIVITIES {
@@ -66,7 +65,7 @@ pub fn no_room(live: usize, next: Option<Id>) -> Option<Refusal>
 }
 
 /// Why the activity that a request names doesn't take it, or this.
-pub fn refuses_named(found: Option<&Activity>, more: Option<Refusal>) -> Option<Refusal>
+pub(crate) fn refuses_named(found: Option<&Activity>, more: Option<Refusal>) -> Option<Refusal>
     ensures { option_map refusal_of result
         ≡ refuses_named (option_copied found.entry) (option_map refusal_of more) }
 {
@@ -82,13 +81,20 @@ pub fn refuses_named(found: Option<&Activity>, more: Option<Refusal>) -> Option<
     }
 }
 
+/// Whether an activity can count one more Work.
+pub(crate) fn has_works_left(activity: &Activity) -> bool
+    ensures { result ≡ nat_lt activity.now.works last_counter }
+{
+    activity.works < u32::MAX
+}
+
 /// Why an activity can't count one more Work.
-pub fn works_left(found: Option<&Activity>) -> Option<Refusal>
+pub(crate) fn works_left(found: Option<&Activity>) -> Option<Refusal>
     ensures { option_map refusal_of result ≡ works_left (option_copied found.entry) }
 {
     match found {
         Some(activity) => {
-            if activity.works < u32::MAX {
+            if has_works_left(activity) {
                 None
             } else {
                 Some(Refusal::Spent)
@@ -99,7 +105,7 @@ pub fn works_left(found: Option<&Activity>) -> Option<Refusal>
 }
 
 /// Why an activity can't commit or roll back: it was interposed.
-pub fn only_begun(found: Option<&Activity>) -> Option<Refusal>
+pub(crate) fn only_begun(found: Option<&Activity>) -> Option<Refusal>
     ensures { option_map refusal_of result ≡ only_begun (option_copied found.entry) }
 {
     match found {
@@ -217,9 +223,9 @@ fn new_activity(id: Id, root: Id, deadline: Option<u128>) -> Activity
     }
 }
 
-/// Begin, under this id.
+/// Begin: a new activity of this id asks for a context (WS-Coordination 1.2, section 3.1).
 #[tactic(auto, unfolding(at_model::specs::Activities::on_begin))]
-fn on_begin(
+pub(crate) fn on_begin(
     alloc: Global,
     moment: &Moment,
     id: Id,
@@ -233,9 +239,9 @@ fn on_begin(
     beginning(alloc, moment, coordinator, expires, &None, activity)
 }
 
-/// Interpose, under this id.
+/// Interpose: a new activity of this id, under the root of another, asks for a context under that one's.
 #[tactic(auto, unfolding(at_model::specs::Activities::on_interpose))]
-fn on_interpose(
+pub(crate) fn on_interpose(
     alloc: Global,
     moment: &Moment,
     id: Id,
@@ -248,69 +254,6 @@ fn on_interpose(
 {
     let activity = new_activity(id, above.root, None);
     beginning(alloc, moment, coordinator, None, &above.context, activity)
-}
-
-/// Begin: a new activity asks for a context (WS-Coordination 1.2, section 3.1).
-pub fn begin(
-    alloc: Global,
-    moment: &Moment,
-    live: usize,
-    coordinator: &Text,
-    ms: u32,
-) -> Result<Plan<Activity>, AllocError>
-    ensures { IfOk result
-        (λ plan. plan
-        ≡ unless (no_room live moment.entry.now.next)
-        (begin_asked moment.entry.now coordinator.now ms moment.entry.now.next)) }
-{
-    match moment.next {
-        Some(id) if live < MOST_ACTIVITIES => on_begin(alloc, moment, id, coordinator, ms),
-        _ => Ok(Plan::nothing(alloc)),
-    }
-}
-
-/// Interpose in an activity that takes it.
-fn interpose_in(
-    alloc: Global,
-    moment: &Moment,
-    live: usize,
-    coordinator: &Text,
-    above: &Activity,
-) -> Result<Plan<Activity>, AllocError>
-    ensures { IfOk result
-        (λ plan. plan
-        ≡ unless (no_room live moment.entry.now.next)
-        (interpose_asked moment.entry.now coordinator.now moment.entry.now.next (Some above.now))) }
-{
-    match moment.next {
-        Some(id) if live < MOST_ACTIVITIES => on_interpose(alloc, moment, id, coordinator, above),
-        _ => Ok(Plan::nothing(alloc)),
-    }
-}
-
-/// Interpose: a new activity under the root of another asks for a context under that one's.
-pub fn interpose(
-    alloc: Global,
-    moment: &Moment,
-    live: usize,
-    coordinator: &Text,
-    found: Option<&Activity>,
-) -> Result<Plan<Activity>, AllocError>
-    ensures { IfOk result
-        (λ plan. plan
-        ≡ unless (refuses_named (option_copied found.entry) (no_room live moment.entry.now.next))
-        (interpose_asked moment.entry.now coordinator.now moment.entry.now.next (option_copied found.entry))) }
-{
-    match found {
-        Some(above) if is_active(above.progress) => interpose_in(
-            alloc,
-            moment,
-            live,
-            coordinator,
-            above,
-        ),
-        _ => Ok(Plan::nothing(alloc)),
-    }
 }
 
 /// The body of a Work under this context.
@@ -398,9 +341,9 @@ fn sends_work(
     Ok(Turn::silent(alloc, Fate::Put(next), posts))
 }
 
-/// Work at an activity that can count it.
+/// Work, at an activity that can count it: asks a service for work under the activity's context.
 #[tactic(auto, unfolding(at_model::specs::Activities::on_ask))]
-fn asks(
+pub(crate) fn on_ask(
     alloc: Global,
     moment: &Moment,
     url: &Text,
@@ -424,45 +367,6 @@ fn asks(
     }
 }
 
-/// What a request does to the activity that it names.
-fn asked_of(
-    alloc: Global,
-    activity: &Activity,
-    turn: Turn<Activity>,
-) -> Result<Plan<Activity>, AllocError>
-    ensures { IfOk result (λ plan. plan ≡ decided [] activity.now.id (Goes (turn_of (Some activity.now) turn))) }
-{
-    let answer = OutList::from_vec(Vec::new(alloc));
-    Choice::Goes(turn).into_plan(alloc, answer, activity)
-}
-
-/// Work: asks a service for work under the activity's context.
-pub fn ask(
-    alloc: Global,
-    moment: &Moment,
-    url: &Text,
-    kind: Kind,
-    vote: Vote,
-    key: &Text,
-    value: &Text,
-    found: Option<&Activity>,
-) -> Result<Plan<Activity>, AllocError>
-    ensures { IfOk result
-        (λ plan. plan
-        ≡ unless (refuses_named (option_copied found.entry) (works_left (option_copied found.entry)))
-        (asked_of
-        (λ a. on_ask moment.entry.now url.now kind vote key.now value.now a a.context)
-        (option_copied found.entry))) }
-{
-    match found {
-        Some(activity) if is_active(activity.progress) && activity.works < u32::MAX => {
-            let turn = asks(alloc, moment, url, kind, vote, key, value, activity)?;
-            asked_of(alloc, activity, turn)
-        }
-        _ => Ok(Plan::nothing(alloc)),
-    }
-}
-
 /// A copy of the activity that asks for its outcome now.
 fn completing(moment: &Moment, notice: Notice, activity: &Activity) -> Result<Activity, AllocError>
     ensures { IfOk result
@@ -475,9 +379,9 @@ fn completing(moment: &Moment, notice: Notice, activity: &Activity) -> Result<Ac
     Ok(next)
 }
 
-/// The activity asks for its outcome.
+/// Commit or Rollback: asks the completion seat for that outcome (WS-AtomicTransaction 1.2, section 3.2).
 #[tactic(auto, unfolding(at_model::specs::Activities::on_complete))]
-fn completes(
+pub(crate) fn on_complete(
     alloc: Global,
     moment: &Moment,
     notice: Notice,
@@ -488,25 +392,4 @@ fn completes(
     let posts = completion(alloc, moment, activity, notice)?;
     let next = completing(moment, notice, activity)?;
     Ok(Turn::silent(alloc, Fate::Put(next), posts))
-}
-
-/// Commit or Rollback: asks the completion seat for that outcome (WS-AtomicTransaction 1.2, section 3.2).
-pub fn complete(
-    alloc: Global,
-    moment: &Moment,
-    notice: Notice,
-    found: Option<&Activity>,
-) -> Result<Plan<Activity>, AllocError>
-    ensures { IfOk result
-        (λ plan. plan
-        ≡ unless (refuses_named (option_copied found.entry) (only_begun (option_copied found.entry)))
-        (asked_of (on_complete moment.entry.now notice) (option_copied found.entry))) }
-{
-    match found {
-        Some(activity) if is_active(activity.progress) && is_begun(activity) => {
-            let turn = completes(alloc, moment, notice, activity)?;
-            asked_of(alloc, activity, turn)
-        }
-        _ => Ok(Plan::nothing(alloc)),
-    }
 }

@@ -1,9 +1,8 @@
 //! What a message does to one activity (WS-AtomicTransaction 1.2, sections 3.2 and 10).
 
-ghost use Rattle.std.specs.Prelude.{◌≡◌, IfOk, [], Some, None, if◌then◌else◌, bytes_eq};
+ghost use Rattle.std.specs.Prelude.{◌≡◌, IfOk, Some, None, if◌then◌else◌, bytes_eq};
 ghost use Rattle.at_base.specs.declared.fault.Fault.TheVariants.{InvalidState, UnknownTransaction};
 ghost use Rattle.at_base.specs.Names.{fault_name};
-ghost use Rattle.at_base.specs.declared.outs.Told.TheVariants as tellings;
 ghost use Rattle.at_model.specs.Activities.{activity_target, activity_state, is_begun, told, activity_act, activity_notice, completion_register, with_context, activity_created, activity_registered, activity_fault, on_activity};
 ghost use Rattle.endpoints.specs.Addresses.{create_id, register_id};
 ghost use Rattle.at_model.specs.Arrivals.{relates_to};

@@ -1,1 +1,1 @@
-mod PlanLaws
+mod TransactionPlans

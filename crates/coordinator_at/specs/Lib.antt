@@ -2,4 +2,3 @@ pub mod Holdings
 pub mod TransactionPlans
 pub mod Recoveries
 pub mod Registrations
-pub mod BookPlans

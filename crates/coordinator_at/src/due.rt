@@ -1,12 +1,13 @@
 //! What a transaction does by itself: it expires, it is forgotten, and it sends again (WS-Coordination 1.2, section 2.1;
 //! this project's profile).
 
-ghost use Rattle.std.specs.Prelude.{◌≡◌, ◌++◌, IfOk, OnOk};
+ghost use Rattle.std.specs.Prelude.{◌≡◌, ◌++◌, IfOk, OnOk, Some};
 ghost use Rattle.at_model.specs.Abort.{abort, Alone};
+ghost use Rattle.at_model.specs.Book.{Transaction as Known};
 ghost use Rattle.at_model.specs.Due.{seat_again, seats_again, unanswered_seat, register_again_at, link_again, links_again, transaction_again, transaction_due, transaction_reached};
-ghost use Rattle.at_model.specs.Moves.{begin, posts, stays};
+ghost use Rattle.at_model.specs.Moves.{begin, forgotten, posts, stays};
 ghost use Rattle.at_model.specs.Seats.{sent_now};
-ghost use Rattle.by_id.specs.Decisions.{decision_of};
+ghost use Rattle.by_id.specs.Fates.{meant, turn_of};
 ghost use Rattle.transaction_at.specs.Causes.{reached_of};
 
 use at_base::event::Moment;
@@ -16,13 +17,14 @@ use at_base::target::Target;
 use at_posts::list::PostList;
 use at_posts::posts::register_post;
 use at_tables::cells::State;
-use by_id::moves::{Change, Decision, Moving};
+use by_id::fates::{Choice, Fate, Turn};
+use by_id::moves::Moving;
 use endpoints::uris::protocol_of;
 use std::alloc::{AllocError, Global};
 use transaction_at::abort::{Reason, abort};
 use transaction_at::due::{Cause, cause_of, unanswered_seat};
 use transaction_at::links::push_upwards;
-use transaction_at::seats::{ignores, seat_notice, sent_now};
+use transaction_at::seats::{seat_notice, sent_now};
 use transaction_at::transaction::{Enlistment, Link, Request, Superior, Transaction};
 
 /// What a seat was asked, once more, where it hasn't answered.
@@ -166,16 +168,17 @@ fn sends_again(
     alloc: Global,
     moment: &Moment,
     transaction: &Transaction,
-) -> Result<Change<Transaction>, AllocError>
+) -> Result<Turn<Transaction>, AllocError>
     ensures { IfOk result
-        (λ change. change
+        (λ turn. turn_of (Some transaction.now) turn
         ≡ stays
         (posts (transaction_again moment.entry.now.base transaction.now)
         (begin (sent_now moment.entry.now transaction.now)))) }
 {
-    let mut moving = Moving::begin(alloc, sent_now(moment, transaction)?);
-    push_again(alloc, &mut moving.posts, moment, transaction)?;
-    Ok(moving.stays())
+    let mut posts = PostList::new(alloc);
+    push_again(alloc, &mut posts, moment, transaction)?;
+    let next = sent_now(moment, transaction)?;
+    Ok(Turn::silent(alloc, Fate::Put(next), posts))
 }
 
 /// The transaction expires: it aborts.
@@ -183,11 +186,19 @@ fn expires(
     alloc: Global,
     moment: &Moment,
     transaction: &Transaction,
-) -> Result<Change<Transaction>, AllocError>
-    ensures { IfOk result (λ change. change ≡ abort moment.entry.now Alone (begin transaction.now)) }
+) -> Result<Turn<Transaction>, AllocError>
+    ensures { IfOk result
+        (λ turn. turn_of (Some transaction.now) turn ≡ abort moment.entry.now Alone (begin transaction.now)) }
 {
     let moving = Moving::begin(alloc, transaction.clone()?);
     abort(alloc, moment, &Reason::Alone, moving)
+}
+
+/// The transaction is forgotten.
+fn forgotten(alloc: Global) -> Turn<Transaction>
+    ensures { (t : Known) → turn_of (Some t) result ≡ forgotten (begin t) }
+{
+    Turn::silent(alloc, Fate::Forget, PostList::new(alloc))
 }
 
 /// What a transaction does for this cause.
@@ -197,16 +208,16 @@ fn reaches(
     moment: &Moment,
     transaction: &Transaction,
     cause: Cause,
-) -> Result<Decision<Transaction>, AllocError>
+) -> Result<Choice<Transaction>, AllocError>
     ensures { IfOk result
-        (λ decision. decision_of decision
+        (λ choice. meant (Some transaction.now) choice
         ≡ transaction_reached moment.entry.now transaction.now (reached_of cause)) }
 {
     match cause {
-        Cause::Expired => Ok(Decision::Goes(expires(alloc, moment, transaction)?)),
-        Cause::Over => Ok(Decision::Goes(Moving::begin(alloc, transaction.clone()?).forgotten())),
-        Cause::Unanswered => Ok(Decision::Goes(sends_again(alloc, moment, transaction)?)),
-        Cause::Nothing => ignores(alloc, transaction),
+        Cause::Expired => Ok(Choice::Goes(expires(alloc, moment, transaction)?)),
+        Cause::Over => Ok(Choice::Goes(forgotten(alloc))),
+        Cause::Unanswered => Ok(Choice::Goes(sends_again(alloc, moment, transaction)?)),
+        Cause::Nothing => Ok(Choice::ignored(alloc)),
     }
 }
 
@@ -215,9 +226,9 @@ pub fn on_due(
     alloc: Global,
     moment: &Moment,
     transaction: &Transaction,
-) -> Result<Decision<Transaction>, AllocError>
+) -> Result<Choice<Transaction>, AllocError>
     ensures { IfOk result
-        (λ decision. decision_of decision
+        (λ choice. meant (Some transaction.now) choice
         ≡ transaction_reached moment.entry.now transaction.now
         (transaction_due moment.entry.now transaction.now)) }
 {

@@ -1,29 +1,34 @@
 //! The live transactions of a node: planned first, and then done.
 
-ghost use Rattle.std.specs.Prelude.{◌≡◌, ◌∷◌, ◌++◌, ◌-◌, ◌^◌, IfOk, OnOk, [], length, min, option_copied};
-ghost use Rattle.at_model.specs.Book.{find_by, transaction_id};
+ghost use Rattle.std.specs.Prelude.{ℕ, Bool, ◌≡◌, ◌∷◌, ◌++◌, ◌-◌, ◌^◌, IfOk, OnOk, [], Some, length, min, option_copied};
+ghost use Rattle.at_base.specs.Numbers.{Numbers};
+ghost use Rattle.at_base.specs.declared.message.Message.TheVariants as messages;
+ghost use Rattle.at_model.specs.Book.{Book, find_by, transaction_id};
 ghost use Rattle.at_model.specs.Due.{transaction_due};
-ghost use Rattle.at_model.specs.Step.{is_reached};
-ghost use Rattle.by_id.specs.Decisions.{decision_of};
+ghost use Rattle.at_model.specs.Register.{protocol_named, register_unknown};
+ghost use Rattle.at_model.specs.Step.{activation_plan, at_time, completion_plan, coordinator_plan, is_reached, link_plan, moment_of, plain, registration_plan, seatless_plan, still, stranger_plan, transaction_at, transaction_due_plan, transaction_plan};
+ghost use Rattle.at_tables.specs.Tables.{coordinator_of, participant_of};
+ghost use Rattle.at_tables.specs.declared.cells.State.TheVariants as states;
+ghost use Rattle.by_id.specs.Fates.{meant};
 ghost use Rattle.by_id.specs.Lists.{altered, next_due};
 ghost use Rattle.by_id.specs.Plans.{branch_of};
+ghost use Rattle.by_id.specs.Wholes.{whole_or};
 ghost use Rattle.coordinator_at.specs.Holdings.{transactions_held};
-ghost use Rattle.coordinator_at.specs.BookPlans.{PlansAsTheModel};
-ghost use Rattle.coordinator_at.specs.TransactionPlans.{moved, creation_arrived, register_at, registration_arrived, completion_arrived, completion_at, seat_arrived, seat_at, link_arrived, link_at, arrived_at, transaction_asked, item_asked, transactions_plan, roots_lost, subordinates_lost, transactions_lost, has_initiator, has_seat, has_superior};
+ghost use Rattle.coordinator_at.specs.TransactionPlans.{Holds, roots_lost, subordinates_lost, transactions_lost, whole, with_transactions};
 
 use crate::create::on_create;
 use crate::due::on_due;
 use crate::holdings::all_held;
 use crate::register::on_register;
-use at_base::event::{Arrived, Event, Item, Moment};
+use at_base::event::{Arrived, Moment};
 use at_base::id::Id;
-use at_base::message::Message;
+use at_base::message::{Create, Register};
 use at_base::notice::Kind;
 use at_base::outs::{Effects, Ending, OutList, Outs};
-use at_base::target::{Seat, Target};
+use at_base::target::Seat;
 use at_posts::answers::accepted;
+use by_id::fates::Choice;
 use by_id::list::ById;
-use by_id::moves::Decision;
 use by_id::plan::{Branch, Plan};
 use std::alloc::{AllocError, Global};
 use std::marker::Model;
@@ -33,14 +38,7 @@ use transaction_at::at_link::on_link;
 use transaction_at::at_seat::on_seat;
 use transaction_at::due::may_expire;
 use transaction_at::links::ending;
-use transaction_at::transaction::{Enlistment, Transaction};
-
-/// At each event that moves or makes a transaction, the plan of the transactions is the model's plan of the book that
-/// holds them.
-#[tactic(auto, using(crate::proofs::PlanLaws::plans_as_the_model))]
-pub fn plans_as_the_model()
-    ensures { PlansAsTheModel }
-{}
+use transaction_at::transaction::Transaction;
 
 /// The live transactions of a node, in the order of making.
 #[derive(Drop)]
@@ -57,205 +55,48 @@ impl Model for Transactions {
     ghost view = { λ s. s.live };
 }
 
-/// A decision on a transaction, with the answer that its CreateCoordinationContext still waits for.
+/// What is chosen for a transaction that stands in the book, with the answer that its CreateCoordinationContext still
+/// waits for.
 fn moved(
     alloc: Global,
     moment: &Moment,
     answer: OutList,
     transaction: &Transaction,
-    decision: Decision<Transaction>,
+    choice: Choice<Transaction>,
 ) -> Result<Plan<Transaction>, AllocError>
-    ensures { IfOk result
-        (λ plan. plan ≡ moved moment.entry.now answer transaction.now (decision_of decision)) }
+    ensures { (b : Book) (now : ℕ) (id : Numbers)
+        → moment.entry.now ≡ moment_of b now → transaction_at b id ≡ Some transaction.now
+        → IfOk result
+        (λ plan. whole b now plan
+        ≡ transaction_plan b now answer transaction.now (meant (Some transaction.now) choice)) }
 {
-    let decision = with_answer(alloc, moment, transaction, decision)?;
-    decision.into_plan(alloc, answer, transaction.id)
+    let choice = with_answer(alloc, moment, transaction, choice)?;
+    choice.into_plan(alloc, answer, transaction.id)
 }
 
-/// A message for the activation service.
-fn creation_arrived(
-    alloc: Global,
-    moment: &Moment,
-    arrived: &Arrived,
-    live: usize,
-) -> Result<Plan<Transaction>, AllocError>
-    ensures { IfOk result
-        (λ plan. plan ≡ creation_arrived moment.entry.now arrived.now live arrived.now.message) }
-{
-    match &arrived.message {
-        Message::Create(create) => on_create(alloc, moment, live, arrived, create),
-        _ => Ok(Plan::nothing(alloc)),
-    }
-}
-
-/// A message for the registration service of a transaction.
-fn register_at(
-    alloc: Global,
-    moment: &Moment,
-    arrived: &Arrived,
-    transaction: &Transaction,
-) -> Result<Plan<Transaction>, AllocError>
-    ensures { IfOk result
-        (λ plan. plan ≡ register_at moment.entry.now arrived.now arrived.now.message transaction.now) }
-{
-    match &arrived.message {
-        Message::Register(register) => on_register(alloc, moment, arrived, register, transaction),
-        _ => Ok(Plan::nothing(alloc)),
-    }
-}
-
-/// The same, where the transaction is known.
-fn registration_arrived(
-    alloc: Global,
-    moment: &Moment,
-    arrived: &Arrived,
-    found: Option<&Transaction>,
-) -> Result<Plan<Transaction>, AllocError>
-    ensures { IfOk result
-        (λ plan. plan ≡ registration_arrived moment.entry.now arrived.now (option_copied found.entry)) }
-{
-    match found {
-        Some(transaction) => register_at(alloc, moment, arrived, transaction),
-        None => Ok(Plan::nothing(alloc)),
-    }
-}
-
-/// A message at the completion seat of a transaction.
-fn completion_arrived(
-    alloc: Global,
-    moment: &Moment,
-    arrived: &Arrived,
-    transaction: &Transaction,
-) -> Result<Plan<Transaction>, AllocError>
-    ensures { IfOk result
-        (λ plan. plan
-        ≡ completion_arrived moment.entry.now arrived.now transaction.now transaction.now.completion) }
-{
-    match &transaction.completion {
-        Some(completion) => {
-            let answer = accepted(alloc)?;
-            let decision = on_completion(alloc, moment, arrived, transaction, completion)?;
-            moved(alloc, moment, answer, transaction, decision)
-        }
-        None => Ok(Plan::nothing(alloc)),
-    }
-}
-
-/// The same, where the transaction is known.
-fn completion_at(
-    alloc: Global,
-    moment: &Moment,
-    arrived: &Arrived,
-    found: Option<&Transaction>,
-) -> Result<Plan<Transaction>, AllocError>
-    ensures { IfOk result
-        (λ plan. plan ≡ completion_at moment.entry.now arrived.now (option_copied found.entry)) }
-{
-    match found {
-        Some(transaction) => completion_arrived(alloc, moment, arrived, transaction),
-        None => Ok(Plan::nothing(alloc)),
-    }
-}
-
-/// A participant's message at its seat.
-fn seat_arrived(
-    alloc: Global,
-    moment: &Moment,
-    arrived: &Arrived,
-    transaction: &Transaction,
-    found: Option<&Enlistment>,
-) -> Result<Plan<Transaction>, AllocError>
-    ensures { IfOk result
-        (λ plan. plan
-        ≡ seat_arrived moment.entry.now arrived.now transaction.now (option_copied found.entry)) }
-{
-    match found {
-        Some(seat) => {
-            let answer = accepted(alloc)?;
-            let decision = on_seat(alloc, moment, arrived, transaction, seat)?;
-            moved(alloc, moment, answer, transaction, decision)
-        }
-        None => Ok(Plan::nothing(alloc)),
-    }
-}
-
-/// The same, where the transaction is known.
-fn seat_at(
-    alloc: Global,
-    moment: &Moment,
-    arrived: &Arrived,
-    seat: Seat,
-    found: Option<&Transaction>,
-) -> Result<Plan<Transaction>, AllocError>
-    ensures { IfOk result
-        (λ plan. plan
-        ≡ seat_at moment.entry.now arrived.now seat.number seat.kind (option_copied found.entry)) }
-{
-    match found {
-        Some(transaction) => {
-            let found = transaction.seats.seat(seat.number, seat.kind);
-            seat_arrived(alloc, moment, arrived, transaction, found)
-        }
-        None => Ok(Plan::nothing(alloc)),
-    }
-}
-
-/// The superior's message at a link of a subordinate.
-fn link_arrived(
+/// What the superior's message does at a link of this transaction, which stands in the book; none where it has no
+/// superior.
+#[tactic(auto, using(crate::proofs::TransactionPlans::links, crate::proofs::TransactionPlans::links_none))]
+pub fn at_link(
     alloc: Global,
     moment: &Moment,
     arrived: &Arrived,
     kind: Kind,
     transaction: &Transaction,
-) -> Result<Plan<Transaction>, AllocError>
-    ensures { IfOk result
-        (λ plan. plan
-        ≡ link_arrived moment.entry.now arrived.now kind transaction.now transaction.now.superior) }
+) -> Result<Option<Plan<Transaction>>, AllocError>
+    ensures { (b : Book) (now : ℕ) (id : Numbers)
+        → moment.entry.now ≡ moment_of b now → transaction_at b id ≡ Some transaction.now
+        → IfOk result
+        (λ plan. whole_or with_transactions b now
+        (stranger_plan b now arrived.now (participant_of kind states.None) arrived.now.message) plan
+        ≡ link_plan b now arrived.now kind transaction.now transaction.now.superior) }
 {
-    match &transaction.superior {
-        Some(superior) => {
-            let answer = accepted(alloc)?;
-            let decision = on_link(alloc, moment, arrived, kind, transaction, superior)?;
-            moved(alloc, moment, answer, transaction, decision)
-        }
-        None => Ok(Plan::nothing(alloc)),
-    }
-}
-
-/// The same, where the transaction is known.
-fn link_at(
-    alloc: Global,
-    moment: &Moment,
-    arrived: &Arrived,
-    kind: Kind,
-    found: Option<&Transaction>,
-) -> Result<Plan<Transaction>, AllocError>
-    ensures { IfOk result
-        (λ plan. plan ≡ link_at moment.entry.now arrived.now kind (option_copied found.entry)) }
-{
-    match found {
-        Some(transaction) => link_arrived(alloc, moment, arrived, kind, transaction),
-        None => Ok(Plan::nothing(alloc)),
-    }
-}
-
-/// The transaction of an id, asked whether it is due.
-fn transaction_asked(
-    alloc: Global,
-    moment: &Moment,
-    found: Option<&Transaction>,
-) -> Result<Plan<Transaction>, AllocError>
-    ensures { IfOk result
-        (λ plan. plan ≡ transaction_asked moment.entry.now (option_copied found.entry)) }
-{
-    match found {
-        Some(transaction) => {
-            let decision = on_due(alloc, moment, transaction)?;
-            let answer = OutList::from_vec(Vec::new(alloc));
-            moved(alloc, moment, answer, transaction, decision)
-        }
-        None => Ok(Plan::nothing(alloc)),
-    }
+    let Some(superior) = &transaction.superior else {
+        return Ok(None);
+    };
+    let choice = on_link(alloc, moment, arrived, kind, transaction, superior)?;
+    let plan = moved(alloc, moment, accepted(alloc)?, transaction, choice)?;
+    Ok(Some(plan))
 }
 
 /// The end of a root that going down loses.
@@ -337,36 +178,6 @@ impl Transactions {
         self.live.find(id)
     }
 
-    /// Whether an initiator registered at the transaction of this id.
-    pub fn has_initiator(&self, id: Id) -> bool
-        ensures { result ≡ has_initiator (find_by transaction_id id self.now) }
-    {
-        match self.live.find(id) {
-            Some(transaction) => transaction.completion.is_some(),
-            None => false,
-        }
-    }
-
-    /// Whether the transaction of this id has this seat.
-    pub fn has_seat(&self, id: Id, seat: Seat) -> bool
-        ensures { result ≡ has_seat seat.number seat.kind (find_by transaction_id id self.now) }
-    {
-        match self.live.find(id) {
-            Some(transaction) => transaction.seats.seat(seat.number, seat.kind).is_some(),
-            None => false,
-        }
-    }
-
-    /// Whether the transaction of this id is a subordinate, with links to its superior.
-    pub fn has_superior(&self, id: Id) -> bool
-        ensures { result ≡ has_superior (find_by transaction_id id self.now) }
-    {
-        match self.live.find(id) {
-            Some(transaction) => transaction.superior.is_some(),
-            None => false,
-        }
-    }
-
     /// The id of the first transaction that is due, behind this one or at all.
     pub fn next_due(&self, after: Option<Id>, moment: &Moment) -> Option<Id>
         ensures { result
@@ -375,74 +186,126 @@ impl Transactions {
         self.live.next_due(after, moment)
     }
 
-    /// A message, by its target.
-    fn arrived_at(
+    /// What a CreateCoordinationContext does: one transaction more, or it is refused.
+    #[tactic(auto, using(crate::proofs::TransactionPlans::creates))]
+    pub fn at_activation(
         &self,
         alloc: Global,
         moment: &Moment,
         arrived: &Arrived,
+        create: &Create,
     ) -> Result<Plan<Transaction>, AllocError>
-        ensures { IfOk result
-            (λ plan. plan ≡ arrived_at moment.entry.now arrived.now self.now arrived.now.target) }
+        ensures { (b : Book) (now : ℕ) → Holds b now self.now moment.entry.now
+            → IfOk result
+            (λ plan. whole b now plan ≡ activation_plan b now arrived.now (messages.Create create.now)) }
     {
-        match arrived.target {
-            Target::Activation => creation_arrived(alloc, moment, arrived, self.live.len()),
-            Target::Registration(id) => registration_arrived(
-                alloc,
-                moment,
-                arrived,
-                self.live.find(id),
-            ),
-            Target::Completion(id) => completion_at(alloc, moment, arrived, self.live.find(id)),
-            Target::Coordinator { id, seat } => seat_at(
-                alloc,
-                moment,
-                arrived,
-                seat,
-                self.live.find(id),
-            ),
-            Target::Participant { id, kind } => link_at(
-                alloc,
-                moment,
-                arrived,
-                kind,
-                self.live.find(id),
-            ),
-            Target::Initiator(_) | Target::Work => Ok(Plan::nothing(alloc)),
-        }
+        on_create(alloc, moment, self.live.len(), arrived, create)
     }
 
-    /// An item that is asked whether it is due.
-    fn item_asked(
+    /// What a Register does at the transaction of this id; none where there is no such transaction.
+    #[tactic(auto, using(crate::proofs::TransactionPlans::registers, crate::proofs::TransactionPlans::registers_none))]
+    pub fn at_registration(
         &self,
         alloc: Global,
         moment: &Moment,
-        item: Item,
-    ) -> Result<Plan<Transaction>, AllocError>
-        ensures { IfOk result (λ plan. plan ≡ item_asked moment.entry.now self.now item) }
+        arrived: &Arrived,
+        register: &Register,
+        id: Id,
+    ) -> Result<Option<Plan<Transaction>>, AllocError>
+        ensures { (b : Book) (now : ℕ) → Holds b now self.now moment.entry.now
+            → IfOk result
+            (λ plan. whole_or with_transactions b now
+            (plain
+            (still (at_time now b)
+            (register_unknown arrived.now register.now (protocol_named register.now.protocol)))) plan
+            ≡ registration_plan b now arrived.now (messages.Register register.now) (transaction_at b id)) }
     {
-        match item {
-            Item::Transaction(id) => transaction_asked(alloc, moment, self.live.find(id)),
-            Item::Leaf(_) | Item::Activity(_) => Ok(Plan::nothing(alloc)),
-        }
+        let Some(transaction) = self.live.find(id) else {
+            return Ok(None);
+        };
+        let plan = on_register(alloc, moment, arrived, register, transaction)?;
+        Ok(Some(plan))
     }
 
-    /// What an event does to the transactions. It takes the memory that doing it needs, and changes nothing.
-    ///
-    /// An event that is none for a transaction that stands here gives a plan that does nothing and answers nothing.
-    pub fn plan(
+    /// What a message does at the completion seat of the transaction of this id; none where there is no such
+    /// transaction, or it has no initiator.
+    #[tactic(auto, using(crate::proofs::TransactionPlans::completes, crate::proofs::TransactionPlans::completes_none, crate::proofs::TransactionPlans::completes_seatless))]
+    pub fn at_completion(
         &self,
         alloc: Global,
-        event: &Event,
         moment: &Moment,
-    ) -> Result<Plan<Transaction>, AllocError>
-        ensures { IfOk result (λ plan. plan ≡ transactions_plan moment.entry.now event.now self.now) }
+        arrived: &Arrived,
+        id: Id,
+    ) -> Result<Option<Plan<Transaction>>, AllocError>
+        ensures { (b : Book) (now : ℕ) (done : Bool) → Holds b now self.now moment.entry.now
+            → IfOk result
+            (λ plan. whole_or with_transactions b now (seatless_plan b now arrived.now done) plan
+            ≡ completion_plan b now arrived.now done (transaction_at b id)) }
     {
-        match event {
-            Event::Arrived(arrived) => self.arrived_at(alloc, moment, arrived),
-            Event::Due(item) => self.item_asked(alloc, moment, *item),
-            Event::Local(_) | Event::Tick => Ok(Plan::nothing(alloc)),
-        }
+        let Some(transaction) = self.live.find(id) else {
+            return Ok(None);
+        };
+        let Some(completion) = &transaction.completion else {
+            return Ok(None);
+        };
+        let choice = on_completion(alloc, moment, arrived, transaction, completion)?;
+        let plan = moved(alloc, moment, accepted(alloc)?, transaction, choice)?;
+        Ok(Some(plan))
+    }
+
+    /// What a participant's message does at this seat of the transaction of this id; none where there is no such
+    /// transaction, or no such seat.
+    #[tactic(auto, using(crate::proofs::TransactionPlans::seats, crate::proofs::TransactionPlans::seats_none, crate::proofs::TransactionPlans::seats_seatless))]
+    pub fn at_seat(
+        &self,
+        alloc: Global,
+        moment: &Moment,
+        arrived: &Arrived,
+        id: Id,
+        seat: Seat,
+    ) -> Result<Option<Plan<Transaction>>, AllocError>
+        ensures { (b : Book) (now : ℕ) → Holds b now self.now moment.entry.now
+            → IfOk result
+            (λ plan. whole_or with_transactions b now
+            (stranger_plan b now arrived.now (coordinator_of seat.kind states.None) arrived.now.message) plan
+            ≡ coordinator_plan b now arrived.now seat.number seat.kind (transaction_at b id)) }
+    {
+        let Some(transaction) = self.live.find(id) else {
+            return Ok(None);
+        };
+        let Some(enlistment) = transaction.seats.seat(seat.number, seat.kind) else {
+            return Ok(None);
+        };
+        let choice = on_seat(alloc, moment, arrived, transaction, enlistment)?;
+        let plan = moved(alloc, moment, accepted(alloc)?, transaction, choice)?;
+        Ok(Some(plan))
+    }
+
+    /// What the transaction of this id does by itself, where there is one.
+    #[tactic(auto, using(crate::proofs::TransactionPlans::asks, crate::proofs::TransactionPlans::asks_none))]
+    pub fn due(
+        &self,
+        alloc: Global,
+        moment: &Moment,
+        id: Id,
+    ) -> Result<Option<Plan<Transaction>>, AllocError>
+        ensures { (b : Book) (now : ℕ) → Holds b now self.now moment.entry.now
+            → IfOk result
+            (λ plan. whole_or with_transactions b now (plain (still b [])) plan
+            ≡ transaction_due_plan b now (transaction_at b id)) }
+    {
+        let Some(transaction) = self.live.find(id) else {
+            return Ok(None);
+        };
+        let choice = on_due(alloc, moment, transaction)?;
+        let plan = moved(
+            alloc,
+            moment,
+            OutList::from_vec(Vec::new(alloc)),
+            transaction,
+            choice,
+        )?;
+        Ok(Some(plan))
     }
 
     /// Does what was planned, where its record landed, and where it didn't. It takes no memory, and cannot fail.

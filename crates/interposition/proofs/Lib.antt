@@ -1,10 +1,8 @@
-pub mod PlanLaws
-pub mod PlanParts
 pub mod Recoveries
 pub mod RisingIds
 pub mod ModelSteps
-pub mod SpentCounters
 pub mod DueItems
 pub mod DueWalks
 pub mod Losses
 pub mod Holdings
+mod UnknownItems

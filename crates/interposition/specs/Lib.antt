@@ -1,6 +1,6 @@
 pub mod PlanResults
 pub mod Due
 pub mod Holdings
-pub mod Plans
+pub mod Strangers
 pub mod Recoveries
 pub mod ModelSteps

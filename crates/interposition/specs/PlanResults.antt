@@ -1,66 +1,43 @@
 -- What a plan does to a book, where its record landed, and where it didn't.
-use Rattle.std.specs.Prelude.{ℕ, List, Option, None, Bool, true, false, nat_lt, ◌+◌, if◌then◌else◌}
+use Rattle.std.specs.Prelude.{ℕ, List, Option, None, Bool, if◌then◌else◌}
 use Rattle.at_base.specs.Numbers.{Numbers}
 use Rattle.at_base.specs.declared.record.Record.{Record}
 use Rattle.at_base.specs.declared.outs.Outs.{Outs}
-use Rattle.at_model.specs.Book.{Book, transaction_id, leaf_id, last_counter}
+use Rattle.at_model.specs.Book.{Book}
 use Rattle.at_model.specs.Outcomes.{with_outcome}
-use Rattle.at_model.specs.Step.{at_time}
-use Rattle.by_id.specs.Lists.{altered}
-use Rattle.by_id.specs.Plans.{branch_of, entry_of}
-use Rattle.by_id.specs.declared.list.Alteration.{Alteration}
-use Rattle.by_id.specs.declared.list.Alteration.TheVariants as alterations
-use Rattle.by_id.specs.declared.plan.Plan.{Plan as Planned}
+use Rattle.at_model.specs.Step.{Plan as Planned, at_time, branch, plain}
+use Rattle.by_id.specs.Plans.{branch_of, draws, entry_of, notes_time}
+use Rattle.by_id.specs.Wholes.{drawn}
+use Rattle.by_id.specs.declared.plan.Plan.{Plan as ListPlan}
 use Rattle.by_id.specs.declared.plan.Plan.TheVariants as plans
-use Rattle.completion_at.specs.ActivityPlans.{settled}
+use Rattle.participant_at.specs.LeafPlans.{whole as of_leaves}
+use Rattle.coordinator_at.specs.TransactionPlans.{whole as of_transactions}
+use Rattle.completion_at.specs.ActivityPlans.{whole as of_activities}
 use Rattle.interposition.specs.declared.plan.Part.{Part}
 use Rattle.interposition.specs.declared.plan.Part.TheVariants as parts
 use Rattle.interposition.specs.declared.plan.Plan.{Plan}
 
-abbrev pub is_change : {A : Type 0} → Alteration A → Bool
-is_change alterations.Keep = false
-is_change (alterations.Put id item) = true
-is_change (alterations.Add item) = true
-
-abbrev pub is_addition : {A : Type 0} → Alteration A → Bool
-is_addition alterations.Keep = false
-is_addition (alterations.Put id item) = false
-is_addition (alterations.Add item) = true
-
--- A step notes the time, but for one that is undone.
-abbrev pub notes_time : {A : Type 0} → Planned A → Bool → Bool
-notes_time (plans.Plain branch) landed = true
-notes_time (plans.Recorded entry stands absent) landed = if landed then true else is_change absent.change
-
--- an item that is made draws an id
-abbrev pub draws : {A : Type 0} → Planned A → Bool → Bool
-draws p landed = is_addition (branch_of p landed).change
-
 abbrev pub noted : Bool → ℕ → Book → Book
 noted holds now b = if holds then at_time now b else b
 
-abbrev pub drawn : Bool → Book → Book
-drawn holds b = record b { counter = if holds then (if nat_lt b.counter last_counter then b.counter + 1 else b.counter) else b.counter }
-
 -- the outcomes behind it: a record that stands may add one
-abbrev pub outcomes_by : {A : Type 0} → Planned A → Bool → List Numbers → List Numbers
+abbrev pub outcomes_by : {A : Type 0} → ListPlan A → Bool → List Numbers → List Numbers
 outcomes_by (plans.Plain branch) landed ids = ids
-outcomes_by (plans.Recorded entry stands absent) landed ids = if landed then with_outcome entry ids else ids
+outcomes_by (plans.Recorded entry stands absent undone) landed ids = if landed then with_outcome entry ids else ids
 
 abbrev pub kept : List Numbers → Book → Book
 kept ids b = record b { outcomes = ids }
 
-abbrev pub moved : {A : Type 0} → ℕ → Planned A → Bool → Book → Book
-moved now p landed b = kept (outcomes_by p landed b.outcomes) (drawn (draws p landed) (noted (notes_time p landed) now b))
+-- what a plan of a list does to the book beside the list
+abbrev pub gone : {A : Type 0} → ListPlan A → ℕ → Bool → Book → Book
+gone p now landed b = kept (outcomes_by p landed b.outcomes) (drawn (draws p landed) (noted (notes_time p landed) now b))
 
-abbrev pub done_part : ℕ → Part → Bool → Book → Book
-done_part now (parts.Still holds outs) landed b = noted holds now b
-done_part now (parts.Transactions p) landed b =
-    record (moved now p landed b) { transactions = altered transaction_id (branch_of p landed).change b.transactions }
-done_part now (parts.Leaves p) landed b =
-    record (moved now p landed b) { leaves = altered leaf_id (branch_of p landed).change b.leaves }
-done_part now (parts.Activities p) landed b =
-    record (moved now p landed b) { activities = settled (branch_of p landed).change b.activities }
+-- a part, as the model's plan of the book
+abbrev pub whole : Book → ℕ → Part → Planned
+whole b now (parts.Still holds outs) = plain (record { book = noted holds now b; outs = outs.outs; effects = outs.effects })
+whole b now (parts.Transactions p) = of_transactions b now p
+whole b now (parts.Leaves p) = of_leaves b now p
+whole b now (parts.Activities p) = of_activities b now p
 
 abbrev pub part_entry : Part → Option Record
 part_entry (parts.Still holds outs) = None
@@ -76,7 +53,7 @@ part_outs (parts.Activities p) landed = (branch_of p landed).outs
 
 -- the book after it
 abbrev pub done : Plan → Bool → Book → Book
-done p landed b = done_part p.now p.part landed b
+done p landed b = (branch (whole b p.now p.part) landed).book
 
 -- what is sent and happened
 abbrev pub sent : Plan → Bool → Outs

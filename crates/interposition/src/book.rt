@@ -1,26 +1,25 @@
 //! A node's book: planned first, and then done.
 
-ghost use Rattle.std.specs.Prelude.{ℕ, List, ◌≡◌, ◌≤◌, ◌++◌, ◌-◌, ◌^◌, IfOk, OnOk, Option, Some, None, min, option_copied, option_map};
-ghost use Rattle.at_base.specs.declared.event.Event.TheVariants as events;
+ghost use Rattle.std.specs.Prelude.{ℕ, List, ◌≡◌, ◌≤◌, ◌++◌, ◌-◌, ◌^◌, IfOk, OnOk, Option, Some, min, option_copied, option_map};
 ghost use Rattle.at_base.specs.declared.record.Record.{Record};
 ghost use Rattle.at_base.specs.declared.target.Target.TheVariants as targets;
 ghost use Rattle.at_model.specs.Book.{next_id};
 ghost use Rattle.at_model.specs.Recovery.{recover};
-ghost use Rattle.at_model.specs.Step.{has_committed, is_committing, is_decided_root, moment_of, transaction_at};
+ghost use Rattle.at_model.specs.Step.{activation_plan, activity_at, activity_due_plan, arrived_plan, completion_plan, coordinator_plan, due_plan, has_committed, initiator_plan, is_committing, is_decided_root, leaf_at, leaf_due_plan, leaf_or_stranger_plan, link_plan, local_plan, moment_of, participant_plan, plan, refuses, registration_plan, seatless_plan, transaction_at, transaction_due_plan, work_plan};
+ghost use Rattle.by_id.specs.Plans.{branch_of};
+ghost use Rattle.by_id.specs.Wholes.{drawn};
+ghost use Rattle.completion_at.specs.ActivityPlans.{with_activities};
 ghost use Rattle.completion_at.specs.Names.{refusal_of};
-ghost use Rattle.completion_at.specs.ActivityPlans.{activities_plan, refused_at};
-ghost use Rattle.coordinator_at.specs.TransactionPlans.{has_initiator, transactions_lost, transactions_plan};
-ghost use Rattle.participant_at.specs.LeafPlans.{leaves_lost, leaves_plan};
-ghost use Rattle.interposition.specs.PlanResults.{done, drawn, kept, noted, outcomes_by, sent};
+ghost use Rattle.coordinator_at.specs.TransactionPlans.{transactions_lost, with_transactions};
+ghost use Rattle.participant_at.specs.LeafPlans.{leaves_lost, with_leaves};
+ghost use Rattle.interposition.specs.PlanResults.{done, gone, kept, noted, outcomes_by, sent, whole};
 ghost use Rattle.interposition.specs.Due.{FindsTheDue, WalksTheDue, next_item, next_transaction, next_leaf, next_activity};
 ghost use Rattle.interposition.specs.Holdings.{HoldsFew, held};
 ghost use Rattle.interposition.specs.Recoveries.{RecoversAsTheModel, StandFor, recovered};
-ghost use Rattle.interposition.specs.Plans.{arrived_part, at_activation, at_activity, at_completion, at_leaf, at_participant, at_registration, at_transaction, at_work, due_part, part_of, planned, requested_part};
-ghost use Rattle.interposition.specs.declared.plan.Part.TheVariants as parts;
 ghost use Rattle.transaction_at.specs.PhaseNames.{phase_of};
-ghost use Rattle.interposition.specs.ModelSteps.{KeepsBounds, LosesAsTheModel, StepsAsTheModel};
+ghost use Rattle.interposition.specs.ModelSteps.{IsStep, KeepsBounds, LosesAsTheModel};
 
-use crate::plan::{Part, Plan, draws, notes_time};
+use crate::plan::{Part, Plan};
 use crate::strangers::{answered, committed, ignored, nothing, stranger};
 use at_base::event::{Arrived, Event, Item, Local, Moment};
 use at_base::id::Id;
@@ -28,19 +27,18 @@ use at_base::message::Message;
 use at_base::notice::Kind;
 use at_base::outs::{Effects, Outs};
 use at_base::record::Record;
-use at_base::target::Target;
+use at_base::target::{Seat, Target};
 use at_base::text::Text;
 use by_id::plan;
-use completion_at::activities::{
-    Activities, plans_as_the_model as activities_as_the_model,
-    refuses_as_the_model as requests_as_the_model,
-};
+use completion_at::activities::{Activities, refuses_as_the_model};
+use completion_at::activity::Activity;
 use completion_at::requests::Refusal;
 use coordinator_at::register::register_unknown;
-use coordinator_at::transactions::{Transactions, plans_as_the_model as transactions_as_the_model};
+use coordinator_at::transactions::{Transactions, at_link};
 use model_laws::rules::{ids_rise, records_are_well_formed, recovers_the_compacted};
 use outcomes_at::outcomes::Outcomes;
-use participant_at::leaves::{Leaves, plans_as_the_model as leaves_as_the_model};
+use participant_at::leaf::Leaf;
+use participant_at::leaves::Leaves;
 use std::alloc::{AllocError, Global};
 use std::marker::Model;
 use transaction_at::transaction::{Phase, Transaction};
@@ -51,21 +49,10 @@ pub fn loses_as_the_model()
     ensures { LosesAsTheModel }
 {}
 
-/// The plan of an event is the model's plan of it, and doing the plan is the model's step.
-pub fn steps_as_the_model()
-    ensures { StepsAsTheModel }
-{
-    transactions_as_the_model();
-    leaves_as_the_model();
-    activities_as_the_model();
-    requests_as_the_model();
-}
-
 /// The records that a book within its bounds plans are well-formed, and it stays within them.
 pub fn keeps_bounds()
     ensures { KeepsBounds }
 {
-    steps_as_the_model();
     records_are_well_formed();
 }
 
@@ -210,7 +197,7 @@ impl Book {
     }
 
     /// The id that the next item gets; none where the counter is spent.
-    fn next_id(&self) -> Option<Id>
+    pub fn next_id(&self) -> Option<Id>
         ensures { result ≡ next_id self.now }
     {
         if self.counter < u32::MAX {
@@ -220,94 +207,47 @@ impl Book {
         }
     }
 
-    fn plan_transactions(
-        &self,
-        alloc: Global,
-        event: &Event,
-        moment: &Moment,
-    ) -> Result<Part, AllocError>
-        ensures { IfOk result
-            (λ part. part ≡ parts.Transactions (transactions_plan moment.entry.now event.now self.now.transactions)) }
-    {
-        let plan = self.transactions.plan(alloc, event, moment)?;
-        Ok(Part::Transactions(plan))
-    }
-
-    fn plan_leaves(&self, alloc: Global, event: &Event, moment: &Moment) -> Result<Part, AllocError>
-        ensures { IfOk result (λ part. part ≡ parts.Leaves (leaves_plan moment.entry.now event.now self.now.leaves)) }
-    {
-        let plan = self.leaves.plan(alloc, event, moment)?;
-        Ok(Part::Leaves(plan))
-    }
-
-    fn plan_activities(
-        &self,
-        alloc: Global,
-        event: &Event,
-        moment: &Moment,
-    ) -> Result<Part, AllocError>
-        ensures { IfOk result
-            (λ part. part ≡ parts.Activities (activities_plan moment.entry.now event.now self.now.activities)) }
-    {
-        let plan = self.activities.plan(alloc, event, moment)?;
-        Ok(Part::Activities(plan))
-    }
-
+    /// A message for the activation service.
+    #[tactic(auto, unfolding(at_model::specs::Step::activation_plan))]
     fn at_activation(
         &self,
         alloc: Global,
-        event: &Event,
         moment: &Moment,
         arrived: &Arrived,
     ) -> Result<Part, AllocError>
-        requires { event.now ≡ events.Arrived arrived.now }
-        ensures { IfOk result
-            (λ part. part ≡ at_activation self.now moment.entry.now arrived.now arrived.now.message) }
+        ensures { (now : ℕ) → moment.entry.now ≡ moment_of self.now now
+            → IfOk result (λ part. whole self.now now part ≡ activation_plan self.now now arrived.now arrived.now.message) }
     {
         match &arrived.message {
-            Message::Create(_) => self.plan_transactions(alloc, event, moment),
+            Message::Create(create) => Ok(Part::Transactions(
+                self.transactions
+                    .at_activation(alloc, moment, arrived, create)?,
+            )),
             _ => ignored(alloc),
         }
     }
 
+    /// A message for the registration service of a transaction.
+    #[tactic(auto, unfolding(at_model::specs::Step::registration_plan))]
     fn at_registration(
         &self,
         alloc: Global,
-        event: &Event,
         moment: &Moment,
         arrived: &Arrived,
         id: Id,
     ) -> Result<Part, AllocError>
-        requires { event.now ≡ events.Arrived arrived.now }
-        ensures { IfOk result
-            (λ part. part
-            ≡ at_registration self.now moment.entry.now arrived.now (transaction_at self.now id) arrived.now.message) }
+        ensures { (now : ℕ) → moment.entry.now ≡ moment_of self.now now
+            → IfOk result (λ part. whole self.now now part ≡ registration_plan self.now now arrived.now arrived.now.message (transaction_at self.now id)) }
     {
-        match &arrived.message {
-            Message::Register(register) => match self.transactions.find(id) {
-                Some(_) => self.plan_transactions(alloc, event, moment),
-                None => Ok(answered(alloc, register_unknown(alloc, arrived, register)?)),
-            },
-            _ => ignored(alloc),
-        }
-    }
-
-    fn at_transaction(
-        &self,
-        alloc: Global,
-        event: &Event,
-        moment: &Moment,
-        arrived: &Arrived,
-        has: bool,
-    ) -> Result<Part, AllocError>
-        requires { event.now ≡ events.Arrived arrived.now }
-        ensures { IfOk result
-            (λ part. part ≡ at_transaction self.now moment.entry.now arrived.now arrived.now.target has) }
-    {
-        if has {
-            self.plan_transactions(alloc, event, moment)
-        } else {
-            stranger(alloc, moment, arrived)
+        let Message::Register(register) = &arrived.message else {
+            return ignored(alloc);
+        };
+        match self
+            .transactions
+            .at_registration(alloc, moment, arrived, register, id)?
+        {
+            Some(plan) => Ok(Part::Transactions(plan)),
+            None => Ok(answered(alloc, register_unknown(alloc, arrived, register)?)),
         }
     }
 
@@ -318,207 +258,252 @@ impl Book {
         is_decided_root(self.transactions.find(id)) || self.outcomes.has(id)
     }
 
-    fn at_completion(
+    /// A message at a completion seat that isn't there.
+    #[tactic(auto, using(crate::proofs::UnknownItems::outcome, crate::proofs::UnknownItems::at_completion))]
+    fn seatless(
         &self,
         alloc: Global,
-        event: &Event,
         moment: &Moment,
         arrived: &Arrived,
         id: Id,
     ) -> Result<Part, AllocError>
-        requires event { event.now ≡ events.Arrived arrived.now }
-        requires target { arrived.now.target ≡ targets.Completion id }
-        ensures { IfOk result
-            (λ part. part
-            ≡ at_completion self.now moment.entry.now arrived.now arrived.now.target
-            (has_initiator (transaction_at self.now id)) (has_committed self.now id)) }
+        requires { arrived.now.target ≡ targets.Completion id }
+        ensures { (now : ℕ) → moment.entry.now ≡ moment_of self.now now
+            → IfOk result (λ part. whole self.now now part ≡ seatless_plan self.now now arrived.now (has_committed self.now id)) }
     {
-        if self.transactions.has_initiator(id) {
-            self.plan_transactions(alloc, event, moment)
-        } else if self.has_committed(id) {
+        if self.has_committed(id) {
             committed(alloc, moment, arrived)
         } else {
             stranger(alloc, moment, arrived)
         }
     }
 
+    fn at_completion(
+        &self,
+        alloc: Global,
+        moment: &Moment,
+        arrived: &Arrived,
+        id: Id,
+    ) -> Result<Part, AllocError>
+        requires { arrived.now.target ≡ targets.Completion id }
+        ensures { (now : ℕ) → moment.entry.now ≡ moment_of self.now now
+            → IfOk result (λ part. whole self.now now part ≡ completion_plan self.now now arrived.now (has_committed self.now id) (transaction_at self.now id)) }
+    {
+        match self.transactions.at_completion(alloc, moment, arrived, id)? {
+            Some(plan) => Ok(Part::Transactions(plan)),
+            None => self.seatless(alloc, moment, arrived, id),
+        }
+    }
+
+    #[tactic(auto, using(crate::proofs::UnknownItems::at_seat))]
+    fn at_coordinator(
+        &self,
+        alloc: Global,
+        moment: &Moment,
+        arrived: &Arrived,
+        id: Id,
+        seat: Seat,
+    ) -> Result<Part, AllocError>
+        requires { arrived.now.target ≡ targets.Coordinator id seat }
+        ensures { (now : ℕ) → moment.entry.now ≡ moment_of self.now now
+            → IfOk result (λ part. whole self.now now part ≡ coordinator_plan self.now now arrived.now seat.number seat.kind (transaction_at self.now id)) }
+    {
+        match self.transactions.at_seat(alloc, moment, arrived, id, seat)? {
+            Some(plan) => Ok(Part::Transactions(plan)),
+            None => stranger(alloc, moment, arrived),
+        }
+    }
+
+    /// A message at a leaf, where no transaction has its id.
+    #[tactic(auto, using(crate::proofs::UnknownItems::at_participant))]
     fn at_leaf(
         &self,
         alloc: Global,
-        event: &Event,
-        moment: &Moment,
-        arrived: &Arrived,
-        has: bool,
-    ) -> Result<Part, AllocError>
-        requires { event.now ≡ events.Arrived arrived.now }
-        ensures { IfOk result (λ part. part ≡ at_leaf self.now moment.entry.now arrived.now arrived.now.target has) }
-    {
-        if has {
-            self.plan_leaves(alloc, event, moment)
-        } else {
-            stranger(alloc, moment, arrived)
-        }
-    }
-
-    fn at_activity(
-        &self,
-        alloc: Global,
-        event: &Event,
-        moment: &Moment,
-        arrived: &Arrived,
-        has: bool,
-    ) -> Result<Part, AllocError>
-        requires { event.now ≡ events.Arrived arrived.now }
-        ensures { IfOk result (λ part. part ≡ at_activity self.now moment.entry.now arrived.now arrived.now.target has) }
-    {
-        if has {
-            self.plan_activities(alloc, event, moment)
-        } else {
-            stranger(alloc, moment, arrived)
-        }
-    }
-
-    fn at_participant(
-        &self,
-        alloc: Global,
-        event: &Event,
         moment: &Moment,
         arrived: &Arrived,
         id: Id,
         kind: Kind,
     ) -> Result<Part, AllocError>
-        requires event { event.now ≡ events.Arrived arrived.now }
-        requires target { arrived.now.target ≡ targets.Participant id kind }
-        ensures { IfOk result
-            (λ part. part ≡ at_participant self.now moment.entry.now arrived.now id kind (transaction_at self.now id)) }
+        requires { arrived.now.target ≡ targets.Participant id kind }
+        ensures { (now : ℕ) → moment.entry.now ≡ moment_of self.now now
+            → IfOk result (λ part. whole self.now now part ≡ leaf_or_stranger_plan self.now now arrived.now kind (leaf_at self.now id)) }
     {
-        match self.transactions.find(id) {
-            Some(transaction) => {
-                let has = transaction.superior.is_some();
-                self.at_transaction(alloc, event, moment, arrived, has)
-            }
-            None => self.at_leaf(alloc, event, moment, arrived, self.leaves.has(id, kind)),
+        match self.leaves.at_leaf(alloc, moment, arrived, id, kind)? {
+            Some(plan) => Ok(Part::Leaves(plan)),
+            None => stranger(alloc, moment, arrived),
         }
     }
 
-    fn at_work(
+    #[tactic(auto, using(crate::proofs::UnknownItems::at_activity))]
+    fn at_activity(
         &self,
         alloc: Global,
-        event: &Event,
         moment: &Moment,
         arrived: &Arrived,
+        id: Id,
     ) -> Result<Part, AllocError>
-        requires { event.now ≡ events.Arrived arrived.now }
-        ensures { IfOk result (λ part. part ≡ at_work self.now moment.entry.now arrived.now arrived.now.message) }
+        requires { arrived.now.target ≡ targets.Initiator id }
+        ensures { (now : ℕ) → moment.entry.now ≡ moment_of self.now now
+            → IfOk result (λ part. whole self.now now part ≡ initiator_plan self.now now arrived.now (activity_at self.now id)) }
+    {
+        match self.activities.at_activity(alloc, moment, arrived, id)? {
+            Some(plan) => Ok(Part::Activities(plan)),
+            None => stranger(alloc, moment, arrived),
+        }
+    }
+
+    #[tactic(auto, unfolding(at_model::specs::Step::work_plan))]
+    fn at_work(&self, alloc: Global, moment: &Moment, arrived: &Arrived) -> Result<Part, AllocError>
+        ensures { (now : ℕ) → moment.entry.now ≡ moment_of self.now now
+            → IfOk result (λ part. whole self.now now part ≡ work_plan self.now now arrived.now arrived.now.message) }
     {
         match &arrived.message {
-            Message::Work(_) => self.plan_leaves(alloc, event, moment),
+            Message::Work(work) => Ok(Part::Leaves(
+                self.leaves.at_work(alloc, moment, arrived, work)?,
+            )),
             _ => ignored(alloc),
         }
     }
 
-    /// A message, by its target.
-    fn arrived(
+    /// A message at the link of this subordinate.
+    #[tactic(auto, using(crate::proofs::UnknownItems::at_participant))]
+    fn at_link(
         &self,
         alloc: Global,
-        event: &Event,
         moment: &Moment,
         arrived: &Arrived,
+        id: Id,
+        kind: Kind,
+        transaction: &Transaction,
     ) -> Result<Part, AllocError>
-        requires { event.now ≡ events.Arrived arrived.now }
-        ensures { IfOk result
-            (λ part. part ≡ arrived_part self.now moment.entry.now arrived.now arrived.now.target) }
+        requires { arrived.now.target ≡ targets.Participant id kind }
+        ensures { (now : ℕ) → moment.entry.now ≡ moment_of self.now now → transaction_at self.now id ≡ Some transaction.now
+            → IfOk result (λ part. whole self.now now part ≡ link_plan self.now now arrived.now kind transaction.now transaction.now.superior) }
     {
-        match arrived.target {
-            Target::Activation => self.at_activation(alloc, event, moment, arrived),
-            Target::Registration(id) => self.at_registration(alloc, event, moment, arrived, id),
-            Target::Completion(id) => self.at_completion(alloc, event, moment, arrived, id),
-            Target::Coordinator { id, seat } => {
-                let has = self.transactions.has_seat(id, seat);
-                self.at_transaction(alloc, event, moment, arrived, has)
-            }
-            Target::Participant { id, kind } => {
-                self.at_participant(alloc, event, moment, arrived, id, kind)
-            }
-            Target::Initiator(id) => {
-                let has = self.activities.find(id).is_some();
-                self.at_activity(alloc, event, moment, arrived, has)
-            }
-            Target::Work => self.at_work(alloc, event, moment, arrived),
+        match at_link(alloc, moment, arrived, kind, transaction)? {
+            Some(plan) => Ok(Part::Transactions(plan)),
+            None => stranger(alloc, moment, arrived),
         }
     }
 
-    /// A local request that isn't refused moves an activity.
-    fn requested(
+    /// A message at a subordinate's link, or else at a leaf.
+    #[tactic(auto, using(crate::proofs::UnknownItems::at_a_link, crate::proofs::UnknownItems::at_a_leaf))]
+    fn at_participant(
         &self,
         alloc: Global,
-        event: &Event,
         moment: &Moment,
-        local: &Local,
+        arrived: &Arrived,
+        id: Id,
+        kind: Kind,
     ) -> Result<Part, AllocError>
-        requires { event.now ≡ events.Local local.now }
-        ensures { IfOk result
-            (λ part. part
-            ≡ requested_part self.now moment.entry.now local.now
-            (refused_at moment.entry.now.next self.now.activities local.now)) }
+        requires { arrived.now.target ≡ targets.Participant id kind }
+        ensures { (now : ℕ) → moment.entry.now ≡ moment_of self.now now
+            → IfOk result (λ part. whole self.now now part ≡ participant_plan self.now now arrived.now kind (transaction_at self.now id) (leaf_at self.now id)) }
     {
-        match self.activities.refuses(moment.next, local) {
-            Some(_) => Ok(nothing(alloc)),
-            None => self.plan_activities(alloc, event, moment),
+        match self.transactions.find(id) {
+            Some(transaction) => {
+                let part = self.at_link(alloc, moment, arrived, id, kind, transaction)?;
+                Ok(part)
+            }
+            None => {
+                let part = self.at_leaf(alloc, moment, arrived, id, kind)?;
+                Ok(part)
+            }
+        }
+    }
+
+    /// A message, by its target.
+    #[tactic(auto, unfolding(at_model::specs::Step::arrived_plan))]
+    fn arrived(&self, alloc: Global, moment: &Moment, arrived: &Arrived) -> Result<Part, AllocError>
+        ensures { (now : ℕ) → moment.entry.now ≡ moment_of self.now now
+            → IfOk result (λ part. whole self.now now part ≡ arrived_plan self.now now arrived.now arrived.now.target) }
+    {
+        match arrived.target {
+            Target::Activation => self.at_activation(alloc, moment, arrived),
+            Target::Registration(id) => self.at_registration(alloc, moment, arrived, id),
+            Target::Completion(id) => self.at_completion(alloc, moment, arrived, id),
+            Target::Coordinator { id, seat } => {
+                self.at_coordinator(alloc, moment, arrived, id, seat)
+            }
+            Target::Participant { id, kind } => {
+                self.at_participant(alloc, moment, arrived, id, kind)
+            }
+            Target::Initiator(id) => self.at_activity(alloc, moment, arrived, id),
+            Target::Work => self.at_work(alloc, moment, arrived),
+        }
+    }
+
+    /// A request of the node's own program.
+    fn asked(&self, alloc: Global, moment: &Moment, local: &Local) -> Result<Part, AllocError>
+        ensures { (now : ℕ) → moment.entry.now ≡ moment_of self.now now
+            → IfOk result (λ part. whole self.now now part ≡ local_plan self.now now local.now (refuses self.now local.now)) }
+    {
+        match self.activities.asked(alloc, moment, local)? {
+            Some(plan) => Ok(Part::Activities(plan)),
+            None => Ok(nothing(alloc)),
+        }
+    }
+
+    fn due_transaction(&self, alloc: Global, moment: &Moment, id: Id) -> Result<Part, AllocError>
+        ensures { (now : ℕ) → moment.entry.now ≡ moment_of self.now now
+            → IfOk result (λ part. whole self.now now part ≡ transaction_due_plan self.now now (transaction_at self.now id)) }
+    {
+        match self.transactions.due(alloc, moment, id)? {
+            Some(plan) => Ok(Part::Transactions(plan)),
+            None => Ok(nothing(alloc)),
+        }
+    }
+
+    fn due_leaf(&self, alloc: Global, moment: &Moment, id: Id) -> Result<Part, AllocError>
+        ensures { (now : ℕ) → moment.entry.now ≡ moment_of self.now now
+            → IfOk result (λ part. whole self.now now part ≡ leaf_due_plan self.now now (leaf_at self.now id)) }
+    {
+        match self.leaves.due(alloc, moment, id)? {
+            Some(plan) => Ok(Part::Leaves(plan)),
+            None => Ok(nothing(alloc)),
+        }
+    }
+
+    fn due_activity(&self, alloc: Global, moment: &Moment, id: Id) -> Result<Part, AllocError>
+        ensures { (now : ℕ) → moment.entry.now ≡ moment_of self.now now
+            → IfOk result (λ part. whole self.now now part ≡ activity_due_plan self.now now (activity_at self.now id)) }
+    {
+        match self.activities.due(alloc, moment, id)? {
+            Some(plan) => Ok(Part::Activities(plan)),
+            None => Ok(nothing(alloc)),
         }
     }
 
     /// An item that is due.
-    fn due(
-        &self,
-        alloc: Global,
-        event: &Event,
-        moment: &Moment,
-        item: Item,
-    ) -> Result<Part, AllocError>
-        requires { event.now ≡ events.Due item }
-        ensures { IfOk result (λ part. part ≡ due_part self.now moment.entry.now item) }
+    #[tactic(auto, unfolding(at_model::specs::Step::due_plan))]
+    fn due(&self, alloc: Global, moment: &Moment, item: Item) -> Result<Part, AllocError>
+        ensures { (now : ℕ) → moment.entry.now ≡ moment_of self.now now
+            → IfOk result (λ part. whole self.now now part ≡ due_plan self.now now item) }
     {
         match item {
-            Item::Transaction(id) => {
-                if self.transactions.find(id).is_some() {
-                    self.plan_transactions(alloc, event, moment)
-                } else {
-                    Ok(nothing(alloc))
-                }
-            }
-            Item::Leaf(id) => {
-                if self.leaves.find(id).is_some() {
-                    self.plan_leaves(alloc, event, moment)
-                } else {
-                    Ok(nothing(alloc))
-                }
-            }
-            Item::Activity(id) => {
-                if self.activities.find(id).is_some() {
-                    self.plan_activities(alloc, event, moment)
-                } else {
-                    Ok(nothing(alloc))
-                }
-            }
+            Item::Transaction(id) => self.due_transaction(alloc, moment, id),
+            Item::Leaf(id) => self.due_leaf(alloc, moment, id),
+            Item::Activity(id) => self.due_activity(alloc, moment, id),
         }
     }
 
     fn part(&self, alloc: Global, event: &Event, moment: &Moment) -> Result<Part, AllocError>
-        ensures { IfOk result (λ part. part ≡ part_of self.now moment.entry.now event.now) }
+        ensures { (now : ℕ) → moment.entry.now ≡ moment_of self.now now
+            → IfOk result (λ part. whole self.now now part ≡ plan self.now event.now now) }
     {
         match event {
-            Event::Arrived(arrived) => self.arrived(alloc, event, moment, arrived),
-            Event::Local(local) => self.requested(alloc, event, moment, local),
-            Event::Due(item) => self.due(alloc, event, moment, *item),
+            Event::Arrived(arrived) => self.arrived(alloc, moment, arrived),
+            Event::Local(local) => self.asked(alloc, moment, local),
+            Event::Due(item) => self.due(alloc, moment, *item),
             Event::Tick => ignored(alloc),
         }
     }
 
     /// What an event does to the book at this time, in milliseconds. It takes the memory that doing it needs, and changes
     /// nothing.
+    #[tactic(auto, using(crate::proofs::ModelSteps::steps_so))]
     pub fn plan(&mut self, alloc: Global, event: &Event, now: u64) -> Result<Plan, AllocError>
-        ensures plan { IfOk result (λ plan. plan ≡ planned self.old event.now now) }
+        ensures plan { IfOk result (λ plan. IsStep plan self.old event.now now) }
         ensures kept { self.new ≡ self.old }
     {
         self.moment.now = now.max(self.seen);
@@ -546,7 +531,7 @@ impl Book {
     }
 
     /// A record that stands may be an outcome.
-    fn keep<T>(&mut self, plan: &plan::Plan<T>, landed: bool)
+    fn keep<T: Drop>(&mut self, plan: &plan::Plan<T>, landed: bool)
         ensures { self.new ≡ kept (outcomes_by plan.entry.now landed self.old.outcomes) self.old }
     {
         match plan {
@@ -555,7 +540,41 @@ impl Book {
         }
     }
 
+    /// What a plan of a list does beside the list.
+    fn go<T: Drop>(&mut self, plan: &plan::Plan<T>, now: u64, landed: bool)
+        ensures { self.new ≡ gone plan.entry.now now landed self.old }
+    {
+        self.note(plan.notes_time(landed), now);
+        self.draw(plan.draws(landed));
+        self.keep(plan, landed);
+    }
+
+    fn apply_transactions(&mut self, plan: plan::Plan<Transaction>, now: u64, landed: bool) -> Outs
+        ensures book { self.new ≡ with_transactions (branch_of plan landed).change (gone plan now landed self.old) }
+        ensures outs { result ≡ (branch_of plan landed).outs }
+    {
+        self.go(&plan, now, landed);
+        self.transactions.apply(plan, landed)
+    }
+
+    fn apply_leaves(&mut self, plan: plan::Plan<Leaf>, now: u64, landed: bool) -> Outs
+        ensures book { self.new ≡ with_leaves (branch_of plan landed).change (gone plan now landed self.old) }
+        ensures outs { result ≡ (branch_of plan landed).outs }
+    {
+        self.go(&plan, now, landed);
+        self.leaves.apply(plan, landed)
+    }
+
+    fn apply_activities(&mut self, plan: plan::Plan<Activity>, now: u64, landed: bool) -> Outs
+        ensures book { self.new ≡ with_activities (branch_of plan landed).change (gone plan now landed self.old) }
+        ensures outs { result ≡ (branch_of plan landed).outs }
+    {
+        self.go(&plan, now, landed);
+        self.activities.apply(plan, landed)
+    }
+
     /// Does what was planned, where its record landed, and where it didn't. It takes no memory, and cannot fail.
+    #[tactic(auto, using(crate::proofs::ModelSteps::still_done, crate::proofs::ModelSteps::transactions_done, crate::proofs::ModelSteps::leaves_done, crate::proofs::ModelSteps::activities_done))]
     pub fn apply(&mut self, plan: Plan, landed: bool) -> Outs
         ensures book { self.new ≡ done plan landed self.old }
         ensures outs { result ≡ sent plan landed }
@@ -566,31 +585,17 @@ impl Book {
                 self.note(noted, now);
                 outs
             }
-            Part::Transactions(plan) => {
-                self.note(notes_time(&plan, landed), now);
-                self.draw(draws(&plan, landed));
-                self.keep(&plan, landed);
-                self.transactions.apply(plan, landed)
-            }
-            Part::Leaves(plan) => {
-                self.note(notes_time(&plan, landed), now);
-                self.draw(draws(&plan, landed));
-                self.keep(&plan, landed);
-                self.leaves.apply(plan, landed)
-            }
-            Part::Activities(plan) => {
-                self.note(notes_time(&plan, landed), now);
-                self.draw(draws(&plan, landed));
-                self.keep(&plan, landed);
-                self.activities.apply(plan, landed)
-            }
+            Part::Transactions(plan) => self.apply_transactions(plan, now, landed),
+            Part::Leaves(plan) => self.apply_leaves(plan, now, landed),
+            Part::Activities(plan) => self.apply_activities(plan, now, landed),
         }
     }
 
     /// Why a local request is refused: the first cause that holds.
     pub fn refuses(&self, local: &Local) -> Option<Refusal>
-        ensures { option_map refusal_of result ≡ refused_at (next_id self.now) self.now.activities local.now }
+        ensures { option_map refusal_of result ≡ refuses self.now local.now }
     {
+        refuses_as_the_model();
         self.activities.refuses(self.next_id(), local)
     }
 

@@ -4,7 +4,7 @@ ghost use Rattle.std.specs.Prelude.{◌≡◌, ◌++◌, IfOk, OnOk, map};
 ghost use Rattle.at_base.specs.declared.outs.Out.TheVariants as out;
 ghost use Rattle.at_model.specs.Posts.{accepted};
 ghost use Rattle.at_model.specs.Step.{outcome_act, outcome_cell, stranger_act, stranger_cell};
-ghost use Rattle.interposition.specs.Plans.{answered, cell_of_none, committed, nothing, stranger};
+ghost use Rattle.interposition.specs.Strangers.{answered, cell_of_none, committed, nothing, stranger};
 
 use crate::plan::Part;
 use at_base::epr::Epr;

@@ -6,13 +6,12 @@ use Rattle.at_base.specs.declared.event.Event.{Event}
 use Rattle.at_base.specs.declared.outs.Out.{Out}
 use Rattle.at_base.specs.declared.record.Record.{Record}
 use Rattle.at_model.specs.Book.{Book}
-use Rattle.at_model.specs.Step.{plan, step}
+use Rattle.at_model.specs.Step.{plan}
 use Rattle.decision_log.specs.KeptRecords.{Known}
 use Rattle.decision_log.specs.Tokens.{Token, token_of}
 use Rattle.interposition.specs.declared.plan.Plan.{Plan}
 use Rattle.interposition.specs.PlanResults.{recorded, sent}
-use Rattle.interposition.specs.Plans.{planned}
-use Rattle.interposition.specs.ModelSteps.{StepsAsTheModel}
+use Rattle.interposition.specs.ModelSteps.{IsStep}
 use Rattle.node_at.specs.PromiseLaws.{OutsMayLeave}
 use Rattle.node_at.specs.Promises.{PromisesStand}
 use Rattle.node_at.specs.Sends.{AllMayLeave, MayLeave, given}
@@ -39,27 +38,24 @@ those_leaving P (stays {os = os} o are call e) h = those_leaving P are (all_fron
 abbrev tokens : Bool → Option Record → Known → List Token
 tokens landed entry k = given (option_map token_of (if_landed landed entry)) k
 
-module _ (model : StepsAsTheModel) (may : OutsMayLeave) (b : Book) (k : Known) (e : Event) (now : ℕ) (h : PromisesStand b k) where
-  step_may : (landed : Bool) (p : Plan) (entry : Option Record) (xs : List Leaving) → p ≡ planned b e now → recorded p ≡ entry → AreLeaving (sent p landed).outs xs
+module _ (may : OutsMayLeave) (b : Book) (k : Known) (e : Event) (now : ℕ) (h : PromisesStand b k) where
+  step_may : (landed : Bool) (p : Plan) (entry : Option Record) (xs : List Leaving) → IsStep p b e now → recorded p ≡ entry → AreLeaving (sent p landed).outs xs
       → AllMayLeave (tokens landed entry k) k.done xs
-  step_may landed p entry xs pe re are =
-      let m = model b e now in
-      let is : (plan b e now).entry ≡ entry = sym m.entry ∙ ap recorded (sym pe) ∙ re in
-      let outs : (step b e now landed).outs ≡ (sent p landed).outs = sym (m.outs landed) ∙ ap (λ z. (sent z landed).outs) (sym pe) in
+  step_may landed p entry xs is re are =
       those_leaving (MayLeave (tokens landed entry k) k.done) are
-      (subst (λ z. AllByRecursion (MayLeave (tokens landed z k) k.done) (sent p landed).outs) is
-      (subst (AllByRecursion (MayLeave (tokens landed (plan b e now).entry k) k.done)) outs (may b k e now landed h.ready h.promised)))
+      (subst (λ z. AllByRecursion (MayLeave (tokens landed z k) k.done) (sent p landed).outs) (sym is.entry ∙ re)
+      (subst (AllByRecursion (MayLeave (tokens landed (plan b e now).entry k) k.done)) (sym (is.outs landed)) (may b k e now landed h.ready h.promised)))
 
-  pub plain_may : (l : Known) (p : Plan) (xs : List Leaving) → l ≡ k → p ≡ planned b e now → recorded p ≡ None → AreLeaving (sent p true).outs xs → AllMayLeave (given None l) l.done xs
-  plain_may l p xs same pe re are = subst (λ z. AllMayLeave (given None z) z.done xs) (sym same) (step_may true p None xs pe re are)
+  pub plain_may : (l : Known) (p : Plan) (xs : List Leaving) → l ≡ k → IsStep p b e now → recorded p ≡ None → AreLeaving (sent p true).outs xs → AllMayLeave (given None l) l.done xs
+  plain_may l p xs same is re are = subst (λ z. AllMayLeave (given None z) z.done xs) (sym same) (step_may true p None xs is re are)
 
-  pub landed_may : (l : Known) (p : Plan) (r : Record) (xs : List Leaving) → l ≡ k → p ≡ planned b e now → recorded p ≡ Some r → AreLeaving (sent p true).outs xs
+  pub landed_may : (l : Known) (p : Plan) (r : Record) (xs : List Leaving) → l ≡ k → IsStep p b e now → recorded p ≡ Some r → AreLeaving (sent p true).outs xs
       → AllMayLeave (given (Some (token_of r)) l) l.done xs
-  landed_may l p r xs same pe re are = subst (λ z. AllMayLeave (given (Some (token_of r)) z) z.done xs) (sym same) (step_may true p (Some r) xs pe re are)
+  landed_may l p r xs same is re are = subst (λ z. AllMayLeave (given (Some (token_of r)) z) z.done xs) (sym same) (step_may true p (Some r) xs is re are)
 
-  pub absent_may : (l : Known) (p : Plan) (r : Record) (xs : List Leaving) → l ≡ k → p ≡ planned b e now → recorded p ≡ Some r → AreLeaving (sent p false).outs xs
+  pub absent_may : (l : Known) (p : Plan) (r : Record) (xs : List Leaving) → l ≡ k → IsStep p b e now → recorded p ≡ Some r → AreLeaving (sent p false).outs xs
       → AllMayLeave (given None l) l.done xs
-  absent_may l p r xs same pe re are = subst (λ z. AllMayLeave (given None z) z.done xs) (sym same) (step_may false p (Some r) xs pe re are)
+  absent_may l p r xs same is re are = subst (λ z. AllMayLeave (given None z) z.done xs) (sym same) (step_may false p (Some r) xs is re are)
 
 -- the token that was given is that of the record
 pub given_as : (t : Token) (q r : Record) (k : Known) (xs : List Leaving) → t ≡ token_of q → q ≡ r → AllMayLeave (given (Some (token_of r)) k) k.done xs → AllMayLeave (given (Some t) k) k.done xs

@@ -1,5 +1,5 @@
 -- A request, answered by one step.
-use Rattle.std.proofs.Common.{ℕ, List, Bool, true, false, [], ◌++◌, ◌≡◌, inl, inr, ⊎_elim, IfSome, Option, Some, None, option_map, refl, sym, ◌∙◌, ap, subst, arith, rules}
+use Rattle.std.proofs.Common.{ℕ, List, Bool, true, false, [], ◌++◌, ◌≡◌, inl, inr, ⊎_elim, Option, Some, None, option_map, refl, sym, ◌∙◌, ap, subst, arith}
 use Rattle.at_base.specs.Numbers.{Numbers}
 use Rattle.at_base.specs.declared.event.Event.{Event}
 use Rattle.at_base.specs.declared.event.Event.TheVariants as events
@@ -7,14 +7,8 @@ use Rattle.at_base.specs.declared.event.Local.{Local}
 use Rattle.at_base.specs.declared.event.Local.TheVariants as locals
 use Rattle.at_base.specs.declared.outs.Effect.{Effect}
 use Rattle.at_base.specs.declared.record.Record.{Record}
-use Rattle.at_base.specs.declared.event.Moment.{Moment}
-use Rattle.at_model.specs.Activities.{on_begin, on_interpose}
-use Rattle.at_model.specs.Book.{Activity, Book, activity_id, find_by, next_id}
-use Rattle.at_model.specs.Step.{moment_of, refuses}
-use Rattle.completion_at.specs.ActivityPlans.{begin_asked, interpose_asked, refused_at, taken, unless}
-use Rattle.completion_at.specs.BookPlans.{RefusesAsTheModel}
-use Rattle.interposition.specs.declared.plan.Part.TheVariants as parts
-use Rattle.interposition.specs.Plans.{planned, requested_part}
+use Rattle.at_model.specs.Book.{Book, next_id}
+use Rattle.at_model.specs.Step.{refuses}
 use Rattle.journal_at.specs.declared.journal.Journal.{Journal}
 use Rattle.journal_at.specs.StandingBodies.{Keeps}
 use Rattle.site_model.specs.Calls.{Reads}
@@ -23,7 +17,7 @@ use Rattle.site_model.specs.Site.{Counts as Numerals}
 use Rattle.site_model.specs.Told.{Told, Made, Between}
 use Rattle.node_at.specs.declared.step.Stepped.{Stepped}
 use Rattle.node_at.specs.declared.step.Stepped.TheVariants as stepped
-use Rattle.node_at.specs.Locals.{Asked, Untouched, added_in, answered_id, cleared, named_by}
+use Rattle.node_at.specs.Locals.{Asked, Untouched, answered_id, cleared, named_by}
 use Rattle.node_at.specs.declared.local.Locally.TheVariants as answers
 use Rattle.node_at.specs.Moments.{Deed, Moments}
 use Rattle.node_at.specs.Sends.{Counts}
@@ -33,46 +27,20 @@ use Rattle.node_at.specs.Texts.{Leaving}
 use Rattle.node_at.proofs.StepRecords.{keeps_on}
 use Rattle.node_at.proofs.IdFacts.{and_then, weaker}
 
--- the id of the activity that is made
-begin_added : (m : Moment) (coordinator : List ℕ) (ms : ℕ) (o : Option Numbers) (id : Numbers) → added_in (parts.Activities (begin_asked m coordinator ms o)) ≡ Some id → o ≡ Some id
-unfolding on_begin
-begin_added m coordinator ms None id e = absurd (search (rules, e))
-begin_added m coordinator ms (Some i) id e = e
-
-interpose_added : (m : Moment) (coordinator : List ℕ) (o : Option Numbers) (a : Option Activity) (id : Numbers) → added_in (parts.Activities (interpose_asked m coordinator o a)) ≡ Some id → o ≡ Some id
-unfolding on_interpose
-interpose_added m coordinator None a id e = absurd (search (rules, e))
-interpose_added m coordinator (Some i) None id e = absurd (search (rules, e))
-interpose_added m coordinator (Some i) (Some a) id e = e
-
-taken_added : (b : Book) (m : Moment) (l : Local) (id : Numbers) → m.next ≡ next_id b → named_by l ≡ None → added_in (parts.Activities (taken m b.activities l)) ≡ Some id → answered_id b l ≡ Some id
-taken_added b m (locals.Begin coordinator ms) id next n e = sym next ∙ begin_added m coordinator ms m.next id e
-taken_added b m (locals.Interpose activity coordinator) id next n e = sym next ∙ interpose_added m coordinator m.next (find_by activity_id activity b.activities) id e
-taken_added b m (locals.Work activity service kind vote key value) id next n e = absurd (search (rules, n))
-taken_added b m (locals.Commit activity) id next n e = absurd (search (rules, n))
-taken_added b m (locals.Rollback activity) id next n e = absurd (search (rules, n))
-
-pub made_id : (b : Book) (e : Event) (l : Local) (now : ℕ) (id : Numbers) → RefusesAsTheModel → e ≡ events.Local l → named_by l ≡ None → refuses b l ≡ None
-    → added_in (planned b e now).part ≡ Some id → answered_id b l ≡ Some id
-made_id b e l now id law is n taken_is added =
-    let m : Moment = moment_of b now in
-    let free : refused_at m.next b.activities l ≡ None = sym (law b l) ∙ taken_is in
-    taken_added b m l id refl n
-    (ap (λ z. added_in (parts.Activities (unless z (taken m b.activities l)))) (sym free)
-    ∙ ap (λ z. added_in (requested_part b m l z)) (sym free)
-    ∙ ap (λ z. added_in (planned b z now).part) (sym is) ∙ added)
-
-pub named_id : (b : Book) (l : Local) (id : Numbers) → named_by l ≡ Some id → answered_id b l ≡ Some id
-named_id b (locals.Begin coordinator ms) id n = absurd (search (rules, n))
-named_id b (locals.Interpose activity coordinator) id n = absurd (search (rules, n))
+-- the id that a request is answered with: the one that it names, or the next
+pub named_id : (b : Book) (l : Local) (id : Numbers) → Some id ≡ named_by l → Some id ≡ answered_id b l
+named_id b (locals.Begin coordinator ms) id n = absurd cc
+named_id b (locals.Interpose activity coordinator) id n = absurd cc
 named_id b (locals.Work activity service kind vote key value) id n = n
 named_id b (locals.Commit activity) id n = n
 named_id b (locals.Rollback activity) id n = n
 
-pub id_is : (b : Book) (e : Event) (now : ℕ) (named made : Option Numbers) → RefusesAsTheModel → named ≡ None → made ≡ added_in (planned b e now).part
-    → IfSome made (λ id. (l : Local) → e ≡ events.Local l → named ≡ named_by l → refuses b l ≡ None → answered_id b l ≡ Some id)
-id_is b e now named None law none m = tt
-id_is b e now named (Some id) law none m = λ l is n free. made_id b e l now id law is (sym n ∙ none) free (sym m)
+pub next_is : (b : Book) (l : Local) → None ≡ named_by l → next_id b ≡ answered_id b l
+next_is b (locals.Begin coordinator ms) n = refl
+next_is b (locals.Interpose activity coordinator) n = refl
+next_is b (locals.Work activity service kind vote key value) n = absurd cc
+next_is b (locals.Commit activity) n = absurd cc
+next_is b (locals.Rollback activity) n = absurd cc
 
 -- a look at the clock changes nothing
 pub untouched : (t : ℕ) (old mid : Told) → Reads t old mid → Untouched old mid

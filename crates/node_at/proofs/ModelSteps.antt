@@ -7,8 +7,7 @@ use Rattle.at_model.specs.Book.{Book}
 use Rattle.at_model.specs.Step.{plan, step}
 use Rattle.interposition.specs.declared.plan.Plan.{Plan}
 use Rattle.interposition.specs.PlanResults.{done, recorded, sent}
-use Rattle.interposition.specs.Plans.{planned}
-use Rattle.interposition.specs.ModelSteps.{KeepsBounds, StepsAsTheModel}
+use Rattle.interposition.specs.ModelSteps.{IsStep, KeepsBounds}
 use Rattle.model_laws.specs.BookBounds.{IsSound, IsSoundEvent}
 use Rattle.site_model.specs.Told.{Told}
 use Rattle.node_at.specs.declared.step.Stepped.{Stepped}
@@ -19,66 +18,60 @@ use Rattle.node_at.specs.Sends.{Sends, given}
 use Rattle.node_at.specs.Texts.{AreLeaving, Leaving}
 use Rattle.node_at.proofs.StepRecords.{went_plain}
 
-module _ (model : StepsAsTheModel) (m : State) (e : Event) (now : ℕ) (old new : Told) where
-  went_as : (n : State) (entry : Option Record) (landed : Bool) (leaving : List Leaving) → entry ≡ recorded (planned n.book e now)
-      → Went entry landed (done (planned n.book e now) landed n.book) (sent (planned n.book e now) landed).effects leaving n m old new
-      → Went (plan n.book e now).entry landed (step n.book e now landed).book (step n.book e now landed).effects leaving n m old new
-  went_as n entry landed leaving h w =
-      let s = model n.book e now in
-      subst (λ z. Went z landed (step n.book e now landed).book (step n.book e now landed).effects leaving n m old new) (h ∙ s.entry)
-      (subst (λ z. Went entry landed z (step n.book e now landed).effects leaving n m old new) (s.book landed)
-      (subst (λ z. Went entry landed (done (planned n.book e now) landed n.book) z leaving n m old new) (s.effects landed) w))
+module _ (m : State) (e : Event) (now : ℕ) (old new : Told) where
+  module _ (n : State) (p : Plan) (is : IsStep p n.book e now) where
+    went_as : (entry : Option Record) (landed : Bool) (leaving : List Leaving) → recorded p ≡ entry
+        → Went entry landed (done p landed n.book) (sent p landed).effects leaving n m old new
+        → Went (plan n.book e now).entry landed (step n.book e now landed).book (step n.book e now landed).effects leaving n m old new
+    went_as entry landed leaving h w =
+        subst (λ z. Went z landed (step n.book e now landed).book (step n.book e now landed).effects leaving n m old new) (sym h ∙ is.entry)
+        (subst (λ z. Went entry landed z (step n.book e now landed).effects leaving n m old new) (is.book landed)
+        (subst (λ z. Went entry landed (done p landed n.book) z leaving n m old new) (is.effects landed) w))
 
-  is_done : (status : ℕ) (n : State) (entry : Option Record) (landed : Bool) (leaving : List Leaving) → entry ≡ recorded (planned n.book e now)
-      → AreLeaving (sent (planned n.book e now) landed).outs leaving
-      → Went entry landed (done (planned n.book e now) landed n.book) (sent (planned n.book e now) landed).effects leaving n m old new
-      → status ≡ status_in (sent (planned n.book e now) landed).outs → IsDone status n m e now old new
-  is_done status n entry landed leaving h k w answers =
-      record {
-        landed = landed;
-        leaving = leaving;
-        are = subst (λ z. AreLeaving z leaving) ((model n.book e now).outs landed) k;
-        went = went_as n entry landed leaving h w;
-        answers = answers ∙ ap status_in ((model n.book e now).outs landed);
-      }
+    is_done : (status : ℕ) (entry : Option Record) (landed : Bool) (leaving : List Leaving) → recorded p ≡ entry → AreLeaving (sent p landed).outs leaving
+        → Went entry landed (done p landed n.book) (sent p landed).effects leaving n m old new → status ≡ status_in (sent p landed).outs → IsDone status n m e now old new
+    is_done status entry landed leaving h k w answers =
+        record {
+          landed = landed;
+          leaving = leaving;
+          are = subst (λ z. AreLeaving z leaving) (is.outs landed) k;
+          went = went_as entry landed leaving h w;
+          answers = answers ∙ ap status_in (is.outs landed);
+        }
 
-  pub plain_steps : (n : State) (p : Plan) (leaving : List Leaving) → p ≡ planned n.book e now → recorded p ≡ None → AreLeaving (sent p true).outs leaving
-      → Went None true (done p true n.book) (sent p true).effects leaving n m old new
-      → (status : ℕ) → status ≡ status_in (sent p true).outs → IsDone status n m e now old new
-  plain_steps n p leaving pe h k w status answers =
-      is_done status n None true leaving (sym h ∙ ap recorded pe) (subst (λ z. AreLeaving (sent z true).outs leaving) pe k)
-      (subst (λ z. Went None true (done z true n.book) (sent z true).effects leaving n m old new) pe w)
-      (subst (λ z. status ≡ status_in (sent z true).outs) pe answers)
-
-  pub plain_exit : (n k : State) (p : Plan) (leaving : List Leaving) → k ≡ n → p ≡ planned n.book e now → recorded p ≡ None → AreLeaving (sent p true).outs leaving
+  pub plain_exit : (n k : State) (p : Plan) (leaving : List Leaving) → k ≡ n → IsStep p n.book e now → recorded p ≡ None → AreLeaving (sent p true).outs leaving
       → Sends (given None k.kept) k.kept.done leaving old new → n.journal.unsure ≡ false → n.halted ≡ false
       → m ≡ record k { book = done p true k.book; effects = k.effects ++ (sent p true).effects }
       → (status : ℕ) → status ≡ status_in (sent p true).outs → Steps (ends.Done status) n m e now old new
-  plain_exit n k p leaving ne pe h are sends sure runs me status answers =
-      plain_steps n p leaving pe h are
+  plain_exit n k p leaving ne is h are sends sure runs me status answers =
+      is_done n p is status None true leaving h are
       (subst (λ (z : State). Went None true (done p true z.book) (sent p true).effects leaving z m old new) ne
-      (went_plain k m (done p true k.book) (sent p true).effects leaving old new sends (ap (λ (z : State). z.journal.unsure) ne ∙ sure) (ap (λ (z : State). z.halted) ne ∙ runs) me)) status answers
+      (went_plain k m (done p true k.book) (sent p true).effects leaving old new sends (ap (λ (z : State). z.journal.unsure) ne ∙ sure) (ap (λ (z : State). z.halted) ne ∙ runs) me)) answers
 
-  of_acts : (result : Stepped) (n : State) (r : Record) (landed absent : List Leaving) → Some r ≡ recorded (planned n.book e now)
-      → AreLeaving (sent (planned n.book e now) true).outs landed → AreLeaving (sent (planned n.book e now) false).outs absent
-      → Acts result (planned n.book e now) r landed absent n m old new → Steps result n m e now old new
-  of_acts (ends.Done status) n r landed absent h k l (inl w) = is_done status n (Some r) true landed h k w.0 w.1
-  of_acts (ends.Done status) n r landed absent h k l (inr w) = is_done status n (Some r) false absent h l w.0 w.1
-  of_acts ends.NoRoom n r landed absent h k l w = w
-  of_acts ends.Halted n r landed absent h k l w =
-      record { entry = r; is = sym (h ∙ (model n.book e now).entry); leaving = landed; are = subst (λ z. AreLeaving z landed) ((model n.book e now).outs true) k; stopped = w }
-
-  pub recorded_steps : (result : Stepped) (n : State) (p : Plan) (r : Record) (landed absent : List Leaving) → p ≡ planned n.book e now → recorded p ≡ Some r
+  pub recorded_steps : (result : Stepped) (n : State) (p : Plan) (r : Record) (landed absent : List Leaving) → IsStep p n.book e now → recorded p ≡ Some r
       → AreLeaving (sent p true).outs landed → AreLeaving (sent p false).outs absent → Acts result p r landed absent n m old new → Steps result n m e now old new
-  recorded_steps result n p r landed absent pe h k l w =
-      of_acts result n r landed absent (sym h ∙ ap recorded pe) (subst (λ z. AreLeaving (sent z true).outs landed) pe k)
-      (subst (λ z. AreLeaving (sent z false).outs absent) pe l) (subst (λ z. Acts result z r landed absent n m old new) pe w)
+  recorded_steps (ends.Done status) n p r landed absent is h k l (inl w) = is_done n p is status (Some r) true landed h k w.0 w.1
+  recorded_steps (ends.Done status) n p r landed absent is h k l (inr w) = is_done n p is status (Some r) false absent h l w.0 w.1
+  recorded_steps ends.NoRoom n p r landed absent is h k l w = w
+  recorded_steps ends.Halted n p r landed absent is h k l w =
+      record { entry = r; is = sym is.entry ∙ h; leaving = landed; are = subst (λ z. AreLeaving z landed) (is.outs true) k; stopped = w }
 
-  pub sound_after : (result : Stepped) (n : State) → KeepsBounds → IsSound n.book → IsSoundEvent e → Steps result n m e now old new → IsSound m.book
-  sound_after (ends.Done status) n bounds h k w =
-      subst IsSound ((model n.book e now).book w.landed ∙ sym w.went.book) (bounds.book n.book e now w.landed h k)
-  sound_after ends.NoRoom n bounds h k w = subst (λ (z : State). IsSound z.book) (sym w) h
-  sound_after ends.Halted n bounds h k w = subst (λ (z : State). IsSound z.book) (sym w.stopped.same) h
+-- the book stays within its bounds
+module _ (bounds : KeepsBounds) (m n k : State) (p : Plan) (e : Event) (now : ℕ) (is : IsStep p n.book e now) (sound : IsSound n.book) (event : IsSoundEvent e) (same : k ≡ n) where
+  sound_as : (landed : Bool) → m.book ≡ done p landed k.book → IsSound m.book
+  sound_as landed f = subst IsSound (sym (f ∙ ap (λ (z : State). done p landed z.book) same)) (bounds.book p n.book e now landed is sound event)
 
-pub formed : (bounds : KeepsBounds) (b : Book) (e : Event) (now : ℕ) (p : Plan) (r : Record) → IsSound b → IsSoundEvent e → p ≡ planned b e now → recorded p ≡ Some r → IsWellFormed r
-formed bounds b e now p r h k pe f = bounds.entry b e now r h k (sym (ap recorded pe) ∙ f)
+  sound_still : m.book ≡ k.book → IsSound m.book
+  sound_still f = subst IsSound (sym (f ∙ ap (λ (z : State). z.book) same)) sound
+
+  pub sound_plain : m ≡ record k { book = done p true k.book; effects = k.effects ++ (sent p true).effects } → IsSound m.book
+  sound_plain f = sound_as true (ap (λ (z : State). z.book) f)
+
+  pub sound_recorded : (result : Stepped) (r : Record) (landed absent : List Leaving) (old new : Told) → Acts result p r landed absent k m old new → IsSound m.book
+  sound_recorded (ends.Done status) r landed absent old new (inl w) = sound_as true w.0.book
+  sound_recorded (ends.Done status) r landed absent old new (inr w) = sound_as false w.0.book
+  sound_recorded ends.NoRoom r landed absent old new w = sound_still (ap (λ (z : State). z.book) w)
+  sound_recorded ends.Halted r landed absent old new w = sound_still (ap (λ (z : State). z.book) w.same)
+
+pub formed : (bounds : KeepsBounds) (b : Book) (e : Event) (now : ℕ) (p : Plan) (r : Record) → IsSound b → IsSoundEvent e → IsStep p b e now → recorded p ≡ Some r → IsWellFormed r
+formed bounds b e now p r h k is f = bounds.entry p b e now r is h k f

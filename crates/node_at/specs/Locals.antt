@@ -4,14 +4,9 @@ use Rattle.at_base.specs.Numbers.{Numbers}
 use Rattle.at_base.specs.declared.event.Event.TheVariants as events
 use Rattle.at_base.specs.declared.event.Local.{Local}
 use Rattle.at_base.specs.declared.event.Local.TheVariants as locals
-use Rattle.at_model.specs.Book.{Activity, Book, next_id}
+use Rattle.at_model.specs.Book.{Book, next_id}
 use Rattle.at_model.specs.Step.{refuses}
-use Rattle.by_id.specs.declared.list.Alteration.{Alteration}
-use Rattle.by_id.specs.declared.list.Alteration.TheVariants as alterations
-use Rattle.by_id.specs.declared.plan.Plan.TheVariants as plans
 use Rattle.completion_at.specs.Names.{refusal_of}
-use Rattle.interposition.specs.declared.plan.Part.{Part}
-use Rattle.interposition.specs.declared.plan.Part.TheVariants as parts
 use Rattle.site_model.specs.Told.{Told, Apart, Still}
 use Rattle.node_at.specs.declared.local.Locally.{Locally}
 use Rattle.node_at.specs.declared.local.Locally.TheVariants as answers
@@ -34,15 +29,6 @@ named_by (locals.Interpose activity coordinator) = None
 named_by (locals.Work activity service kind vote key value) = Some activity
 named_by (locals.Commit activity) = Some activity
 named_by (locals.Rollback activity) = Some activity
-
--- the activity that a plan adds
-abbrev pub added_by : Alteration Activity → Option Numbers
-added_by (alterations.Add activity) = Some activity.id
-added_by other = None
-
-abbrev pub added_in : Part → Option Numbers
-added_in (parts.Activities (plans.Plain branch)) = added_by branch.change
-added_in other = None
 
 -- no effects yet
 abbrev pub cleared : State → State

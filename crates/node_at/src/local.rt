@@ -4,8 +4,7 @@ ghost use Rattle.std.specs.Prelude.{◌≡◌, [], Some, None, IfOk, IfSome, fal
 ghost use Rattle.at_base.specs.declared.event.Event.TheVariants as events;
 ghost use Rattle.at_base.specs.declared.event.Local.{Local};
 ghost use Rattle.at_model.specs.Step.{refuses};
-ghost use Rattle.interposition.specs.Plans.{planned};
-ghost use Rattle.node_at.specs.Locals.{Asked, added_by, added_in, answered_id, named_by};
+ghost use Rattle.node_at.specs.Locals.{Asked, answered_id, named_by};
 ghost use Rattle.node_at.specs.State.{IsNode, seen};
 ghost use Rattle.node_at.specs.Steps.{Keeping};
 ghost use Rattle.completion_at.specs.declared.requests.Refusal.{Refusal};
@@ -17,13 +16,8 @@ use crate::step::Stepped;
 use at_base::event::{Event, Local};
 use at_base::id::Id;
 use at_base::outs::Effect;
-use by_id::list::Alteration;
-use by_id::plan;
-use completion_at::activities::refuses_as_the_model;
-use completion_at::activity::Activity;
 use completion_at::requests::Refusal;
 use decision_log::fold::keeps_on;
-use interposition::plan::Part;
 use model_laws::rules::records_are_well_formed;
 use site_model::site::Site;
 use std::alloc::{AllocError, Global};
@@ -52,51 +46,15 @@ fn named_by(request: &Local) -> Option<Id>
     }
 }
 
-fn added_by(change: &Alteration<Activity>) -> Option<Id>
-    ensures { result ≡ added_by change.entry.now }
-{
-    match change {
-        Alteration::Add(activity) => Some(activity.id),
-        Alteration::Keep | Alteration::Put { .. } => None,
-    }
-}
-
-/// The activity that a plan adds.
-fn added_in(part: &Part) -> Option<Id>
-    ensures { result ≡ added_in part.entry.now }
-{
-    match part {
-        Part::Activities(plan::Plan::Plain(branch)) => added_by(&branch.change),
-        _ => None,
-    }
-}
-
 impl Node {
-    /// The id of the activity that a request makes, which is read off its plan.
-    fn made_by(&mut self, alloc: Global, event: &Event, now: u64) -> Result<Option<Id>, AllocError>
-        ensures made { IfOk result (λ id. id ≡ added_in (planned self.old.book event.now now).part) }
-        ensures same { seen self.new ≡ seen self.old }
-        ensures role { self.new.role ≡ self.old.role }
-        ensures shrunk { self.new.shrunk ≡ self.old.shrunk }
+    /// The id that a request is answered with that isn't refused: that of the activity that it names, or makes.
+    #[tactic(auto, using(crate::proofs::LocalRequests::named_id, crate::proofs::LocalRequests::next_is))]
+    fn id_of(&self, named: Option<Id>) -> Option<Id>
+        ensures { (l : Local) → named ≡ named_by l → result ≡ answered_id self.now.book l }
     {
-        let plan = self.book.plan(alloc, event, now)?;
-        Ok(added_in(&plan.part))
-    }
-
-    /// The id that a request is answered with. None where there is no memory.
-    fn id_of(&mut self, alloc: Global, named: Option<Id>, event: &Event, now: u64) -> Option<Id>
-        ensures id { IfSome result (λ id. (l : Local) → event.now ≡ events.Local l → named ≡ named_by l → refuses self.old.book l ≡ None → answered_id self.old.book l ≡ Some id) }
-        ensures same { seen self.new ≡ seen self.old }
-        ensures role { self.new.role ≡ self.old.role }
-        ensures shrunk { self.new.shrunk ≡ self.old.shrunk }
-    {
-        refuses_as_the_model();
         match named {
             Some(id) => Some(id),
-            None => match self.made_by(alloc, event, now) {
-                Ok(made) => made,
-                Err(_) => None,
-            },
+            None => self.book.next_id(),
         }
     }
 
@@ -118,9 +76,8 @@ impl Node {
         let now = site.now();
         let named = named_by(&request);
         let event = Event::Local(request);
-        let id = match self.id_of(alloc, named, &event, now) {
-            Some(id) => id,
-            None => return Locally::NoRoom,
+        let Some(id) = self.id_of(named) else {
+            return Locally::NoRoom;
         };
         match self.step(alloc, site, &event, now) {
             Stepped::Done { .. } => Locally::Done { id },
@@ -140,7 +97,6 @@ impl Node {
         ensures halted { self.old.halted ≡ true → site.new ≡ site.old }
         ensures counted { Keeping (S.told site.old) (S.told site.new) }
     {
-        refuses_as_the_model();
         self.effects.clear();
         if self.halted {
             return Locally::Halted;

@@ -5,7 +5,7 @@ ghost use Rattle.at_base.specs.WellFormed.{IsWellFormed};
 ghost use Rattle.decision_log.specs.KeptState.{HasRoom, known};
 ghost use Rattle.decision_log.specs.Tokens.{token_of};
 ghost use Rattle.interposition.specs.PlanResults.{done, recorded, sent};
-ghost use Rattle.interposition.specs.Plans.{planned};
+ghost use Rattle.interposition.specs.ModelSteps.{IsStep};
 ghost use Rattle.model_laws.specs.BookBounds.{IsSound, IsSoundEvent};
 ghost use Rattle.node_at.specs.StepMemory.{AreTexts, HasRoomFor};
 ghost use Rattle.node_at.specs.Promises.{PromisesStand};
@@ -24,7 +24,7 @@ use decision_log::keep::{KeepFault, keep};
 use decision_log::kept::Kept;
 use decision_log::kept_plan::KeptPlan;
 use decision_log::token::Durable;
-use interposition::book::{keeps_bounds, steps_as_the_model};
+use interposition::book::keeps_bounds;
 use interposition::plan::Plan;
 use site_model::site::Site;
 use std::alloc::{AllocError, Global};
@@ -118,7 +118,7 @@ fn encode_both(alloc: Global, plan: &Plan, kept: &mut Kept) -> Result<Texts, All
 impl Node {
     /// Plans a step, and takes all its memory.
     fn prepare(&mut self, alloc: Global, event: &Event, now: u64) -> Result<Prepared, AllocError>
-        ensures plan { IfOk result (λ p. p.plan ≡ planned self.old.book event.now now) }
+        ensures plan { IfOk result (λ p. IsStep p.plan self.old.book event.now now) }
         ensures texts { IfOk result (λ p. AreTexts p.plan p.texts) }
         ensures room { IfOk result (λ p. HasRoomFor p.texts self.new.kept) }
         ensures effects { IfOk result (λ p. (landed : Bool) → length self.new.effects.items + length (sent p.plan landed).effects ≤ vec_capacity self.new.effects) }
@@ -206,7 +206,7 @@ impl Node {
     /// One step: its record, if it has one, then its answer and its posts.
     ///
     /// All memory is taken before the first call of the disk.
-    #[tactic(auto, using(crate::proofs::ModelSteps::plain_exit, crate::proofs::ModelSteps::recorded_steps, crate::proofs::ModelSteps::sound_after, crate::proofs::ModelSteps::formed))]
+    #[tactic(auto, using(crate::proofs::ModelSteps::plain_exit, crate::proofs::ModelSteps::recorded_steps, crate::proofs::ModelSteps::formed))]
     pub(crate) fn step<S: Site>(
         &mut self,
         alloc: Global,
@@ -226,7 +226,6 @@ impl Node {
         ensures shrunk { self.new.shrunk ≡ self.old.shrunk }
         ensures counted { Keeping (S.told site.old) (S.told site.new) }
     {
-        steps_as_the_model();
         keeps_bounds();
         outs_may_leave();
         match self.prepare(alloc, event, now) {

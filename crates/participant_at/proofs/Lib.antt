@@ -1,3 +1,3 @@
 mod EqualAnswers
 mod Employments
-mod PlanLaws
+mod LeafPlans

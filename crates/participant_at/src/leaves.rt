@@ -1,37 +1,31 @@
 //! The live leaves of a node: planned first, and then done.
 
-ghost use Rattle.std.specs.Prelude.{◌≡◌, ◌∷◌, IfOk, OnOk, [], ◌++◌, Some, None, length, option_copied};
-ghost use Rattle.at_model.specs.Book.{find_by, leaf_id};
-ghost use Rattle.at_model.specs.Posts.{accepted};
+ghost use Rattle.std.specs.Prelude.{ℕ, ◌≡◌, ◌∷◌, IfOk, OnOk, [], ◌++◌, length, option_copied};
+ghost use Rattle.at_base.specs.declared.message.Message.TheVariants as messages;
+ghost use Rattle.at_model.specs.Book.{Book, find_by, leaf_id};
 ghost use Rattle.at_model.specs.Due.{leaf_due};
-ghost use Rattle.at_model.specs.Step.{is_reached};
-ghost use Rattle.at_base.specs.Names.{is_kind};
+ghost use Rattle.at_model.specs.Step.{is_reached, leaf_at, leaf_due_plan, leaf_or_stranger_plan, plain, still, stranger_plan, work_plan};
+ghost use Rattle.at_tables.specs.Tables.{participant_of};
+ghost use Rattle.at_tables.specs.declared.cells.State.TheVariants as states;
 ghost use Rattle.by_id.specs.Lists.{altered, next_due};
 ghost use Rattle.by_id.specs.Plans.{branch_of};
-ghost use Rattle.participant_at.specs.BookPlans.{PlansAsTheModel};
-ghost use Rattle.participant_at.specs.LeafPlans.{work_arrived, leaf_arrived, arrived_at, leaf_asked, item_asked, leaves_plan, leaves_lost, has_kind};
+ghost use Rattle.by_id.specs.Wholes.{whole_or};
+ghost use Rattle.participant_at.specs.LeafPlans.{Holds, leaves_lost, whole, with_leaves};
 
 use crate::due::{may_expire, on_due};
 use crate::leaf::Leaf;
 use crate::rules::{ending, on_leaf};
 use crate::work::on_work;
-use at_base::event::{Arrived, Event, Item, Moment};
+use at_base::event::{Arrived, Moment};
 use at_base::id::Id;
-use at_base::message::Message;
+use at_base::message::Work;
 use at_base::notice::{Kind, is_kind};
 use at_base::outs::{Effects, Ending, OutList, Outs};
-use at_base::target::Target;
 use at_posts::answers::accepted;
 use by_id::list::ById;
 use by_id::plan::{Branch, Plan};
 use std::alloc::{AllocError, Global};
 use std::marker::Model;
-
-/// At each event that moves a leaf, the plan of the leaves is the model's plan of the book that holds them.
-#[tactic(auto, using(crate::proofs::PlanLaws::plans_as_the_model))]
-pub fn plans_as_the_model()
-    ensures { PlansAsTheModel }
-{}
 
 /// The live leaves of a node, in the order of making.
 #[derive(Drop)]
@@ -46,62 +40,6 @@ impl Model for Leaves {
     ghost Value = { List Known };
 
     ghost view = { λ s. s.live };
-}
-
-/// A message for the service that makes leaves.
-fn work_arrived(
-    alloc: Global,
-    moment: &Moment,
-    arrived: &Arrived,
-    live: usize,
-) -> Result<Plan<Leaf>, AllocError>
-    ensures { IfOk result (λ plan. plan ≡ work_arrived moment.entry.now arrived.now live arrived.now.message) }
-{
-    match &arrived.message {
-        Message::Work(work) => on_work(alloc, moment, live, arrived, work),
-        _ => Ok(Plan::nothing(alloc)),
-    }
-}
-
-/// A message at the leaf of an id, where it has this kind.
-fn leaf_arrived(
-    alloc: Global,
-    moment: &Moment,
-    arrived: &Arrived,
-    kind: Kind,
-    found: Option<&Leaf>,
-) -> Result<Plan<Leaf>, AllocError>
-    ensures { IfOk result
-        (λ plan. plan ≡ leaf_arrived moment.entry.now arrived.now kind (option_copied found.entry)) }
-{
-    match found {
-        Some(leaf) => {
-            if is_kind(leaf.kind, kind) {
-                let answer = accepted(alloc)?;
-                on_leaf(alloc, moment, arrived, leaf)?.into_plan(alloc, answer, leaf)
-            } else {
-                Ok(Plan::nothing(alloc))
-            }
-        }
-        None => Ok(Plan::nothing(alloc)),
-    }
-}
-
-/// The leaf of an id, asked whether it is due.
-fn leaf_asked(
-    alloc: Global,
-    moment: &Moment,
-    found: Option<&Leaf>,
-) -> Result<Plan<Leaf>, AllocError>
-    ensures { IfOk result (λ plan. plan ≡ leaf_asked moment.entry.now (option_copied found.entry)) }
-{
-    match found {
-        Some(leaf) => {
-            let answer = OutList::from_vec(Vec::new(alloc));
-            on_due(alloc, moment, leaf)?.into_plan(alloc, answer, leaf)
-        }
-        None => Ok(Plan::nothing(alloc)),
-    }
 }
 
 /// The end of a leaf that going down loses.
@@ -161,16 +99,6 @@ impl Leaves {
         self.live.find(id)
     }
 
-    /// Whether there is a leaf of this id, and of this kind.
-    pub fn has(&self, id: Id, kind: Kind) -> bool
-        ensures { result ≡ has_kind kind (find_by leaf_id id self.now) }
-    {
-        match self.live.find(id) {
-            Some(leaf) => is_kind(leaf.kind, kind),
-            None => false,
-        }
-    }
-
     /// The id of the first leaf that is due, behind this one or at all.
     pub fn next_due(&self, after: Option<Id>, moment: &Moment) -> Option<Id>
         ensures { result ≡ next_due leaf_id (λ l. is_reached (leaf_due moment.entry.now l)) after self.now }
@@ -178,57 +106,63 @@ impl Leaves {
         self.live.next_due(after, moment)
     }
 
-    /// A message, by its target.
-    fn arrived_at(
+    /// What a Work does: one leaf more, or the Work is refused.
+    #[tactic(auto, using(crate::proofs::LeafPlans::employs))]
+    pub fn at_work(
         &self,
         alloc: Global,
         moment: &Moment,
         arrived: &Arrived,
+        work: &Work,
     ) -> Result<Plan<Leaf>, AllocError>
-        ensures { IfOk result (λ plan. plan ≡ arrived_at moment.entry.now arrived.now self.now arrived.now.target) }
+        ensures { (b : Book) (now : ℕ) → Holds b now self.now moment.entry.now
+            → IfOk result (λ plan. whole b now plan ≡ work_plan b now arrived.now (messages.Work work.now)) }
     {
-        match arrived.target {
-            Target::Work => work_arrived(alloc, moment, arrived, self.live.len()),
-            Target::Participant { id, kind } => leaf_arrived(
-                alloc,
-                moment,
-                arrived,
-                kind,
-                self.live.find(id),
-            ),
-            _ => Ok(Plan::nothing(alloc)),
-        }
+        on_work(alloc, moment, self.live.len(), arrived, work)
     }
 
-    /// An item that is asked whether it is due.
-    fn item_asked(
+    /// What a message does at the leaf of this id, where that has this kind; none where there is no such leaf.
+    #[tactic(auto, using(crate::proofs::LeafPlans::at_kind, crate::proofs::LeafPlans::at_other, crate::proofs::LeafPlans::at_none))]
+    pub fn at_leaf(
         &self,
         alloc: Global,
         moment: &Moment,
-        item: Item,
-    ) -> Result<Plan<Leaf>, AllocError>
-        ensures { IfOk result (λ plan. plan ≡ item_asked moment.entry.now self.now item) }
+        arrived: &Arrived,
+        id: Id,
+        kind: Kind,
+    ) -> Result<Option<Plan<Leaf>>, AllocError>
+        ensures { (b : Book) (now : ℕ) → Holds b now self.now moment.entry.now
+            → IfOk result (λ plan. whole_or with_leaves b now (stranger_plan b now arrived.now (participant_of kind states.None) arrived.now.message) plan
+            ≡ leaf_or_stranger_plan b now arrived.now kind (leaf_at b id)) }
     {
-        match item {
-            Item::Leaf(id) => leaf_asked(alloc, moment, self.live.find(id)),
-            Item::Transaction(_) | Item::Activity(_) => Ok(Plan::nothing(alloc)),
+        let Some(leaf) = self.live.find(id) else {
+            return Ok(None);
+        };
+        if !is_kind(leaf.kind, kind) {
+            return Ok(None);
         }
+        let choice = on_leaf(alloc, moment, arrived, leaf)?;
+        let plan = choice.into_plan(alloc, accepted(alloc)?, leaf.id)?;
+        Ok(Some(plan))
     }
 
-    /// What an event does to the leaves. It takes the memory that doing it needs, and changes nothing.
-    pub fn plan(
+    /// What the leaf of this id does by itself, where there is one.
+    #[tactic(auto, using(crate::proofs::LeafPlans::asks, crate::proofs::LeafPlans::asks_none))]
+    pub fn due(
         &self,
         alloc: Global,
-        event: &Event,
         moment: &Moment,
-    ) -> Result<Plan<Leaf>, AllocError>
-        ensures { IfOk result (λ plan. plan ≡ leaves_plan moment.entry.now event.now self.now) }
+        id: Id,
+    ) -> Result<Option<Plan<Leaf>>, AllocError>
+        ensures { (b : Book) (now : ℕ) → Holds b now self.now moment.entry.now
+            → IfOk result (λ plan. whole_or with_leaves b now (plain (still b [])) plan ≡ leaf_due_plan b now (leaf_at b id)) }
     {
-        match event {
-            Event::Arrived(arrived) => self.arrived_at(alloc, moment, arrived),
-            Event::Due(item) => self.item_asked(alloc, moment, *item),
-            Event::Local(_) | Event::Tick => Ok(Plan::nothing(alloc)),
-        }
+        let Some(leaf) = self.live.find(id) else {
+            return Ok(None);
+        };
+        let choice = on_due(alloc, moment, leaf)?;
+        let plan = choice.into_plan(alloc, OutList::from_vec(Vec::new(alloc)), leaf.id)?;
+        Ok(Some(plan))
     }
 
     /// Does what was planned, where its record landed, and where it didn't. It takes no memory, and cannot fail.

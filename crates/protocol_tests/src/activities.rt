@@ -4,9 +4,10 @@ use crate::shared::{arrived, context, epr, follows, moment_at, part, time_of};
 use at_base::event::{Event, Item, Local, Moment};
 use at_base::id::Id;
 use at_base::notice::{Kind, Notice, Vote};
-use at_base::outs::{Out, Outs};
+use at_base::outs::{Effects, Out, OutList, Outs};
 use at_base::target::Target;
 use at_base::text::Text;
+use by_id::plan::Plan;
 use completion_at::activities::Activities;
 use completion_at::activity::{Activity, Progress};
 use completion_at::requests::Refusal;
@@ -241,6 +242,24 @@ fn refusal_of(activities: &Activities, event: &Event, moment: &Moment) -> &'stat
     }
 }
 
+/// What an event does to the activities; none where it is none for them, or refused.
+fn planned(
+    alloc: Global,
+    activities: &Activities,
+    event: &Event,
+    moment: &Moment,
+) -> Result<Option<Plan<Activity>>, AllocError> {
+    match event {
+        Event::Arrived(arrived) => match arrived.target {
+            Target::Initiator(id) => activities.at_activity(alloc, moment, arrived, id),
+            _ => Ok(None),
+        },
+        Event::Local(local) => activities.asked(alloc, moment, local),
+        Event::Due(Item::Activity(id)) => activities.due(alloc, moment, *id),
+        _ => Ok(None),
+    }
+}
+
 /// What follows an event.
 fn outs_of(
     alloc: Global,
@@ -248,8 +267,13 @@ fn outs_of(
     event: &Event,
     moment: &Moment,
 ) -> Result<Outs, AllocError> {
-    let plan = activities.plan(alloc, event, moment)?;
-    Ok(activities.apply(plan, true))
+    match planned(alloc, activities, event, moment)? {
+        Some(plan) => Ok(activities.apply(plan, true)),
+        None => Ok(Outs {
+            outs: OutList::from_vec(Vec::new(alloc)),
+            effects: Effects::from_vec(Vec::new(alloc)),
+        }),
+    }
 }
 
 /// Whether an event is refused as the last word says, or what the words say follows it, but for the first one.

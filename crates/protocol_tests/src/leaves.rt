@@ -10,6 +10,7 @@ use at_base::record::Record;
 use at_base::target::Target;
 use at_base::text::Text;
 use at_tables::cells::State;
+use by_id::plan::Plan;
 use participant_at::leaf::{Leaf, WorkRequest};
 use participant_at::leaves::Leaves;
 use std::alloc::{AllocError, Global};
@@ -168,6 +169,29 @@ fn state_name(leaves: &Leaves) -> &'static str {
     }
 }
 
+/// What an event does to the leaves; none where it is none for them.
+fn planned(
+    alloc: Global,
+    leaves: &Leaves,
+    event: &Event,
+    moment: &Moment,
+) -> Result<Option<Plan<Leaf>>, AllocError> {
+    match event {
+        Event::Arrived(arrived) => match (arrived.target, &arrived.message) {
+            (Target::Work, Message::Work(work)) => {
+                let plan = leaves.at_work(alloc, moment, arrived, work)?;
+                Ok(Some(plan))
+            }
+            (Target::Participant { id, kind }, _) => leaves.at_leaf(
+                alloc, moment, arrived, id, kind,
+            ),
+            _ => Ok(None),
+        },
+        Event::Due(Item::Leaf(id)) => leaves.due(alloc, moment, *id),
+        _ => Ok(None),
+    }
+}
+
 /// Whether a step has the record of a row, and for this fate of it the leaf comes to the state that the row has, and what
 /// the row has follows.
 fn moves(
@@ -178,7 +202,9 @@ fn moves(
     landed: bool,
     row: &str,
 ) -> Result<bool, AllocError> {
-    let plan = leaves.plan(alloc, event, moment)?;
+    let Some(plan) = planned(alloc, leaves, event, moment)? else {
+        return Ok(false);
+    };
     let recorded = record_name(plan.entry()) == part(row, '|', 1);
     let outs = leaves.apply(plan, landed);
     let wanted = part(row, '|', if landed { 2 } else { 3 });
@@ -256,8 +282,7 @@ fn asked(alloc: Global, reply: &str) -> Result<Event, AllocError> {
 fn is_made(leaves: &Leaves) -> bool {
     match leaves.find(Id::new(1, 2)) {
         Some(leaf) => {
-            let known = leaves.has(Id::new(1, 2), Kind::Durable);
-            known
+            leaf.kind == Kind::Durable
                 && leaf.state == State::Registering
                 && leaf.deadline == Some(60007)
                 && leaf.sent == Some(7)
@@ -291,7 +316,9 @@ fn answers(
     moment: &Moment,
     wanted: &str,
 ) -> Result<bool, AllocError> {
-    let plan = leaves.plan(alloc, event, moment)?;
+    let Some(plan) = planned(alloc, leaves, event, moment)? else {
+        return Ok(false);
+    };
     let outs = leaves.apply(plan, true);
     Ok(follows(&outs, wanted, 0))
 }

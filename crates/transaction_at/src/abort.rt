@@ -1,12 +1,13 @@
 //! Abort (WS-AtomicTransaction 1.2, sections 3.2, 3.3.3 and 3.3.4).
 
-ghost use Rattle.std.specs.Prelude.{◌≡◌, ◌++◌, IfOk, OnOk, Some, option_copied};
-ghost use Rattle.at_model.specs.Book.{Phase as Stage};
+ghost use Rattle.std.specs.Prelude.{◌≡◌, ◌++◌, IfOk, OnOk, Option, Some, option_copied};
+ghost use Rattle.at_model.specs.Book.{Phase as Stage, Transaction as Known};
 ghost use Rattle.at_base.specs.declared.outs.Ending.TheVariants as endings;
 ghost use Rattle.at_model.specs.Moves.{posts, effect};
 ghost use Rattle.at_model.specs.Posts.{stored_or};
 ghost use Rattle.at_model.specs.Seats.{ending};
 ghost use Rattle.at_model.specs.Abort.{abort, from_of, is_silent, link_aborted, links_aborted, until_rolled_back, without_links};
+ghost use Rattle.by_id.specs.Fates.{turn_of};
 ghost use Rattle.transaction_at.specs.Reasons.{reason_of};
 
 use crate::links::{ending, push_from_link, tell_initiator};
@@ -19,11 +20,12 @@ use at_base::notice::{Kind, Notice, is_kind};
 use at_base::outs::Ending;
 use at_posts::list::PostList;
 use at_tables::cells::State;
-use by_id::moves::{Change, Moving};
+use by_id::fates::Turn;
+use by_id::moves::Moving;
 use std::alloc::{AllocError, Global};
 
 /// Why a transaction aborts.
-#[derive(Debug, Drop)]
+#[derive(Debug)]
 pub enum Reason {
     /// On its own.
     Alone,
@@ -31,6 +33,19 @@ pub enum Reason {
     Asked { kind: Kind, from: Option<Epr> },
     /// Behind an InvalidState that a link drew.
     Faulted(Kind),
+}
+
+impl Drop for Reason {
+    fn drop(self) {
+        match self {
+            Reason::Alone => {}
+            Reason::Asked {
+                kind: _kind,
+                from: _from,
+            } => {}
+            Reason::Faulted(_kind) => {}
+        }
+    }
 }
 
 impl Reason {
@@ -151,8 +166,8 @@ fn aborting(moment: &Moment, transaction: &mut Transaction)
 }
 
 /// Forgotten when no seat is Aborting.
-pub fn until_rolled_back(moving: Moving<Transaction>) -> Change<Transaction>
-    ensures { result ≡ until_rolled_back moving }
+pub fn until_rolled_back(moving: Moving<Transaction>) -> Turn<Transaction>
+    ensures { (found : Option Known) → turn_of found result ≡ until_rolled_back moving }
 {
     if has_any(moving.item.seats.as_slice(), Group::In(State::Aborting)) {
         moving.stays()
@@ -214,8 +229,9 @@ pub fn abort(
     moment: &Moment,
     reason: &Reason,
     mut moving: Moving<Transaction>,
-) -> Result<Change<Transaction>, AllocError>
-    ensures { IfOk result (λ change. change ≡ abort moment.entry.now (reason_of reason.now) moving) }
+) -> Result<Turn<Transaction>, AllocError>
+    ensures { (found : Option Known) → IfOk result
+        (λ turn. turn_of found turn ≡ abort moment.entry.now (reason_of reason.now) moving) }
 {
     abort_all(alloc, moment, reason, &mut moving)?;
     Ok(until_rolled_back(moving))

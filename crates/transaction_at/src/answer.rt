@@ -1,8 +1,7 @@
 //! How a subordinate's CreateCoordinationContext is answered (WS-Coordination 1.2, section 3.1): with the context once
 //! neither link is Registering, with CannotCreateContext where the subordinate ended before.
 
-ghost use Rattle.std.specs.Prelude.{◌≡◌, ◌++◌, ◌∷◌, [], List, IfOk, OnOk, Some, None, if◌then◌else◌, option_copied, option_map};
-ghost use Rattle.at_base.specs.declared.fault.Fault.TheVariants.{CannotCreateContext};
+ghost use Rattle.std.specs.Prelude.{◌≡◌, ◌++◌, ◌∷◌, [], List, IfOk, OnOk, Some, if◌then◌else◌, option_copied, option_map};
 ghost use Rattle.at_base.specs.declared.message.Message.TheVariants as messages;
 ghost use Rattle.at_model.specs.Arrivals.{answer_request, context_of, refused_request, request_answered, request_left, request_of, request_stands, request_under, with_answer};
 ghost use Rattle.at_base.specs.declared.outs.Effect.{Effect};
@@ -10,7 +9,7 @@ ghost use Rattle.at_model.specs.Book.{Phase as Stage};
 ghost use Rattle.at_model.specs.Moves.{Records};
 ghost use Rattle.at_model.specs.Posts.{reply_post};
 ghost use Rattle.at_model.specs.Seats.{under};
-ghost use Rattle.by_id.specs.Decisions.{decision_of};
+ghost use Rattle.by_id.specs.Fates.{fate_of, meant, turn_of};
 
 use crate::at_link::is_registering;
 use crate::phases::or_undone;
@@ -24,7 +23,7 @@ use at_base::target::Target;
 use at_base::text::Text;
 use at_posts::list::PostList;
 use at_posts::posts::{fault_post, reply_post};
-use by_id::moves::{Change, Decision};
+use by_id::fates::{Choice, Fate, Turn};
 use endpoints::addresses::endpoint_of;
 use endpoints::uris::atomic;
 use std::alloc::{AllocError, Global};
@@ -166,19 +165,60 @@ fn request_under(
     Ok(())
 }
 
+/// A copy of the transaction whose own request is answered.
+fn answered(transaction: &Transaction) -> Result<Transaction, AllocError>
+    ensures { IfOk result
+        (λ next. next
+        ≡ record transaction.now { superior = option_map request_answered transaction.now.superior }) }
+{
+    let mut next = transaction.clone()?;
+    set_answered(&mut next);
+    Ok(next)
+}
+
+/// The answer, where the transaction was to stay as it is: it is given anew only where it answers.
+fn request_kept(
+    alloc: Global,
+    posts: &mut PostList,
+    moment: &Moment,
+    request: &Request,
+    transaction: &Transaction,
+) -> Result<Fate<Transaction>, AllocError>
+    ensures { (effects : List Effect) → IfOk result
+        (λ fate. record { item = fate_of (Some transaction.now) fate; posts = posts.new; effects = effects }
+        ≡ request_under moment.entry.now request.now transaction.now transaction.now.superior
+        (record { item = Some transaction.now; posts = posts.old; effects = effects })) }
+{
+    let Some(superior) = &transaction.superior else {
+        return Ok(Fate::Keep);
+    };
+    if push_answer(alloc, posts, moment, request, superior, transaction)? {
+        Ok(Fate::Put(answered(transaction)?))
+    } else {
+        Ok(Fate::Keep)
+    }
+}
+
 /// The answer of a request, behind what is posted.
 fn request_left(
     alloc: Global,
     moment: &Moment,
     request: &Request,
-    change: &mut Change<Transaction>,
+    transaction: &Transaction,
+    turn: &mut Turn<Transaction>,
 ) -> Result<(), AllocError>
-    ensures { OnOk result (change.new ≡ request_left moment.entry.now request.now change.old.item change.old) }
+    ensures { OnOk result
+        (turn_of (Some transaction.now) turn.new
+        ≡ request_left moment.entry.now request.now (fate_of (Some transaction.now) turn.old.fate)
+        (turn_of (Some transaction.now) turn.old)) }
 {
-    match &mut change.item {
-        None => push_refused(alloc, &mut change.posts, request),
-        Some(transaction) => request_under(alloc, &mut change.posts, moment, request, transaction),
+    let posts = &mut turn.posts;
+    match &mut turn.fate {
+        Fate::Keep => turn.fate = request_kept(alloc, posts, moment, request, transaction)?,
+        Fate::Forget => push_refused(alloc, posts, request)?,
+        Fate::Put(next) => request_under(alloc, posts, moment, request, next)?,
     }
+    Ok(())
 }
 
 /// The answer of a request, where there is one.
@@ -186,16 +226,18 @@ fn answer_request(
     alloc: Global,
     moment: &Moment,
     request: Option<&Request>,
-    mut change: Change<Transaction>,
-) -> Result<Change<Transaction>, AllocError>
+    transaction: &Transaction,
+    mut turn: Turn<Transaction>,
+) -> Result<Turn<Transaction>, AllocError>
     ensures { IfOk result
-        (λ next. next ≡ answer_request moment.entry.now (option_copied request.entry) change) }
+        (λ next. turn_of (Some transaction.now) next
+        ≡ answer_request moment.entry.now (option_copied request.entry) (turn_of (Some transaction.now) turn)) }
 {
     match request {
-        None => Ok(change),
+        None => Ok(turn),
         Some(request) => {
-            request_left(alloc, moment, request, &mut change)?;
-            Ok(change)
+            request_left(alloc, moment, request, transaction, &mut turn)?;
+            Ok(turn)
         }
     }
 }
@@ -205,16 +247,18 @@ fn answer_absent(
     alloc: Global,
     moment: &Moment,
     request: Option<&Request>,
+    transaction: &Transaction,
     entry: Record,
-    stands: Change<Transaction>,
-    absent: Change<Transaction>,
-) -> Result<Decision<Transaction>, AllocError>
+    stands: Turn<Transaction>,
+    absent: Turn<Transaction>,
+) -> Result<Choice<Transaction>, AllocError>
     ensures { IfOk result
-        (λ decision. decision_of decision
-        ≡ Records entry stands (Some (answer_request moment.entry.now (option_copied request.entry) absent))) }
+        (λ choice. meant (Some transaction.now) choice
+        ≡ Records entry (turn_of (Some transaction.now) stands)
+        (Some (answer_request moment.entry.now (option_copied request.entry) (turn_of (Some transaction.now) absent)))) }
 {
-    let absent = answer_request(alloc, moment, request, absent)?;
-    Ok(Decision::Records {
+    let absent = answer_request(alloc, moment, request, transaction, absent)?;
+    Ok(Choice::Records {
         entry,
         stands,
         absent: Some(absent),
@@ -231,31 +275,43 @@ fn request_of(transaction: &Transaction) -> Option<&Request>
     }
 }
 
-/// The decision, with the answer of the request that the transaction waits to give as its last post.
+/// The choice, with the answer of the request that the transaction waits to give as its last post.
 pub fn with_answer(
     alloc: Global,
     moment: &Moment,
     transaction: &Transaction,
-    decision: Decision<Transaction>,
-) -> Result<Decision<Transaction>, AllocError>
+    choice: Choice<Transaction>,
+) -> Result<Choice<Transaction>, AllocError>
     ensures { IfOk result
-        (λ answered. decision_of answered
-        ≡ with_answer moment.entry.now transaction.now (decision_of decision)) }
+        (λ answered. meant (Some transaction.now) answered
+        ≡ with_answer moment.entry.now transaction.now (meant (Some transaction.now) choice)) }
 {
     let request = request_of(transaction);
-    match decision {
-        Decision::Goes(change) => Ok(Decision::Goes(answer_request(
-            alloc, moment, request, change,
+    match choice {
+        Choice::Goes(turn) => Ok(Choice::Goes(answer_request(
+            alloc,
+            moment,
+            request,
+            transaction,
+            turn,
         )?)),
-        Decision::Records {
+        Choice::Records {
             entry,
             stands,
             absent,
         } => {
-            let stands = answer_request(alloc, moment, request, stands)?;
+            let stands = answer_request(alloc, moment, request, transaction, stands)?;
             match absent {
                 None => Ok(or_undone(entry, stands)),
-                Some(absent) => answer_absent(alloc, moment, request, entry, stands, absent),
+                Some(absent) => answer_absent(
+                    alloc,
+                    moment,
+                    request,
+                    transaction,
+                    entry,
+                    stands,
+                    absent,
+                ),
             }
         }
     }

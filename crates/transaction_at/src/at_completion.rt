@@ -5,23 +5,27 @@ ghost use Rattle.at_base.specs.declared.notice.Notice.TheVariants as notices;
 ghost use Rattle.at_base.specs.declared.target.Target.TheVariants as targets;
 ghost use Rattle.at_tables.specs.Tables.{completion_of};
 ghost use Rattle.at_tables.specs.declared.cells.State.TheVariants as states;
+ghost use Rattle.at_model.specs.Book.{Transaction as Known};
 ghost use Rattle.at_model.specs.Arrivals.{completion_act, completion_notice, on_completion};
 ghost use Rattle.at_model.specs.Moves.{Goes, begin, post, posts, stays};
 ghost use Rattle.at_model.specs.Phases.{go_volatile};
 ghost use Rattle.at_model.specs.Posts.{fault_post, notice_post, to_each};
-ghost use Rattle.by_id.specs.Decisions.{decision_of};
+ghost use Rattle.by_id.specs.Fates.{meant};
 
 use crate::phases::{aborts, go_volatile};
-use crate::seats::{ignores, posting, still};
+use crate::seats::{only_posts, still};
 use crate::transaction::{Completion, Transaction};
 use at_base::event::{Arrived, Moment};
 use at_base::fault::Fault;
+use at_base::id::Id;
 use at_base::message::Message;
 use at_base::notice::Notice;
 use at_base::target::Target;
+use at_posts::list::PostList;
 use at_posts::posts::{fault_post, notice_post};
 use at_tables::cells::{Act, State, completion_cell};
-use by_id::moves::{Decision, Moving};
+use by_id::fates::Choice;
+use by_id::moves::Moving;
 use std::alloc::{AllocError, Global};
 
 /// A fault to the initiator, which leaves the transaction as it stands.
@@ -29,17 +33,15 @@ fn faults(
     alloc: Global,
     arrived: &Arrived,
     completion: &Completion,
-    transaction: &Transaction,
     fault: Fault,
-) -> Result<Decision<Transaction>, AllocError>
-    ensures { IfOk result
-        (λ decision. decision_of decision
-        ≡ Goes (stays (post (fault_post (Some completion.now.initiator) arrived.now.id fault) (begin transaction.now)))) }
+) -> Result<Choice<Transaction>, AllocError>
+    ensures { (transaction : Known) → IfOk result
+        (λ choice. meant (Some transaction) choice
+        ≡ Goes (stays (post (fault_post (Some completion.now.initiator) arrived.now.id fault) (begin transaction)))) }
 {
     let to = completion.initiator.clone()?;
     let message = fault_post(alloc, Some(to), &arrived.id, fault)?;
-    let next = transaction.clone()?;
-    Ok(Decision::Goes(posting(alloc, next, message)?.stays()))
+    Ok(only_posts(alloc, PostList::alone(alloc, message)?))
 }
 
 /// A completion seat that was told to commit.
@@ -71,35 +73,37 @@ fn completes(
     moment: &Moment,
     completion: &Completion,
     transaction: &Transaction,
-) -> Result<Decision<Transaction>, AllocError>
+) -> Result<Choice<Transaction>, AllocError>
     ensures { IfOk result
-        (λ decision. decision_of decision
+        (λ choice. meant (Some transaction.now) choice
         ≡ go_volatile moment.entry.now
         (begin (record transaction.now { completion = Some (record completion.now { state = states.Completing }) }))) }
 {
     let next = with_completion(transaction, completing(completion)?)?;
-    go_volatile(alloc, moment, Moving::begin(alloc, next))
+    let choice = go_volatile(alloc, moment, Moving::begin(alloc, next))?;
+    Ok(choice)
 }
 
-/// The transaction, with Committed to the message's From, where it has one.
-fn with_committed(
+/// Committed to the message's From, where it has one.
+fn committed_posts(
     alloc: Global,
     moment: &Moment,
     arrived: &Arrived,
-    transaction: &Transaction,
-) -> Result<Moving<Transaction>, AllocError>
+    id: Id,
+) -> Result<PostList, AllocError>
     ensures { IfOk result
-        (λ moving. moving
-        ≡ posts (to_each arrived.now.from
-        (λ to. notice_post moment.entry.now.base (targets.Completion transaction.now.id) to notices.Committed)) (begin transaction.now)) }
+        (λ list. list
+        ≡ to_each arrived.now.from
+        (λ to. notice_post moment.entry.now.base (targets.Completion id) to notices.Committed)) }
 {
     let Some(to) = &arrived.from else {
-        return still(alloc, transaction);
+        return Ok(PostList::new(alloc));
     };
-    let own = Target::Completion(transaction.id);
-    let message = notice_post(alloc, &moment.base, &own, to, Notice::Committed)?;
-    let next = transaction.clone()?;
-    posting(alloc, next, message)
+    let own = Target::Completion(id);
+    PostList::alone(
+        alloc,
+        notice_post(alloc, &moment.base, &own, to, Notice::Committed)?,
+    )
 }
 
 /// The initiator asks for commit once more, of a transaction that committed: it is told so.
@@ -108,13 +112,16 @@ fn answers_committed(
     moment: &Moment,
     arrived: &Arrived,
     transaction: &Transaction,
-) -> Result<Decision<Transaction>, AllocError>
+) -> Result<Choice<Transaction>, AllocError>
     ensures { IfOk result
-        (λ decision. decision_of decision
+        (λ choice. meant (Some transaction.now) choice
         ≡ Goes (stays (posts (to_each arrived.now.from
         (λ to. notice_post moment.entry.now.base (targets.Completion transaction.now.id) to notices.Committed)) (begin transaction.now)))) }
 {
-    Ok(Decision::Goes(with_committed(alloc, moment, arrived, transaction)?.stays()))
+    Ok(only_posts(
+        alloc,
+        committed_posts(alloc, moment, arrived, transaction.id)?,
+    ))
 }
 
 /// An act of the completion table.
@@ -126,9 +133,9 @@ fn acts(
     completion: &Completion,
     transaction: &Transaction,
     act: Act,
-) -> Result<Decision<Transaction>, AllocError>
+) -> Result<Choice<Transaction>, AllocError>
     ensures { IfOk result
-        (λ decision. decision_of decision
+        (λ choice. meant (Some transaction.now) choice
         ≡ completion_act moment.entry.now arrived.now.from arrived.now.id completion.now transaction.now act) }
 {
     match act {
@@ -137,16 +144,9 @@ fn acts(
             alloc,
             arrived,
             completion,
-            transaction,
             Fault::UnknownTransaction,
         ),
-        Act::FaultInvalidState => faults(
-            alloc,
-            arrived,
-            completion,
-            transaction,
-            Fault::InvalidState,
-        ),
+        Act::FaultInvalidState => faults(alloc, arrived, completion, Fault::InvalidState),
         Act::Complete => completes(alloc, moment, completion, transaction),
         Act::AbortAndSendAborted => aborts(alloc, moment, still(alloc, transaction)?),
         Act::Ignore
@@ -162,7 +162,7 @@ fn acts(
         | Act::Commit
         | Act::RecordAndSendAborted
         | Act::TellCommitted
-        | Act::TellAborted => ignores(alloc, transaction),
+        | Act::TellAborted => Ok(Choice::ignored(alloc)),
     }
 }
 
@@ -175,15 +175,15 @@ fn notified(
     completion: &Completion,
     transaction: &Transaction,
     notice: Notice,
-) -> Result<Decision<Transaction>, AllocError>
+) -> Result<Choice<Transaction>, AllocError>
     ensures { IfOk result
-        (λ decision. decision_of decision
+        (λ choice. meant (Some transaction.now) choice
         ≡ completion_notice moment.entry.now arrived.now.from arrived.now.id completion.now transaction.now
         (completion_of completion.now.state notice)) }
 {
     match completion_cell(completion.state, notice) {
         Some(cell) => acts(alloc, moment, arrived, completion, transaction, cell.act),
-        None => ignores(alloc, transaction),
+        None => Ok(Choice::ignored(alloc)),
     }
 }
 
@@ -195,9 +195,9 @@ pub fn on_completion(
     arrived: &Arrived,
     transaction: &Transaction,
     completion: &Completion,
-) -> Result<Decision<Transaction>, AllocError>
+) -> Result<Choice<Transaction>, AllocError>
     ensures { IfOk result
-        (λ decision. decision_of decision
+        (λ choice. meant (Some transaction.now) choice
         ≡ on_completion moment.entry.now arrived.now transaction.now completion.now arrived.now.message) }
 {
     match &arrived.message {
@@ -209,6 +209,6 @@ pub fn on_completion(
             transaction,
             *notice,
         ),
-        _ => ignores(alloc, transaction),
+        _ => Ok(Choice::ignored(alloc)),
     }
 }

@@ -4,27 +4,26 @@ ghost use Rattle.std.specs.Prelude.{◌≡◌, IfOk, Some, None, ◌&&◌};
 ghost use Rattle.at_base.specs.declared.fault.Fault.TheVariants.{InvalidState};
 ghost use Rattle.at_base.specs.declared.notice.Kind.TheVariants as kinds;
 ghost use Rattle.at_base.specs.declared.notice.Notice.TheVariants as notices;
-ghost use Rattle.at_base.specs.declared.outs.Ending.TheVariants as endings;
 ghost use Rattle.at_base.specs.declared.record.Record.TheVariants as records;
 ghost use Rattle.at_base.specs.declared.target.Target.TheVariants as targets;
 ghost use Rattle.at_tables.specs.Tables.{participant_of};
 ghost use Rattle.at_tables.specs.declared.cells.State.TheVariants as states;
-ghost use Rattle.at_model.specs.Book.{Phase as Stage};
+ghost use Rattle.at_model.specs.Book.{Phase as Stage, Transaction as Known};
 ghost use Rattle.at_model.specs.Abort.{abort, Asked, Faulted};
 ghost use Rattle.at_model.specs.Arrivals.{asked, commit_voted, is_registering, link_act, link_fault, link_notice, link_registered, on_link, registered, relates_to};
 ghost use Rattle.endpoints.specs.Addresses.{register_id};
 ghost use Rattle.at_model.specs.Moves.{Goes, Records, become, begin, posts, stays};
-ghost use Rattle.at_model.specs.Phases.{commit_seats, go_volatile, upwards};
+ghost use Rattle.at_model.specs.Phases.{go_volatile, upwards};
 ghost use Rattle.at_model.specs.Posts.{fault_post, stored_or, stranger_post, to_each};
-ghost use Rattle.at_model.specs.Seats.{ending, link_in, link_of, sent_now, set_link, under};
+ghost use Rattle.at_model.specs.Seats.{link_in, link_of, sent_now, set_link, under};
 ghost use Rattle.at_tables.specs.Names.{is_state};
-ghost use Rattle.by_id.specs.Decisions.{decision_of};
+ghost use Rattle.by_id.specs.Fates.{meant};
 ghost use Rattle.transaction_at.specs.PhaseNames.{phase_of};
 
 use crate::abort::{Reason, abort};
 use crate::links::{ending, push_upwards};
 use crate::phases::{aborts, commit_seats, go_volatile, or_undone};
-use crate::seats::{happening, ignores, is_state, posting, sent_now, still};
+use crate::seats::{happening, is_state, only_posts, posting, sent_now, still};
 use crate::transaction::{Phase, Superior, Transaction};
 use at_base::epr::Epr;
 use at_base::event::{Arrived, Moment};
@@ -36,9 +35,11 @@ use at_base::record::Record;
 use at_base::target::Target;
 use at_base::text::Text;
 use at_posts::answers::relates_to;
+use at_posts::list::PostList;
 use at_posts::posts::{fault_post, stored_or, stranger_post};
 use at_tables::cells::{Act, State, participant_cell};
-use by_id::moves::{Decision, Moving};
+use by_id::fates::{Choice, Fate, Turn};
+use by_id::moves::Moving;
 use endpoints::addresses::register_id;
 use std::alloc::{AllocError, Global};
 
@@ -49,24 +50,23 @@ fn prepares_again(
     kind: Kind,
     superior: &Superior,
     transaction: &Transaction,
-) -> Result<Decision<Transaction>, AllocError>
+) -> Result<Choice<Transaction>, AllocError>
     ensures { IfOk result
-        (λ decision. decision_of decision
+        (λ choice. meant (Some transaction.now) choice
         ≡ Goes (stays (posts (upwards moment.entry.now.base transaction.now.id kind notices.Prepared (link_of kind superior.now)) (become (sent_now moment.entry.now transaction.now) (begin transaction.now))))) }
 {
     let next = sent_now(moment, transaction)?;
-    let mut moving = Moving::begin(alloc, next);
-    let link = superior.link(kind);
+    let mut posts = PostList::new(alloc);
     push_upwards(
         alloc,
-        &mut moving.posts,
+        &mut posts,
         moment,
         transaction.id,
         kind,
         Notice::Prepared,
-        link,
+        superior.link(kind),
     )?;
-    Ok(Decision::Goes(moving.stays()))
+    Ok(Choice::Goes(Turn::silent(alloc, Fate::Put(next), posts)))
 }
 
 /// The link answers, to the superior or to the message's From, as one that isn't waited for.
@@ -78,9 +78,9 @@ fn answers(
     superior: &Superior,
     transaction: &Transaction,
     notice: Notice,
-) -> Result<Decision<Transaction>, AllocError>
+) -> Result<Choice<Transaction>, AllocError>
     ensures { IfOk result
-        (λ decision. decision_of decision
+        (λ choice. meant (Some transaction.now) choice
         ≡ Goes (stays (posts (to_each (stored_or (link_of kind superior.now).coordinator arrived.now.from)
         (λ to. stranger_post moment.entry.now.base (targets.Participant transaction.now.id kind) to notice)) (begin transaction.now)))) }
 {
@@ -88,37 +88,33 @@ fn answers(
         id: transaction.id,
         kind,
     };
-    let next = transaction.clone()?;
-    let moving = match stored_or(&superior.link(kind).coordinator, &arrived.from) {
-        Some(to) => {
-            let message = stranger_post(alloc, &moment.base, &own, to, notice)?;
-            posting(alloc, next, message)?
-        }
-        None => Moving::begin(alloc, next),
+    let Some(to) = stored_or(&superior.link(kind).coordinator, &arrived.from) else {
+        return Ok(Choice::ignored(alloc));
     };
-    Ok(Decision::Goes(moving.stays()))
+    let message = stranger_post(alloc, &moment.base, &own, to, notice)?;
+    Ok(only_posts(alloc, PostList::alone(alloc, message)?))
 }
 
-/// The transaction, with the fault InvalidState to the superior or to the message's From.
-fn with_fault(
+/// The fault InvalidState to the superior or to the message's From, where there is one.
+fn fault_posts(
     alloc: Global,
     arrived: &Arrived,
     kind: Kind,
     superior: &Superior,
-    transaction: &Transaction,
-) -> Result<Moving<Transaction>, AllocError>
+) -> Result<PostList, AllocError>
     ensures { IfOk result
-        (λ moving. moving
-        ≡ posts (to_each (stored_or (link_of kind superior.now).coordinator arrived.now.from)
-        (λ to. fault_post (Some to) arrived.now.id InvalidState)) (begin transaction.now)) }
+        (λ list. list
+        ≡ to_each (stored_or (link_of kind superior.now).coordinator arrived.now.from)
+        (λ to. fault_post (Some to) arrived.now.id InvalidState)) }
 {
     let Some(to) = stored_or(&superior.link(kind).coordinator, &arrived.from) else {
-        return still(alloc, transaction);
+        return Ok(PostList::new(alloc));
     };
     let to = to.clone()?;
-    let message = fault_post(alloc, Some(to), &arrived.id, Fault::InvalidState)?;
-    let next = transaction.clone()?;
-    posting(alloc, next, message)
+    PostList::alone(
+        alloc,
+        fault_post(alloc, Some(to), &arrived.id, Fault::InvalidState)?,
+    )
 }
 
 /// The fault InvalidState, which leaves the transaction as it stands.
@@ -127,14 +123,13 @@ fn faults(
     arrived: &Arrived,
     kind: Kind,
     superior: &Superior,
-    transaction: &Transaction,
-) -> Result<Decision<Transaction>, AllocError>
-    ensures { IfOk result
-        (λ decision. decision_of decision
+) -> Result<Choice<Transaction>, AllocError>
+    ensures { (transaction : Known) → IfOk result
+        (λ choice. meant (Some transaction) choice
         ≡ Goes (stays (posts (to_each (stored_or (link_of kind superior.now).coordinator arrived.now.from)
-        (λ to. fault_post (Some to) arrived.now.id InvalidState)) (begin transaction.now)))) }
+        (λ to. fault_post (Some to) arrived.now.id InvalidState)) (begin transaction)))) }
 {
-    Ok(Decision::Goes(with_fault(alloc, arrived, kind, superior, transaction)?.stays()))
+    Ok(only_posts(alloc, fault_posts(alloc, arrived, kind, superior)?))
 }
 
 /// The fault InvalidState, which aborts the transaction.
@@ -145,14 +140,15 @@ fn faults_and_aborts(
     kind: Kind,
     superior: &Superior,
     transaction: &Transaction,
-) -> Result<Decision<Transaction>, AllocError>
+) -> Result<Choice<Transaction>, AllocError>
     ensures { IfOk result
-        (λ decision. decision_of decision
+        (λ choice. meant (Some transaction.now) choice
         ≡ Goes (abort moment.entry.now (Faulted kind) (posts (to_each (stored_or (link_of kind superior.now).coordinator arrived.now.from)
         (λ to. fault_post (Some to) arrived.now.id InvalidState)) (begin transaction.now)))) }
 {
-    let moving = with_fault(alloc, arrived, kind, superior, transaction)?;
-    Ok(Decision::Goes(abort(alloc, moment, &Reason::Faulted(kind), moving)?))
+    let posts = fault_posts(alloc, arrived, kind, superior)?;
+    let moving = posting(alloc, transaction.clone()?, posts);
+    Ok(Choice::Goes(abort(alloc, moment, &Reason::Faulted(kind), moving)?))
 }
 
 /// A copy of the superior whose link of the kind was asked. A durable Prepare also ends a volatile link that wasn't
@@ -187,9 +183,9 @@ fn gathers(
     kind: Kind,
     superior: &Superior,
     transaction: &Transaction,
-) -> Result<Decision<Transaction>, AllocError>
+) -> Result<Choice<Transaction>, AllocError>
     ensures { IfOk result
-        (λ decision. decision_of decision
+        (λ choice. meant (Some transaction.now) choice
         ≡ go_volatile moment.entry.now (begin (under (asked kind superior.now) transaction.now))) }
 {
     let next = under(asked(kind, superior)?, transaction)?;
@@ -239,9 +235,10 @@ fn commits(
     moment: &Moment,
     superior: &Superior,
     transaction: &Transaction,
-) -> Result<Decision<Transaction>, AllocError>
+) -> Result<Choice<Transaction>, AllocError>
     ensures { IfOk result
-        (λ decision. decision_of decision ≡ commit_voted moment.entry.now superior.now transaction.now) }
+        (λ choice. meant (Some transaction.now) choice
+        ≡ commit_voted moment.entry.now superior.now transaction.now) }
 {
     let next = committing_under(superior, transaction)?;
     let mut moving = happening(alloc, next, ending(transaction, Ending::Committed))?;
@@ -257,15 +254,15 @@ fn rolls_back(
     arrived: &Arrived,
     kind: Kind,
     transaction: &Transaction,
-) -> Result<Decision<Transaction>, AllocError>
+) -> Result<Choice<Transaction>, AllocError>
     ensures { IfOk result
-        (λ decision. decision_of decision
+        (λ choice. meant (Some transaction.now) choice
         ≡ Goes (abort moment.entry.now (Asked kind arrived.now.from) (begin transaction.now))) }
 {
     let from = cloned_option(&arrived.from)?;
     let reason = Reason::Asked { kind, from };
     let moving = still(alloc, transaction)?;
-    Ok(Decision::Goes(abort(alloc, moment, &reason, moving)?))
+    Ok(Choice::Goes(abort(alloc, moment, &reason, moving)?))
 }
 
 /// A Rollback behind the vote aborts behind a record. Where that is absent the step is undone, and the superior asks
@@ -276,9 +273,9 @@ fn rolls_back_voted(
     arrived: &Arrived,
     kind: Kind,
     transaction: &Transaction,
-) -> Result<Decision<Transaction>, AllocError>
+) -> Result<Choice<Transaction>, AllocError>
     ensures { IfOk result
-        (λ decision. decision_of decision
+        (λ choice. meant (Some transaction.now) choice
         ≡ Records (records.Ended transaction.now.id)
         (abort moment.entry.now (Asked kind arrived.now.from) (begin transaction.now)) None) }
 {
@@ -299,9 +296,9 @@ fn acts(
     superior: &Superior,
     transaction: &Transaction,
     act: Act,
-) -> Result<Decision<Transaction>, AllocError>
+) -> Result<Choice<Transaction>, AllocError>
     ensures { IfOk result
-        (λ decision. decision_of decision
+        (λ choice. meant (Some transaction.now) choice
         ≡ link_act moment.entry.now arrived.now.from arrived.now.id kind superior.now transaction.now act) }
 {
     match act {
@@ -324,7 +321,7 @@ fn acts(
             transaction,
             Notice::Aborted,
         ),
-        Act::FaultInvalidState => faults(alloc, arrived, kind, superior, transaction),
+        Act::FaultInvalidState => Ok(faults(alloc, arrived, kind, superior)?),
         Act::FaultInvalidStateAndAbort => faults_and_aborts(
             alloc,
             moment,
@@ -346,7 +343,7 @@ fn acts(
         | Act::Vote
         | Act::Complete
         | Act::TellCommitted
-        | Act::TellAborted => ignores(alloc, transaction),
+        | Act::TellAborted => Ok(Choice::ignored(alloc)),
     }
 }
 
@@ -360,9 +357,9 @@ fn notified(
     superior: &Superior,
     transaction: &Transaction,
     notice: Notice,
-) -> Result<Decision<Transaction>, AllocError>
+) -> Result<Choice<Transaction>, AllocError>
     ensures { IfOk result
-        (λ decision. decision_of decision
+        (λ choice. meant (Some transaction.now) choice
         ≡ link_notice moment.entry.now arrived.now.from arrived.now.id kind superior.now transaction.now
         (participant_of kind (link_of kind superior.now).state notice)) }
 {
@@ -376,7 +373,7 @@ fn notified(
             transaction,
             cell.act,
         ),
-        None => ignores(alloc, transaction),
+        None => Ok(Choice::ignored(alloc)),
     }
 }
 
@@ -470,17 +467,18 @@ fn link_registered(
     kind: Kind,
     superior: &Superior,
     transaction: &Transaction,
-) -> Result<Decision<Transaction>, AllocError>
+) -> Result<Choice<Transaction>, AllocError>
     ensures { IfOk result
-        (λ decision. decision_of decision
+        (λ choice. meant (Some transaction.now) choice
         ≡ link_registered moment.entry.now relates.now coordinator.now kind superior.now transaction.now) }
 {
     if !is_answer(alloc, moment, relates, kind, superior, transaction)? {
-        return ignores(alloc, transaction);
+        return Ok(Choice::ignored(alloc));
     }
     let superior = with_coordinator(kind, superior, coordinator)?;
     let next = registered_under(superior, transaction)?;
-    Ok(Decision::Goes(Moving::begin(alloc, next).stays()))
+    let posts = PostList::new(alloc);
+    Ok(Choice::Goes(Turn::silent(alloc, Fate::Put(next), posts)))
 }
 
 /// A fault that answers a link's Register aborts the subordinate; every other fault is ignored.
@@ -492,15 +490,15 @@ fn link_faulted(
     kind: Kind,
     superior: &Superior,
     transaction: &Transaction,
-) -> Result<Decision<Transaction>, AllocError>
+) -> Result<Choice<Transaction>, AllocError>
     ensures { IfOk result
-        (λ decision. decision_of decision
+        (λ choice. meant (Some transaction.now) choice
         ≡ link_fault moment.entry.now relates.now kind superior.now transaction.now) }
 {
     if is_answer(alloc, moment, relates, kind, superior, transaction)? {
         aborts(alloc, moment, still(alloc, transaction)?)
     } else {
-        ignores(alloc, transaction)
+        Ok(Choice::ignored(alloc))
     }
 }
 
@@ -513,9 +511,9 @@ pub fn on_link(
     kind: Kind,
     transaction: &Transaction,
     superior: &Superior,
-) -> Result<Decision<Transaction>, AllocError>
+) -> Result<Choice<Transaction>, AllocError>
     ensures { IfOk result
-        (λ decision. decision_of decision
+        (λ choice. meant (Some transaction.now) choice
         ≡ on_link moment.entry.now arrived.now kind transaction.now superior.now arrived.now.message) }
 {
     match &arrived.message {
@@ -545,6 +543,6 @@ pub fn on_link(
             superior,
             transaction,
         ),
-        _ => ignores(alloc, transaction),
+        _ => Ok(Choice::ignored(alloc)),
     }
 }

@@ -1,29 +1,31 @@
 //! What a message does at a seat of a transaction (WS-AtomicTransaction 1.2, section 10).
 
-ghost use Rattle.std.specs.Prelude.{◌≡◌, IfOk, Some, if◌then◌else◌};
+ghost use Rattle.std.specs.Prelude.{◌≡◌, ◌∷◌, IfOk, [], Some, if◌then◌else◌};
 ghost use Rattle.at_base.specs.declared.fault.Fault.TheVariants.{InvalidState};
 ghost use Rattle.at_base.specs.declared.notice.Notice.TheVariants as notices;
 ghost use Rattle.at_tables.specs.Tables.{coordinator_of};
 ghost use Rattle.at_tables.specs.declared.cells.State.TheVariants as states;
+ghost use Rattle.at_model.specs.Book.{Transaction as Known};
 ghost use Rattle.at_model.specs.Abort.{abort, Alone};
 ghost use Rattle.at_model.specs.Arrivals.{answer_seat, answer_left_seat, on_seat, seat_act, seat_notice};
 ghost use Rattle.at_model.specs.Moves.{Goes, begin, post, stays};
 ghost use Rattle.at_model.specs.Phases.{advance};
 ghost use Rattle.at_model.specs.Posts.{fault_post};
 ghost use Rattle.at_model.specs.Seats.{in_state, seat_in};
-ghost use Rattle.by_id.specs.Decisions.{decision_of};
+ghost use Rattle.by_id.specs.Fates.{meant};
 
 use crate::phases::{aborts, advance};
-use crate::seats::{ignores, is_state, posting, seat_in, seat_notice, seat_target, sent_now};
+use crate::seats::{is_state, only_posts, posting, seat_in, seat_notice, seat_target, sent_now};
 use crate::transaction::{Enlistment, Transaction};
 use at_base::event::{Arrived, Moment};
 use at_base::fault::Fault;
 use at_base::message::Message;
 use at_base::notice::Notice;
-use at_base::text::Text;
+use at_posts::list::PostList;
 use at_posts::posts::{fault_post, stranger_post};
 use at_tables::cells::{Act, State, coordinator_cell};
-use by_id::moves::{Decision, Moving};
+use by_id::fates::{Choice, Fate, Turn};
+use by_id::moves::Moving;
 use std::alloc::{AllocError, Global};
 
 /// The seat's own answer, which counts as a sending.
@@ -33,13 +35,15 @@ fn answers(
     notice: Notice,
     transaction: &Transaction,
     seat: &Enlistment,
-) -> Result<Decision<Transaction>, AllocError>
+) -> Result<Choice<Transaction>, AllocError>
     ensures { IfOk result
-        (λ decision. decision_of decision ≡ answer_seat moment.entry.now notice transaction.now seat.now) }
+        (λ choice. meant (Some transaction.now) choice
+        ≡ answer_seat moment.entry.now notice transaction.now seat.now) }
 {
     let message = seat_notice(alloc, moment, transaction.id, seat, notice)?;
+    let posts = PostList::alone(alloc, message)?;
     let next = sent_now(moment, transaction)?;
-    Ok(Decision::Goes(posting(alloc, next, message)?.stays()))
+    Ok(Choice::Goes(Turn::silent(alloc, Fate::Put(next), posts)))
 }
 
 /// The answer of a seat that its participant has left.
@@ -49,14 +53,14 @@ fn answers_left(
     notice: Notice,
     transaction: &Transaction,
     seat: &Enlistment,
-) -> Result<Decision<Transaction>, AllocError>
+) -> Result<Choice<Transaction>, AllocError>
     ensures { IfOk result
-        (λ decision. decision_of decision ≡ answer_left_seat moment.entry.now notice transaction.now seat.now) }
+        (λ choice. meant (Some transaction.now) choice
+        ≡ answer_left_seat moment.entry.now notice transaction.now seat.now) }
 {
     let own = seat_target(transaction.id, seat);
     let message = stranger_post(alloc, &moment.base, &own, &seat.participant, notice)?;
-    let next = transaction.clone()?;
-    Ok(Decision::Goes(posting(alloc, next, message)?.stays()))
+    Ok(only_posts(alloc, PostList::alone(alloc, message)?))
 }
 
 /// A seat answers Rollback; abort is presumed where it was left.
@@ -65,9 +69,9 @@ fn answers_rollback(
     moment: &Moment,
     transaction: &Transaction,
     seat: &Enlistment,
-) -> Result<Decision<Transaction>, AllocError>
+) -> Result<Choice<Transaction>, AllocError>
     ensures { IfOk result
-        (λ decision. decision_of decision
+        (λ choice. meant (Some transaction.now) choice
         ≡ (if in_state states.None seat.now
         then answer_left_seat moment.entry.now notices.Rollback transaction.now seat.now
         else answer_seat moment.entry.now notices.Rollback transaction.now seat.now)) }
@@ -79,37 +83,32 @@ fn answers_rollback(
     }
 }
 
-/// The transaction, with a fault to the participant that drew it.
-fn with_fault(
+/// A fault to the participant that drew it.
+fn fault_alone(
     alloc: Global,
     arrived: &Arrived,
-    transaction: &Transaction,
     seat: &Enlistment,
     fault: Fault,
-) -> Result<Moving<Transaction>, AllocError>
+) -> Result<PostList, AllocError>
     ensures { IfOk result
-        (λ moving. moving
-        ≡ post (fault_post (Some seat.now.participant) arrived.now.id fault) (begin transaction.now)) }
+        (λ list. list ≡ fault_post (Some seat.now.participant) arrived.now.id fault ∷ []) }
 {
     let to = seat.participant.clone()?;
-    let message = fault_post(alloc, Some(to), &arrived.id, fault)?;
-    let next = transaction.clone()?;
-    posting(alloc, next, message)
+    PostList::alone(alloc, fault_post(alloc, Some(to), &arrived.id, fault)?)
 }
 
 /// A fault to the participant, which leaves the transaction as it stands.
 fn faults(
     alloc: Global,
     arrived: &Arrived,
-    transaction: &Transaction,
     seat: &Enlistment,
     fault: Fault,
-) -> Result<Decision<Transaction>, AllocError>
-    ensures { IfOk result
-        (λ decision. decision_of decision
-        ≡ Goes (stays (post (fault_post (Some seat.now.participant) arrived.now.id fault) (begin transaction.now)))) }
+) -> Result<Choice<Transaction>, AllocError>
+    ensures { (transaction : Known) → IfOk result
+        (λ choice. meant (Some transaction) choice
+        ≡ Goes (stays (post (fault_post (Some seat.now.participant) arrived.now.id fault) (begin transaction)))) }
 {
-    Ok(Decision::Goes(with_fault(alloc, arrived, transaction, seat, fault)?.stays()))
+    Ok(only_posts(alloc, fault_alone(alloc, arrived, seat, fault)?))
 }
 
 /// The fault InvalidState to the participant, which aborts the transaction.
@@ -119,13 +118,14 @@ fn faults_and_aborts(
     arrived: &Arrived,
     transaction: &Transaction,
     seat: &Enlistment,
-) -> Result<Decision<Transaction>, AllocError>
+) -> Result<Choice<Transaction>, AllocError>
     ensures { IfOk result
-        (λ decision. decision_of decision
+        (λ choice. meant (Some transaction.now) choice
         ≡ Goes (abort moment.entry.now Alone (post (fault_post (Some seat.now.participant) arrived.now.id InvalidState) (begin transaction.now)))) }
 {
-    let moving = with_fault(alloc, arrived, transaction, seat, Fault::InvalidState)?;
-    aborts(alloc, moment, moving)
+    let posts = fault_alone(alloc, arrived, seat, Fault::InvalidState)?;
+    let next = transaction.clone()?;
+    aborts(alloc, moment, posting(alloc, next, posts))
 }
 
 /// The seat is in this state, and the transaction goes on.
@@ -135,13 +135,14 @@ fn moves(
     transaction: &Transaction,
     seat: &Enlistment,
     state: State,
-) -> Result<Decision<Transaction>, AllocError>
+) -> Result<Choice<Transaction>, AllocError>
     ensures { IfOk result
-        (λ decision. decision_of decision
+        (λ choice. meant (Some transaction.now) choice
         ≡ advance moment.entry.now (begin (seat_in seat.now.number state transaction.now))) }
 {
     let next = seat_in(transaction, seat.number, state)?;
-    advance(alloc, moment, Moving::begin(alloc, next))
+    let choice = advance(alloc, moment, Moving::begin(alloc, next))?;
+    Ok(choice)
 }
 
 /// The participant leaves its seat, and the transaction aborts.
@@ -150,13 +151,14 @@ fn leaves_and_aborts(
     moment: &Moment,
     transaction: &Transaction,
     seat: &Enlistment,
-) -> Result<Decision<Transaction>, AllocError>
+) -> Result<Choice<Transaction>, AllocError>
     ensures { IfOk result
-        (λ decision. decision_of decision
+        (λ choice. meant (Some transaction.now) choice
         ≡ Goes (abort moment.entry.now Alone (begin (seat_in seat.now.number states.None transaction.now)))) }
 {
     let next = seat_in(transaction, seat.number, State::None)?;
-    aborts(alloc, moment, Moving::begin(alloc, next))
+    let choice = aborts(alloc, moment, Moving::begin(alloc, next))?;
+    Ok(choice)
 }
 
 /// An act of the coordinator's table at a seat.
@@ -168,22 +170,16 @@ fn acts(
     transaction: &Transaction,
     seat: &Enlistment,
     act: Act,
-) -> Result<Decision<Transaction>, AllocError>
+) -> Result<Choice<Transaction>, AllocError>
     ensures { IfOk result
-        (λ decision. decision_of decision
+        (λ choice. meant (Some transaction.now) choice
         ≡ seat_act moment.entry.now arrived.now.id transaction.now seat.now act) }
 {
     match act {
         Act::SendCommit => answers(alloc, moment, Notice::Commit, transaction, seat),
         Act::SendRollback => answers_rollback(alloc, moment, transaction, seat),
-        Act::FaultUnknownTransaction => faults(
-            alloc,
-            arrived,
-            transaction,
-            seat,
-            Fault::UnknownTransaction,
-        ),
-        Act::FaultInvalidState => faults(alloc, arrived, transaction, seat, Fault::InvalidState),
+        Act::FaultUnknownTransaction => faults(alloc, arrived, seat, Fault::UnknownTransaction),
+        Act::FaultInvalidState => faults(alloc, arrived, seat, Fault::InvalidState),
         Act::FaultInvalidStateAndAbort => faults_and_aborts(
             alloc,
             moment,
@@ -204,7 +200,7 @@ fn acts(
         | Act::RecordAndSendAborted
         | Act::Complete
         | Act::TellCommitted
-        | Act::TellAborted => ignores(alloc, transaction),
+        | Act::TellAborted => Ok(Choice::ignored(alloc)),
     }
 }
 
@@ -217,15 +213,15 @@ fn notified(
     transaction: &Transaction,
     seat: &Enlistment,
     notice: Notice,
-) -> Result<Decision<Transaction>, AllocError>
+) -> Result<Choice<Transaction>, AllocError>
     ensures { IfOk result
-        (λ decision. decision_of decision
+        (λ choice. meant (Some transaction.now) choice
         ≡ seat_notice moment.entry.now arrived.now.id transaction.now seat.now
         (coordinator_of seat.now.kind seat.now.state notice)) }
 {
     match coordinator_cell(seat.kind, seat.state, notice) {
         Some(cell) => acts(alloc, moment, arrived, transaction, seat, cell.act),
-        None => ignores(alloc, transaction),
+        None => Ok(Choice::ignored(alloc)),
     }
 }
 
@@ -237,13 +233,13 @@ pub fn on_seat(
     arrived: &Arrived,
     transaction: &Transaction,
     seat: &Enlistment,
-) -> Result<Decision<Transaction>, AllocError>
+) -> Result<Choice<Transaction>, AllocError>
     ensures { IfOk result
-        (λ decision. decision_of decision
+        (λ choice. meant (Some transaction.now) choice
         ≡ on_seat moment.entry.now arrived.now transaction.now seat.now arrived.now.message) }
 {
     match &arrived.message {
         Message::Notice(notice) => notified(alloc, moment, arrived, transaction, seat, *notice),
-        _ => ignores(alloc, transaction),
+        _ => Ok(Choice::ignored(alloc)),
     }
 }

@@ -1,7 +1,7 @@
 //! When a transaction is due: it expires, its aborting ends, or it sends again (WS-Coordination 1.2, section 2.1; this
 //! project's profile).
 
-ghost use Rattle.std.specs.Prelude.{ℕ, List, ◌≡◌, ◌&&◌, ◌||◌};
+ghost use Rattle.std.specs.Prelude.{ℕ, List, ◌≡◌, ◌&&◌};
 ghost use Rattle.at_base.specs.Numbers.{Numbers};
 ghost use Rattle.at_base.specs.declared.notice.Kind.{Kind};
 ghost use Rattle.at_model.specs.Due.{has_come, is_quiet, is_over, may_expire, is_aborting, unanswered_seat, is_some_post, seats_again, link_again, links_again, transaction_again, transaction_due};

@@ -1,7 +1,7 @@
 //! The phases of a transaction, from the first Prepare to the end (WS-AtomicTransaction 1.2, section 3.3).
 
-ghost use Rattle.std.specs.Prelude.{◌≡◌, IfOk, OnOk, Some, None};
-ghost use Rattle.at_model.specs.Book.{Phase as Stage};
+ghost use Rattle.std.specs.Prelude.{◌≡◌, IfOk, OnOk, Option, Some, None};
+ghost use Rattle.at_model.specs.Book.{Phase as Stage, Transaction as Known};
 ghost use Rattle.at_base.specs.declared.notice.Notice.TheVariants as notices;
 ghost use Rattle.at_base.specs.declared.record.Record.TheVariants as records;
 ghost use Rattle.at_model.specs.Abort.{abort, Alone};
@@ -10,7 +10,7 @@ ghost use Rattle.at_model.specs.Seats.{link_in, prepared};
 ghost use Rattle.at_tables.specs.declared.cells.State.TheVariants as states;
 ghost use Rattle.at_base.specs.declared.notice.Kind.TheVariants as kinds;
 ghost use Rattle.at_model.specs.Phases.{commit_seats, committed, decided, root_answered, voted, sub_answered, durable_answered, if_durable_answered, prepare_seats, go_durable, volatile_answered, ended_posts, all_committed, advance, advance_in, upwards, go_volatile};
-ghost use Rattle.by_id.specs.Decisions.{decision_of};
+ghost use Rattle.by_id.specs.Fates.{meant, turn_of};
 
 use crate::abort::{Reason, abort, until_rolled_back};
 use crate::links::{ending, push_upwards, tell_initiator};
@@ -24,7 +24,8 @@ use at_base::notice::{Kind, Notice};
 use at_base::outs::Ending;
 use at_base::record::{Record, Seats};
 use at_tables::cells::State;
-use by_id::moves::{Change, Decision, Moving};
+use by_id::fates::{Choice, Turn};
+use by_id::moves::Moving;
 use std::alloc::{AllocError, Global};
 
 /// Commit to every Prepared seat, in order; the seats then are Committing (section 3.3.3).
@@ -67,8 +68,9 @@ fn committed(
     alloc: Global,
     moment: &Moment,
     mut moving: Moving<Transaction>,
-) -> Result<Change<Transaction>, AllocError>
-    ensures { IfOk result (λ change. change ≡ committed moment.entry.now moving) }
+) -> Result<Turn<Transaction>, AllocError>
+    ensures { (found : Option Known) → IfOk result
+        (λ turn. turn_of found turn ≡ committed moment.entry.now moving) }
 {
     let is_awaited = has_prepared(moving.item.seats.as_slice());
     decide(alloc, moment, &mut moving)?;
@@ -79,34 +81,14 @@ fn committed(
     }
 }
 
-/// A root's decision behind its record.
-fn decides(
-    alloc: Global,
-    moment: &Moment,
-    moving: Moving<Transaction>,
-    seats: Seats,
-    absent: Change<Transaction>,
-) -> Result<Decision<Transaction>, AllocError>
-    ensures { IfOk result
-        (λ decision. decision_of decision
-        ≡ Records (records.Decided moving.item.id seats) (committed moment.entry.now moving) (Some absent)) }
-{
-    let id = id_of(&moving);
-    let stands = committed(alloc, moment, moving)?;
-    Ok(Decision::Records {
-        entry: Record::Decided { id, seats },
-        stands,
-        absent: Some(absent),
-    })
-}
-
 /// The abort that is done where a record is absent.
 fn absent_abort(
     alloc: Global,
     moment: &Moment,
     moving: &Moving<Transaction>,
-) -> Result<Change<Transaction>, AllocError>
-    ensures { IfOk result (λ change. change ≡ abort moment.entry.now Alone moving.now) }
+) -> Result<Turn<Transaction>, AllocError>
+    ensures { (found : Option Known) → IfOk result
+        (λ turn. turn_of found turn ≡ abort moment.entry.now Alone moving.now) }
 {
     abort(alloc, moment, &Reason::Alone, moving.branch()?)
 }
@@ -125,6 +107,16 @@ fn prepared_in(alloc: Global, moving: &Moving<Transaction>) -> Result<Seats, All
     prepared(alloc, moving.item.seats.as_slice())
 }
 
+/// The record of a root's decision.
+fn decision_record(alloc: Global, moving: &Moving<Transaction>) -> Result<Record, AllocError>
+    ensures { IfOk result
+        (λ entry. entry ≡ records.Decided moving.now.item.id (prepared moving.now.item.seats)) }
+{
+    let id = id_of(moving);
+    let seats = prepared_in(alloc, moving)?;
+    Ok(Record::Decided { id, seats })
+}
+
 /// Every durable seat of a root has answered: the decision is recorded first, with the seats that are Prepared, also
 /// where none is; where that record is absent the transaction aborts.
 #[tactic(auto, unfolding(at_model::specs::Phases::root_answered))]
@@ -132,12 +124,18 @@ fn root_answered(
     alloc: Global,
     moment: &Moment,
     moving: Moving<Transaction>,
-) -> Result<Decision<Transaction>, AllocError>
-    ensures { IfOk result (λ decision. decision_of decision ≡ root_answered moment.entry.now moving) }
+) -> Result<Choice<Transaction>, AllocError>
+    ensures { (found : Option Known) → IfOk result
+        (λ choice. meant found choice ≡ root_answered moment.entry.now moving) }
 {
-    let seats = prepared_in(alloc, &moving)?;
+    let entry = decision_record(alloc, &moving)?;
     let absent = absent_abort(alloc, moment, &moving)?;
-    decides(alloc, moment, moving, seats, absent)
+    let stands = committed(alloc, moment, moving)?;
+    Ok(Choice::Records {
+        entry,
+        stands,
+        absent: Some(absent),
+    })
 }
 
 /// The transaction has voted, under this superior.
@@ -192,8 +190,9 @@ fn standing_vote(
     moment: &Moment,
     superior: &Superior,
     moving: &Moving<Transaction>,
-) -> Result<Change<Transaction>, AllocError>
-    ensures { IfOk result (λ change. change ≡ stays (voted moment.entry.now superior.now moving.now)) }
+) -> Result<Turn<Transaction>, AllocError>
+    ensures { (found : Option Known) → IfOk result
+        (λ turn. turn_of found turn ≡ stays (voted moment.entry.now superior.now moving.now)) }
 {
     let mut moving = moving.branch()?;
     vote_upwards(alloc, moment, superior, &mut moving)?;
@@ -206,9 +205,9 @@ fn votes_read_only(
     moment: &Moment,
     superior: &Superior,
     mut moving: Moving<Transaction>,
-) -> Result<Decision<Transaction>, AllocError>
-    ensures { IfOk result
-        (λ decision. decision_of decision
+) -> Result<Choice<Transaction>, AllocError>
+    ensures { (found : Option Known) → IfOk result
+        (λ choice. meant found choice
         ≡ Goes (forgotten (posts (upwards moment.entry.now.base moving.item.id kinds.Durable notices.ReadOnly superior.now.durable) moving))) }
 {
     push_upwards(
@@ -220,7 +219,7 @@ fn votes_read_only(
         Notice::ReadOnly,
         &superior.durable,
     )?;
-    Ok(Decision::Goes(moving.forgotten()))
+    Ok(Choice::Goes(moving.forgotten()))
 }
 
 /// The record of a subordinate's vote.
@@ -249,9 +248,9 @@ fn records_vote(
     superior: &Superior,
     coordinator: &Epr,
     moving: &Moving<Transaction>,
-) -> Result<Decision<Transaction>, AllocError>
-    ensures { IfOk result
-        (λ decision. decision_of decision
+) -> Result<Choice<Transaction>, AllocError>
+    ensures { (found : Option Known) → IfOk result
+        (λ choice. meant found choice
         ≡ Records (records.Voted moving.now.item.id coordinator.now (prepared moving.now.item.seats))
         (stays (voted moment.entry.now superior.now moving.now))
         (Some (abort moment.entry.now Alone moving.now))) }
@@ -259,11 +258,32 @@ fn records_vote(
     let stands = standing_vote(alloc, moment, superior, moving)?;
     let absent = absent_abort(alloc, moment, moving)?;
     let entry = vote_record(alloc, coordinator, moving)?;
-    Ok(Decision::Records {
+    Ok(Choice::Records {
         entry,
         stands,
         absent: Some(absent),
     })
+}
+
+/// A subordinate that knows this superior votes.
+#[tactic(auto, unfolding(at_model::specs::Phases::sub_answered))]
+fn votes(
+    alloc: Global,
+    moment: &Moment,
+    superior: &Superior,
+    coordinator: &Epr,
+    moving: Moving<Transaction>,
+) -> Result<Choice<Transaction>, AllocError>
+    ensures { (found : Option Known) → IfOk result
+        (λ choice. meant found choice
+        ≡ sub_answered moment.entry.now superior.now (Some coordinator.now) moving) }
+{
+    if has_prepared(moving.item.seats.as_slice()) {
+        let choice = records_vote(alloc, moment, superior, coordinator, &moving)?;
+        Ok(choice)
+    } else {
+        votes_read_only(alloc, moment, superior, moving)
+    }
 }
 
 /// Every durable seat of a subordinate has answered: it votes, or aborts where it knows no superior to tell.
@@ -273,18 +293,14 @@ fn sub_answered(
     moment: &Moment,
     superior: &Superior,
     moving: Moving<Transaction>,
-) -> Result<Decision<Transaction>, AllocError>
-    ensures { IfOk result
-        (λ decision. decision_of decision
+) -> Result<Choice<Transaction>, AllocError>
+    ensures { (found : Option Known) → IfOk result
+        (λ choice. meant found choice
         ≡ sub_answered moment.entry.now superior.now superior.now.durable.coordinator moving) }
 {
-    let Some(coordinator) = &superior.durable.coordinator else {
-        return aborts(alloc, moment, moving);
-    };
-    if has_prepared(moving.item.seats.as_slice()) {
-        records_vote(alloc, moment, superior, coordinator, &moving)
-    } else {
-        votes_read_only(alloc, moment, superior, moving)
+    match &superior.durable.coordinator {
+        None => aborts(alloc, moment, moving),
+        Some(coordinator) => votes(alloc, moment, superior, coordinator, moving),
     }
 }
 
@@ -293,10 +309,11 @@ pub fn aborts(
     alloc: Global,
     moment: &Moment,
     moving: Moving<Transaction>,
-) -> Result<Decision<Transaction>, AllocError>
-    ensures { IfOk result (λ decision. decision_of decision ≡ Goes (abort moment.entry.now Alone moving)) }
+) -> Result<Choice<Transaction>, AllocError>
+    ensures { (found : Option Known) → IfOk result
+        (λ choice. meant found choice ≡ Goes (abort moment.entry.now Alone moving)) }
 {
-    Ok(Decision::Goes(abort(alloc, moment, &Reason::Alone, moving)?))
+    Ok(Choice::Goes(abort(alloc, moment, &Reason::Alone, moving)?))
 }
 
 /// Every durable seat has answered.
@@ -304,9 +321,9 @@ fn durable_answered(
     alloc: Global,
     moment: &Moment,
     moving: Moving<Transaction>,
-) -> Result<Decision<Transaction>, AllocError>
-    ensures { IfOk result
-        (λ decision. decision_of decision ≡ durable_answered moment.entry.now moving.item.superior moving) }
+) -> Result<Choice<Transaction>, AllocError>
+    ensures { (found : Option Known) → IfOk result
+        (λ choice. meant found choice ≡ durable_answered moment.entry.now moving.item.superior moving) }
 {
     let superior = cloned_option(&moving.item.superior)?;
     match superior {
@@ -320,13 +337,14 @@ fn if_durable_answered(
     alloc: Global,
     moment: &Moment,
     moving: Moving<Transaction>,
-) -> Result<Decision<Transaction>, AllocError>
-    ensures { IfOk result (λ decision. decision_of decision ≡ if_durable_answered moment.entry.now moving) }
+) -> Result<Choice<Transaction>, AllocError>
+    ensures { (found : Option Known) → IfOk result
+        (λ choice. meant found choice ≡ if_durable_answered moment.entry.now moving) }
 {
     if moving.item.seats.answered(Kind::Durable) {
         durable_answered(alloc, moment, moving)
     } else {
-        Ok(Decision::Goes(moving.stays()))
+        Ok(Choice::Goes(moving.stays()))
     }
 }
 
@@ -359,12 +377,14 @@ fn go_durable(
     alloc: Global,
     moment: &Moment,
     mut moving: Moving<Transaction>,
-) -> Result<Decision<Transaction>, AllocError>
-    ensures { IfOk result (λ decision. decision_of decision ≡ go_durable moment.entry.now moving) }
+) -> Result<Choice<Transaction>, AllocError>
+    ensures { (found : Option Known) → IfOk result
+        (λ choice. meant found choice ≡ go_durable moment.entry.now moving) }
 {
     moving.item.phase = Phase::Durable;
     prepare_seats(alloc, moment, Kind::Durable, &mut moving)?;
-    if_durable_answered(alloc, moment, moving)
+    let choice = if_durable_answered(alloc, moment, moving)?;
+    Ok(choice)
 }
 
 /// The transaction is Active again, under this superior.
@@ -381,9 +401,9 @@ fn answers_volatile_link(
     moment: &Moment,
     mut superior: Superior,
     mut moving: Moving<Transaction>,
-) -> Result<Decision<Transaction>, AllocError>
-    ensures { IfOk result
-        (λ decision. decision_of decision
+) -> Result<Choice<Transaction>, AllocError>
+    ensures { (found : Option Known) → IfOk result
+        (λ choice. meant found choice
         ≡ Goes (stays (posts (upwards moment.entry.now.base moving.item.id kinds.Volatile notices.ReadOnly superior.volatile)
         (become (record moving.item {
           superior = Some (link_in kinds.Volatile states.None superior);
@@ -401,7 +421,7 @@ fn answers_volatile_link(
     )?;
     superior.move_link(Kind::Volatile, State::None);
     reactivate(&mut moving.item, superior);
-    Ok(Decision::Goes(moving.stays()))
+    Ok(Choice::Goes(moving.stays()))
 }
 
 /// Every volatile seat of a subordinate has answered.
@@ -411,9 +431,9 @@ fn sub_volatile_answered(
     moment: &Moment,
     superior: Superior,
     moving: Moving<Transaction>,
-) -> Result<Decision<Transaction>, AllocError>
-    ensures { IfOk result
-        (λ decision. decision_of decision ≡ volatile_answered moment.entry.now (Some superior) moving) }
+) -> Result<Choice<Transaction>, AllocError>
+    ensures { (found : Option Known) → IfOk result
+        (λ choice. meant found choice ≡ volatile_answered moment.entry.now (Some superior) moving) }
 {
     if is_state(superior.volatile.state, State::Preparing) {
         return answers_volatile_link(alloc, moment, superior, moving);
@@ -421,7 +441,7 @@ fn sub_volatile_answered(
     if is_state(superior.durable.state, State::Preparing) {
         return go_durable(alloc, moment, moving);
     }
-    Ok(Decision::Goes(moving.stays()))
+    Ok(Choice::Goes(moving.stays()))
 }
 
 /// Every volatile seat has answered: a volatile link that was asked answers; a root, or a durable link that was asked,
@@ -431,9 +451,9 @@ fn volatile_answered(
     alloc: Global,
     moment: &Moment,
     moving: Moving<Transaction>,
-) -> Result<Decision<Transaction>, AllocError>
-    ensures { IfOk result
-        (λ decision. decision_of decision ≡ volatile_answered moment.entry.now moving.item.superior moving) }
+) -> Result<Choice<Transaction>, AllocError>
+    ensures { (found : Option Known) → IfOk result
+        (λ choice. meant found choice ≡ volatile_answered moment.entry.now moving.item.superior moving) }
 {
     let superior = cloned_option(&moving.item.superior)?;
     match superior {
@@ -448,14 +468,14 @@ fn if_volatile_answered(
     alloc: Global,
     moment: &Moment,
     moving: Moving<Transaction>,
-) -> Result<Decision<Transaction>, AllocError>
-    ensures { IfOk result
-        (λ decision. decision_of decision ≡ advance_in moment.entry.now Stage.Volatile moving) }
+) -> Result<Choice<Transaction>, AllocError>
+    ensures { (found : Option Known) → IfOk result
+        (λ choice. meant found choice ≡ advance_in moment.entry.now Stage.Volatile moving) }
 {
     if moving.item.seats.answered(Kind::Volatile) {
         volatile_answered(alloc, moment, moving)
     } else {
-        Ok(Decision::Goes(moving.stays()))
+        Ok(Choice::Goes(moving.stays()))
     }
 }
 
@@ -485,10 +505,11 @@ fn tell_superior(
 }
 
 /// What is done behind a record, and undone where that is absent.
-pub fn or_undone(entry: Record, stands: Change<Transaction>) -> Decision<Transaction>
-    ensures { decision_of result ≡ Records entry stands None }
+pub fn or_undone(entry: Record, stands: Turn<Transaction>) -> Choice<Transaction>
+    ensures { (found : Option Known) → meant found result
+        ≡ Records entry (turn_of found stands) None }
 {
-    Decision::Records {
+    Choice::Records {
         entry,
         stands,
         absent: None,
@@ -501,8 +522,9 @@ fn all_committed(
     alloc: Global,
     moment: &Moment,
     mut moving: Moving<Transaction>,
-) -> Result<Decision<Transaction>, AllocError>
-    ensures { IfOk result (λ decision. decision_of decision ≡ all_committed moment.entry.now moving) }
+) -> Result<Choice<Transaction>, AllocError>
+    ensures { (found : Option Known) → IfOk result
+        (λ choice. meant found choice ≡ all_committed moment.entry.now moving) }
 {
     tell_superior(alloc, moment, &mut moving)?;
     let id = id_of(&moving);
@@ -515,14 +537,14 @@ fn if_all_left(
     alloc: Global,
     moment: &Moment,
     moving: Moving<Transaction>,
-) -> Result<Decision<Transaction>, AllocError>
-    ensures { IfOk result
-        (λ decision. decision_of decision ≡ advance_in moment.entry.now Stage.Committing moving) }
+) -> Result<Choice<Transaction>, AllocError>
+    ensures { (found : Option Known) → IfOk result
+        (λ choice. meant found choice ≡ advance_in moment.entry.now Stage.Committing moving) }
 {
     if all_left(moving.item.seats.as_slice()) {
         all_committed(alloc, moment, moving)
     } else {
-        Ok(Decision::Goes(moving.stays()))
+        Ok(Choice::Goes(moving.stays()))
     }
 }
 
@@ -532,15 +554,16 @@ pub fn advance(
     alloc: Global,
     moment: &Moment,
     moving: Moving<Transaction>,
-) -> Result<Decision<Transaction>, AllocError>
-    ensures { IfOk result (λ decision. decision_of decision ≡ advance moment.entry.now moving) }
+) -> Result<Choice<Transaction>, AllocError>
+    ensures { (found : Option Known) → IfOk result
+        (λ choice. meant found choice ≡ advance moment.entry.now moving) }
 {
     match moving.item.phase {
-        Phase::Registering | Phase::Active | Phase::Voted => Ok(Decision::Goes(moving.stays())),
+        Phase::Registering | Phase::Active | Phase::Voted => Ok(Choice::Goes(moving.stays())),
         Phase::Volatile => if_volatile_answered(alloc, moment, moving),
         Phase::Durable => if_durable_answered(alloc, moment, moving),
         Phase::Committing => if_all_left(alloc, moment, moving),
-        Phase::Aborting => Ok(Decision::Goes(until_rolled_back(moving))),
+        Phase::Aborting => Ok(Choice::Goes(until_rolled_back(moving))),
     }
 }
 
@@ -550,10 +573,12 @@ pub fn go_volatile(
     alloc: Global,
     moment: &Moment,
     mut moving: Moving<Transaction>,
-) -> Result<Decision<Transaction>, AllocError>
-    ensures { IfOk result (λ decision. decision_of decision ≡ go_volatile moment.entry.now moving) }
+) -> Result<Choice<Transaction>, AllocError>
+    ensures { (found : Option Known) → IfOk result
+        (λ choice. meant found choice ≡ go_volatile moment.entry.now moving) }
 {
     moving.item.phase = Phase::Volatile;
     prepare_seats(alloc, moment, Kind::Volatile, &mut moving)?;
-    advance(alloc, moment, moving)
+    let choice = advance(alloc, moment, moving)?;
+    Ok(choice)
 }

@@ -1,9 +1,8 @@
 //! Where the seats of a list stand, by their numbers and kinds.
 
-ghost use Rattle.std.specs.Prelude.{◌≡◌, ℕ, ◌&&◌, OnOk, OnErr, None, Some, if◌then◌else◌, nat_eq, option_copied};
+ghost use Rattle.std.specs.Prelude.{◌≡◌, ℕ, OnOk, OnErr, None, Some, if◌then◌else◌, nat_eq};
 ghost use Rattle.std.specs.BTreeMap.{get};
 ghost use Rattle.std.specs.Ordering.{nat_cmp};
-ghost use Rattle.at_base.specs.Names.{is_kind};
 ghost use Rattle.at_base.specs.declared.notice.Kind.{Kind};
 ghost use Rattle.transaction_at.specs.SeatPlaces.{is_seat, or_else, place_in};
 

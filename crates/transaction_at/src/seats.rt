@@ -3,11 +3,11 @@
 ghost use Rattle.std.specs.Prelude.{◌≡◌, ◌++◌, IfOk, OnOk, Some};
 ghost use Rattle.std.specs.List.{list_any};
 ghost use Rattle.at_tables.specs.Names.{state_place, is_state};
-ghost use Rattle.at_base.specs.Names.{is_kind};
-ghost use Rattle.at_model.specs.Moves.{begin, effect, ignored, post};
+ghost use Rattle.at_model.specs.Book.{Transaction as Known};
+ghost use Rattle.at_model.specs.Moves.{Goes, begin, effect, posts, stays};
 ghost use Rattle.at_model.specs.Posts.{notice_post};
 ghost use Rattle.at_model.specs.Seats.{is_of, is_open, all_left, is_prepared_durable, prepared, seated, seat_target, notices_to, sent_to, send_each, seat_in, sent_now, moved};
-ghost use Rattle.by_id.specs.Decisions.{decision_of};
+ghost use Rattle.by_id.specs.Fates.{meant};
 ghost use Rattle.transaction_at.specs.Groups.{belongs};
 
 use crate::transaction::{Enlistment, Transaction};
@@ -20,7 +20,8 @@ use at_base::target::{Seat, Target};
 use at_posts::list::PostList;
 use at_posts::posts::notice_post;
 use at_tables::cells::State;
-use by_id::moves::{Decision, Moving, ignored};
+use by_id::fates::{Choice, Fate, Turn};
+use by_id::moves::Moving;
 use std::alloc::{AllocError, Global};
 
 /// Seats that are told or moved together.
@@ -284,31 +285,23 @@ pub fn still(alloc: Global, transaction: &Transaction) -> Result<Moving<Transact
     Ok(Moving::begin(alloc, transaction.clone()?))
 }
 
-/// Nothing happens to the transaction.
-pub fn ignores(
-    alloc: Global,
-    transaction: &Transaction,
-) -> Result<Decision<Transaction>, AllocError>
-    ensures { IfOk result (λ decision. decision_of decision ≡ ignored transaction.now) }
+/// This is posted, and the transaction stays as it is.
+pub fn only_posts(alloc: Global, list: PostList) -> Choice<Transaction>
+    ensures { (transaction : Known) → meant (Some transaction) result
+        ≡ Goes (stays (posts list (begin transaction))) }
 {
-    Ok(ignored(alloc, transaction.clone()?))
+    Choice::Goes(Turn::silent(alloc, Fate::Keep, list))
 }
 
 /// The transaction at the begin of a step that posts this.
-pub fn posting(
-    alloc: Global,
-    transaction: Transaction,
-    message: Post,
-) -> Result<Moving<Transaction>, AllocError>
-    ensures { IfOk result (λ moving. moving ≡ post message (begin transaction)) }
+pub fn posting(alloc: Global, transaction: Transaction, list: PostList) -> Moving<Transaction>
+    ensures { result ≡ posts list (begin transaction) }
 {
-    let mut posts = PostList::new(alloc);
-    posts.push(message)?;
-    Ok(Moving {
+    Moving {
         item: transaction,
-        posts,
+        posts: list,
         effects: Effects::from_vec(Vec::new(alloc)),
-    })
+    }
 }
 
 /// The transaction at the begin of a step in which this happened.

@@ -1,6 +1,6 @@
 //! What a message does at a seat, a link and a completion seat, written out by hand.
 
-use crate::shared::{epr, kind_of, moment_at, one, part, stands};
+use crate::shared::{epr, kind_of, moment_at, one, part, planned, stands};
 use at_base::epr::{Epr, Reply};
 use at_base::event::{Arrived, Event, Moment};
 use at_base::id::Id;
@@ -275,7 +275,9 @@ fn moves(
     landed: bool,
     row: &str,
 ) -> Result<bool, AllocError> {
-    let plan = transactions.plan(alloc, event, moment)?;
+    let Some(plan) = planned(alloc, transactions, event, moment)? else {
+        return Ok(false);
+    };
     let recorded = is_record(plan.entry(), part(row, '|', 1));
     let outs = transactions.apply(plan, landed);
     let wanted = part(row, '|', if landed { 2 } else { 3 });

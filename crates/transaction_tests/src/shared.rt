@@ -4,14 +4,16 @@
 //! `V:Active,D:None`, or so many of one state, as `511xActive`; and the state of its completion seat. A `-` stands for none.
 
 use at_base::epr::{Epr, Reply};
-use at_base::event::Moment;
+use at_base::event::{Arrived, Event, Item, Moment};
 use at_base::id::Id;
 use at_base::message::Message;
 use at_base::notice::Kind;
 use at_base::outs::{Effect, Ending, Out, Outs, Post};
+use at_base::target::Target;
 use at_base::text::Text;
 use at_tables::cells::State;
-use coordinator_at::transactions::Transactions;
+use by_id::plan::Plan;
+use coordinator_at::transactions::{Transactions, at_link};
 use std::alloc::{AllocError, Global};
 use transaction_at::transaction::{
     Completion, Enlistment, Link, Phase, Request, Seats, Superior, Transaction,
@@ -384,5 +386,82 @@ pub fn stands(transactions: &Transactions, outs: &Outs, now: u64, words: &str) -
             is_left(transaction, now, words) && follows(outs, words, words_for(transaction))
         }
         None => part(words, ' ', 0) == "gone" && follows(outs, words, 1),
+    }
+}
+
+/// What an event does to the transactions; none where it is none for them.
+pub fn planned(
+    alloc: Global,
+    transactions: &Transactions,
+    event: &Event,
+    moment: &Moment,
+) -> Result<Option<Plan<Transaction>>, AllocError> {
+    match event {
+        Event::Arrived(arrived) => arrived_at(alloc, transactions, moment, arrived),
+        Event::Due(Item::Transaction(id)) => transactions.due(alloc, moment, *id),
+        _ => Ok(None),
+    }
+}
+
+/// A message for the activation service.
+fn created(
+    alloc: Global,
+    transactions: &Transactions,
+    moment: &Moment,
+    arrived: &Arrived,
+) -> Result<Option<Plan<Transaction>>, AllocError> {
+    match &arrived.message {
+        Message::Create(create) => {
+            let plan = transactions.at_activation(alloc, moment, arrived, create)?;
+            Ok(Some(plan))
+        }
+        _ => Ok(None),
+    }
+}
+
+/// A message for the registration service of the transaction of this id.
+fn registered(
+    alloc: Global,
+    transactions: &Transactions,
+    moment: &Moment,
+    arrived: &Arrived,
+    id: Id,
+) -> Result<Option<Plan<Transaction>>, AllocError> {
+    match &arrived.message {
+        Message::Register(register) => {
+            transactions.at_registration(alloc, moment, arrived, register, id)
+        }
+        _ => Ok(None),
+    }
+}
+
+/// A message at a link of the transaction of this id.
+fn linked(
+    alloc: Global,
+    transactions: &Transactions,
+    moment: &Moment,
+    arrived: &Arrived,
+    id: Id,
+    kind: Kind,
+) -> Result<Option<Plan<Transaction>>, AllocError> {
+    match transactions.find(id) {
+        Some(transaction) => at_link(alloc, moment, arrived, kind, transaction),
+        None => Ok(None),
+    }
+}
+
+fn arrived_at(
+    alloc: Global,
+    transactions: &Transactions,
+    moment: &Moment,
+    arrived: &Arrived,
+) -> Result<Option<Plan<Transaction>>, AllocError> {
+    match arrived.target {
+        Target::Activation => created(alloc, transactions, moment, arrived),
+        Target::Registration(id) => registered(alloc, transactions, moment, arrived, id),
+        Target::Completion(id) => transactions.at_completion(alloc, moment, arrived, id),
+        Target::Coordinator { id, seat } => transactions.at_seat(alloc, moment, arrived, id, seat),
+        Target::Participant { id, kind } => linked(alloc, transactions, moment, arrived, id, kind),
+        Target::Initiator(_) | Target::Work => Ok(None),
     }
 }

@@ -1,12 +1,14 @@
 //! What a Register, a CreateCoordinationContext and the passing of time do to transactions, written out by hand.
 
-use crate::shared::{are_sent, epr, follows, moment_at, one, part, stands, transaction_of};
+use crate::shared::{
+    are_sent, epr, follows, moment_at, one, part, planned, stands, transaction_of,
+};
 use at_base::epr::Reply;
 use at_base::event::{Arrived, Event, Item, Moment};
 use at_base::id::Id;
 use at_base::message::{Context, Create, Message, Register};
 use at_base::notice::Kind;
-use at_base::outs::{OutList, Outs};
+use at_base::outs::{Effects, OutList, Outs};
 use at_base::target::Target;
 use at_base::text::Text;
 use coordinator_at::counted::{Steps, answered};
@@ -162,8 +164,13 @@ fn step(
     event: &Event,
     moment: &Moment,
 ) -> Result<Outs, AllocError> {
-    let plan = transactions.plan(alloc, event, moment)?;
-    Ok(transactions.apply(plan, true))
+    match planned(alloc, transactions, event, moment)? {
+        Some(plan) => Ok(transactions.apply(plan, true)),
+        None => Ok(Outs {
+            outs: OutList::from_vec(Vec::new(alloc)),
+            effects: Effects::from_vec(Vec::new(alloc)),
+        }),
+    }
 }
 
 /// Whether this is sent at a step, and the seats are these then.

@@ -8,7 +8,7 @@ use Rattle.at_base.specs.declared.outs.Outs.{Outs}
 use Rattle.at_model.specs.Book.{Book}
 use Rattle.at_model.specs.Step.{Outcome, Plan, items_of}
 use Rattle.at_model.specs.World.{fate, fates_left, one_nearer, stops}
-use Rattle.interposition.specs.PlanResults.{done, recorded as entry_in, sent}
+use Rattle.interposition.specs.PlanResults.{done, sent}
 use Rattle.interposition.specs.Due.{due_outcomes}
 use Rattle.interposition.specs.declared.plan.Plan.{Plan as Planned}
 use Rattle.world_laws.specs.declared.step_outs.Answer.{Answer}
@@ -102,9 +102,6 @@ stepped p w = if is_over w.luck then w else counted_by (branch p.entry w.luck) p
 abbrev pub done_by : Option Bool → Planned → Walk → Walk
 done_by None p w = w
 done_by (Some landed) p w = given (done p landed w.book) (sent p landed) w
-
-abbrev pub done_step : Planned → Walk → Walk
-done_step p w = if is_over w.luck then w else done_by (branch (entry_in p) w.luck) p (recorded (entry_in p) w)
 
 -- steps without a record
 abbrev pub counted_one : Outcome → Walk → Walk

@@ -22,19 +22,18 @@ use at_base::event::{Arrived, Event, Local};
 use at_base::outs::Effects;
 use at_base::record::Record;
 use at_base::text::Text;
-use completion_at::activities::refuses_as_the_model;
 use completion_at::requests::Refusal;
-use interposition::book::{Book, steps_as_the_model};
+use interposition::book::Book;
 use std::alloc::{AllocError, Global};
 use std::marker::Model;
 use std::mem::replace;
 
 /// Whether the step of an event has a record.
+#[tactic(auto, using(crate::proofs::ModelSteps::has_so))]
 fn has_record(alloc: Global, book: &mut Book, event: &Event, now: u64) -> Result<bool, AllocError>
     ensures record { IfOk result (λ r. r ≡ has_record (plan book.old event.now now)) }
     ensures same { book.new ≡ book.old }
 {
-    steps_as_the_model();
     let plan = book.plan(alloc, event, now)?;
     Ok(plan.entry().is_some())
 }
@@ -103,7 +102,6 @@ impl Node {
     pub fn refuses(&self, local: &Local) -> Option<Refusal>
         ensures { option_map refusal_of result ≡ option_and_then (λ b. refuses b local.now) self.now.book }
     {
-        refuses_as_the_model();
         self.book.as_ref()?.refuses(local)
     }
 

@@ -3,20 +3,20 @@
 ghost use Rattle.std.specs.Prelude.{◌≡◌, ◌∷◌, [], IfOk, OnOk, None, true, false, option_copied, if◌then◌else◌};
 ghost use Rattle.at_base.specs.declared.event.Event.TheVariants as events;
 ghost use Rattle.at_base.specs.declared.outs.Out.TheVariants as given_outs;
-ghost use Rattle.at_model.specs.Step.{plan};
+ghost use Rattle.at_model.specs.Step.{plan, step};
 ghost use Rattle.at_model.specs.World.{answer_plan, arrival_plan};
-ghost use Rattle.interposition.specs.PlanResults.{done, recorded as entry_in, sent};
+ghost use Rattle.interposition.specs.PlanResults.{recorded as entry_in};
 ghost use Rattle.interposition.specs.Due.{due_outcome};
-ghost use Rattle.interposition.specs.Plans.{planned};
+ghost use Rattle.interposition.specs.ModelSteps.{IsStep};
 ghost use Rattle.model_laws.specs.Order.{IsInOrder, IsRising};
-ghost use Rattle.world_laws.specs.Walks.{asked, begin, branch, counted, done_by, done_step, given, is_over, recorded, sending_at, sends, sent_each, sent_one, stepped, turned};
+ghost use Rattle.world_laws.specs.Walks.{asked, begin, branch, counted, done_by, given, is_over, recorded, sending_at, sends, sent_each, sent_one, stepped, turned};
 
 use crate::luck::Luck;
 use crate::step_outs::{Taken, TakenList};
 use at_base::event::{Arrived, Event, Item};
 use at_base::outs::{Effects, Out, OutList, Outs};
 use at_base::record::Record;
-use interposition::book::{Book, finds_the_due, steps_as_the_model, walks_the_due};
+use interposition::book::{Book, finds_the_due, walks_the_due};
 use interposition::plan::Plan;
 use model_laws::rules::ids_rise;
 use std::alloc::{AllocError, Global};
@@ -139,24 +139,40 @@ impl Walk {
         }
     }
 
-    /// A step of what the book plans.
-    fn go(&mut self, alloc: Global, event: &Event, now: u64) -> Result<(), AllocError>
-        ensures { OnOk result (self.new ≡ done_step (planned self.old.book event.now now) self.old) }
+    /// Whether the stop has come.
+    fn is_over(&self) -> bool
+        ensures { result ≡ is_over self.now.luck }
     {
-        if self.luck.is_over() {
+        self.luck.is_over()
+    }
+
+    /// What the book plans.
+    fn planned(&mut self, alloc: Global, event: &Event, now: u64) -> Result<Plan, AllocError>
+        ensures plan { IfOk result (λ plan. IsStep plan self.old.book event.now now) }
+        ensures same { self.new ≡ self.old }
+    {
+        self.book.plan(alloc, event, now)
+    }
+
+    /// A step of what the book plans.
+    #[tactic(auto, using(crate::proofs::ModelSteps::took_none))]
+    fn go(&mut self, alloc: Global, event: &Event, now: u64) -> Result<(), AllocError>
+        ensures { OnOk result (self.new ≡ stepped (plan self.old.book event.now now) self.old) }
+    {
+        if self.is_over() {
             return Ok(());
         }
-        let plan = self.book.plan(alloc, event, now)?;
+        let plan = self.planned(alloc, event, now)?;
         self.finish(alloc, plan)
     }
 
     /// A step; behind the stop there is none.
+    #[tactic(auto, using(crate::proofs::ModelSteps::took_order))]
     pub fn step(&mut self, alloc: Global, event: &Event, now: u64) -> Result<(), AllocError>
         ensures step { OnOk result (self.new ≡ stepped (plan self.old.book event.now now) self.old) }
         ensures order { IsInOrder self.old.book → OnOk result (IsInOrder self.new.book) }
     {
         ids_rise();
-        steps_as_the_model();
         self.go(alloc, event, now)
     }
 
@@ -174,12 +190,9 @@ impl Walk {
 
     /// Does what an event plans that has no record.
     fn go_unrecorded(&mut self, alloc: Global, event: &Event, now: u64) -> Result<(), AllocError>
-        ensures { OnOk result
-            (self.new
-            ≡ given (done (planned self.old.book event.now now) true self.old.book)
-            (sent (planned self.old.book event.now now) true) self.old) }
+        ensures { OnOk result (self.new ≡ counted (step self.old.book event.now now true) self.old) }
     {
-        let plan = self.book.plan(alloc, event, now)?;
+        let plan = self.planned(alloc, event, now)?;
         let outs = self.book.apply(plan, true);
         self.count(alloc, outs)
     }
@@ -188,7 +201,6 @@ impl Walk {
     fn take_item(&mut self, alloc: Global, item: &Item, now: u64) -> Result<(), AllocError>
         ensures { OnOk result (self.new ≡ counted (due_outcome self.old.book now item.now) self.old) }
     {
-        steps_as_the_model();
         let event = Event::Due(*item);
         self.go_unrecorded(alloc, &event, now)
     }

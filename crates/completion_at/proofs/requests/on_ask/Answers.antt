@@ -1,6 +1,6 @@
 use Rattle.std.proofs.Common.{◌≡◌, ◌∙◌, Some, sym}
 use Rattle.completion_at.proofs.WorkPosts.{asked}
-use Rattle.completion_at.proofs.requests.asks.Goals as goal
+use Rattle.completion_at.proofs.requests.on_ask.Goals as goal
 
 pub returns-in_ok-work-in-Some : goal.returns-in_ok-work-in-Some
 returns-in_ok-work-in-Some c =
