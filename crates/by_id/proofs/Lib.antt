@@ -1,2 +1,3 @@
 mod Places
+mod Rising
 pub mod Found

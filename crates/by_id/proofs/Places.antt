@@ -1,7 +1,10 @@
 -- Giving and dropping the item at a place is giving and dropping the item of an id.
-use Rattle.std.proofs.Common.{List, [], ◌∷◌, Some, None, ◌≡◌, ◌≤◌, refl, length, suc, ap, true, false, cond, arith, slice_set, remove}
+use Rattle.std.proofs.Common.{List, [], ◌∷◌, Some, None, ◌≡◌, ◌≤◌, ◌<◌, ◌∙◌, sym, refl, length, suc, ap, true, false, cond, arith, slice_set, remove}
+use Rattle.std.specs.Prelude.{Option, MatchOption, HoldsAt, option_copied, slice_get}
+use Rattle.std.specs.Borrow.{Bor}
+use Rattle.std.proofs.lemmas.Option.{slice_get_past, slice_get_read}
 use Rattle.at_base.specs.Numbers.{Numbers}
-use Rattle.at_model.specs.Book.{is_id, put_by}
+use Rattle.at_model.specs.Book.{find_by, is_id, put_by}
 use Rattle.by_id.specs.Lists.{place_by}
 
 pub replace_at : {A : Type 0} (key : A → Numbers) (id : Numbers) (u : A) (xs : List A) → slice_set xs (place_by key id xs) u ≡ put_by key id (Some u) xs
@@ -22,3 +25,13 @@ drop_at key id (x ∷ xs) = elim (is_id (key x) id) as (λ b. remove (x ∷ xs) 
 pub drop_none : {A : Type 0} (key : A → Numbers) (id : Numbers) (xs : List A) → length xs ≤ place_by key id xs → put_by key id None xs ≡ xs
 drop_none key id [] h = refl
 drop_none key id (x ∷ xs) h = grind (arith, drop_none key id xs)
+
+find_at : {A : Type 0} (key : A → Numbers) (id : Numbers) (xs : List A) → slice_get xs (place_by key id xs) ≡ find_by key id xs
+find_at key id [] = refl
+find_at key id (x ∷ xs) = grind (arith, find_at key id xs)
+
+-- what stands at the place of an id is what is found by it
+pub found_by : {A : Type 0} (key : A → Numbers) (id : Numbers) (xs : List A) (r : Option (Bor A))
+    → MatchOption r (length xs ≤ place_by key id xs) (λ x. (place_by key id xs < length xs) × HoldsAt (λ y. x.now ≡ y) xs (place_by key id xs)) → option_copied r ≡ find_by key id xs
+found_by key id xs None past = sym (slice_get_past xs _ past) ∙ find_at key id xs
+found_by key id xs (Some x) here = sym (slice_get_read xs (length xs) _ x.now refl here.0 (here.1 x.now)) ∙ find_at key id xs

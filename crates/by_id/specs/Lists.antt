@@ -1,5 +1,6 @@
 -- Lists of live items that are found by their ids, in the order of making, as the model's book has them.
-use Rattle.std.specs.Prelude.{ℕ, List, [], ◌∷◌, ◌++◌, Option, Some, None, Bool, true, false, nat_lt, ◌&&◌, if◌then◌else◌, length, suc}
+use Rattle.std.specs.Prelude.{ℕ, List, [], ◌∷◌, ◌++◌, Option, Some, None, Bool, true, false, nat_lt, ◌≡◌, ◌&&◌, if◌then◌else◌, length, suc}
+use Rattle.std.specs.List.{AllPairs}
 use Rattle.at_base.specs.declared.limits.TheConstants.{MOST_ITEMS}
 use Rattle.at_base.specs.Numbers.{Numbers}
 use Rattle.at_model.specs.Book.{is_id, put_by}
@@ -11,6 +12,10 @@ use Rattle.by_id.specs.declared.list.Alteration.TheVariants as alterations
 abbrev pub place_by : {A : Type 0} → (A → Numbers) → Numbers → List A → ℕ
 place_by key id [] = 0
 place_by key id (x ∷ xs) = if is_id (key x) id then 0 else suc (place_by key id xs)
+
+-- each item's id was drawn before those of all later ones
+abbrev pub IsRising : {A : Type 0} → (A → Numbers) → List A → Type 0
+IsRising key xs = AllPairs (λ x y. is_before (key x) (key y) ≡ true) xs
 
 -- one more at the end, where fewer than 1,024 live (this project's profile)
 abbrev pub add_to : {A : Type 0} → A → List A → List A

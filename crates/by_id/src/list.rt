@@ -1,13 +1,14 @@
 //! A list of live items, with room for as many as a node takes.
 
-ghost use Rattle.std.specs.Prelude.{Bool, ◌≡◌, IfOk, [], option_copied, length, Some, None};
+ghost use Rattle.std.specs.Prelude.{Bool, ◌≡◌, ◌≤◌, ◌++◌, ◌∷◌, IfOk, [], option_copied, length, Some, None, true, false};
 ghost use Rattle.std.specs.Fn.{CalledAt};
 ghost use Rattle.std.specs.List.Retain.{IsFiltered};
+ghost use Rattle.std.specs.List.Sorted.{IsPartitionPoint};
 ghost use Rattle.at_base.specs.Numbers.{Numbers};
 ghost use Rattle.at_base.specs.declared.event.Moment.{Moment};
 ghost use Rattle.at_model.specs.Book.{is_id, find_by, put_by};
 ghost use Rattle.at_model.specs.Recovery.{is_before};
-ghost use Rattle.by_id.specs.Lists.{add_to, altered, is_addition, is_behind, next_due, place_by};
+ghost use Rattle.by_id.specs.Lists.{IsRising, add_to, altered, is_addition, is_behind, next_due, place_by};
 
 use at_base::event::Moment;
 use at_base::id::Id;
@@ -55,22 +56,25 @@ impl<T> Alteration<T> {
 
 /// Live items in the order of making.
 ///
-/// It is made with the room that `MOST_ITEMS` items need, so that adding one takes no memory.
+/// It is made with the room that `MOST_ITEMS` items need, so that adding one takes no memory. It knows whether ids rise
+/// in it, which they do in every node, and then an item is found by halving; else by a walk.
 #[derive(Drop)]
-pub struct ById<T> {
+pub struct ById<T: Identified> {
     items: Vec<T>,
+    rising: bool,
 }
 
-impl<T> Model for ById<T> {
-    ghost use Rattle.std.specs.Prelude.{List, ◌≤◌};
+impl<T: Identified> Model for ById<T> {
+    ghost use Rattle.std.specs.Prelude.{List, ◌≡◌, ◌≤◌, true};
     ghost use Rattle.std.specs.Vec.{vec_capacity};
     ghost use Rattle.at_base.specs.declared.limits.TheConstants.{MOST_ITEMS};
+    ghost use Rattle.by_id.specs.Lists.{IsRising};
 
     ghost Value = { List T };
 
     ghost view = { λ k. k.items.items };
 
-    ghost invariant = { λ k. MOST_ITEMS ≤ vec_capacity k.items };
+    ghost invariant = { λ k. (MOST_ITEMS ≤ vec_capacity k.items) × (k.rising ≡ true → IsRising T.id_of k.items.items) };
 }
 
 impl<T: Identified + Drop> ById<T> {
@@ -80,6 +84,7 @@ impl<T: Identified + Drop> ById<T> {
     {
         Ok(ById {
             items: Vec::with_capacity(alloc, MOST_ITEMS)?,
+            rising: true,
         })
     }
 
@@ -88,7 +93,8 @@ impl<T: Identified + Drop> ById<T> {
         ensures { IfOk result (λ list. list ≡ items.items) }
     {
         items.reserve(MOST_ITEMS)?;
-        Ok(ById { items })
+        let rising = is_rising(items.as_slice());
+        Ok(ById { items, rising })
     }
 
     /// The items, in the order of making.
@@ -105,30 +111,23 @@ impl<T: Identified + Drop> ById<T> {
         self.items.len()
     }
 
-    /// The item of this id.
+    /// The item of this id. It is found by halving where ids rise, which they do in every node; else by a walk.
     pub fn find(&self, id: Id) -> Option<&T>
         ensures { option_copied result ≡ find_by T.id_of id self.now }
     {
-        for item in self.items.as_slice() {
-            if is_same(item.id(), id) {
-                return Some(item);
-            }
-        }
-        None
+        self.items.as_slice().get(self.place(id))
     }
 
     /// The place of the item of this id, or the length where there is none.
     fn place(&self, id: Id) -> usize
         ensures { result ≡ place_by T.id_of id self.now }
     {
-        let mut place = 0;
-        for item in self.items.as_slice() {
-            if is_same(item.id(), id) {
-                return place;
-            }
-            place += 1;
+        let items = self.items.as_slice();
+        if self.rising {
+            halve_to(items, id)
+        } else {
+            walk_to(items, id)
         }
-        place
     }
 
     /// Gives the item of this id anew; nothing where there is none.
@@ -138,6 +137,7 @@ impl<T: Identified + Drop> ById<T> {
     {
         let place = self.place(id);
         if place < self.items.len() {
+            self.rising = self.rising && is_same(item.id(), id);
             self.items[place] = item;
         }
     }
@@ -168,6 +168,7 @@ impl<T: Identified + Drop> ById<T> {
         ensures { self.new ≡ add_to item self.old }
     {
         if self.items.len() < MOST_ITEMS {
+            self.rising = self.rising && is_next(self.items.as_slice(), &item);
             let Ok(()) = self.items.push(item) else {
                 unreachable!()
             };
@@ -193,18 +194,94 @@ impl<T: Identified + Drop> ById<T> {
         }
     }
 
-    /// The id of the first item behind this one, or of the first at all, that is due: ids rise in the order of making.
+    /// The id of the first item behind this one, or of the first at all, that is due.
+    ///
+    /// Where ids rise, which they do in every node, the walk begins at a place found by halving: so to go through all
+    /// that are due takes one walk, and a halving for each of them.
     pub fn next_due(&self, after: Option<Id>, moment: &Moment) -> Option<Id>
         ensures { result ≡ next_due T.id_of (T.is_due_at moment.entry.now) after self.now }
     {
-        for item in self.items.as_slice() {
-            let id = item.id();
-            if is_behind(&after, id) && item.is_due(moment) {
-                return Some(id);
-            }
-        }
-        None
+        let items = self.items.as_slice();
+        let start = match after {
+            Some(last) if self.rising => first_from(items, last),
+            _ => 0,
+        };
+        first_due(&items[start..], &after, moment)
     }
+}
+
+/// Whether ids rise in the order of these items.
+fn is_rising<T: Identified>(items: &[T]) -> bool
+    ensures { result ≡ true → IsRising T.id_of items.now }
+{
+    items.is_sorted_by(
+        |item: &T, next: &T| -> bool
+            ensures { result ≡ is_before (T.id_of item.now) (T.id_of next.now) }
+        { is_before(item.id(), next.id()) },
+    )
+}
+
+/// Whether this item's id comes behind the last one of these items.
+fn is_next<T: Identified>(items: &[T], item: &T) -> bool
+    ensures { result ≡ true → IsRising T.id_of items.now → IsRising T.id_of (items.now ++ item.now ∷ []) }
+{
+    match items.last() {
+        Some(last) => is_before(last.id(), item.id()),
+        None => true,
+    }
+}
+
+/// The place of the first item whose id doesn't come before this one, or the length where there is none, by halving.
+fn first_from<T: Identified>(items: &[T], id: Id) -> usize
+    requires { IsRising T.id_of items.now }
+    ensures bound { result ≤ length items.now }
+    ensures place { IsPartitionPoint (λ x. is_before (T.id_of x) id ≡ true) (λ x. is_before (T.id_of x) id ≡ false) items.now result }
+{
+    items.partition_point(
+        |item: &T| -> bool
+            ensures { result ≡ is_before (T.id_of item.now) id }
+        { is_before(item.id(), id) },
+    )
+}
+
+/// The place of the item of this id, or the length where there is none, by halving.
+fn halve_to<T: Identified>(items: &[T], id: Id) -> usize
+    requires { IsRising T.id_of items.now }
+    ensures { result ≡ place_by T.id_of id items.now }
+{
+    let place = first_from(items, id);
+    if place < items.len() && is_same(items[place].id(), id) {
+        place
+    } else {
+        items.len()
+    }
+}
+
+/// The place of the item of this id, or the length where there is none, by a walk.
+fn walk_to<T: Identified>(items: &[T], id: Id) -> usize
+    ensures { result ≡ place_by T.id_of id items.now }
+{
+    let mut place = 0;
+    for item in items {
+        if is_same(item.id(), id) {
+            return place;
+        }
+        place += 1;
+    }
+    place
+}
+
+/// The id of the first of these items behind this one, or of the first at all, that is due.
+fn first_due<T: Identified>(items: &[T], after: &Option<Id>, moment: &Moment) -> Option<Id>
+    ensures { result ≡ next_due T.id_of (T.is_due_at moment.entry.now) after.now items.now }
+{
+    for item in items {
+        let id = item.id();
+        if is_behind(after, id) && item.is_due(moment) {
+            return Some(id);
+        }
+    }
+    None
 }
 
 /// Whether two ids are the same.
