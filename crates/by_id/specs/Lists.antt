@@ -21,16 +21,23 @@ IsRising key xs = AllPairs (λ x y. is_before (key x) (key y) ≡ true) xs
 abbrev pub add_to : {A : Type 0} → A → List A → List A
 add_to x xs = if nat_lt (length xs) MOST_ITEMS then xs ++ x ∷ [] else xs
 
+-- the list with the item of this id moved
+abbrev pub move_by : {A M : Type 0} → (A → Numbers) → (M → A → A) → Numbers → M → List A → List A
+move_by key moved id by [] = []
+move_by key moved id by (x ∷ xs) = if is_id (key x) id then moved by x ∷ xs else x ∷ move_by key moved id by xs
+
 -- what becomes of a list
-abbrev pub altered : {A : Type 0} → (A → Numbers) → Alteration A → List A → List A
-altered key alterations.Keep xs = xs
-altered key (alterations.Put id item) xs = put_by key id item xs
-altered key (alterations.Add x) xs = add_to x xs
+abbrev pub altered : {A M : Type 0} → (A → Numbers) → (M → A → A) → Alteration A M → List A → List A
+altered key moved alterations.Keep xs = xs
+altered key moved (alterations.Put id item) xs = put_by key id item xs
+altered key moved (alterations.Move id by) xs = move_by key moved id by xs
+altered key moved (alterations.Add x) xs = add_to x xs
 
 -- one more stands at its end
-abbrev pub is_addition : {A : Type 0} → Alteration A → Bool
+abbrev pub is_addition : {A M : Type 0} → Alteration A M → Bool
 is_addition alterations.Keep = false
 is_addition (alterations.Put id item) = false
+is_addition (alterations.Move id by) = false
 is_addition (alterations.Add x) = true
 
 abbrev pub is_behind : Option Numbers → Numbers → Bool

@@ -13,7 +13,7 @@ abbrev pub drawn : Bool → Book → Book
 drawn holds b = record b { counter = if holds then (if nat_lt b.counter last_counter then b.counter + 1 else b.counter) else b.counter }
 
 -- the book with what becomes of the list, where `put` takes it over
-abbrev pub outcome_in : {A : Type 0} → (Alteration A → Book → Book) → Book → Branch A → Outcome
+abbrev pub outcome_in : {A M : Type 0} → (Alteration A M → Book → Book) → Book → Branch A M → Outcome
 outcome_in put b branch = record {
   book = put branch.change (drawn (is_addition branch.change) b);
   outs = branch.outs.outs;
@@ -21,7 +21,7 @@ outcome_in put b branch = record {
 }
 
 -- The plan of the list, as a plan of the book that holds it. A step that is undone doesn't note the time.
-abbrev pub whole_by : {A : Type 0} → (Alteration A → Book → Book) → Book → ℕ → Planned A → Plan
+abbrev pub whole_by : {A M : Type 0} → (Alteration A M → Book → Book) → Book → ℕ → Planned A M → Plan
 whole_by put b now (plans.Plain branch) = plain (outcome_in put (at_time now b) branch)
 whole_by put b now (plans.Recorded entry landed absent undone) = record {
   entry = Some entry;
@@ -30,6 +30,6 @@ whole_by put b now (plans.Recorded entry landed absent undone) = record {
 }
 
 -- Where the list has nothing to do with the event, this is done.
-abbrev pub whole_or : {A : Type 0} → (Alteration A → Book → Book) → Book → ℕ → Plan → Option (Planned A) → Plan
+abbrev pub whole_or : {A M : Type 0} → (Alteration A M → Book → Book) → Book → ℕ → Plan → Option (Planned A M) → Plan
 whole_or put b now other None = other
 whole_or put b now other (Some p) = whole_by put b now p

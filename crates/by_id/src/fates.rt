@@ -17,24 +17,26 @@ use std::alloc::{AllocError, Global};
 
 /// What becomes of an item.
 #[derive(Debug, Drop)]
-pub enum Fate<T> {
+pub enum Fate<T, M> {
     /// It stays as it is.
     Keep,
     /// It is forgotten.
     Forget,
     /// It is given anew.
     Put(T),
+    /// It is moved where it stands.
+    Move(M),
 }
 
 /// An item's fate, what is posted, and what happened, in order.
 #[derive(Debug)]
-pub struct Turn<T> {
-    pub fate: Fate<T>,
+pub struct Turn<T, M> {
+    pub fate: Fate<T, M>,
     pub posts: PostList,
     pub effects: Effects,
 }
 
-impl<T: Drop> Drop for Turn<T> {
+impl<T: Drop, M: Drop> Drop for Turn<T, M> {
     fn drop(self) {
         let Turn {
             fate: _fate,
@@ -46,20 +48,20 @@ impl<T: Drop> Drop for Turn<T> {
 
 /// What an event does to an item: at once, or behind a record.
 #[derive(Debug, Drop)]
-pub enum Choice<T> {
-    Goes(Turn<T>),
+pub enum Choice<T, M> {
+    Goes(Turn<T, M>),
     Records {
         entry: Record,
         /// What is done where the record stands.
-        stands: Turn<T>,
+        stands: Turn<T, M>,
         /// What is done where it is certainly absent; none where the step is undone.
-        absent: Option<Turn<T>>,
+        absent: Option<Turn<T, M>>,
     },
 }
 
-impl<T: Drop> Turn<T> {
+impl<T: Drop, M: Drop> Turn<T, M> {
     /// This becomes of the item, and this is posted.
-    pub fn silent(alloc: Global, fate: Fate<T>, posts: PostList) -> Turn<T>
+    pub fn silent(alloc: Global, fate: Fate<T, M>, posts: PostList) -> Turn<T, M>
         ensures { result ≡ record { fate = fate; posts = posts; effects = [] } }
     {
         Turn {
@@ -72,10 +74,10 @@ impl<T: Drop> Turn<T> {
     /// The same, and this happened.
     pub fn with_effect(
         alloc: Global,
-        fate: Fate<T>,
+        fate: Fate<T, M>,
         posts: PostList,
         happened: Effect,
-    ) -> Result<Turn<T>, AllocError>
+    ) -> Result<Turn<T, M>, AllocError>
         ensures { IfOk result
             (λ turn. turn ≡ record { fate = fate; posts = posts; effects = happened ∷ [] }) }
     {
@@ -89,9 +91,9 @@ impl<T: Drop> Turn<T> {
     }
 }
 
-impl<T: Drop> Fate<T> {
+impl<T: Drop, M: Drop> Fate<T, M> {
     /// What becomes of the list.
-    fn into_alteration(self, id: Id) -> Alteration<T>
+    fn into_alteration(self, id: Id) -> Alteration<T, M>
         ensures { result ≡ alteration_of id self }
     {
         match self {
@@ -101,13 +103,14 @@ impl<T: Drop> Fate<T> {
                 id,
                 item: Some(item),
             },
+            Fate::Move(by) => Alteration::Move { id, by },
         }
     }
 }
 
-impl<T: Drop> Turn<T> {
+impl<T: Drop, M: Drop> Turn<T, M> {
     /// What is done to the item of this id, behind this answer.
-    fn into_branch(self, mut answer: OutList, id: Id) -> Result<Branch<T>, AllocError>
+    fn into_branch(self, mut answer: OutList, id: Id) -> Result<Branch<T, M>, AllocError>
         ensures { IfOk result (λ branch. branch ≡ turned answer id self) }
     {
         let Turn {
@@ -126,10 +129,10 @@ impl<T: Drop> Turn<T> {
     }
 }
 
-impl<T: Drop> Choice<T> {
+impl<T: Drop, M: Drop> Choice<T, M> {
     /// Nothing happens.
-    pub fn ignored(alloc: Global) -> Choice<T>
-        ensures { (item : T) → meant (Some item) result ≡ ignored item }
+    pub fn ignored(alloc: Global) -> Choice<T, M>
+        ensures { (item : T) (moved : M → T → T) → meant moved (Some item) result ≡ ignored item }
     {
         Choice::Goes(Turn::silent(alloc, Fate::Keep, PostList::new(alloc)))
     }
@@ -146,14 +149,14 @@ fn add_posts(outs: &mut OutList, posts: PostList) -> Result<(), AllocError>
 }
 
 /// The plan of what is done behind a record.
-fn recorded<T: Drop>(
+fn recorded<T: Drop, M: Drop>(
     alloc: Global,
     answer: OutList,
     id: Id,
     entry: Record,
-    stands: Turn<T>,
-    absent: Option<Turn<T>>,
-) -> Result<Plan<T>, AllocError>
+    stands: Turn<T, M>,
+    absent: Option<Turn<T, M>>,
+) -> Result<Plan<T, M>, AllocError>
     ensures { IfOk result (λ plan. plan ≡ chosen answer id (choices.Records entry stands absent)) }
 {
     let landed = stands.into_branch(answer.clone()?, id)?;
@@ -173,9 +176,9 @@ fn recorded<T: Drop>(
     }
 }
 
-impl<T: Drop> Choice<T> {
+impl<T: Drop, M: Drop> Choice<T, M> {
     /// The plan of what is done to the item of this id, behind this answer.
-    pub fn into_plan(self, alloc: Global, answer: OutList, id: Id) -> Result<Plan<T>, AllocError>
+    pub fn into_plan(self, alloc: Global, answer: OutList, id: Id) -> Result<Plan<T, M>, AllocError>
         ensures { IfOk result (λ plan. plan ≡ chosen answer id self) }
     {
         match self {

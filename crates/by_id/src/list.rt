@@ -8,7 +8,7 @@ ghost use Rattle.at_base.specs.Numbers.{Numbers};
 ghost use Rattle.at_base.specs.declared.event.Moment.{Moment};
 ghost use Rattle.at_model.specs.Book.{is_id, find_by, put_by};
 ghost use Rattle.at_model.specs.Recovery.{is_before};
-ghost use Rattle.by_id.specs.Lists.{IsRising, add_to, altered, is_addition, is_behind, next_due, place_by};
+ghost use Rattle.by_id.specs.Lists.{IsRising, add_to, altered, is_addition, is_behind, move_by, next_due, place_by};
 
 use at_base::event::Moment;
 use at_base::id::Id;
@@ -18,9 +18,14 @@ use std::marker::Model;
 
 /// An item that a node holds under an id of its own.
 pub trait Identified {
+    /// A small change of an item, that takes no memory where it is made.
+    type Move: Drop;
+
     ghost id_of: { Self → Numbers };
 
     ghost is_due_at: { Moment → Self → Bool };
+
+    ghost moved: { Self.Move → Self → Self };
 
     /// The item's id.
     fn id(&self) -> Id
@@ -29,26 +34,32 @@ pub trait Identified {
     /// Whether the item has something to do by itself at this moment.
     fn is_due(&self, moment: &Moment) -> bool
         ensures { result ≡ is_due_at moment.entry.now self.now };
+
+    /// Moves the item. It takes no memory, and cannot fail.
+    fn make(&mut self, by: Self::Move)
+        ensures { self.new ≡ moved by self.old };
 }
 
 /// What becomes of a list.
 #[derive(Debug, PartialEq, Eq, Drop)]
-pub enum Alteration<T> {
+pub enum Alteration<T, M> {
     /// It stays as it is.
     Keep,
     /// The item of this id is given anew, or dropped.
     Put { id: Id, item: Option<T> },
+    /// The item of this id is moved where it stands.
+    Move { id: Id, by: M },
     /// One more stands at its end.
     Add(T),
 }
 
-impl<T> Alteration<T> {
+impl<T, M> Alteration<T, M> {
     /// Whether one more stands at the list's end.
     pub fn is_addition(&self) -> bool
         ensures { result ≡ is_addition self.now }
     {
         match self {
-            Alteration::Keep | Alteration::Put { .. } => false,
+            Alteration::Keep | Alteration::Put { .. } | Alteration::Move { .. } => false,
             Alteration::Add(_) => true,
         }
     }
@@ -163,6 +174,18 @@ impl<T: Identified + Drop> ById<T> {
         }
     }
 
+    /// Moves the item of this id; nothing where there is none.
+    #[tactic(auto, using(crate::proofs::Places::move_at, crate::proofs::Places::move_none))]
+    fn make(&mut self, id: Id, by: T::Move)
+        ensures { self.new ≡ move_by T.id_of T.moved id by self.old }
+    {
+        let place = self.place(id);
+        if place < self.items.len() {
+            self.items[place].make(by);
+            self.rising = self.rising && is_same(self.items[place].id(), id);
+        }
+    }
+
     /// Adds an item at the end, which takes no memory; nothing where `MOST_ITEMS` live.
     pub fn add(&mut self, item: T)
         ensures { self.new ≡ add_to item self.old }
@@ -184,12 +207,13 @@ impl<T: Identified + Drop> ById<T> {
     }
 
     /// Takes an alteration over. It takes no memory, and cannot fail.
-    pub fn alter(&mut self, alteration: Alteration<T>)
-        ensures { self.new ≡ altered T.id_of alteration self.old }
+    pub fn alter(&mut self, alteration: Alteration<T, T::Move>)
+        ensures { self.new ≡ altered T.id_of T.moved alteration self.old }
     {
         match alteration {
             Alteration::Keep => {}
             Alteration::Put { id, item } => self.put(id, item),
+            Alteration::Move { id, by } => self.make(id, by),
             Alteration::Add(item) => self.add(item),
         }
     }

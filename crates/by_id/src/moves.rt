@@ -63,8 +63,8 @@ impl<T: Drop> Moving<T> {
     }
 
     /// The item stays as it stands.
-    pub fn stays(self) -> Turn<T>
-        ensures { (found : Option T) → turn_of found result ≡ stays self }
+    pub fn stays<M: Drop>(self) -> Turn<T, M>
+        ensures { (found : Option T) (moved : M → T → T) → turn_of moved found result ≡ stays self }
     {
         let Moving {
             item,
@@ -79,8 +79,8 @@ impl<T: Drop> Moving<T> {
     }
 
     /// The item is forgotten.
-    pub fn forgotten(self) -> Turn<T>
-        ensures { (found : Option T) → turn_of found result ≡ forgotten self }
+    pub fn forgotten<M: Drop>(self) -> Turn<T, M>
+        ensures { (found : Option T) (moved : M → T → T) → turn_of moved found result ≡ forgotten self }
     {
         let Moving {
             item: _item,

@@ -10,27 +10,27 @@ use std::alloc::Global;
 
 /// One way on: what becomes of the list, and what is sent and happened.
 #[derive(Debug, PartialEq, Eq, Drop)]
-pub struct Branch<T> {
-    pub change: Alteration<T>,
+pub struct Branch<T, M> {
+    pub change: Alteration<T, M>,
     pub outs: Outs,
 }
 
 /// What an event does to a list: at once, or behind one record. To do it takes no memory.
 #[derive(Debug, PartialEq, Eq)]
-pub enum Plan<T> {
-    Plain(Branch<T>),
+pub enum Plan<T, M> {
+    Plain(Branch<T, M>),
     Recorded {
         entry: Record,
         /// Where the record stands in the journal.
-        landed: Branch<T>,
+        landed: Branch<T, M>,
         /// Where it is certainly absent.
-        absent: Branch<T>,
+        absent: Branch<T, M>,
         /// Whether the step is undone there, and so notes no time.
         undone: bool,
     },
 }
 
-impl<T: Drop> Drop for Plan<T> {
+impl<T: Drop, M: Drop> Drop for Plan<T, M> {
     fn drop(self) {
         match self {
             Plan::Plain(_branch) => {}
@@ -45,7 +45,7 @@ impl<T: Drop> Drop for Plan<T> {
 }
 
 /// The list stays as it is, and only this answer is sent.
-pub fn unchanged<T: Drop>(alloc: Global, answer: OutList) -> Branch<T>
+pub fn unchanged<T: Drop, M: Drop>(alloc: Global, answer: OutList) -> Branch<T, M>
     ensures { result ≡ unchanged answer }
 {
     Branch {
@@ -57,16 +57,16 @@ pub fn unchanged<T: Drop>(alloc: Global, answer: OutList) -> Branch<T>
     }
 }
 
-impl<T: Drop> Plan<T> {
+impl<T: Drop, M: Drop> Plan<T, M> {
     /// Nothing is done, and only this answer is sent.
-    pub fn still(alloc: Global, answer: OutList) -> Plan<T>
+    pub fn still(alloc: Global, answer: OutList) -> Plan<T, M>
         ensures { result ≡ still answer }
     {
         Plan::Plain(unchanged(alloc, answer))
     }
 
     /// One item more, and this is sent.
-    pub fn making(alloc: Global, item: T, answer: OutList) -> Plan<T>
+    pub fn making(alloc: Global, item: T, answer: OutList) -> Plan<T, M>
         ensures { result ≡ making item answer }
     {
         Plan::Plain(Branch {
@@ -103,7 +103,7 @@ impl<T: Drop> Plan<T> {
     }
 
     /// The branch that is done.
-    pub fn into_branch(self, landed: bool) -> Branch<T>
+    pub fn into_branch(self, landed: bool) -> Branch<T, M>
         ensures { result ≡ branch_of self landed }
     {
         match self {
