@@ -33,6 +33,7 @@ use by_id::fates::{Choice, Turn};
 use by_id::list::{Alteration, ById, is_same};
 use by_id::plan::{Branch, Plan};
 use std::alloc::{AllocError, Global};
+use std::convert::Infallible;
 use std::marker::Model;
 
 /// A request is refused as the model refuses it.
@@ -59,9 +60,9 @@ impl Model for Activities {
 /// The plan of what a request does to the activity that it names.
 fn going(
     alloc: Global,
-    turn: Turn<Activity>,
+    turn: Turn<Activity, Infallible>,
     activity: &Activity,
-) -> Result<Plan<Activity>, AllocError>
+) -> Result<Plan<Activity, Infallible>, AllocError>
     ensures { IfOk result (λ plan. plan ≡ chosen [] activity.now.id (choices.Goes turn)) }
 {
     Choice::Goes(turn).into_plan(alloc, OutList::from_vec(Vec::new(alloc)), activity.id)
@@ -176,7 +177,7 @@ impl Activities {
         moment: &Moment,
         coordinator: &Text,
         ms: u32,
-    ) -> Result<Option<Plan<Activity>>, AllocError>
+    ) -> Result<Option<Plan<Activity, Infallible>>, AllocError>
         ensures { (b : Book) (now : ℕ) → Holds b now self.now moment.entry.now
             → IfOk result (λ plan. whole_or with_activities b now (plain (still b [])) plan
             ≡ unless b (no_room b (next_id b)) (begin_plan b now coordinator.now ms (next_id b))) }
@@ -195,7 +196,7 @@ impl Activities {
         moment: &Moment,
         activity: Id,
         coordinator: &Text,
-    ) -> Result<Option<Plan<Activity>>, AllocError>
+    ) -> Result<Option<Plan<Activity, Infallible>>, AllocError>
         ensures { (b : Book) (now : ℕ) → Holds b now self.now moment.entry.now
             → IfOk result (λ plan. whole_or with_activities b now (plain (still b [])) plan
             ≡ unless b (refuses_named (activity_at b activity) (no_room b (next_id b)))
@@ -225,7 +226,7 @@ impl Activities {
         vote: Vote,
         key: &Text,
         value: &Text,
-    ) -> Result<Option<Plan<Activity>>, AllocError>
+    ) -> Result<Option<Plan<Activity, Infallible>>, AllocError>
         ensures { (b : Book) (now : ℕ) → Holds b now self.now moment.entry.now
             → IfOk result (λ plan. whole_or with_activities b now (plain (still b [])) plan
             ≡ unless b (refuses_named (activity_at b activity) (works_left (activity_at b activity)))
@@ -249,7 +250,7 @@ impl Activities {
         moment: &Moment,
         activity: Id,
         notice: Notice,
-    ) -> Result<Option<Plan<Activity>>, AllocError>
+    ) -> Result<Option<Plan<Activity, Infallible>>, AllocError>
         ensures { (b : Book) (now : ℕ) → Holds b now self.now moment.entry.now
             → IfOk result (λ plan. whole_or with_activities b now (plain (still b [])) plan
             ≡ unless b (refuses_named (activity_at b activity) (only_begun (activity_at b activity)))
@@ -272,7 +273,7 @@ impl Activities {
         alloc: Global,
         moment: &Moment,
         local: &Local,
-    ) -> Result<Option<Plan<Activity>>, AllocError>
+    ) -> Result<Option<Plan<Activity, Infallible>>, AllocError>
         ensures { (b : Book) (now : ℕ) → Holds b now self.now moment.entry.now
             → IfOk result (λ plan. whole_or with_activities b now (plain (still b [])) plan ≡ local_plan b now local.now (refuses b local.now)) }
     {
@@ -308,7 +309,7 @@ impl Activities {
         moment: &Moment,
         arrived: &Arrived,
         id: Id,
-    ) -> Result<Option<Plan<Activity>>, AllocError>
+    ) -> Result<Option<Plan<Activity, Infallible>>, AllocError>
         ensures { (b : Book) (now : ℕ) → Holds b now self.now moment.entry.now
             → IfOk result (λ plan. whole_or with_activities b now (stranger_plan b now arrived.now (initiator_of states.None) arrived.now.message) plan
             ≡ initiator_plan b now arrived.now (activity_at b id)) }
@@ -328,7 +329,7 @@ impl Activities {
         alloc: Global,
         moment: &Moment,
         id: Id,
-    ) -> Result<Option<Plan<Activity>>, AllocError>
+    ) -> Result<Option<Plan<Activity, Infallible>>, AllocError>
         ensures { (b : Book) (now : ℕ) → Holds b now self.now moment.entry.now
             → IfOk result (λ plan. whole_or with_activities b now (plain (still b [])) plan ≡ activity_due_plan b now (activity_at b id)) }
     {
@@ -349,7 +350,7 @@ impl Activities {
     }
 
     /// Takes over what becomes of the list.
-    fn settle(&mut self, change: Alteration<Activity>)
+    fn settle(&mut self, change: Alteration<Activity, Infallible>)
         ensures { self.new ≡ settled change self.old }
     {
         match change {
@@ -363,7 +364,7 @@ impl Activities {
     }
 
     /// Does what was planned, where its record landed, and where it didn't. It takes no memory, and cannot fail.
-    pub fn apply(&mut self, plan: Plan<Activity>, landed: bool) -> Outs
+    pub fn apply(&mut self, plan: Plan<Activity, Infallible>, landed: bool) -> Outs
         ensures list { self.new ≡ settled (branch_of plan landed).change self.old }
         ensures outs { result ≡ (branch_of plan landed).outs }
     {

@@ -6,7 +6,7 @@ ghost use Rattle.at_model.specs.Activities.{is_begun};
 ghost use Rattle.at_model.specs.Due.{has_come, is_quiet, is_some_post, before_active, activity_again, activity_due, activity_reached, completion_register_again};
 ghost use Rattle.at_model.specs.Moves.{begin, posts, stays};
 ghost use Rattle.at_model.specs.Step.{is_reached};
-ghost use Rattle.by_id.specs.Fates.{meant, turn_of};
+ghost use Rattle.by_id.specs.Unmoved.{meant, turn_of};
 ghost use Rattle.completion_at.specs.Names.{progress_of};
 
 use crate::activity::{Activity, Progress};
@@ -20,6 +20,7 @@ use by_id::fates::{Choice, Fate, Turn};
 use by_id::list::Identified;
 use by_id::times::{has_come, is_quiet};
 use std::alloc::{AllocError, Global};
+use std::convert::Infallible;
 
 /// Whether an activity still waits for its context or its registration.
 fn before_active(progress: Progress) -> bool
@@ -73,10 +74,15 @@ impl Identified for Activity {
     ghost use Rattle.at_model.specs.Book.{activity_id};
     ghost use Rattle.at_model.specs.Due.{activity_due};
     ghost use Rattle.at_model.specs.Step.{is_reached};
+    ghost use Rattle.by_id.specs.Unmoved.{unmoved};
+
+    type Move = Infallible;
 
     ghost id_of = { activity_id };
 
     ghost is_due_at = { λ m a. is_reached (activity_due m a) };
+
+    ghost moved = { unmoved };
 
     fn id(&self) -> Id {
         self.id
@@ -84,6 +90,10 @@ impl Identified for Activity {
 
     fn is_due(&self, moment: &Moment) -> bool {
         is_due(moment, self)
+    }
+
+    fn make(&mut self, by: Infallible) {
+        match by {}
     }
 }
 
@@ -132,7 +142,7 @@ fn sends_again(
     alloc: Global,
     moment: &Moment,
     activity: &Activity,
-) -> Result<Turn<Activity>, AllocError>
+) -> Result<Turn<Activity, Infallible>, AllocError>
     ensures { IfOk result
         (λ turn. turn_of (Some activity.now) turn
         ≡ stays
@@ -150,7 +160,7 @@ pub fn on_due(
     alloc: Global,
     moment: &Moment,
     activity: &Activity,
-) -> Result<Choice<Activity>, AllocError>
+) -> Result<Choice<Activity, Infallible>, AllocError>
     ensures { IfOk result
         (λ choice. meant (Some activity.now) choice
         ≡ activity_reached moment.entry.now activity.now (activity_due moment.entry.now activity.now)) }

@@ -6,7 +6,7 @@ ghost use Rattle.endpoints.specs.Addresses.{atomic, without_slash};
 ghost use Rattle.at_model.specs.Book.{Progress as Stage, last_counter};
 ghost use Rattle.at_model.specs.Moves.{begin, post, stays};
 ghost use Rattle.at_model.specs.Step.{refuses_named, works_left, only_begun};
-ghost use Rattle.by_id.specs.Fates.{turn_of};
+ghost use Rattle.by_id.specs.Unmoved.{turn_of};
 ghost use Rattle.completion_at.specs.Names.{progress_of, refusal_of};
 ghost use Rattle.completion_at.specs.ActivityPlans.{begun, no_room, nth_work};
 
@@ -29,6 +29,7 @@ use by_id::times::deadline_of;
 use endpoints::addresses::{create_id, work_id};
 use endpoints::uris::atomic;
 use std::alloc::{AllocError, Global};
+use std::convert::Infallible;
 
 /// Why a request is refused.
 #[derive(Clone, Copy, Debug, PartialEq, Eq)]
@@ -189,7 +190,7 @@ fn beginning(
     expires: Option<u32>,
     current: &Option<Context>,
     activity: Activity,
-) -> Result<Plan<Activity>, AllocError>
+) -> Result<Plan<Activity, Infallible>, AllocError>
     ensures { IfOk result
         (λ plan. plan
         ≡ begun (beginning moment.entry.now.base coordinator.now expires current.now activity)) }
@@ -231,7 +232,7 @@ pub(crate) fn on_begin(
     id: Id,
     coordinator: &Text,
     ms: u32,
-) -> Result<Plan<Activity>, AllocError>
+) -> Result<Plan<Activity, Infallible>, AllocError>
     ensures { IfOk result (λ plan. plan ≡ begun (on_begin moment.entry.now id coordinator.now ms)) }
 {
     let expires = asked_expires(ms);
@@ -247,7 +248,7 @@ pub(crate) fn on_interpose(
     id: Id,
     coordinator: &Text,
     above: &Activity,
-) -> Result<Plan<Activity>, AllocError>
+) -> Result<Plan<Activity, Infallible>, AllocError>
     ensures { IfOk result
         (λ plan. plan
         ≡ begun (on_interpose moment.entry.now id coordinator.now above.now.root above.now.context)) }
@@ -328,7 +329,7 @@ fn sends_work(
     work: Work,
     n: u32,
     activity: &Activity,
-) -> Result<Turn<Activity>, AllocError>
+) -> Result<Turn<Activity, Infallible>, AllocError>
     ensures { IfOk result
         (λ turn. turn_of (Some activity.now) turn
         ≡ stays
@@ -352,7 +353,7 @@ pub(crate) fn on_ask(
     key: &Text,
     value: &Text,
     activity: &Activity,
-) -> Result<Turn<Activity>, AllocError>
+) -> Result<Turn<Activity, Infallible>, AllocError>
     requires { activity.now.works < 4294967295 }
     ensures { IfOk result
         (λ turn. turn_of (Some activity.now) turn
@@ -386,7 +387,7 @@ pub(crate) fn on_complete(
     moment: &Moment,
     notice: Notice,
     activity: &Activity,
-) -> Result<Turn<Activity>, AllocError>
+) -> Result<Turn<Activity, Infallible>, AllocError>
     ensures { IfOk result (λ turn. turn_of (Some activity.now) turn ≡ on_complete moment.entry.now notice activity.now) }
 {
     let posts = completion(alloc, moment, activity, notice)?;

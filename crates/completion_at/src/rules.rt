@@ -10,7 +10,7 @@ ghost use Rattle.at_model.specs.Book.{Activity as Known, Progress as Stage};
 ghost use Rattle.at_model.specs.Moves.{begin, ignored, post, posts, stays, Goes};
 ghost use Rattle.at_model.specs.Posts.{fault_post, stored_or, to_each};
 ghost use Rattle.at_tables.specs.Tables.{initiator_of};
-ghost use Rattle.by_id.specs.Fates.{meant, turn_of};
+ghost use Rattle.by_id.specs.Unmoved.{meant, turn_of};
 ghost use Rattle.completion_at.specs.Names.{progress_of};
 
 use crate::activity::{Activity, Progress};
@@ -28,9 +28,14 @@ use by_id::fates::{Choice, Fate, Turn};
 use by_id::list::is_same;
 use endpoints::addresses::{create_id, register_id};
 use std::alloc::{AllocError, Global};
+use std::convert::Infallible;
 
 /// The activity ends, and is told how.
-pub fn told(alloc: Global, activity: &Activity, what: Told) -> Result<Choice<Activity>, AllocError>
+pub fn told(
+    alloc: Global,
+    activity: &Activity,
+    what: Told,
+) -> Result<Choice<Activity, Infallible>, AllocError>
     ensures { IfOk result (λ choice. meant (Some activity.now) choice ≡ told what activity.now) }
 {
     let effect = Effect::Told {
@@ -42,7 +47,7 @@ pub fn told(alloc: Global, activity: &Activity, what: Told) -> Result<Choice<Act
 }
 
 /// The activity is given anew, and nothing is sent.
-fn anew(alloc: Global, next: Activity) -> Choice<Activity>
+fn anew(alloc: Global, next: Activity) -> Choice<Activity, Infallible>
     ensures { (found : Known) → meant (Some found) result ≡ Goes (stays (begin next)) }
 {
     Choice::Goes(Turn::silent(alloc, Fate::Put(next), PostList::new(alloc)))
@@ -72,7 +77,7 @@ fn faults(
     from: &Option<Epr>,
     id: &Option<Text>,
     activity: &Activity,
-) -> Result<Turn<Activity>, AllocError>
+) -> Result<Turn<Activity, Infallible>, AllocError>
     ensures { IfOk result
         (λ turn. turn_of (Some activity.now) turn
         ≡ stays
@@ -93,7 +98,7 @@ fn acts(
     id: &Option<Text>,
     activity: &Activity,
     act: Act,
-) -> Result<Choice<Activity>, AllocError>
+) -> Result<Choice<Activity, Infallible>, AllocError>
     ensures { IfOk result
         (λ choice. meant (Some activity.now) choice
         ≡ activity_act moment.entry.now from.now id.now activity.now act) }
@@ -115,7 +120,7 @@ fn notified(
     id: &Option<Text>,
     activity: &Activity,
     notice: Notice,
-) -> Result<Choice<Activity>, AllocError>
+) -> Result<Choice<Activity, Infallible>, AllocError>
     ensures { IfOk result
         (λ choice. meant (Some activity.now) choice
         ≡ activity_notice moment.entry.now from.now id.now activity.now
@@ -195,7 +200,7 @@ fn registers(
     moment: &Moment,
     activity: &Activity,
     context: &Context,
-) -> Result<Turn<Activity>, AllocError>
+) -> Result<Turn<Activity, Infallible>, AllocError>
     ensures { IfOk result
         (λ turn. turn_of (Some activity.now) turn
         ≡ stays
@@ -218,7 +223,7 @@ fn with_context(
     moment: &Moment,
     activity: &Activity,
     context: &Context,
-) -> Result<Choice<Activity>, AllocError>
+) -> Result<Choice<Activity, Infallible>, AllocError>
     ensures { IfOk result
         (λ choice. meant (Some activity.now) choice
         ≡ with_context moment.entry.now context.now activity.now) }
@@ -238,7 +243,7 @@ fn created(
     relates: &Option<Text>,
     context: &Context,
     activity: &Activity,
-) -> Result<Choice<Activity>, AllocError>
+) -> Result<Choice<Activity, Infallible>, AllocError>
     ensures { IfOk result
         (λ choice. meant (Some activity.now) choice
         ≡ activity_created moment.entry.now relates.now context.now activity.now activity.now.progress) }
@@ -277,7 +282,7 @@ fn registers_at(
     relates: &Option<Text>,
     coordinator: &Epr,
     activity: &Activity,
-) -> Result<Choice<Activity>, AllocError>
+) -> Result<Choice<Activity, Infallible>, AllocError>
     ensures { IfOk result
         (λ choice. meant (Some activity.now) choice
         ≡ if relates_to relates.now (register_id moment.entry.now.base (activity_target activity.now))
@@ -302,7 +307,7 @@ fn registered(
     relates: &Option<Text>,
     coordinator: &Epr,
     activity: &Activity,
-) -> Result<Choice<Activity>, AllocError>
+) -> Result<Choice<Activity, Infallible>, AllocError>
     ensures { IfOk result
         (λ choice. meant (Some activity.now) choice
         ≡ activity_registered moment.entry.now relates.now coordinator.now activity.now activity.now.progress) }
@@ -321,7 +326,7 @@ fn told_if(
     activity: &Activity,
     holds: bool,
     what: Told,
-) -> Result<Choice<Activity>, AllocError>
+) -> Result<Choice<Activity, Infallible>, AllocError>
     ensures { IfOk result
         (λ choice. meant (Some activity.now) choice
         ≡ if holds then told what activity.now else ignored activity.now) }
@@ -348,7 +353,7 @@ fn faulted(
     relates: &Option<Text>,
     name: &Text,
     activity: &Activity,
-) -> Result<Choice<Activity>, AllocError>
+) -> Result<Choice<Activity, Infallible>, AllocError>
     ensures { IfOk result
         (λ choice. meant (Some activity.now) choice
         ≡ activity_fault moment.entry.now relates.now name.now activity.now activity.now.progress) }
@@ -374,7 +379,7 @@ pub fn on_activity(
     moment: &Moment,
     arrived: &Arrived,
     activity: &Activity,
-) -> Result<Choice<Activity>, AllocError>
+) -> Result<Choice<Activity, Infallible>, AllocError>
     ensures { IfOk result
         (λ choice. meant (Some activity.now) choice
         ≡ on_activity moment.entry.now arrived.now activity.now arrived.now.message) }

@@ -7,7 +7,7 @@ ghost use Rattle.at_model.specs.Moves.{begin, posts, stays};
 ghost use Rattle.at_model.specs.Step.{is_reached};
 ghost use Rattle.at_tables.specs.Names.{is_state};
 ghost use Rattle.at_tables.specs.declared.cells.State.TheVariants as states;
-ghost use Rattle.by_id.specs.Fates.{meant, turn_of};
+ghost use Rattle.by_id.specs.Unmoved.{meant, turn_of};
 
 use crate::leaf::Leaf;
 use crate::posts::{leaf_register, says};
@@ -21,6 +21,7 @@ use by_id::fates::{Choice, Fate, Turn};
 use by_id::list::Identified;
 use by_id::times::{has_come, is_quiet};
 use std::alloc::{AllocError, Global};
+use std::convert::Infallible;
 
 /// Whether a leaf may still expire.
 pub fn may_expire(state: State) -> bool
@@ -85,10 +86,15 @@ impl Identified for Leaf {
     ghost use Rattle.at_model.specs.Book.{leaf_id};
     ghost use Rattle.at_model.specs.Due.{leaf_due};
     ghost use Rattle.at_model.specs.Step.{is_reached};
+    ghost use Rattle.by_id.specs.Unmoved.{unmoved};
+
+    type Move = Infallible;
 
     ghost id_of = { leaf_id };
 
     ghost is_due_at = { λ m l. is_reached (leaf_due m l) };
+
+    ghost moved = { unmoved };
 
     fn id(&self) -> Id {
         self.id
@@ -97,10 +103,18 @@ impl Identified for Leaf {
     fn is_due(&self, moment: &Moment) -> bool {
         is_due(moment, self)
     }
+
+    fn make(&mut self, by: Infallible) {
+        match by {}
+    }
 }
 
 /// A leaf that expires ends as aborted: one in Registering refuses its Work, an Active one says Aborted.
-fn expires(alloc: Global, moment: &Moment, leaf: &Leaf) -> Result<Turn<Leaf>, AllocError>
+fn expires(
+    alloc: Global,
+    moment: &Moment,
+    leaf: &Leaf,
+) -> Result<Turn<Leaf, Infallible>, AllocError>
     ensures { IfOk result (λ turn. turn_of (Some leaf.now) turn ≡ leaf_expires moment.entry.now leaf.now) }
 {
     if is_registering(leaf.state) {
@@ -143,7 +157,11 @@ fn again(alloc: Global, moment: &Moment, leaf: &Leaf) -> Result<PostList, AllocE
 }
 
 /// The leaf sends again.
-fn sends_again(alloc: Global, moment: &Moment, leaf: &Leaf) -> Result<Turn<Leaf>, AllocError>
+fn sends_again(
+    alloc: Global,
+    moment: &Moment,
+    leaf: &Leaf,
+) -> Result<Turn<Leaf, Infallible>, AllocError>
     ensures { IfOk result
         (λ turn. turn_of (Some leaf.now) turn
         ≡ stays
@@ -157,7 +175,11 @@ fn sends_again(alloc: Global, moment: &Moment, leaf: &Leaf) -> Result<Turn<Leaf>
 
 /// A leaf that is asked whether it is due.
 #[tactic(auto, unfolding(at_model::specs::Due::leaf_reached))]
-pub fn on_due(alloc: Global, moment: &Moment, leaf: &Leaf) -> Result<Choice<Leaf>, AllocError>
+pub fn on_due(
+    alloc: Global,
+    moment: &Moment,
+    leaf: &Leaf,
+) -> Result<Choice<Leaf, Infallible>, AllocError>
     ensures { IfOk result
         (λ choice. meant (Some leaf.now) choice
         ≡ leaf_reached moment.entry.now leaf.now (leaf_due moment.entry.now leaf.now)) }

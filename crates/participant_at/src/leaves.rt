@@ -9,6 +9,7 @@ ghost use Rattle.at_tables.specs.Tables.{participant_of};
 ghost use Rattle.at_tables.specs.declared.cells.State.TheVariants as states;
 ghost use Rattle.by_id.specs.Lists.{altered, next_due};
 ghost use Rattle.by_id.specs.Plans.{branch_of};
+ghost use Rattle.by_id.specs.Unmoved.{unmoved};
 ghost use Rattle.by_id.specs.Wholes.{whole_or};
 ghost use Rattle.participant_at.specs.LeafPlans.{Holds, leaves_lost, whole, with_leaves};
 
@@ -25,6 +26,7 @@ use at_posts::answers::accepted;
 use by_id::list::ById;
 use by_id::plan::{Branch, Plan};
 use std::alloc::{AllocError, Global};
+use std::convert::Infallible;
 use std::marker::Model;
 
 /// The live leaves of a node, in the order of making.
@@ -114,7 +116,7 @@ impl Leaves {
         moment: &Moment,
         arrived: &Arrived,
         work: &Work,
-    ) -> Result<Plan<Leaf>, AllocError>
+    ) -> Result<Plan<Leaf, Infallible>, AllocError>
         ensures { (b : Book) (now : ℕ) → Holds b now self.now moment.entry.now
             → IfOk result (λ plan. whole b now plan ≡ work_plan b now arrived.now (messages.Work work.now)) }
     {
@@ -130,7 +132,7 @@ impl Leaves {
         arrived: &Arrived,
         id: Id,
         kind: Kind,
-    ) -> Result<Option<Plan<Leaf>>, AllocError>
+    ) -> Result<Option<Plan<Leaf, Infallible>>, AllocError>
         ensures { (b : Book) (now : ℕ) → Holds b now self.now moment.entry.now
             → IfOk result (λ plan. whole_or with_leaves b now (stranger_plan b now arrived.now (participant_of kind states.None) arrived.now.message) plan
             ≡ leaf_or_stranger_plan b now arrived.now kind (leaf_at b id)) }
@@ -153,7 +155,7 @@ impl Leaves {
         alloc: Global,
         moment: &Moment,
         id: Id,
-    ) -> Result<Option<Plan<Leaf>>, AllocError>
+    ) -> Result<Option<Plan<Leaf, Infallible>>, AllocError>
         ensures { (b : Book) (now : ℕ) → Holds b now self.now moment.entry.now
             → IfOk result (λ plan. whole_or with_leaves b now (plain (still b [])) plan ≡ leaf_due_plan b now (leaf_at b id)) }
     {
@@ -166,8 +168,8 @@ impl Leaves {
     }
 
     /// Does what was planned, where its record landed, and where it didn't. It takes no memory, and cannot fail.
-    pub fn apply(&mut self, plan: Plan<Leaf>, landed: bool) -> Outs
-        ensures list { self.new ≡ altered leaf_id (branch_of plan landed).change self.old }
+    pub fn apply(&mut self, plan: Plan<Leaf, Infallible>, landed: bool) -> Outs
+        ensures list { self.new ≡ altered leaf_id unmoved (branch_of plan landed).change self.old }
         ensures outs { result ≡ (branch_of plan landed).outs }
     {
         let Branch { change, outs } = plan.into_branch(landed);
