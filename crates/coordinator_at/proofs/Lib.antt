@@ -1,1 +1,2 @@
+mod Registrations
 mod TransactionPlans

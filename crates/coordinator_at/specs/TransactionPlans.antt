@@ -13,21 +13,23 @@ use Rattle.by_id.specs.Plans.{made}
 use Rattle.by_id.specs.Wholes.{whole_by}
 use Rattle.by_id.specs.declared.list.Alteration.{Alteration}
 use Rattle.by_id.specs.declared.plan.Plan.{Plan as Planned}
+use Rattle.transaction_at.specs.Moves.{moved}
+use Rattle.transaction_at.specs.declared.moves.Move.{Move}
 
 -- a book that holds these transactions, at this moment
 abbrev pub Holds : Book → ℕ → List Transaction → Moment → Type 0
 Holds b now ts m = (b.transactions ≡ ts) × (m ≡ moment_of b now)
 
 -- the book with what becomes of its transactions
-abbrev pub with_transactions : Alteration Transaction → Book → Book
-with_transactions change b = record b { transactions = altered transaction_id change b.transactions }
+abbrev pub with_transactions : Alteration Transaction Move → Book → Book
+with_transactions change b = record b { transactions = altered transaction_id moved change b.transactions }
 
 -- The plan of the transactions, as a plan of the book that holds them.
-abbrev pub whole : Book → ℕ → Planned Transaction → Plan
+abbrev pub whole : Book → ℕ → Planned Transaction Move → Plan
 whole = whole_by with_transactions
 
 -- What a CreateCoordinationContext does to the list of transactions.
-abbrev pub created : Creation → Planned Transaction
+abbrev pub created : Creation → Planned Transaction Move
 created c = made c.transaction c.outs
 
 -- What going down loses: the undecided roots, and then the subordinates that haven't voted.

@@ -30,6 +30,7 @@ use by_id::times::deadline_of;
 use endpoints::uris::{atomic, protocol_of};
 use std::alloc::{AllocError, Global};
 use transaction_at::answer::context_of;
+use transaction_at::moves::Move;
 use transaction_at::transaction::{Link, Phase, Request, Seats, Superior, Transaction};
 
 /// The Identifier of a root.
@@ -63,7 +64,7 @@ fn new_root(
 }
 
 /// The fault CannotCreateContext.
-fn refuse_create(alloc: Global, arrived: &Arrived) -> Result<Plan<Transaction>, AllocError>
+fn refuse_create(alloc: Global, arrived: &Arrived) -> Result<Plan<Transaction, Move>, AllocError>
     ensures { IfOk result (λ plan. plan ≡ created (refuse_create arrived.now)) }
 {
     let outs = faulted(
@@ -104,7 +105,7 @@ fn create_root(
     id: Id,
     arrived: &Arrived,
     create: &Create,
-) -> Result<Plan<Transaction>, AllocError>
+) -> Result<Plan<Transaction, Move>, AllocError>
     ensures { IfOk result
         (λ plan. plan ≡ created (create_root moment.entry.now id arrived.now create.now)) }
 {
@@ -237,7 +238,7 @@ fn create_subordinate(
     reply: &Epr,
     create: &Create,
     current: &Context,
-) -> Result<Plan<Transaction>, AllocError>
+) -> Result<Plan<Transaction, Move>, AllocError>
     ensures { IfOk result
         (λ plan. plan
         ≡ making (new_subordinate moment.entry.now id arrived.now reply.now create.now current.now)
@@ -257,7 +258,7 @@ fn create_under(
     arrived: &Arrived,
     create: &Create,
     current: &Context,
-) -> Result<Plan<Transaction>, AllocError>
+) -> Result<Plan<Transaction, Move>, AllocError>
     ensures { IfOk result
         (λ plan. plan
         ≡ created
@@ -277,7 +278,7 @@ fn create_in(
     id: Id,
     arrived: &Arrived,
     create: &Create,
-) -> Result<Plan<Transaction>, AllocError>
+) -> Result<Plan<Transaction, Move>, AllocError>
     ensures { IfOk result
         (λ plan. plan
         ≡ created (create_in moment.entry.now id arrived.now create.now create.now.current)) }
@@ -310,7 +311,7 @@ pub fn on_create(
     live: usize,
     arrived: &Arrived,
     create: &Create,
-) -> Result<Plan<Transaction>, AllocError>
+) -> Result<Plan<Transaction, Move>, AllocError>
     ensures { IfOk result
         (λ plan. plan
         ≡ created (on_create moment.entry.now live arrived.now create.now moment.entry.now.next)) }

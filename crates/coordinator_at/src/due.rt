@@ -7,8 +7,9 @@ ghost use Rattle.at_model.specs.Book.{Transaction as Known};
 ghost use Rattle.at_model.specs.Due.{seat_again, seats_again, unanswered_seat, register_again_at, link_again, links_again, transaction_again, transaction_due, transaction_reached};
 ghost use Rattle.at_model.specs.Moves.{begin, forgotten, posts, stays};
 ghost use Rattle.at_model.specs.Seats.{sent_now};
-ghost use Rattle.by_id.specs.Fates.{meant, turn_of};
+
 ghost use Rattle.transaction_at.specs.Causes.{reached_of};
+ghost use Rattle.transaction_at.specs.Moves.{meant, turn_of};
 
 use at_base::event::Moment;
 use at_base::id::Id;
@@ -24,7 +25,8 @@ use std::alloc::{AllocError, Global};
 use transaction_at::abort::{Reason, abort};
 use transaction_at::due::{Cause, cause_of, unanswered_seat};
 use transaction_at::links::push_upwards;
-use transaction_at::seats::{seat_notice, sent_now};
+use transaction_at::moves::Move;
+use transaction_at::seats::seat_notice;
 use transaction_at::transaction::{Enlistment, Link, Request, Superior, Transaction};
 
 /// What a seat was asked, once more, where it hasn't answered.
@@ -168,7 +170,7 @@ fn sends_again(
     alloc: Global,
     moment: &Moment,
     transaction: &Transaction,
-) -> Result<Turn<Transaction>, AllocError>
+) -> Result<Turn<Transaction, Move>, AllocError>
     ensures { IfOk result
         (λ turn. turn_of (Some transaction.now) turn
         ≡ stays
@@ -177,8 +179,11 @@ fn sends_again(
 {
     let mut posts = PostList::new(alloc);
     push_again(alloc, &mut posts, moment, transaction)?;
-    let next = sent_now(moment, transaction)?;
-    Ok(Turn::silent(alloc, Fate::Put(next), posts))
+    Ok(Turn::silent(
+        alloc,
+        Fate::Move(Move::Sent(moment.now)),
+        posts,
+    ))
 }
 
 /// The transaction expires: it aborts.
@@ -186,7 +191,7 @@ fn expires(
     alloc: Global,
     moment: &Moment,
     transaction: &Transaction,
-) -> Result<Turn<Transaction>, AllocError>
+) -> Result<Turn<Transaction, Move>, AllocError>
     ensures { IfOk result
         (λ turn. turn_of (Some transaction.now) turn ≡ abort moment.entry.now Alone (begin transaction.now)) }
 {
@@ -195,7 +200,7 @@ fn expires(
 }
 
 /// The transaction is forgotten.
-fn forgotten(alloc: Global) -> Turn<Transaction>
+fn forgotten(alloc: Global) -> Turn<Transaction, Move>
     ensures { (t : Known) → turn_of (Some t) result ≡ forgotten (begin t) }
 {
     Turn::silent(alloc, Fate::Forget, PostList::new(alloc))
@@ -208,7 +213,7 @@ fn reaches(
     moment: &Moment,
     transaction: &Transaction,
     cause: Cause,
-) -> Result<Choice<Transaction>, AllocError>
+) -> Result<Choice<Transaction, Move>, AllocError>
     ensures { IfOk result
         (λ choice. meant (Some transaction.now) choice
         ≡ transaction_reached moment.entry.now transaction.now (reached_of cause)) }
@@ -226,7 +231,7 @@ pub fn on_due(
     alloc: Global,
     moment: &Moment,
     transaction: &Transaction,
-) -> Result<Choice<Transaction>, AllocError>
+) -> Result<Choice<Transaction, Move>, AllocError>
     ensures { IfOk result
         (λ choice. meant (Some transaction.now) choice
         ≡ transaction_reached moment.entry.now transaction.now

@@ -24,12 +24,13 @@ fn recovered_seats(alloc: Global, state: State, seats: &[Seated]) -> Result<Seat
     let mut recovered = Seats::new(alloc);
     for seated in seats {
         let participant = seated.endpoint.clone()?;
-        recovered.push(Enlistment {
+        let seat = Enlistment {
             number: seated.number,
             kind: Kind::Durable,
             participant,
             state,
-        })?;
+        };
+        recovered.push(alloc, seat)?;
     }
     Ok(recovered)
 }

@@ -7,7 +7,9 @@ ghost use Rattle.at_model.specs.Book.{is_epr};
 ghost use Rattle.at_model.specs.Register.{protocol_named, seat_endpoint, completion_endpoint, seat_for, accepts, may_complete, may_register, registered_reply, is_late, new_seat, late_prepare, with_seat, accept_seat, accept, refuse_register, register_new, register_again, held_seat, on_register, register_unknown};
 ghost use Rattle.at_base.specs.Names.{is_kind};
 ghost use Rattle.at_tables.specs.declared.cells.State.TheVariants as states;
-ghost use Rattle.coordinator_at.specs.Registrations.{given_anew, registered};
+ghost use Rattle.at_model.specs.Book.{Transaction as Known};
+ghost use Rattle.coordinator_at.specs.Registrations.{registered, registration_of};
+ghost use Rattle.transaction_at.specs.Moves.{moved};
 ghost use Rattle.transaction_at.specs.PhaseNames.{phase_of};
 
 use at_base::epr::Epr;
@@ -28,11 +30,47 @@ use by_id::plan::{Branch, Plan};
 use endpoints::addresses::endpoint_of;
 use endpoints::uris::{completion_protocol, protocol_of};
 use std::alloc::{AllocError, Global};
+use transaction_at::moves::Move;
 use transaction_at::seats::seat_target;
 use transaction_at::transaction::{Completion, Enlistment, Phase, Transaction};
 
 /// What a Register asks for: a seat of a kind, or none for Completion (WS-AtomicTransaction 1.2, section 3).
 pub type Protocol = Option<Kind>;
+
+/// What a Register does: a move of the transaction, or none, and what is sent.
+#[derive(Debug)]
+pub struct Registered {
+    pub change: Option<Move>,
+    pub outs: OutList,
+}
+
+impl Drop for Registered {
+    fn drop(self) {
+        let Registered {
+            change: _change,
+            outs: _outs,
+        } = self;
+    }
+}
+
+impl Registered {
+    /// The plan of it, at the transaction of this id.
+    pub fn into_plan(self, alloc: Global, id: Id) -> Plan<Transaction, Move>
+        ensures { result ≡ registered id self }
+    {
+        let change = match self.change {
+            Some(by) => Alteration::Move { id, by },
+            None => Alteration::Keep,
+        };
+        Plan::Plain(Branch {
+            change,
+            outs: Outs {
+                outs: self.outs,
+                effects: Effects::from_vec(Vec::new(alloc)),
+            },
+        })
+    }
+}
 
 /// The protocol of an identifier, or none where it is unknown.
 fn protocol_named(name: &Text) -> Option<Protocol>
@@ -223,20 +261,23 @@ fn new_seat(
     })
 }
 
-/// The transaction with one seat more.
-fn with_seat(
+/// Room for one seat more, and the move that adds this one.
+#[tactic(auto, using(crate::proofs::Registrations::enlists))]
+fn enlisting(
+    alloc: Global,
     moment: &Moment,
     transaction: &Transaction,
-    seat: &Enlistment,
-) -> Result<Transaction, AllocError>
-    ensures { IfOk result (λ next. next ≡ with_seat moment.entry.now transaction.now seat.now) }
+    seat: Enlistment,
+) -> Result<Move, AllocError>
+    ensures { IfOk result (λ by. moved by transaction.now ≡ with_seat moment.entry.now transaction.now seat) }
 {
-    let mut next = transaction.clone()?;
-    next.seats.push(seat.clone()?)?;
-    if is_late(transaction.phase, seat.kind) {
-        next.sent = Some(moment.now);
-    }
-    Ok(next)
+    let room = transaction.seats.room(alloc)?;
+    let sent = if is_late(transaction.phase, seat.kind) {
+        Some(moment.now)
+    } else {
+        None
+    };
+    Ok(Move::Enlisted { seat, sent, room })
 }
 
 /// The answer of a Register, with the coordinator's endpoint.
@@ -282,55 +323,26 @@ fn push_late(
     Ok(())
 }
 
-/// The transaction is given anew, and this is sent.
-fn given_anew(alloc: Global, transaction: Transaction, outs: OutList) -> Plan<Transaction>
-    ensures { result ≡ given_anew transaction outs }
-{
-    Plan::Plain(Branch {
-        change: Alteration::Put {
-            id: transaction.id,
-            item: Some(transaction),
-        },
-        outs: Outs {
-            outs,
-            effects: Effects::from_vec(Vec::new(alloc)),
-        },
-    })
-}
-
 /// Accepts a participant in this seat.
 fn accept_seat(
     alloc: Global,
     moment: &Moment,
     arrived: &Arrived,
     transaction: &Transaction,
-    seat: &Enlistment,
-) -> Result<Plan<Transaction>, AllocError>
+    seat: Enlistment,
+) -> Result<Registered, AllocError>
     ensures { IfOk result
-        (λ plan. plan ≡ registered (accept_seat moment.entry.now arrived.now transaction.now seat.now)) }
+        (λ given. registration_of transaction.now given
+        ≡ accept_seat moment.entry.now arrived.now transaction.now seat) }
 {
-    let coordinator = seat_endpoint(alloc, &moment.base, transaction.id, seat)?;
+    let coordinator = seat_endpoint(alloc, &moment.base, transaction.id, &seat)?;
     let mut outs = registered_reply(alloc, arrived, coordinator)?;
-    push_late(alloc, &mut outs, moment, transaction, seat)?;
-    let next = with_seat(moment, transaction, seat)?;
-    Ok(given_anew(alloc, next, outs))
-}
-
-/// The transaction with its initiator.
-fn with_initiator(transaction: &Transaction, initiator: &Epr) -> Result<Transaction, AllocError>
-    ensures { IfOk result
-        (λ next. next
-        ≡ record transaction.now {
-          completion = Some (record { initiator = initiator.now; state = states.Active });
-        }) }
-{
-    let initiator = initiator.clone()?;
-    let mut next = transaction.clone()?;
-    next.completion = Some(Completion {
-        initiator,
-        state: State::Active,
-    });
-    Ok(next)
+    push_late(alloc, &mut outs, moment, transaction, &seat)?;
+    let by = enlisting(alloc, moment, transaction, seat)?;
+    Ok(Registered {
+        change: Some(by),
+        outs,
+    })
 }
 
 /// Accepts an initiator.
@@ -341,15 +353,22 @@ fn accept_initiator(
     arrived: &Arrived,
     transaction: &Transaction,
     initiator: &Epr,
-) -> Result<Plan<Transaction>, AllocError>
+) -> Result<Registered, AllocError>
     ensures { IfOk result
-        (λ plan. plan
-        ≡ registered (accept moment.entry.now arrived.now transaction.now initiator.now None)) }
+        (λ given. registration_of transaction.now given
+        ≡ accept moment.entry.now arrived.now transaction.now initiator.now None) }
 {
     let coordinator = completion_endpoint(alloc, &moment.base, transaction.id)?;
     let outs = registered_reply(alloc, arrived, coordinator)?;
-    let next = with_initiator(transaction, initiator)?;
-    Ok(given_anew(alloc, next, outs))
+    let initiator = initiator.clone()?;
+    let completion = Completion {
+        initiator,
+        state: State::Active,
+    };
+    Ok(Registered {
+        change: Some(Move::Initiator(completion)),
+        outs,
+    })
 }
 
 /// Accepts a participant, or an initiator.
@@ -361,34 +380,28 @@ fn accept(
     transaction: &Transaction,
     participant: &Epr,
     protocol: Protocol,
-) -> Result<Plan<Transaction>, AllocError>
+) -> Result<Registered, AllocError>
     requires { length transaction.now.seats < MOST_SEATS }
     ensures { IfOk result
-        (λ plan. plan
-        ≡ registered
-        (accept moment.entry.now arrived.now transaction.now participant.now protocol)) }
+        (λ given. registration_of transaction.now given
+        ≡ accept moment.entry.now arrived.now transaction.now participant.now protocol) }
 {
     match protocol {
         Some(kind) => {
             let seat = new_seat(transaction, participant, kind)?;
-            accept_seat(alloc, moment, arrived, transaction, &seat)
+            accept_seat(alloc, moment, arrived, transaction, seat)
         }
         None => accept_initiator(alloc, moment, arrived, transaction, participant),
     }
 }
 
 /// A Register is refused with this fault, and changes nothing.
-fn refuse_register(
-    alloc: Global,
-    arrived: &Arrived,
-    transaction: &Transaction,
-    fault: Fault,
-) -> Result<Plan<Transaction>, AllocError>
-    ensures { IfOk result (λ plan. plan ≡ registered (refuse_register arrived.now transaction.now fault)) }
+fn refuse_register(alloc: Global, arrived: &Arrived, fault: Fault) -> Result<Registered, AllocError>
+    ensures { (t : Known) → IfOk result
+        (λ given. registration_of t given ≡ refuse_register arrived.now t fault) }
 {
     let outs = faulted(alloc, &arrived.fault, &arrived.id, fault)?;
-    let same = transaction.clone()?;
-    Ok(given_anew(alloc, same, outs))
+    Ok(Registered { change: None, outs })
 }
 
 /// A Register that isn't repeated.
@@ -400,17 +413,16 @@ fn register_new(
     register: &Register,
     transaction: &Transaction,
     protocol: Option<Protocol>,
-) -> Result<Plan<Transaction>, AllocError>
+) -> Result<Registered, AllocError>
     ensures { IfOk result
-        (λ plan. plan
-        ≡ registered
-        (register_new moment.entry.now arrived.now register.now transaction.now protocol)) }
+        (λ given. registration_of transaction.now given
+        ≡ register_new moment.entry.now arrived.now register.now transaction.now protocol) }
 {
     let Some(protocol) = protocol else {
-        return refuse_register(alloc, arrived, transaction, Fault::InvalidProtocol);
+        return refuse_register(alloc, arrived, Fault::InvalidProtocol);
     };
     if !arrived.postable {
-        return refuse_register(alloc, arrived, transaction, Fault::InvalidParameters);
+        return refuse_register(alloc, arrived, Fault::InvalidParameters);
     }
     if may_register(transaction, protocol) {
         accept(
@@ -425,7 +437,6 @@ fn register_new(
         refuse_register(
             alloc,
             arrived,
-            transaction,
             Fault::CannotRegisterParticipant,
         )
     }
@@ -435,14 +446,14 @@ fn register_new(
 fn register_again(
     alloc: Global,
     arrived: &Arrived,
-    transaction: &Transaction,
     coordinator: Epr,
-) -> Result<Plan<Transaction>, AllocError>
-    ensures { IfOk result (λ plan. plan ≡ given_anew transaction.now (registered_reply arrived.now coordinator)) }
+) -> Result<Registered, AllocError>
+    ensures { (t : Known) → IfOk result
+        (λ given. registration_of t given
+        ≡ record { transaction = t; outs = registered_reply arrived.now coordinator }) }
 {
     let outs = registered_reply(alloc, arrived, coordinator)?;
-    let same = transaction.clone()?;
-    Ok(given_anew(alloc, same, outs))
+    Ok(Registered { change: None, outs })
 }
 
 /// The coordinator's endpoint of the seat that the sender of a Register has already.
@@ -471,14 +482,14 @@ pub fn on_register(
     arrived: &Arrived,
     register: &Register,
     transaction: &Transaction,
-) -> Result<Plan<Transaction>, AllocError>
+) -> Result<Registered, AllocError>
     ensures { IfOk result
-        (λ plan. plan
-        ≡ registered (on_register moment.entry.now arrived.now register.now transaction.now)) }
+        (λ given. registration_of transaction.now given
+        ≡ on_register moment.entry.now arrived.now register.now transaction.now) }
 {
     let protocol = protocol_named(&register.protocol);
     match held_seat(alloc, moment, register, transaction, protocol)? {
-        Some(coordinator) => register_again(alloc, arrived, transaction, coordinator),
+        Some(coordinator) => register_again(alloc, arrived, coordinator),
         None => register_new(alloc, moment, arrived, register, transaction, protocol),
     }
 }

@@ -9,12 +9,12 @@ ghost use Rattle.at_model.specs.Register.{protocol_named, register_unknown};
 ghost use Rattle.at_model.specs.Step.{activation_plan, at_time, completion_plan, coordinator_plan, is_reached, link_plan, moment_of, plain, registration_plan, seatless_plan, still, stranger_plan, transaction_at, transaction_due_plan, transaction_plan};
 ghost use Rattle.at_tables.specs.Tables.{coordinator_of, participant_of};
 ghost use Rattle.at_tables.specs.declared.cells.State.TheVariants as states;
-ghost use Rattle.by_id.specs.Fates.{meant};
 ghost use Rattle.by_id.specs.Lists.{altered, next_due};
 ghost use Rattle.by_id.specs.Plans.{branch_of};
 ghost use Rattle.by_id.specs.Wholes.{whole_or};
 ghost use Rattle.coordinator_at.specs.Holdings.{transactions_held};
 ghost use Rattle.coordinator_at.specs.TransactionPlans.{Holds, roots_lost, subordinates_lost, transactions_lost, whole, with_transactions};
+ghost use Rattle.transaction_at.specs.Moves.{meant, moved};
 
 use crate::create::on_create;
 use crate::due::on_due;
@@ -38,6 +38,7 @@ use transaction_at::at_link::on_link;
 use transaction_at::at_seat::on_seat;
 use transaction_at::due::may_expire;
 use transaction_at::links::ending;
+use transaction_at::moves::Move;
 use transaction_at::transaction::Transaction;
 
 /// The live transactions of a node, in the order of making.
@@ -62,8 +63,8 @@ fn moved(
     moment: &Moment,
     answer: OutList,
     transaction: &Transaction,
-    choice: Choice<Transaction>,
-) -> Result<Plan<Transaction>, AllocError>
+    choice: Choice<Transaction, Move>,
+) -> Result<Plan<Transaction, Move>, AllocError>
     ensures { (b : Book) (now : ℕ) (id : Numbers)
         → moment.entry.now ≡ moment_of b now → transaction_at b id ≡ Some transaction.now
         → IfOk result
@@ -83,7 +84,7 @@ pub fn at_link(
     arrived: &Arrived,
     kind: Kind,
     transaction: &Transaction,
-) -> Result<Option<Plan<Transaction>>, AllocError>
+) -> Result<Option<Plan<Transaction, Move>>, AllocError>
     ensures { (b : Book) (now : ℕ) (id : Numbers)
         → moment.entry.now ≡ moment_of b now → transaction_at b id ≡ Some transaction.now
         → IfOk result
@@ -194,7 +195,7 @@ impl Transactions {
         moment: &Moment,
         arrived: &Arrived,
         create: &Create,
-    ) -> Result<Plan<Transaction>, AllocError>
+    ) -> Result<Plan<Transaction, Move>, AllocError>
         ensures { (b : Book) (now : ℕ) → Holds b now self.now moment.entry.now
             → IfOk result
             (λ plan. whole b now plan ≡ activation_plan b now arrived.now (messages.Create create.now)) }
@@ -211,7 +212,7 @@ impl Transactions {
         arrived: &Arrived,
         register: &Register,
         id: Id,
-    ) -> Result<Option<Plan<Transaction>>, AllocError>
+    ) -> Result<Option<Plan<Transaction, Move>>, AllocError>
         ensures { (b : Book) (now : ℕ) → Holds b now self.now moment.entry.now
             → IfOk result
             (λ plan. whole_or with_transactions b now
@@ -223,8 +224,8 @@ impl Transactions {
         let Some(transaction) = self.live.find(id) else {
             return Ok(None);
         };
-        let plan = on_register(alloc, moment, arrived, register, transaction)?;
-        Ok(Some(plan))
+        let given = on_register(alloc, moment, arrived, register, transaction)?;
+        Ok(Some(given.into_plan(alloc, transaction.id)))
     }
 
     /// What a message does at the completion seat of the transaction of this id; none where there is no such
@@ -236,7 +237,7 @@ impl Transactions {
         moment: &Moment,
         arrived: &Arrived,
         id: Id,
-    ) -> Result<Option<Plan<Transaction>>, AllocError>
+    ) -> Result<Option<Plan<Transaction, Move>>, AllocError>
         ensures { (b : Book) (now : ℕ) (done : Bool) → Holds b now self.now moment.entry.now
             → IfOk result
             (λ plan. whole_or with_transactions b now (seatless_plan b now arrived.now done) plan
@@ -263,7 +264,7 @@ impl Transactions {
         arrived: &Arrived,
         id: Id,
         seat: Seat,
-    ) -> Result<Option<Plan<Transaction>>, AllocError>
+    ) -> Result<Option<Plan<Transaction, Move>>, AllocError>
         ensures { (b : Book) (now : ℕ) → Holds b now self.now moment.entry.now
             → IfOk result
             (λ plan. whole_or with_transactions b now
@@ -288,7 +289,7 @@ impl Transactions {
         alloc: Global,
         moment: &Moment,
         id: Id,
-    ) -> Result<Option<Plan<Transaction>>, AllocError>
+    ) -> Result<Option<Plan<Transaction, Move>>, AllocError>
         ensures { (b : Book) (now : ℕ) → Holds b now self.now moment.entry.now
             → IfOk result
             (λ plan. whole_or with_transactions b now (plain (still b [])) plan
@@ -309,8 +310,8 @@ impl Transactions {
     }
 
     /// Does what was planned, where its record landed, and where it didn't. It takes no memory, and cannot fail.
-    pub fn apply(&mut self, plan: Plan<Transaction>, landed: bool) -> Outs
-        ensures list { self.new ≡ altered transaction_id (branch_of plan landed).change self.old }
+    pub fn apply(&mut self, plan: Plan<Transaction, Move>, landed: bool) -> Outs
+        ensures list { self.new ≡ altered transaction_id moved (branch_of plan landed).change self.old }
         ensures outs { result ≡ (branch_of plan landed).outs }
     {
         let Branch { change, outs } = plan.into_branch(landed);

@@ -1,5 +1,6 @@
 -- What a part does to a book is what its plan of the whole book says.
 use Rattle.std.proofs.Common.{ℕ, Bool, true, false, ◌≡◌, refl, sym, ◌∙◌, ap, subst}
+use Rattle.std.specs.declared.convert.Infallible.{Infallible}
 use Rattle.at_base.specs.declared.event.Event.{Event}
 use Rattle.at_base.specs.declared.outs.Outs.{Outs}
 use Rattle.at_model.specs.Book.{Activity, Book, Leaf, Transaction}
@@ -11,6 +12,7 @@ use Rattle.by_id.specs.declared.list.Alteration.{Alteration}
 use Rattle.by_id.specs.declared.plan.Plan.{Plan as ListPlan}
 use Rattle.by_id.specs.declared.plan.Plan.TheVariants as plans
 use Rattle.participant_at.specs.LeafPlans.{with_leaves}
+use Rattle.transaction_at.specs.declared.moves.Move.{Move}
 use Rattle.coordinator_at.specs.TransactionPlans.{with_transactions}
 use Rattle.completion_at.specs.ActivityPlans.{with_activities}
 use Rattle.interposition.specs.declared.plan.Part.{Part}
@@ -20,8 +22,8 @@ use Rattle.interposition.specs.ModelSteps.{IsStep, KeepsBounds}
 use Rattle.model_laws.specs.BookBounds.{IsSound, RecordsAreWellFormed}
 
 -- one list of the book, where `put` takes over what becomes of it
-module _ {A : Type 0} (put : Alteration A → Book → Book) (noting_after : (r : _) (c : Alteration A) (b : Book) → put c (recorded r b) ≡ recorded r (put c b)) where
-  does : (now : ℕ) (b : Book) (p : ListPlan A) (landed : Bool) → put (branch_of p landed).change (gone p now landed b) ≡ (branch (whole_by put b now p) landed).book
+module _ {A M : Type 0} (put : Alteration A M → Book → Book) (noting_after : (r : _) (c : Alteration A M) (b : Book) → put c (recorded r b) ≡ recorded r (put c b)) where
+  does : (now : ℕ) (b : Book) (p : ListPlan A M) (landed : Bool) → put (branch_of p landed).change (gone p now landed b) ≡ (branch (whole_by put b now p) landed).book
   does now b (plans.Plain x) true = refl
   does now b (plans.Plain x) false = refl
   does now b (plans.Recorded entry x absent undone) true = noting_after entry x.change _
@@ -32,15 +34,15 @@ pub still_done : (now : ℕ) (b : Book) (holds : Bool) (outs : Outs) (landed : B
 still_done now b holds outs true = refl
 still_done now b holds outs false = refl
 
-pub transactions_done : (now : ℕ) (b k : Book) (p : ListPlan Transaction) (landed : Bool) → k ≡ with_transactions (branch_of p landed).change (gone p now landed b)
+pub transactions_done : (now : ℕ) (b k : Book) (p : ListPlan Transaction Move) (landed : Bool) → k ≡ with_transactions (branch_of p landed).change (gone p now landed b)
     → k ≡ done (record { now = now; part = parts.Transactions p }) landed b
 transactions_done now b k p landed is = is ∙ does with_transactions (λ r c x. refl) now b p landed
 
-pub leaves_done : (now : ℕ) (b k : Book) (p : ListPlan Leaf) (landed : Bool) → k ≡ with_leaves (branch_of p landed).change (gone p now landed b)
+pub leaves_done : (now : ℕ) (b k : Book) (p : ListPlan Leaf Infallible) (landed : Bool) → k ≡ with_leaves (branch_of p landed).change (gone p now landed b)
     → k ≡ done (record { now = now; part = parts.Leaves p }) landed b
 leaves_done now b k p landed is = is ∙ does with_leaves (λ r c x. refl) now b p landed
 
-pub activities_done : (now : ℕ) (b k : Book) (p : ListPlan Activity) (landed : Bool) → k ≡ with_activities (branch_of p landed).change (gone p now landed b)
+pub activities_done : (now : ℕ) (b k : Book) (p : ListPlan Activity Infallible) (landed : Bool) → k ≡ with_activities (branch_of p landed).change (gone p now landed b)
     → k ≡ done (record { now = now; part = parts.Activities p }) landed b
 activities_done now b k p landed is = is ∙ does with_activities (λ r c x. refl) now b p landed
 
@@ -48,7 +50,7 @@ activities_done now b k p landed is = is ∙ does with_activities (λ r c x. ref
 abbrev Sends : Planned → Outs → Bool → Type 0
 Sends q outs landed = (outs.outs ≡ (branch q landed).outs) × (outs.effects ≡ (branch q landed).effects)
 
-listed : {A : Type 0} (put : Alteration A → Book → Book) (b : Book) (now : ℕ) (p : ListPlan A) (landed : Bool) → Sends (whole_by put b now p) (branch_of p landed).outs landed
+listed : {A M : Type 0} (put : Alteration A M → Book → Book) (b : Book) (now : ℕ) (p : ListPlan A M) (landed : Bool) → Sends (whole_by put b now p) (branch_of p landed).outs landed
 listed put b now (plans.Plain x) true = (refl, refl)
 listed put b now (plans.Plain x) false = (refl, refl)
 listed put b now (plans.Recorded entry x absent undone) true = (refl, refl)
@@ -61,7 +63,7 @@ sends now b (parts.Transactions p) landed = listed with_transactions b now p lan
 sends now b (parts.Leaves p) landed = listed with_leaves b now p landed
 sends now b (parts.Activities p) landed = listed with_activities b now p landed
 
-entered : {A : Type 0} (put : Alteration A → Book → Book) (b : Book) (now : ℕ) (p : ListPlan A) → entry_of p ≡ (whole_by put b now p).entry
+entered : {A M : Type 0} (put : Alteration A M → Book → Book) (b : Book) (now : ℕ) (p : ListPlan A M) → entry_of p ≡ (whole_by put b now p).entry
 entered put b now (plans.Plain x) = refl
 entered put b now (plans.Recorded entry x absent undone) = refl
 

@@ -21,7 +21,7 @@ abbrev pub noted : Bool → ℕ → Book → Book
 noted holds now b = if holds then at_time now b else b
 
 -- the outcomes behind it: a record that stands may add one
-abbrev pub outcomes_by : {A : Type 0} → ListPlan A → Bool → List Numbers → List Numbers
+abbrev pub outcomes_by : {A M : Type 0} → ListPlan A M → Bool → List Numbers → List Numbers
 outcomes_by (plans.Plain branch) landed ids = ids
 outcomes_by (plans.Recorded entry stands absent undone) landed ids = if landed then with_outcome entry ids else ids
 
@@ -29,7 +29,7 @@ abbrev pub kept : List Numbers → Book → Book
 kept ids b = record b { outcomes = ids }
 
 -- what a plan of a list does to the book beside the list
-abbrev pub gone : {A : Type 0} → ListPlan A → ℕ → Bool → Book → Book
+abbrev pub gone : {A M : Type 0} → ListPlan A M → ℕ → Bool → Book → Book
 gone p now landed b = kept (outcomes_by p landed b.outcomes) (drawn (draws p landed) (noted (notes_time p landed) now b))
 
 -- a part, as the model's plan of the book

@@ -40,7 +40,9 @@ use outcomes_at::outcomes::Outcomes;
 use participant_at::leaf::Leaf;
 use participant_at::leaves::Leaves;
 use std::alloc::{AllocError, Global};
+use std::convert::Infallible;
 use std::marker::Model;
+use transaction_at::moves::Move;
 use transaction_at::transaction::{Phase, Transaction};
 
 /// What a book loses where its node goes down is what the model says that the node loses.
@@ -531,7 +533,7 @@ impl Book {
     }
 
     /// A record that stands may be an outcome.
-    fn keep<T: Drop>(&mut self, plan: &plan::Plan<T>, landed: bool)
+    fn keep<T: Drop, M: Drop>(&mut self, plan: &plan::Plan<T, M>, landed: bool)
         ensures { self.new ≡ kept (outcomes_by plan.entry.now landed self.old.outcomes) self.old }
     {
         match plan {
@@ -541,7 +543,7 @@ impl Book {
     }
 
     /// What a plan of a list does beside the list.
-    fn go<T: Drop>(&mut self, plan: &plan::Plan<T>, now: u64, landed: bool)
+    fn go<T: Drop, M: Drop>(&mut self, plan: &plan::Plan<T, M>, now: u64, landed: bool)
         ensures { self.new ≡ gone plan.entry.now now landed self.old }
     {
         self.note(plan.notes_time(landed), now);
@@ -549,7 +551,7 @@ impl Book {
         self.keep(plan, landed);
     }
 
-    fn apply_transactions(&mut self, plan: plan::Plan<Transaction>, now: u64, landed: bool) -> Outs
+    fn apply_transactions(&mut self, plan: plan::Plan<Transaction, Move>, now: u64, landed: bool) -> Outs
         ensures book { self.new ≡ with_transactions (branch_of plan landed).change (gone plan now landed self.old) }
         ensures outs { result ≡ (branch_of plan landed).outs }
     {
@@ -557,7 +559,7 @@ impl Book {
         self.transactions.apply(plan, landed)
     }
 
-    fn apply_leaves(&mut self, plan: plan::Plan<Leaf>, now: u64, landed: bool) -> Outs
+    fn apply_leaves(&mut self, plan: plan::Plan<Leaf, Infallible>, now: u64, landed: bool) -> Outs
         ensures book { self.new ≡ with_leaves (branch_of plan landed).change (gone plan now landed self.old) }
         ensures outs { result ≡ (branch_of plan landed).outs }
     {
@@ -565,7 +567,7 @@ impl Book {
         self.leaves.apply(plan, landed)
     }
 
-    fn apply_activities(&mut self, plan: plan::Plan<Activity>, now: u64, landed: bool) -> Outs
+    fn apply_activities(&mut self, plan: plan::Plan<Activity, Infallible>, now: u64, landed: bool) -> Outs
         ensures book { self.new ≡ with_activities (branch_of plan landed).change (gone plan now landed self.old) }
         ensures outs { result ≡ (branch_of plan landed).outs }
     {

@@ -1,3 +1,5 @@
-mod Counts
 mod Resends
-mod SeatPlaces
+mod Rooms
+mod SeatCounts
+mod SeatNumbers
+mod Waits

@@ -1,6 +1,9 @@
 pub mod Causes
 pub mod Counts
 pub mod Groups
+pub mod Moves
+pub mod Numbers
 pub mod PhaseNames
 pub mod Reasons
-pub mod SeatPlaces
+pub mod Rooms
+pub mod Waits

@@ -7,11 +7,12 @@ ghost use Rattle.at_model.specs.Moves.{posts, effect};
 ghost use Rattle.at_model.specs.Posts.{stored_or};
 ghost use Rattle.at_model.specs.Seats.{ending};
 ghost use Rattle.at_model.specs.Abort.{abort, from_of, is_silent, link_aborted, links_aborted, until_rolled_back, without_links};
-ghost use Rattle.by_id.specs.Fates.{turn_of};
+ghost use Rattle.transaction_at.specs.Moves.{turn_of};
 ghost use Rattle.transaction_at.specs.Reasons.{reason_of};
 
 use crate::links::{ending, push_from_link, tell_initiator};
-use crate::seats::{Group, has_any, is_state, send_each};
+use crate::moves::Move;
+use crate::seats::{Group, is_state, send_each};
 use crate::transaction::{Link, Phase, Superior, Transaction};
 use at_base::epr::Epr;
 use at_base::event::Moment;
@@ -166,10 +167,10 @@ fn aborting(moment: &Moment, transaction: &mut Transaction)
 }
 
 /// Forgotten when no seat is Aborting.
-pub fn until_rolled_back(moving: Moving<Transaction>) -> Turn<Transaction>
+pub fn until_rolled_back(moving: Moving<Transaction>) -> Turn<Transaction, Move>
     ensures { (found : Option Known) → turn_of found result ≡ until_rolled_back moving }
 {
-    if has_any(moving.item.seats.as_slice(), Group::In(State::Aborting)) {
+    if moving.item.seats.is_aborting() {
         moving.stays()
     } else {
         moving.forgotten()
@@ -229,7 +230,7 @@ pub fn abort(
     moment: &Moment,
     reason: &Reason,
     mut moving: Moving<Transaction>,
-) -> Result<Turn<Transaction>, AllocError>
+) -> Result<Turn<Transaction, Move>, AllocError>
     ensures { (found : Option Known) → IfOk result
         (λ turn. turn_of found turn ≡ abort moment.entry.now (reason_of reason.now) moving) }
 {

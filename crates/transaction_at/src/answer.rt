@@ -1,17 +1,18 @@
 //! How a subordinate's CreateCoordinationContext is answered (WS-Coordination 1.2, section 3.1): with the context once
 //! neither link is Registering, with CannotCreateContext where the subordinate ended before.
 
-ghost use Rattle.std.specs.Prelude.{◌≡◌, ◌++◌, ◌∷◌, [], List, IfOk, OnOk, Some, if◌then◌else◌, option_copied, option_map};
+ghost use Rattle.std.specs.Prelude.{◌≡◌, ◌++◌, ◌∷◌, [], List, IfOk, OnOk, Option, Some, if◌then◌else◌, option_copied, option_map};
 ghost use Rattle.at_base.specs.declared.message.Message.TheVariants as messages;
 ghost use Rattle.at_model.specs.Arrivals.{answer_request, context_of, refused_request, request_answered, request_left, request_of, request_stands, request_under, with_answer};
 ghost use Rattle.at_base.specs.declared.outs.Effect.{Effect};
-ghost use Rattle.at_model.specs.Book.{Phase as Stage};
+ghost use Rattle.at_model.specs.Book.{Phase as Stage, Transaction as Known};
 ghost use Rattle.at_model.specs.Moves.{Records};
 ghost use Rattle.at_model.specs.Posts.{reply_post};
 ghost use Rattle.at_model.specs.Seats.{under};
-ghost use Rattle.by_id.specs.Fates.{fate_of, meant, turn_of};
+ghost use Rattle.transaction_at.specs.Moves.{fate_of, meant, moved, turn_of};
 
 use crate::at_link::is_registering;
+use crate::moves::Move;
 use crate::phases::or_undone;
 use crate::transaction::{Phase, Request, Superior, Transaction};
 use at_base::epr::Reply;
@@ -27,6 +28,7 @@ use by_id::fates::{Choice, Fate, Turn};
 use endpoints::addresses::endpoint_of;
 use endpoints::uris::atomic;
 use std::alloc::{AllocError, Global};
+use std::mem::replace;
 
 /// The context of a transaction, which lasts this many milliseconds, or any time.
 pub fn context_of(
@@ -183,7 +185,7 @@ fn request_kept(
     moment: &Moment,
     request: &Request,
     transaction: &Transaction,
-) -> Result<Fate<Transaction>, AllocError>
+) -> Result<Fate<Transaction, Move>, AllocError>
     ensures { (effects : List Effect) → IfOk result
         (λ fate. record { item = fate_of (Some transaction.now) fate; posts = posts.new; effects = effects }
         ≡ request_under moment.entry.now request.now transaction.now transaction.now.superior
@@ -199,25 +201,76 @@ fn request_kept(
     }
 }
 
-/// The answer of a request, behind what is posted.
+/// A copy of the transaction, moved.
+fn moved(transaction: &Transaction, by: Move) -> Result<Transaction, AllocError>
+    ensures { IfOk result (λ next. next ≡ moved by transaction.now) }
+{
+    let mut next = transaction.clone()?;
+    by.make(&mut next);
+    Ok(next)
+}
+
+/// The answer of a request, where the transaction is given anew.
+fn request_put(
+    alloc: Global,
+    posts: &mut PostList,
+    moment: &Moment,
+    request: &Request,
+    mut next: Transaction,
+) -> Result<Fate<Transaction, Move>, AllocError>
+    ensures { (found : Option Known) (effects : List Effect) → IfOk result
+        (λ fate. record { item = fate_of found fate; posts = posts.new; effects = effects }
+        ≡ request_under moment.entry.now request.now next next.superior
+        (record { item = Some next; posts = posts.old; effects = effects })) }
+{
+    request_under(alloc, posts, moment, request, &mut next)?;
+    Ok(Fate::Put(next))
+}
+
+/// The answer of a request, behind what is posted. It is waited for before a transaction has seats, so to copy one that
+/// is moved costs little.
 fn request_left(
+    alloc: Global,
+    posts: &mut PostList,
+    moment: &Moment,
+    request: &Request,
+    transaction: &Transaction,
+    fate: Fate<Transaction, Move>,
+) -> Result<Fate<Transaction, Move>, AllocError>
+    ensures { (effects : List Effect) → IfOk result
+        (λ next. record { item = fate_of (Some transaction.now) next; posts = posts.new; effects = effects }
+        ≡ request_left moment.entry.now request.now (fate_of (Some transaction.now) fate)
+        (record { item = fate_of (Some transaction.now) fate; posts = posts.old; effects = effects })) }
+{
+    match fate {
+        Fate::Keep => request_kept(alloc, posts, moment, request, transaction),
+        Fate::Forget => {
+            push_refused(alloc, posts, request)?;
+            Ok(Fate::Forget)
+        }
+        Fate::Put(next) => request_put(alloc, posts, moment, request, next),
+        Fate::Move(by) => {
+            let next = moved(transaction, by)?;
+            request_put(alloc, posts, moment, request, next)
+        }
+    }
+}
+
+/// The answer of this request.
+fn with_request(
     alloc: Global,
     moment: &Moment,
     request: &Request,
     transaction: &Transaction,
-    turn: &mut Turn<Transaction>,
+    turn: &mut Turn<Transaction, Move>,
 ) -> Result<(), AllocError>
     ensures { OnOk result
         (turn_of (Some transaction.now) turn.new
         ≡ request_left moment.entry.now request.now (fate_of (Some transaction.now) turn.old.fate)
         (turn_of (Some transaction.now) turn.old)) }
 {
-    let posts = &mut turn.posts;
-    match &mut turn.fate {
-        Fate::Keep => turn.fate = request_kept(alloc, posts, moment, request, transaction)?,
-        Fate::Forget => push_refused(alloc, posts, request)?,
-        Fate::Put(next) => request_under(alloc, posts, moment, request, next)?,
-    }
+    let fate = replace(&mut turn.fate, Fate::Keep);
+    turn.fate = request_left(alloc, &mut turn.posts, moment, request, transaction, fate)?;
     Ok(())
 }
 
@@ -227,8 +280,8 @@ fn answer_request(
     moment: &Moment,
     request: Option<&Request>,
     transaction: &Transaction,
-    mut turn: Turn<Transaction>,
-) -> Result<Turn<Transaction>, AllocError>
+    mut turn: Turn<Transaction, Move>,
+) -> Result<Turn<Transaction, Move>, AllocError>
     ensures { IfOk result
         (λ next. turn_of (Some transaction.now) next
         ≡ answer_request moment.entry.now (option_copied request.entry) (turn_of (Some transaction.now) turn)) }
@@ -236,7 +289,7 @@ fn answer_request(
     match request {
         None => Ok(turn),
         Some(request) => {
-            request_left(alloc, moment, request, transaction, &mut turn)?;
+            with_request(alloc, moment, request, transaction, &mut turn)?;
             Ok(turn)
         }
     }
@@ -249,9 +302,9 @@ fn answer_absent(
     request: Option<&Request>,
     transaction: &Transaction,
     entry: Record,
-    stands: Turn<Transaction>,
-    absent: Turn<Transaction>,
-) -> Result<Choice<Transaction>, AllocError>
+    stands: Turn<Transaction, Move>,
+    absent: Turn<Transaction, Move>,
+) -> Result<Choice<Transaction, Move>, AllocError>
     ensures { IfOk result
         (λ choice. meant (Some transaction.now) choice
         ≡ Records entry (turn_of (Some transaction.now) stands)
@@ -280,8 +333,8 @@ pub fn with_answer(
     alloc: Global,
     moment: &Moment,
     transaction: &Transaction,
-    choice: Choice<Transaction>,
-) -> Result<Choice<Transaction>, AllocError>
+    choice: Choice<Transaction, Move>,
+) -> Result<Choice<Transaction, Move>, AllocError>
     ensures { IfOk result
         (λ answered. meant (Some transaction.now) answered
         ≡ with_answer moment.entry.now transaction.now (meant (Some transaction.now) choice)) }

@@ -10,8 +10,9 @@ ghost use Rattle.at_model.specs.Arrivals.{completion_act, completion_notice, on_
 ghost use Rattle.at_model.specs.Moves.{Goes, begin, post, posts, stays};
 ghost use Rattle.at_model.specs.Phases.{go_volatile};
 ghost use Rattle.at_model.specs.Posts.{fault_post, notice_post, to_each};
-ghost use Rattle.by_id.specs.Fates.{meant};
+ghost use Rattle.transaction_at.specs.Moves.{meant};
 
+use crate::moves::Move;
 use crate::phases::{aborts, go_volatile};
 use crate::seats::{only_posts, still};
 use crate::transaction::{Completion, Transaction};
@@ -34,7 +35,7 @@ fn faults(
     arrived: &Arrived,
     completion: &Completion,
     fault: Fault,
-) -> Result<Choice<Transaction>, AllocError>
+) -> Result<Choice<Transaction, Move>, AllocError>
     ensures { (transaction : Known) → IfOk result
         (λ choice. meant (Some transaction) choice
         ≡ Goes (stays (post (fault_post (Some completion.now.initiator) arrived.now.id fault) (begin transaction)))) }
@@ -73,7 +74,7 @@ fn completes(
     moment: &Moment,
     completion: &Completion,
     transaction: &Transaction,
-) -> Result<Choice<Transaction>, AllocError>
+) -> Result<Choice<Transaction, Move>, AllocError>
     ensures { IfOk result
         (λ choice. meant (Some transaction.now) choice
         ≡ go_volatile moment.entry.now
@@ -112,7 +113,7 @@ fn answers_committed(
     moment: &Moment,
     arrived: &Arrived,
     transaction: &Transaction,
-) -> Result<Choice<Transaction>, AllocError>
+) -> Result<Choice<Transaction, Move>, AllocError>
     ensures { IfOk result
         (λ choice. meant (Some transaction.now) choice
         ≡ Goes (stays (posts (to_each arrived.now.from
@@ -133,7 +134,7 @@ fn acts(
     completion: &Completion,
     transaction: &Transaction,
     act: Act,
-) -> Result<Choice<Transaction>, AllocError>
+) -> Result<Choice<Transaction, Move>, AllocError>
     ensures { IfOk result
         (λ choice. meant (Some transaction.now) choice
         ≡ completion_act moment.entry.now arrived.now.from arrived.now.id completion.now transaction.now act) }
@@ -175,7 +176,7 @@ fn notified(
     completion: &Completion,
     transaction: &Transaction,
     notice: Notice,
-) -> Result<Choice<Transaction>, AllocError>
+) -> Result<Choice<Transaction, Move>, AllocError>
     ensures { IfOk result
         (λ choice. meant (Some transaction.now) choice
         ≡ completion_notice moment.entry.now arrived.now.from arrived.now.id completion.now transaction.now
@@ -195,7 +196,7 @@ pub fn on_completion(
     arrived: &Arrived,
     transaction: &Transaction,
     completion: &Completion,
-) -> Result<Choice<Transaction>, AllocError>
+) -> Result<Choice<Transaction, Move>, AllocError>
     ensures { IfOk result
         (λ choice. meant (Some transaction.now) choice
         ≡ on_completion moment.entry.now arrived.now transaction.now completion.now arrived.now.message) }

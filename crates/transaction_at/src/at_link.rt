@@ -17,13 +17,14 @@ ghost use Rattle.at_model.specs.Phases.{go_volatile, upwards};
 ghost use Rattle.at_model.specs.Posts.{fault_post, stored_or, stranger_post, to_each};
 ghost use Rattle.at_model.specs.Seats.{link_in, link_of, sent_now, set_link, under};
 ghost use Rattle.at_tables.specs.Names.{is_state};
-ghost use Rattle.by_id.specs.Fates.{meant};
+ghost use Rattle.transaction_at.specs.Moves.{meant};
 ghost use Rattle.transaction_at.specs.PhaseNames.{phase_of};
 
 use crate::abort::{Reason, abort};
 use crate::links::{ending, push_upwards};
+use crate::moves::Move;
 use crate::phases::{aborts, commit_seats, go_volatile, or_undone};
-use crate::seats::{happening, is_state, only_posts, posting, sent_now, still};
+use crate::seats::{happening, is_state, only_posts, posting, still};
 use crate::transaction::{Phase, Superior, Transaction};
 use at_base::epr::Epr;
 use at_base::event::{Arrived, Moment};
@@ -50,12 +51,11 @@ fn prepares_again(
     kind: Kind,
     superior: &Superior,
     transaction: &Transaction,
-) -> Result<Choice<Transaction>, AllocError>
+) -> Result<Choice<Transaction, Move>, AllocError>
     ensures { IfOk result
         (λ choice. meant (Some transaction.now) choice
         ≡ Goes (stays (posts (upwards moment.entry.now.base transaction.now.id kind notices.Prepared (link_of kind superior.now)) (become (sent_now moment.entry.now transaction.now) (begin transaction.now))))) }
 {
-    let next = sent_now(moment, transaction)?;
     let mut posts = PostList::new(alloc);
     push_upwards(
         alloc,
@@ -66,7 +66,7 @@ fn prepares_again(
         Notice::Prepared,
         superior.link(kind),
     )?;
-    Ok(Choice::Goes(Turn::silent(alloc, Fate::Put(next), posts)))
+    Ok(Choice::Goes(Turn::silent(alloc, Fate::Move(Move::Sent(moment.now)), posts)))
 }
 
 /// The link answers, to the superior or to the message's From, as one that isn't waited for.
@@ -78,7 +78,7 @@ fn answers(
     superior: &Superior,
     transaction: &Transaction,
     notice: Notice,
-) -> Result<Choice<Transaction>, AllocError>
+) -> Result<Choice<Transaction, Move>, AllocError>
     ensures { IfOk result
         (λ choice. meant (Some transaction.now) choice
         ≡ Goes (stays (posts (to_each (stored_or (link_of kind superior.now).coordinator arrived.now.from)
@@ -123,7 +123,7 @@ fn faults(
     arrived: &Arrived,
     kind: Kind,
     superior: &Superior,
-) -> Result<Choice<Transaction>, AllocError>
+) -> Result<Choice<Transaction, Move>, AllocError>
     ensures { (transaction : Known) → IfOk result
         (λ choice. meant (Some transaction) choice
         ≡ Goes (stays (posts (to_each (stored_or (link_of kind superior.now).coordinator arrived.now.from)
@@ -140,7 +140,7 @@ fn faults_and_aborts(
     kind: Kind,
     superior: &Superior,
     transaction: &Transaction,
-) -> Result<Choice<Transaction>, AllocError>
+) -> Result<Choice<Transaction, Move>, AllocError>
     ensures { IfOk result
         (λ choice. meant (Some transaction.now) choice
         ≡ Goes (abort moment.entry.now (Faulted kind) (posts (to_each (stored_or (link_of kind superior.now).coordinator arrived.now.from)
@@ -183,7 +183,7 @@ fn gathers(
     kind: Kind,
     superior: &Superior,
     transaction: &Transaction,
-) -> Result<Choice<Transaction>, AllocError>
+) -> Result<Choice<Transaction, Move>, AllocError>
     ensures { IfOk result
         (λ choice. meant (Some transaction.now) choice
         ≡ go_volatile moment.entry.now (begin (under (asked kind superior.now) transaction.now))) }
@@ -235,7 +235,7 @@ fn commits(
     moment: &Moment,
     superior: &Superior,
     transaction: &Transaction,
-) -> Result<Choice<Transaction>, AllocError>
+) -> Result<Choice<Transaction, Move>, AllocError>
     ensures { IfOk result
         (λ choice. meant (Some transaction.now) choice
         ≡ commit_voted moment.entry.now superior.now transaction.now) }
@@ -254,7 +254,7 @@ fn rolls_back(
     arrived: &Arrived,
     kind: Kind,
     transaction: &Transaction,
-) -> Result<Choice<Transaction>, AllocError>
+) -> Result<Choice<Transaction, Move>, AllocError>
     ensures { IfOk result
         (λ choice. meant (Some transaction.now) choice
         ≡ Goes (abort moment.entry.now (Asked kind arrived.now.from) (begin transaction.now))) }
@@ -273,7 +273,7 @@ fn rolls_back_voted(
     arrived: &Arrived,
     kind: Kind,
     transaction: &Transaction,
-) -> Result<Choice<Transaction>, AllocError>
+) -> Result<Choice<Transaction, Move>, AllocError>
     ensures { IfOk result
         (λ choice. meant (Some transaction.now) choice
         ≡ Records (records.Ended transaction.now.id)
@@ -296,7 +296,7 @@ fn acts(
     superior: &Superior,
     transaction: &Transaction,
     act: Act,
-) -> Result<Choice<Transaction>, AllocError>
+) -> Result<Choice<Transaction, Move>, AllocError>
     ensures { IfOk result
         (λ choice. meant (Some transaction.now) choice
         ≡ link_act moment.entry.now arrived.now.from arrived.now.id kind superior.now transaction.now act) }
@@ -357,7 +357,7 @@ fn notified(
     superior: &Superior,
     transaction: &Transaction,
     notice: Notice,
-) -> Result<Choice<Transaction>, AllocError>
+) -> Result<Choice<Transaction, Move>, AllocError>
     ensures { IfOk result
         (λ choice. meant (Some transaction.now) choice
         ≡ link_notice moment.entry.now arrived.now.from arrived.now.id kind superior.now transaction.now
@@ -467,7 +467,7 @@ fn link_registered(
     kind: Kind,
     superior: &Superior,
     transaction: &Transaction,
-) -> Result<Choice<Transaction>, AllocError>
+) -> Result<Choice<Transaction, Move>, AllocError>
     ensures { IfOk result
         (λ choice. meant (Some transaction.now) choice
         ≡ link_registered moment.entry.now relates.now coordinator.now kind superior.now transaction.now) }
@@ -490,7 +490,7 @@ fn link_faulted(
     kind: Kind,
     superior: &Superior,
     transaction: &Transaction,
-) -> Result<Choice<Transaction>, AllocError>
+) -> Result<Choice<Transaction, Move>, AllocError>
     ensures { IfOk result
         (λ choice. meant (Some transaction.now) choice
         ≡ link_fault moment.entry.now relates.now kind superior.now transaction.now) }
@@ -511,7 +511,7 @@ pub fn on_link(
     kind: Kind,
     transaction: &Transaction,
     superior: &Superior,
-) -> Result<Choice<Transaction>, AllocError>
+) -> Result<Choice<Transaction, Move>, AllocError>
     ensures { IfOk result
         (λ choice. meant (Some transaction.now) choice
         ≡ on_link moment.entry.now arrived.now kind transaction.now superior.now arrived.now.message) }

@@ -1,6 +1,6 @@
 //! What a message does at a seat of a transaction (WS-AtomicTransaction 1.2, section 10).
 
-ghost use Rattle.std.specs.Prelude.{◌≡◌, ◌∷◌, IfOk, [], Some, if◌then◌else◌};
+ghost use Rattle.std.specs.Prelude.{◌≡◌, ◌∷◌, IfOk, [], Some, true, if◌then◌else◌};
 ghost use Rattle.at_base.specs.declared.fault.Fault.TheVariants.{InvalidState};
 ghost use Rattle.at_base.specs.declared.notice.Notice.TheVariants as notices;
 ghost use Rattle.at_tables.specs.Tables.{coordinator_of};
@@ -12,15 +12,17 @@ ghost use Rattle.at_model.specs.Moves.{Goes, begin, post, stays};
 ghost use Rattle.at_model.specs.Phases.{advance};
 ghost use Rattle.at_model.specs.Posts.{fault_post};
 ghost use Rattle.at_model.specs.Seats.{in_state, seat_in};
-ghost use Rattle.by_id.specs.Fates.{meant};
+ghost use Rattle.transaction_at.specs.Moves.{meant};
+ghost use Rattle.transaction_at.specs.Waits.{has_come};
 
-use crate::phases::{aborts, advance};
-use crate::seats::{is_state, only_posts, posting, seat_in, seat_notice, seat_target, sent_now};
-use crate::transaction::{Enlistment, Transaction};
+use crate::moves::Move;
+use crate::phases::{aborts, advance, ends, forgets};
+use crate::seats::{is_state, only_posts, posting, seat_in, seat_notice, seat_target};
+use crate::transaction::{Enlistment, Phase, Transaction};
 use at_base::event::{Arrived, Moment};
 use at_base::fault::Fault;
 use at_base::message::Message;
-use at_base::notice::Notice;
+use at_base::notice::{Kind, Notice};
 use at_posts::list::PostList;
 use at_posts::posts::{fault_post, stranger_post};
 use at_tables::cells::{Act, State, coordinator_cell};
@@ -35,15 +37,14 @@ fn answers(
     notice: Notice,
     transaction: &Transaction,
     seat: &Enlistment,
-) -> Result<Choice<Transaction>, AllocError>
+) -> Result<Choice<Transaction, Move>, AllocError>
     ensures { IfOk result
         (λ choice. meant (Some transaction.now) choice
         ≡ answer_seat moment.entry.now notice transaction.now seat.now) }
 {
     let message = seat_notice(alloc, moment, transaction.id, seat, notice)?;
     let posts = PostList::alone(alloc, message)?;
-    let next = sent_now(moment, transaction)?;
-    Ok(Choice::Goes(Turn::silent(alloc, Fate::Put(next), posts)))
+    Ok(Choice::Goes(Turn::silent(alloc, Fate::Move(Move::Sent(moment.now)), posts)))
 }
 
 /// The answer of a seat that its participant has left.
@@ -53,7 +54,7 @@ fn answers_left(
     notice: Notice,
     transaction: &Transaction,
     seat: &Enlistment,
-) -> Result<Choice<Transaction>, AllocError>
+) -> Result<Choice<Transaction, Move>, AllocError>
     ensures { IfOk result
         (λ choice. meant (Some transaction.now) choice
         ≡ answer_left_seat moment.entry.now notice transaction.now seat.now) }
@@ -69,7 +70,7 @@ fn answers_rollback(
     moment: &Moment,
     transaction: &Transaction,
     seat: &Enlistment,
-) -> Result<Choice<Transaction>, AllocError>
+) -> Result<Choice<Transaction, Move>, AllocError>
     ensures { IfOk result
         (λ choice. meant (Some transaction.now) choice
         ≡ (if in_state states.None seat.now
@@ -103,7 +104,7 @@ fn faults(
     arrived: &Arrived,
     seat: &Enlistment,
     fault: Fault,
-) -> Result<Choice<Transaction>, AllocError>
+) -> Result<Choice<Transaction, Move>, AllocError>
     ensures { (transaction : Known) → IfOk result
         (λ choice. meant (Some transaction) choice
         ≡ Goes (stays (post (fault_post (Some seat.now.participant) arrived.now.id fault) (begin transaction)))) }
@@ -118,7 +119,7 @@ fn faults_and_aborts(
     arrived: &Arrived,
     transaction: &Transaction,
     seat: &Enlistment,
-) -> Result<Choice<Transaction>, AllocError>
+) -> Result<Choice<Transaction, Move>, AllocError>
     ensures { IfOk result
         (λ choice. meant (Some transaction.now) choice
         ≡ Goes (abort moment.entry.now Alone (post (fault_post (Some seat.now.participant) arrived.now.id InvalidState) (begin transaction.now)))) }
@@ -128,21 +129,75 @@ fn faults_and_aborts(
     aborts(alloc, moment, posting(alloc, next, posts))
 }
 
-/// The seat is in this state, and the transaction goes on.
+/// The seat is in this state, and nothing else is done.
+fn goes_into(alloc: Global, number: u16, state: State) -> Choice<Transaction, Move>
+    ensures { (transaction : Known) → meant (Some transaction) result
+        ≡ Goes (stays (begin (seat_in number state transaction))) }
+{
+    let by = Move::Seat { number, state };
+    Choice::Goes(Turn::silent(alloc, Fate::Move(by), PostList::new(alloc)))
+}
+
+/// Whether what the transaction's phase waits for has come, once the seat of this number is in this state.
+fn has_come(transaction: &Transaction, number: u16, state: State) -> bool
+    ensures { result ≡ has_come transaction.now.phase (seat_in number state transaction.now).seats }
+{
+    match transaction.phase {
+        Phase::Registering | Phase::Active | Phase::Voted => false,
+        Phase::Volatile => transaction
+            .seats
+            .answered_after(number, state, Kind::Volatile),
+        Phase::Durable => transaction
+            .seats
+            .answered_after(number, state, Kind::Durable),
+        Phase::Committing => transaction.seats.all_left_after(number, state),
+        Phase::Aborting => !transaction.seats.is_aborting_after(number, state),
+    }
+}
+
+/// The seat is in this state, and with it what the transaction's phase waits for has come.
+#[tactic(auto, using(crate::proofs::Waits::all_left_ends, crate::proofs::Waits::rolled_back_ends))]
+fn goes_on(
+    alloc: Global,
+    moment: &Moment,
+    transaction: &Transaction,
+    number: u16,
+    state: State,
+) -> Result<Choice<Transaction, Move>, AllocError>
+    requires { has_come transaction.now.phase (seat_in number state transaction.now).seats ≡ true }
+    ensures { IfOk result
+        (λ choice. meant (Some transaction.now) choice
+        ≡ advance moment.entry.now (begin (seat_in number state transaction.now))) }
+{
+    match transaction.phase {
+        Phase::Committing => ends(alloc, moment, transaction),
+        Phase::Aborting => Ok(forgets(alloc)),
+        Phase::Registering | Phase::Active | Phase::Volatile | Phase::Durable | Phase::Voted => {
+            let next = seat_in(transaction, number, state)?;
+            let choice = advance(alloc, moment, Moving::begin(alloc, next))?;
+            Ok(choice)
+        }
+    }
+}
+
+/// The seat is in this state, and the transaction goes on, where what its phase waits for has come.
+#[tactic(auto, using(crate::proofs::Waits::waits_on))]
 fn moves(
     alloc: Global,
     moment: &Moment,
     transaction: &Transaction,
     seat: &Enlistment,
     state: State,
-) -> Result<Choice<Transaction>, AllocError>
+) -> Result<Choice<Transaction, Move>, AllocError>
     ensures { IfOk result
         (λ choice. meant (Some transaction.now) choice
         ≡ advance moment.entry.now (begin (seat_in seat.now.number state transaction.now))) }
 {
-    let next = seat_in(transaction, seat.number, state)?;
-    let choice = advance(alloc, moment, Moving::begin(alloc, next))?;
-    Ok(choice)
+    if has_come(transaction, seat.number, state) {
+        goes_on(alloc, moment, transaction, seat.number, state)
+    } else {
+        Ok(goes_into(alloc, seat.number, state))
+    }
 }
 
 /// The participant leaves its seat, and the transaction aborts.
@@ -151,7 +206,7 @@ fn leaves_and_aborts(
     moment: &Moment,
     transaction: &Transaction,
     seat: &Enlistment,
-) -> Result<Choice<Transaction>, AllocError>
+) -> Result<Choice<Transaction, Move>, AllocError>
     ensures { IfOk result
         (λ choice. meant (Some transaction.now) choice
         ≡ Goes (abort moment.entry.now Alone (begin (seat_in seat.now.number states.None transaction.now)))) }
@@ -170,7 +225,7 @@ fn acts(
     transaction: &Transaction,
     seat: &Enlistment,
     act: Act,
-) -> Result<Choice<Transaction>, AllocError>
+) -> Result<Choice<Transaction, Move>, AllocError>
     ensures { IfOk result
         (λ choice. meant (Some transaction.now) choice
         ≡ seat_act moment.entry.now arrived.now.id transaction.now seat.now act) }
@@ -213,7 +268,7 @@ fn notified(
     transaction: &Transaction,
     seat: &Enlistment,
     notice: Notice,
-) -> Result<Choice<Transaction>, AllocError>
+) -> Result<Choice<Transaction, Move>, AllocError>
     ensures { IfOk result
         (λ choice. meant (Some transaction.now) choice
         ≡ seat_notice moment.entry.now arrived.now.id transaction.now seat.now
@@ -233,7 +288,7 @@ pub fn on_seat(
     arrived: &Arrived,
     transaction: &Transaction,
     seat: &Enlistment,
-) -> Result<Choice<Transaction>, AllocError>
+) -> Result<Choice<Transaction, Move>, AllocError>
     ensures { IfOk result
         (λ choice. meant (Some transaction.now) choice
         ≡ on_seat moment.entry.now arrived.now transaction.now seat.now arrived.now.message) }

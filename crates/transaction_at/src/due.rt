@@ -4,11 +4,12 @@
 ghost use Rattle.std.specs.Prelude.{ℕ, List, ◌≡◌, ◌&&◌};
 ghost use Rattle.at_base.specs.Numbers.{Numbers};
 ghost use Rattle.at_base.specs.declared.notice.Kind.{Kind};
-ghost use Rattle.at_model.specs.Due.{has_come, is_quiet, is_over, may_expire, is_aborting, unanswered_seat, is_some_post, seats_again, link_again, links_again, transaction_again, transaction_due};
+ghost use Rattle.at_model.specs.Due.{has_come, is_quiet, is_over, may_expire, is_aborting, unanswered_seat, is_some_post, link_again, links_again, transaction_again, transaction_due};
 ghost use Rattle.transaction_at.specs.Causes.{reached_of};
 ghost use Rattle.transaction_at.specs.PhaseNames.{phase_of};
 
-use crate::transaction::{Enlistment, Link, Phase, Request, Superior, Transaction};
+use crate::moves::Move;
+use crate::transaction::{Link, Phase, Request, Superior, Transaction};
 use at_base::event::Moment;
 use at_base::id::Id;
 use at_base::limits::ABORTING_FOR;
@@ -83,18 +84,6 @@ pub fn unanswered_seat(state: State) -> Option<Notice>
     }
 }
 
-/// Whether a seat hasn't answered.
-fn do_seats_wait(seats: &[Enlistment]) -> bool
-    ensures { (base : List ℕ) (id : Numbers) → result ≡ is_some_post (seats_again base id seats.now) }
-{
-    for seat in seats {
-        if unanswered_seat(seat.state).is_some() {
-            return true;
-        }
-    }
-    false
-}
-
 /// Whether a link waits for an answer to what it can send again.
 fn does_link_wait(request: &Option<Request>, link: &Link) -> bool
     ensures { (base : List ℕ) (id : Numbers) (kind : Kind) → result ≡ is_some_post (link_again base id kind request.now link.now) }
@@ -130,7 +119,7 @@ fn do_links_wait(superior: &Option<Superior>) -> bool
 fn waits(transaction: &Transaction) -> bool
     ensures { (base : List ℕ) → result ≡ is_some_post (transaction_again base transaction.now) }
 {
-    do_links_wait(&transaction.superior) || do_seats_wait(transaction.seats.as_slice())
+    do_links_wait(&transaction.superior) || transaction.seats.is_awaited()
 }
 
 /// Whether a transaction has expired.
@@ -177,10 +166,15 @@ impl Identified for Transaction {
     ghost use Rattle.at_model.specs.Book.{transaction_id};
     ghost use Rattle.at_model.specs.Due.{transaction_due};
     ghost use Rattle.at_model.specs.Step.{is_reached};
+    ghost use Rattle.transaction_at.specs.Moves.{moved};
+
+    type Move = Move;
 
     ghost id_of = { transaction_id };
 
     ghost is_due_at = { λ m t. is_reached (transaction_due m t) };
+
+    ghost moved = { moved };
 
     fn id(&self) -> Id {
         self.id
@@ -191,5 +185,9 @@ impl Identified for Transaction {
             Cause::Expired | Cause::Over | Cause::Unanswered => true,
             Cause::Nothing => false,
         }
+    }
+
+    fn make(&mut self, by: Move) {
+        by.make(self);
     }
 }

@@ -1,6 +1,6 @@
 //! The phases of a transaction, from the first Prepare to the end (WS-AtomicTransaction 1.2, section 3.3).
 
-ghost use Rattle.std.specs.Prelude.{◌≡◌, IfOk, OnOk, Option, Some, None};
+ghost use Rattle.std.specs.Prelude.{◌≡◌, ◌++◌, [], IfOk, OnOk, Option, Some, None};
 ghost use Rattle.at_model.specs.Book.{Phase as Stage, Transaction as Known};
 ghost use Rattle.at_base.specs.declared.notice.Notice.TheVariants as notices;
 ghost use Rattle.at_base.specs.declared.record.Record.TheVariants as records;
@@ -10,11 +10,12 @@ ghost use Rattle.at_model.specs.Seats.{link_in, prepared};
 ghost use Rattle.at_tables.specs.declared.cells.State.TheVariants as states;
 ghost use Rattle.at_base.specs.declared.notice.Kind.TheVariants as kinds;
 ghost use Rattle.at_model.specs.Phases.{commit_seats, committed, decided, root_answered, voted, sub_answered, durable_answered, if_durable_answered, prepare_seats, go_durable, volatile_answered, ended_posts, all_committed, advance, advance_in, upwards, go_volatile};
-ghost use Rattle.by_id.specs.Fates.{meant, turn_of};
+ghost use Rattle.transaction_at.specs.Moves.{meant, turn_of};
 
 use crate::abort::{Reason, abort, until_rolled_back};
 use crate::links::{ending, push_upwards, tell_initiator};
-use crate::seats::{Group, all_left, has_prepared, is_state, prepared, send_each};
+use crate::moves::Move;
+use crate::seats::{Group, has_prepared, is_state, prepared, send_each};
 use crate::transaction::{Phase, Superior, Transaction};
 use at_base::epr::Epr;
 use at_base::event::Moment;
@@ -23,8 +24,9 @@ use at_base::message::cloned_option;
 use at_base::notice::{Kind, Notice};
 use at_base::outs::Ending;
 use at_base::record::{Record, Seats};
+use at_posts::list::PostList;
 use at_tables::cells::State;
-use by_id::fates::{Choice, Turn};
+use by_id::fates::{Choice, Fate, Turn};
 use by_id::moves::Moving;
 use std::alloc::{AllocError, Global};
 
@@ -68,7 +70,7 @@ fn committed(
     alloc: Global,
     moment: &Moment,
     mut moving: Moving<Transaction>,
-) -> Result<Turn<Transaction>, AllocError>
+) -> Result<Turn<Transaction, Move>, AllocError>
     ensures { (found : Option Known) → IfOk result
         (λ turn. turn_of found turn ≡ committed moment.entry.now moving) }
 {
@@ -86,7 +88,7 @@ fn absent_abort(
     alloc: Global,
     moment: &Moment,
     moving: &Moving<Transaction>,
-) -> Result<Turn<Transaction>, AllocError>
+) -> Result<Turn<Transaction, Move>, AllocError>
     ensures { (found : Option Known) → IfOk result
         (λ turn. turn_of found turn ≡ abort moment.entry.now Alone moving.now) }
 {
@@ -124,7 +126,7 @@ fn root_answered(
     alloc: Global,
     moment: &Moment,
     moving: Moving<Transaction>,
-) -> Result<Choice<Transaction>, AllocError>
+) -> Result<Choice<Transaction, Move>, AllocError>
     ensures { (found : Option Known) → IfOk result
         (λ choice. meant found choice ≡ root_answered moment.entry.now moving) }
 {
@@ -190,7 +192,7 @@ fn standing_vote(
     moment: &Moment,
     superior: &Superior,
     moving: &Moving<Transaction>,
-) -> Result<Turn<Transaction>, AllocError>
+) -> Result<Turn<Transaction, Move>, AllocError>
     ensures { (found : Option Known) → IfOk result
         (λ turn. turn_of found turn ≡ stays (voted moment.entry.now superior.now moving.now)) }
 {
@@ -205,7 +207,7 @@ fn votes_read_only(
     moment: &Moment,
     superior: &Superior,
     mut moving: Moving<Transaction>,
-) -> Result<Choice<Transaction>, AllocError>
+) -> Result<Choice<Transaction, Move>, AllocError>
     ensures { (found : Option Known) → IfOk result
         (λ choice. meant found choice
         ≡ Goes (forgotten (posts (upwards moment.entry.now.base moving.item.id kinds.Durable notices.ReadOnly superior.now.durable) moving))) }
@@ -248,7 +250,7 @@ fn records_vote(
     superior: &Superior,
     coordinator: &Epr,
     moving: &Moving<Transaction>,
-) -> Result<Choice<Transaction>, AllocError>
+) -> Result<Choice<Transaction, Move>, AllocError>
     ensures { (found : Option Known) → IfOk result
         (λ choice. meant found choice
         ≡ Records (records.Voted moving.now.item.id coordinator.now (prepared moving.now.item.seats))
@@ -273,7 +275,7 @@ fn votes(
     superior: &Superior,
     coordinator: &Epr,
     moving: Moving<Transaction>,
-) -> Result<Choice<Transaction>, AllocError>
+) -> Result<Choice<Transaction, Move>, AllocError>
     ensures { (found : Option Known) → IfOk result
         (λ choice. meant found choice
         ≡ sub_answered moment.entry.now superior.now (Some coordinator.now) moving) }
@@ -293,7 +295,7 @@ fn sub_answered(
     moment: &Moment,
     superior: &Superior,
     moving: Moving<Transaction>,
-) -> Result<Choice<Transaction>, AllocError>
+) -> Result<Choice<Transaction, Move>, AllocError>
     ensures { (found : Option Known) → IfOk result
         (λ choice. meant found choice
         ≡ sub_answered moment.entry.now superior.now superior.now.durable.coordinator moving) }
@@ -309,7 +311,7 @@ pub fn aborts(
     alloc: Global,
     moment: &Moment,
     moving: Moving<Transaction>,
-) -> Result<Choice<Transaction>, AllocError>
+) -> Result<Choice<Transaction, Move>, AllocError>
     ensures { (found : Option Known) → IfOk result
         (λ choice. meant found choice ≡ Goes (abort moment.entry.now Alone moving)) }
 {
@@ -321,7 +323,7 @@ fn durable_answered(
     alloc: Global,
     moment: &Moment,
     moving: Moving<Transaction>,
-) -> Result<Choice<Transaction>, AllocError>
+) -> Result<Choice<Transaction, Move>, AllocError>
     ensures { (found : Option Known) → IfOk result
         (λ choice. meant found choice ≡ durable_answered moment.entry.now moving.item.superior moving) }
 {
@@ -337,7 +339,7 @@ fn if_durable_answered(
     alloc: Global,
     moment: &Moment,
     moving: Moving<Transaction>,
-) -> Result<Choice<Transaction>, AllocError>
+) -> Result<Choice<Transaction, Move>, AllocError>
     ensures { (found : Option Known) → IfOk result
         (λ choice. meant found choice ≡ if_durable_answered moment.entry.now moving) }
 {
@@ -377,7 +379,7 @@ fn go_durable(
     alloc: Global,
     moment: &Moment,
     mut moving: Moving<Transaction>,
-) -> Result<Choice<Transaction>, AllocError>
+) -> Result<Choice<Transaction, Move>, AllocError>
     ensures { (found : Option Known) → IfOk result
         (λ choice. meant found choice ≡ go_durable moment.entry.now moving) }
 {
@@ -401,7 +403,7 @@ fn answers_volatile_link(
     moment: &Moment,
     mut superior: Superior,
     mut moving: Moving<Transaction>,
-) -> Result<Choice<Transaction>, AllocError>
+) -> Result<Choice<Transaction, Move>, AllocError>
     ensures { (found : Option Known) → IfOk result
         (λ choice. meant found choice
         ≡ Goes (stays (posts (upwards moment.entry.now.base moving.item.id kinds.Volatile notices.ReadOnly superior.volatile)
@@ -431,7 +433,7 @@ fn sub_volatile_answered(
     moment: &Moment,
     superior: Superior,
     moving: Moving<Transaction>,
-) -> Result<Choice<Transaction>, AllocError>
+) -> Result<Choice<Transaction, Move>, AllocError>
     ensures { (found : Option Known) → IfOk result
         (λ choice. meant found choice ≡ volatile_answered moment.entry.now (Some superior) moving) }
 {
@@ -451,7 +453,7 @@ fn volatile_answered(
     alloc: Global,
     moment: &Moment,
     moving: Moving<Transaction>,
-) -> Result<Choice<Transaction>, AllocError>
+) -> Result<Choice<Transaction, Move>, AllocError>
     ensures { (found : Option Known) → IfOk result
         (λ choice. meant found choice ≡ volatile_answered moment.entry.now moving.item.superior moving) }
 {
@@ -468,7 +470,7 @@ fn if_volatile_answered(
     alloc: Global,
     moment: &Moment,
     moving: Moving<Transaction>,
-) -> Result<Choice<Transaction>, AllocError>
+) -> Result<Choice<Transaction, Move>, AllocError>
     ensures { (found : Option Known) → IfOk result
         (λ choice. meant found choice ≡ advance_in moment.entry.now Stage.Volatile moving) }
 {
@@ -477,6 +479,30 @@ fn if_volatile_answered(
     } else {
         Ok(Choice::Goes(moving.stays()))
     }
+}
+
+/// Adds Committed to the superior, where there is one.
+fn push_ended(
+    alloc: Global,
+    posts: &mut PostList,
+    moment: &Moment,
+    id: Id,
+    superior: &Option<Superior>,
+) -> Result<(), AllocError>
+    ensures { OnOk result (posts.new ≡ posts.old ++ ended_posts moment.entry.now.base id superior.now) }
+{
+    let Some(superior) = superior else {
+        return Ok(());
+    };
+    push_upwards(
+        alloc,
+        posts,
+        moment,
+        id,
+        Kind::Durable,
+        Notice::Committed,
+        &superior.durable,
+    )
 }
 
 /// Committed to the superior, where there is one.
@@ -489,23 +515,17 @@ fn tell_superior(
         (moving.new
         ≡ posts (ended_posts moment.entry.now.base moving.old.item.id moving.old.item.superior) moving.old) }
 {
-    let id = moving.item.id;
-    let Some(superior) = &moving.item.superior else {
-        return Ok(());
-    };
-    push_upwards(
+    push_ended(
         alloc,
         &mut moving.posts,
         moment,
-        id,
-        Kind::Durable,
-        Notice::Committed,
-        &superior.durable,
+        moving.item.id,
+        &moving.item.superior,
     )
 }
 
 /// What is done behind a record, and undone where that is absent.
-pub fn or_undone(entry: Record, stands: Turn<Transaction>) -> Choice<Transaction>
+pub fn or_undone(entry: Record, stands: Turn<Transaction, Move>) -> Choice<Transaction, Move>
     ensures { (found : Option Known) → meant found result
         ≡ Records entry (turn_of found stands) None }
 {
@@ -522,7 +542,7 @@ fn all_committed(
     alloc: Global,
     moment: &Moment,
     mut moving: Moving<Transaction>,
-) -> Result<Choice<Transaction>, AllocError>
+) -> Result<Choice<Transaction, Move>, AllocError>
     ensures { (found : Option Known) → IfOk result
         (λ choice. meant found choice ≡ all_committed moment.entry.now moving) }
 {
@@ -531,17 +551,49 @@ fn all_committed(
     Ok(or_undone(Record::Ended { id }, moving.forgotten()))
 }
 
+/// Every durable seat has left after the decision, and the transaction is forgotten as it stands.
+pub fn ends(
+    alloc: Global,
+    moment: &Moment,
+    transaction: &Transaction,
+) -> Result<Choice<Transaction, Move>, AllocError>
+    ensures { (found : Option Known) → IfOk result
+        (λ choice. meant found choice
+        ≡ Records (records.Ended transaction.now.id)
+        (record {
+          item = None;
+          posts = ended_posts moment.entry.now.base transaction.now.id transaction.now.superior;
+          effects = [];
+        }) None) }
+{
+    let id = transaction.id;
+    let mut posts = PostList::new(alloc);
+    push_ended(alloc, &mut posts, moment, id, &transaction.superior)?;
+    Ok(or_undone(
+        Record::Ended { id },
+        Turn::silent(alloc, Fate::Forget, posts),
+    ))
+}
+
+/// The transaction is forgotten, and nothing is sent.
+pub fn forgets(alloc: Global) -> Choice<Transaction, Move>
+    ensures { (found : Option Known) → meant found result
+        ≡ Goes (record { item = None; posts = []; effects = [] }) }
+{
+    Choice::Goes(Turn::silent(alloc, Fate::Forget, PostList::new(alloc)))
+}
+
 /// What follows once every durable seat has left.
 #[tactic(auto, unfolding(at_model::specs::Phases::advance_in))]
 fn if_all_left(
     alloc: Global,
     moment: &Moment,
     moving: Moving<Transaction>,
-) -> Result<Choice<Transaction>, AllocError>
+) -> Result<Choice<Transaction, Move>, AllocError>
     ensures { (found : Option Known) → IfOk result
         (λ choice. meant found choice ≡ advance_in moment.entry.now Stage.Committing moving) }
 {
-    if all_left(moving.item.seats.as_slice()) {
+    if moving.item.seats.all_left() {
         all_committed(alloc, moment, moving)
     } else {
         Ok(Choice::Goes(moving.stays()))
@@ -554,7 +606,7 @@ pub fn advance(
     alloc: Global,
     moment: &Moment,
     moving: Moving<Transaction>,
-) -> Result<Choice<Transaction>, AllocError>
+) -> Result<Choice<Transaction, Move>, AllocError>
     ensures { (found : Option Known) → IfOk result
         (λ choice. meant found choice ≡ advance moment.entry.now moving) }
 {
@@ -573,7 +625,7 @@ pub fn go_volatile(
     alloc: Global,
     moment: &Moment,
     mut moving: Moving<Transaction>,
-) -> Result<Choice<Transaction>, AllocError>
+) -> Result<Choice<Transaction, Move>, AllocError>
     ensures { (found : Option Known) → IfOk result
         (λ choice. meant found choice ≡ go_volatile moment.entry.now moving) }
 {

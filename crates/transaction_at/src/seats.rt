@@ -1,15 +1,19 @@
 //! The seats of a transaction: tests, and small changes.
 
-ghost use Rattle.std.specs.Prelude.{◌≡◌, ◌++◌, IfOk, OnOk, Some};
+ghost use Rattle.std.specs.Prelude.{◌≡◌, ◌++◌, ◌||◌, IfOk, OnOk, Some};
 ghost use Rattle.std.specs.List.{list_any};
 ghost use Rattle.at_tables.specs.Names.{state_place, is_state};
+ghost use Rattle.at_tables.specs.declared.cells.State.TheVariants as states;
 ghost use Rattle.at_model.specs.Book.{Transaction as Known};
 ghost use Rattle.at_model.specs.Moves.{Goes, begin, effect, posts, stays};
 ghost use Rattle.at_model.specs.Posts.{notice_post};
-ghost use Rattle.at_model.specs.Seats.{is_of, is_open, all_left, is_prepared_durable, prepared, seated, seat_target, notices_to, sent_to, send_each, seat_in, sent_now, moved};
-ghost use Rattle.by_id.specs.Fates.{meant};
-ghost use Rattle.transaction_at.specs.Groups.{belongs};
+ghost use Rattle.at_model.specs.Seats.{is_prepared_durable, prepared, seated, seat_target, notices_to, sent_to, send_each, seat_in, moved};
+ghost use Rattle.transaction_at.specs.Groups.{belongs, stands};
+ghost use Rattle.transaction_at.specs.Moves.{meant};
+ghost use Rattle.transaction_at.specs.declared.seats.Group.TheVariants as groups;
 
+use crate::due::unanswered_seat;
+use crate::moves::Move;
 use crate::transaction::{Enlistment, Transaction};
 use at_base::event::Moment;
 use at_base::id::Id;
@@ -37,8 +41,8 @@ pub enum Group {
     Unanswered(Kind),
     /// Durable, and not left.
     DurableStaying,
-    /// Of this number.
-    Numbered(u16),
+    /// Asked, and not yet answered.
+    Asked,
 }
 
 /// The place of a state in the order of the states.
@@ -66,38 +70,48 @@ pub fn is_state(state: State, other: State) -> bool
     place(state) == place(other)
 }
 
-/// Whether an abort rolls a seat back.
-fn is_open(seat: &Enlistment) -> bool
-    ensures { result ≡ is_open seat.now }
+/// Whether an abort rolls back a seat in this state.
+fn is_open(state: State) -> bool
+    ensures { result
+        ≡ (is_state state states.Active || is_state state states.Preparing || is_state state states.Prepared) }
 {
-    is_state(seat.state, State::Active)
-        || is_state(seat.state, State::Preparing)
-        || is_state(seat.state, State::Prepared)
+    is_state(state, State::Active)
+        || is_state(state, State::Preparing)
+        || is_state(state, State::Prepared)
 }
 
-/// Whether a seat has this kind and this state.
-fn is_of(seat: &Enlistment, kind: Kind, state: State) -> bool
-    ensures { result ≡ is_of kind state seat.now }
+/// Whether two kinds and two states are the same.
+fn is_of(kind: Kind, state: State, other: Kind, same: State) -> bool
+    ensures { result ≡ stands (groups.Of other same) kind state }
 {
-    is_kind(seat.kind, kind) && is_state(seat.state, state)
+    is_kind(kind, other) && is_state(state, same)
+}
+
+/// Whether a seat of this kind, in this state, is in the group.
+pub fn stands(kind: Kind, state: State, group: Group) -> bool
+    ensures { result ≡ stands group kind state }
+{
+    match group {
+        Group::Open => is_open(state),
+        Group::In(other) => is_state(state, other),
+        Group::Of {
+            kind: other,
+            state: same,
+        } => is_of(kind, state, other, same),
+        Group::Unanswered(other) => {
+            is_of(kind, state, other, State::Active) || is_of(kind, state, other, State::Preparing)
+        }
+        Group::DurableStaying => is_kind(kind, Kind::Durable) && !is_state(state, State::None),
+        Group::Asked => unanswered_seat(state).is_some(),
+    }
 }
 
 /// Whether a seat is in the group.
+#[tactic(auto, using(crate::proofs::SeatCounts::stands_so))]
 pub fn belongs(seat: &Enlistment, group: Group) -> bool
     ensures { result ≡ belongs group seat.now }
 {
-    match group {
-        Group::Open => is_open(seat),
-        Group::In(state) => is_state(seat.state, state),
-        Group::Of { kind, state } => is_of(seat, kind, state),
-        Group::Unanswered(kind) => {
-            is_of(seat, kind, State::Active) || is_of(seat, kind, State::Preparing)
-        }
-        Group::DurableStaying => {
-            is_kind(seat.kind, Kind::Durable) && !is_state(seat.state, State::None)
-        }
-        Group::Numbered(number) => seat.number == number,
-    }
+    stands(seat.kind, seat.state, group)
 }
 
 /// Whether a seat of the group is among these.
@@ -110,13 +124,6 @@ pub fn has_any(seats: &[Enlistment], group: Group) -> bool
         }
     }
     false
-}
-
-/// Whether every durable seat has left.
-pub fn all_left(seats: &[Enlistment]) -> bool
-    ensures { result ≡ all_left seats.now }
-{
-    !has_any(seats, Group::DurableStaying)
 }
 
 /// Whether a durable seat voted Prepared.
@@ -148,7 +155,7 @@ pub fn prepared(alloc: Global, seats: &[Enlistment]) -> Result<Seats, AllocError
 {
     let mut list = Seats::from_vec(Vec::new(alloc));
     for seat in seats {
-        if is_of(seat, Kind::Durable, State::Prepared) {
+        if belongs(seat, PREPARED_DURABLE) {
             list.push(seated(seat)?)?;
         }
     }
@@ -265,16 +272,7 @@ pub fn seat_in(
     ensures { IfOk result (λ next. next ≡ seat_in number state transaction.now) }
 {
     let mut next = transaction.clone()?;
-    next.seats.move_each(Group::Numbered(number), state);
-    Ok(next)
-}
-
-/// A copy of the transaction that has sent now.
-pub fn sent_now(moment: &Moment, transaction: &Transaction) -> Result<Transaction, AllocError>
-    ensures { IfOk result (λ next. next ≡ sent_now moment.entry.now transaction.now) }
-{
-    let mut next = transaction.clone()?;
-    next.sent = Some(moment.now);
+    next.seats.set_state(number, state);
     Ok(next)
 }
 
@@ -286,7 +284,7 @@ pub fn still(alloc: Global, transaction: &Transaction) -> Result<Moving<Transact
 }
 
 /// This is posted, and the transaction stays as it is.
-pub fn only_posts(alloc: Global, list: PostList) -> Choice<Transaction>
+pub fn only_posts(alloc: Global, list: PostList) -> Choice<Transaction, Move>
     ensures { (transaction : Known) → meant (Some transaction) result
         ≡ Goes (stays (posts list (begin transaction))) }
 {

@@ -1,13 +1,21 @@
 //! A transaction: its phase, its participants' seats, its initiator, and what makes it a subordinate.
 
-ghost use Rattle.std.specs.Prelude.{◌≡◌, ◌++◌, ◌∷◌, [], IfOk, OnOk, OnErr, if◌then◌else◌, option_copied};
-ghost use Rattle.at_model.specs.Seats.{answered, moved};
+ghost use Rattle.std.specs.Prelude.{ℕ, List, ◌≡◌, ◌≤◌, ◌<◌, ◌+◌, ◌++◌, ◌∷◌, [], IfOk, OnOk, OnErr, if◌then◌else◌, length, option_copied, true};
+ghost use Rattle.std.specs.List.{list_any};
+ghost use Rattle.std.specs.Vec.{vec_capacity};
+ghost use Rattle.at_base.specs.Numbers.{Numbers};
+ghost use Rattle.at_tables.specs.declared.cells.State.TheVariants as states;
+ghost use Rattle.at_model.specs.Due.{is_some_post, seats_again};
+ghost use Rattle.at_model.specs.Seats.{all_left, answered, in_state, moved};
 ghost use Rattle.at_model.specs.Step.{find_seat};
-ghost use Rattle.transaction_at.specs.Counts.{unanswered};
+ghost use Rattle.transaction_at.specs.Counts.{counted};
 ghost use Rattle.transaction_at.specs.Groups.{belongs};
-ghost use Rattle.transaction_at.specs.declared.seats.Group.TheVariants as groups;
+ghost use Rattle.transaction_at.specs.Numbers.{is_numbered};
+ghost use Rattle.transaction_at.specs.Rooms.{has_room, room_of};
 
-use crate::places::Places;
+use crate::counts::{Counts, counted};
+use crate::numbers::{counts_after, is_next, seat, set_state};
+use crate::room::{Room, room_of};
 use crate::seats::{Group, belongs};
 use at_base::epr::{Epr, Reply};
 use at_base::id::Id;
@@ -70,59 +78,39 @@ impl Clone for Enlistment {
 }
 
 /// The seats of one transaction, in the order of registration, at most 512.
+///
+/// A message at one seat costs a halving, and what all seats are asked is counted. There is room for some more, which is
+/// taken while a Register is planned.
 #[derive(Debug, Drop)]
 pub struct Seats {
     items: Vec<Enlistment>,
-    /// How many volatile ones are Active or Preparing.
-    volatile: usize,
-    /// How many durable ones are Active or Preparing.
-    durable: usize,
-    /// Where each stands among them.
-    places: Places,
+    counts: Counts,
+    /// Whether their numbers rise, as they do in every node.
+    rising: bool,
 }
 
 impl Model for Seats {
-    ghost use Rattle.std.specs.Prelude.{List, ◌≡◌};
-    ghost use Rattle.at_base.specs.declared.notice.Kind.TheVariants as kinds;
+    ghost use Rattle.std.specs.Prelude.{List, ◌≡◌, ◌≤◌, length, true};
+    ghost use Rattle.std.specs.Vec.{vec_capacity};
     ghost use Rattle.at_model.specs.Book.{Enlistment as Known};
-    ghost use Rattle.transaction_at.specs.Counts.{unanswered};
-    ghost use Rattle.transaction_at.specs.SeatPlaces.{Finds};
+    ghost use Rattle.transaction_at.specs.Counts.{counted};
+    ghost use Rattle.transaction_at.specs.Numbers.{IsRising};
+    ghost use Rattle.transaction_at.specs.Rooms.{room_of};
 
     ghost Value = { List Known };
 
     ghost view = { λ s. s.items.items };
 
     ghost invariant = { λ s.
-        (s.volatile ≡ unanswered kinds.Volatile s.items.items)
-        × (s.durable ≡ unanswered kinds.Durable s.items.items)
-        × Finds s.places s.items.items };
-}
-
-/// Whether a seat of this kind waits for an answer, as a number.
-fn one_if_unanswered(seat: &Enlistment, kind: Kind) -> usize
-    ensures { result ≡ (if belongs (groups.Unanswered kind) seat.now then 1 else 0) }
-{
-    if belongs(seat, Group::Unanswered(kind)) {
-        1
-    } else {
-        0
-    }
-}
-
-/// How many seats of the kind are Active or Preparing.
-fn count_unanswered(seats: &[Enlistment], kind: Kind) -> usize
-    ensures { result ≡ unanswered kind seats.now }
-{
-    let mut count = 0;
-    for seat in seats {
-        count += one_if_unanswered(seat, kind);
-    }
-    count
+        (s.counts ≡ counted s.items.items)
+        × (s.rising ≡ true → IsRising s.items.items)
+        × (room_of (length s.items.items) ≤ vec_capacity s.items) };
 }
 
 /// Moves each seat of the group into this state.
 fn move_each(seats: &mut Vec<Enlistment>, group: Group, state: State)
-    ensures { seats.new.items ≡ moved (belongs group) state seats.old.items }
+    ensures items { seats.new.items ≡ moved (belongs group) state seats.old.items }
+    ensures room { vec_capacity seats.new ≡ vec_capacity seats.old }
 {
     for seat in seats.iter_mut() {
         if belongs(seat, group) {
@@ -131,17 +119,50 @@ fn move_each(seats: &mut Vec<Enlistment>, group: Group, state: State)
     }
 }
 
+/// The same seats, where there is more room for them.
+fn move_into(room: Room, seats: &mut Vec<Enlistment>)
+    requires { length seats.old.items ≤ room }
+    ensures items { seats.new.items ≡ seats.old.items }
+    ensures room { room ≤ vec_capacity seats.new }
+{
+    let mut wider = room.into_vec();
+    let Ok(()) = wider.append(seats) else {
+        unreachable!()
+    };
+    *seats = wider;
+}
+
+/// Sees to it that there is room for one seat more; whether there is.
+#[tactic(auto, using(crate::proofs::Rooms::room_kept, crate::proofs::Rooms::room_enough))]
+fn make_room(seats: &mut Vec<Enlistment>, room: Room) -> bool
+    requires { room_of (length seats.old.items) ≤ vec_capacity seats.old }
+    ensures answer { result ≡ has_room room seats.old.items }
+    ensures items { seats.new.items ≡ seats.old.items }
+    ensures room { room_of (length seats.old.items) ≤ vec_capacity seats.new }
+    ensures more { result ≡ true
+        → (length seats.old.items < vec_capacity seats.new)
+        × (room_of (length seats.old.items + 1) ≤ vec_capacity seats.new) }
+{
+    let count = seats.len();
+    if count < room_of(count) {
+        return true;
+    }
+    if room_of(count + 1) <= room.len() {
+        move_into(room, seats);
+        return true;
+    }
+    false
+}
+
 impl Seats {
     /// No seats.
-    #[tactic(auto, using(crate::proofs::SeatPlaces::none_placed))]
     pub fn new(alloc: Global) -> Seats
         ensures { result ≡ [] }
     {
         Seats {
             items: Vec::new(alloc),
-            volatile: 0,
-            durable: 0,
-            places: Places::new(alloc),
+            counts: Counts::none(),
+            rising: true,
         }
     }
 
@@ -159,82 +180,159 @@ impl Seats {
         self.items.as_slice()
     }
 
-    /// How many seats of the kind are Active or Preparing.
-    fn unanswered(&self, kind: Kind) -> usize
-        ensures { result ≡ unanswered kind self.now }
-    {
-        match kind {
-            Kind::Volatile => self.volatile,
-            Kind::Durable => self.durable,
-        }
-    }
-
     /// Whether each seat of the kind has voted or left: one comparison, whatever the number of seats.
-    #[tactic(auto, using(crate::proofs::Counts::none_unanswered))]
+    #[tactic(auto, using(crate::proofs::SeatCounts::none_unanswered))]
     pub fn answered(&self, kind: Kind) -> bool
         ensures { result ≡ answered kind self.now }
     {
-        self.unanswered(kind) == 0
+        self.counts.unanswered(kind) == 0
+    }
+
+    /// Whether every durable seat has left.
+    #[tactic(auto, using(crate::proofs::SeatCounts::none_staying))]
+    pub fn all_left(&self) -> bool
+        ensures { result ≡ all_left self.now }
+    {
+        self.counts.staying == 0
+    }
+
+    /// Whether a seat is Aborting.
+    #[tactic(auto, using(crate::proofs::SeatCounts::none_aborting))]
+    pub fn is_aborting(&self) -> bool
+        ensures { result ≡ list_any (in_state states.Aborting) self.now }
+    {
+        self.counts.aborting != 0
+    }
+
+    /// Whether a seat was asked and hasn't answered.
+    #[tactic(auto, using(crate::proofs::SeatCounts::none_asked))]
+    pub fn is_awaited(&self) -> bool
+        ensures { (base : List ℕ) (id : Numbers) → result ≡ is_some_post (seats_again base id self.now) }
+    {
+        self.counts.asked != 0
+    }
+
+    /// How the seats count once that of this number is in this state.
+    fn counts_after(&self, number: u16, state: State) -> Counts
+        ensures { result ≡ counted (moved (is_numbered number) state self.now) }
+    {
+        counts_after(
+            self.items.as_slice(),
+            self.counts,
+            self.rising,
+            number,
+            state,
+        )
+    }
+
+    /// Whether each seat of the kind has voted or left, once that of this number is in this state.
+    #[tactic(auto, using(crate::proofs::SeatCounts::none_unanswered))]
+    pub fn answered_after(&self, number: u16, state: State, kind: Kind) -> bool
+        ensures { result ≡ answered kind (moved (is_numbered number) state self.now) }
+    {
+        self.counts_after(number, state).unanswered(kind) == 0
+    }
+
+    /// Whether every durable seat has left, once that of this number is in this state.
+    #[tactic(auto, using(crate::proofs::SeatCounts::none_staying))]
+    pub fn all_left_after(&self, number: u16, state: State) -> bool
+        ensures { result ≡ all_left (moved (is_numbered number) state self.now) }
+    {
+        self.counts_after(number, state).staying == 0
+    }
+
+    /// Whether a seat is Aborting, once that of this number is in this state.
+    #[tactic(auto, using(crate::proofs::SeatCounts::none_aborting))]
+    pub fn is_aborting_after(&self, number: u16, state: State) -> bool
+        ensures { result ≡ list_any (in_state states.Aborting) (moved (is_numbered number) state self.now) }
+    {
+        self.counts_after(number, state).aborting != 0
     }
 
     /// The seat of this number and kind, or the first of them.
-    #[tactic(auto, using(crate::proofs::SeatPlaces::found_within, crate::proofs::SeatPlaces::found_at, crate::proofs::SeatPlaces::found_nowhere))]
     pub fn seat(&self, number: u16, kind: Kind) -> Option<&Enlistment>
         ensures { option_copied result ≡ find_seat number kind self.now }
     {
-        match self.places.place(number, kind) {
-            Some(place) => Some(&self.items[place]),
-            None => None,
+        seat(self.items.as_slice(), self.rising, number, kind)
+    }
+
+    /// Room for one seat more, as far as there isn't any here.
+    #[tactic(auto, using(crate::proofs::Rooms::room_brought))]
+    pub fn room(&self, alloc: Global) -> Result<Room, AllocError>
+        ensures { IfOk result (λ room. has_room room self.now ≡ true) }
+    {
+        let count = self.items.len();
+        let needed = if count < room_of(count) {
+            0
+        } else {
+            room_of(count + 1)
+        };
+        Room::new(alloc, needed)
+    }
+
+    /// Adds one at the end, where there is room here or there; whether there is. It takes no memory.
+    #[tactic(auto, using(crate::proofs::SeatCounts::small))]
+    pub fn enlist(&mut self, seat: Enlistment, room: Room) -> bool
+        ensures answer { result ≡ has_room room self.old }
+        ensures list { self.new ≡ (if has_room room self.old then self.old ++ seat ∷ [] else self.old) }
+    {
+        if !make_room(&mut self.items, room) {
+            return false;
         }
+        self.counts = self.counts.with(seat.kind, seat.state);
+        self.rising = self.rising && is_next(self.items.as_slice(), &seat);
+        self.items.push_reserved(seat);
+        true
     }
 
     /// Adds one at the end. After an error the list is as before.
-    #[tactic(auto, using(crate::proofs::SeatPlaces::one_placed, crate::proofs::SeatPlaces::same_placed))]
-    pub fn push(&mut self, seat: Enlistment) -> Result<(), AllocError>
+    pub fn push(&mut self, alloc: Global, seat: Enlistment) -> Result<(), AllocError>
         ensures ok { OnOk result (self.new ≡ self.old ++ seat ∷ []) }
         ensures err { OnErr result (self.new ≡ self.old) }
     {
-        let volatile = one_if_unanswered(&seat, Kind::Volatile);
-        let durable = one_if_unanswered(&seat, Kind::Durable);
-        let place = self.items.len();
-        self.items.reserve(1)?;
-        self.places.note(&seat, place)?;
-        self.items.push_reserved(seat);
-        self.volatile += volatile;
-        self.durable += durable;
+        let room = self.room(alloc)?;
+        let _ = self.enlist(seat, room);
         Ok(())
     }
 
+    /// Moves each seat of this number into this state, which in every node is one.
+    pub fn set_state(&mut self, number: u16, state: State)
+        ensures { self.new ≡ moved (is_numbered number) state self.old }
+    {
+        self.counts = self.counts_after(number, state);
+        set_state(&mut self.items, self.rising, number, state);
+    }
+
     /// Moves each seat of the group into this state.
-    #[tactic(auto, using(crate::proofs::SeatPlaces::still_placed))]
     pub fn move_each(&mut self, group: Group, state: State)
         ensures { self.new ≡ moved (belongs group) state self.old }
     {
         move_each(&mut self.items, group, state);
-        self.volatile = count_unanswered(self.items.as_slice(), Kind::Volatile);
-        self.durable = count_unanswered(self.items.as_slice(), Kind::Durable);
+        self.counts = counted(self.items.as_slice());
     }
 }
 
-/// A copy of a list of seats.
+/// A copy of a list of seats, with its room.
 fn copied(items: &Vec<Enlistment>) -> Result<Vec<Enlistment>, AllocError>
-    ensures { IfOk result (λ copy. copy.items ≡ items.now.items) }
+    ensures { IfOk result
+        (λ copy. (copy.items ≡ items.now.items) × (room_of (length items.now.items) ≤ vec_capacity copy)) }
 {
-    items.clone()
+    let mut copy = Vec::with_capacity(*items.allocator(), room_of(items.len()))?;
+    for seat in items {
+        copy.push(seat.clone()?)?;
+    }
+    Ok(copy)
 }
 
 impl Clone for Seats {
     ghost is_clone = { λ items copy. copy ≡ items };
 
-    #[tactic(auto, using(crate::proofs::SeatPlaces::same_placed))]
     fn clone(&self) -> Result<Seats, AllocError> {
         let items = copied(&self.items)?;
-        let places = self.places.clone()?;
         Ok(Seats {
             items,
-            volatile: self.volatile,
-            durable: self.durable,
-            places,
+            counts: self.counts,
+            rising: self.rising,
         })
     }
 }

@@ -102,7 +102,7 @@ fn listed(alloc: Global, words: &str) -> Result<Seats, AllocError> {
     let mut number: u16 = 0;
     for seat in words.split(',') {
         number = number.saturating_add(1);
-        seats.push(seat_of(alloc, number, seat)?)?;
+        seats.push(alloc, seat_of(alloc, number, seat)?)?;
     }
     Ok(seats)
 }
@@ -111,7 +111,7 @@ fn listed(alloc: Global, words: &str) -> Result<Seats, AllocError> {
 fn repeated(alloc: Global, count: u16, state: State) -> Result<Seats, AllocError> {
     let mut seats = Seats::new(alloc);
     for place in 0..count.min(512) {
-        seats.push(enlistment(alloc, place + 1, Kind::Durable, state)?)?;
+        seats.push(alloc, enlistment(alloc, place + 1, Kind::Durable, state)?)?;
     }
     Ok(seats)
 }

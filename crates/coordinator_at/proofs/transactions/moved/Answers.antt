@@ -1,5 +1,5 @@
 use Rattle.std.proofs.Common.{Some}
-use Rattle.by_id.specs.Fates.{meant}
+use Rattle.transaction_at.specs.Moves.{meant}
 use Rattle.coordinator_at.proofs.TransactionPlans.{moves}
 use Rattle.coordinator_at.proofs.transactions.moved.Goals as goal
 
