@@ -58,14 +58,15 @@ impl Registered {
     pub fn into_plan(self, alloc: Global, id: Id) -> Plan<Transaction, Move>
         ensures { result ≡ registered id self }
     {
-        let change = match self.change {
+        let Registered { change, outs } = self;
+        let change = match change {
             Some(by) => Alteration::Move { id, by },
             None => Alteration::Keep,
         };
         Plan::Plain(Branch {
             change,
             outs: Outs {
-                outs: self.outs,
+                outs,
                 effects: Effects::from_vec(Vec::new(alloc)),
             },
         })
