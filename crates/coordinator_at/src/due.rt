@@ -7,7 +7,6 @@ ghost use Rattle.at_model.specs.Book.{Transaction as Known};
 ghost use Rattle.at_model.specs.Due.{seat_again, seats_again, unanswered_seat, register_again_at, link_again, links_again, transaction_again, transaction_due, transaction_reached};
 ghost use Rattle.at_model.specs.Moves.{begin, forgotten, posts, stays};
 ghost use Rattle.at_model.specs.Seats.{sent_now};
-
 ghost use Rattle.transaction_at.specs.Causes.{reached_of};
 ghost use Rattle.transaction_at.specs.Moves.{meant, turn_of};
 
@@ -179,11 +178,7 @@ fn sends_again(
 {
     let mut posts = PostList::new(alloc);
     push_again(alloc, &mut posts, moment, transaction)?;
-    Ok(Turn::silent(
-        alloc,
-        Fate::Move(Move::Sent(moment.now)),
-        posts,
-    ))
+    Ok(Turn::silent(alloc, Fate::Move(Move::Sent(moment.now)), posts))
 }
 
 /// The transaction expires: it aborts.

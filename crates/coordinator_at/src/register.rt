@@ -435,11 +435,7 @@ fn register_new(
             protocol,
         )
     } else {
-        refuse_register(
-            alloc,
-            arrived,
-            Fault::CannotRegisterParticipant,
-        )
+        refuse_register(alloc, arrived, Fault::CannotRegisterParticipant)
     }
 }
 

@@ -15,6 +15,7 @@ use at_tables::cells::State;
 use by_id::plan::Plan;
 use coordinator_at::transactions::{Transactions, at_link};
 use std::alloc::{AllocError, Global};
+use transaction_at::moves::Move;
 use transaction_at::transaction::{
     Completion, Enlistment, Link, Phase, Request, Seats, Superior, Transaction,
 };
@@ -395,7 +396,7 @@ pub fn planned(
     transactions: &Transactions,
     event: &Event,
     moment: &Moment,
-) -> Result<Option<Plan<Transaction>>, AllocError> {
+) -> Result<Option<Plan<Transaction, Move>>, AllocError> {
     match event {
         Event::Arrived(arrived) => arrived_at(alloc, transactions, moment, arrived),
         Event::Due(Item::Transaction(id)) => transactions.due(alloc, moment, *id),
@@ -409,7 +410,7 @@ fn created(
     transactions: &Transactions,
     moment: &Moment,
     arrived: &Arrived,
-) -> Result<Option<Plan<Transaction>>, AllocError> {
+) -> Result<Option<Plan<Transaction, Move>>, AllocError> {
     match &arrived.message {
         Message::Create(create) => {
             let plan = transactions.at_activation(alloc, moment, arrived, create)?;
@@ -426,7 +427,7 @@ fn registered(
     moment: &Moment,
     arrived: &Arrived,
     id: Id,
-) -> Result<Option<Plan<Transaction>>, AllocError> {
+) -> Result<Option<Plan<Transaction, Move>>, AllocError> {
     match &arrived.message {
         Message::Register(register) => {
             transactions.at_registration(alloc, moment, arrived, register, id)
@@ -443,7 +444,7 @@ fn linked(
     arrived: &Arrived,
     id: Id,
     kind: Kind,
-) -> Result<Option<Plan<Transaction>>, AllocError> {
+) -> Result<Option<Plan<Transaction, Move>>, AllocError> {
     match transactions.find(id) {
         Some(transaction) => at_link(alloc, moment, arrived, kind, transaction),
         None => Ok(None),
@@ -455,7 +456,7 @@ fn arrived_at(
     transactions: &Transactions,
     moment: &Moment,
     arrived: &Arrived,
-) -> Result<Option<Plan<Transaction>>, AllocError> {
+) -> Result<Option<Plan<Transaction, Move>>, AllocError> {
     match arrived.target {
         Target::Activation => created(alloc, transactions, moment, arrived),
         Target::Registration(id) => registered(alloc, transactions, moment, arrived, id),
