@@ -1,3 +1,5 @@
+mod FiledPlaces
+mod SeatHolders
 mod Resends
 mod Rooms
 mod SeatCounts

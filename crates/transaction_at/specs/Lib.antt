@@ -1,3 +1,5 @@
+pub mod Filed
+pub mod Holders
 pub mod Causes
 pub mod Counts
 pub mod Groups

@@ -8,6 +8,7 @@ pub mod at_link;
 pub mod at_seat;
 mod counts;
 pub mod due;
+mod holders;
 pub mod links;
 pub mod moves;
 mod numbers;
