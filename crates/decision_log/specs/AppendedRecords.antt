@@ -6,7 +6,7 @@ use Rattle.journal_at.specs.declared.journal.Append.{Append}
 use Rattle.journal_at.specs.declared.journal.Append.TheVariants as appends
 use Rattle.journal_at.specs.declared.journal.Journal.{Journal}
 use Rattle.journal_at.specs.declared.version.Version.TheVariants.{Two}
-use Rattle.journal_at.specs.StandingBodies.{Appended, Calls, HasReason, Keeps}
+use Rattle.journal_at.specs.StandingBodies.{Appended, Calls, HasReason, IsSame, Keeps}
 use Rattle.record_bytes.specs.Versions.{IsRecord}
 use Rattle.decision_log.specs.declared.keep.KeepFault.{KeepFault}
 use Rattle.decision_log.specs.declared.keep.KeepFault.TheVariants.{NoMemory, Refused, Unsure, Full}
@@ -28,5 +28,4 @@ pub record IsAppended (a : Append) (r : Record) (body : List ℕ) (before after 
   pub full : (a ≡ appends.Full) ↔ ((before.unsure ≡ false) × (before.limit < before.end + 6 + length body))
   pub unsure : (after.unsure ≡ true) ↔ (a ≡ appends.Unsure)
   pub stuck : before.unsure ≡ true → a ≡ appends.Unsure
-  pub live : after.live ≡ before.live
-  pub limit : after.limit ≡ before.limit
+  pub same : IsSame before after

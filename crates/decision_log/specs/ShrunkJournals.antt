@@ -33,7 +33,7 @@ pub record ShrinksTheSame : Type 0 where
 -- these bodies were written anew
 pub record IsCompacted (result : Compact) (texts : List (List ℕ)) (before after : Journal) (old new : Told) : Type 0 where
   pub compacted : (kept : List (List ℕ)) → before.unsure ≡ false → Keeps before kept old → Compacted result before.live kept (mark_body (before.generation + 1) ∷ texts) after old new
-  pub moves : before.unsure ≡ false → Moves result before.unshut (1 - before.live) (text_of (before.generation + 1) texts) old new
+  pub moves : before.unsure ≡ false → Moves result (text_of (before.generation + 1) texts) before after old new
   pub ground : HasGround result before old new
   pub full : (result ≡ compacts.Full) ↔ ((before.unsure ≡ false) × (before.limit < length (frames (mark_body (before.generation + 1) ∷ texts)) + 1))
   pub unsure : (after.unsure ≡ true) ↔ (result ≡ compacts.Unsure)

@@ -1,5 +1,5 @@
 -- What a compaction writes, and what it leaves.
-use Rattle.std.specs.Prelude.{ℕ, List, Bool, Result, Ok, Err, true, false, [], ◌∷◌, ◌++◌, ◌-◌, ◌≡◌, ◌≢◌, ◌⊎◌, map, option_map}
+use Rattle.std.specs.Prelude.{ℕ, List, Bool, Result, Ok, Err, true, false, not, [], ◌∷◌, ◌++◌, ◌+◌, ◌-◌, ◌&&◌, ◌≡◌, ◌≢◌, ◌≤◌, ◌⊎◌, ◌↔◌, map, option_map}
 use Rattle.site_model.specs.Counts.{Rose}
 use Rattle.site_model.specs.Site.{OnDisk}
 use Rattle.site_model.specs.Calls.{Runs}
@@ -106,9 +106,30 @@ Steps Kept unshut file text made = BreaksOff (prepare_calls unshut file text) ma
 Steps Unsure unshut file text made = (rest : List Made) × (made ≡ map done (prepare_calls unshut file text) ++ rest) × BreaksOff (raise file 0) rest
 Steps Full unshut file text made = made ≡ []
 
-pub record Moves (result : Compact) (unshut : Bool) (file : ℕ) (text : List ℕ) (old new : Told) : Type 0 where
+-- the file that is then live, and its generation
+abbrev pub IsFile : Compact → Journal → Journal → Type 0
+IsFile Done before after = (after.live ≡ 1 - before.live) × (after.generation ≡ before.generation + 1)
+IsFile other before after = (after.live ≡ before.live) × (after.generation ≡ before.generation)
+
+-- the first of these calls failed, or wasn't made
+abbrev pub fails_first : List Made → Bool
+fails_first [] = true
+fails_first (made ∷ rest) = not made.done
+
+-- Whether the first gate of the file that is then the other one is still to be shut. The file that was live has an open gate,
+-- where it has bodies. A gate that was to be shut still is, where the call failed that shuts it, which is the first.
+abbrev pub IsUnshut : Compact → (unshut : Bool) → (end : ℕ) → List Made → (after : Bool) → Type 0
+IsUnshut Done unshut end made after = (after ≡ true) ↔ (1 ≤ end)
+IsUnshut Kept unshut end made after = after ≡ (unshut && fails_first made)
+IsUnshut Unsure unshut end made after = after ≡ false
+IsUnshut Full unshut end made after = after ≡ unshut
+
+-- they were made, and so the journal is behind them
+pub record Moves (result : Compact) (text : List ℕ) (before after : Journal) (old new : Told) : Type 0 where
   pub made : List Made
-  pub are : Steps result unshut file text made
+  pub are : Steps result before.unshut (1 - before.live) text made
+  pub file : IsFile result before after
+  pub unshut : IsUnshut result before.unshut before.end made after.unshut
   pub grown : new.calls ≡ option_map (λ l. l ++ made) old.calls
 
 -- why

@@ -3,7 +3,7 @@ use Rattle.std.specs.Prelude.{ℕ, List, Result, Ok, Err, Bool, true, false, ◌
 use Rattle.site_model.specs.Counts.{Rose}
 use Rattle.site_model.specs.Site.{OnDisk}
 use Rattle.site_model.specs.Calls.{Runs}
-use Rattle.site_model.specs.Told.{Told, Files, Made, Call, Is, Within, Elapses, Between, Apart, Still, BreaksOff, done, file_of}
+use Rattle.site_model.specs.Told.{Told, Files, Made, Call, Is, Within, Elapses, Between, Apart, Still, BreaksOff, done, file_of, other_than}
 use Rattle.site_model.specs.Told.Call.{Write, Sync}
 use Rattle.journal_at.specs.declared.journal.Journal.{Journal}
 use Rattle.journal_at.specs.declared.load.LoadFault.{LoadFault}
@@ -15,7 +15,7 @@ use Rattle.journal_at.specs.declared.version.Version.TheVariants.{One}
 use Rattle.journal_at.specs.Format.{FileOf, head_of, records_of}
 use Rattle.journal_at.specs.Pairs.{FilesOf, HasLive}
 use Rattle.journal_at.specs.Frames.{ArePlaced, IsBadAt}
-use Rattle.journal_at.specs.Scans.{IsSeen, records_in}
+use Rattle.journal_at.specs.Scans.{IsGate, IsSeen, records_in}
 use Rattle.journal_at.specs.StandingBodies.{Keeps}
 
 -- nothing but the count of the disk's faults changes
@@ -130,6 +130,7 @@ pub record Opens (journal : Journal) (records : Records) (old new : Told) : Type
   pub is : (f : Files) → Is old.files f → FilesOf f records.version (records_in records)
   pub bodies : List (List ℕ)
   pub held : (f : Files) → Is old.files f → HasLive journal.live bodies f
+  pub gate : (f : Files) → Is old.files f → IsGate journal.unshut (other_than journal.live f)
   pub keeps : Keeps journal bodies new
   pub version : (head_of bodies).version ≡ records.version
   pub records_are : records_of bodies ≡ records_in records

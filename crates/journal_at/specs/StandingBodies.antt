@@ -88,6 +88,13 @@ pub record Appended (result : Append) (bodies : List (List ℕ)) (body : List �
   pub after : After result bodies body journal new
   pub time : Elapses old new (λ l c. Between old new l × During result journal.live bodies body c)
 
+-- what no append changes
+pub record IsSame (before after : Journal) : Type 0 where
+  pub live : after.live ≡ before.live
+  pub limit : after.limit ≡ before.limit
+  pub generation : after.generation ≡ before.generation
+  pub unshut : after.unshut ≡ before.unshut
+
 -- why
 abbrev pub HasReason : Append → Journal → Told → Told → Type 0
 HasReason Done journal old new = Unit {0}

@@ -3,7 +3,7 @@
 ghost use Rattle.std.specs.Prelude.{ℕ, List, ◌≡◌, ◌<◌, ◌+◌, ◌↔◌, true, false, length};
 ghost use Rattle.journal_at.specs.declared.journal.Append.TheVariants.{Full, Unsure};
 ghost use Rattle.journal_at.specs.Format.{IsBody};
-ghost use Rattle.journal_at.specs.StandingBodies.{Appended, Calls, Counted, HasReason, Keeps, Laid, MayFollow};
+ghost use Rattle.journal_at.specs.StandingBodies.{Appended, Calls, Counted, HasReason, IsSame, Keeps, Laid, MayFollow};
 
 use crate::frame::frame;
 use crate::journal::{Append, Journal};
@@ -33,7 +33,7 @@ impl Journal {
         ensures reason { HasReason result self.old (S.told site.old) (S.told site.new) }
         ensures full { (result ≡ Full) ↔ ((self.old.unsure ≡ false) × (self.old.limit < self.old.end + 6 + length body.now)) }
         ensures unsure { (self.new.unsure ≡ true) ↔ (result ≡ Unsure) }
-        ensures same { (self.new.live ≡ self.old.live) × (self.new.limit ≡ self.old.limit) }
+        ensures same { IsSame self.old self.new }
         ensures counted { Counted (S.told site.old) (S.told site.new) }
     {
         if self.unsure {

@@ -57,7 +57,7 @@ impl Journal {
     fn switch<S: Site>(&mut self, site: &mut S, text: &[u8]) -> Compact
         requires { self.old.generation < 4294967295 }
         ensures compacted { (bodies texts : List (List ℕ)) → Keeps self.old bodies (S.told site.old) → text.now ≡ text_of (self.old.generation + 1) texts → AreBodies texts → AreUnmarked texts → Compacted result self.old.live bodies (mark_body (self.old.generation + 1) ∷ texts) self.new (S.told site.old) (S.told site.new) }
-        ensures moves { Moves result self.old.unshut (1 - self.old.live) text.now (S.told site.old) (S.told site.new) }
+        ensures moves { Moves result text.now self.old self.new (S.told site.old) (S.told site.new) }
         ensures ground { HasGround result self.old (S.told site.old) (S.told site.new) }
         ensures full { result ≡ Full → ⊥ }
         ensures unsure { self.old.unsure ≡ false → (self.new.unsure ≡ true) ↔ (result ≡ Unsure) }
@@ -97,7 +97,7 @@ impl Journal {
         requires bodies { AreBodies (texts_in bodies.now) }
         requires generation { self.old.generation < 4294967295 }
         ensures compacted { IfOk result (λ r. (kept : List (List ℕ)) → self.old.unsure ≡ false → Keeps self.old kept (S.told site.old) → AreUnmarked (texts_in bodies.now) → Compacted r self.old.live kept (mark_body (self.old.generation + 1) ∷ texts_in bodies.now) self.new (S.told site.old) (S.told site.new)) }
-        ensures moves { IfOk result (λ r. self.old.unsure ≡ false → Moves r self.old.unshut (1 - self.old.live) (text_of (self.old.generation + 1) (texts_in bodies.now)) (S.told site.old) (S.told site.new)) }
+        ensures moves { IfOk result (λ r. self.old.unsure ≡ false → Moves r (text_of (self.old.generation + 1) (texts_in bodies.now)) self.old self.new (S.told site.old) (S.told site.new)) }
         ensures nothing { self.old.unsure ≡ true → (result ≡ Ok Unsure) × (site.new ≡ site.old) }
         ensures memory { IsErr result → (site.new ≡ site.old) × (self.new ≡ self.old) }
         ensures ground { IfOk result (λ r. HasGround r self.old (S.told site.old) (S.told site.new)) }

@@ -54,6 +54,8 @@ pub record Does (doings : List Doing) (j k : Journal) (old new : Told) : Type 0 
   pub sent : sent_by (calls_of doings) ≡ sent_of (deeds_of doings)
   pub live : k.live ≡ j.live
   pub limit : k.limit ≡ j.limit
+  pub generation : k.generation ≡ j.generation
+  pub unshut : k.unshut ≡ j.unshut
   pub stands : (bodies : List (List ℕ)) → Keeps j bodies old → Keeps k (bodies ++ landed_of (deeds_of doings)) new
   pub moments : (bodies : List (List ℕ)) → Keeps j bodies old → Moments j.live bodies (deeds_of doings) old new
 

@@ -12,7 +12,7 @@ use Rattle.node_at.specs.declared.fault.StartFault.{StartFault}
 use Rattle.node_at.specs.declared.node.Node.{Node}
 use Rattle.node_at.specs.declared.role.Role.{Role}
 use Rattle.node_at.specs.Sizes.{size_of}
-use Rattle.node_at.specs.Starts.{CannotStart, IsLiveBehind, IsOpen, IsRead, OnTheWay, StandFor, start_calls, started}
+use Rattle.node_at.specs.Starts.{CannotStart, IsJournalBehind, IsLiveBehind, IsOpen, IsRead, OnTheWay, StandFor, start_calls, started}
 use Rattle.node_at.specs.State.{State, seen}
 
 -- A node started: its book is that of the records that the files stood for and of its Start, which stands whatever a crash
@@ -24,6 +24,7 @@ pub record IsStarted (base : List ℕ) (limit : ℕ) (n : State) (old new : Told
   pub journal : Journal
   pub was : IsRead bare version rs journal old
   pub live : IsLiveBehind version journal n.journal.live
+  pub behind : IsJournalBehind version journal n.journal
   pub least : last_incarnation rs < 4294967295
   pub fits : size_of (started version rs) ≤ limit
   pub book : n.book ≡ recover base (started version rs)

@@ -21,11 +21,11 @@ use Rattle.journal_at.specs.Format.{frames, head_of, mark_body, records_of}
 use Rattle.journal_at.specs.Loads.{FailsAt, IsBare, IsJudged, Lasts, shuts_if, syncs}
 use Rattle.journal_at.specs.Pairs.{FilesOf, HasLive, Holds}
 use Rattle.journal_at.specs.Frames.{ArePlaced}
-use Rattle.journal_at.specs.Scans.{records_in}
+use Rattle.journal_at.specs.Scans.{IsGate, records_in}
 use Rattle.journal_at.specs.StandingBodies.{Counted, Keeps, lay, raise}
 use Rattle.record_bytes.specs.Bytes.{bytes_of}
 use Rattle.site_model.specs.Counts.{Rose}
-use Rattle.site_model.specs.Told.{Told, Files, Made, Call, Is, Between, BreaksOff, Elapses, done, sent_by}
+use Rattle.site_model.specs.Told.{Told, Files, Made, Call, Is, Between, BreaksOff, Elapses, done, other_than, sent_by}
 use Rattle.decision_log.specs.declared.keep.KeepFault.{KeepFault}
 use Rattle.decision_log.specs.declared.keep.KeepFault.TheVariants as keeps
 use Rattle.decision_log.specs.KeptState.{known}
@@ -110,6 +110,22 @@ abbrev pub IsLiveBehind : Version → Journal → ℕ → Type 0
 IsLiveBehind Two journal file = file ≡ journal.live
 IsLiveBehind One journal file = journal.end ≡ 0 → file ≡ journal.live
 
+-- a file goes on: its generation stays, and so does whether the other file's first gate is still to be shut
+pub record IsContinued (before after : Journal) : Type 0 where
+  pub generation : after.generation ≡ before.generation
+  pub unshut : after.unshut ≡ before.unshut
+
+-- the next generation stands in the other file, and the first gate of the one that was live is open
+pub record IsRenewed (before after : Journal) : Type 0 where
+  pub live : after.live ≡ 1 - before.live
+  pub generation : after.generation ≡ before.generation + 1
+  pub unshut : after.unshut ≡ true
+
+-- the journal that is then open, as far as no record says it
+abbrev pub IsJournalBehind : Version → Journal → Journal → Type 0
+IsJournalBehind Two before after = IsContinued before after
+IsJournalBehind One before after = (before.end ≡ 0 → IsContinued before after) × (1 ≤ before.end → IsRenewed before after)
+
 -- the records before, those that are carried over, and these with the new Start
 abbrev pub OnTheWay : Version → List Record → Files → Type 0
 OnTheWay version rs c = StandFor version rs c ⊎ (StandFor Two (carried version rs) c ⊎ StandFor Two (started version rs) c)
@@ -162,6 +178,7 @@ pub record Begins {T : Type 0} (result : Result T StartFault) (rs : List Record)
   pub live : OnOk result (file ≡ after.journal.live)
   pub kept : OnOk result (known after.kept ≡ kept_of Two (started before.version rs))
   pub limit : after.journal.limit ≡ before.journal.limit
+  pub journal : OnOk result (IsJournalBehind before.version before.journal after.journal)
 
 -- A body of the live file is no record of the file's version, at its gate.
 pub record IsNoRecord (file place : ℕ) (old new : Told) : Type 0 where
@@ -193,6 +210,7 @@ pub record IsRead (bare : Bool) (version : Version) (rs : List Record) (journal 
   pub when : (f : Files) → Is old.files f → (bare ≡ true) ↔ IsBare journal f
   pub bodies : List (List ℕ)
   pub live : (f : Files) → Is old.files f → HasLive journal.live bodies f
+  pub gate : (f : Files) → Is old.files f → IsGate journal.unshut (other_than journal.live f)
   pub of : (head_of bodies).version ≡ version
   pub are : AreRecords version rs (records_of bodies)
   pub end : journal.end ≡ length (frames bodies)

@@ -84,6 +84,8 @@ pub record Went (entry : Option Record) (landed : Bool) (behind : Book) (came : 
   pub calls : new.calls ≡ option_map (λ l. l ++ (first ++ made)) old.calls
   pub live : m.journal.live ≡ n.journal.live
   pub limit : m.journal.limit ≡ n.journal.limit
+  pub generation : m.journal.generation ≡ n.journal.generation
+  pub unshut : m.journal.unshut ≡ n.journal.unshut
   pub sure : m.journal.unsure ≡ false
   pub runs : m.halted ≡ false
   pub stands : (bodies : List (List ℕ)) → Keeps n.journal bodies old → Keeps m.journal (bodies ++ landed_by landed entry) new

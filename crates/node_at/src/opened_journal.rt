@@ -1,6 +1,6 @@
 //! A journal that a node starts on.
 
-ghost use Rattle.std.specs.Prelude.{List, ◌≡◌, ◌≤◌, ◌<◌, ◌+◌, ◌-◌, ◌++◌, ◌∷◌, [], Err, OnOk};
+ghost use Rattle.std.specs.Prelude.{List, ◌≡◌, ◌≤◌, ◌<◌, ◌+◌, ◌-◌, ◌++◌, ◌∷◌, [], Err, false, OnOk};
 ghost use Rattle.at_base.specs.declared.record.Record.{Record};
 ghost use Rattle.at_base.specs.declared.record.Record.TheVariants as records;
 ghost use Rattle.at_model.specs.Recovery.{last_incarnation};
@@ -10,7 +10,7 @@ ghost use Rattle.journal_at.specs.declared.version.Version.TheVariants.{One, Two
 ghost use Rattle.record_bytes.specs.Bytes.{bytes_of};
 ghost use Rattle.site_model.specs.Counts.{capped};
 ghost use Rattle.node_at.specs.Sizes.{end_of, size_of};
-ghost use Rattle.node_at.specs.Starts.{Begins, Carries, Gathers, load_fault, started, IsEnd, IsNext, IsOpen, OpensAs, anew_calls, append_calls, append_ended, carried, carrying, compact_ended, first_mark, keep_fault, IsLiveBehind};
+ghost use Rattle.node_at.specs.Starts.{Begins, Carries, Gathers, load_fault, started, IsContinued, IsEnd, IsJournalBehind, IsNext, IsOpen, IsRenewed, OpensAs, anew_calls, append_calls, append_ended, carried, carrying, compact_ended, first_mark, keep_fault, IsLiveBehind};
 
 use crate::fault::StartFault;
 use crate::size::compacted_size;
@@ -72,6 +72,7 @@ fn mark<S: Site>(journal: &mut Journal, site: &mut S) -> Result<(), StartFault>
         → Carries (append_calls journal.old.live journal.old.end first_mark) One rs (carried One rs) result journal.new (S.told site.old) (S.told site.new) }
     ensures live { journal.new.live ≡ journal.old.live }
     ensures limit { journal.new.limit ≡ journal.old.limit }
+    ensures continued { IsContinued journal.old journal.new }
 {
     let ended = journal.append(site, &[11, 0, 0, 0, 0]);
     append_ended(ended)
@@ -89,6 +90,7 @@ fn migrate<S: Site>(
     ensures migrates { (rs : List Record) → IsOpen One rs journal.old (S.told site.old) → known kept.now ≡ kept_of One rs → size_of (carried One rs) ≤ journal.old.limit
         → Carries (anew_calls journal.old (carried One rs)) One rs (carried One rs) result journal.new (S.told site.old) (S.told site.new) }
     ensures limit { journal.new.limit ≡ journal.old.limit }
+    ensures renewed { journal.old.unsure ≡ false → 1 ≤ journal.old.end → OnOk result (IsRenewed journal.old journal.new) }
 {
     are_bodies();
     match shrink(alloc, journal, site, kept) {
@@ -111,6 +113,7 @@ fn carry<S: Site>(
         → Carries (carrying version rs journal.old) version rs (carried version rs) result journal.new (S.told site.old) (S.told site.new) }
     ensures live { OnOk result (IsLiveBehind version journal.old journal.new.live) }
     ensures limit { journal.new.limit ≡ journal.old.limit }
+    ensures journal { journal.old.unsure ≡ false → OnOk result (IsJournalBehind version journal.old journal.new) }
 {
     match version {
         Version::Two => Ok(()),
@@ -138,6 +141,7 @@ fn record_start<S: Site>(
     ensures kept { (rs : List Record) → known kept.old ≡ kept_of Two rs → OnOk result (known kept.new ≡ kept_of Two (rs ++ records.Start incarnation ∷ [])) }
     ensures live { OnOk result (journal.new.live ≡ journal.old.live) }
     ensures limit { journal.new.limit ≡ journal.old.limit }
+    ensures continued { OnOk result (IsContinued journal.old journal.new) }
 {
     grows_by_one();
     let entry = Record::Start { incarnation };
