@@ -32,17 +32,17 @@ pub record AllRan (calls : List Call) (old new : Told) : Type 0 where
   pub is : made ≡ map done calls
   pub grown : new.calls ≡ option_map (λ l. l ++ made) old.calls
 
-pub all_ran : {T E : Type 0} (c : List Call) (r : Result T E) (x : T) (old new : Told) → r ≡ Ok x → Runs c r old new → AllRan c old new
+abbrev pub all_ran : {T E : Type 0} (c : List Call) (r : Result T E) (x : T) (old new : Told) → r ≡ Ok x → Runs c r old new → AllRan c old new
 all_ran c r x old new e h = record { made = h.made; is = subst (λ z. Outcome c z h.made) e h.outcome; grown = h.grown }
 
-pub runs_then : {T E : Type 0} (c d : List Call) (r : Result T E) (old mid new : Told) → AllRan c old mid → Runs d r mid new → Runs (c ++ d) r old new
+abbrev pub runs_then : {T E : Type 0} (c d : List Call) (r : Result T E) (old mid new : Told) → AllRan c old mid → Runs d r mid new → Runs (c ++ d) r old new
 runs_then c d r old mid new h k = record { made = h.made ++ k.made; outcome = both r k.outcome; grown = grown_then old.calls mid.calls new.calls h.made k.made h.grown k.grown } where
   both : {T E : Type 0} (r : Result T E) → Outcome d r k.made → Outcome (c ++ d) r (h.made ++ k.made)
   both (Ok y) e = (λ i. h.is i ++ e i) ∙ sym (map-append done c d)
   both (Err y) b = breaks_then c d h.made k.made h.is b
 
 -- a failure ends them
-pub runs_cut : {T U E F : Type 0} (c d : List Call) (r : Result T E) (e : E) (q : Result U F) (f : F) (old new : Told) → r ≡ Err e → q ≡ Err f → Runs c r old new → Runs (c ++ d) q old new
+abbrev pub runs_cut : {T U E F : Type 0} (c d : List Call) (r : Result T E) (e : E) (q : Result U F) (f : F) (old new : Told) → r ≡ Err e → q ≡ Err f → Runs c r old new → Runs (c ++ d) q old new
 runs_cut c d r e q f old new re qf h = record { made = h.made; outcome = subst (λ z. Outcome (c ++ d) z h.made) (sym qf) (breaks_more c d h.made (subst (λ z. Outcome c z h.made) re h.outcome)); grown = h.grown }
 
 abbrev pub IsNo : {A : Type 0} → Option A → Type 0

@@ -11,7 +11,7 @@ use Rattle.journal_at.specs.StandingBodies.{Laid}
 use Rattle.journal_at.proofs.SyncedWrites.{rose_later}
 use Rattle.journal_at.proofs.DeviceCalls.{after_that, all_ran, map_err, on_err, runs_cut, runs_then, through}
 
-pub acts_wrote : {T E : Type 0} (file at : ℕ) (bytes : List ℕ) (r : Result T E) (old new : Told) → Wrote file at bytes r old new → Acts (Write file at bytes ∷ []) r old new
+abbrev pub acts_wrote : {T E : Type 0} (file at : ℕ) (bytes : List ℕ) (r : Result T E) (old new : Told) → Wrote file at bytes r old new → Acts (Write file at bytes ∷ []) r old new
 acts_wrote file at bytes r old new h = record { runs = h.calls; apart = h.apart; counts = h.counts }
 
 pub acts_synced : {T E : Type 0} (file : ℕ) (r : Result T E) (old new : Told) → Synced file r old new → Acts (Sync file ∷ []) r old new
@@ -20,7 +20,7 @@ acts_synced file r old new h = record { runs = h.calls; apart = h.apart; counts 
 pub acts_laid : {T E : Type 0} (file at : ℕ) (bytes : List ℕ) (r : Result T E) (old new : Told) → Laid file at bytes r old new → Acts (Write file at bytes ∷ Sync file ∷ []) r old new
 acts_laid file at bytes r old new h = record { runs = h.calls; apart = h.apart; counts = record { cause = h.cause; others = h.others } }
 
-pub acts_then : {T E U F : Type 0} (c d : List Call) (r : Result T E) (x : T) (q : Result U F) (old mid new : Told) → r ≡ Ok x → Acts c r old mid → Acts d q mid new → Acts (c ++ d) q old new
+abbrev pub acts_then : {T E U F : Type 0} (c d : List Call) (r : Result T E) (x : T) (q : Result U F) (old mid new : Told) → r ≡ Ok x → Acts c r old mid → Acts d q mid new → Acts (c ++ d) q old new
 acts_then c d r x q old mid new e h k =
     record {
       runs = runs_then c d q old mid new (all_ran c r x old mid e h.runs) k.runs;
@@ -31,7 +31,7 @@ acts_then c d r x q old mid new e h k =
       };
     }
 
-pub acts_cut : {T E U F : Type 0} (c d : List Call) (r : Result T E) (x : E) (q : Result U F) (y : F) (old new : Told) → r ≡ Err x → q ≡ Err y → Acts c r old new → Acts (c ++ d) q old new
+abbrev pub acts_cut : {T E U F : Type 0} (c d : List Call) (r : Result T E) (x : E) (q : Result U F) (y : F) (old new : Told) → r ≡ Err x → q ≡ Err y → Acts c r old new → Acts (c ++ d) q old new
 acts_cut c d r x q y old new e f h =
     record {
       runs = runs_cut c d r x q y old new e f h.runs;

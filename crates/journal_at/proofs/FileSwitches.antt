@@ -1,5 +1,5 @@
 -- A text that is opened in the other file.
-use Rattle.std.proofs.Common.{ℕ, List, Bool, Option, Some, Result, Ok, Err, true, false, zero, suc, [], ◌∷◌, length, ◌≡◌, ◌++◌, ◌+◌, ◌-◌, ◌<◌, ◌≤◌, ◌⊎◌, inl, inr, ⊎_elim, refl, sym, ◌∙◌, ap, subst, drop, replicate, get_or, option_map, OnOk, arith}
+use Rattle.std.proofs.Common.{ℕ, List, Bool, Option, Some, Result, Ok, Err, true, false, zero, suc, [], ◌∷◌, length, ◌≡◌, ◌++◌, ◌+◌, ◌-◌, ◌<◌, ◌≤◌, ◌⊎◌, ◌↔◌, inl, inr, ⊎_elim, refl, sym, ◌∙◌, ap, subst, drop, replicate, get_or, option_map, OnOk, arith}
 use Rattle.std.specs.Int.{from_be_bytes, to_be_bytes, w32}
 use Rattle.std.proofs.lemmas.Bool.{cases_eq}
 use Rattle.std.proofs.lemmas.List.{append_assoc, length-append}
@@ -10,7 +10,7 @@ use Rattle.site_model.specs.Told.{Told, Call, Files, Is, Between, Elapses, Settl
 use Rattle.journal_at.specs.declared.journal.Journal.{Journal}
 use Rattle.journal_at.specs.declared.journal.Compact.TheVariants.{Done, Kept, Unsure}
 use Rattle.journal_at.specs.declared.version.Version.TheVariants.{Two}
-use Rattle.journal_at.specs.Compactions.{Acts, Fills, Flips, IsFilled, Moves, Prepares, Safe, prepare_calls, text_of}
+use Rattle.journal_at.specs.Compactions.{Acts, Fills, Flips, IsFile, IsFilled, Moves, Prepares, Readies, Safe, prepare_calls, text_of}
 use Rattle.journal_at.specs.Format.{AreBodies, AreListed, AreUnmarked, Closed, FileOf, IsBody, Mark, behind, frames, head_of, mark_body, mark_of, marked}
 use Rattle.journal_at.specs.Pairs.{Holds, IsLive}
 use Rattle.journal_at.specs.Scans.{IsGate}
@@ -167,23 +167,38 @@ past_of old mid new w o bodies then r q calls a h s t =
     (weaker old mid _ _ s (λ l c n. (through old mid new h.calls.made l h.calls.grown n.0, inl n.1)))
     (weaker mid new _ _ t (λ l c n. (after_that old mid new a.runs.made l a.runs.grown n.0, n.1)))
 
-pub moves_unsure : {T U E F : Type 0} (u : Bool) (o : ℕ) (text : List ℕ) (r : Result T E) (x : T) (q : Result U F) (y : F) (old mid new : Told) → r ≡ Ok x → q ≡ Err y → Acts (prepare_calls u o text) r old mid → Raised o 0 q mid new → Moves Unsure u o text old new
-moves_unsure u o text r x q y old mid new e f h k =
-    let a = all_ran (prepare_calls u o text) r x old mid e h.runs in
-    record {
-      made = a.made ++ k.calls.made;
-      are = (k.calls.made, ap (λ z. z ++ k.calls.made) a.is, subst (λ z. Outcome (raise o 0) z k.calls.made) f k.calls.outcome);
-      grown = grown_then old.calls mid.calls new.calls a.made k.calls.made a.grown k.calls.grown;
-    }
+-- the file that was live has an open gate where it has bodies
+has_gate : (unshut : Bool) (end : ℕ) → (unshut ≡ true → 1 ≤ end) → (unshut ≡ false → end ≡ 0) → (unshut ≡ true) ↔ (1 ≤ end)
+has_gate true end more none = (more, λ k. refl)
+has_gate false end more none = (more, λ k. absurd (omega (arith, k, none refl)))
 
-pub moves_done : {T U E F : Type 0} (u : Bool) (o : ℕ) (text : List ℕ) (r : Result T E) (x : T) (q : Result U F) (y : U) (old mid new : Told) → r ≡ Ok x → q ≡ Ok y → Acts (prepare_calls u o text) r old mid → Raised o 0 q mid new → Moves Done u o text old new
-moves_done u o text r x q y old mid new e f h k =
-    let a = all_ran (prepare_calls u o text) r x old mid e h.runs in
-    record {
-      made = a.made ++ k.calls.made;
-      are = (λ i. a.is i ++ subst (λ z. Outcome (raise o 0) z k.calls.made) f k.calls.outcome i);
-      grown = grown_then old.calls mid.calls new.calls a.made k.calls.made a.grown k.calls.grown;
-    }
+-- the calls, and the journal behind them
+module _ (text : List ℕ) (before after : Journal) (old mid new : Told) where
+  pub moves_unsure : {T U E F : Type 0} (r : Result T E) (x : T) (q : Result U F) (y : F) → r ≡ Ok x → q ≡ Err y → Acts (prepare_calls before.unshut (1 - before.live) text) r old mid → Raised (1 - before.live) 0 q mid new
+      → IsFile Unsure before after → after.unshut ≡ false → Moves Unsure text before after old new
+  moves_unsure r x q y e f h k file shut =
+      let a = all_ran (prepare_calls before.unshut (1 - before.live) text) r x old mid e h.runs in
+      record {
+        made = a.made ++ k.calls.made;
+        are = (k.calls.made, ap (λ z. z ++ k.calls.made) a.is, subst (λ z. Outcome (raise (1 - before.live) 0) z k.calls.made) f k.calls.outcome);
+        file = file;
+        unshut = shut;
+        grown = grown_then old.calls mid.calls new.calls a.made k.calls.made a.grown k.calls.grown;
+      }
 
-pub moves_kept : {T E : Type 0} (u : Bool) (o : ℕ) (text : List ℕ) (r : Result T E) (x : E) (old new : Told) → r ≡ Err x → Acts (prepare_calls u o text) r old new → Moves Kept u o text old new
-moves_kept u o text r x old new e h = record { made = h.runs.made; are = subst (λ z. Outcome (prepare_calls u o text) z h.runs.made) e h.runs.outcome; grown = h.runs.grown }
+  pub moves_done : {T U E F : Type 0} (r : Result T E) (x : T) (q : Result U F) (y : U) → r ≡ Ok x → q ≡ Ok y → Acts (prepare_calls before.unshut (1 - before.live) text) r old mid → Raised (1 - before.live) 0 q mid new
+      → IsFile Done before after → (after.unshut ≡ true → 1 ≤ before.end) → (after.unshut ≡ false → before.end ≡ 0) → Moves Done text before after old new
+  moves_done r x q y e f h k file more none =
+      let a = all_ran (prepare_calls before.unshut (1 - before.live) text) r x old mid e h.runs in
+      record {
+        made = a.made ++ k.calls.made;
+        are = (λ i. a.is i ++ subst (λ z. Outcome (raise (1 - before.live) 0) z k.calls.made) f k.calls.outcome i);
+        file = file;
+        unshut = has_gate after.unshut before.end more none;
+        grown = grown_then old.calls mid.calls new.calls a.made k.calls.made a.grown k.calls.grown;
+      }
+
+pub moves_kept : {T E : Type 0} (text : List ℕ) (before after : Journal) (old new : Told) (r : Result T E) (x : E) → r ≡ Err x → Readies (prepare_calls before.unshut (1 - before.live) text) before.unshut after.unshut r old new
+    → IsFile Kept before after → Moves Kept text before after old new
+moves_kept text before after old new r x e h file =
+    record { made = h.acts.runs.made; are = subst (λ z. Outcome (prepare_calls before.unshut (1 - before.live) text) z h.acts.runs.made) e h.acts.runs.outcome; file = file; unshut = h.flag; grown = h.acts.runs.grown }

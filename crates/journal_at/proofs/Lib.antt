@@ -1,4 +1,5 @@
 pub mod DiskCalls
+pub mod ShutGates
 pub mod Appends
 pub mod Bodies
 pub mod ListTails

@@ -17,7 +17,7 @@ use Rattle.journal_at.specs.Loads.{Alike, AreEmpty, Fails, IsBare, Lasts, Loads,
 use Rattle.journal_at.specs.Loads.FailsAt.{gate}
 use Rattle.journal_at.specs.Pairs.{FilesOf, HasLive, Holds, IsLive}
 use Rattle.journal_at.specs.Frames.{ArePlaced, bodies_of, listed_in}
-use Rattle.journal_at.specs.Scans.{IsOpened, IsPicked, IsScan, IsSeen, is_bare, mark_in, records_in, second_lives, starts}
+use Rattle.journal_at.specs.Scans.{IsGate, IsOpened, IsPicked, IsScan, IsSeen, is_bare, mark_in, records_in, second_lives, starts}
 use Rattle.journal_at.specs.StandingBodies.{Keeps, Laid, Spare, Stands}
 use Rattle.journal_at.proofs.SyncedWrites.{rose_later}
 use Rattle.journal_at.proofs.DeviceCalls.{after_that, all_ran, breaks_then, grown_then, option_map_is, through}
@@ -120,14 +120,15 @@ module _ (w limit : ℕ) (u : Bool) (s : Scan) (f : List ℕ) (journal : Journal
   stand_of g (h, k) =
       record { live = w; bodies = listed s; others = k.others; is = h; other = k.is; newer = k.newer; versions = sym (version_is s f scan); all = records_from s f scan }
 
-  pub opens : (old new : Told) (bare : Bool) → ((g : Files) → Is old.files g → HasLive w (listed s) g) → Stands w (listed s) new → Spare u w (listed s) new → ((g : Files) → Is old.files g → (bare ≡ true) ↔ IsBare journal g)
+  pub opens : (old new : Told) (bare : Bool) → ((g : Files) → Is old.files g → HasLive w (listed s) g) → ((g : Files) → Is old.files g → IsGate u (other_than w g)) → Stands w (listed s) new → Spare u w (listed s) new → ((g : Files) → Is old.files g → (bare ≡ true) ↔ IsBare journal g)
       → new.calls ≡ option_map (λ l. l ++ map done (syncs ++ shuts_if bare)) old.calls → ((c : Files) → new.images c → Lasts old c) → Elapses old new (λ l c. Between old new l × Lasts old c) → Spent old new
       → Loads (Ok (journal, records)) limit old new
-  opens old new bare has stands spare when grown images time spent = (
+  opens old new bare has gates stands spare when grown images time spent = (
     record {
       is = λ g k. subst (λ z. FilesOf g z (records_in records)) (sym opened.version) (subst (FilesOf g s.head.version) records_same (stand_of g (has g k)));
       bodies = listed s;
       held = λ g k. subst (λ n. HasLive n (listed s) g) (sym opened.live_is) (has g k);
+      gate = λ g k. subst (λ n. IsGate journal.unshut (other_than n g)) (sym opened.live_is) (subst (λ z. IsGate z (other_than w g)) (sym opened.unshut_is) (gates g k));
       keeps = keeps_of new stands spare;
       version = sym (version_is s f scan) ∙ sym opened.version;
       records_are = records_from s f scan ∙ records_same;
@@ -170,7 +171,7 @@ module _ (old mid : Told) (both : Both) (ready : Ready old mid) (a : IsSeen both
   opens_second journal records limit e o =
       let l = second_newer e in
       opens 1 limit both.first.unshut both.second _ journal records b.is o old mid false
-      (λ g is. pair_of 1 both.second both.first g (second_of g (then_mid g is)) (first_of g (then_mid g is)) l)
+      (λ g is. pair_of 1 both.second both.first g (second_of g (then_mid g is)) (first_of g (then_mid g is)) l) (λ g is. (first_of g (then_mid g is)).gate)
       (stands_of 1 _ mid ready.settled b.is.is.listed (λ f is. holds_of 1 both.second both.first f (closed_marked f.second _ (omega (arith, l)) (second_of f is).is) (first_of f is) l))
       (spare_of both.first.unshut 1 _ _ mid l (λ f is. ((first_of f is).is, (first_of f is).gate)) (λ c im. let k = first_of c (ready.settled c im) in (k.is, k.gate)))
       (λ g is. ((λ k. absurd (no_true k)), (λ k. absurd (omega (arith, k.0, o.live_is)))))
@@ -180,7 +181,7 @@ module _ (old mid : Told) (both : Both) (ready : Ready old mid) (a : IsSeen both
   opens_first journal records limit e n o =
       let l = first_newer e in
       opens 0 limit both.second.unshut both.first _ journal records a.is o old mid false
-      (λ g is. pair_of 0 both.first both.second g (first_of g (then_mid g is)) (second_of g (then_mid g is)) l)
+      (λ g is. pair_of 0 both.first both.second g (first_of g (then_mid g is)) (second_of g (then_mid g is)) l) (λ g is. (second_of g (then_mid g is)).gate)
       (stands_of 0 _ mid ready.settled a.is.is.listed (λ f is. holds_of 0 both.first both.second f (closed_long f.first _ ((first_of f is).long n) (first_of f is).is) (second_of f is) l))
       (spare_of both.second.unshut 0 _ _ mid l (λ f is. ((second_of f is).is, (second_of f is).gate)) (λ c im. let k = second_of c (ready.settled c im) in (k.is, k.gate)))
       (λ g is. ((λ k. absurd (no_true k)), (λ k. absurd (omega (arith, k.1, (first_of g (then_mid g is)).long n)))))
@@ -279,7 +280,7 @@ module _ (old mid : Told) (both : Both) (ready : Ready old mid) (a : IsSeen both
         let l = first_newer n in
         let ran = all_ran shuts r x mid new e h.calls in
         opens 0 limit both.second.unshut both.first _ journal records a.is o old new true
-        (λ g is. pair_of 0 both.first both.second g (first_of g (then_mid g is)) (second_of g (then_mid g is)) l)
+        (λ g is. pair_of 0 both.first both.second g (first_of g (then_mid g is)) (second_of g (then_mid g is)) l) (λ g is. (second_of g (then_mid g is)).gate)
         (record { listed = a.is.is.listed; files = shut_files r x e h l; images = shut_images r x e h l })
         (spare_others both.second.unshut 0 _ mid new (others_laid 0 0 (0 ∷ []) r mid new h) (spare_of both.second.unshut 0 _ _ mid l (λ f is. ((second_of f is).is, (second_of f is).gate)) (λ c im. let k = second_of c (ready.settled c im) in (k.is, k.gate))))
         (λ g is. ((λ k. (o.live_is, (first_of g (then_mid g is)).bare bare)), (λ k. refl)))

@@ -35,6 +35,16 @@ pub record Acts {T E : Type 0} (calls : List Call) (result : Result T E) (old ne
   pub apart : Apart old new
   pub counts : OnDisk old.counts new.counts result
 
+-- the first of these calls failed, or wasn't made
+abbrev pub fails_first : List Made → Bool
+fails_first [] = true
+fails_first (made ∷ rest) = not made.done
+
+-- such a row, the first of which shuts a first gate, where that is still to be done; it is then still, where that call failed
+pub record Readies {T E : Type 0} (calls : List Call) (unshut after : Bool) (result : Result T E) (old new : Told) : Type 0 where
+  pub acts : Acts calls result old new
+  pub flag : after ≡ (unshut && fails_first acts.runs.made)
+
 -- what was stands, whatever a crash leaves
 pub record Safe (unshut : Bool) (live : ℕ) (bodies : List (List ℕ)) (s : Told) : Type 0 where
   pub stands : Stands live bodies s
@@ -110,11 +120,6 @@ Steps Full unshut file text made = made ≡ []
 abbrev pub IsFile : Compact → Journal → Journal → Type 0
 IsFile Done before after = (after.live ≡ 1 - before.live) × (after.generation ≡ before.generation + 1)
 IsFile other before after = (after.live ≡ before.live) × (after.generation ≡ before.generation)
-
--- the first of these calls failed, or wasn't made
-abbrev pub fails_first : List Made → Bool
-fails_first [] = true
-fails_first (made ∷ rest) = not made.done
 
 -- Whether the first gate of the file that is then the other one is still to be shut. The file that was live has an open gate,
 -- where it has bodies. A gate that was to be shut still is, where the call failed that shuts it, which is the first.

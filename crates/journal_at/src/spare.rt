@@ -1,7 +1,7 @@
 //! The file that isn't live, made ready for a compaction.
 
 ghost use Rattle.std.specs.Prelude.{ℕ, List, ◌≡◌, OnOk, false};
-ghost use Rattle.journal_at.specs.Compactions.{Acts, Flips, IsShutIn, Prepares, Safe, Saved, gate_calls, prepare_calls, shut_calls};
+ghost use Rattle.journal_at.specs.Compactions.{Flips, IsShutIn, Prepares, Readies, Safe, Saved, gate_calls, prepare_calls, shut_calls};
 ghost use Rattle.journal_at.specs.Pairs.{Holds};
 ghost use Rattle.site_model.specs.Told.{Elapses, Between};
 
@@ -11,7 +11,7 @@ use site_model::source::Failed;
 
 /// Shuts its first gate, where that is still to be done.
 fn shut_gate<S: Site>(unshut: &mut bool, site: &mut S, file: u8) -> Result<(), Failed>
-    ensures acts { Acts (gate_calls unshut.old file) result (S.told site.old) (S.told site.new) }
+    ensures readies { Readies (gate_calls unshut.old file) unshut.old unshut.new result (S.told site.old) (S.told site.new) }
     ensures saved { (live : ℕ) (bodies : List (List ℕ)) → Flips live file → Safe unshut.old live bodies (S.told site.old) → Saved unshut.new live bodies (S.told site.old) (S.told site.new) }
     ensures flag { OnOk result (unshut.new ≡ false) }
 {
@@ -29,7 +29,7 @@ fn shut_gate<S: Site>(unshut: &mut bool, site: &mut S, file: u8) -> Result<(), F
 
 /// Then syncs it.
 fn shut<S: Site>(unshut: &mut bool, site: &mut S, file: u8) -> Result<(), Failed>
-    ensures acts { Acts (shut_calls unshut.old file) result (S.told site.old) (S.told site.new) }
+    ensures readies { Readies (shut_calls unshut.old file) unshut.old unshut.new result (S.told site.old) (S.told site.new) }
     ensures saved { (live : ℕ) (bodies : List (List ℕ)) → Flips live file → Safe unshut.old live bodies (S.told site.old) → Saved unshut.new live bodies (S.told site.old) (S.told site.new) }
     ensures settled { (live : ℕ) (bodies : List (List ℕ)) → Flips live file → Safe unshut.old live bodies (S.told site.old) → OnOk result (IsShutIn live (S.told site.new)) }
     ensures flag { OnOk result (unshut.new ≡ false) }
@@ -47,9 +47,10 @@ pub(crate) fn prepare<S: Site>(
     file: u8,
     text: &[u8],
 ) -> Result<(), Failed>
-    ensures acts { Acts (prepare_calls unshut.old file text.now) result (S.told site.old) (S.told site.new) }
+    ensures readies { Readies (prepare_calls unshut.old file text.now) unshut.old unshut.new result (S.told site.old) (S.told site.new) }
     ensures prepares { (live : ℕ) (bodies : List (List ℕ)) → Flips live file → Safe unshut.old live bodies (S.told site.old) → Prepares result unshut.new live bodies text.now (S.told site.new) }
     ensures time { (live : ℕ) (bodies : List (List ℕ)) → Flips live file → Safe unshut.old live bodies (S.told site.old) → Elapses (S.told site.old) (S.told site.new) (λ l c. Between (S.told site.old) (S.told site.new) l × Holds live bodies c) }
+    ensures flag { OnOk result (unshut.new ≡ false) }
 {
     match shut(unshut, site, file) {
         Ok(()) => stage(site, file, 1, text),
