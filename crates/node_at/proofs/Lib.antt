@@ -10,6 +10,7 @@ mod Exits
 mod Sizes
 mod BodyRecords
 mod StartParts
+mod JournalsBehind
 mod Migrations
 mod DiskCalls
 mod StartRecords

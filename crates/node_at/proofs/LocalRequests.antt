@@ -78,6 +78,8 @@ module _ (old mid new : Told) (u : Untouched old mid) where
     calls = subst (λ z. new.calls ≡ option_map (λ l. l ++ (h.first ++ h.made)) z) u.still.calls h.calls;
     live = h.live;
     limit = h.limit;
+    generation = h.generation;
+    unshut = h.unshut;
     sure = h.sure;
     runs = h.runs;
     stands = λ bodies k. h.stands bodies (keeps_at n.journal bodies k);

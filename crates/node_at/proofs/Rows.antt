@@ -74,6 +74,8 @@ does_then ds es j k l old mid new h g = record {
       ∙ sym (deeds_sent_append (deeds_of ds) (deeds_of es)) ∙ ap sent_of (sym (map-append deed_of ds es));
   live = g.live ∙ h.live;
   limit = g.limit ∙ h.limit;
+  generation = g.generation ∙ h.generation;
+  unshut = g.unshut ∙ h.unshut;
   stands = λ bodies keeps.
       subst (λ z. Keeps l z new) (append_assoc bodies (landed_of (deeds_of ds)) (landed_of (deeds_of es)) ∙ ap (λ z. bodies ++ z) (sym (landed_both ds es)))
       (g.stands (bodies ++ landed_of (deeds_of ds)) (h.stands bodies keeps));
@@ -90,6 +92,8 @@ does_still j old new h = record {
   sent = refl;
   live = refl;
   limit = refl;
+  generation = refl;
+  unshut = refl;
   stands = λ bodies keeps. subst (λ z. Keeps j z new) (sym (append-nil bodies)) (keeps_on j bodies old new h.files h.images keeps);
   moments = λ bodies keeps. moments_none j.live bodies [] old new h.time;
 }
@@ -101,6 +105,8 @@ does_line j made old new h = record {
   sent = ap sent_by (append-nil made) ∙ sym (append-nil (sent_by made));
   live = refl;
   limit = refl;
+  generation = refl;
+  unshut = refl;
   stands = λ bodies keeps. subst (λ z. Keeps j z new) (sym (append-nil bodies)) (keeps_on j bodies old new h.files h.images keeps);
   moments = λ bodies keeps.
       weaker old new _ _ h.time
@@ -192,6 +198,8 @@ ran_one s n m old new w k sure runs =
           sent = ap sent_by (append-nil (w.first ++ w.made)) ∙ sent_append w.first w.made ∙ ap (λ z. z ++ sent_by w.made) f.silent ∙ sym (append-nil (sent_by w.made));
           live = w.live;
           limit = w.limit;
+          generation = w.generation;
+          unshut = w.unshut;
           stands = λ bodies keeps. subst (λ z. Keeps m.journal (bodies ++ z) new) (sym (append-nil (landed_by s.landed s.entry))) (w.stands bodies keeps);
           moments = w.moments;
         };

@@ -213,7 +213,7 @@ module _ (version : Version) (rs more : List Record) (bodies texts : List (List 
   anew = prepare_calls j.unshut (1 - j.live) (text_of (j.generation + 1) texts) ++ raise (1 - j.live) 0
 
   pub compact_goes : (r : Compact) → (r ≡ compacts.Full → ⊥) → Compacted r j.live bodies (mark_body (j.generation + 1) ∷ texts) k old new
-      → Moves r j.unshut (1 - j.live) (text_of (j.generation + 1) texts) old new → HasGround r j old new
+      → Moves r (text_of (j.generation + 1) texts) j k old new → HasGround r j old new
       → Goes anew (Either version rs more) (compact_ended r) old new
   compact_goes compacts.Done f h c r = record {
     made = c.made;

@@ -27,8 +27,9 @@ use Rattle.node_at.specs.declared.fault.StartFault.{StartFault}
 use Rattle.node_at.specs.declared.fault.StartFault.TheVariants as faults
 use Rattle.node_at.specs.declared.opened_journal.Opened.{Opened}
 use Rattle.node_at.specs.Sizes.{end_of, size_of}
-use Rattle.node_at.specs.Starts.{Begins, CannotStart, Carries, Either, Ends, Gathers, IsCause, IsLiveBehind, IsNext, IsNoRecord, IsOpen, IsRead, OnTheWay, Opens, OpensAs, append_calls, carried, carrying, load_fault, start_after, started}
+use Rattle.node_at.specs.Starts.{Begins, CannotStart, Carries, Either, Ends, Gathers, IsCause, IsContinued, IsJournalBehind, IsLiveBehind, IsNext, IsNoRecord, IsOpen, IsRead, OnTheWay, Opens, OpensAs, append_calls, carried, carrying, load_fault, start_after, started}
 use Rattle.node_at.proofs.StartParts.{goes_no_further, goes_then}
+use Rattle.node_at.proofs.JournalsBehind.{goes_on}
 use Rattle.node_at.proofs.DiskCalls.{disk_breaks, disk_silent, opening_disk}
 use Rattle.node_at.proofs.Sizes.{framed_append, start_long}
 use Rattle.node_at.proofs.IdFacts.{weaker}
@@ -73,8 +74,8 @@ pub begins_on : (rs : List Record) (n : ℕ) (r : Result (Unit {0}) StartFault) 
     → Carries (append_calls j.live (end_of (carried before.version rs)) (bytes_of (records.Start n))) Two (carried before.version rs) (carried before.version rs ++ records.Start n ∷ []) r after.journal mid new
     → OnOk r (known after.kept ≡ kept_of Two (carried before.version rs ++ records.Start n ∷ []))
     → OnOk r (after.journal.live ≡ j.live) → after.journal.limit ≡ j.limit
-    → Begins r rs before after old new
-begins_on rs n r before after j old mid new e first behind limit then kept live same =
+    → IsJournalBehind before.version before.journal j → OnOk r (IsContinued j after.journal) → Begins r rs before after old new
+begins_on rs n r before after j old mid new e first behind limit then kept live same opened continued =
     let more = carried before.version rs in
     let calls = append_calls j.live (end_of more) (bytes_of (start_after rs)) in
     let now : Carries calls Two more (started before.version rs) r after.journal mid new = subst (λ z. Carries (append_calls j.live (end_of more) (bytes_of (records.Start z))) Two more (more ++ records.Start z ∷ []) r after.journal mid new) e then in
@@ -87,6 +88,7 @@ begins_on rs n r before after j old mid new e first behind limit then kept live 
       live = on_ok r live (λ z. sym z);
       kept = subst (λ z. OnOk r (known after.kept ≡ kept_of Two (more ++ records.Start z ∷ []))) e kept;
       limit = same ∙ limit;
+      journal = goes_on r before.version before.journal j after.journal opened live continued;
     }
 
 pub begins_not : (rs : List Record) (e : StartFault) (before after : Opened) (old new : Told)
@@ -102,6 +104,7 @@ begins_not rs e before after old new first limit =
       live = tt;
       kept = tt;
       limit = limit;
+      journal = tt;
     } where
       put : (version : Version) → IsLiveBehind version before.journal before.journal.live
       put Two = refl
@@ -140,6 +143,7 @@ gathers_opened o j fs limit old new (version, journal, folded, is_kept) (h, sure
       when = h.when;
       bodies = h.bodies;
       live = h.held;
+      gate = h.gate;
       of = h.version;
       are = are;
       end = h.keeps.end;

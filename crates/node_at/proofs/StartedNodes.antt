@@ -59,6 +59,7 @@ is_started o after base limit n book old mid new h (is, least, fits) e b =
       kept = b.kept;
       holds = b.holds;
       limit_is = b.limit ∙ h.limit_is;
+      behind = b.journal;
       effects = refl;
       runs = refl;
       grown = subst (λ z. new.calls ≡ option_map (λ l. l ++ z) old.calls) calls (grown_then old.calls mid.calls new.calls (map done first) b.goes.made h.grown b.goes.grown);

@@ -100,17 +100,19 @@ went_landed r n m b fx leaving old mid new h c k sure runs book effects kept =
       tried = k.tried;
       counted = subst (λ z. Counts k.lost z new.counts.link) (link_on old mid c) k.counted;
       calls = grown_then old.calls mid.calls new.calls calls.made k.made calls.grown k.calls;
-      live = h.live;
-      limit = h.limit;
+      live = h.same.live;
+      limit = h.same.limit;
+      generation = h.same.generation;
+      unshut = h.same.unshut;
       sure = stays_sure m.journal.unsure (λ e. subst IsUnsure (sym (h.unsure.0 e)) tt);
       runs = runs;
       stands = λ bodies keeps. keeps_on m.journal (bodies ++ bytes_of r ∷ []) mid new k.files k.images (h.appended bodies sure keeps).after;
       moments = λ bodies keeps.
           step_moments old mid new n.journal.live bodies (bytes_of r ∷ []) calls.made k.made calls.grown
           (makes_silent appends.Done n.journal.live n.journal.end (bytes_of r) calls.made calls.are) k.calls
-          (weaker old mid _ _ (h.appended bodies sure keeps).time (λ l d p. (p.0, subst (λ z. EitherHolds z bodies (bytes_of r) d) h.live p.1)))
+          (weaker old mid _ _ (h.appended bodies sure keeps).time (λ l d p. (p.0, subst (λ z. EitherHolds z bodies (bytes_of r) d) h.same.live p.1)))
           k.time
-          (λ d now. subst (λ z. Holds z (bodies ++ bytes_of r ∷ []) d) h.live ((h.appended bodies sure keeps).after.stands.images d now));
+          (λ d now. subst (λ z. Holds z (bodies ++ bytes_of r ∷ []) d) h.same.live ((h.appended bodies sure keeps).after.stands.images d now));
     }
 
 -- the record is certainly absent
@@ -132,17 +134,19 @@ module _ (r : Record) (n m : State) (b : Book) (fx : List Effect) (leaving : Lis
         tried = k.tried;
         counted = subst (λ z. Counts k.lost z new.counts.link) (link_on old mid c) k.counted;
         calls = grown_then old.calls mid.calls new.calls calls.made k.made calls.grown k.calls;
-        live = h.live;
-        limit = h.limit;
+        live = h.same.live;
+        limit = h.same.limit;
+        generation = h.same.generation;
+        unshut = h.same.unshut;
         sure = stays_sure m.journal.unsure (λ e. subst IsUnsure (sym (h.unsure.0 e)) tt);
         runs = runs;
         stands = λ bodies keeps. subst (λ z. Keeps m.journal z new) (sym (append-nil bodies)) (keeps_on m.journal bodies mid new k.files k.images (h.appended bodies sure keeps).after);
         moments = λ bodies keeps.
             step_moments old mid new n.journal.live bodies [] calls.made k.made calls.grown
             (makes_silent appends.Refused n.journal.live n.journal.end (bytes_of r) calls.made calls.are) k.calls
-            (weaker old mid _ _ (h.appended bodies sure keeps).time (λ l d p. (p.0, inl (subst (λ z. Holds z bodies d) h.live p.1))))
+            (weaker old mid _ _ (h.appended bodies sure keeps).time (λ l d p. (p.0, inl (subst (λ z. Holds z bodies d) h.same.live p.1))))
             k.time
-            (λ d now. subst (λ z. Holds n.journal.live z d) (sym (append-nil bodies)) (subst (λ z. Holds z bodies d) h.live ((h.appended bodies sure keeps).after.stands.images d now)));
+            (λ d now. subst (λ z. Holds n.journal.live z d) (sym (append-nil bodies)) (subst (λ z. Holds z bodies d) h.same.live ((h.appended bodies sure keeps).after.stands.images d now)));
       }
 
   pub went_full : IsAppended appends.Full r (bytes_of r) n.journal m.journal old mid → Went (Some r) false b fx leaving n m old new
@@ -160,17 +164,19 @@ module _ (r : Record) (n m : State) (b : Book) (fx : List Effect) (leaving : Lis
         tried = k.tried;
         counted = subst (λ z. Counts k.lost z new.counts.link) (link_on old mid c) k.counted;
         calls = grown_then old.calls mid.calls new.calls calls.made k.made calls.grown k.calls;
-        live = h.live;
-        limit = h.limit;
+        live = h.same.live;
+        limit = h.same.limit;
+        generation = h.same.generation;
+        unshut = h.same.unshut;
         sure = stays_sure m.journal.unsure (λ e. subst IsUnsure (sym (h.unsure.0 e)) tt);
         runs = runs;
         stands = λ bodies keeps. subst (λ z. Keeps m.journal z new) (sym (append-nil bodies)) (keeps_on m.journal bodies mid new k.files k.images (h.appended bodies sure keeps).after);
         moments = λ bodies keeps.
             step_moments old mid new n.journal.live bodies [] calls.made k.made calls.grown
             (makes_silent appends.Full n.journal.live n.journal.end (bytes_of r) calls.made calls.are) k.calls
-            (weaker old mid _ _ (h.appended bodies sure keeps).time (λ l d p. (p.0, inl (subst (λ z. Holds z bodies d) h.live p.1))))
+            (weaker old mid _ _ (h.appended bodies sure keeps).time (λ l d p. (p.0, inl (subst (λ z. Holds z bodies d) h.same.live p.1))))
             k.time
-            (λ d now. subst (λ z. Holds n.journal.live z d) (sym (append-nil bodies)) (subst (λ z. Holds z bodies d) h.live ((h.appended bodies sure keeps).after.stands.images d now)));
+            (λ d now. subst (λ z. Holds n.journal.live z d) (sym (append-nil bodies)) (subst (λ z. Holds z bodies d) h.same.live ((h.appended bodies sure keeps).after.stands.images d now)));
       }
 
 -- there is no record
@@ -193,6 +199,8 @@ went_plain n m b fx leaving old new k sure runs e =
       calls = k.calls;
       live = ap (λ (z : Journal). z.live) journal;
       limit = ap (λ (z : Journal). z.limit) journal;
+      generation = ap (λ (z : Journal). z.generation) journal;
+      unshut = ap (λ (z : Journal). z.unshut) journal;
       sure = ap (λ (z : Journal). z.unsure) journal ∙ sure;
       runs = ap (λ (z : State). z.halted) e ∙ runs;
       stands = λ bodies keeps. subst (λ z. Keeps z (bodies ++ []) new) (sym journal) (subst (λ z. Keeps n.journal z new) (sym (append-nil bodies)) (keeps_on n.journal bodies old new k.files k.images keeps));
@@ -222,7 +230,7 @@ stopped r n m leaving old new h sure e =
       moments = λ bodies keeps.
           halted_moments old new n.journal.live bodies (record { landed = bytes_of r ∷ []; sent = map call_by leaving }) calls.made calls.grown
           (makes_silent appends.Unsure n.journal.live n.journal.end (bytes_of r) calls.made calls.are)
-          (weaker old new _ _ (h.appended bodies sure keeps).time (λ l d p. (p.0, subst (λ z. EitherHolds z bodies (bytes_of r) d) h.live p.1)));
+          (weaker old new _ _ (h.appended bodies sure keeps).time (λ l d p. (p.0, subst (λ z. EitherHolds z bodies (bytes_of r) d) h.same.live p.1)));
     }
 
 -- The counts.

@@ -15,6 +15,5 @@ returns-clause-appended g c = record {
   full = c.append.ensures.full;
   unsure = c.append.ensures.unsure;
   stuck = λ e. (c.append.ensures.nothing e).0;
-  live = c.append.ensures.same.0;
-  limit = c.append.ensures.same.1;
+  same = c.append.ensures.same;
 }

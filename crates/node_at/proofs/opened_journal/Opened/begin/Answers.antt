@@ -13,6 +13,7 @@ returns-in-Ok g c = λ rs o kept e fits.
     begins_on rs c.args.incarnation c.record_start.result c.args.self.now (record { version = version; journal = c.record_start.new.journal; kept = c.record_start.new.kept }) c.carry.new.journal _ _ _ e first
     c.in-Ok.ensures.live c.in-Ok.ensures.limit (c.record_start.ensures.carries more first.holds (omega (arith, long, fits, c.in-Ok.ensures.limit)))
     (c.record_start.ensures.kept more (kept_carried version rs (known c.args.self.now.kept) c.shrinks_the_same.ensures kept)) c.record_start.ensures.live c.record_start.ensures.limit
+    (c.in-Ok.ensures.journal o.sure) c.record_start.ensures.continued
 
 pub returns-in-Err : goal.returns-in-Err
 returns-in-Err g c = λ rs o kept e fits.
