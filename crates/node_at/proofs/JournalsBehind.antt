@@ -1,5 +1,5 @@
 -- The journal behind the parts of a start, as far as no record says it.
-use Rattle.std.proofs.Common.{List, ℕ, Result, Ok, Err, false, ◌≡◌, ◌≢◌, ◌≤◌, refl, sym, ◌∙◌, subst, OnOk, arith}
+use Rattle.std.proofs.Common.{List, ℕ, Result, Ok, Err, false, ◌≡◌, ◌≤◌, sym, ◌∙◌, subst, OnOk}
 use Rattle.site_model.specs.Told.{Told}
 use Rattle.journal_at.specs.declared.journal.Compact.{Compact}
 use Rattle.journal_at.specs.declared.journal.Compact.TheVariants as compacts
@@ -18,17 +18,6 @@ renewed result r texts j k old new e h sure some = subst (λ z. OnOk z (IsRenewe
   by_case compacts.Kept h = tt
   by_case compacts.Unsure h = tt
   by_case compacts.Full h = tt
-
-pub behind_two : (version : Version) (j : Journal) → version ≡ Two → IsJournalBehind version j j
-behind_two version j e = subst (λ v. IsJournalBehind v j j) (sym e) (record { generation = refl; unshut = refl })
-
-pub behind_mark : {T E : Type 0} (version : Version) (r : Result T E) (j k : Journal) → version ≡ One → j.end ≡ 0 → IsContinued j k → OnOk r (IsJournalBehind version j k)
-behind_mark version (Ok x) j k e none h = subst (λ v. IsJournalBehind v j k) (sym e) (λ n. h, λ some. absurd (omega (arith, none, some)))
-behind_mark version (Err x) j k e none h = tt
-
-pub behind_anew : {T E : Type 0} (version : Version) (r : Result T E) (j k : Journal) → version ≡ One → j.end ≢ 0 → (1 ≤ j.end → OnOk r (IsRenewed j k)) → OnOk r (IsJournalBehind version j k)
-behind_anew version (Ok x) j k e some h = subst (λ v. IsJournalBehind v j k) (sym e) (λ none. absurd (some none), h)
-behind_anew version (Err x) j k e some h = tt
 
 continues : (version : Version) (before j k : Journal) → IsJournalBehind version before j → k.live ≡ j.live → IsContinued j k → IsJournalBehind version before k
 continues Two before j k h live c = record { generation = c.generation ∙ h.generation; unshut = c.unshut ∙ h.unshut }
