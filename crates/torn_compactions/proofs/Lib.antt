@@ -1,0 +1,4 @@
+pub mod FirstGates
+pub mod TouchedFiles
+pub mod CutCompactions
+pub mod TornCompactions
