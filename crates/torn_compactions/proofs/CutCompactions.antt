@@ -64,11 +64,6 @@ module _ (text : List ℕ) where
     gate_done Drop = h.shut
     gate_done (Fill b) = gate_lies b text f h
 
-    gate_unsynced : (choice : Choice) → Lies (stands_anew 6 false choice) text (chosen choice (after_write 0 (1 ∷ []) true (opened f)))
-    gate_unsynced Keep = gate_lies 1 text f h
-    gate_unsynced Drop = h.shut
-    gate_unsynced (Fill b) = gate_lies b text f h
-
     gate_failed : (choice : Choice) → Lies (stands_anew 5 false choice) text (chosen choice (after_write 0 (1 ∷ []) false (opened f)))
     gate_failed Keep = h.shut
     gate_failed Drop = h.shut
@@ -81,18 +76,13 @@ module _ (text : List ℕ) where
   module _ (f : List ℕ) (s : IsShut f) where
     behind_shut : (m : ℕ) (last : Bool) (choice : Choice) → 1 ≤ m → m ≤ 4 → Lies (stands_anew (suc (suc m)) last choice) text (chosen choice (run First (opened f) (later_row m last)))
     behind_shut zero last choice least most = absurd (omega (arith, least))
-    behind_shut (suc zero) true choice least most = text_torn f s true choice
-    behind_shut (suc zero) false Keep least most = text_torn f s false Keep
-    behind_shut (suc zero) false Drop least most = text_torn f s false Drop
-    behind_shut (suc zero) false (Fill b) least most = text_torn f s false (Fill b)
+    behind_shut (suc zero) last choice least most = text_torn f s last choice
     behind_shut (suc (suc zero)) true choice least most = chosen_opened IsShut (written 1 text f) choice (text_shut text f s)
-    behind_shut (suc (suc zero)) false Keep least most = text_torn f s true Keep
-    behind_shut (suc (suc zero)) false Drop least most = text_torn f s true Drop
-    behind_shut (suc (suc zero)) false (Fill b) least most = text_torn f s true (Fill b)
+    behind_shut (suc (suc zero)) false choice least most = text_torn f s true choice
     behind_shut (suc (suc (suc zero))) true choice least most = gate_done (written 1 text f) (text_filled text f s) choice
     behind_shut (suc (suc (suc zero))) false choice least most = gate_failed (written 1 text f) (text_filled text f s) choice
     behind_shut (suc (suc (suc (suc zero)))) true choice least most = chosen_opened (Lies true text) (written 0 (1 ∷ []) (written 1 text f)) choice (gate_lies 1 text (written 1 text f) (text_filled text f s))
-    behind_shut (suc (suc (suc (suc zero)))) false choice least most = gate_unsynced (written 1 text f) (text_filled text f s) choice
+    behind_shut (suc (suc (suc (suc zero)))) false choice least most = gate_done (written 1 text f) (text_filled text f s) choice
     behind_shut (suc (suc (suc (suc (suc m))))) last choice least most = absurd (omega (arith, most))
 
   module _ (opens : Choice → Bool) (d : Disk) where
@@ -146,18 +136,9 @@ module _ (text : List ℕ) where
     all_sides m f s last choice least most = lies_sides live bodies d.seen (beside Keep) (stands_anew (suc (suc m)) last choice) _ (behind_shut f s m last choice least most)
 
     early : (k : ℕ) (last : Bool) (choice : Choice) (f : List ℕ) → k ≤ 2 → Beside live bodies f → Sides (stands_anew k last choice) live bodies f
-    early zero true choice f most h = h
-    early zero false Keep f most h = h
-    early zero false Drop f most h = h
-    early zero false (Fill b) f most h = h
-    early (suc zero) true choice f most h = h
-    early (suc zero) false Keep f most h = h
-    early (suc zero) false Drop f most h = h
-    early (suc zero) false (Fill b) f most h = h
-    early (suc (suc zero)) true choice f most h = h
-    early (suc (suc zero)) false Keep f most h = h
-    early (suc (suc zero)) false Drop f most h = h
-    early (suc (suc zero)) false (Fill b) f most h = h
+    early zero last choice f most h = h
+    early (suc zero) last choice f most h = h
+    early (suc (suc zero)) last choice f most h = h
     early (suc (suc (suc k))) last choice f most h = absurd (omega (arith, most))
 
     pub sides_behind : (unshut : Bool) → SpareOf unshut → (n : ℕ) (last : Bool) (choice : Choice) → n ≤ count_of unshut

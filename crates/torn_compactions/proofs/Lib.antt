@@ -1,4 +1,5 @@
 pub mod FirstGates
 pub mod TouchedFiles
 pub mod CutCompactions
+pub mod MovedCalls
 pub mod TornCompactions

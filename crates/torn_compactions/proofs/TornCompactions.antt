@@ -23,10 +23,13 @@ use Rattle.journal_at.proofs.OtherFiles.{may_more}
 use Rattle.journal_at.proofs.SpareFiles.{flips, holds_beside}
 use Rattle.torn_appends.specs.TornAppends.{IsSending}
 use Rattle.torn_appends.proofs.DiskRuns.{beside_of, live_chosen, other_chosen, run_on, sendings}
-use Rattle.torn_appends.proofs.TornAppends.{appended_live, goes as append_goes, holds_then, stays as append_stays}
+use Rattle.torn_appends.proofs.TornAppends.{appended_live, goes as append_goes, holds_then, row as append_row, stays as append_stays, stopped_live}
+use Rattle.torn_appends.proofs.GateWrites.{still_closed}
 use Rattle.torn_compactions.specs.TornCompactions.{CompactionsTorn, GateBy, HoldsEither, IsAlone, IsWrittenAlone, KeepsBy, SpareBy, WritesAlone, always, count_of, later_of, of_six, opens_behind, stands_anew}
 use Rattle.torn_compactions.proofs.CutCompactions.{Sides, SpareOf, chosen_opened, gates_behind, goes, row, sides_behind}
-use Rattle.torn_compactions.proofs.TouchedFiles.{appended_alone, compaction_alone, live_file, missed, other_file, sends_alone}
+use Rattle.torn_compactions.proofs.FirstGates.{one_gate}
+use Rattle.torn_compactions.proofs.MovedCalls.{moved}
+use Rattle.torn_compactions.proofs.TouchedFiles.{append_alone, appended_alone, compaction_alone, live_file, missed, other_file, sends_alone}
 
 -- what a crash leaves of the file that isn't live
 other_at : (live : ℕ) (choice : Choice) (opening : Files) (log made : List Made) → other_than live (chosen_files choice opening (log ++ made)) ≡ chosen choice (run (beside_of live) (disk (beside_of live) opening log) made)
@@ -86,6 +89,26 @@ module _ (unshut : Bool) (live generation : ℕ) (bodies : List (List ℕ)) (ope
             holds_then live bodies (bodies ++ body ∷ []) choice opening log (map done (lay live end body ++ raise live end)) _ (k.holds choice)
             (append_goes end body live 4 true _) (append_stays end body live 4 true _) follows.generation (appended_live end body bodies e _ closed_live choice);
         spare = spare_still unshut live bodies (bodies ++ body ∷ []) opening log (map done (lay live end body ++ raise live end)) follows.generation (appended_alone live end body) k.spare;
+      }
+
+  -- behind the first calls of an append, before its gate
+  unraised : (end : ℕ) (body : List ℕ) (k : ℕ) (last : Bool) (choice : Choice) → end ≡ length (frames bodies) → k ≤ 2 → Closed bodies (chosen choice (run First (disk (which_of live) opening log) (append_row end body 0 k last)))
+  unraised end body zero last choice e most = closed_live choice
+  unraised end body (suc zero) last choice e most = still_closed bodies body end e choice _ closed_live last
+  unraised end body (suc (suc zero)) true choice e most = stopped_live end body bodies e _ closed_live 2 choice (omega arith)
+  unraised end body (suc (suc zero)) false choice e most = still_closed bodies body end e choice _ closed_live true
+  unraised end body (suc (suc (suc k))) last choice e most = absurd (omega (arith, most))
+
+  pub refused : (end : ℕ) (body : List ℕ) (m : ℕ) (last : Bool) → end ≡ length (frames bodies) → m ≤ 2 → KeepsBy unshut live generation bodies opening (log ++ append_row end body live m last)
+  refused end body m last e most =
+      record {
+        two = k.two;
+        generation_is = k.generation_is;
+        listed = k.listed;
+        holds = λ choice.
+            holds_then live bodies bodies choice opening log (append_row end body live m last) _ (k.holds choice)
+            (append_goes end body live m last _) (append_stays end body live m last _) refl (unraised end body m last choice e most);
+        spare = spare_still unshut live bodies bodies opening log (append_row end body live m last) refl (append_alone live end body m last) k.spare;
       }
 
   beside_chosen : (choice : Choice) → Beside live bodies (chosen choice (disk (beside_of live) opening log))
@@ -181,7 +204,10 @@ compactions_torn images =
       kept = kept images;
       sent = λ unshut live generation bodies opening log rest k all. sent unshut live generation bodies opening log k rest all;
       appended = λ unshut live generation end bodies body opening log k e follows. appended unshut live generation bodies opening log k end body e follows;
+      refused = λ unshut live generation end bodies body opening log m last k e most. refused unshut live generation bodies opening log k end body m last e most;
       behind = λ unshut live generation bodies texts opening log n last choice k small most. behind unshut live generation bodies opening log k n last texts small choice most;
+      moved = moved;
+      one_gate = one_gate;
       gate_kept = λ opens live opening log made gate all choice. subst (IsGate (opens choice)) (sym (other_still live choice opening log made all)) (gate choice);
       gate_settled = gate_settled;
       gate_left = λ opens live opening log choice gate c. subst (IsGate (opens choice)) (sym (opened_file live (chosen_files choice opening log) c)) (gate choice);

@@ -1,5 +1,5 @@
 -- Calls that touch one file alone.
-use Rattle.std.specs.Prelude.{ℕ, List, Bool, true, false, zero, suc, [], ◌∷◌, ◌++◌, ◌-◌, ◌≡◌, ◌≤◌, map}
+use Rattle.std.specs.Prelude.{ℕ, List, Bool, true, false, zero, suc, [], ◌∷◌, ◌++◌, ◌-◌, ◌≡◌, ◌≤◌, map, cond}
 use Rattle.std.specs.List.{AllByRecursion}
 use Rattle.std.proofs.Common.{refl, ap, arith, ◌∙◌}
 use Rattle.site_model.specs.Told.{Call, Made, done}
@@ -7,7 +7,6 @@ use Rattle.site_model.specs.Told.Call.{Write, Sync, Send, Post}
 use Rattle.site_memory.specs.Disk.{Disk, after_call, after_sync, after_write, run, same, which_of}
 use Rattle.site_memory.specs.declared.range.Which.{Which}
 use Rattle.journal_at.specs.StandingBodies.{lay, raise}
-use Rattle.std.specs.Prelude.{cond}
 use Rattle.torn_appends.specs.TornAppends.{IsSending, TouchesNone, up_to}
 use Rattle.torn_appends.proofs.DiskRuns.{beside_of}
 use Rattle.torn_compactions.specs.TornCompactions.{IsAlone, TouchesAlone, compaction_calls}

@@ -1,13 +1,15 @@
 -- What a machine in memory leaves of a journal's files where it stops at a call of a compaction, or where such a call fails and the machine is opened
 -- anew; and what it leaves of the first gate of the file that isn't live.
-use Rattle.std.specs.Prelude.{ℕ, List, [], ◌∷◌, ◌++◌, ◌+◌, ◌-◌, ◌≡◌, ◌≤◌, ◌<◌, Bool, true, false, refl, ◌&&◌, if◌then◌else◌, length, map, nat_eq, nat_le, not, zero, suc}
+use Rattle.std.specs.Prelude.{ℕ, List, [], ◌∷◌, ◌++◌, ◌+◌, ◌-◌, ◌≡◌, ◌≤◌, ◌<◌, Bool, true, false, refl, ◌&&◌, ◌||◌, if◌then◌else◌, length, map, nat_eq, nat_le, not, zero, suc}
 use Rattle.std.specs.List.{AllByRecursion}
-use Rattle.journal_at.specs.Compactions.{prepare_calls, text_of}
+use Rattle.journal_at.specs.Compactions.{Steps, prepare_calls, text_of}
 use Rattle.journal_at.specs.Format.{AreListed, frames, head_of, mark_body}
 use Rattle.journal_at.specs.Frames.{IsShut}
 use Rattle.journal_at.specs.Pairs.{Holds}
 use Rattle.journal_at.specs.Scans.{IsGate}
 use Rattle.journal_at.specs.StandingBodies.{Keeps, MayFollow, MayShut, lay, raise}
+use Rattle.journal_at.specs.declared.journal.Compact.{Compact}
+use Rattle.journal_at.specs.declared.journal.Compact.TheVariants.{Done, Kept, Unsure, Full}
 use Rattle.journal_at.specs.declared.journal.Journal.{Journal}
 use Rattle.site_memory.specs.Devices.{calls_in, opening_in}
 use Rattle.site_memory.specs.Disk.{chosen_files}
@@ -37,12 +39,16 @@ of_six false n = suc n
 abbrev pub later_of : ℕ → List (List ℕ) → List (List ℕ)
 later_of generation texts = mark_body (generation + 1) ∷ texts
 
--- Whether they stand where a crash comes behind the k-th of the six, which was or wasn't done. What failed to be synced still reads as it was written.
+-- whether a gate whose raising was written or failed to be, and isn't synced, is left raised
+abbrev pub gate_rises : Bool → Choice → Bool
+gate_rises true choice = gate_stands choice
+gate_rises false Keep = false
+gate_rises false Drop = false
+gate_rises false (Fill byte) = nat_eq byte 1
+
+-- Whether they stand where a crash comes behind the k-th of the six, which was or wasn't done.
 abbrev pub stands_anew : ℕ → Bool → Choice → Bool
-stands_anew k true choice = if nat_le 6 k then true else (nat_le 5 k && gate_stands choice)
-stands_anew k false Keep = nat_le 6 k
-stands_anew k false Drop = false
-stands_anew k false (Fill byte) = nat_le 5 k && nat_eq byte 1
+stands_anew k last choice = if nat_le 6 k then (last || gate_stands choice) else (nat_le 5 k && gate_rises last choice)
 
 -- those bodies stand in the file that was live, or these in the other one
 abbrev pub HoldsEither : Bool → ℕ → List (List ℕ) → List (List ℕ) → Files → Type 0
@@ -106,6 +112,23 @@ WritesAlone file (Post host port bytes) = Unit {0}
 abbrev pub IsWrittenAlone : ℕ → Made → Type 0
 IsWrittenAlone file made = WritesAlone file made.call
 
+-- Where the calls of a compaction ended that came to this: the n-th was the last that was tried, and it was or wasn't done.
+abbrev pub EndsAt : Compact → Bool → ℕ → Bool → Type 0
+EndsAt Done unshut n last = (of_six unshut n ≡ 6) × (last ≡ true)
+EndsAt Kept unshut n true = of_six unshut n ≤ 3
+EndsAt Kept unshut n false = (1 ≤ n) × (of_six unshut n ≤ 4)
+EndsAt Unsure unshut n true = (4 ≤ of_six unshut n) × (of_six unshut n ≤ 5)
+EndsAt Unsure unshut n false = (5 ≤ of_six unshut n) × (of_six unshut n ≤ 6)
+EndsAt Full unshut n last = n ≡ 0
+
+-- they are the first so many of them
+pub record IsCut (result : Compact) (unshut : Bool) (file : ℕ) (text : List ℕ) (made : List Made) : Type 0 where
+  pub n : ℕ
+  pub last : Bool
+  pub most : n ≤ count_of unshut
+  pub ends : EndsAt result unshut n last
+  pub is : made ≡ up_to n last (compaction_calls unshut file text)
+
 -- whatever a crash leaves
 abbrev pub always : Bool → Choice → Bool
 always b choice = b
@@ -120,11 +143,19 @@ pub record CompactionsTorn : Type 0 where
   -- or a body was appended
   pub appended : (unshut : Bool) (live generation end : ℕ) (bodies : List (List ℕ)) (body : List ℕ) (opening : Files) (log : List Made) → KeepsBy unshut live generation bodies opening log
       → end ≡ length (frames bodies) → MayFollow bodies body → KeepsBy unshut live generation (bodies ++ body ∷ []) opening (log ++ map done (lay live end body ++ raise live end))
+  -- or that failed before its gate was raised
+  pub refused : (unshut : Bool) (live generation end : ℕ) (bodies : List (List ℕ)) (body : List ℕ) (opening : Files) (log : List Made) (k : ℕ) (last : Bool)
+      → KeepsBy unshut live generation bodies opening log → end ≡ length (frames bodies) → k ≤ 2
+      → KeepsBy unshut live generation bodies opening (log ++ up_to k last (lay live end body ++ raise live end))
   -- a crash behind the first calls of a compaction, up to one that was or wasn't done
   pub behind : (unshut : Bool) (live generation : ℕ) (bodies texts : List (List ℕ)) (opening : Files) (log : List Made) (n : ℕ) (last : Bool) (choice : Choice)
       → KeepsBy unshut live generation bodies opening log → generation < 4294967295 → n ≤ count_of unshut
       → HoldsEither (stands_anew (of_six unshut n) last choice) live bodies (later_of generation texts)
       (chosen_files choice opening (log ++ up_to n last (compaction_calls unshut (1 - live) (text_of (generation + 1) texts))))
+  -- the calls that a compaction made
+  pub moved : (result : Compact) (unshut : Bool) (file : ℕ) (text : List ℕ) (made : List Made) → Steps result unshut file text made → IsCut result unshut file text made
+  -- a file's first gate is open or not there, or shut
+  pub one_gate : (a b : Bool) (f : List ℕ) → IsGate a f → IsGate b f → a ≡ b
   -- calls that touch the live file alone, or none, leave the gate of the other as it is
   pub gate_kept : (opens : Choice → Bool) (live : ℕ) (opening : Files) (log made : List Made) → GateBy opens live opening log → AllByRecursion (IsAlone live) made
       → GateBy opens live opening (log ++ made)
@@ -146,8 +177,8 @@ pub record CompactionsTorn : Type 0 where
 pub a_gate_that_failed_to_be_shut : opens_behind true 1 false (always true) (Fill 0) ≡ false
 a_gate_that_failed_to_be_shut = refl
 
-pub a_shut_gate_that_isn't_synced : opens_behind true 2 false (always true) Drop ≡ true
-a_shut_gate_that_isn't_synced = refl
+pub a_shut_gate_whose_sync_failed : opens_behind true 2 false (always true) Drop ≡ true
+a_shut_gate_whose_sync_failed = refl
 
 pub a_raised_gate_that_fell : opens_behind false 4 true (always false) (Fill 1) ≡ true
 a_raised_gate_that_fell = refl
