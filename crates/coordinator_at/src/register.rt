@@ -1,11 +1,10 @@
 //! Register: which participants a transaction accepts, and what it answers (WS-Coordination 1.2, section 3.2).
 
-ghost use Rattle.std.specs.Prelude.{◌≡◌, ◌<◌, ◌++◌, ◌&&◌, if◌then◌else◌, IfOk, OnOk, Some, None, find, length, nat_lt, option_copied, option_map, is_none};
+ghost use Rattle.std.specs.Prelude.{◌≡◌, ◌<◌, ◌++◌, if◌then◌else◌, IfOk, OnOk, Some, None, length, nat_lt, option_copied, option_map, is_none};
 ghost use Rattle.at_base.specs.declared.fault.Fault.TheVariants.{CannotRegisterParticipant, InvalidParameters, InvalidProtocol};
 ghost use Rattle.at_base.specs.declared.limits.TheConstants.{MOST_SEATS};
 ghost use Rattle.at_model.specs.Book.{is_epr};
 ghost use Rattle.at_model.specs.Register.{protocol_named, seat_endpoint, completion_endpoint, seat_for, accepts, may_complete, may_register, registered_reply, is_late, new_seat, late_prepare, with_seat, accept_seat, accept, refuse_register, register_new, register_again, held_seat, on_register, register_unknown};
-ghost use Rattle.at_base.specs.Names.{is_kind};
 ghost use Rattle.at_tables.specs.declared.cells.State.TheVariants as states;
 ghost use Rattle.at_model.specs.Book.{Transaction as Known};
 ghost use Rattle.coordinator_at.specs.Registrations.{registered, registration_of};
@@ -18,7 +17,7 @@ use at_base::fault::Fault;
 use at_base::id::Id;
 use at_base::limits::MOST_SEATS;
 use at_base::message::{Message, Register};
-use at_base::notice::{Kind, Notice, is_kind};
+use at_base::notice::{Kind, Notice};
 use at_base::outs::{Effects, OutList, Outs};
 use at_base::target::Target;
 use at_base::text::Text;
@@ -95,26 +94,6 @@ fn is_same(a: &Epr, b: &Epr) -> bool
     a.address.as_str() == b.address.as_str() && a.params.as_str() == b.params.as_str()
 }
 
-/// Whether a seat is this endpoint's, for this kind.
-fn is_held(seat: &Enlistment, kind: Kind, participant: &Epr) -> bool
-    ensures { result ≡ (is_kind seat.now.kind kind && is_epr seat.now.participant participant.now) }
-{
-    is_kind(seat.kind, kind) && is_same(&seat.participant, participant)
-}
-
-/// The seat that an endpoint has for this kind.
-fn seat_of<'a>(seats: &'a [Enlistment], kind: Kind, participant: &Epr) -> Option<&'a Enlistment>
-    ensures { option_copied result
-        ≡ find (λ s. is_kind s.kind kind && is_epr s.participant participant.now) seats.entry.now }
-{
-    for seat in seats {
-        if is_held(seat, kind, participant) {
-            return Some(seat);
-        }
-    }
-    None
-}
-
 /// The endpoint of the coordinator for a seat.
 fn seat_endpoint(alloc: Global, base: &Text, id: Id, seat: &Enlistment) -> Result<Epr, AllocError>
     ensures { IfOk result (λ epr. epr ≡ seat_endpoint base.now id seat.now) }
@@ -180,7 +159,7 @@ fn seat_for(
 {
     match protocol {
         Some(kind) => {
-            let found = seat_of(transaction.seats.as_slice(), kind, participant);
+            let found = transaction.seats.seat_of(kind, participant);
             found_endpoint(alloc, moment, transaction.id, found)
         }
         None => completion_for(alloc, moment, transaction, participant),

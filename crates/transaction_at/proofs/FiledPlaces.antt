@@ -237,21 +237,26 @@ module _ {K : Type 0} (R : K → K → Ordering) (o : IsTotalOrder R) where
     where
       R′ : List ℕ → Type 0
       R′ jx = IsFiled R jx (ks ++ k ∷ [])
+
       none : All (λ i. ties R k ks i ≡ false) ix
       none = none_tied k ix ks p filed parts other
+
       within : All (λ i. i < length (ks ++ k ∷ [])) (put_in (length ks) p ix)
       within = all_put (λ i. i < length (ks ++ k ∷ [])) (length ks) p ix (λ i d l. omega (arith, longer ks k, filed.0 i d l)) (omega (arith, longer ks k))
+
       sorted : AllPairs (λ i j. comes R (ks ++ k ∷ []) i j ≡ true) (put_in (length ks) p ix)
       sorted = pairs_put (λ i j. comes R (ks ++ k ∷ []) i j ≡ true) (length ks) p ix
           (λ i j d lt l. comes_kept ks k _ _ (filed.0 i d (omega arith)) (filed.0 j d l) ∙ filed.1 i j d lt l)
           (λ i d z b. comes_before k _ _ (get_end ks k) (kept (λ x. is_lt (R x k)) ks k _ (filed.0 i d (omega arith)) ∙ parts.0 i d z b))
           (λ i d z b. comes_after k (get_or ks (get_or ix i d) k) _ _ (get_end ks k) (get_kept ks (k ∷ []) _ (filed.0 i d b) ∙ slice_get-get_or ks (get_or ix i d) k (filed.0 i d b))
           (kept (λ x. is_lt (R x k)) ks k _ (filed.0 i d b) ∙ parts.1 i d z b) (kept (λ x. is_eq (R x k)) ks k _ (filed.0 i d b) ∙ none i d b))
+
       finds : (q : K) → find (ties R q (ks ++ k ∷ [])) (put_in (length ks) p ix) ≡ first_place (λ x. is_eq (R x q)) (ks ++ k ∷ [])
       finds q = by (is_eq (R k q)) refl ∙ sym (place_behind (λ x. is_eq (R x q)) ks k)
         where
           at_end : ties R q (ks ++ k ∷ []) (length ks) ≡ is_eq (R k q)
           at_end = ap (passes (λ x. is_eq (R x q))) (get_end ks k)
+
           by : (b : Bool) → is_eq (R k q) ≡ b → find (ties R q (ks ++ k ∷ [])) (put_in (length ks) p ix) ≡ or_else (first_place (λ x. is_eq (R x q)) ks) (if is_eq (R k q) then Some (length ks) else None)
           by true e =
               let free : All (λ i. ties R q ks i ≡ false) ix = λ i d l. tie_both k q (slice_get ks (get_or ix i d)) e (none i d l) in
@@ -272,10 +277,10 @@ module _ {K : Type 0} (R : K → K → Ordering) (o : IsTotalOrder R) where
   pub filed_same : (k : K) (ix : List ℕ) (ks : List K) (p n : ℕ) → IsFiled R ix ks → p < length ix → n ≡ get_or ix p n → ties R k ks n ≡ true → IsFiled R ix (ks ++ k ∷ [])
   unfolding IsFiled
   filed_same k ix ks p n filed l here tied = (
-      λ i d m. omega (arith, longer ks k, filed.0 i d m),
-      λ i j d lt m. comes_kept ks k _ _ (filed.0 i d (omega arith)) (filed.0 j d m) ∙ filed.1 i j d lt m,
-      λ q. find_same (ties R q (ks ++ k ∷ [])) (ties R q ks) ix (λ i d m. kept (λ x. is_eq (R x q)) ks k _ (filed.0 i d m)) ∙ by q (is_eq (R k q)) refl ∙ sym (place_behind (λ x. is_eq (R x q)) ks k),
-    )
+    λ i d m. omega (arith, longer ks k, filed.0 i d m),
+    λ i j d lt m. comes_kept ks k _ _ (filed.0 i d (omega arith)) (filed.0 j d m) ∙ filed.1 i j d lt m,
+    λ q. find_same (ties R q (ks ++ k ∷ [])) (ties R q ks) ix (λ i d m. kept (λ x. is_eq (R x q)) ks k _ (filed.0 i d m)) ∙ by q (is_eq (R k q)) refl ∙ sym (place_behind (λ x. is_eq (R x q)) ks k),
+  )
     where
       by : (q : K) (b : Bool) → is_eq (R k q) ≡ b → find (ties R q ks) ix ≡ or_else (first_place (λ x. is_eq (R x q)) ks) (if is_eq (R k q) then Some (length ks) else None)
       by q true e =

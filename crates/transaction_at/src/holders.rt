@@ -90,7 +90,12 @@ fn seat_at(seats: &[Enlistment], place: usize) -> Option<&Enlistment>
 }
 
 /// The seat that this endpoint has for this kind, or the first of them.
-pub fn seat_of<'a>(index: &[usize], seats: &'a [Enlistment], kind: Kind, participant: &Epr) -> Option<&'a Enlistment>
+pub fn seat_of<'a>(
+    index: &[usize],
+    seats: &'a [Enlistment],
+    kind: Kind,
+    participant: &Epr,
+) -> Option<&'a Enlistment>
     requires { IsIndex index.now seats.now }
     ensures { option_copied result ≡ find (λ s. is_kind s.kind kind && is_epr s.participant participant.now) seats.now }
 {
@@ -107,13 +112,7 @@ pub fn seat_of<'a>(index: &[usize], seats: &'a [Enlistment], kind: Kind, partici
 }
 
 /// Whether the place that stands here among the places is that of a seat of this kind and this endpoint.
-fn is_noted(
-    index: &[usize],
-    seats: &[Enlistment],
-    at: usize,
-    kind: Kind,
-    participant: &Epr,
-) -> bool
+fn is_noted(index: &[usize], seats: &[Enlistment], at: usize, kind: Kind, participant: &Epr) -> bool
     ensures { result
         ≡ passes (ties rank (record { kind = kind; participant = participant.now }) (holders seats.now)) (slice_get index.now at) }
 {

@@ -1,9 +1,11 @@
 //! A transaction: its phase, its participants' seats, its initiator, and what makes it a subordinate.
 
-ghost use Rattle.std.specs.Prelude.{ℕ, List, ◌≡◌, ◌≤◌, ◌<◌, ◌+◌, ◌++◌, ◌∷◌, [], IfOk, OnOk, OnErr, if◌then◌else◌, length, option_copied, true};
+ghost use Rattle.std.specs.Prelude.{ℕ, List, ◌≡◌, ◌≤◌, ◌<◌, ◌+◌, ◌++◌, ◌∷◌, [], ◌&&◌, IfOk, OnOk, OnErr, find, if◌then◌else◌, length, option_copied, true};
 ghost use Rattle.std.specs.List.{list_any};
 ghost use Rattle.std.specs.Vec.{vec_capacity};
+ghost use Rattle.at_base.specs.Names.{is_kind};
 ghost use Rattle.at_base.specs.Numbers.{Numbers};
+ghost use Rattle.at_model.specs.Book.{is_epr};
 ghost use Rattle.at_tables.specs.declared.cells.State.TheVariants as states;
 ghost use Rattle.at_model.specs.Due.{is_some_post, seats_again};
 ghost use Rattle.at_model.specs.Seats.{all_left, answered, in_state, moved};
@@ -14,6 +16,7 @@ ghost use Rattle.transaction_at.specs.Numbers.{is_numbered};
 ghost use Rattle.transaction_at.specs.Rooms.{has_room, room_of};
 
 use crate::counts::{Counts, counted};
+use crate::holders::{note, seat_of};
 use crate::numbers::{counts_after, is_next, seat, set_state};
 use crate::room::{Room, room_of};
 use crate::seats::{Group, belongs};
@@ -87,6 +90,8 @@ pub struct Seats {
     counts: Counts,
     /// Whether their numbers rise, as they do in every node.
     rising: bool,
+    /// Their places, in the order of kinds and endpoints.
+    index: Vec<usize>,
 }
 
 impl Model for Seats {
@@ -94,6 +99,7 @@ impl Model for Seats {
     ghost use Rattle.std.specs.Vec.{vec_capacity};
     ghost use Rattle.at_model.specs.Book.{Enlistment as Known};
     ghost use Rattle.transaction_at.specs.Counts.{counted};
+    ghost use Rattle.transaction_at.specs.Holders.{IsIndex};
     ghost use Rattle.transaction_at.specs.Numbers.{IsRising};
     ghost use Rattle.transaction_at.specs.Rooms.{room_of};
 
@@ -104,7 +110,10 @@ impl Model for Seats {
     ghost invariant = { λ s.
         (s.counts ≡ counted s.items.items)
         × (s.rising ≡ true → IsRising s.items.items)
-        × (room_of (length s.items.items) ≤ vec_capacity s.items) };
+        × (room_of (length s.items.items) ≤ vec_capacity s.items)
+        × IsIndex s.index.items s.items.items
+        × (length s.index.items ≤ length s.items.items)
+        × (room_of (length s.items.items) ≤ vec_capacity s.index) };
 }
 
 /// Moves each seat of the group into this state.
@@ -119,36 +128,29 @@ fn move_each(seats: &mut Vec<Enlistment>, group: Group, state: State)
     }
 }
 
-/// The same seats, where there is more room for them.
-fn move_into(room: Room, seats: &mut Vec<Enlistment>)
-    requires { length seats.old.items ≤ room }
-    ensures items { seats.new.items ≡ seats.old.items }
-    ensures room { room ≤ vec_capacity seats.new }
-{
-    let mut wider = room.into_vec();
-    let Ok(()) = wider.append(seats) else {
-        unreachable!()
-    };
-    *seats = wider;
-}
-
-/// Sees to it that there is room for one seat more; whether there is.
+/// Sees to it that there is room for one seat more, and for its place; whether there is.
 #[tactic(auto, using(crate::proofs::Rooms::room_kept, crate::proofs::Rooms::room_enough))]
-fn make_room(seats: &mut Vec<Enlistment>, room: Room) -> bool
-    requires { room_of (length seats.old.items) ≤ vec_capacity seats.old }
+fn make_room(seats: &mut Vec<Enlistment>, index: &mut Vec<usize>, room: Room) -> bool
+    requires seats { room_of (length seats.old.items) ≤ vec_capacity seats.old }
+    requires index { room_of (length seats.old.items) ≤ vec_capacity index.old }
+    requires few { length index.old.items ≤ length seats.old.items }
     ensures answer { result ≡ has_room room seats.old.items }
     ensures items { seats.new.items ≡ seats.old.items }
+    ensures places { index.new.items ≡ index.old.items }
     ensures room { room_of (length seats.old.items) ≤ vec_capacity seats.new }
+    ensures index_room { room_of (length seats.old.items) ≤ vec_capacity index.new }
     ensures more { result ≡ true
         → (length seats.old.items < vec_capacity seats.new)
-        × (room_of (length seats.old.items + 1) ≤ vec_capacity seats.new) }
+        × (room_of (length seats.old.items + 1) ≤ vec_capacity seats.new)
+        × (length index.old.items < vec_capacity index.new)
+        × (room_of (length seats.old.items + 1) ≤ vec_capacity index.new) }
 {
     let count = seats.len();
     if count < room_of(count) {
         return true;
     }
     if room_of(count + 1) <= room.len() {
-        move_into(room, seats);
+        room.hold(seats, index);
         return true;
     }
     false
@@ -156,6 +158,7 @@ fn make_room(seats: &mut Vec<Enlistment>, room: Room) -> bool
 
 impl Seats {
     /// No seats.
+    #[tactic(auto, using(crate::proofs::SeatHolders::index_none))]
     pub fn new(alloc: Global) -> Seats
         ensures { result ≡ [] }
     {
@@ -163,6 +166,7 @@ impl Seats {
             items: Vec::new(alloc),
             counts: Counts::none(),
             rising: true,
+            index: Vec::new(alloc),
         }
     }
 
@@ -256,6 +260,19 @@ impl Seats {
         seat(self.items.as_slice(), self.rising, number, kind)
     }
 
+    /// The seat that this endpoint has for this kind, or the first of them.
+    pub fn seat_of(&self, kind: Kind, participant: &Epr) -> Option<&Enlistment>
+        ensures { option_copied result
+            ≡ find (λ s. is_kind s.kind kind && is_epr s.participant participant.now) self.now }
+    {
+        seat_of(
+            self.index.as_slice(),
+            self.items.as_slice(),
+            kind,
+            participant,
+        )
+    }
+
     /// Room for one seat more, as far as there isn't any here.
     #[tactic(auto, using(crate::proofs::Rooms::room_brought))]
     pub fn room(&self, alloc: Global) -> Result<Room, AllocError>
@@ -276,11 +293,17 @@ impl Seats {
         ensures answer { result ≡ has_room room self.old }
         ensures list { self.new ≡ (if has_room room self.old then self.old ++ seat ∷ [] else self.old) }
     {
-        if !make_room(&mut self.items, room) {
+        if !make_room(&mut self.items, &mut self.index, room) {
             return false;
         }
         self.counts = self.counts.with(seat.kind, seat.state);
         self.rising = self.rising && is_next(self.items.as_slice(), &seat);
+        note(
+            &mut self.index,
+            self.items.as_slice(),
+            seat.kind,
+            &seat.participant,
+        );
         self.items.push_reserved(seat);
         true
     }
@@ -324,15 +347,26 @@ fn copied(items: &Vec<Enlistment>) -> Result<Vec<Enlistment>, AllocError>
     Ok(copy)
 }
 
+/// A copy of the places of seats, of which there are so many, with its room.
+fn copied_index(index: &Vec<usize>, count: usize) -> Result<Vec<usize>, AllocError>
+    ensures { IfOk result (λ copy. (copy.items ≡ index.now.items) × (room_of count ≤ vec_capacity copy)) }
+{
+    let mut copy = Vec::with_capacity(*index.allocator(), room_of(count))?;
+    copy.extend_from_slice(index.as_slice())?;
+    Ok(copy)
+}
+
 impl Clone for Seats {
     ghost is_clone = { λ items copy. copy ≡ items };
 
     fn clone(&self) -> Result<Seats, AllocError> {
         let items = copied(&self.items)?;
+        let index = copied_index(&self.index, self.items.len())?;
         Ok(Seats {
             items,
             counts: self.counts,
             rising: self.rising,
+            index,
         })
     }
 }
