@@ -1,6 +1,5 @@
 -- What is done to the activities is what the model's plan of the book does to them.
 use Rattle.std.proofs.Common.{ℕ, List, [], Some, None, ◌≡◌, refl, sym, ap, subst, ◌∙◌}
-use Rattle.std.specs.declared.convert.Infallible.{Infallible}
 use Rattle.at_base.specs.Numbers.{Numbers}
 use Rattle.at_base.specs.declared.event.Arrived.{Arrived}
 use Rattle.at_base.specs.declared.event.Moment.{Moment}
@@ -19,13 +18,14 @@ use Rattle.by_id.proofs.Found.{chosen_so, found_id, put_found}
 use Rattle.completion_at.specs.ActivityPlans.{Holds, whole, with_activities}
 
 -- what is chosen for the activity that was found
-pub decides : (b : Book) (now : ℕ) (answer : List Out) (id : Numbers) (a : Activity) (c : Choice Activity Infallible) → activity_at b id ≡ Some a → whole b now (chosen answer a.id c) ≡ activity_plan b now answer a (meant (Some a) c)
+pub decides : (b : Book) (now : ℕ) (answer : List Out) (id : Numbers) (a : Activity) (c : Choice Activity (Unit {0})) → activity_at b id ≡ Some a → whole b now (chosen answer a.id c) ≡ activity_plan b now answer a (meant (Some a) c)
 decides b now answer id a c e =
-    chosen_so unmoved with_activities put_activity (λ d. refl) (λ k o d. refl) b now answer a.id a c
-    (ap (λ xs. record (at_time now b) { activities = xs }) (subst (λ k. put_by activity_id k (Some a) b.activities ≡ b.activities) (sym (found_id activity_id id a b.activities e)) (put_found activity_id id a b.activities e)), λ by. elim by [ ])
+    let same : record (at_time now b) { activities = put_by activity_id a.id (Some a) b.activities } ≡ at_time now b =
+    ap (λ xs. record (at_time now b) { activities = xs }) (subst (λ k. put_by activity_id k (Some a) b.activities ≡ b.activities) (sym (found_id activity_id id a b.activities e)) (put_found activity_id id a b.activities e)) in
+    chosen_so unmoved with_activities put_activity (λ d. refl) (λ k o d. refl) b now answer a.id a c (same, λ by. sym same)
 
 -- a message at an activity
-pub at_found : (b : Book) (now : ℕ) (xs : List Activity) (m : Moment) (r : Arrived) (id : Numbers) (a : Activity) (c : Choice Activity Infallible) → Holds b now xs m → find_by activity_id id xs ≡ Some a
+pub at_found : (b : Book) (now : ℕ) (xs : List Activity) (m : Moment) (r : Arrived) (id : Numbers) (a : Activity) (c : Choice Activity (Unit {0})) → Holds b now xs m → find_by activity_id id xs ≡ Some a
     → meant (Some a) c ≡ on_activity m r a r.message → whole b now (chosen accepted a.id c) ≡ initiator_plan b now r (activity_at b id)
 unfolding initiator_plan
 at_found b now xs m r id a c holds found chose =
@@ -40,7 +40,7 @@ unfolding initiator_plan
 at_none b now xs m r id holds found = sym (ap (initiator_plan b now r) (ap (find_by activity_id id) holds.0 ∙ found))
 
 -- one that is asked whether it is due
-pub due : (b : Book) (now : ℕ) (xs : List Activity) (m : Moment) (id : Numbers) (a : Activity) (c : Choice Activity Infallible) → Holds b now xs m → find_by activity_id id xs ≡ Some a
+pub due : (b : Book) (now : ℕ) (xs : List Activity) (m : Moment) (id : Numbers) (a : Activity) (c : Choice Activity (Unit {0})) → Holds b now xs m → find_by activity_id id xs ≡ Some a
     → meant (Some a) c ≡ activity_reached m a (activity_due m a) → whole b now (chosen [] a.id c) ≡ activity_due_plan b now (activity_at b id)
 due b now xs m id a c holds found chose =
     let here : activity_at b id ≡ Some a = ap (find_by activity_id id) holds.0 ∙ found in

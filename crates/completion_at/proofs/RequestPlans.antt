@@ -1,6 +1,5 @@
 -- What a request does is what the model's plan of the book does, and nothing where the model refuses it.
 use Rattle.std.proofs.Common.{ℕ, List, [], Option, Some, None, true, nat_lt, length, ◌≡◌, refl, sym, ap, ◌∙◌}
-use Rattle.std.specs.declared.convert.Infallible.{Infallible}
 use Rattle.at_base.specs.Numbers.{Numbers}
 use Rattle.at_base.specs.declared.event.Local.{Local}
 use Rattle.at_base.specs.declared.event.Local.TheVariants as locals
@@ -40,14 +39,14 @@ pub requests : (b : Book) (now : ℕ) (l : Local) → unless b (refuses b l) (re
 requests b now l = unless_refused b now l (refuses b l)
 
 -- a request at an activity that takes it
-takes : (b : Book) (now : ℕ) (id : Numbers) (a : Activity) (t : Turn Activity Infallible) (change : Activity → Change Activity) (more : Option Activity → Option Refusal) → activity_at b id ≡ Some a → is_active a.progress ≡ true → more (Some a) ≡ None
+takes : (b : Book) (now : ℕ) (id : Numbers) (a : Activity) (t : Turn Activity (Unit {0})) (change : Activity → Change Activity) (more : Option Activity → Option Refusal) → activity_at b id ≡ Some a → is_active a.progress ≡ true → more (Some a) ≡ None
     → turn_of (Some a) t ≡ change a → whole b now (chosen [] a.id (choices.Goes t)) ≡ unless b (refuses_named (activity_at b id) (more (activity_at b id))) (asking_plan b now change (activity_at b id))
 takes b now id a t change more here active none done =
     decides b now [] id a (choices.Goes t) here
     ∙ ap (λ c. activity_plan b now [] a (Goes c)) done
     ∙ sym (ap (λ o. unless b (refuses_named o (more o)) (asking_plan b now change o)) here ∙ rw active (rw none refl))
 
-pub asks : (b : Book) (now : ℕ) (xs : List Activity) (m : Moment) (id : Numbers) (url : List ℕ) (kind : Kind) (vote : Vote) (key value : List ℕ) (a : Activity) (t : Turn Activity Infallible) (plan : Planned Activity Infallible)
+pub asks : (b : Book) (now : ℕ) (xs : List Activity) (m : Moment) (id : Numbers) (url : List ℕ) (kind : Kind) (vote : Vote) (key value : List ℕ) (a : Activity) (t : Turn Activity (Unit {0})) (plan : Planned Activity (Unit {0}))
     → Holds b now xs m → find_by activity_id id xs ≡ Some a → is_active a.progress ≡ true → nat_lt a.works last_counter ≡ true → turn_of (Some a) t ≡ on_ask m url kind vote key value a a.context
     → plan ≡ chosen [] a.id (choices.Goes t)
     → whole b now plan ≡ unless b (refuses_named (activity_at b id) (works_left (activity_at b id))) (asking_plan b now (λ x. on_ask (moment_of b now) url kind vote key value x x.context) (activity_at b id))
@@ -56,7 +55,7 @@ asks b now xs m id url kind vote key value a t plan holds found active left done
     ∙ takes b now id a t (λ x. on_ask (moment_of b now) url kind vote key value x x.context) works_left (ap (find_by activity_id id) holds.0 ∙ found) active (rw left refl)
     (done ∙ ap (λ k. on_ask k url kind vote key value a a.context) holds.1)
 
-pub completes : (b : Book) (now : ℕ) (xs : List Activity) (m : Moment) (id : Numbers) (notice : Notice) (a : Activity) (t : Turn Activity Infallible) (plan : Planned Activity Infallible)
+pub completes : (b : Book) (now : ℕ) (xs : List Activity) (m : Moment) (id : Numbers) (notice : Notice) (a : Activity) (t : Turn Activity (Unit {0})) (plan : Planned Activity (Unit {0}))
     → Holds b now xs m → find_by activity_id id xs ≡ Some a → is_active a.progress ≡ true → is_begun a ≡ true → turn_of (Some a) t ≡ on_complete m notice a
     → plan ≡ chosen [] a.id (choices.Goes t)
     → whole b now plan ≡ unless b (refuses_named (activity_at b id) (only_begun (activity_at b id))) (asking_plan b now (on_complete (moment_of b now) notice) (activity_at b id))

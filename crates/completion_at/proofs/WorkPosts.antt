@@ -1,7 +1,6 @@
 -- What is sent for a Work is what the model sends.
 use Rattle.std.proofs.Common.{ℕ, List, Some, ◌+◌, ◌≡◌, ◌∙◌, sym, subst, IfOk}
 use Rattle.std.specs.Prelude.{Result}
-use Rattle.std.specs.declared.convert.Infallible.{Infallible}
 use Rattle.at_base.specs.declared.event.Moment.{Moment}
 use Rattle.at_base.specs.declared.message.Context.{Context}
 use Rattle.at_base.specs.declared.message.Work.{Work}
@@ -18,7 +17,7 @@ abbrev worked : Moment → List ℕ → Activity → ℕ → Work → Change Act
 worked m url a n w = stays (post (nth_work m.base a n url w) (begin (record a { works = n })))
 
 pub asked :
-    {E : Type 0} (r : Result (Turn Activity Infallible) E) (m : Moment) (url key value : List ℕ) (kind : Kind) (vote : Vote) (a : Activity)
+    {E : Type 0} (r : Result (Turn Activity (Unit {0})) E) (m : Moment) (url key value : List ℕ) (kind : Kind) (vote : Vote) (a : Activity)
     (context : Context) (n : ℕ) (w : Work) → a.context ≡ Some context → n ≡ a.works + 1
     → w ≡ record { context = context; key = key; value = value; kind = kind; vote = vote } → IfOk r (λ t. turn_of (Some a) t ≡ worked m url a n w)
     → IfOk r (λ t. turn_of (Some a) t ≡ on_ask m url kind vote key value a a.context)

@@ -1,6 +1,5 @@
 -- The live activities of a node, and the book that holds them.
 use Rattle.std.specs.Prelude.{ℕ, List, [], Option, Some, None, ◌≡◌, nat_lt, if◌then◌else◌, length, map, codes}
-use Rattle.std.specs.declared.convert.Infallible.{Infallible}
 use Rattle.at_base.specs.declared.limits.TheConstants.{MOST_ACTIVITIES}
 use Rattle.at_base.specs.Numbers.{Numbers}
 use Rattle.at_base.specs.declared.event.Moment.{Moment}
@@ -27,22 +26,22 @@ abbrev pub Holds : Book → ℕ → List Activity → Moment → Type 0
 Holds b now xs m = (b.activities ≡ xs) × (m ≡ moment_of b now)
 
 -- What becomes of the list: with an activity that is dropped go all that are under it.
-abbrev pub settled : Alteration Activity Infallible → List Activity → List Activity
+abbrev pub settled : Alteration Activity (Unit {0}) → List Activity → List Activity
 settled alterations.Keep xs = xs
 settled (alterations.Put id a) xs = put_activities id a xs
 settled (alterations.Move id by) xs = xs
 settled (alterations.Add a) xs = add_to a xs
 
 -- the book with what becomes of its activities
-abbrev pub with_activities : Alteration Activity Infallible → Book → Book
+abbrev pub with_activities : Alteration Activity (Unit {0}) → Book → Book
 with_activities change b = record b { activities = settled change b.activities }
 
 -- The plan of the activities, as a plan of the book that holds them.
-abbrev pub whole : Book → ℕ → Planned Activity Infallible → Plan
+abbrev pub whole : Book → ℕ → Planned Activity (Unit {0}) → Plan
 whole = whole_by with_activities
 
 -- one activity more
-abbrev pub begun : Beginning → Planned Activity Infallible
+abbrev pub begun : Beginning → Planned Activity (Unit {0})
 begun x = making x.activity (map outs.Post x.posts)
 
 -- An activity's n-th Work.

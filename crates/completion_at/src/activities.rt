@@ -33,7 +33,6 @@ use by_id::fates::{Choice, Turn};
 use by_id::list::{Alteration, ById, is_same};
 use by_id::plan::{Branch, Plan};
 use std::alloc::{AllocError, Global};
-use std::convert::Infallible;
 use std::marker::Model;
 
 /// A request is refused as the model refuses it.
@@ -60,9 +59,9 @@ impl Model for Activities {
 /// The plan of what a request does to the activity that it names.
 fn going(
     alloc: Global,
-    turn: Turn<Activity, Infallible>,
+    turn: Turn<Activity, ()>,
     activity: &Activity,
-) -> Result<Plan<Activity, Infallible>, AllocError>
+) -> Result<Plan<Activity, ()>, AllocError>
     ensures { IfOk result (λ plan. plan ≡ chosen [] activity.now.id (choices.Goes turn)) }
 {
     Choice::Goes(turn).into_plan(alloc, OutList::from_vec(Vec::new(alloc)), activity.id)
@@ -177,7 +176,7 @@ impl Activities {
         moment: &Moment,
         coordinator: &Text,
         ms: u32,
-    ) -> Result<Option<Plan<Activity, Infallible>>, AllocError>
+    ) -> Result<Option<Plan<Activity, ()>>, AllocError>
         ensures { (b : Book) (now : ℕ) → Holds b now self.now moment.entry.now
             → IfOk result (λ plan. whole_or with_activities b now (plain (still b [])) plan
             ≡ unless b (no_room b (next_id b)) (begin_plan b now coordinator.now ms (next_id b))) }
@@ -196,7 +195,7 @@ impl Activities {
         moment: &Moment,
         activity: Id,
         coordinator: &Text,
-    ) -> Result<Option<Plan<Activity, Infallible>>, AllocError>
+    ) -> Result<Option<Plan<Activity, ()>>, AllocError>
         ensures { (b : Book) (now : ℕ) → Holds b now self.now moment.entry.now
             → IfOk result (λ plan. whole_or with_activities b now (plain (still b [])) plan
             ≡ unless b (refuses_named (activity_at b activity) (no_room b (next_id b)))
@@ -226,7 +225,7 @@ impl Activities {
         vote: Vote,
         key: &Text,
         value: &Text,
-    ) -> Result<Option<Plan<Activity, Infallible>>, AllocError>
+    ) -> Result<Option<Plan<Activity, ()>>, AllocError>
         ensures { (b : Book) (now : ℕ) → Holds b now self.now moment.entry.now
             → IfOk result (λ plan. whole_or with_activities b now (plain (still b [])) plan
             ≡ unless b (refuses_named (activity_at b activity) (works_left (activity_at b activity)))
@@ -250,7 +249,7 @@ impl Activities {
         moment: &Moment,
         activity: Id,
         notice: Notice,
-    ) -> Result<Option<Plan<Activity, Infallible>>, AllocError>
+    ) -> Result<Option<Plan<Activity, ()>>, AllocError>
         ensures { (b : Book) (now : ℕ) → Holds b now self.now moment.entry.now
             → IfOk result (λ plan. whole_or with_activities b now (plain (still b [])) plan
             ≡ unless b (refuses_named (activity_at b activity) (only_begun (activity_at b activity)))
@@ -273,7 +272,7 @@ impl Activities {
         alloc: Global,
         moment: &Moment,
         local: &Local,
-    ) -> Result<Option<Plan<Activity, Infallible>>, AllocError>
+    ) -> Result<Option<Plan<Activity, ()>>, AllocError>
         ensures { (b : Book) (now : ℕ) → Holds b now self.now moment.entry.now
             → IfOk result (λ plan. whole_or with_activities b now (plain (still b [])) plan ≡ local_plan b now local.now (refuses b local.now)) }
     {
@@ -309,7 +308,7 @@ impl Activities {
         moment: &Moment,
         arrived: &Arrived,
         id: Id,
-    ) -> Result<Option<Plan<Activity, Infallible>>, AllocError>
+    ) -> Result<Option<Plan<Activity, ()>>, AllocError>
         ensures { (b : Book) (now : ℕ) → Holds b now self.now moment.entry.now
             → IfOk result (λ plan. whole_or with_activities b now (stranger_plan b now arrived.now (initiator_of states.None) arrived.now.message) plan
             ≡ initiator_plan b now arrived.now (activity_at b id)) }
@@ -329,7 +328,7 @@ impl Activities {
         alloc: Global,
         moment: &Moment,
         id: Id,
-    ) -> Result<Option<Plan<Activity, Infallible>>, AllocError>
+    ) -> Result<Option<Plan<Activity, ()>>, AllocError>
         ensures { (b : Book) (now : ℕ) → Holds b now self.now moment.entry.now
             → IfOk result (λ plan. whole_or with_activities b now (plain (still b [])) plan ≡ activity_due_plan b now (activity_at b id)) }
     {
@@ -350,7 +349,7 @@ impl Activities {
     }
 
     /// Takes over what becomes of the list.
-    fn settle(&mut self, change: Alteration<Activity, Infallible>)
+    fn settle(&mut self, change: Alteration<Activity, ()>)
         ensures { self.new ≡ settled change self.old }
     {
         match change {
@@ -359,12 +358,13 @@ impl Activities {
                 Some(activity) => self.live.put(id, Some(activity)),
                 None => self.drop_with(id),
             },
+            Alteration::Move { .. } => {}
             Alteration::Add(activity) => self.live.add(activity),
         }
     }
 
     /// Does what was planned, where its record landed, and where it didn't. It takes no memory, and cannot fail.
-    pub fn apply(&mut self, plan: Plan<Activity, Infallible>, landed: bool) -> Outs
+    pub fn apply(&mut self, plan: Plan<Activity, ()>, landed: bool) -> Outs
         ensures list { self.new ≡ settled (branch_of plan landed).change self.old }
         ensures outs { result ≡ (branch_of plan landed).outs }
     {

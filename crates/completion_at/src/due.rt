@@ -20,7 +20,6 @@ use by_id::fates::{Choice, Fate, Turn};
 use by_id::list::Identified;
 use by_id::times::{has_come, is_quiet};
 use std::alloc::{AllocError, Global};
-use std::convert::Infallible;
 
 /// Whether an activity still waits for its context or its registration.
 fn before_active(progress: Progress) -> bool
@@ -76,7 +75,7 @@ impl Identified for Activity {
     ghost use Rattle.at_model.specs.Step.{is_reached};
     ghost use Rattle.by_id.specs.Unmoved.{unmoved};
 
-    type Move = Infallible;
+    type Move = ();
 
     ghost id_of = { activity_id };
 
@@ -92,8 +91,8 @@ impl Identified for Activity {
         is_due(moment, self)
     }
 
-    fn make(&mut self, by: Infallible) {
-        match by {}
+    fn make(&mut self, by: ()) {
+        let _nothing = by;
     }
 }
 
@@ -142,7 +141,7 @@ fn sends_again(
     alloc: Global,
     moment: &Moment,
     activity: &Activity,
-) -> Result<Turn<Activity, Infallible>, AllocError>
+) -> Result<Turn<Activity, ()>, AllocError>
     ensures { IfOk result
         (λ turn. turn_of (Some activity.now) turn
         ≡ stays
@@ -160,7 +159,7 @@ pub fn on_due(
     alloc: Global,
     moment: &Moment,
     activity: &Activity,
-) -> Result<Choice<Activity, Infallible>, AllocError>
+) -> Result<Choice<Activity, ()>, AllocError>
     ensures { IfOk result
         (λ choice. meant (Some activity.now) choice
         ≡ activity_reached moment.entry.now activity.now (activity_due moment.entry.now activity.now)) }

@@ -29,7 +29,6 @@ use by_id::times::deadline_of;
 use endpoints::addresses::{create_id, work_id};
 use endpoints::uris::atomic;
 use std::alloc::{AllocError, Global};
-use std::convert::Infallible;
 
 /// Why a request is refused.
 #[derive(Clone, Copy, Debug, PartialEq, Eq)]
@@ -190,7 +189,7 @@ fn beginning(
     expires: Option<u32>,
     current: &Option<Context>,
     activity: Activity,
-) -> Result<Plan<Activity, Infallible>, AllocError>
+) -> Result<Plan<Activity, ()>, AllocError>
     ensures { IfOk result
         (λ plan. plan
         ≡ begun (beginning moment.entry.now.base coordinator.now expires current.now activity)) }
@@ -232,7 +231,7 @@ pub(crate) fn on_begin(
     id: Id,
     coordinator: &Text,
     ms: u32,
-) -> Result<Plan<Activity, Infallible>, AllocError>
+) -> Result<Plan<Activity, ()>, AllocError>
     ensures { IfOk result (λ plan. plan ≡ begun (on_begin moment.entry.now id coordinator.now ms)) }
 {
     let expires = asked_expires(ms);
@@ -248,7 +247,7 @@ pub(crate) fn on_interpose(
     id: Id,
     coordinator: &Text,
     above: &Activity,
-) -> Result<Plan<Activity, Infallible>, AllocError>
+) -> Result<Plan<Activity, ()>, AllocError>
     ensures { IfOk result
         (λ plan. plan
         ≡ begun (on_interpose moment.entry.now id coordinator.now above.now.root above.now.context)) }
@@ -329,7 +328,7 @@ fn sends_work(
     work: Work,
     n: u32,
     activity: &Activity,
-) -> Result<Turn<Activity, Infallible>, AllocError>
+) -> Result<Turn<Activity, ()>, AllocError>
     ensures { IfOk result
         (λ turn. turn_of (Some activity.now) turn
         ≡ stays
@@ -353,7 +352,7 @@ pub(crate) fn on_ask(
     key: &Text,
     value: &Text,
     activity: &Activity,
-) -> Result<Turn<Activity, Infallible>, AllocError>
+) -> Result<Turn<Activity, ()>, AllocError>
     requires { activity.now.works < 4294967295 }
     ensures { IfOk result
         (λ turn. turn_of (Some activity.now) turn
@@ -387,7 +386,7 @@ pub(crate) fn on_complete(
     moment: &Moment,
     notice: Notice,
     activity: &Activity,
-) -> Result<Turn<Activity, Infallible>, AllocError>
+) -> Result<Turn<Activity, ()>, AllocError>
     ensures { IfOk result (λ turn. turn_of (Some activity.now) turn ≡ on_complete moment.entry.now notice activity.now) }
 {
     let posts = completion(alloc, moment, activity, notice)?;

@@ -28,14 +28,13 @@ use by_id::fates::{Choice, Fate, Turn};
 use by_id::list::is_same;
 use endpoints::addresses::{create_id, register_id};
 use std::alloc::{AllocError, Global};
-use std::convert::Infallible;
 
 /// The activity ends, and is told how.
 pub fn told(
     alloc: Global,
     activity: &Activity,
     what: Told,
-) -> Result<Choice<Activity, Infallible>, AllocError>
+) -> Result<Choice<Activity, ()>, AllocError>
     ensures { IfOk result (λ choice. meant (Some activity.now) choice ≡ told what activity.now) }
 {
     let effect = Effect::Told {
@@ -47,7 +46,7 @@ pub fn told(
 }
 
 /// The activity is given anew, and nothing is sent.
-fn anew(alloc: Global, next: Activity) -> Choice<Activity, Infallible>
+fn anew(alloc: Global, next: Activity) -> Choice<Activity, ()>
     ensures { (found : Known) → meant (Some found) result ≡ Goes (stays (begin next)) }
 {
     Choice::Goes(Turn::silent(alloc, Fate::Put(next), PostList::new(alloc)))
@@ -77,7 +76,7 @@ fn faults(
     from: &Option<Epr>,
     id: &Option<Text>,
     activity: &Activity,
-) -> Result<Turn<Activity, Infallible>, AllocError>
+) -> Result<Turn<Activity, ()>, AllocError>
     ensures { IfOk result
         (λ turn. turn_of (Some activity.now) turn
         ≡ stays
@@ -98,7 +97,7 @@ fn acts(
     id: &Option<Text>,
     activity: &Activity,
     act: Act,
-) -> Result<Choice<Activity, Infallible>, AllocError>
+) -> Result<Choice<Activity, ()>, AllocError>
     ensures { IfOk result
         (λ choice. meant (Some activity.now) choice
         ≡ activity_act moment.entry.now from.now id.now activity.now act) }
@@ -120,7 +119,7 @@ fn notified(
     id: &Option<Text>,
     activity: &Activity,
     notice: Notice,
-) -> Result<Choice<Activity, Infallible>, AllocError>
+) -> Result<Choice<Activity, ()>, AllocError>
     ensures { IfOk result
         (λ choice. meant (Some activity.now) choice
         ≡ activity_notice moment.entry.now from.now id.now activity.now
@@ -200,7 +199,7 @@ fn registers(
     moment: &Moment,
     activity: &Activity,
     context: &Context,
-) -> Result<Turn<Activity, Infallible>, AllocError>
+) -> Result<Turn<Activity, ()>, AllocError>
     ensures { IfOk result
         (λ turn. turn_of (Some activity.now) turn
         ≡ stays
@@ -223,7 +222,7 @@ fn with_context(
     moment: &Moment,
     activity: &Activity,
     context: &Context,
-) -> Result<Choice<Activity, Infallible>, AllocError>
+) -> Result<Choice<Activity, ()>, AllocError>
     ensures { IfOk result
         (λ choice. meant (Some activity.now) choice
         ≡ with_context moment.entry.now context.now activity.now) }
@@ -243,7 +242,7 @@ fn created(
     relates: &Option<Text>,
     context: &Context,
     activity: &Activity,
-) -> Result<Choice<Activity, Infallible>, AllocError>
+) -> Result<Choice<Activity, ()>, AllocError>
     ensures { IfOk result
         (λ choice. meant (Some activity.now) choice
         ≡ activity_created moment.entry.now relates.now context.now activity.now activity.now.progress) }
@@ -282,7 +281,7 @@ fn registers_at(
     relates: &Option<Text>,
     coordinator: &Epr,
     activity: &Activity,
-) -> Result<Choice<Activity, Infallible>, AllocError>
+) -> Result<Choice<Activity, ()>, AllocError>
     ensures { IfOk result
         (λ choice. meant (Some activity.now) choice
         ≡ if relates_to relates.now (register_id moment.entry.now.base (activity_target activity.now))
@@ -307,7 +306,7 @@ fn registered(
     relates: &Option<Text>,
     coordinator: &Epr,
     activity: &Activity,
-) -> Result<Choice<Activity, Infallible>, AllocError>
+) -> Result<Choice<Activity, ()>, AllocError>
     ensures { IfOk result
         (λ choice. meant (Some activity.now) choice
         ≡ activity_registered moment.entry.now relates.now coordinator.now activity.now activity.now.progress) }
@@ -326,7 +325,7 @@ fn told_if(
     activity: &Activity,
     holds: bool,
     what: Told,
-) -> Result<Choice<Activity, Infallible>, AllocError>
+) -> Result<Choice<Activity, ()>, AllocError>
     ensures { IfOk result
         (λ choice. meant (Some activity.now) choice
         ≡ if holds then told what activity.now else ignored activity.now) }
@@ -353,7 +352,7 @@ fn faulted(
     relates: &Option<Text>,
     name: &Text,
     activity: &Activity,
-) -> Result<Choice<Activity, Infallible>, AllocError>
+) -> Result<Choice<Activity, ()>, AllocError>
     ensures { IfOk result
         (λ choice. meant (Some activity.now) choice
         ≡ activity_fault moment.entry.now relates.now name.now activity.now activity.now.progress) }
@@ -379,7 +378,7 @@ pub fn on_activity(
     moment: &Moment,
     arrived: &Arrived,
     activity: &Activity,
-) -> Result<Choice<Activity, Infallible>, AllocError>
+) -> Result<Choice<Activity, ()>, AllocError>
     ensures { IfOk result
         (λ choice. meant (Some activity.now) choice
         ≡ on_activity moment.entry.now arrived.now activity.now arrived.now.message) }

@@ -1,6 +1,5 @@
 -- What a part does to a book is what its plan of the whole book says.
 use Rattle.std.proofs.Common.{ℕ, Bool, true, false, ◌≡◌, refl, sym, ◌∙◌, ap, subst}
-use Rattle.std.specs.declared.convert.Infallible.{Infallible}
 use Rattle.at_base.specs.declared.event.Event.{Event}
 use Rattle.at_base.specs.declared.outs.Outs.{Outs}
 use Rattle.at_model.specs.Book.{Activity, Book, Leaf, Transaction}
@@ -38,11 +37,11 @@ pub transactions_done : (now : ℕ) (b k : Book) (p : ListPlan Transaction Move)
     → k ≡ done (record { now = now; part = parts.Transactions p }) landed b
 transactions_done now b k p landed is = is ∙ does with_transactions (λ r c x. refl) now b p landed
 
-pub leaves_done : (now : ℕ) (b k : Book) (p : ListPlan Leaf Infallible) (landed : Bool) → k ≡ with_leaves (branch_of p landed).change (gone p now landed b)
+pub leaves_done : (now : ℕ) (b k : Book) (p : ListPlan Leaf (Unit {0})) (landed : Bool) → k ≡ with_leaves (branch_of p landed).change (gone p now landed b)
     → k ≡ done (record { now = now; part = parts.Leaves p }) landed b
 leaves_done now b k p landed is = is ∙ does with_leaves (λ r c x. refl) now b p landed
 
-pub activities_done : (now : ℕ) (b k : Book) (p : ListPlan Activity Infallible) (landed : Bool) → k ≡ with_activities (branch_of p landed).change (gone p now landed b)
+pub activities_done : (now : ℕ) (b k : Book) (p : ListPlan Activity (Unit {0})) (landed : Bool) → k ≡ with_activities (branch_of p landed).change (gone p now landed b)
     → k ≡ done (record { now = now; part = parts.Activities p }) landed b
 activities_done now b k p landed is = is ∙ does with_activities (λ r c x. refl) now b p landed
 

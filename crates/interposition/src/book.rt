@@ -40,7 +40,6 @@ use outcomes_at::outcomes::Outcomes;
 use participant_at::leaf::Leaf;
 use participant_at::leaves::Leaves;
 use std::alloc::{AllocError, Global};
-use std::convert::Infallible;
 use std::marker::Model;
 use transaction_at::moves::Move;
 use transaction_at::transaction::{Phase, Transaction};
@@ -551,7 +550,12 @@ impl Book {
         self.keep(plan, landed);
     }
 
-    fn apply_transactions(&mut self, plan: plan::Plan<Transaction, Move>, now: u64, landed: bool) -> Outs
+    fn apply_transactions(
+        &mut self,
+        plan: plan::Plan<Transaction, Move>,
+        now: u64,
+        landed: bool,
+    ) -> Outs
         ensures book { self.new ≡ with_transactions (branch_of plan landed).change (gone plan now landed self.old) }
         ensures outs { result ≡ (branch_of plan landed).outs }
     {
@@ -559,7 +563,7 @@ impl Book {
         self.transactions.apply(plan, landed)
     }
 
-    fn apply_leaves(&mut self, plan: plan::Plan<Leaf, Infallible>, now: u64, landed: bool) -> Outs
+    fn apply_leaves(&mut self, plan: plan::Plan<Leaf, ()>, now: u64, landed: bool) -> Outs
         ensures book { self.new ≡ with_leaves (branch_of plan landed).change (gone plan now landed self.old) }
         ensures outs { result ≡ (branch_of plan landed).outs }
     {
@@ -567,7 +571,7 @@ impl Book {
         self.leaves.apply(plan, landed)
     }
 
-    fn apply_activities(&mut self, plan: plan::Plan<Activity, Infallible>, now: u64, landed: bool) -> Outs
+    fn apply_activities(&mut self, plan: plan::Plan<Activity, ()>, now: u64, landed: bool) -> Outs
         ensures book { self.new ≡ with_activities (branch_of plan landed).change (gone plan now landed self.old) }
         ensures outs { result ≡ (branch_of plan landed).outs }
     {

@@ -8,7 +8,6 @@ use at_base::record::Record;
 use by_id::plan;
 use completion_at::activity::Activity;
 use participant_at::leaf::Leaf;
-use std::convert::Infallible;
 use transaction_at::moves::Move;
 use transaction_at::transaction::Transaction;
 
@@ -18,8 +17,8 @@ pub enum Part {
     /// None: this is sent, and the time is noted or not.
     Still { noted: bool, outs: Outs },
     Transactions(plan::Plan<Transaction, Move>),
-    Leaves(plan::Plan<Leaf, Infallible>),
-    Activities(plan::Plan<Activity, Infallible>),
+    Leaves(plan::Plan<Leaf, ()>),
+    Activities(plan::Plan<Activity, ()>),
 }
 
 /// What an event does to a book: at once, or behind one record.

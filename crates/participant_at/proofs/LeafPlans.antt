@@ -1,6 +1,5 @@
 -- What is done to the leaves is what the model's plan of the book does to them.
 use Rattle.std.proofs.Common.{ℕ, List, [], Option, Some, None, Bool, true, false, nat_lt, length, ◌≡◌, refl, sym, ap, subst, ◌∙◌}
-use Rattle.std.specs.declared.convert.Infallible.{Infallible}
 use Rattle.at_base.specs.declared.limits.TheConstants.{MOST_ITEMS}
 use Rattle.at_base.specs.Numbers.{Numbers}
 use Rattle.at_base.specs.declared.epr.Reply.{Reply}
@@ -23,17 +22,19 @@ use Rattle.by_id.specs.Unmoved.{meant, unmoved}
 use Rattle.by_id.specs.Plans.{chosen}
 use Rattle.by_id.specs.declared.fates.Choice.{Choice}
 use Rattle.by_id.specs.declared.plan.Plan.{Plan as Planned}
-use Rattle.by_id.proofs.Found.{chosen_so, found_id, put_found}
+use Rattle.by_id.proofs.Found.{chosen_so, found_id, moved_found, put_found}
 use Rattle.participant_at.specs.LeafPlans.{Holds, employed, whole, with_leaves}
 
 none_some : {A : Type 0} {x : A} → None ≡ Some x → ⊥
 none_some e = absurd cc
 
 -- what is chosen for the leaf that was found
-decides : (b : Book) (now : ℕ) (answer : List Out) (id : Numbers) (l : Leaf) (c : Choice Leaf Infallible) → leaf_at b id ≡ Some l → whole b now (chosen answer l.id c) ≡ leaf_plan b now answer l (meant (Some l) c)
+decides : (b : Book) (now : ℕ) (answer : List Out) (id : Numbers) (l : Leaf) (c : Choice Leaf (Unit {0})) → leaf_at b id ≡ Some l → whole b now (chosen answer l.id c) ≡ leaf_plan b now answer l (meant (Some l) c)
 decides b now answer id l c e =
-    chosen_so unmoved with_leaves put_leaf (λ d. refl) (λ k o d. refl) b now answer l.id l c
-    (ap (λ ls. record (at_time now b) { leaves = ls }) (subst (λ k. put_by leaf_id k (Some l) b.leaves ≡ b.leaves) (sym (found_id leaf_id id l b.leaves e)) (put_found leaf_id id l b.leaves e)), λ by. elim by [ ])
+    chosen_so unmoved with_leaves put_leaf (λ d. refl) (λ k o d. refl) b now answer l.id l c (
+      ap (λ ls. record (at_time now b) { leaves = ls }) (subst (λ k. put_by leaf_id k (Some l) b.leaves ≡ b.leaves) (sym (found_id leaf_id id l b.leaves e)) (put_found leaf_id id l b.leaves e)),
+      λ by. ap (λ ls. record (at_time now b) { leaves = ls }) (moved_found leaf_id unmoved l.id by l b.leaves (subst (λ k. find_by leaf_id k b.leaves ≡ Some l) (sym (found_id leaf_id id l b.leaves e)) e)),
+    )
 
 -- where there is an id for a new item, the counter isn't spent
 counts : (b : Book) (id : Numbers) → next_id b ≡ Some id → nat_lt b.counter last_counter ≡ true
@@ -64,7 +65,7 @@ unfolding on_work
 employs_next b now m a w None e = refl
 employs_next b now m a w (Some id) e = employs_if b now m id a w (nat_lt (length b.leaves) MOST_ITEMS) (counts b id e) refl
 
-pub employs : (b : Book) (now : ℕ) (ls : List Leaf) (m : Moment) (a : Arrived) (w : Work) (plan : Planned Leaf Infallible) → Holds b now ls m → plan ≡ employed (on_work m (length ls) a w m.next)
+pub employs : (b : Book) (now : ℕ) (ls : List Leaf) (m : Moment) (a : Arrived) (w : Work) (plan : Planned Leaf (Unit {0})) → Holds b now ls m → plan ≡ employed (on_work m (length ls) a w m.next)
     → whole b now plan ≡ work_plan b now a (messages.Work w)
 unfolding work_plan
 employs b now ls m a w plan holds e =
@@ -72,7 +73,7 @@ employs b now ls m a w plan holds e =
     ∙ employs_next b now (moment_of b now) a w (next_id b) refl
 
 -- a message at a leaf
-pub at_kind : (b : Book) (now : ℕ) (ls : List Leaf) (m : Moment) (a : Arrived) (id : Numbers) (kind : Kind) (l : Leaf) (c : Choice Leaf Infallible) → Holds b now ls m → find_by leaf_id id ls ≡ Some l → is_kind l.kind kind ≡ true
+pub at_kind : (b : Book) (now : ℕ) (ls : List Leaf) (m : Moment) (a : Arrived) (id : Numbers) (kind : Kind) (l : Leaf) (c : Choice Leaf (Unit {0})) → Holds b now ls m → find_by leaf_id id ls ≡ Some l → is_kind l.kind kind ≡ true
     → meant (Some l) c ≡ on_leaf m a l a.message → whole b now (chosen accepted l.id c) ≡ leaf_or_stranger_plan b now a kind (leaf_at b id)
 at_kind b now ls m a id kind l c holds found same chose =
     let here : leaf_at b id ≡ Some l = ap (find_by leaf_id id) holds.0 ∙ found in
@@ -92,7 +93,7 @@ pub at_none : (b : Book) (now : ℕ) (ls : List Leaf) (m : Moment) (a : Arrived)
 at_none b now ls m a id kind holds found = sym (ap (leaf_or_stranger_plan b now a kind) (ap (find_by leaf_id id) holds.0 ∙ found))
 
 -- one that is asked whether it is due
-pub asks : (b : Book) (now : ℕ) (ls : List Leaf) (m : Moment) (id : Numbers) (l : Leaf) (c : Choice Leaf Infallible) → Holds b now ls m → find_by leaf_id id ls ≡ Some l → meant (Some l) c ≡ leaf_reached m l (leaf_due m l)
+pub asks : (b : Book) (now : ℕ) (ls : List Leaf) (m : Moment) (id : Numbers) (l : Leaf) (c : Choice Leaf (Unit {0})) → Holds b now ls m → find_by leaf_id id ls ≡ Some l → meant (Some l) c ≡ leaf_reached m l (leaf_due m l)
     → whole b now (chosen [] l.id c) ≡ leaf_due_plan b now (leaf_at b id)
 asks b now ls m id l c holds found chose =
     let here : leaf_at b id ≡ Some l = ap (find_by leaf_id id) holds.0 ∙ found in

@@ -1,6 +1,5 @@
 -- The live leaves of a node, and the book that holds them.
 use Rattle.std.specs.Prelude.{ℕ, List, ◌≡◌, filter, map}
-use Rattle.std.specs.declared.convert.Infallible.{Infallible}
 use Rattle.at_base.specs.declared.event.Moment.{Moment}
 use Rattle.at_base.specs.declared.outs.Effect.{Effect}
 use Rattle.at_base.specs.declared.outs.Ending.TheVariants as endings
@@ -20,15 +19,15 @@ abbrev pub Holds : Book → ℕ → List Leaf → Moment → Type 0
 Holds b now ls m = (b.leaves ≡ ls) × (m ≡ moment_of b now)
 
 -- the book with what becomes of its leaves
-abbrev pub with_leaves : Alteration Leaf Infallible → Book → Book
+abbrev pub with_leaves : Alteration Leaf (Unit {0}) → Book → Book
 with_leaves change b = record b { leaves = altered leaf_id unmoved change b.leaves }
 
 -- The plan of the leaves, as a plan of the book that holds them.
-abbrev pub whole : Book → ℕ → Planned Leaf Infallible → Plan
+abbrev pub whole : Book → ℕ → Planned Leaf (Unit {0}) → Plan
 whole = whole_by with_leaves
 
 -- What a Work does to the list of leaves.
-abbrev pub employed : Employment → Planned Leaf Infallible
+abbrev pub employed : Employment → Planned Leaf (Unit {0})
 employed e = made e.leaf e.outs
 
 -- What going down loses: the leaves that haven't voted.

@@ -21,7 +21,6 @@ use by_id::fates::{Choice, Fate, Turn};
 use by_id::list::Identified;
 use by_id::times::{has_come, is_quiet};
 use std::alloc::{AllocError, Global};
-use std::convert::Infallible;
 
 /// Whether a leaf may still expire.
 pub fn may_expire(state: State) -> bool
@@ -88,7 +87,7 @@ impl Identified for Leaf {
     ghost use Rattle.at_model.specs.Step.{is_reached};
     ghost use Rattle.by_id.specs.Unmoved.{unmoved};
 
-    type Move = Infallible;
+    type Move = ();
 
     ghost id_of = { leaf_id };
 
@@ -104,17 +103,13 @@ impl Identified for Leaf {
         is_due(moment, self)
     }
 
-    fn make(&mut self, by: Infallible) {
-        match by {}
+    fn make(&mut self, by: ()) {
+        let _nothing = by;
     }
 }
 
 /// A leaf that expires ends as aborted: one in Registering refuses its Work, an Active one says Aborted.
-fn expires(
-    alloc: Global,
-    moment: &Moment,
-    leaf: &Leaf,
-) -> Result<Turn<Leaf, Infallible>, AllocError>
+fn expires(alloc: Global, moment: &Moment, leaf: &Leaf) -> Result<Turn<Leaf, ()>, AllocError>
     ensures { IfOk result (λ turn. turn_of (Some leaf.now) turn ≡ leaf_expires moment.entry.now leaf.now) }
 {
     if is_registering(leaf.state) {
@@ -157,11 +152,7 @@ fn again(alloc: Global, moment: &Moment, leaf: &Leaf) -> Result<PostList, AllocE
 }
 
 /// The leaf sends again.
-fn sends_again(
-    alloc: Global,
-    moment: &Moment,
-    leaf: &Leaf,
-) -> Result<Turn<Leaf, Infallible>, AllocError>
+fn sends_again(alloc: Global, moment: &Moment, leaf: &Leaf) -> Result<Turn<Leaf, ()>, AllocError>
     ensures { IfOk result
         (λ turn. turn_of (Some leaf.now) turn
         ≡ stays
@@ -175,11 +166,7 @@ fn sends_again(
 
 /// A leaf that is asked whether it is due.
 #[tactic(auto, unfolding(at_model::specs::Due::leaf_reached))]
-pub fn on_due(
-    alloc: Global,
-    moment: &Moment,
-    leaf: &Leaf,
-) -> Result<Choice<Leaf, Infallible>, AllocError>
+pub fn on_due(alloc: Global, moment: &Moment, leaf: &Leaf) -> Result<Choice<Leaf, ()>, AllocError>
     ensures { IfOk result
         (λ choice. meant (Some leaf.now) choice
         ≡ leaf_reached moment.entry.now leaf.now (leaf_due moment.entry.now leaf.now)) }

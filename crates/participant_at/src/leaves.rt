@@ -26,7 +26,6 @@ use at_posts::answers::accepted;
 use by_id::list::ById;
 use by_id::plan::{Branch, Plan};
 use std::alloc::{AllocError, Global};
-use std::convert::Infallible;
 use std::marker::Model;
 
 /// The live leaves of a node, in the order of making.
@@ -116,7 +115,7 @@ impl Leaves {
         moment: &Moment,
         arrived: &Arrived,
         work: &Work,
-    ) -> Result<Plan<Leaf, Infallible>, AllocError>
+    ) -> Result<Plan<Leaf, ()>, AllocError>
         ensures { (b : Book) (now : ℕ) → Holds b now self.now moment.entry.now
             → IfOk result (λ plan. whole b now plan ≡ work_plan b now arrived.now (messages.Work work.now)) }
     {
@@ -132,7 +131,7 @@ impl Leaves {
         arrived: &Arrived,
         id: Id,
         kind: Kind,
-    ) -> Result<Option<Plan<Leaf, Infallible>>, AllocError>
+    ) -> Result<Option<Plan<Leaf, ()>>, AllocError>
         ensures { (b : Book) (now : ℕ) → Holds b now self.now moment.entry.now
             → IfOk result (λ plan. whole_or with_leaves b now (stranger_plan b now arrived.now (participant_of kind states.None) arrived.now.message) plan
             ≡ leaf_or_stranger_plan b now arrived.now kind (leaf_at b id)) }
@@ -155,7 +154,7 @@ impl Leaves {
         alloc: Global,
         moment: &Moment,
         id: Id,
-    ) -> Result<Option<Plan<Leaf, Infallible>>, AllocError>
+    ) -> Result<Option<Plan<Leaf, ()>>, AllocError>
         ensures { (b : Book) (now : ℕ) → Holds b now self.now moment.entry.now
             → IfOk result (λ plan. whole_or with_leaves b now (plain (still b [])) plan ≡ leaf_due_plan b now (leaf_at b id)) }
     {
@@ -168,7 +167,7 @@ impl Leaves {
     }
 
     /// Does what was planned, where its record landed, and where it didn't. It takes no memory, and cannot fail.
-    pub fn apply(&mut self, plan: Plan<Leaf, Infallible>, landed: bool) -> Outs
+    pub fn apply(&mut self, plan: Plan<Leaf, ()>, landed: bool) -> Outs
         ensures list { self.new ≡ altered leaf_id unmoved (branch_of plan landed).change self.old }
         ensures outs { result ≡ (branch_of plan landed).outs }
     {

@@ -28,7 +28,6 @@ use at_posts::list::PostList;
 use at_tables::cells::{Act, State, participant_cell};
 use by_id::fates::{Choice, Fate, Turn};
 use std::alloc::{AllocError, Global};
-use std::convert::Infallible;
 
 /// How a leaf ended.
 pub fn ending(leaf: &Leaf, what: Ending) -> Effect
@@ -47,7 +46,7 @@ fn ended(
     leaf: &Leaf,
     what: Ending,
     posts: PostList,
-) -> Result<Turn<Leaf, Infallible>, AllocError>
+) -> Result<Turn<Leaf, ()>, AllocError>
     ensures { IfOk result
         (λ turn. turn
         ≡ record { fate = fates.Forget; posts = posts; effects = leaf_ended leaf.now what ∷ [] }) }
@@ -70,7 +69,7 @@ pub fn aborts(
     moment: &Moment,
     from: &Option<Epr>,
     leaf: &Leaf,
-) -> Result<Turn<Leaf, Infallible>, AllocError>
+) -> Result<Turn<Leaf, ()>, AllocError>
     ensures { IfOk result
         (λ turn. turn_of (Some leaf.now) turn ≡ leaf_aborts moment.entry.now from.now leaf.now) }
 {
@@ -84,7 +83,7 @@ fn commits(
     moment: &Moment,
     from: &Option<Epr>,
     leaf: &Leaf,
-) -> Result<Turn<Leaf, Infallible>, AllocError>
+) -> Result<Turn<Leaf, ()>, AllocError>
     ensures { IfOk result
         (λ turn. turn_of (Some leaf.now) turn ≡ leaf_commits moment.entry.now from.now leaf.now) }
 {
@@ -103,11 +102,7 @@ fn prepared_now(moment: &Moment, leaf: &Leaf) -> Result<Leaf, AllocError>
 }
 
 /// The leaf has voted Prepared, and waits for the outcome.
-fn prepares(
-    alloc: Global,
-    moment: &Moment,
-    leaf: &Leaf,
-) -> Result<Turn<Leaf, Infallible>, AllocError>
+fn prepares(alloc: Global, moment: &Moment, leaf: &Leaf) -> Result<Turn<Leaf, ()>, AllocError>
     ensures { IfOk result (λ turn. turn_of (Some leaf.now) turn ≡ leaf_prepares moment.entry.now leaf.now) }
 {
     let posts = says(alloc, moment, &None, leaf, Notice::Prepared)?;
@@ -132,11 +127,7 @@ fn vote_record(leaf: &Leaf, coordinator: &Epr) -> Result<Record, AllocError>
 }
 
 /// A durable leaf's vote Prepared, behind its record; where the record is absent it votes Aborted.
-fn records_vote(
-    alloc: Global,
-    moment: &Moment,
-    leaf: &Leaf,
-) -> Result<Choice<Leaf, Infallible>, AllocError>
+fn records_vote(alloc: Global, moment: &Moment, leaf: &Leaf) -> Result<Choice<Leaf, ()>, AllocError>
     ensures { IfOk result
         (λ choice. meant (Some leaf.now) choice ≡ leaf_records_vote moment.entry.now leaf.now.coordinator leaf.now) }
 {
@@ -159,7 +150,7 @@ fn leaves(
     moment: &Moment,
     from: &Option<Epr>,
     leaf: &Leaf,
-) -> Result<Turn<Leaf, Infallible>, AllocError>
+) -> Result<Turn<Leaf, ()>, AllocError>
     ensures { IfOk result
         (λ turn. turn_of (Some leaf.now) turn ≡ forgotten (posts (leaf_says moment.entry.now from.now notices.ReadOnly leaf.now) (begin leaf.now))) }
 {
@@ -174,7 +165,7 @@ fn votes(
     moment: &Moment,
     from: &Option<Epr>,
     leaf: &Leaf,
-) -> Result<Choice<Leaf, Infallible>, AllocError>
+) -> Result<Choice<Leaf, ()>, AllocError>
     ensures { IfOk result
         (λ choice. meant (Some leaf.now) choice ≡ leaf_votes moment.entry.now from.now leaf.now leaf.now.kind leaf.now.vote) }
 {
@@ -195,7 +186,7 @@ fn commit(
     moment: &Moment,
     from: &Option<Epr>,
     leaf: &Leaf,
-) -> Result<Choice<Leaf, Infallible>, AllocError>
+) -> Result<Choice<Leaf, ()>, AllocError>
     ensures { IfOk result
         (λ choice. meant (Some leaf.now) choice ≡ leaf_commit moment.entry.now from.now leaf.now leaf.now.kind) }
 {
@@ -217,7 +208,7 @@ fn roll_back(
     moment: &Moment,
     from: &Option<Epr>,
     leaf: &Leaf,
-) -> Result<Choice<Leaf, Infallible>, AllocError>
+) -> Result<Choice<Leaf, ()>, AllocError>
     ensures { IfOk result
         (λ choice. meant (Some leaf.now) choice ≡ leaf_roll_back moment.entry.now from.now leaf.now leaf.now.kind) }
 {
@@ -238,7 +229,7 @@ fn prepares_again(
     moment: &Moment,
     from: &Option<Epr>,
     leaf: &Leaf,
-) -> Result<Turn<Leaf, Infallible>, AllocError>
+) -> Result<Turn<Leaf, ()>, AllocError>
     ensures { IfOk result
         (λ turn. turn_of (Some leaf.now) turn
         ≡ stays
@@ -256,7 +247,7 @@ fn faults(
     from: &Option<Epr>,
     id: &Option<Text>,
     leaf: &Leaf,
-) -> Result<Turn<Leaf, Infallible>, AllocError>
+) -> Result<Turn<Leaf, ()>, AllocError>
     ensures { IfOk result
         (λ turn. turn_of (Some leaf.now) turn ≡ stays (posts (leaf_faults from.now id.now leaf.now) (begin leaf.now))) }
 {
@@ -270,7 +261,7 @@ fn faults_and_ends(
     from: &Option<Epr>,
     id: &Option<Text>,
     leaf: &Leaf,
-) -> Result<Turn<Leaf, Infallible>, AllocError>
+) -> Result<Turn<Leaf, ()>, AllocError>
     ensures { IfOk result
         (λ turn. turn_of (Some leaf.now) turn
         ≡ forgotten
@@ -290,7 +281,7 @@ fn acts(
     id: &Option<Text>,
     leaf: &Leaf,
     act: Act,
-) -> Result<Choice<Leaf, Infallible>, AllocError>
+) -> Result<Choice<Leaf, ()>, AllocError>
     ensures { IfOk result
         (λ choice. meant (Some leaf.now) choice ≡ leaf_act moment.entry.now from.now id.now leaf.now act) }
 {
@@ -315,7 +306,7 @@ fn notified(
     id: &Option<Text>,
     leaf: &Leaf,
     notice: Notice,
-) -> Result<Choice<Leaf, Infallible>, AllocError>
+) -> Result<Choice<Leaf, ()>, AllocError>
     ensures { IfOk result
         (λ choice. meant (Some leaf.now) choice ≡ leaf_notice moment.entry.now from.now id.now leaf.now
         (participant_of leaf.now.kind leaf.now.state notice)) }
@@ -361,11 +352,7 @@ fn answers(
 }
 
 /// The leaf is registered at this endpoint, and its Work is answered.
-fn registers(
-    alloc: Global,
-    coordinator: &Epr,
-    leaf: &Leaf,
-) -> Result<Turn<Leaf, Infallible>, AllocError>
+fn registers(alloc: Global, coordinator: &Epr, leaf: &Leaf) -> Result<Turn<Leaf, ()>, AllocError>
     ensures { IfOk result
         (λ turn. turn_of (Some leaf.now) turn
         ≡ stays
@@ -389,7 +376,7 @@ fn registered(
     relates: &Option<Text>,
     coordinator: &Epr,
     leaf: &Leaf,
-) -> Result<Choice<Leaf, Infallible>, AllocError>
+) -> Result<Choice<Leaf, ()>, AllocError>
     ensures { IfOk result
         (λ choice. meant (Some leaf.now) choice ≡ leaf_registered moment.entry.now relates.now coordinator.now leaf.now) }
 {
@@ -401,7 +388,7 @@ fn registered(
 }
 
 /// The leaf ends before it is registered, and refuses its Work.
-pub fn refuses(alloc: Global, leaf: &Leaf) -> Result<Turn<Leaf, Infallible>, AllocError>
+pub fn refuses(alloc: Global, leaf: &Leaf) -> Result<Turn<Leaf, ()>, AllocError>
     ensures { IfOk result (λ turn. turn_of (Some leaf.now) turn ≡ leaf_refused leaf.now) }
 {
     let posts = answers_work(alloc, leaf, Answer::Refused)?;
@@ -426,7 +413,7 @@ fn faulted(
     relates: &Option<Text>,
     name: &Text,
     leaf: &Leaf,
-) -> Result<Choice<Leaf, Infallible>, AllocError>
+) -> Result<Choice<Leaf, ()>, AllocError>
     ensures { IfOk result
         (λ choice. meant (Some leaf.now) choice ≡ leaf_fault moment.entry.now relates.now name.now leaf.now) }
 {
@@ -447,7 +434,7 @@ pub fn on_leaf(
     moment: &Moment,
     arrived: &Arrived,
     leaf: &Leaf,
-) -> Result<Choice<Leaf, Infallible>, AllocError>
+) -> Result<Choice<Leaf, ()>, AllocError>
     ensures { IfOk result
         (λ choice. meant (Some leaf.now) choice ≡ on_leaf moment.entry.now arrived.now leaf.now arrived.now.message) }
 {

@@ -19,7 +19,6 @@ use at_tables::cells::State;
 use by_id::plan::Plan;
 use by_id::times::deadline_of;
 use std::alloc::{AllocError, Global};
-use std::convert::Infallible;
 
 /// The Work that a new leaf is to answer.
 fn request_of(arrived: &Arrived, reply: &Epr, registration: &Epr) -> Result<WorkRequest, AllocError>
@@ -65,7 +64,7 @@ fn new_leaf(
 }
 
 /// The Work is refused.
-fn refuse(alloc: Global, arrived: &Arrived) -> Result<Plan<Leaf, Infallible>, AllocError>
+fn refuse(alloc: Global, arrived: &Arrived) -> Result<Plan<Leaf, ()>, AllocError>
     ensures { IfOk result (λ plan. plan ≡ employed (refuse_work arrived.now)) }
 {
     let outs = replied(alloc, &arrived.reply, &arrived.id, Answer::Refused)?;
@@ -97,7 +96,7 @@ fn employ(
     arrived: &Arrived,
     reply: &Epr,
     work: &Work,
-) -> Result<Plan<Leaf, Infallible>, AllocError>
+) -> Result<Plan<Leaf, ()>, AllocError>
     ensures { IfOk result
         (λ plan. plan
         ≡ employed
@@ -116,7 +115,7 @@ fn employ_for(
     id: Id,
     arrived: &Arrived,
     work: &Work,
-) -> Result<Plan<Leaf, Infallible>, AllocError>
+) -> Result<Plan<Leaf, ()>, AllocError>
     ensures { IfOk result
         (λ plan. plan ≡ employed (work_for moment.entry.now id arrived.now work.now arrived.now.reply)) }
 {
@@ -134,7 +133,7 @@ pub fn on_work(
     live: usize,
     arrived: &Arrived,
     work: &Work,
-) -> Result<Plan<Leaf, Infallible>, AllocError>
+) -> Result<Plan<Leaf, ()>, AllocError>
     ensures { IfOk result
         (λ plan. plan
         ≡ employed (on_work moment.entry.now live arrived.now work.now moment.entry.now.next)) }

@@ -12,7 +12,6 @@ use completion_at::activities::Activities;
 use completion_at::activity::{Activity, Progress};
 use completion_at::requests::Refusal;
 use std::alloc::{AllocError, Global};
-use std::convert::Infallible;
 use std::test::Fail;
 
 /// Whether the activity was begun, how far it has come, and what comes; and what follows: how far each activity has
@@ -249,7 +248,7 @@ fn planned(
     activities: &Activities,
     event: &Event,
     moment: &Moment,
-) -> Result<Option<Plan<Activity, Infallible>>, AllocError> {
+) -> Result<Option<Plan<Activity, ()>>, AllocError> {
     match event {
         Event::Arrived(arrived) => match arrived.target {
             Target::Initiator(id) => activities.at_activity(alloc, moment, arrived, id),

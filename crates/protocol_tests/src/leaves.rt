@@ -14,7 +14,6 @@ use by_id::plan::Plan;
 use participant_at::leaf::{Leaf, WorkRequest};
 use participant_at::leaves::Leaves;
 use std::alloc::{AllocError, Global};
-use std::convert::Infallible;
 use std::test::Fail;
 
 /// The kind, the vote and the state of a leaf, what comes, the record; and what follows where the record landed, and
@@ -176,7 +175,7 @@ fn planned(
     leaves: &Leaves,
     event: &Event,
     moment: &Moment,
-) -> Result<Option<Plan<Leaf, Infallible>>, AllocError> {
+) -> Result<Option<Plan<Leaf, ()>>, AllocError> {
     match event {
         Event::Arrived(arrived) => match (arrived.target, &arrived.message) {
             (Target::Work, Message::Work(work)) => {
