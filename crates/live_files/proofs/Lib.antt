@@ -1,0 +1,4 @@
+mod TestChains
+mod RecordPlaces
+mod RecordSizes
+mod GrownFiles

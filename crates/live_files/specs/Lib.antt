@@ -1,0 +1,4 @@
+pub mod Examples
+pub mod Growth
+pub mod LiveFiles
+pub mod Rewritings
